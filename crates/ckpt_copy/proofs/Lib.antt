@@ -1,0 +1,6 @@
+pub mod Causing
+pub mod Spreading
+pub mod Phases
+pub mod Forming
+pub mod Calm
+pub mod Finds

@@ -1,0 +1,18 @@
+use Rattle.ckpt_copy.specs.Pages.{bytes_of}
+use Rattle.ckpt_copy.proofs.Phases.{put_reads, put_holds}
+use Rattle.ckpt_copy.proofs.area_copy.AreaCopyCopying.put.Goals as goal
+
+pub returns-in_err-write_pages-clause-during : goal.returns-in_err-write_pages-clause-during
+returns-in_err-write_pages-clause-during g c told was rests =
+    let s = c.args.self.now in
+    put_reads s.dev s.pages s.second was (bytes_of c.args.pages.now) _ _ _ _ _ c.area_start-start.ensures c.requires.as_many (c.shut.ensures.during told was rests) (c.in_ok-shut.ensures.shut told was rests) (c.write_pages.ensures.during told)
+
+pub returns-clause-during : goal.returns-clause-during
+returns-clause-during g c told was rests =
+    let s = c.args.self.now in
+    put_reads s.dev s.pages s.second was (bytes_of c.args.pages.now) _ _ _ _ _ c.area_start-start.ensures c.requires.as_many (c.shut.ensures.during told was rests) (c.in_ok-shut.ensures.shut told was rests) (c.write_pages.ensures.during told)
+
+pub returns-clause-held : goal.returns-clause-held
+returns-clause-held g c told was rests newer covers =
+    let s = c.args.self.now in
+    put_holds s.dev s.pages s.second was (bytes_of c.args.pages.now) _ _ (g.P.Plant.view c.args.plant.now) _ _ c.area_start-start.ensures c.requires.as_many (c.in_ok-shut.ensures.shut told was rests) (c.write_pages.ensures.during told) (c.in_ok-write_pages.ensures.put told) newer

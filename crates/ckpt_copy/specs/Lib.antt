@@ -1,0 +1,13 @@
+pub mod Pages
+pub mod Has
+pub mod Meanwhile
+pub mod Causes
+pub mod Changes
+pub mod Reading
+pub mod Areas
+pub mod AreaStates
+pub mod Slices
+pub mod Moments
+pub mod Images
+pub mod Staying
+pub mod Found

@@ -1,0 +1,136 @@
+// Acts on a device, answered as a `Result`.
+ghost use Rattle.std.specs.Prelude.{◌≡◌, ◌⊎◌, ◌+◌, ◌*◌, ◌≤◌, [], length, OnOk, false};
+ghost use Rattle.mas_types.specs.Limits.{page_bytes, pages_most};
+ghost use Rattle.spool_disk.specs.declared.plant.Part.TheVariants.{Disk as DiskPart};
+ghost use Rattle.spool_disk.specs.Acts.{next};
+ghost use Rattle.spool_disk.specs.View.{disk_now, slice};
+ghost use Rattle.ckpt_copy.specs.Causes.{Caused, IsOut, answer_of};
+ghost use Rattle.ckpt_copy.specs.Changes.{Spreads, NoMore, IsPut, IsRead};
+ghost use Rattle.ckpt_copy.specs.Meanwhile.{Meanwhile};
+ghost use Rattle.ckpt_copy.specs.Pages.{bytes_of};
+
+use crate::copying::CopyNo;
+use crate::layout::{BLOCK, bytes_in};
+use mas_types::{Dev, MemberId, Page};
+use spool_disk::{Act, Plant};
+
+fn answered(act: Act) -> Result<(), CopyNo>
+    ensures { answer_of result ≡ act }
+{
+    match act {
+        Act::Done => Ok(()),
+        Act::Failed => Err(CopyNo::Failed),
+        Act::Halted => Err(CopyNo::Halted),
+    }
+}
+
+pub(crate) fn write_act<P: Plant>(
+    plant: &mut P,
+    by: MemberId,
+    dev: Dev,
+    at: u64,
+    bytes: &[u8],
+) -> Result<(), CopyNo>
+    requires { at + length bytes.now ≤ (P.view plant.old).size dev }
+    ensures cause { Caused by.0 dev (P.view plant.old) (P.view plant.new) (answer_of result) }
+    ensures out { P.tells → IsOut dev (P.view plant.new) (answer_of result) }
+    ensures there { OnOk result ((P.view plant.new).lost (DiskPart dev) ≡ false) }
+    ensures during { P.tells → Meanwhile dev (Spreads at (length bytes.now) (disk_now (P.view plant.old) dev)) (P.view plant.old) (P.view plant.new) }
+    ensures put { OnOk result (P.tells → slice at (length bytes.now) (disk_now (P.view plant.new) dev).bytes ≡ bytes.now) }
+{
+    answered(plant.write(by, dev, at, bytes))
+}
+
+pub(crate) fn sync_act<P: Plant>(plant: &mut P, by: MemberId, dev: Dev) -> Result<(), CopyNo>
+    ensures cause { Caused by.0 dev (P.view plant.old) (P.view plant.new) (answer_of result) }
+    ensures out { P.tells → IsOut dev (P.view plant.new) (answer_of result) }
+    ensures there { OnOk result ((P.view plant.new).lost (DiskPart dev) ≡ false) }
+    ensures during { P.tells → Meanwhile dev (Spreads 0 0 (disk_now (P.view plant.old) dev)) (P.view plant.old) (P.view plant.new) }
+    ensures synced { OnOk result (P.tells → ((disk_now (P.view plant.new) dev).unsynced ≡ [])
+        × ((disk_now (P.view plant.new) dev).bytes ≡ (disk_now (P.view plant.old) dev).bytes)) }
+{
+    answered(plant.sync(by, dev))
+}
+
+// Writes bytes and syncs them.
+pub(crate) fn write_synced<P: Plant>(
+    plant: &mut P,
+    by: MemberId,
+    dev: Dev,
+    at: u64,
+    bytes: &[u8],
+) -> Result<(), CopyNo>
+    requires { at + length bytes.now ≤ (P.view plant.old).size dev }
+    ensures cause { Caused by.0 dev (P.view plant.old) (P.view plant.new) (answer_of result) }
+    ensures out { P.tells → IsOut dev (P.view plant.new) (answer_of result) }
+    ensures there { OnOk result ((P.view plant.new).lost (DiskPart dev) ≡ false) }
+    ensures during { P.tells → Meanwhile dev (Spreads at (length bytes.now) (disk_now (P.view plant.old) dev)) (P.view plant.old) (P.view plant.new) }
+    ensures put { OnOk result (P.tells → IsPut at (length bytes.now) bytes.now (disk_now (P.view plant.new) dev)) }
+{
+    write_act(plant, by, dev, at, bytes)?;
+    sync_act(plant, by, dev)
+}
+
+// Writes pages one after another.
+fn write_each<P: Plant>(
+    plant: &mut P,
+    by: MemberId,
+    dev: Dev,
+    start: u64,
+    pages: &[Page],
+) -> Result<(), CopyNo>
+    requires place { start ≤ page_bytes * (1 + pages_most) }
+    requires few { length pages.now ≤ pages_most }
+    requires size { start + page_bytes * length pages.now ≤ (P.view plant.old).size dev }
+    ensures cause { Caused by.0 dev (P.view plant.old) (P.view plant.new) (answer_of result) }
+    ensures out { P.tells → IsOut dev (P.view plant.new) (answer_of result) }
+    ensures during { P.tells → Meanwhile dev (Spreads start (page_bytes * length pages.now) (disk_now (P.view plant.old) dev)) (P.view plant.old) (P.view plant.new) }
+    ensures put { OnOk result (P.tells → slice start (page_bytes * length pages.now) (disk_now (P.view plant.new) dev).bytes ≡ bytes_of pages.now) }
+{
+    let mut at = start;
+    for page in pages {
+        write_act(plant, by, dev, at, bytes_in(page))?;
+        at += BLOCK;
+    }
+    Ok(())
+}
+
+// Writes pages one after another, and syncs them.
+pub(crate) fn write_pages<P: Plant>(
+    plant: &mut P,
+    by: MemberId,
+    dev: Dev,
+    start: u64,
+    pages: &[Page],
+) -> Result<(), CopyNo>
+    requires place { start ≤ page_bytes * (1 + pages_most) }
+    requires few { length pages.now ≤ pages_most }
+    requires size { start + page_bytes * length pages.now ≤ (P.view plant.old).size dev }
+    ensures cause { Caused by.0 dev (P.view plant.old) (P.view plant.new) (answer_of result) }
+    ensures out { P.tells → IsOut dev (P.view plant.new) (answer_of result) }
+    ensures there { OnOk result ((P.view plant.new).lost (DiskPart dev) ≡ false) }
+    ensures during { P.tells → Meanwhile dev (Spreads start (page_bytes * length pages.now) (disk_now (P.view plant.old) dev)) (P.view plant.old) (P.view plant.new) }
+    ensures put { OnOk result (P.tells → IsPut start (page_bytes * length pages.now) (bytes_of pages.now) (disk_now (P.view plant.new) dev)) }
+{
+    write_each(plant, by, dev, start, pages)?;
+    sync_act(plant, by, dev)
+}
+
+// Reads as many bytes as there is room for.
+pub(crate) fn read_act<P: Plant>(
+    plant: &mut P,
+    by: MemberId,
+    dev: Dev,
+    at: u64,
+    into: &mut [u8],
+) -> Result<(), CopyNo>
+    requires { at + length into.old ≤ (P.view plant.old).size dev }
+    ensures cause { Caused by.0 dev (P.view plant.old) (P.view plant.new) (answer_of result) }
+    ensures out { P.tells → IsOut dev (P.view plant.new) (answer_of result) }
+    ensures there { OnOk result ((P.view plant.new).lost (DiskPart dev) ≡ false) }
+    ensures one { (P.view plant.new).now ≡ next (P.view plant.old).now }
+    ensures during { P.tells → Meanwhile dev (NoMore (disk_now (P.view plant.old) dev)) (P.view plant.old) (P.view plant.new) }
+    ensures read { OnOk result (P.tells → IsRead at (length into.old) into.new (disk_now (P.view plant.old) dev) (disk_now (P.view plant.new) dev)) }
+{
+    answered(plant.read(by, dev, at, into))
+}

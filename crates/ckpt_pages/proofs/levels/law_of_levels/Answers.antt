@@ -1,0 +1,8 @@
+use Rattle.ckpt_pages.proofs.LevelLemmas.{level_spelled, level_again}
+use Rattle.ckpt_pages.proofs.levels.law_of_levels.Goals as goal
+
+pub returns-clause-first : goal.returns-clause-first
+returns-clause-first c = level_spelled
+
+pub returns-clause-each : goal.returns-clause-each
+returns-clause-each c = level_again

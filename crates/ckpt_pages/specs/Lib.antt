@@ -1,0 +1,9 @@
+pub mod Shape
+pub mod Pages
+pub mod Starts
+pub mod QueueOf
+pub mod StandsFor
+pub mod Sound
+pub mod Reading
+pub mod Laws
+pub mod Writing

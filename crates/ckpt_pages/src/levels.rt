@@ -1,0 +1,50 @@
+//! The levels of pages, and which pages differ.
+ghost use Rattle.std.specs.Prelude.{◌≡◌, ◌+◌, ◌*◌, ◌≤◌, ◌<◌, length, IfOk};
+ghost use Rattle.std.specs.Str.{bytes_eq};
+ghost use Rattle.lay_bytes.specs.Fields.{piece};
+ghost use Rattle.ckpt_pages.specs.Shape.{level_in, differing};
+ghost use Rattle.ckpt_pages.specs.Laws.{BeginsWithLevel, GivesLevels};
+
+use lay_bytes::read_u64;
+use mas_types::{Level, List, NoMemory, Page};
+use std::alloc::Global;
+
+/// The level of a page, as page 0 gives it. That of page 0 is the level of the checkpoint.
+pub fn level_of(page0: &Page, page: u16) -> Level
+    requires { page < 384 }
+    ensures { result ≡ level_in page0.now.0 page }
+{
+    if page == 0 {
+        read_u64(&page0.0, 8)
+    } else {
+        read_u64(&page0.0, 1024 + 8 * page as usize)
+    }
+}
+
+fn is_same_page(a: &Page, b: &Page) -> bool
+    ensures { result ≡ bytes_eq a.now.0 b.now.0 }
+{
+    a.0 == b.0
+}
+
+/// The numbers of page 0 and of the pages that differ, ascending.
+pub fn changed(alloc: Global, old: &[Page], new: &[Page]) -> Result<List<u16>, NoMemory>
+    requires same { length old.now ≡ length new.now }
+    requires some { 1 ≤ length old.now }
+    requires few { length old.now ≤ 323 }
+    ensures { IfOk result (λ pages. pages ≡ differing old.now new.now) }
+{
+    let mut pages = List::new(alloc);
+    for page in 0..new.len() {
+        if page == 0 || !is_same_page(&old[page], &new[page]) {
+            pages.push(page as u16)?;
+        }
+    }
+    Ok(pages)
+}
+
+/// Page 0 of encoded pages gives each page the level that it was encoded with.
+pub fn law_of_levels()
+    ensures first { BeginsWithLevel }
+    ensures each { GivesLevels }
+{}

@@ -1,0 +1,114 @@
+//! The tables of the queue.
+ghost use Rattle.std.specs.Prelude.{◌≡◌, ◌≤◌, length, IfOk};
+ghost use Rattle.mas_types.specs.Fit.{IsConfig};
+ghost use Rattle.mas_types.specs.Limits.{routes_most};
+ghost use Rattle.ckpt_pages.specs.Shape.{page_count as page_count_lem, group_pages as group_pages_lem, first_output_page as first_output_page_lem, first_group_page as first_group_page_lem, HasShape};
+ghost use Rattle.ckpt_pages.specs.Starts.{empty_tables};
+ghost use Rattle.ckpt_pages.specs.Laws.{EmptyHasSpelling, AreFirstLevels, EmptyStandsForEmpty};
+
+use crate::copying::repeated;
+use lay_bytes::{JobRec, OutRec};
+use mas_types::{
+    Config, JobNo, LineCount, List, NoMemory, Owner, Queue, Route, Setting, empty_queue,
+};
+use std::alloc::Global;
+
+/// The slots of jobs on a page.
+pub(crate) const JOBS_A_PAGE: usize = 16;
+/// The slots of outputs on a page.
+pub(crate) const OUTPUTS_A_PAGE: usize = 32;
+/// The entries of track groups on a page.
+pub(crate) const OWNERS_A_PAGE: usize = 512;
+/// The first page of jobs, behind the header, the members and the nodes.
+pub(crate) const FIRST_JOB_PAGE: u16 = 3;
+
+/// The queue as a checkpoint has it: jobs and outputs in slots, listed by their order and not by
+/// their places, and the owner of each track group.
+#[derive(Debug, Drop)]
+pub struct Tables {
+    pub config: Config,
+    /// A slot for each job that the configuration has room for.
+    pub jobs: List<Option<JobRec>>,
+    /// A slot for each output that the configuration has room for.
+    pub outputs: List<Option<OutRec>>,
+    /// The owner of each group, those of the first volume first.
+    pub owners: List<Owner>,
+    /// The setting of each member, that of SYSA first.
+    pub members: List<Setting>,
+    pub routes: List<Route>,
+    pub lines: List<LineCount>,
+    /// The job number that was given last, 0 for none.
+    pub last: JobNo,
+    /// The order that the next job or output gets.
+    pub order: u64,
+}
+
+/// The first page of outputs.
+pub(crate) fn first_output_page(config: &Config) -> u16
+    requires { IsConfig config.now }
+    ensures { result ≡ first_output_page_lem config.now }
+{
+    FIRST_JOB_PAGE + config.jobs / JOBS_A_PAGE as u16
+}
+
+/// The first page of groups.
+pub(crate) fn first_group_page(config: &Config) -> u16
+    requires { IsConfig config.now }
+    ensures { result ≡ first_group_page_lem config.now }
+{
+    first_output_page(config) + config.outputs / OUTPUTS_A_PAGE as u16
+}
+
+fn group_pages(config: &Config) -> u16
+    requires { IsConfig config.now }
+    ensures { result ≡ group_pages_lem config.now }
+{
+    ((config.volumes as usize * config.groups as usize + 511) / OWNERS_A_PAGE) as u16
+}
+
+/// The number of pages that the tables of a configuration take: the header, the members, the
+/// nodes, and as many as the slots of jobs, the slots of outputs and the groups need.
+pub fn page_count(config: &Config) -> u16
+    requires { IsConfig config.now }
+    ensures { result ≡ page_count_lem config.now }
+{
+    first_group_page(config) + group_pages(config)
+}
+
+/// The tables that a cold start begins with: no job and no output, every group Free, the default
+/// setting for each member, these routes, and no number and no order given.
+pub fn empty(alloc: Global, config: &Config, routes: &List<Route>) -> Result<Tables, NoMemory>
+    requires config { IsConfig config.now }
+    requires routes { length routes.now ≤ routes_most }
+    ensures value { IfOk result (λ tables. tables ≡ empty_tables config.now routes.now) }
+    ensures shape { IfOk result HasShape }
+{
+    let Queue {
+        config,
+        jobs: _,
+        outputs: _,
+        owners,
+        members,
+        routes,
+        lines,
+        last,
+    } = empty_queue(alloc, config, routes)?;
+    Ok(Tables {
+        config,
+        jobs: repeated(alloc, None, config.jobs as usize)?,
+        outputs: repeated(alloc, None, config.outputs as usize)?,
+        owners,
+        members,
+        routes,
+        lines,
+        last,
+        order: 0,
+    })
+}
+
+/// Empty tables have a spelling, with level 1 for every page, and stand for the empty queue.
+pub fn law_of_empty_tables()
+    ensures spelling { EmptyHasSpelling }
+    ensures levels { AreFirstLevels }
+    ensures queue { EmptyStandsForEmpty }
+{}

@@ -1,0 +1,9 @@
+pub mod Parts
+pub mod Decks
+pub mod Rest
+pub mod Jobs
+pub mod Said
+pub mod Words
+pub mod Forms
+pub mod CutOff
+pub mod Outside

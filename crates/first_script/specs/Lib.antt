@@ -1,0 +1,5 @@
+pub mod Cards
+pub mod Script
+pub mod Reading
+pub mod Grammar
+pub mod Laws

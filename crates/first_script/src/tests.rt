@@ -1,0 +1,210 @@
+use super::{BadLine, SourceNo, read_script, read_source};
+use mas_types::limits::SCRIPT_BYTES;
+use mas_types::{Class, JobFields, LineCause, List, Name8, NoMemory, Prio};
+use spool_disk::{Got, MemSource, Source};
+use std::alloc::Global;
+use std::test::Fail;
+
+const OWN: Name8 = Name8(*b"HERE    ");
+
+fn job(name: &[u8; 8], class: u8) -> JobFields {
+    JobFields {
+        name: Name8(*name),
+        class: Class(class),
+        msgclass: Class(b'A'),
+        prio: Prio(5),
+        held: false,
+        scan: false,
+        restart: true,
+        dest: Name8(*b"LOCAL   "),
+        node: OWN,
+        origin: OWN,
+    }
+}
+
+#[test]
+fn plays_one_deck(rt: HostRuntime) {
+    let hello = job(b"HELLO   ", b'A');
+    let scripts = [
+        (
+            b"SYSA DECK\n//HELLO JOB (1),'ME',CLASS=A\n//\n++END\n".as_slice(),
+            hello,
+        ),
+        (b"SYSA DECK\n//HELLO JOB\n++END\n".as_slice(), hello),
+        (b"SYSA DECK\n//HELLO JOB\n//   \n++END".as_slice(), hello),
+        (
+            b"\n   \nSYSA DECK  \r\n//HELLO JOB\r\n++END\r\n\n \r".as_slice(),
+            hello,
+        ),
+        (
+            b"SYSA DECK\n//$A#@1234 JOB (1234),'ABCDEFGHIJKLMNOPQRST',CLASS=9\n++END\n".as_slice(),
+            job(b"$A#@1234", b'9'),
+        ),
+    ];
+    for (script, want) in scripts {
+        assert!(rt; script.len() <= SCRIPT_BYTES);
+        assert_eq!(rt; read_script(OWN, script), Ok(Some(want)));
+    }
+}
+
+#[test]
+fn plays_nothing(rt: HostRuntime) {
+    let blanks = [b' '; 256];
+    for script in [
+        b"".as_slice(),
+        b"\n".as_slice(),
+        b" \r\n\n  ".as_slice(),
+        &blanks[..255],
+    ] {
+        assert!(rt; script.len() <= SCRIPT_BYTES);
+        assert_eq!(rt; read_script(OWN, script), Ok(None));
+    }
+    assert_eq!(rt;
+        read_script(OWN, &blanks),
+        Err(BadLine {
+            line: 1,
+            cause: LineCause::NotBuilt
+        })
+    );
+}
+
+#[test]
+fn refuses_the_least_line(rt: HostRuntime) {
+    let end = LineCause::End;
+    let not_built = LineCause::NotBuilt;
+    let scripts = [
+        (b"SYSA DECK\n//HELLO JOB\n//\n".as_slice(), 1, end),
+        (b"\nSYSA DECK\nBAD\n++END \n".as_slice(), 2, end),
+        (b"SYSA DECK".as_slice(), 1, end),
+        (b"SYSA WORK 1".as_slice(), 1, not_built),
+        (b"\nSYSB DECK\n//A JOB\n++END\n".as_slice(), 2, not_built),
+        (b" SYSA DECK\n//A JOB\n++END\n".as_slice(), 1, not_built),
+        (b"SYSA DECK\n++END\n".as_slice(), 2, not_built),
+        (
+            b"SYSA DECK\n//A JOB\n//\n++END\nSYSA DECK\n//A JOB\n//\n++END\n".as_slice(),
+            5,
+            not_built,
+        ),
+        (
+            b"SYSA DECK\n//A JOB\n++END\n\nSYSA DECK\n".as_slice(),
+            5,
+            not_built,
+        ),
+        (
+            b"SYSA DECK\n//A JOB\n//\n//\n++END\n".as_slice(),
+            4,
+            not_built,
+        ),
+        (b"SYSA DECK\n//A JOB\n//X\n++END\n".as_slice(), 3, not_built),
+        (b"SYSA DECK\n//A JOB\n\n++END\n".as_slice(), 3, not_built),
+        (
+            b"SYSA DECK\n//A JOB\n++END \n++END\n".as_slice(),
+            3,
+            not_built,
+        ),
+        (b"SYSA DECK\n\n//A JOB\n++END\n".as_slice(), 2, not_built),
+        (b"\x80\n".as_slice(), 1, not_built),
+    ];
+    for (script, line, cause) in scripts {
+        assert!(rt; script.len() <= SCRIPT_BYTES);
+        assert_eq!(rt;
+            read_script(OWN, script),
+            Err(BadLine { line, cause }),
+            "at {line}"
+        );
+    }
+}
+
+#[test]
+fn refuses_other_job_cards(rt: HostRuntime) -> Result<(), Fail> {
+    for card in [
+        b"//A JOB ".as_slice(),
+        b"//A  JOB".as_slice(),
+        b"//A JOBS".as_slice(),
+        b"/A JOB".as_slice(),
+        b"// JOB".as_slice(),
+        b"//1A JOB".as_slice(),
+        b"//a JOB".as_slice(),
+        b"//ABCDEFGHI JOB".as_slice(),
+        b"//A JOB (12345),'ME',CLASS=A".as_slice(),
+        b"//A JOB (),'ME',CLASS=A".as_slice(),
+        b"//A JOB (X),'ME',CLASS=A".as_slice(),
+        b"//A JOB (1),'ABCDEFGHIJKLMNOPQRSTU',CLASS=A".as_slice(),
+        b"//A JOB (1),'',CLASS=A".as_slice(),
+        b"//A JOB (1),'M2',CLASS=A".as_slice(),
+        b"//A JOB (1),'ME',CLASS=a".as_slice(),
+        b"//A JOB (1),'ME',CLASS=AB".as_slice(),
+        b"//A JOB (1),'ME',CLASS=".as_slice(),
+        b"//A JOB (1),'ME'".as_slice(),
+        b"//A JOB (1),'ME',CLASS=A,PRTY=1".as_slice(),
+        b"//A JOB (1),'ME',CLASS=A COMMENT".as_slice(),
+    ] {
+        let mut script = b"SYSA DECK\n".to_vec(rt.alloc())?;
+        script.extend_from_slice(card)?;
+        script.extend_from_slice(b"\n++END\n")?;
+        assert!(rt; script.len() <= SCRIPT_BYTES);
+        assert_eq!(rt;
+            read_script(OWN, &script),
+            Err(BadLine {
+                line: 2,
+                cause: LineCause::NotBuilt
+            })
+        );
+    }
+    Ok(())
+}
+
+// So many zeros. The source doesn't tell how many.
+#[derive(Drop)]
+struct Zeros {
+    left: usize,
+}
+
+impl Source for Zeros {
+    ghost use Rattle.std.specs.Prelude.{[]};
+
+    ghost tells = { ⊥ };
+
+    ghost left = { λ _. [] };
+
+    ghost faults = { λ _. 0 };
+
+    fn next(&mut self, into: &mut [u8]) -> Got {
+        let n = self.left.min(into.len());
+        into[..n].fill(0);
+        self.left -= n;
+        Got::Bytes(n)
+    }
+}
+
+fn list_of(alloc: Global, bytes: &[u8]) -> Result<List<u8>, NoMemory> {
+    let mut list = List::new(alloc);
+    for byte in bytes {
+        list.push(*byte)?;
+    }
+    Ok(list)
+}
+
+#[test]
+fn reads_a_source_to_its_end(rt: HostRuntime) -> Result<(), Fail> {
+    let script = b"SYSA DECK\n//HELLO JOB\n++END\n";
+    let mut source = MemSource::new(list_of(rt.alloc(), script)?, None);
+    let bytes = read_source(rt.alloc(), &mut source)?;
+    assert_eq!(rt; bytes.as_slice(), script.as_slice());
+    for at in [0, 10] {
+        let mut source = MemSource::new(list_of(rt.alloc(), script)?, Some(at));
+        let failed = matches!(read_source(rt.alloc(), &mut source), Err(SourceNo::Fault));
+        assert!(rt; failed, "at {at}");
+    }
+    let mut most = Zeros { left: SCRIPT_BYTES };
+    let bytes = read_source(rt.alloc(), &mut most)?;
+    assert_eq!(rt; bytes.len(), SCRIPT_BYTES);
+    let mut endless = Zeros { left: usize::MAX };
+    let too_long = matches!(
+        read_source(rt.alloc(), &mut endless),
+        Err(SourceNo::TooLong)
+    );
+    assert!(rt; too_long);
+    assert_eq!(rt; endless.left, usize::MAX - (SCRIPT_BYTES + 1));
+    Ok(())
+}

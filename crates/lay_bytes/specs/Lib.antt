@@ -1,0 +1,4 @@
+pub mod Bytes
+pub mod Limits
+pub mod Fields
+pub mod Slots

@@ -1,0 +1,6 @@
+pub mod BatchLemmas
+pub mod OneJobLemmas
+pub mod DrawnLemmas
+pub mod StepLemmas
+pub mod RunLemmas
+pub mod RefusalLemmas

@@ -1,0 +1,66 @@
+-- What is refused before anything is played.
+use Rattle.std.specs.Prelude.{◌≡◌, ◌⊎◌, ℕ, ◌≤◌, nat_lt, Bool, true, false, not, if◌then◌else◌, List, [], ◌∷◌, length, Option, Some, None, Result, Ok, Err}
+use Rattle.mas_types.specs.declared.ids.Dev.TheVariants.{Ckpt1}
+use Rattle.mas_types.specs.declared.jobs.JobFields.{JobFields}
+use Rattle.mas_types.specs.declared.answers.Status.{Status}
+use Rattle.mas_types.specs.declared.answers.Status.TheVariants as status
+use Rattle.mas_types.specs.Lists.{first_some}
+use Rattle.mas_types.specs.Limits.{script_bytes}
+use Rattle.mas_types.specs.Starts.{default_config}
+use Rattle.first_script.specs.declared.script.BadLine.{BadLine}
+use Rattle.first_script.specs.Script.{read_as}
+use Rattle.ckpt_copy.specs.Areas.{areas_size}
+use Rattle.ckpt_pages.specs.Shape.{page_count}
+use Rattle.mas_run.specs.Words.{are_words}
+
+-- what a script says to the node of the default configuration: no job, one job, or that a line is refused
+abbrev pub said_by : List ℕ → Result (Option JobFields) BadLine
+said_by script = read_as default_config.node script
+
+-- how many bytes a checkpoint device needs for the pages of the default configuration
+abbrev pub bytes_needed : ℕ
+bytes_needed = areas_size (page_count default_config)
+
+abbrev pub refused_where : Bool → Status → Option Status
+refused_where holds why = if holds then Some why else None
+
+abbrev pub refused_line : Result (Option JobFields) BadLine → Option Status
+refused_line (Ok asked) = None
+refused_line (Err bad) = Some (status.BadLine bad.line bad.cause)
+
+-- the first that applies to the words, the script and the size of CKPT1
+abbrev pub refusal_before_play : List (List ℕ) → List ℕ → ℕ → Option Status
+refusal_before_play words script size = first_some (
+    refused_where (not (are_words words)) status.Words
+    ∷ refused_where (nat_lt script_bytes (length script)) status.TooLong
+    ∷ refused_line (said_by script)
+    ∷ refused_where (nat_lt size bytes_needed) (status.DeviceSize Ckpt1 size)
+    ∷ [])
+
+-- the status says what the words, the script or a device lack
+abbrev pub is_refusal : Status → Bool
+is_refusal status.Done = false
+is_refusal status.SourceFault = false
+is_refusal status.BothLost = false
+is_refusal status.ConsoleFault = false
+is_refusal status.NoMemory = false
+is_refusal _ = true
+
+-- A refusal is answered, but where the source failed or memory was wanting. Wrong words come before these.
+abbrev pub Answers : Option Status → Status → Type 0
+Answers None answer = is_refusal answer ≡ false
+Answers (Some status.Words) answer = answer ≡ status.Words
+Answers (Some why) answer = (answer ≡ why) ⊎ ((answer ≡ status.SourceFault) ⊎ (answer ≡ status.NoMemory))
+
+-- why a script isn't played: what it says, its length, its source, or want of memory
+abbrev pub is_of_script : Status → Bool
+is_of_script (status.BadLine line cause) = true
+is_of_script status.TooLong = true
+is_of_script status.SourceFault = true
+is_of_script status.NoMemory = true
+is_of_script _ = false
+
+-- a script that asks for this
+pub record IsAsked (script : List ℕ) (asked : Option JobFields) : Type 0 where
+  pub few : length script ≤ script_bytes
+  pub says : said_by script ≡ Ok asked

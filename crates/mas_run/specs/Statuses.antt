@@ -1,0 +1,39 @@
+-- Why a run ends.
+use Rattle.std.specs.Prelude.{◌≡◌, ℕ, Bool, true, false, Result, Ok, Err}
+use Rattle.mas_types.specs.declared.ids.Dev.TheVariants.{Ckpt1}
+use Rattle.mas_types.specs.declared.answers.Status.{Status}
+use Rattle.mas_types.specs.declared.answers.Status.TheVariants as status
+use Rattle.spool_disk.specs.declared.plant.Part.TheVariants.{Disk, Console}
+use Rattle.spool_disk.specs.View.{View}
+use Rattle.spool_disk.specs.Acts.{Rose}
+use Rattle.mas_run.specs.declared.running.StepNo.{StepNo}
+use Rattle.mas_run.specs.declared.running.StepNo.TheVariants as no_step
+
+-- A part is named only where its faults rose, and both copies only where they are lost. CKPT2 counts as lost
+-- from the start.
+pub record IsCaused (answer : Status) (old new : View) : Type 0 where
+  pub lost : answer ≡ status.BothLost → new.lost (Disk Ckpt1) ≡ true
+  pub failed : answer ≡ status.BothLost → Rose (old.faults (Disk Ckpt1)) (new.faults (Disk Ckpt1))
+  pub console : answer ≡ status.ConsoleFault → Rose (old.faults Console) (new.faults Console)
+
+-- no fault of the source, of CKPT1 or of the console rose
+pub record IsStill (before after : ℕ) (old new : View) : Type 0 where
+  pub source : Rose before after → ⊥
+  pub disk : Rose (old.faults (Disk Ckpt1)) (new.faults (Disk Ckpt1)) → ⊥
+  pub console : Rose (old.faults Console) (new.faults Console) → ⊥
+
+-- the status of a run that has begun and ended with this answer of its step
+abbrev pub status_of : {T : Type 0} → Result T StepNo → Status
+status_of (Ok done) = status.Done
+status_of (Err no_step.NoMemory) = status.NoMemory
+status_of (Err no_step.Lost) = status.BothLost
+status_of (Err no_step.Unsaid) = status.ConsoleFault
+status_of (Err no_step.Stopped) = status.Done
+
+-- a run that has begun ends with one of these
+abbrev pub is_of_play : Status → Bool
+is_of_play status.Done = true
+is_of_play status.BothLost = true
+is_of_play status.ConsoleFault = true
+is_of_play status.NoMemory = true
+is_of_play _ = false

@@ -1,0 +1,18 @@
+//! The top call: a script that is played on a plant.
+#![tactic(auto)]
+
+mod batch;
+mod checkpoint;
+mod deck;
+mod ended;
+mod play;
+mod queue;
+mod running;
+mod top;
+mod words;
+
+pub use ended::{Ended, code};
+pub use top::calm_top;
+
+#[cfg(test)]
+mod tests;

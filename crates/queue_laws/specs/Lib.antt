@@ -1,0 +1,5 @@
+pub mod Laws
+pub mod OwnerChange
+pub mod Marks
+pub mod Runs
+pub mod Examples

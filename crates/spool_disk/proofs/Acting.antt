@@ -1,0 +1,287 @@
+-- What the acts of a plant in memory show.
+use Rattle.std.proofs.Common.{◌≡◌, ◌≢◌, ◌⊎◌, inl, inr, ⊎_elim, ℕ, zero, suc, ◌+◌, ◌*◌, ◌≤◌, ◌<◌, ◌==◌, nat_lt, nat_le, Bool, true, false, if◌then◌else◌, Option, Some, None, List, [], ◌∷◌, ◌++◌, length, take, set, slice_index, append_assoc, refl, subst, sym, ◌∙◌, ap, arith, get_or-set_same, get_or-set_other}
+use Rattle.std.proofs.lemmas.Bool.Decides.{nat_tests}
+use Rattle.std.proofs.lemmas.List.{take_all, take-append-le}
+use Rattle.std.proofs.lemmas.Grind.{common_steps}
+use Rattle.std.proofs.Math.Path.{fun_ext}
+use Rattle.mas_types.specs.declared.ids.Dev.{Dev}
+use Rattle.mas_types.specs.declared.ids.Dev.TheVariants.{Ckpt1, Ckpt2, Spool}
+use Rattle.spool_disk.specs.declared.plant.Part.{Part}
+use Rattle.spool_disk.specs.declared.plant.Part.TheVariants.{Disk as DiskPart, Console, Printer, Wire}
+use Rattle.spool_disk.specs.declared.plant.Act.TheVariants.{Done, Halted}
+use Rattle.spool_disk.specs.declared.health.Health.{Health}
+use Rattle.spool_disk.specs.View.{Disk, Line, disk_now}
+use Rattle.spool_disk.specs.Acts.{Goes, Acts, next, top}
+use Rattle.spool_disk.specs.Places.{slot_of, place_of}
+use Rattle.spool_disk.specs.Health.{sound, health_at, was_lost, since_of, lost_from}
+use Rattle.spool_disk.specs.Kept.{fresh, size_at}
+use Rattle.spool_disk.specs.Deeds.{Deed, Idle, effect, after, lines_of, idled}
+use Rattle.spool_disk.specs.DeedLaws.{after_push, lines_append}
+use Rattle.spool_disk.specs.State.{State, shown, disk_in, first_lines, world_in, view_of, counted, recorded}
+
+-- no two devices have one slot, and no two parts one place
+pub slot_apart : (d e : Dev) → slot_of d ≡ slot_of e → d ≡ e
+slot_apart Ckpt1 Ckpt1 same = refl
+slot_apart Ckpt1 Ckpt2 same = absurd (omega arith)
+slot_apart Ckpt1 (Spool v) same = absurd (omega arith)
+slot_apart Ckpt2 Ckpt1 same = absurd (omega arith)
+slot_apart Ckpt2 Ckpt2 same = refl
+slot_apart Ckpt2 (Spool v) same = absurd (omega arith)
+slot_apart (Spool v) Ckpt1 same = absurd (omega arith)
+slot_apart (Spool v) Ckpt2 same = absurd (omega arith)
+slot_apart (Spool v) (Spool w) same = let e : v ≡ w = omega arith in ap Spool e
+
+pub place_same : (p q : Part) → place_of p ≡ place_of q → p ≡ q
+place_same (DiskPart d) (DiskPart e) same = let slots : slot_of d ≡ slot_of e = omega arith in ap DiskPart (slot_apart d e slots)
+place_same (DiskPart d) Console same = absurd (omega arith)
+place_same (DiskPart d) (Printer m) same = absurd (omega arith)
+place_same (DiskPart d) (Wire n) same = absurd (omega arith)
+place_same Console (DiskPart d) same = absurd (omega arith)
+place_same Console Console same = refl
+place_same Console (Printer m) same = absurd (omega arith)
+place_same Console (Wire n) same = absurd (omega arith)
+place_same (Printer m) (DiskPart d) same = absurd (omega arith)
+place_same (Printer m) Console same = absurd (omega arith)
+place_same (Printer m) (Printer k) same = let e : m.0 ≡ k.0 = omega arith in ap (λ (x : ℕ). Printer (record { 0 = x })) e
+place_same (Printer m) (Wire n) same = absurd (omega arith)
+place_same (Wire n) (DiskPart d) same = absurd (omega arith)
+place_same (Wire n) Console same = absurd (omega arith)
+place_same (Wire n) (Printer k) same = absurd (omega arith)
+place_same (Wire n) (Wire m) same = let e : n ≡ m = omega arith in ap Wire e
+
+pub same_test : (n : ℕ) → (n == n) ≡ true
+same_test n = grind (arith, nat_tests)
+
+pub other_test : (m n : ℕ) → (m ≡ n → ⊥) → (m == n) ≡ false
+other_test m n ne = by_test (m == n) refl where
+  by_test : (b : Bool) → (m == n) ≡ b → (m == n) ≡ false
+  by_test true e = absurd (ne (grind (arith, nat_tests)))
+  by_test false e = e
+
+pub same_or_not : (m n : ℕ) → (m ≡ n) ⊎ (m ≡ n → ⊥)
+same_or_not m n = by_test (m == n) refl where
+  by_test : (b : Bool) → (m == n) ≡ b → (m ≡ n) ⊎ (m ≡ n → ⊥)
+  by_test true e = inl (grind (arith, nat_tests))
+  by_test false e = inr (λ same. let f : (n == n) ≡ false = subst (λ (k : ℕ). (k == n) ≡ false) same e in grind (arith, nat_tests))
+
+-- counts, one of them one more
+pub rises : (xs : List ℕ) (i k : ℕ) → slice_index xs i ≤ top → i < length xs → slice_index xs k ≤ slice_index (counted xs i) k
+rises xs i k fits there = ⊎_elim
+    (λ same.
+    let set_is : slice_index (counted xs i) i ≡ next (slice_index xs i) = get_or-set_same xs i _ 0 there in
+    subst (λ (m : ℕ). slice_index xs m ≤ slice_index (counted xs i) m) (sym same) (omega (arith, set_is, fits)))
+    (λ ne. let set_is : slice_index (counted xs i) k ≡ slice_index xs k = get_or-set_other xs i k _ 0 ne in omega (arith, set_is))
+    (same_or_not k i)
+
+-- what was lost by a moment stays so
+pub lost_on : (since : Option ℕ) (now t : ℕ) → since_of since ≤ now → now ≤ t → was_lost since t ≡ was_lost since now
+lost_on None now t by on = refl
+lost_on (Some m) now t by on =
+    let p : nat_le m t ≡ true = grind (arith, nat_tests) in
+    let q : nat_le m now ≡ true = grind (arith, nat_tests) in
+    p ∙ sym q
+
+-- a part that an act loses is as lost as before at earlier moments, and lost at the act's own
+pub lost_before : (since : Option ℕ) (now t : ℕ) → t ≤ now → was_lost (lost_from since now) t ≡ was_lost since t
+lost_before (Some m) now t le = refl
+lost_before None now t le = by_test (now == top) refl where
+  by_test : (b : Bool) → (now == top) ≡ b → was_lost (if b then None else Some (now + 1)) t ≡ false
+  by_test true e = refl
+  by_test false e = let p : nat_le (now + 1) t ≡ false = grind (arith, nat_tests) in p
+
+pub lost_there : (since : Option ℕ) (now : ℕ) → since_of since ≤ now → now < top → was_lost (lost_from since now) (next now) ≡ true
+lost_there (Some m) now by below = let p : nat_le m (next now) ≡ true = grind (arith, nat_tests) in p
+lost_there None now by below =
+    let not_top : (now == top) ≡ false = other_test now top (λ e. omega arith) in
+    let made : next now ≡ now + 1 = omega arith in
+    let p : nat_le (now + 1) (now + 1) ≡ true = grind (arith, nat_tests) in
+    ap (λ (b : Bool). was_lost (if b then None else Some (now + 1)) (next now)) not_top ∙ ap (nat_le (now + 1)) made ∙ p
+
+pub since_by : (since : Option ℕ) (now : ℕ) → since_of since ≤ now → now ≤ top → since_of (lost_from since now) ≤ next now
+since_by (Some m) now by small = omega arith
+since_by None now by small = by_test (now == top) refl where
+  by_test : (b : Bool) → (now == top) ≡ b → since_of (if b then None else Some (now + 1)) ≤ next now
+  by_test true e = omega arith
+  by_test false e = let ne : now ≢ top = (λ same. let f : (top == top) ≡ false = subst (λ (k : ℕ). (k == top) ≡ false) same e in grind (arith, nat_tests)) in omega arith
+
+-- one part's health is set
+module _ (parts : List Health) (place : ℕ) (h : Health) (there : place < length parts) where
+  pub health_same : (k : ℕ) → k ≡ place → health_at (set parts place h) k ≡ h
+  health_same k same = ap (λ (n : ℕ). health_at (set parts place h) n) same ∙ get_or-set_same parts place h sound there
+
+  pub health_other : (k : ℕ) → (k ≡ place → ⊥) → health_at (set parts place h) k ≡ health_at parts k
+  health_other k ne = get_or-set_other parts place k h sound ne
+
+  -- a fact of each part
+  pub health_each : (P : ℕ → Health → Type 0) → P place h → ((k : ℕ) → P k (health_at parts k)) → (k : ℕ) → P k (health_at (set parts place h) k)
+  health_each P here each k = ⊎_elim
+      (λ same. subst (P k) (sym (health_same k same)) (subst (λ (n : ℕ). P n h) (sym same) here))
+      (λ ne. subst (P k) (sym (health_other k ne)) (each k))
+      (same_or_not k place)
+
+-- a moment in which nothing is done shows nothing
+pub idle_after : (slot : ℕ) (d : Disk) (es : List Deed) (k : ℕ) → after slot d (take k (es ++ Idle ∷ [])) ≡ after slot d (take k es)
+idle_after slot d [] zero = refl
+idle_after slot d [] (suc zero) = refl
+idle_after slot d [] (suc (suc k)) = refl
+idle_after slot d (e ∷ es) zero = refl
+idle_after slot d (e ∷ es) (suc k) = idle_after slot (effect slot d e) es k
+
+pub idle_lines : (es : List Deed) (k : ℕ) → lines_of (take k (es ++ Idle ∷ [])) ≡ lines_of (take k es)
+idle_lines [] zero = refl
+idle_lines [] (suc zero) = refl
+idle_lines [] (suc (suc k)) = refl
+idle_lines (e ∷ es) zero = refl
+idle_lines (e ∷ es) (suc k) =
+    lines_append (e ∷ []) (take k (es ++ Idle ∷ []))
+    ∙ ap (λ (l : List Line). lines_of (e ∷ []) ++ l) (idle_lines es k)
+    ∙ sym (lines_append (e ∷ []) (take k es))
+
+pub idled_after : (slot : ℕ) (d : Disk) (acts : ℕ) (es : List Deed) (k : ℕ) → after slot d (take k (idled acts es)) ≡ after slot d (take k es)
+idled_after slot d acts es k = by_test (nat_lt (length es) acts) where
+  by_test : (b : Bool) → after slot d (take k (if b then es ++ Idle ∷ [] else es)) ≡ after slot d (take k es)
+  by_test true = idle_after slot d es k
+  by_test false = refl
+
+pub idled_lines : (acts : ℕ) (es : List Deed) (k : ℕ) → lines_of (take k (idled acts es)) ≡ lines_of (take k es)
+idled_lines acts es k = by_test (nat_lt (length es) acts) where
+  by_test : (b : Bool) → lines_of (take k (if b then es ++ Idle ∷ [] else es)) ≡ lines_of (take k es)
+  by_test true = idle_lines es k
+  by_test false = refl
+
+-- an act that is recorded
+module _ (s : State) (full : length s.deeds ≡ s.now) (by_now : (k : ℕ) → since_of (health_at s.parts k).since ≤ s.now) where
+  pub past_recorded : (e : Deed) (stops : List ℕ) (t : ℕ) → t ≤ s.now → world_in (recorded s e stops) t ≡ world_in s t
+  past_recorded e stops t le =
+      let short : t ≤ length s.deeds = omega arith in
+      ap (λ (l : List Deed). record { disk = λ d. shown (after (slot_of d) (fresh s.base (slot_of d)) l) (was_lost (health_at s.parts (4 * slot_of d)).since t); console = first_lines s.base ++ lines_of l }) (take-append-le t s.deeds (e ∷ []) short)
+
+  pub disk_old : (slot : ℕ) → disk_in s s.now slot ≡ shown (after slot (fresh s.base slot) s.deeds) (was_lost (health_at s.parts (4 * slot)).since s.now)
+  disk_old slot = ap (λ (l : List Deed). shown (after slot (fresh s.base slot) l) (was_lost (health_at s.parts (4 * slot)).since s.now)) (take_all s.now s.deeds (omega arith))
+
+  pub disk_new : (slot : ℕ) (e : Deed) (stops : List ℕ) → disk_in (recorded s e stops) (s.now + 1) slot ≡ shown (effect slot (after slot (fresh s.base slot) s.deeds) e) (was_lost (health_at s.parts (4 * slot)).since s.now)
+  disk_new slot e stops =
+      ap (λ (l : List Deed). shown (after slot (fresh s.base slot) l) (was_lost (health_at s.parts (4 * slot)).since (s.now + 1))) (take_all (s.now + 1) (s.deeds ++ e ∷ []) (grind (arith, common_steps)))
+      ∙ ap (λ (d : Disk). shown d (was_lost (health_at s.parts (4 * slot)).since (s.now + 1))) (after_push slot (fresh s.base slot) s.deeds e)
+      ∙ ap (shown (effect slot (after slot (fresh s.base slot) s.deeds) e)) (lost_on (health_at s.parts (4 * slot)).since s.now (s.now + 1) (by_now (4 * slot)) (omega arith))
+
+  pub lines_old : (world_in s s.now).console ≡ first_lines s.base ++ lines_of s.deeds
+  lines_old = ap (λ (l : List Deed). first_lines s.base ++ lines_of l) (take_all s.now s.deeds (omega arith))
+
+  pub lines_new : (e : Deed) (stops : List ℕ) → (world_in (recorded s e stops) (s.now + 1)).console ≡ (first_lines s.base ++ lines_of s.deeds) ++ lines_of (e ∷ [])
+  lines_new e stops =
+      ap (λ (l : List Deed). first_lines s.base ++ lines_of l) (take_all (s.now + 1) (s.deeds ++ e ∷ []) (grind (arith, common_steps)))
+      ∙ ap (λ (l : List Line). first_lines s.base ++ l) (lines_append s.deeds (e ∷ []))
+      ∙ sym (append_assoc (first_lines s.base) (lines_of s.deeds) (lines_of (e ∷ [])))
+
+  pub goes_recorded : (e : Deed) (stops : List ℕ) → s.now < top → ((m : ℕ) → slice_index s.stops m ≤ slice_index stops m) → Goes (view_of s) (view_of (recorded s e stops))
+  goes_recorded e stops below more = record {
+    later = omega arith;
+    past = λ t le. past_recorded e stops t le;
+    size = λ d. refl;
+    faults = λ p. omega arith;
+    stops = more;
+    lost = λ p is. is;
+  }
+
+  pub acts_done : (by : ℕ) (part : Part) (e : Deed) → s.now < top → (health_at s.parts (place_of part)).lost ≡ false → Acts by part (view_of s) (view_of (recorded s e s.stops)) Done
+  acts_done by part e below whole = record {
+    time = omega arith;
+    goes = goes_recorded e s.stops below (λ m. omega arith);
+    failed = λ f. absurd (cc);
+    is_lost = λ f. absurd (cc);
+    stays_lost = λ was f. absurd (cc);
+    else_lost = λ p other. refl;
+    halted = λ f. absurd (cc);
+    not_operator = λ f. absurd (cc);
+    no_other_stop = λ m other. refl;
+    last = λ at. absurd (omega arith);
+    loses = λ d. refl;
+  }
+
+  pub acts_halted : (by : ℕ) (part : Part) (e : Deed) → s.now < top → slice_index s.stops by ≤ top → 0 < by → by < length s.stops → Acts by part (view_of s) (view_of (recorded s e (counted s.stops by))) Halted
+  acts_halted by part e below fits member there = record {
+    time = omega arith;
+    goes = goes_recorded e (counted s.stops by) below (λ m. rises s.stops by m fits there);
+    failed = λ f. absurd (cc);
+    is_lost = λ f. absurd (cc);
+    stays_lost = λ was f. absurd (cc);
+    else_lost = λ p other. refl;
+    halted = λ f. let same : slice_index (counted s.stops by) by ≡ next (slice_index s.stops by) = get_or-set_same s.stops by _ 0 there in omega (arith, same);
+    not_operator = λ f. member;
+    no_other_stop = λ m other. ⊎_elim (λ ne. get_or-set_other s.stops by m _ 0 ne) (λ f. absurd (f refl)) other;
+    last = λ at. absurd (omega arith);
+    loses = λ d. refl;
+  }
+
+-- an act in which nothing is done, and a part is lost
+module _ (acts : ℕ) (s s' : State) (part : Part) (h : Health) (small : s.now ≤ top) (short : length s.deeds ≤ s.now) (by_now : (k : ℕ) → since_of (health_at s.parts k).since ≤ s.now) (there : place_of part < length s.parts)
+    (time : s'.now ≡ next s.now) (base : s'.base ≡ s.base) (deeds : s'.deeds ≡ idled acts s.deeds) (parts : s'.parts ≡ set s.parts (place_of part) h)
+    (since : h.since ≡ lost_from (health_at s.parts (place_of part)).since s.now) (gone : h.lost ≡ true) where
+  pub same_after : (slot k : ℕ) → after slot (fresh s'.base slot) (take k s'.deeds) ≡ after slot (fresh s.base slot) (take k s.deeds)
+  same_after slot k =
+      ap (λ (l : List Deed). after slot (fresh s'.base slot) (take k l)) deeds
+      ∙ ap (λ b. after slot (fresh b slot) (take k (idled acts s.deeds))) base
+      ∙ idled_after slot (fresh s.base slot) acts s.deeds k
+
+  pub same_lines : (k : ℕ) → (world_in s' k).console ≡ (world_in s k).console
+  same_lines k =
+      ap (λ (l : List Deed). first_lines s'.base ++ lines_of (take k l)) deeds
+      ∙ ap (λ b. first_lines b ++ lines_of (take k (idled acts s.deeds))) base
+      ∙ ap (λ (l : List Line). first_lines s.base ++ l) (idled_lines acts s.deeds k)
+
+  same_since : (k t : ℕ) → t ≤ s.now → was_lost (health_at s'.parts k).since t ≡ was_lost (health_at s.parts k).since t
+  same_since k t le =
+      ap (λ (l : List Health). was_lost (health_at l k).since t) parts
+      ∙ health_each s.parts (place_of part) h there (λ n g. was_lost g.since t ≡ was_lost (health_at s.parts n).since t)
+      (ap (λ (o : Option ℕ). was_lost o t) since ∙ lost_before (health_at s.parts (place_of part)).since s.now t le)
+      (λ n. refl) k
+
+  pub past_idled : (t : ℕ) → t ≤ s.now → world_in s' t ≡ world_in s t
+  past_idled t le =
+      ap (λ (f : Dev → Disk). record { disk = f; console = (world_in s' t).console }) (fun_ext (λ d. ap (λ (x : Disk). shown x (was_lost (health_at s'.parts (4 * slot_of d)).since t)) (same_after (slot_of d) t) ∙ ap (shown (after (slot_of d) (fresh s.base (slot_of d)) (take t s.deeds))) (same_since (4 * slot_of d) t le)))
+      ∙ ap (λ (l : List Line). record { disk = λ d. disk_in s t (slot_of d); console = l }) (same_lines t)
+
+  pub goes_idled : ((p : Part) → (health_at s.parts (place_of p)).faults ≤ (health_at s'.parts (place_of p)).faults) → ((m : ℕ) → slice_index s.stops m ≤ slice_index s'.stops m) → Goes (view_of s) (view_of s')
+  goes_idled more stops = record {
+    later = omega (arith, small, time);
+    past = past_idled;
+    size = λ d. ap (λ b. size_at b (slot_of d)) base;
+    faults = more;
+    stops = stops;
+    lost = λ p is. ap (λ (l : List Health). (health_at l (place_of p)).lost) parts ∙ health_each s.parts (place_of part) h there (λ n g. (health_at s.parts n).lost ≡ true → g.lost ≡ true) (λ was. gone) (λ n was. was) (place_of p) is;
+  }
+
+  pub now_lost : (view_of s').lost part ≡ true
+  now_lost = ap (λ (l : List Health). (health_at l (place_of part)).lost) parts ∙ ap (λ (g : Health). g.lost) (health_same s.parts (place_of part) h there (place_of part) refl) ∙ gone
+
+  pub else_same : (p : Part) → (p ≡ part → ⊥) → health_at s'.parts (place_of p) ≡ health_at s.parts (place_of p)
+  else_same p ne = ap (λ (l : List Health). health_at l (place_of p)) parts ∙ health_other s.parts (place_of part) h there (place_of p) (λ same. ne (place_same p part same))
+
+  -- what it does to the devices and to the console
+  whole_after : (slot : ℕ) → after slot (fresh s'.base slot) (take s'.now s'.deeds) ≡ after slot (fresh s.base slot) (take s.now s.deeds)
+  whole_after slot =
+      same_after slot s'.now
+      ∙ ap (after slot (fresh s.base slot)) (take_all s'.now s.deeds (omega (arith, small, time)) ∙ sym (take_all s.now s.deeds short))
+
+  pub fails_bytes : (d : Dev) → ((disk_now (view_of s') d).bytes ≡ (disk_now (view_of s) d).bytes) × ((disk_now (view_of s') d).unsynced ≡ (disk_now (view_of s) d).unsynced)
+  fails_bytes d = (ap (λ (x : Disk). x.bytes) (whole_after (slot_of d)), ap (λ (x : Disk). x.unsynced) (whole_after (slot_of d)))
+
+  pub fails_others : (d : Dev) → (DiskPart d ≡ part → ⊥) → disk_now (view_of s') d ≡ disk_now (view_of s) d
+  fails_others d ne =
+      ap (λ (x : Disk). shown x (was_lost (health_at s'.parts (4 * slot_of d)).since s'.now)) (whole_after (slot_of d))
+      ∙ ap (λ (g : Health). shown (after (slot_of d) (fresh s.base (slot_of d)) (take s.now s.deeds)) (was_lost g.since s'.now)) (else_same (DiskPart d) ne)
+      ∙ ap (shown (after (slot_of d) (fresh s.base (slot_of d)) (take s.now s.deeds))) (lost_on (health_at s.parts (4 * slot_of d)).since s.now s'.now (by_now (4 * slot_of d)) (omega (arith, small, time)))
+
+  pub fails_console : ((view_of s').world s'.now).console ≡ ((view_of s).world s.now).console
+  fails_console =
+      same_lines s'.now
+      ∙ ap (λ (l : List Deed). first_lines s.base ++ lines_of l) (take_all s'.now s.deeds (omega (arith, small, time)) ∙ sym (take_all s.now s.deeds short))
+
+  pub fails_lost : s.now < top → (d : Dev) → part ≡ DiskPart d → (disk_now (view_of s') d).lost ≡ true
+  fails_lost below d is =
+      ap (λ (l : List Health). was_lost (health_at l (4 * slot_of d)).since s'.now) parts
+      ∙ ap (λ (g : Health). was_lost g.since s'.now) (health_same s.parts (place_of part) h there (4 * slot_of d) (sym (ap place_of is)))
+      ∙ ap (λ (o : Option ℕ). was_lost o s'.now) since
+      ∙ ap (was_lost (lost_from (health_at s.parts (place_of part)).since s.now)) time
+      ∙ lost_there (health_at s.parts (place_of part)).since s.now (by_now (place_of part)) below

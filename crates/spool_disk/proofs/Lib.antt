@@ -1,0 +1,16 @@
+pub mod Slots
+pub mod Blank
+pub mod Entering
+pub mod Current
+pub mod Acting
+pub mod Faults
+pub mod Effects
+pub mod Contents
+pub mod MemActs
+pub mod Replaying
+pub mod Crashing
+pub mod Restart
+pub mod Matching
+pub mod Earlier
+pub mod Crashed
+pub mod Wholes

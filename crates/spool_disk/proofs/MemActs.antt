@@ -1,0 +1,152 @@
+-- The acts of a plant in memory.
+use Rattle.std.proofs.Common.{◌≡◌, ℕ, ◌+◌, ◌≤◌, ◌<◌, ◌==◌, nat_le, Bool, true, false, if◌then◌else◌, List, [], ◌∷◌, ◌++◌, length, take, slice_index, subst, sym, ◌∙◌, ap, arith}
+use Rattle.std.proofs.lemmas.List.{length-take, append-nil}
+use Rattle.mas_types.specs.declared.ids.Dev.{Dev}
+use Rattle.spool_disk.specs.declared.memory.MemPlant.{MemPlant}
+use Rattle.spool_disk.specs.declared.plant.Part.{Part}
+use Rattle.spool_disk.specs.declared.plant.Part.TheVariants.{Disk as DiskPart}
+use Rattle.spool_disk.specs.declared.plant.Act.TheVariants.{Done, Failed, Halted}
+use Rattle.spool_disk.specs.View.{disk_now, slice}
+use Rattle.spool_disk.specs.Acts.{Acts, Loses, LosesThere, Writes, Syncs, Reads, Says, top}
+use Rattle.spool_disk.specs.Places.{slot_of, place_of}
+use Rattle.spool_disk.specs.Health.{health_at}
+use Rattle.spool_disk.specs.Kept.{fresh, size_at}
+use Rattle.spool_disk.specs.Deeds.{Deed, Idle, Wrote, Synced, Said, overwrite, after}
+use Rattle.spool_disk.specs.Entries.{deeds_of}
+use Rattle.spool_disk.specs.State.{State, view_of, counted, recorded, failed, lost}
+use Rattle.spool_disk.specs.Courses.{left_of, deed_left}
+use Rattle.spool_disk.specs.Failing.{FailsAlone}
+use Rattle.spool_disk.specs.MemView.{state_of, mem_view}
+use Rattle.spool_disk.proofs.Entering.{length-deeds}
+use Rattle.spool_disk.proofs.Acting.{acts_done, acts_halted}
+use Rattle.spool_disk.proofs.Contents.{wrote, write_done, write_halted, sync_done, sync_halted, read_done, read_halted, said, say_done, silent, say_silent, say_torn, say_whole}
+use Rattle.spool_disk.proofs.Faults.{acts_failed, fails_alone, loses, loses_there}
+
+-- the record is in step with the moment where it has room
+in_full : (m : MemPlant) → m.moment < m.kept.acts → length (state_of m).deeds ≡ (state_of m).now
+in_full m below = length-deeds m.kept.log.items m.kept.arena.items ∙ m.in_step.1 (omega (arith, m.in_step.0, below))
+
+pub halted_state : (s s1 s2 : State) (e : Deed) (by : ℕ) → s1 ≡ recorded s e s.stops → s2 ≡ record s1 { stops = counted s1.stops by } → s2 ≡ recorded s e (counted s.stops by)
+halted_state s s1 s2 e by first then_stop = then_stop ∙ ap (λ (x : State). record x { stops = counted x.stops by }) first
+
+module _ (m m' : MemPlant) (e : Deed) (below : m.moment < m.kept.acts) (below_top : m.moment < top) where
+  module _ (is : state_of m' ≡ recorded (state_of m) e (state_of m).stops) where
+    pub done_acts : (by : ℕ) (part : Part) → (mem_view m).lost part ≡ false → Acts by part (mem_view m) (mem_view m') Done
+    done_acts by part whole = subst (λ (x : State). Acts by part (mem_view m) (view_of x) Done) (sym is) (acts_done (state_of m) (in_full m below) m.lost_by_now by part e below_top whole)
+
+pub done_write : (m m' : MemPlant) (dev : Dev) (at slot : ℕ) (bytes : List ℕ) → m.moment < m.kept.acts → slot ≡ slot_of dev → at + length bytes ≤ size_at m.kept.base (slot_of dev)
+    → state_of m' ≡ recorded (state_of m) (Wrote slot at (length bytes) bytes) (state_of m).stops → Writes dev at bytes (mem_view m) (mem_view m') Done
+done_write m m' dev at slot bytes below there fits is =
+    subst (λ (x : State). Writes dev at bytes (mem_view m) (view_of x) Done) (sym (is ∙ ap (λ (n : ℕ). recorded (state_of m) (Wrote n at (length bytes) bytes) (state_of m).stops) there))
+    (write_done (state_of m) (state_of m).stops (in_full m below) m.lost_by_now dev at bytes fits)
+
+pub done_sync : (m m' : MemPlant) (dev : Dev) (slot : ℕ) → m.moment < m.kept.acts → slot ≡ slot_of dev → state_of m' ≡ recorded (state_of m) (Synced slot) (state_of m).stops → Syncs dev (mem_view m) (mem_view m') Done
+done_sync m m' dev slot below there is =
+    subst (λ (x : State). Syncs dev (mem_view m) (view_of x) Done) (sym (is ∙ ap (λ (n : ℕ). recorded (state_of m) (Synced n) (state_of m).stops) there))
+    (sync_done (state_of m) (state_of m).stops (in_full m below) m.lost_by_now dev)
+
+pub done_read : (m m' : MemPlant) (dev : Dev) (at slot : ℕ) (into : List ℕ) → m.moment < m.kept.acts → slot ≡ slot_of dev
+    → into ≡ slice at (length into) (after slot (fresh m.kept.base slot) (deeds_of m.kept.log.items m.kept.arena.items)).bytes
+    → state_of m' ≡ recorded (state_of m) Idle (state_of m).stops → Reads dev at (mem_view m) (mem_view m') into Done
+done_read m m' dev at slot into below there read is =
+    subst (λ (x : State). Reads dev at (mem_view m) (view_of x) into Done) (sym is)
+    (read_done (state_of m) (state_of m).stops (in_full m below) m.lost_by_now dev at into
+    (subst (λ (n : ℕ). into ≡ slice at (length into) (after n (fresh m.kept.base n) (deeds_of m.kept.log.items m.kept.arena.items)).bytes) there read))
+
+pub done_say : (m m' : MemPlant) (line : List ℕ) → m.moment < m.kept.acts → state_of m' ≡ recorded (state_of m) (Said line true) (state_of m).stops → Says line (mem_view m) (mem_view m') Done
+done_say m m' line below is = subst (λ (x : State). Says line (mem_view m) (view_of x) Done) (sym is) (say_done (state_of m) (state_of m).stops (in_full m below) m.lost_by_now line)
+
+-- an act that halts: it is recorded, and then the stop is counted
+module _ (m m1 m2 : MemPlant) (e : Deed) (by : ℕ) (below : m.moment < m.kept.acts) (first : state_of m1 ≡ recorded (state_of m) e (state_of m).stops)
+    (next_is : state_of m2 ≡ record (state_of m1) { stops = counted (state_of m1).stops by }) where
+  both : state_of m2 ≡ recorded (state_of m) e (counted (state_of m).stops by)
+  both = halted_state (state_of m) (state_of m1) (state_of m2) e by first next_is
+
+  same_stops : (state_of m1).stops ≡ (state_of m).stops
+  same_stops = ap (λ (x : State). x.stops) first
+
+  pub halted_acts : (part : Part) → m.moment < top → slice_index (state_of m1).stops by ≤ top → by < length (state_of m1).stops → 0 < by → Acts by part (mem_view m) (mem_view m2) Halted
+  halted_acts part below_top fits there member =
+      subst (λ (x : State). Acts by part (mem_view m) (view_of x) Halted) (sym both)
+      (acts_halted (state_of m) (in_full m below) m.lost_by_now by part e below_top (subst (λ (l : List ℕ). slice_index l by ≤ top) same_stops fits) member (subst (λ (l : List ℕ). by < length l) same_stops there))
+
+module _ (m m1 m2 : MemPlant) (by : ℕ) (below : m.moment < m.kept.acts) (first : state_of m1 ≡ recorded (state_of m) Idle (state_of m).stops)
+    (next_is : state_of m2 ≡ record (state_of m1) { stops = counted (state_of m1).stops by }) where
+  pub halted_sync : (dev : Dev) → Syncs dev (mem_view m) (mem_view m2) Halted
+  halted_sync dev =
+      subst (λ (x : State). Syncs dev (mem_view m) (view_of x) Halted) (sym (both m m1 m2 Idle by below first next_is))
+      (sync_halted (state_of m) (counted (state_of m).stops by) (in_full m below) m.lost_by_now dev)
+
+  pub halted_read : (dev : Dev) (at : ℕ) (into : List ℕ) → Reads dev at (mem_view m) (mem_view m2) into Halted
+  halted_read dev at into =
+      subst (λ (x : State). Reads dev at (mem_view m) (view_of x) into Halted) (sym (both m m1 m2 Idle by below first next_is))
+      (read_halted (state_of m) (counted (state_of m).stops by) (in_full m below) m.lost_by_now dev at into)
+
+module _ (m m1 m2 : MemPlant) (by : ℕ) (below : m.moment < m.kept.acts) (dev : Dev) (at slot keep : ℕ) (bytes some : List ℕ) (there : slot ≡ slot_of dev) (fits : at + length bytes ≤ size_at m.kept.base (slot_of dev)) (is_some : some ≡ take keep bytes)
+    (first : state_of m1 ≡ recorded (state_of m) (Wrote slot at (length bytes) some) (state_of m).stops)
+    (next_is : state_of m2 ≡ record (state_of m1) { stops = counted (state_of m1).stops by }) where
+  both_write : state_of m2 ≡ recorded (state_of m) (Wrote (slot_of dev) at (length bytes) (take keep bytes)) (counted (state_of m).stops by)
+  both_write =
+      both m m1 m2 (Wrote slot at (length bytes) some) by below first next_is
+      ∙ ap (λ (n : ℕ). recorded (state_of m) (Wrote n at (length bytes) some) (counted (state_of m).stops by)) there
+      ∙ ap (λ (l : List ℕ). recorded (state_of m) (Wrote (slot_of dev) at (length bytes) l) (counted (state_of m).stops by)) is_some
+
+  pub halted_write : Writes dev at bytes (mem_view m) (mem_view m2) Halted
+  halted_write =
+      subst (λ (x : State). Writes dev at bytes (mem_view m) (view_of x) Halted) (sym both_write)
+      (write_halted (state_of m) (counted (state_of m).stops by) (in_full m below) m.lost_by_now dev at bytes (take keep bytes) (omega (arith, length-take keep bytes)) fits)
+
+  pub halted_bytes : (disk_now (mem_view m2) dev).bytes ≡ overwrite at (take keep bytes) (disk_now (mem_view m) dev).bytes
+  halted_bytes =
+      subst (λ (x : State). (disk_now (view_of x) dev).bytes ≡ overwrite at (take keep bytes) (disk_now (mem_view m) dev).bytes) (sym both_write)
+      (wrote (state_of m) (counted (state_of m).stops by) (in_full m below) m.lost_by_now dev at (length bytes) (take keep bytes))
+
+module _ (m m1 m2 : MemPlant) (by : ℕ) (below : m.moment < m.kept.acts) (keep : ℕ) (line : List ℕ)
+    (first : state_of m1 ≡ recorded (state_of m) (deed_left keep line) (state_of m).stops)
+    (next_is : state_of m2 ≡ record (state_of m1) { stops = counted (state_of m1).stops by }) where
+  pub halted_say : Says line (mem_view m) (mem_view m2) Halted
+  halted_say =
+      subst (λ (x : State). Says line (mem_view m) (view_of x) Halted) (sym (both m m1 m2 (deed_left keep line) by below first next_is))
+      (by_test (nat_le (length line) keep) (keep == 0)) where
+        stops : List ℕ
+        stops = counted (state_of m).stops by
+
+        by_test : (b c : Bool) → Says line (mem_view m) (view_of (recorded (state_of m) (if b then Said line true else (if c then Idle else Said (take keep line) false)) (counted (state_of m).stops by))) Halted
+        by_test true c = say_whole (state_of m) (counted (state_of m).stops by) (in_full m below) m.lost_by_now line
+        by_test false true = say_silent (state_of m) (counted (state_of m).stops by) (in_full m below) m.lost_by_now line
+        by_test false false = say_torn (state_of m) (counted (state_of m).stops by) (in_full m below) m.lost_by_now line (take keep line)
+
+  pub halted_line : ((mem_view m2).world (mem_view m2).now).console ≡ ((mem_view m).world (mem_view m).now).console ++ left_of keep line
+  halted_line =
+      subst (λ (x : State). ((view_of x).world x.now).console ≡ ((mem_view m).world (mem_view m).now).console ++ left_of keep line) (sym (both m m1 m2 (deed_left keep line) by below first next_is))
+      (by_test (nat_le (length line) keep) (keep == 0)) where
+        by_test : (b c : Bool) → ((view_of (recorded (state_of m) (if b then Said line true else (if c then Idle else Said (take keep line) false)) (counted (state_of m).stops by))).world (m.moment + 1)).console
+            ≡ ((mem_view m).world m.moment).console ++ (if b then record { text = line; whole = true } ∷ [] else (if c then [] else record { text = take keep line; whole = false } ∷ []))
+        by_test true c = said (state_of m) (counted (state_of m).stops by) (in_full m below) m.lost_by_now line true
+        by_test false true = silent (state_of m) (counted (state_of m).stops by) (in_full m below) m.lost_by_now ∙ sym (append-nil ((mem_view m).world m.moment).console)
+        by_test false false = said (state_of m) (counted (state_of m).stops by) (in_full m below) m.lost_by_now (take keep line) false
+
+-- a fault, and a device that is lost
+module _ (m m' : MemPlant) (small : m.moment ≤ top) where
+  short : length (state_of m).deeds ≤ m.moment
+  short = omega (arith, m.in_step.0, length-deeds m.kept.log.items m.kept.arena.items)
+
+  pub failed_acts : (by : ℕ) (part : Part) → place_of part < 1032 → (health_at m.counts.parts.items (place_of part)).faults ≤ top → state_of m' ≡ failed m.kept.acts (state_of m) part → Acts by part (mem_view m) (mem_view m') Failed
+  failed_acts by part few fits is =
+      subst (λ (x : State). Acts by part (mem_view m) (view_of x) Failed) (sym is)
+      (acts_failed m.kept.acts (state_of m) part small short m.lost_by_now (omega (arith, few, m.counts.parts_len)) by fits)
+
+  pub failed_alone : (part : Part) → place_of part < 1032 → state_of m' ≡ failed m.kept.acts (state_of m) part → FailsAlone part (mem_view m) (mem_view m')
+  failed_alone part few is =
+      subst (λ (x : State). FailsAlone part (mem_view m) (view_of x)) (sym is)
+      (fails_alone m.kept.acts (state_of m) part small short m.lost_by_now (omega (arith, few, m.counts.parts_len)))
+
+  pub lost_acts : (dev : Dev) → slot_of dev < 258 → slice_index m.counts.loses.items (slot_of dev) ≤ top → state_of m' ≡ lost m.kept.acts (state_of m) dev → Loses (DiskPart dev) (mem_view m) (mem_view m')
+  lost_acts dev few fits is =
+      subst (λ (x : State). Loses (DiskPart dev) (mem_view m) (view_of x)) (sym is)
+      (loses m.kept.acts (state_of m) dev small short m.lost_by_now (omega (arith, few, m.counts.parts_len)) (omega (arith, few, m.counts.loses_len)) fits)
+
+  pub lost_there : (dev : Dev) → slot_of dev < 258 → state_of m' ≡ lost m.kept.acts (state_of m) dev → LosesThere dev (mem_view m) (mem_view m')
+  lost_there dev few is =
+      subst (λ (x : State). LosesThere dev (mem_view m) (view_of x)) (sym is)
+      (loses_there m.kept.acts (state_of m) dev small short m.lost_by_now (omega (arith, few, m.counts.parts_len)))

@@ -1,0 +1,70 @@
+-- What is planned of acts, and what becomes of them.
+use Rattle.std.specs.Prelude.{ℕ, ◌-◌, min, nat_lt, nat_le, ◌==◌, ◌&&◌, if◌then◌else◌, Bool, true, false, List, [], ◌∷◌, ◌++◌, length, take, Option, Some, None, option_map, find}
+use Rattle.spool_disk.specs.declared.plan.Plan.{Plan}
+use Rattle.spool_disk.specs.declared.plan.Planned.{Planned}
+use Rattle.spool_disk.specs.declared.plan.Planned.TheVariants.{Fails, Halts}
+use Rattle.spool_disk.specs.declared.plan.Course.{Course}
+use Rattle.spool_disk.specs.declared.plan.Course.TheVariants.{Go, Fail, Halt}
+use Rattle.spool_disk.specs.declared.plant.Act.{Act}
+use Rattle.spool_disk.specs.declared.plant.Act.TheVariants.{Done, Failed, Halted}
+use Rattle.spool_disk.specs.declared.plant.Part.{Part}
+use Rattle.spool_disk.specs.Deeds.{Deed, Idle, Said}
+use Rattle.spool_disk.specs.View.{View, Line}
+
+-- What a plant in memory has room for: so many acts and so many bytes in all, and so many bytes more. And what is planned.
+pub record Book : Type 0 where
+  pub acts : ℕ
+  pub bytes : ℕ
+  pub left : ℕ
+  pub plans : List Plan
+
+-- the first plan of a moment
+abbrev pub plan_at : List Plan → ℕ → Option Planned
+plan_at plans now = option_map (λ p. p.planned) (find (λ p. p.moment == now) plans)
+
+-- an act of which nothing is planned fails on a lost part, and else is done
+abbrev pub unplanned : Bool → Course
+unplanned lost = if lost then Fail else Go
+
+-- the operator never halts: a plan for it is passed over
+abbrev pub as_planned : Option Planned → ℕ → Bool → Course
+as_planned None by lost = unplanned lost
+as_planned (Some Fails) by lost = Fail
+as_planned (Some (Halts keep)) by lost = if nat_lt 0 by then Halt keep else unplanned lost
+
+-- what becomes of an act of a member on a part, with so many bytes to record. Where it doesn't fit it fails
+abbrev pub course_of : Book → View → ℕ → Part → ℕ → Course
+course_of book v by part len = if nat_lt v.now book.acts && nat_le len book.left then as_planned (plan_at book.plans v.now) by (v.lost part) else Fail
+
+abbrev pub answer : Course → Act
+answer Go = Done
+answer Fail = Failed
+answer (Halt keep) = Halted
+
+-- room for some bytes less
+abbrev pub spent : ℕ → Book → Book
+spent n book = record { acts = book.acts; bytes = book.bytes; left = book.left - n; plans = book.plans }
+
+-- the room after an act with so many bytes
+abbrev pub spent_by : Course → ℕ → Book → Book
+spent_by Go len book = spent len book
+spent_by Fail len book = book
+spent_by (Halt keep) len book = spent (min keep len) book
+
+-- room for so many acts and bytes, of which nothing is used, and nothing planned
+abbrev pub empty_book : ℕ → ℕ → Book
+empty_book acts bytes = record { acts = acts; bytes = bytes; left = bytes; plans = [] }
+
+-- one plan more
+abbrev pub with_plan : Plan → Book → Book
+with_plan plan book = record { acts = book.acts; bytes = book.bytes; left = book.left; plans = book.plans ++ plan ∷ [] }
+
+-- what a halted line leaves on the console: nothing, a torn line, or the whole line
+abbrev pub left_of : ℕ → List ℕ → List Line
+left_of keep line =
+    if nat_le (length line) keep then record { text = line; whole = true } ∷ []
+    else (if keep == 0 then [] else record { text = take keep line; whole = false } ∷ [])
+
+-- and how that is recorded
+abbrev pub deed_left : ℕ → List ℕ → Deed
+deed_left keep line = if nat_le (length line) keep then Said line true else (if keep == 0 then Idle else Said (take keep line) false)

@@ -1,0 +1,43 @@
+-- Laws of what acts come to.
+use Rattle.std.proofs.Common.{◌≡◌, ℕ, ◌+◌, ◌≤◌, ◌==◌, Bool, true, false, if◌then◌else◌, List, [], ◌∷◌, ◌++◌, length, take, drop, refl, ◌∙◌, ap, arith, nat_le}
+use Rattle.std.proofs.lemmas.Bool.Decides.{nat_tests}
+use Rattle.std.proofs.lemmas.Grind.{common_steps}
+use Rattle.spool_disk.specs.View.{Disk, Line}
+use Rattle.spool_disk.specs.Deeds.{Deed, Idle, Wrote, Synced, Said, overwrite, effect, after, lines_of}
+
+pub after_push : (slot : ℕ) (d : Disk) (es : List Deed) (e : Deed) → after slot d (es ++ e ∷ []) ≡ effect slot (after slot d es) e
+after_push slot d [] e = refl
+after_push slot d (f ∷ es) e = after_push slot (effect slot d f) es e
+
+pub after_append : (slot : ℕ) (d : Disk) (es fs : List Deed) → after slot d (es ++ fs) ≡ after slot (after slot d es) fs
+after_append slot d [] fs = refl
+after_append slot d (e ∷ es) fs = after_append slot (effect slot d e) es fs
+
+pub length-overwrite : (at : ℕ) (bytes old : List ℕ) → length (overwrite at bytes old) ≡ length old
+length-overwrite at bytes old = by_test (nat_le (at + length bytes) (length old)) refl where
+  by_test : (b : Bool) → nat_le (at + length bytes) (length old) ≡ b → length (if b then take at old ++ bytes ++ drop (at + length bytes) old else old) ≡ length old
+  by_test true e = let fits : at + length bytes ≤ length old = grind (arith, nat_tests) in grind (arith, common_steps)
+  by_test false e = refl
+
+pub length-effect : (slot : ℕ) (d : Disk) (e : Deed) → length (effect slot d e).bytes ≡ length d.bytes
+length-effect slot d Idle = refl
+length-effect slot d (Wrote s at len bytes) = by_test (s == slot) where
+  by_test : (b : Bool) → length (if b then record { bytes = overwrite at bytes d.bytes; unsynced = record { from = at; len = len } ∷ d.unsynced; lost = d.lost } else d).bytes ≡ length d.bytes
+  by_test true = length-overwrite at bytes d.bytes
+  by_test false = refl
+length-effect slot d (Synced s) = by_test (s == slot) where
+  by_test : (b : Bool) → length (if b then record { bytes = d.bytes; unsynced = []; lost = d.lost } else d).bytes ≡ length d.bytes
+  by_test true = refl
+  by_test false = refl
+length-effect slot d (Said text whole) = refl
+
+pub length-after : (slot : ℕ) (d : Disk) (es : List Deed) → length (after slot d es).bytes ≡ length d.bytes
+length-after slot d [] = refl
+length-after slot d (e ∷ es) = length-after slot (effect slot d e) es ∙ length-effect slot d e
+
+pub lines_append : (es fs : List Deed) → lines_of (es ++ fs) ≡ lines_of es ++ lines_of fs
+lines_append [] fs = refl
+lines_append (Idle ∷ es) fs = lines_append es fs
+lines_append (Wrote s at len bytes ∷ es) fs = lines_append es fs
+lines_append (Synced s ∷ es) fs = lines_append es fs
+lines_append (Said text whole ∷ es) fs = ap (λ (l : List Line). record { text = text; whole = whole } ∷ l) (lines_append es fs)

@@ -1,0 +1,29 @@
+-- The entries of a record, and the acts that they stand for.
+use Rattle.std.specs.Prelude.{ℕ, ◌+◌, max, List, [], ◌∷◌, take, drop}
+use Rattle.spool_disk.specs.declared.entry.Entry.{Entry}
+use Rattle.spool_disk.specs.declared.entry.Entry.TheVariants.{Idle as EntryIdle, Wrote as EntryWrote, Synced as EntrySynced, Said as EntrySaid}
+use Rattle.spool_disk.specs.Deeds.{Deed, Idle, Wrote, Synced, Said}
+
+-- how many of the record's bytes are an entry's
+abbrev pub kept_by : Entry → ℕ
+kept_by EntryIdle = 0
+kept_by (EntryWrote slot at len kept) = kept
+kept_by (EntrySynced slot) = 0
+kept_by (EntrySaid kept whole) = kept
+
+-- and how many are those of all entries
+abbrev pub kept_in : List Entry → ℕ
+kept_in [] = 0
+kept_in (e ∷ es) = kept_by e + kept_in es
+
+-- the act that an entry with its bytes stands for
+abbrev pub deed_of : Entry → List ℕ → Deed
+deed_of EntryIdle bytes = Idle
+deed_of (EntryWrote slot at len kept) bytes = Wrote slot at (max len kept) bytes
+deed_of (EntrySynced slot) bytes = Synced slot
+deed_of (EntrySaid kept whole) bytes = Said bytes whole
+
+-- the acts of a record
+abbrev pub deeds_of : List Entry → List ℕ → List Deed
+deeds_of [] arena = []
+deeds_of (e ∷ es) arena = deed_of e (take (kept_by e) arena) ∷ deeds_of es (drop (kept_by e) arena)

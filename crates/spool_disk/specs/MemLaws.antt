@@ -1,0 +1,23 @@
+-- A device of a plant in memory has as many bytes as its size, and is lost in the world only where it is lost now.
+use Rattle.std.proofs.Common.{◌≡◌, ℕ, ◌*◌, Bool, true, false, Option, Some, None, is_some, length, take, refl, ◌∙◌}
+use Rattle.mas_types.specs.declared.ids.Dev.{Dev}
+use Rattle.spool_disk.specs.declared.memory.MemPlant.{MemPlant}
+use Rattle.spool_disk.specs.declared.plant.Part.TheVariants.{Disk as DiskPart}
+use Rattle.spool_disk.specs.View.{disk_at, disk_now}
+use Rattle.spool_disk.specs.Places.{slot_of}
+use Rattle.spool_disk.specs.Entries.{deeds_of}
+use Rattle.spool_disk.specs.Kept.{fresh}
+use Rattle.spool_disk.specs.Health.{health_at, was_lost}
+use Rattle.spool_disk.specs.DeedLaws.{length-after}
+use Rattle.spool_disk.specs.MemView.{mem_view}
+
+pub mem_sized : (m : MemPlant) (t : ℕ) (d : Dev) → length (disk_at (mem_view m) t d).bytes ≡ (mem_view m).size d
+mem_sized m t d = length-after (slot_of d) (fresh m.kept.base (slot_of d)) (take t (deeds_of m.kept.log.items m.kept.arena.items)) ∙ m.kept.base.whole (slot_of d)
+
+not_lost : (since : Option ℕ) (lost : Bool) (t : ℕ) → (is_some since ≡ true → lost ≡ true) → lost ≡ false → was_lost since t ≡ false
+not_lost None lost t still whole = refl
+not_lost (Some m) true t still whole = absurd (cc)
+not_lost (Some m) false t still whole = let wrong : false ≡ true = still refl in absurd (cc)
+
+pub mem_there : (m : MemPlant) (d : Dev) → (mem_view m).lost (DiskPart d) ≡ false → (disk_now (mem_view m) d).lost ≡ false
+mem_there m d whole = not_lost (health_at m.counts.parts.items (4 * slot_of d)).since (health_at m.counts.parts.items (4 * slot_of d)).lost m.moment (m.lost_still (4 * slot_of d)) whole

@@ -1,0 +1,42 @@
+-- What a crash leaves after acts.
+use Rattle.std.specs.Prelude.{◌≡◌, ◌⊎◌, ℕ, ◌==◌, if◌then◌else◌, Bool, false, List, [], ◌∷◌, ◌++◌}
+use Rattle.spool_disk.specs.declared.choice.Choice.{Choice}
+use Rattle.spool_disk.specs.declared.choice.Choice.TheVariants.{Old, New, Ones}
+use Rattle.spool_disk.specs.declared.entry.Entry.{Entry}
+use Rattle.spool_disk.specs.declared.entry.Entry.TheVariants.{Idle as EntryIdle, Wrote as EntryWrote, Synced as EntrySynced, Said as EntrySaid}
+use Rattle.spool_disk.specs.View.{Disk}
+use Rattle.spool_disk.specs.Deeds.{Deed, Idle, Wrote, Synced, Said, effect}
+use Rattle.spool_disk.specs.Crash.{IsOnes}
+
+-- the bytes of the last sync, after an act
+abbrev pub synced_by : ℕ → List ℕ → Disk → Deed → List ℕ
+synced_by slot bytes d Idle = bytes
+synced_by slot bytes d (Wrote s at len some) = bytes
+synced_by slot bytes d (Synced s) = if s == slot then d.bytes else bytes
+synced_by slot bytes d (Said text whole) = bytes
+
+-- and after all of them
+abbrev pub last_synced : ℕ → List ℕ → Disk → List Deed → List ℕ
+last_synced slot bytes d [] = bytes
+last_synced slot bytes d (e ∷ es) = last_synced slot (synced_by slot bytes d e) (effect slot d e) es
+
+abbrev pub Leaves : Choice → List ℕ → Disk → List ℕ → Type 0
+Leaves Old synced d image = image ≡ synced
+Leaves New synced d image = image ≡ d.bytes
+Leaves Ones synced d image = IsOnes d image
+
+-- an entry is a sync of a slot
+abbrev pub is_sync : ℕ → Entry → Bool
+is_sync slot EntryIdle = false
+is_sync slot (EntryWrote s at len kept) = false
+is_sync slot (EntrySynced s) = s == slot
+is_sync slot (EntrySaid kept whole) = false
+
+-- no entry is a sync of a slot
+abbrev pub IsQuiet : ℕ → List Entry → Type 0
+IsQuiet slot [] = Unit {0}
+IsQuiet slot (e ∷ es) = (is_sync slot e ≡ false) × IsQuiet slot es
+
+-- the last entry is a sync of a slot, if there is one
+abbrev pub EndsSynced : ℕ → List Entry → Type 0
+EndsSynced slot es = (es ≡ []) ⊎ ((front : List Entry) × (es ≡ front ++ EntrySynced slot ∷ []))

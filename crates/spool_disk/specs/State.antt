@@ -1,0 +1,75 @@
+-- What stands behind a plant in memory, and what it shows.
+use Rattle.std.specs.Prelude.{ℕ, ◌+◌, ◌*◌, Bool, List, [], ◌∷◌, ◌++◌, take, slice_index, slice_set}
+use Rattle.mas_types.specs.declared.ids.Dev.{Dev}
+use Rattle.spool_disk.specs.declared.base.Base.{Base}
+use Rattle.spool_disk.specs.declared.health.Health.{Health}
+use Rattle.spool_disk.specs.declared.plant.Part.{Part}
+use Rattle.spool_disk.specs.declared.plant.Part.TheVariants.{Disk as DiskPart}
+use Rattle.spool_disk.specs.Acts.{next}
+use Rattle.spool_disk.specs.Deeds.{Deed, after, lines_of, idled}
+use Rattle.spool_disk.specs.Entries.{deeds_of}
+use Rattle.spool_disk.specs.Health.{was_lost, health_at, lost_after, failed_after}
+use Rattle.spool_disk.specs.Kept.{fresh, size_at}
+use Rattle.spool_disk.specs.Places.{slot_of, place_of}
+use Rattle.spool_disk.specs.View.{View, World, Disk, Line}
+
+pub record State : Type 0 where
+  pub now : ℕ
+  pub base : Base
+  pub deeds : List Deed
+  pub parts : List Health
+  pub stops : List ℕ
+  pub loses : List ℕ
+
+-- a device, lost or not
+abbrev pub shown : Disk → Bool → Disk
+shown d lost = record { bytes = d.bytes; unsynced = d.unsynced; lost = lost }
+
+abbrev pub disk_in : State → ℕ → ℕ → Disk
+disk_in s t slot = shown (after slot (fresh s.base slot) (take t s.deeds)) (was_lost (health_at s.parts (4 * slot)).since t)
+
+-- the lines that the console held at first
+abbrev pub first_lines : Base → List Line
+first_lines base = lines_of (deeds_of base.said.items base.text.items)
+
+abbrev pub world_in : State → ℕ → World
+world_in s t = record { disk = λ d. disk_in s t (slot_of d); console = first_lines s.base ++ lines_of (take t s.deeds) }
+
+abbrev pub view_of : State → View
+view_of s = record {
+  now = s.now;
+  world = world_in s;
+  size = λ d. size_at s.base (slot_of d);
+  lost = λ p. (health_at s.parts (place_of p)).lost;
+  faults = λ p. (health_at s.parts (place_of p)).faults;
+  stops = λ n. slice_index s.stops n;
+  loses = λ d. slice_index s.loses (slot_of d);
+}
+
+-- a count one higher
+abbrev pub counted : List ℕ → ℕ → List ℕ
+counted counts at = slice_set counts at (next (slice_index counts at))
+
+-- an act that was recorded, with these stops after it
+abbrev pub recorded : State → Deed → List ℕ → State
+recorded s e stops = record { now = s.now + 1; base = s.base; deeds = s.deeds ++ e ∷ []; parts = s.parts; stops = stops; loses = s.loses }
+
+abbrev pub failed : ℕ → State → Part → State
+failed acts s part = record {
+  now = next s.now;
+  base = s.base;
+  deeds = idled acts s.deeds;
+  parts = slice_set s.parts (place_of part) (failed_after (health_at s.parts (place_of part)) s.now);
+  stops = s.stops;
+  loses = s.loses;
+}
+
+abbrev pub lost : ℕ → State → Dev → State
+lost acts s dev = record {
+  now = next s.now;
+  base = s.base;
+  deeds = idled acts s.deeds;
+  parts = slice_set s.parts (place_of (DiskPart dev)) (lost_after (health_at s.parts (place_of (DiskPart dev))) s.now);
+  stops = s.stops;
+  loses = counted s.loses (slot_of dev);
+}

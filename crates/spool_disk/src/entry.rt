@@ -1,0 +1,13 @@
+// Entries of a record of acts. The bytes of all entries stand in one list, in the order of the entries.
+
+#[derive(Clone, Copy)]
+pub(crate) enum Entry {
+    // An act that changed nothing.
+    Idle,
+    // A write to a slot, from a place on, of so many bytes, of which so many were kept.
+    Wrote(usize, usize, usize, usize),
+    // A sync of a slot.
+    Synced(usize),
+    // A line with so many bytes, whole or torn.
+    Said(usize, bool),
+}

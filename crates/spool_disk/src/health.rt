@@ -1,0 +1,160 @@
+// What is known of each part, and counts.
+ghost use Rattle.std.specs.Prelude.{◌≡◌, ◌+◌, ◌*◌, ◌<◌, ◌≤◌, length, slice_set, slice_index, IfOk, map, replicate};
+ghost use Rattle.spool_disk.specs.Acts.{next, top};
+ghost use Rattle.spool_disk.specs.Begins.{restarted};
+ghost use Rattle.spool_disk.specs.Health.{sound, health_at, lost_from, lost_after, failed_after};
+
+use std::alloc::{AllocError, Global};
+
+/// The places of all parts: devices, the console, and a printer and a wire for each byte.
+pub(crate) const PLACES: usize = 1032;
+
+// A part: its faults, the moment from which it is lost, and that it is lost now. At the greatest moment it may be
+// lost now and yet at no moment.
+#[derive(Clone, Copy)]
+pub(crate) struct Health {
+    pub(crate) faults: u64,
+    pub(crate) since: Option<u64>,
+    pub(crate) lost: bool,
+}
+
+fn lost_since(since: Option<u64>, now: u64) -> Option<u64>
+    ensures { result ≡ lost_from since now }
+{
+    match since {
+        Some(moment) => Some(moment),
+        None if now == u64::MAX => None,
+        None => Some(now + 1),
+    }
+}
+
+impl Health {
+    // The same part, lost by an act at a moment.
+    fn losing(self, now: u64) -> Health
+        ensures { result ≡ lost_after self now }
+    {
+        Health {
+            faults: self.faults,
+            since: lost_since(self.since, now),
+            lost: true,
+        }
+    }
+
+    // The same part after a fault at a moment.
+    fn failing(self, now: u64) -> Health
+        ensures value { result ≡ failed_after self now }
+        ensures fits { self.faults ≤ top }
+    {
+        Health {
+            faults: self.faults.saturating_add(1),
+            since: lost_since(self.since, now),
+            lost: true,
+        }
+    }
+}
+
+#[derive(Drop)]
+pub(crate) struct Counts {
+    pub(crate) parts: Vec<Health>,
+    pub(crate) stops: Vec<u64>,
+    pub(crate) loses: Vec<u64>,
+    ghost parts_len: { length parts.items ≡ 1032 },
+    ghost stops_len: { length stops.items ≡ 256 },
+    ghost loses_len: { length loses.items ≡ 258 },
+}
+
+impl Counts {
+    // A fault of a part at a moment.
+    pub(crate) fn fail(&mut self, place: usize, now: u64)
+        requires { place < 1032 }
+        ensures parts { self.new.parts.items ≡ slice_set self.old.parts.items place (failed_after (health_at self.old.parts.items place) now) }
+        ensures stops { self.new.stops.items ≡ self.old.stops.items }
+        ensures loses { self.new.loses.items ≡ self.old.loses.items }
+        ensures fits { (health_at self.old.parts.items place).faults ≤ top }
+    {
+        let health = self.parts[place];
+        self.parts[place] = health.failing(now);
+    }
+
+    // A call at a moment that loses a device.
+    pub(crate) fn lose(&mut self, slot: usize, now: u64)
+        requires { slot < 258 }
+        ensures parts { self.new.parts.items ≡ slice_set self.old.parts.items (4 * slot) (lost_after (health_at self.old.parts.items (4 * slot)) now) }
+        ensures stops { self.new.stops.items ≡ self.old.stops.items }
+        ensures loses { self.new.loses.items ≡ slice_set self.old.loses.items slot (next (slice_index self.old.loses.items slot)) }
+        ensures fits { slice_index self.old.loses.items slot ≤ top }
+    {
+        let health = self.parts[4 * slot];
+        self.parts[4 * slot] = health.losing(now);
+        self.loses[slot] = self.loses[slot].saturating_add(1);
+    }
+
+    // A stop of a member.
+    pub(crate) fn stop(&mut self, by: usize)
+        requires { by < 256 }
+        ensures parts { self.new.parts.items ≡ self.old.parts.items }
+        ensures loses { self.new.loses.items ≡ self.old.loses.items }
+        ensures stops { self.new.stops.items ≡ slice_set self.old.stops.items by (next (slice_index self.old.stops.items by)) }
+        ensures fits { slice_index self.old.stops.items by ≤ top }
+    {
+        self.stops[by] = self.stops[by].saturating_add(1);
+    }
+}
+
+impl Counts {
+    // Counts that stand at 0, and these parts.
+    pub(crate) fn new(alloc: Global, parts: Vec<Health>) -> Result<Counts, AllocError>
+        requires { length parts.items ≡ 1032 }
+        ensures parts { IfOk result (λ c. c.parts.items ≡ parts.items) }
+        ensures stops { IfOk result (λ c. c.stops.items ≡ replicate 256 0) }
+        ensures loses { IfOk result (λ c. c.loses.items ≡ replicate 258 0) }
+    {
+        let stops = vec![in alloc; 0; 256]?;
+        let loses = vec![in alloc; 0; 258]?;
+        Ok(Counts {
+            parts,
+            stops,
+            loses,
+        })
+    }
+}
+
+// Parts that are all sound.
+pub(crate) fn sound_parts(alloc: Global) -> Result<Vec<Health>, AllocError>
+    ensures { IfOk result (λ v. v.items ≡ replicate 1032 sound) }
+{
+    let part = Health {
+        faults: 0,
+        since: None,
+        lost: false,
+    };
+    vec![in alloc; part; PLACES]
+}
+
+impl Health {
+    // The same part after a crash at a moment.
+    fn restarting(self, t: u64) -> Health
+        ensures { result ≡ restarted t self }
+    {
+        let lost = match self.since {
+            Some(since) => since <= t,
+            None => false,
+        };
+        Health {
+            faults: 0,
+            since: if lost { Some(0) } else { None },
+            lost,
+        }
+    }
+}
+
+// The parts after a crash at a moment.
+pub(crate) fn crashed_parts(
+    alloc: Global,
+    parts: &[Health],
+    t: u64,
+) -> Result<Vec<Health>, AllocError>
+    ensures { IfOk result (λ v. v.items ≡ map (restarted t) parts.now) }
+{
+    parts.iter().map(|part| part.restarting(t)).collect(alloc)
+}

@@ -1,0 +1,478 @@
+// A plant in memory, which keeps a record of all acts.
+ghost use Rattle.std.specs.Prelude.{◌≡◌, ◌+◌, ◌-◌, ◌≤◌, ◌<◌, ◌∷◌, ◌++◌, ℕ, length, min, slice_index, false, true, is_some, take, vec_capacity, IfOk};
+ghost use Rattle.spool_disk.specs.Places.{slot_of, place_of};
+ghost use Rattle.spool_disk.specs.Acts.{next, top};
+ghost use Rattle.spool_disk.specs.Health.{health_at, since_of};
+ghost use Rattle.spool_disk.specs.Courses.{plan_at, as_planned as planned_course};
+ghost use Rattle.spool_disk.specs.Kept.{size_at};
+
+use crate::base::{Base, blank_base};
+use crate::choice::Choice;
+use crate::crash::crashed_base;
+use crate::health::{Counts, Health, crashed_parts, sound_parts};
+use crate::lines::add_wholes;
+use crate::plan::{Course, Plan, Planned};
+use crate::record::Record;
+use crate::sizes::Sizes;
+use crate::{Act, Part, Plant};
+use mas_types::{Dev, Lines, MemberId, NoMemory};
+use std::alloc::{AllocError, Global};
+
+fn slot_number(dev: Dev) -> usize
+    ensures slot { result ≡ slot_of dev }
+    ensures few { result < 258 }
+{
+    match dev {
+        Dev::Ckpt1 => 0,
+        Dev::Ckpt2 => 1,
+        Dev::Spool(volume) => 2 + volume as usize,
+    }
+}
+
+fn place_number(part: Part) -> usize
+    ensures place { result ≡ place_of part }
+    ensures few { result < 1032 }
+{
+    match part {
+        Part::Disk(dev) => 4 * slot_number(dev),
+        Part::Console => 1,
+        Part::Printer(member) => 4 * member.0 as usize + 2,
+        Part::Wire(wire) => 4 * wire as usize + 3,
+    }
+}
+
+/// How many acts may be planned.
+pub const PLANS_MOST: usize = 64;
+
+/// A plant in memory, which tells its content and keeps a record of all acts. The record's room is taken when the plant
+/// is made, so no act fails for want of memory. An act that doesn't fit the record fails.
+#[derive(Drop)]
+pub struct MemPlant {
+    moment: u64,
+    kept: Record,
+    counts: Counts,
+    plans: Vec<Plan>,
+    ghost in_step: { (length kept.log.items ≤ moment) × (length kept.log.items < kept.acts → length kept.log.items ≡ moment) },
+    ghost planned: { (length plans.items ≤ 64) × (64 ≤ vec_capacity plans) },
+    ghost lost_by_now: { (place : ℕ) → since_of (health_at counts.parts.items place).since ≤ moment },
+    ghost lost_still: { (place : ℕ) → is_some (health_at counts.parts.items place).since ≡ true → (health_at counts.parts.items place).lost ≡ true },
+}
+
+// The first plan of a moment.
+fn planned_at(plans: &[Plan], moment: u64) -> Option<Planned>
+    ensures { result ≡ plan_at plans.now moment }
+{
+    plans
+        .iter()
+        .find(|plan| plan.moment == moment)
+        .map(|plan| plan.planned)
+}
+
+// What becomes of an act that fits.
+fn as_planned(planned: Option<Planned>, by: MemberId, lost: bool) -> Course
+    ensures { result ≡ planned_course planned by.0 lost }
+{
+    match planned {
+        Some(Planned::Fails) => Course::Fail,
+        Some(Planned::Halts(keep)) if by.0 > 0 => Course::Halt(keep as usize),
+        _ if lost => Course::Fail,
+        _ => Course::Go,
+    }
+}
+
+impl MemPlant {
+    ghost use Rattle.spool_disk.specs.Courses.{course_of};
+    ghost use Rattle.spool_disk.specs.declared.plan.Course.TheVariants.{Go, Halt};
+    ghost use Rattle.spool_disk.specs.MemView.{mem_view, mem_book, state_of};
+    ghost use Rattle.spool_disk.specs.Deeds.{Idle, Wrote, Synced, Said, idled};
+    ghost use Rattle.spool_disk.specs.State.{recorded, counted, failed, lost};
+    ghost use Rattle.spool_disk.specs.Acts.{Acts};
+    ghost use Rattle.spool_disk.specs.Failing.{FailsAlone};
+    ghost use Rattle.spool_disk.specs.declared.plant.Act.TheVariants.{Failed};
+    ghost use Rattle.spool_disk.specs.Courses.{spent};
+
+    // What becomes of an act with so many bytes to record.
+    fn course(&self, by: MemberId, part: Part, len: usize) -> Course
+        ensures course { result ≡ course_of (mem_book self.now) (mem_view self.now) by.0 part len }
+        ensures go { result ≡ Go → (self.now.moment < self.now.kept.acts) × (self.now.moment < top) × (length self.now.kept.arena.items + len ≤ self.now.kept.room) × ((mem_view self.now).lost part ≡ false) }
+        ensures halt { (keep : ℕ) → result ≡ Halt keep → (self.now.moment < self.now.kept.acts) × (self.now.moment < top) × (length self.now.kept.arena.items + len ≤ self.now.kept.room) × (0 < by.0) }
+    {
+        let room = self.kept.room - self.kept.arena.len();
+        if self.moment < self.kept.acts as u64 && len <= room {
+            let lost = self.counts.parts[place_number(part)].lost;
+            as_planned(planned_at(&self.plans, self.moment), by, lost)
+        } else {
+            Course::Fail
+        }
+    }
+
+    // An act that changes nothing.
+    fn note_idle(&mut self)
+        requires { self.old.moment < self.old.kept.acts }
+        ensures state { state_of self.new ≡ recorded (state_of self.old) Idle (state_of self.old).stops }
+        ensures book { mem_book self.new ≡ mem_book self.old }
+    {
+        self.kept.add_idle();
+        self.moment += 1;
+    }
+
+    fn note_sync(&mut self, slot: usize)
+        requires { self.old.moment < self.old.kept.acts }
+        ensures state { state_of self.new ≡ recorded (state_of self.old) (Synced slot) (state_of self.old).stops }
+        ensures book { mem_book self.new ≡ mem_book self.old }
+    {
+        self.kept.add_sync(slot);
+        self.moment += 1;
+    }
+
+    fn note_line(&mut self, text: &[u8], whole: bool)
+        requires acts { self.old.moment < self.old.kept.acts }
+        requires room { length self.old.kept.arena.items + length text.now ≤ self.old.kept.room }
+        ensures state { state_of self.new ≡ recorded (state_of self.old) (Said text.now whole) (state_of self.old).stops }
+        ensures book { mem_book self.new ≡ spent (length text.now) (mem_book self.old) }
+    {
+        self.kept.add_line(text, whole);
+        self.moment += 1;
+    }
+
+    // A write of so many bytes, of which these came.
+    fn note_write(&mut self, slot: usize, at: usize, len: usize, bytes: &[u8])
+        requires acts { self.old.moment < self.old.kept.acts }
+        requires room { length self.old.kept.arena.items + length bytes.now ≤ self.old.kept.room }
+        requires there { slot < 258 }
+        requires within { at + length bytes.now ≤ size_at self.old.kept.base slot }
+        requires few { length bytes.now ≤ len }
+        ensures state { state_of self.new ≡ recorded (state_of self.old) (Wrote slot at len bytes.now) (state_of self.old).stops }
+        ensures book { mem_book self.new ≡ spent (length bytes.now) (mem_book self.old) }
+    {
+        self.kept.add_write(slot, at, len, bytes);
+        self.moment += 1;
+    }
+
+    // A stop of a member.
+    fn stop(&mut self, by: MemberId)
+        ensures state { state_of self.new ≡ record (state_of self.old) { stops = counted (state_of self.old).stops by.0 } }
+        ensures book { mem_book self.new ≡ mem_book self.old }
+        ensures fits { slice_index (state_of self.old).stops by.0 ≤ top }
+        ensures there { by.0 < length (state_of self.old).stops }
+    {
+        self.counts.stop(by.0 as usize);
+    }
+
+    // A moment in which nothing is done.
+    fn pass(&mut self)
+        ensures moment { self.new.moment ≡ next self.old.moment }
+        ensures small { self.old.moment ≤ top }
+        ensures base { self.new.kept.base ≡ self.old.kept.base }
+        ensures deeds { (state_of self.new).deeds ≡ idled self.old.kept.acts (state_of self.old).deeds }
+        ensures counts { self.new.counts ≡ self.old.counts }
+        ensures book { mem_book self.new ≡ mem_book self.old }
+    {
+        self.kept.add_pass();
+        self.moment = self.moment.saturating_add(1);
+    }
+
+    // A moment in which a part fails.
+    fn pass_failing(&mut self, part: Part)
+        ensures state { state_of self.new ≡ failed self.old.kept.acts (state_of self.old) part }
+        ensures book { mem_book self.new ≡ mem_book self.old }
+        ensures small { self.old.moment ≤ top }
+        ensures few { place_of part < 1032 }
+        ensures fits { (health_at self.old.counts.parts.items (place_of part)).faults ≤ top }
+    {
+        let now = self.moment;
+        self.pass();
+        self.counts.fail(place_number(part), now);
+    }
+
+    // A moment in which a device is lost.
+    fn pass_losing(&mut self, dev: Dev)
+        ensures state { state_of self.new ≡ lost self.old.kept.acts (state_of self.old) dev }
+        ensures book { mem_book self.new ≡ mem_book self.old }
+        ensures small { self.old.moment ≤ top }
+        ensures few { slot_of dev < 258 }
+        ensures fits { slice_index self.old.counts.loses.items (slot_of dev) ≤ top }
+    {
+        let now = self.moment;
+        self.pass();
+        self.counts.lose(slot_number(dev), now);
+    }
+
+    // A fault of a part.
+    fn fail(&mut self, part: Part)
+        ensures acts { (by : ℕ) → Acts by part (mem_view self.old) (mem_view self.new) Failed }
+        ensures alone { FailsAlone part (mem_view self.old) (mem_view self.new) }
+        ensures book { mem_book self.new ≡ mem_book self.old }
+    {
+        self.pass_failing(part);
+    }
+}
+
+// The first bytes, at most so many.
+fn first(bytes: &[u8], keep: usize) -> &[u8]
+    ensures { result.now ≡ take keep bytes.now }
+{
+    &bytes[..keep.min(bytes.len())]
+}
+
+impl MemPlant {
+    ghost use Rattle.std.specs.Prelude.{nat_le, ◌==◌, true, false};
+    ghost use Rattle.spool_disk.specs.MemView.{mem_book, state_of};
+    ghost use Rattle.spool_disk.specs.Deeds.{Idle, Said};
+    ghost use Rattle.spool_disk.specs.State.{recorded};
+    ghost use Rattle.spool_disk.specs.Courses.{spent, deed_left};
+
+    // What a halted line leaves.
+    fn note_part(&mut self, line: &[u8], keep: usize)
+        requires acts { self.old.moment < self.old.kept.acts }
+        requires room { length self.old.kept.arena.items + length line.now ≤ self.old.kept.room }
+        ensures state { state_of self.new ≡ recorded (state_of self.old) (deed_left keep line.now) (state_of self.old).stops }
+        ensures book { mem_book self.new ≡ spent (min keep (length line.now)) (mem_book self.old) }
+    {
+        if line.len() <= keep {
+            self.note_line(line, true);
+        } else if keep == 0 {
+            self.note_idle();
+        } else {
+            self.note_line(first(line, keep), false);
+        }
+    }
+}
+
+impl MemPlant {
+    ghost use Rattle.spool_disk.specs.MemView.{mem_view, mem_book, mem_lost};
+    ghost use Rattle.spool_disk.specs.Begins.{BeginsWith, IsCrashed, IsBlank};
+    ghost use Rattle.spool_disk.specs.Whole.{whole_lines};
+    ghost use Rattle.spool_disk.specs.Courses.{empty_book, with_plan};
+    ghost use Rattle.spool_disk.specs.declared.plant.Part.{Part};
+    ghost use Rattle.spool_disk.specs.declared.plan.Planned.TheVariants.{Fails, Halts};
+
+    // A plant that begins so.
+    fn begin(
+        alloc: Global,
+        base: Base,
+        parts: Vec<Health>,
+        acts: usize,
+        bytes: usize,
+    ) -> Result<MemPlant, AllocError>
+        requires many { length parts.items ≡ 1032 }
+        requires first { (place : ℕ) → since_of (health_at parts.items place).since ≤ 0 }
+        requires none { (place : ℕ) → (health_at parts.items place).faults ≡ 0 }
+        requires lost { (place : ℕ) → is_some (health_at parts.items place).since ≡ true → (health_at parts.items place).lost ≡ true }
+        ensures view { IfOk result (λ p. BeginsWith base parts.items (mem_view p)) }
+        ensures book { IfOk result (λ p. mem_book p ≡ empty_book acts bytes) }
+    {
+        let kept = Record::new(alloc, base, acts, bytes)?;
+        let counts = Counts::new(alloc, parts)?;
+        let plans = Vec::with_capacity(alloc, PLANS_MOST)?;
+        Ok(MemPlant {
+            moment: 0,
+            kept,
+            counts,
+            plans,
+        })
+    }
+
+    /// A plant of zeroed devices. Its record has room for so many acts, and for so many bytes that they write and say.
+    /// NoMemory comes where the devices or the record find no memory.
+    pub fn new(alloc: Global, sizes: Sizes, acts: usize, bytes: usize) -> Result<MemPlant, NoMemory>
+        ensures view { IfOk result (λ p. IsBlank sizes (mem_view p)) }
+        ensures book { IfOk result (λ p. mem_book p ≡ empty_book acts bytes) }
+    {
+        let base = blank_base(alloc, sizes)?;
+        let parts = sound_parts(alloc)?;
+        Ok(MemPlant::begin(alloc, base, parts, acts, bytes)?)
+    }
+
+    /// Plans the act that is made while `now` is that number: it fails. The first plan of a moment counts. `lose`, which
+    /// has no answer, passes a plan over.
+    pub fn fail_at(&mut self, act: u64)
+        requires { length (mem_book self.old).plans < PLANS_MOST }
+        ensures view { mem_view self.new ≡ mem_view self.old }
+        ensures book { mem_book self.new ≡ with_plan (record { moment = act; planned = Fails }) (mem_book self.old) }
+    {
+        self.plans.push_reserved(Plan {
+            moment: act,
+            planned: Planned::Fails,
+        });
+    }
+
+    /// Plans the act that is made while `now` is that number: it halts, and leaves its first `keep` bytes, or all
+    /// where it has fewer. Of a line that has bytes, of which none is left, nothing stands on the console. The operator
+    /// never halts: a plan for it is passed over, as by `lose`. Otherwise as `fail_at`.
+    pub fn halt_at(&mut self, act: u64, keep: u32)
+        requires { length (mem_book self.old).plans < PLANS_MOST }
+        ensures view { mem_view self.new ≡ mem_view self.old }
+        ensures book { mem_book self.new ≡ with_plan (record { moment = act; planned = Halts keep }) (mem_book self.old) }
+    {
+        self.plans.push_reserved(Plan {
+            moment: act,
+            planned: Planned::Halts(keep),
+        });
+    }
+
+    /// What a crash at a moment up to now leaves, with unsynced bytes by the choice. What was lost at that moment is
+    /// lost, and the console holds what it held. Nothing is planned, no act was made, and the record is empty and has
+    /// the same room. NoMemory comes where the new plant finds none.
+    pub fn crash_at(&self, alloc: Global, t: u64, choice: Choice) -> Result<MemPlant, NoMemory>
+        requires { t ≤ (mem_view self.now).now }
+        ensures view { IfOk result (λ p. IsCrashed choice t (mem_view self.now) (mem_view p)) }
+        ensures lost { IfOk result (λ p. (part : Part) → (mem_view p).lost part ≡ mem_lost self.now t part) }
+        ensures book { IfOk result (λ p. mem_book p ≡ empty_book (mem_book self.now).acts (mem_book self.now).bytes) }
+    {
+        let end = (t as usize).min(self.kept.log.len());
+        let (log, _) = self.kept.log.split_at(end);
+        let base = crashed_base(alloc, &self.kept.base, log, &self.kept.arena, choice)?;
+        let parts = crashed_parts(alloc, &self.counts.parts, t)?;
+        Ok(MemPlant::begin(alloc, base, parts, self.kept.acts, self.kept.room)?)
+    }
+
+    /// The lines that stand whole on the console now. NoMemory comes where they find none.
+    pub fn console_lines(&self, alloc: Global) -> Result<Lines, NoMemory>
+        ensures { IfOk result (λ lines. lines ≡ whole_lines ((mem_view self.now).world (mem_view self.now).now).console) }
+    {
+        let mut lines = Lines::new(alloc);
+        add_wholes(&self.kept.base.said, &self.kept.base.text, &mut lines)?;
+        add_wholes(&self.kept.log, &self.kept.arena, &mut lines)?;
+        Ok(lines)
+    }
+}
+
+impl Plant for MemPlant {
+    ghost use Rattle.spool_disk.specs.MemView.{mem_view, mem_book};
+    ghost use Rattle.spool_disk.specs.MemLaws.{mem_sized, mem_there};
+    ghost use Rattle.spool_disk.specs.Courses.{course_of, answer, spent_by, left_of};
+    ghost use Rattle.spool_disk.specs.Acts.{Acts, Reads, Writes, Syncs, Says, Loses, LosesThere};
+    ghost use Rattle.spool_disk.specs.View.{View, disk_now};
+    ghost use Rattle.spool_disk.specs.Deeds.{overwrite};
+    ghost use Rattle.spool_disk.specs.declared.plan.Course.TheVariants.{Go, Fail, Halt};
+    ghost use Rattle.spool_disk.specs.declared.plant.Part.TheVariants.{Disk, Console};
+
+    ghost tells = { Unit {0} };
+
+    ghost view = { mem_view };
+
+    ghost sized = { λ m told t le d. mem_sized m t d };
+
+    ghost there = { λ m told d whole. mem_there m d whole };
+
+    fn now(&self) -> u64 {
+        self.moment
+    }
+
+    fn size(&self, dev: Dev) -> u64 {
+        self.kept.size(slot_number(dev))
+    }
+
+    fn lost(&self, part: Part) -> bool {
+        self.counts.parts[place_number(part)].lost
+    }
+
+    fn read(&mut self, by: MemberId, dev: Dev, at: u64, into: &mut [u8]) -> Act
+        requires { at + length into.old ≤ (mem_view self.old).size dev }
+        ensures acts { Acts by.0 (Disk dev) (mem_view self.old) (mem_view self.new) result }
+        ensures content { Reads dev at (mem_view self.old) (mem_view self.new) into.new result }
+        ensures course { result ≡ answer (course_of (mem_book self.old) (mem_view self.old) by.0 (Disk dev) 0) }
+        ensures book { mem_book self.new ≡ mem_book self.old }
+    {
+        match self.course(by, Part::Disk(dev), 0) {
+            Course::Go => {
+                self.kept.read(slot_number(dev), at as usize, into);
+                self.note_idle();
+                Act::Done
+            }
+            Course::Halt(_) => {
+                self.note_idle();
+                self.stop(by);
+                Act::Halted
+            }
+            Course::Fail => {
+                self.fail(Part::Disk(dev));
+                Act::Failed
+            }
+        }
+    }
+
+    fn write(&mut self, by: MemberId, dev: Dev, at: u64, bytes: &[u8]) -> Act
+        requires { at + length bytes.now ≤ (mem_view self.old).size dev }
+        ensures acts { Acts by.0 (Disk dev) (mem_view self.old) (mem_view self.new) result }
+        ensures content { Writes dev at bytes.now (mem_view self.old) (mem_view self.new) result }
+        ensures course { result ≡ answer (course_of (mem_book self.old) (mem_view self.old) by.0 (Disk dev) (length bytes.now)) }
+        ensures kept { (keep : ℕ) → course_of (mem_book self.old) (mem_view self.old) by.0 (Disk dev) (length bytes.now) ≡ Halt keep
+            → (disk_now (mem_view self.new) dev).bytes ≡ overwrite at (take keep bytes.now) (disk_now (mem_view self.old) dev).bytes }
+        ensures book { mem_book self.new ≡ spent_by (course_of (mem_book self.old) (mem_view self.old) by.0 (Disk dev) (length bytes.now)) (length bytes.now) (mem_book self.old) }
+    {
+        match self.course(by, Part::Disk(dev), bytes.len()) {
+            Course::Go => {
+                self.note_write(slot_number(dev), at as usize, bytes.len(), bytes);
+                Act::Done
+            }
+            Course::Halt(keep) => {
+                let some = first(bytes, keep);
+                self.note_write(slot_number(dev), at as usize, bytes.len(), some);
+                self.stop(by);
+                Act::Halted
+            }
+            Course::Fail => {
+                self.fail(Part::Disk(dev));
+                Act::Failed
+            }
+        }
+    }
+
+    fn sync(&mut self, by: MemberId, dev: Dev) -> Act
+        ensures acts { Acts by.0 (Disk dev) (mem_view self.old) (mem_view self.new) result }
+        ensures content { Syncs dev (mem_view self.old) (mem_view self.new) result }
+        ensures course { result ≡ answer (course_of (mem_book self.old) (mem_view self.old) by.0 (Disk dev) 0) }
+        ensures book { mem_book self.new ≡ mem_book self.old }
+    {
+        match self.course(by, Part::Disk(dev), 0) {
+            Course::Go => {
+                self.note_sync(slot_number(dev));
+                Act::Done
+            }
+            Course::Halt(_) => {
+                self.note_idle();
+                self.stop(by);
+                Act::Halted
+            }
+            Course::Fail => {
+                self.fail(Part::Disk(dev));
+                Act::Failed
+            }
+        }
+    }
+
+    fn say(&mut self, by: MemberId, line: &[u8]) -> Act
+        ensures acts { Acts by.0 Console (mem_view self.old) (mem_view self.new) result }
+        ensures content { Says line.now (mem_view self.old) (mem_view self.new) result }
+        ensures course { result ≡ answer (course_of (mem_book self.old) (mem_view self.old) by.0 Console (length line.now)) }
+        ensures kept { (keep : ℕ) → course_of (mem_book self.old) (mem_view self.old) by.0 Console (length line.now) ≡ Halt keep
+            → ((mem_view self.new).world (mem_view self.new).now).console ≡ ((mem_view self.old).world (mem_view self.old).now).console ++ left_of keep line.now }
+        ensures book { mem_book self.new ≡ spent_by (course_of (mem_book self.old) (mem_view self.old) by.0 Console (length line.now)) (length line.now) (mem_book self.old) }
+    {
+        match self.course(by, Part::Console, line.len()) {
+            Course::Go => {
+                self.note_line(line, true);
+                Act::Done
+            }
+            Course::Halt(keep) => {
+                self.note_part(line, keep);
+                self.stop(by);
+                Act::Halted
+            }
+            Course::Fail => {
+                self.fail(Part::Console);
+                Act::Failed
+            }
+        }
+    }
+
+    fn lose(&mut self, dev: Dev)
+        ensures acts { Loses (Disk dev) (mem_view self.old) (mem_view self.new) }
+        ensures content { LosesThere dev (mem_view self.old) (mem_view self.new) }
+        ensures book { mem_book self.new ≡ mem_book self.old }
+    {
+        self.pass_losing(dev);
+    }
+}

@@ -1,0 +1,5 @@
+mod Lists
+mod Grouping
+mod Sizes
+mod RecordLemmas
+mod GroupSteps

@@ -1,0 +1,102 @@
+//! Lines out of groups.
+ghost use Rattle.std.specs.Prelude.{◌≡◌, ◌+◌, ◌-◌, ◌<◌, ◌≤◌, ◌++◌, ◌&&◌, ◌↔◌, nat_le, length, take, drop, Some, IsSome, OnOk, is_some, OnErr, slice_index};
+ghost use Rattle.mas_types.specs.Fit.{is_text_byte as is_text_byte_lem, is_text_line};
+ghost use Rattle.mas_types.specs.Records.{is_record, records_in, HoldsNoRecords};
+ghost use Rattle.spool_text.specs.Reading.{AddsRecords, AddsFirst};
+
+use crate::END_BYTE;
+use mas_types::limits::{LINE_BYTES, PAGE_BYTES};
+use mas_types::{Lines, NoMemory, Page};
+use std::alloc::Global;
+use thiserror::Error;
+
+/// Why a group gave no text.
+#[derive(Clone, Copy, Debug, PartialEq, Eq, Error)]
+pub enum TextNo {
+    /// The group holds no records.
+    #[error("the group holds no records")]
+    Bad,
+    /// There was no memory.
+    #[error("no memory")]
+    NoMemory,
+}
+
+fn is_text_byte(byte: u8) -> bool
+    ensures { result ≡ is_text_byte_lem byte }
+{
+    (0x20..=0x7E).contains(&byte)
+}
+
+/// Whether all bytes may stand in a text.
+fn is_text(bytes: &[u8]) -> bool
+    ensures { result ≡ is_text_line bytes.now }
+{
+    bytes.iter().all(|byte| is_text_byte(*byte))
+}
+
+/// Whether the bytes may be a line of a text.
+pub fn is_line(bytes: &[u8]) -> bool
+    ensures { result ≡ is_record bytes.now }
+{
+    bytes.len() <= LINE_BYTES && is_text(bytes)
+}
+
+/// Whether a record begins at a byte.
+fn is_record_at(group: &[u8; 4096], at: usize) -> bool
+    requires { at < length group.now }
+    ensures { let size = slice_index group.now at in let rest = drop (at + 1) group.now in
+        result ≡ (nat_le size (length rest) && is_record (take size rest)) }
+{
+    let size = group[at] as usize;
+    let rest = &group[at + 1..];
+    size <= rest.len() && is_line(&rest[..size])
+}
+
+/// Whether the bytes are records and the byte after them.
+fn holds_records(group: &[u8; 4096]) -> bool
+    ensures { result ≡ is_some (records_in group.now) }
+{
+    let mut at = 0;
+    while at < PAGE_BYTES && group[at] != END_BYTE {
+        if !is_record_at(group, at) {
+            return false;
+        }
+        at += 1 + group[at] as usize;
+    }
+    at < PAGE_BYTES
+}
+
+/// Adds the records of a group.
+fn push_records(group: &[u8; 4096], into: &mut Lines) -> Result<(), NoMemory>
+    requires { IsSome (records_in group.now) }
+    ensures ok { OnOk result (AddsRecords group.now into.old into.new) }
+    ensures err { OnErr result (AddsFirst group.now into.old into.new) }
+{
+    let mut at = 0;
+    while group[at] != END_BYTE {
+        let text = at + 1;
+        let size = group[at] as usize;
+        into.push(&group[text..text + size])?;
+        at = text + size;
+    }
+    Ok(())
+}
+
+/// Adds the lines that a group holds, one for each record. `Bad` comes exactly where the group holds no records: it
+/// must be whole records, each one length byte of 0 to 132 and as many bytes of 0x20 to 0x7E, and then the byte 0xFF;
+/// what stands after that doesn't matter. After `Bad` the lines are as they were. After `NoMemory` the first ones of
+/// the group's lines are added, so many as there was memory for.
+pub fn unpack(_alloc: Global, group: &Page, into: &mut Lines) -> Result<(), TextNo>
+    ensures ok { OnOk result (AddsRecords group.now.0 into.old into.new) }
+    ensures bad { (result ≡ Err TextNo.Bad) ↔ HoldsNoRecords group.now.0 }
+    ensures unchanged { result ≡ Err TextNo.Bad → into.new ≡ into.old }
+    ensures no_memory { result ≡ Err TextNo.NoMemory → AddsFirst group.now.0 into.old into.new }
+{
+    if !holds_records(&group.0) {
+        return Err(TextNo::Bad);
+    }
+    match push_records(&group.0, into) {
+        Ok(()) => Ok(()),
+        Err(NoMemory) => Err(TextNo::NoMemory),
+    }
+}

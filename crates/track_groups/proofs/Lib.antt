@@ -1,0 +1,6 @@
+mod Walks
+mod Giving
+mod Sorting
+mod LowestLemmas
+mod TextLemmas
+mod OrderLemmas

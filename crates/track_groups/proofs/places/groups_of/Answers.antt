@@ -1,0 +1,13 @@
+use Rattle.std.proofs.Common.{rules, ◌≡◌, take, arith}
+use Rattle.std.proofs.lemmas.List.{take_all}
+use Rattle.track_groups.specs.Places.{in_order}
+use Rattle.track_groups.specs.declared.places.Placed.{Placed}
+use Rattle.track_groups.proofs.Sorting.{in_order_from_sort_by_key}
+use Rattle.track_groups.proofs.places.groups_of.Goals as goal
+
+pub returns : goal.returns
+returns c =
+    let sorted : c.sort_by_key.new.self.items ≡ in_order (λ (p : Placed). p.place) c.in_ok-placed.placed.items =
+    in_order_from_sort_by_key (λ (p : Placed). p.place) _ _ c.in_ok-sort_by_key.ensures.sorted c.in_ok-sort_by_key.ensures.stable (λ a r q k. search rules) in
+    let all : take c.loop-group.group-index c.as_slice-group-items.result.now ≡ c.as_slice-group-items.result.now = take_all _ _ (omega arith) in
+    rw (all, c.as_slice-group-items.ensures.value, sorted, c.in_ok-placed.ensures) at c.loop-group.invariant
