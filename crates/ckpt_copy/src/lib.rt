@@ -19,6 +19,3 @@ mod layout;
 pub use area_copy::AreaCopy;
 pub use copying::{CopyNo, Copying, FindNo};
 pub use layout::{FORM_AREAS, GATE_OPEN};
-
-#[cfg(test)]
-mod tests;

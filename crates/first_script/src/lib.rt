@@ -9,6 +9,3 @@ mod script;
 
 pub use reading::{SourceNo, read_source};
 pub use script::{BadLine, read_script};
-
-#[cfg(test)]
-mod tests;

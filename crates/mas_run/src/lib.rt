@@ -13,6 +13,3 @@ mod words;
 
 pub use ended::{Ended, code};
 pub use top::calm_top;
-
-#[cfg(test)]
-mod tests;

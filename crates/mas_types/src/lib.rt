@@ -41,6 +41,3 @@ pub use starts::{default_config, default_setting, empty_queue, no_queue};
 pub use statuses::{status_code, status_line};
 pub use texts::Lines;
 pub use units::Unit;
-
-#[cfg(test)]
-mod tests;

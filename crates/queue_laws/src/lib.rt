@@ -5,5 +5,3 @@
 pub mod examples;
 pub mod fitness;
 pub mod laws;
-#[cfg(test)]
-mod tests;

@@ -13,8 +13,6 @@ mod plant;
 mod record;
 mod sizes;
 mod source;
-#[cfg(test)]
-mod tests;
 
 pub use choice::Choice;
 pub use memory::{MemPlant, PLANS_MOST};

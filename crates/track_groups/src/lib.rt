@@ -11,6 +11,3 @@ mod places;
 pub use changes::{SpoolFull, free_member, free_thing, give_to, take};
 pub use laws::{law_of_giving, law_of_groups, law_of_places, law_of_texts};
 pub use places::{free_count, groups_of, held_by, member_count, owner};
-
-#[cfg(test)]
-mod tests;

@@ -2,10 +2,9 @@
 ghost use Rattle.std.specs.Prelude.{OnOk, IfOk};
 ghost use Rattle.mas_types.specs.Fit.{AreLines};
 
-use crate::unpacking::is_line;
-use crate::{TextNo, groups_needed, pack, unpack};
 use mas_types::limits::TEXT_LINES_MOST;
 use mas_types::{Lines, Page};
+use spool_text::{TextNo, groups_needed, is_line, pack, unpack};
 use std::alloc::Global;
 use std::process::Abort;
 use std::test::Fail;

@@ -1,7 +1,7 @@
 //! Worked values from outside, and each call that takes memory once where there is enough.
 ghost use Rattle.mas_types.specs.Closings.{AreMembersNamed};
 
-use crate::{
+use mas_types::{
     Batch, CardCause, Class, Closing, Command, Copied, Dev, Entry, Fate, GroupNo, Job, JobFields,
     JobNo, Journal, Lines, List, MemberId, Name8, OutNo, OutSpec, Output, Phase, Prio, Refusal,
     Reply, Status, Text, closing_line, default_config, empty_queue, member_name, no_queue,

@@ -1,6 +1,6 @@
 // One deck played over a plant in memory: the pages that it leaves, each act that fails or halts, and a crash at each
 // moment. The bytes that are wanted are written out from the formats.
-use crate::{Ended, calm_top};
+use mas_run::{Ended, calm_top};
 use mas_types::{Dev, Fate, List, MemberId, Status};
 use spool_disk::{Act, Choice, MemPlant, MemSource, Part, Plant, Sizes};
 use std::alloc::Global;

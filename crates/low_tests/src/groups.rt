@@ -1,10 +1,10 @@
 //! Small lists of owners.
-use crate::{
+use mas_types::{GroupNo, JobNo, MemberId, OutNo, Owner, Thing};
+use std::test::Fail;
+use track_groups::{
     SpoolFull, free_count, free_member, free_thing, give_to, groups_of, held_by, member_count,
     owner, take,
 };
-use mas_types::{GroupNo, JobNo, MemberId, OutNo, Owner, Thing};
-use std::test::Fail;
 
 const FIRST: MemberId = MemberId(1);
 

@@ -1,9 +1,9 @@
 //! Which commands are within the limits, at the limits and just past them.
-use crate::fitness::is_fit;
 use mas_types::{
     Class, Command, JobFields, JobNo, Lines, List, Name8, NoMemory, OutNo, OutSpec, Prio,
     default_setting,
 };
+use queue_laws::fitness::is_fit;
 use std::alloc::Global;
 
 const JOB: JobNo = JobNo(1);

@@ -1,4 +1,4 @@
-use super::{BadLine, SourceNo, read_script, read_source};
+use first_script::{BadLine, SourceNo, read_script, read_source};
 use mas_types::limits::SCRIPT_BYTES;
 use mas_types::{Class, JobFields, LineCause, List, Name8, NoMemory, Prio};
 use spool_disk::{Got, MemSource, Source};

@@ -1,6 +1,6 @@
 // Acts, plans, crashes and sources, with what they leave written out.
-use crate::{Act, Choice, Got, MemPlant, MemSource, Part, Plant, Sizes, Source};
 use mas_types::{Dev, Lines, List, MemberId};
+use spool_disk::{Act, Choice, Got, MemPlant, MemSource, Part, Plant, Sizes, Source};
 use std::alloc::Global;
 use std::process::Abort;
 use std::test::Fail;

@@ -4,7 +4,7 @@ ghost use Rattle.mas_types.specs.declared.ids.Dev.TheVariants.{Ckpt1};
 ghost use Rattle.spool_disk.specs.Acts.{Goes};
 ghost use Rattle.ckpt_copy.specs.Areas.{areas_size};
 
-use super::*;
+use ckpt_copy::{AreaCopy, CopyNo, Copying, FindNo};
 use mas_types::{Dev, List, MemberId, NoMemory, Page};
 use spool_disk::{MemPlant, Part, Plant, Sizes};
 use std::alloc::Global;
