@@ -13,7 +13,7 @@ use Rattle.lay_bytes.proofs.Pieces.{test_cases}
 use Rattle.ckpt_pages.specs.declared.tables.Tables.{Tables}
 use Rattle.ckpt_pages.specs.Shape.{level_in}
 use Rattle.ckpt_pages.specs.Pages.{Spell, page_in, page_of, header_pieces}
-use Rattle.ckpt_pages.proofs.PageLemmas.{chunk_at}
+use Rattle.ckpt_pages.proofs.EntryLemmas.{chunk_at}
 
 first_page : (t : Tables) (levels : List ℕ) (pages : List Page) → Spell t levels pages → page_in pages 0 ≡ page_of t levels 0
 first_page t levels pages spell = spell.each 0 (omega (arith, spell.count))

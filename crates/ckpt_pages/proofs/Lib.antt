@@ -1,7 +1,15 @@
 pub mod Putting
-pub mod PageLemmas
+pub mod EntryLemmas
+pub mod RunLemmas
+pub mod HeaderLemmas
+pub mod NodeLemmas
 pub mod SpellingLemmas
-pub mod ClassLemmas
 pub mod LevelLemmas
 pub mod StartLemmas
+pub mod CheckpointLemmas
+pub mod SlotPageLemmas
+pub mod DecodingLemmas
+pub mod SlotLists
+pub mod SoundLemmas
+pub mod SoundQueueLemmas
 pub mod Vectors

@@ -17,12 +17,12 @@ use Rattle.lay_bytes.specs.Slots.{IsJobRec, IsOutRec, IsOwner, IfUsed}
 use Rattle.ckpt_pages.specs.Shape.{HasShape, HasSpelling, AreLevels, IsRoute, IsLineCount, page_count}
 use Rattle.ckpt_pages.specs.QueueOf.{used, queue_of}
 use Rattle.ckpt_pages.specs.Starts.{empty_tables, first_levels}
-use Rattle.ckpt_pages.proofs.ClassLemmas.{classes_from, distinct_from}
+use Rattle.ckpt_pages.specs.Classes.{classes_from, distinct_from}
 
 every_class : AreClasses all_classes
 every_class = record { some = omega arith; few = omega arith; each = classes_from all_classes refl; distinct = distinct_from all_classes refl }
 
-default_is_setting : IsSetting default_setting
+pub default_is_setting : IsSetting default_setting
 default_is_setting = record { init = every_class; prt = every_class; forms = (codes "STD", refl, refl); lines = (omega arith, omega arith) }
 
 pub default_is_config : IsConfig default_config

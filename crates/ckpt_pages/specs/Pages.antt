@@ -62,9 +62,13 @@ page_pieces t levels p =
     else if nat_lt p (first_group_page t.config) then map output_slot (part outputs_a_page (p - first_output_page t.config) t.outputs)
     else map owner_entry (part owners_a_page (p - first_group_page t.config) t.owners)
 
+-- the pieces, and zeros up to so many bytes
+abbrev pub filled_to : ℕ → List (List ℕ) → List ℕ
+filled_to size ps = concat ps ++ replicate (size - length (concat ps)) 0
+
 -- the pieces, and zeros up to the end of the page
 abbrev pub filled : List (List ℕ) → List ℕ
-filled ps = concat ps ++ replicate (page_bytes - length (concat ps)) 0
+filled ps = filled_to page_bytes ps
 
 -- the spelling of page p
 abbrev pub page_of : Tables → List ℕ → ℕ → List ℕ

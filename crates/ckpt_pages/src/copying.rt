@@ -1,8 +1,8 @@
-//! Copies of lists.
+//! Copies of tables.
 ghost use Rattle.std.specs.Prelude.{◌≡◌, IfOk, replicate};
 
 use crate::tables::Tables;
-use mas_types::{Copied, List, NoMemory, Setting};
+use mas_types::{Copied, List, NoMemory};
 use std::alloc::Global;
 
 /// So many times the item.
@@ -20,47 +20,16 @@ pub(crate) fn repeated<T: Copy + Drop>(
     Ok(items)
 }
 
-fn copied<T: Copy + Drop>(alloc: Global, items: &List<T>) -> Result<List<T>, NoMemory>
-    ensures { IfOk result (λ copies. copies ≡ items.now) }
-{
-    let mut copies = List::new(alloc);
-    for item in items.as_slice() {
-        copies.push(*item)?;
-    }
-    Ok(copies)
-}
-
-fn copied_setting(alloc: Global, setting: &Setting) -> Result<Setting, NoMemory>
-    ensures { IfOk result (λ copy. copy ≡ setting.now) }
-{
-    Ok(Setting {
-        init: copied(alloc, &setting.init)?,
-        prt: copied(alloc, &setting.prt)?,
-        forms: setting.forms,
-        lines: setting.lines,
-    })
-}
-
-fn copied_settings(alloc: Global, settings: &List<Setting>) -> Result<List<Setting>, NoMemory>
-    ensures { IfOk result (λ copies. copies ≡ settings.now) }
-{
-    let mut copies = List::new(alloc);
-    for setting in settings.as_slice() {
-        copies.push(copied_setting(alloc, setting)?)?;
-    }
-    Ok(copies)
-}
-
 impl Copied for Tables {
     fn copy(&self, alloc: Global) -> Result<Self, NoMemory> {
         Ok(Tables {
             config: self.config,
-            jobs: copied(alloc, &self.jobs)?,
-            outputs: copied(alloc, &self.outputs)?,
-            owners: copied(alloc, &self.owners)?,
-            members: copied_settings(alloc, &self.members)?,
-            routes: copied(alloc, &self.routes)?,
-            lines: copied(alloc, &self.lines)?,
+            jobs: self.jobs.copy(alloc)?,
+            outputs: self.outputs.copy(alloc)?,
+            owners: self.owners.copy(alloc)?,
+            members: self.members.copy(alloc)?,
+            routes: self.routes.copy(alloc)?,
+            lines: self.lines.copy(alloc)?,
             last: self.last,
             order: self.order,
         })

@@ -5,14 +5,18 @@
 mod copying;
 mod decoding;
 mod encoding;
+mod entries;
 mod faults;
+mod header;
+mod kinds;
 mod levels;
+mod nodes;
+mod slots;
 mod tables;
 
+pub use decoding::{decode, law_of_checkpoints};
 pub use encoding::{encode, encode_page};
-pub use faults::TableFault;
+pub use entries::PageNo;
+pub use faults::{TableFault, law_of_sound_tables, sound};
 pub use levels::{changed, law_of_levels, level_of};
 pub use tables::{Tables, empty, law_of_empty_tables, page_count};
-
-#[cfg(test)]
-mod tests;

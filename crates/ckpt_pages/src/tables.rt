@@ -1,8 +1,8 @@
 //! The tables of the queue.
-ghost use Rattle.std.specs.Prelude.{◌≡◌, ◌≤◌, length, IfOk};
+ghost use Rattle.std.specs.Prelude.{◌≡◌, ◌+◌, ◌/◌, ◌≤◌, ◌<◌, ◌^◌, length, IfOk};
 ghost use Rattle.mas_types.specs.Fit.{IsConfig};
 ghost use Rattle.mas_types.specs.Limits.{routes_most};
-ghost use Rattle.ckpt_pages.specs.Shape.{page_count as page_count_lem, group_pages as group_pages_lem, first_output_page as first_output_page_lem, first_group_page as first_group_page_lem, HasShape};
+ghost use Rattle.ckpt_pages.specs.Shape.{page_count as page_count_lem, jobs_a_page, outputs_a_page, owners_a_page, first_job_page, first_output_page as first_output_page_lem, first_group_page as first_group_page_lem, HasShape};
 ghost use Rattle.ckpt_pages.specs.Starts.{empty_tables};
 ghost use Rattle.ckpt_pages.specs.Laws.{EmptyHasSpelling, AreFirstLevels, EmptyStandsForEmpty};
 
@@ -59,11 +59,15 @@ pub(crate) fn first_group_page(config: &Config) -> u16
     first_output_page(config) + config.outputs / OUTPUTS_A_PAGE as u16
 }
 
-fn group_pages(config: &Config) -> u16
-    requires { IsConfig config.now }
-    ensures { result ≡ group_pages_lem config.now }
+/// The number of pages for so many jobs, outputs and groups.
+pub(crate) fn pages_for(jobs: u16, outputs: u16, groups: usize) -> usize
+    requires { groups < 2 ^ 32 }
+    ensures { result ≡ first_job_page + jobs / jobs_a_page + outputs / outputs_a_page + (groups + 511) / owners_a_page }
 {
-    ((config.volumes as usize * config.groups as usize + 511) / OWNERS_A_PAGE) as u16
+    FIRST_JOB_PAGE as usize
+        + jobs as usize / JOBS_A_PAGE
+        + outputs as usize / OUTPUTS_A_PAGE
+        + (groups + 511) / OWNERS_A_PAGE
 }
 
 /// The number of pages that the tables of a configuration take: the header, the members, the
@@ -72,7 +76,11 @@ pub fn page_count(config: &Config) -> u16
     requires { IsConfig config.now }
     ensures { result ≡ page_count_lem config.now }
 {
-    first_group_page(config) + group_pages(config)
+    pages_for(
+        config.jobs,
+        config.outputs,
+        config.volumes as usize * config.groups as usize,
+    ) as u16
 }
 
 /// The tables that a cold start begins with: no job and no output, every group Free, the default

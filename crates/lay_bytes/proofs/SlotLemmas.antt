@@ -36,7 +36,7 @@ holds_below (suc k) test h n lt =
       | inr ne ↦ holds_below k test p.1 n (omega arith)
     ]
 
-same_from_eq : (a b : ℕ) → (a == b) ≡ true → a ≡ b
+pub same_from_eq : (a b : ℕ) → (a == b) ≡ true → a ≡ b
 same_from_eq a b h = grind (arith, nat_tests)
 
 -- ---- fields
@@ -91,25 +91,25 @@ phase_again phase.Hardcopy = (refl, refl)
 phase_again phase.Purge = (refl, refl)
 phase_again phase.Xmit = (refl, refl)
 
-half_again : (least most n : ℕ) → n < 2 ^ 16 → least ≤ n → n ≤ most → may_stand (Half least most) (to_be_bytes w16 n) ≡ true
+pub half_again : (least most n : ℕ) → n < 2 ^ 16 → least ≤ n → n ≤ most → may_stand (Half least most) (to_be_bytes w16 n) ≡ true
 half_again least most n lt a b = ap (is_between least most) (from_be_bytes-to_be_bytes_2 n lt) ∙ between least most n a b
 
-word_again : (least most n : ℕ) → n < 2 ^ 32 → least ≤ n → n ≤ most → may_stand (Word least most) (to_be_bytes w32 n) ≡ true
+pub word_again : (least most n : ℕ) → n < 2 ^ 32 → least ≤ n → n ≤ most → may_stand (Word least most) (to_be_bytes w32 n) ≡ true
 word_again least most n lt a b = ap (is_between least most) (from_be_bytes-to_be_bytes_4 n lt) ∙ between least most n a b
 
-long_again : (least most n : ℕ) → n < 2 ^ 64 → least ≤ n → n ≤ most → may_stand (Long least most) (to_be_bytes w64 n) ≡ true
+pub long_again : (least most n : ℕ) → n < 2 ^ 64 → least ≤ n → n ≤ most → may_stand (Long least most) (to_be_bytes w64 n) ≡ true
 long_again least most n lt a b = ap (is_between least most) (from_be_bytes-to_be_bytes_8 n lt) ∙ between least most n a b
 
-byte_takes : {f : Field} {p : List ℕ} (n : ℕ) → n ≡ slice_index p 0 → width_of f ≡ 1 → IsPiece f p → n ∷ [] ≡ p
+pub byte_takes : {f : Field} {p : List ℕ} (n : ℕ) → n ≡ slice_index p 0 → width_of f ≡ 1 → IsPiece f p → n ∷ [] ≡ p
 byte_takes {p = p} n e w h = ap (λ (k : ℕ). k ∷ []) e ∙ byte_back p (h.len ∙ w)
 
-half_takes : {f : Field} {p : List ℕ} → width_of f ≡ 2 → IsPiece f p → to_be_bytes w16 (from_be_bytes w16 p) ≡ p
+pub half_takes : {f : Field} {p : List ℕ} → width_of f ≡ 2 → IsPiece f p → to_be_bytes w16 (from_be_bytes w16 p) ≡ p
 half_takes {p = p} w h = half_back p (h.len ∙ w) h.bytes
 
-word_takes : {f : Field} {p : List ℕ} → width_of f ≡ 4 → IsPiece f p → to_be_bytes w32 (from_be_bytes w32 p) ≡ p
+pub word_takes : {f : Field} {p : List ℕ} → width_of f ≡ 4 → IsPiece f p → to_be_bytes w32 (from_be_bytes w32 p) ≡ p
 word_takes {p = p} w h = word_back p (h.len ∙ w) h.bytes
 
-long_takes : {f : Field} {p : List ℕ} → width_of f ≡ 8 → IsPiece f p → to_be_bytes w64 (from_be_bytes w64 p) ≡ p
+pub long_takes : {f : Field} {p : List ℕ} → width_of f ≡ 8 → IsPiece f p → to_be_bytes w64 (from_be_bytes w64 p) ≡ p
 long_takes {p = p} w h = long_back p (h.len ∙ w) h.bytes
 
 pub zeros_are : (bytes : List ℕ) → are_zeros bytes ≡ true → bytes ≡ replicate (length bytes) 0
@@ -119,10 +119,10 @@ zeros_are (b ∷ bs) h =
     let is : b ≡ 0 = same_from_eq b 0 parts.0 in
     rw is (ap (λ (x : List ℕ). 0 ∷ x) (zeros_are bs parts.1))
 
-zeros_take : (n : ℕ) {p : List ℕ} → IsPiece (Zeros n) p → replicate n 0 ≡ p
+pub zeros_take : (n : ℕ) {p : List ℕ} → IsPiece (Zeros n) p → replicate n 0 ≡ p
 zeros_take n {p = p} h = ap (λ (k : ℕ). replicate k 0) (sym h.len) ∙ sym (zeros_are p h.stands)
 
-below_from : (most n : ℕ) → n ≤ most → n < most + 1
+pub below_from : (most n : ℕ) → n ≤ most → n < most + 1
 below_from most n h = omega arith
 
 -- ---- jobs
@@ -405,7 +405,7 @@ no_number p len fits h = let z : from_be_bytes w16 p ≡ 0 = omega arith in subs
 no_word : (p : List ℕ) → length p ≡ 4 → ((i : ℕ) → get_or p i 0 < 256) → from_be_bytes w32 p ≤ 0 → to_be_bytes w32 0 ≡ p
 no_word p len fits h = let z : from_be_bytes w32 p ≡ 0 = omega arith in subst (λ (n : ℕ). to_be_bytes w32 n ≡ p) z (word_back p len fits)
 
-known : (k n : ℕ) → k ≤ n → n ≤ k → k ≡ n
+pub known : (k n : ℕ) → k ≤ n → n ≤ k → k ≡ n
 known k n a b = omega arith
 
 -- what an entry of a kind's fields is
@@ -574,7 +574,7 @@ output_written o flags job lines mark order old into len a b e1 e2 e3 e4 e5 h =
 
 -- ---- the lengths of slots
 
-spelled_length : (fs : List Field) (ps : List (List ℕ)) → AreSpelled fs ps → length (concat ps) ≡ widths fs
+pub spelled_length : (fs : List Field) (ps : List (List ℕ)) → AreSpelled fs ps → length (concat ps) ≡ widths fs
 spelled_length [] [] h = refl
 spelled_length [] (p ∷ ps) h = absurd h
 spelled_length (f ∷ fs) [] h = absurd h

@@ -14,6 +14,3 @@ pub use records::{JobRec, OutRec};
 pub use slots::{
     law_of_slots, read_job, read_output, read_owner, write_job, write_output, write_owner,
 };
-
-#[cfg(test)]
-mod tests;
