@@ -1,0 +1,19 @@
+use Rattle.std.proofs.Common.{◌&&◌}
+use Rattle.std.specs.Prelude.{not}
+use Rattle.mas_types.specs.Lists.{is_greatest_of, has_first_key_of}
+use Rattle.mas_types.specs.Ids.{same_class, is_somebody}
+use Rattle.mas_types.specs.Queue.{in_execute}
+use Rattle.slot_order.specs.Listed.{listed}
+use Rattle.slot_order.proofs.Founds.{found_here, keyed_told, no_keyed_told}
+use Rattle.lay_bytes.specs.declared.records.JobRec.{JobRec}
+use Rattle.job_queue.specs.Jobs.{order_of, unordered, rec_of}
+use Rattle.job_queue.proofs.finding.find_exec.Goals as goal
+
+pub returns-clause-here : goal.returns-clause-here
+returns-clause-here c = found_here order_of (is_greatest_of (λ (r : JobRec). r.fields.prio.0) (has_first_key_of (λ k (r : JobRec). same_class r.fields.class k) c.args.classes.now (λ (r : JobRec). in_execute r.phase && (not r.fields.held && not (is_somebody r.busy))) (listed order_of c.args.jobs.now)) (listed order_of c.args.jobs.now)) c.args.jobs.now c.best_slot_by_class.result c.best_slot_by_class.ensures.some
+
+pub returns-clause-some : goal.returns-clause-some
+returns-clause-some c = keyed_told order_of unordered rec_of c.args.jobs.now c.best_slot_by_class.result (λ (r : JobRec). r.fields.prio.0) (λ (r : JobRec). in_execute r.phase && (not r.fields.held && not (is_somebody r.busy))) (λ k (r : JobRec). same_class r.fields.class k) c.args.classes.now c.best_slot_by_class.ensures.some
+
+pub returns-clause-none : goal.returns-clause-none
+returns-clause-none c = no_keyed_told order_of unordered rec_of c.args.jobs.now c.best_slot_by_class.result (λ (r : JobRec). r.fields.prio.0) (λ (r : JobRec). in_execute r.phase && (not r.fields.held && not (is_somebody r.busy))) (λ k (r : JobRec). same_class r.fields.class k) c.args.classes.now c.best_slot_by_class.ensures.none

@@ -1,0 +1,18 @@
+use Rattle.mas_types.specs.Ids.{same_number}
+use Rattle.slot_order.proofs.Founds.{found_here, first_told, none_told}
+use Rattle.lay_bytes.specs.declared.records.JobRec.{JobRec}
+use Rattle.job_queue.specs.Jobs.{order_of, unordered, rec_of}
+use Rattle.job_queue.proofs.JobLemmas.{record_found}
+use Rattle.job_queue.proofs.finding.find_job.Goals as goal
+
+pub returns-clause-here : goal.returns-clause-here
+returns-clause-here c = found_here order_of (λ (r : JobRec). same_number r.number c.args.job) c.args.jobs.now c.first_slot.result c.first_slot.ensures.some
+
+pub returns-clause-some : goal.returns-clause-some
+returns-clause-some c = first_told order_of unordered rec_of c.args.jobs.now c.first_slot.result (λ (r : JobRec). same_number r.number c.args.job) c.first_slot.ensures.some
+
+pub returns-clause-none : goal.returns-clause-none
+returns-clause-none c = none_told order_of unordered rec_of c.args.jobs.now c.first_slot.result (λ (r : JobRec). same_number r.number c.args.job) c.first_slot.ensures.none
+
+pub returns-clause-listed : goal.returns-clause-listed
+returns-clause-listed c = record_found (λ (r : JobRec). same_number r.number c.args.job) c.args.jobs.now c.first_slot.result c.first_slot.ensures.some c.first_slot.ensures.none
