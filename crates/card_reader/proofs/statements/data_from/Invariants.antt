@@ -1,0 +1,15 @@
+use Rattle.std.proofs.Common.{◌≡◌, ◌+◌, ◌-◌, ◌≤◌, drop, length}
+use Rattle.card_reader.specs.Statements.{data_behind}
+use Rattle.card_reader.proofs.statements.data_from.Given as goal
+
+-- the rest decides
+abbrev pub invariant-loop-at : goal.invariant-loop-at
+invariant-loop-at l = record {
+  behind : l.from ≤ l.at;
+  within : l.at ≤ length l.cards;
+  cards : l.at + (data_behind l.ending (drop l.at l.cards)).cards ≡ l.from + (data_behind l.ending (drop l.from l.cards)).cards;
+  taken : l.at + (data_behind l.ending (drop l.at l.cards)).taken ≡ l.from + (data_behind l.ending (drop l.from l.cards)).taken;
+}
+
+abbrev pub decreases-loop-at : goal.decreases-loop-at
+decreases-loop-at l = length l.cards - l.at

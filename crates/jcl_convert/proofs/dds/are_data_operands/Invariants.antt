@@ -1,0 +1,13 @@
+use Rattle.std.proofs.Common.{◌≡◌}
+use Rattle.std.specs.List.{list_all}
+use Rattle.card_reader.specs.Operands.{operands_left}
+use Rattle.card_reader.proofs.Parts.{length_left}
+use Rattle.jcl_convert.specs.Dds.{is_data_operand}
+use Rattle.jcl_convert.proofs.dds.are_data_operands.Given as goal
+
+-- the rest decides
+abbrev pub invariant-loop-rest : goal.invariant-loop-rest
+invariant-loop-rest l = list_all is_data_operand (operands_left l.rest) ≡ list_all is_data_operand (operands_left l.fn.rest)
+
+abbrev pub decreases-loop-rest : goal.decreases-loop-rest
+decreases-loop-rest l = length_left l.rest

@@ -1,0 +1,3 @@
+pub mod Execs
+pub mod Dds
+pub mod Jcl

@@ -1,0 +1,43 @@
+//! The steps of a job.
+use mas_types::{Class, Lines, List, Name8};
+
+/// A program that a step runs.
+#[derive(Clone, Copy, Debug, PartialEq, Eq)]
+pub enum Program {
+    /// IEFBR14, which does nothing.
+    Br14,
+    /// IEBGENER, which copies SYSUT1 to SYSUT2.
+    Gener,
+}
+
+/// What a DD statement stands for.
+#[derive(Debug, Drop)]
+pub enum DdKind {
+    /// Nothing is read, and what is written is dropped.
+    Dummy,
+    /// The cards of data behind it.
+    Cards(Lines),
+    /// An output, if lines are written.
+    Sysout {
+        class: Class,
+        dest: Name8,
+        forms: Name8,
+        /// From 1 on.
+        copies: u8,
+        held: bool,
+    },
+}
+
+/// A DD statement.
+#[derive(Debug, Drop)]
+pub struct Dd {
+    pub name: Name8,
+    pub kind: DdKind,
+}
+
+/// A step: an EXEC statement, and the DD statements up to the next one.
+#[derive(Debug, Drop)]
+pub struct Step {
+    pub program: Program,
+    pub dds: List<Dd>,
+}
