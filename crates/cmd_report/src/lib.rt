@@ -1,0 +1,10 @@
+//! What the console says of a step and of a run: closing lines, the lines of displays, and histories.
+#![tactic(auto)]
+
+mod displays;
+mod histories;
+mod lines;
+
+pub use displays::show;
+pub use histories::history;
+pub use lines::{closing, details};

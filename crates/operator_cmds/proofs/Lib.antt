@@ -1,0 +1,4 @@
+pub mod Reaching
+pub mod Following
+pub mod AllForms
+pub mod Typing

@@ -1,0 +1,77 @@
+//! The forms in which commands are typed.
+ghost use Rattle.std.specs.Prelude.{◌≡◌};
+
+/// What a command that is typed does.
+#[derive(Clone, Copy, Debug, PartialEq, Eq)]
+pub enum Form {
+    Hold,
+    Release,
+    Cancel,
+    SetPrio,
+    SetClass,
+    Out,
+    CancelOut,
+    SetOut,
+    ShowJob,
+    ShowQueue,
+    ShowOutputs,
+    ShowSpool,
+    ShowMembers,
+    SetInit,
+    SetPrt,
+    Back,
+    Forward,
+    Reset,
+}
+
+ghost use Rattle.operator_cmds.specs.Forms.{form_text as form_text_lem};
+
+/// All forms.
+pub const FORMS: [Form; 18] = [
+    Form::Hold,
+    Form::Release,
+    Form::Cancel,
+    Form::SetPrio,
+    Form::SetClass,
+    Form::Out,
+    Form::CancelOut,
+    Form::SetOut,
+    Form::ShowJob,
+    Form::ShowQueue,
+    Form::ShowOutputs,
+    Form::ShowSpool,
+    Form::ShowMembers,
+    Form::SetInit,
+    Form::SetPrt,
+    Form::Back,
+    Form::Forward,
+    Form::Reset,
+];
+
+/// How a command is typed. A small letter stands for a text: n for a job's number, k for the index of an output, p for a
+/// priority, c for a class, s for classes, f for forms, l for lines of a printer, b for lines of a mark, m for the last
+/// letter of a member's name. Any other byte stands for itself.
+pub(crate) fn form_text(form: Form) -> &'static [u8]
+    ensures { result.now ≡ form_text_lem form }
+{
+    match form {
+        Form::Hold => b"$HJn",
+        Form::Release => b"$AJn",
+        Form::Cancel => b"$CJn",
+        Form::SetPrio => b"$TJn,P=p",
+        Form::SetClass => b"$TJn,C=c",
+        Form::Out => b"$OJn",
+        Form::CancelOut => b"$COJn.k",
+        Form::SetOut => b"$TOJn.k,Q=c",
+        Form::ShowJob => b"$DJn",
+        Form::ShowQueue => b"$DQ",
+        Form::ShowOutputs => b"$DO",
+        Form::ShowSpool => b"$DSPL",
+        Form::ShowMembers => b"$DMEMBER",
+        Form::SetInit => b"$TINIT,C=s",
+        Form::SetPrt => b"$TPRT,Q=s,F=f,L=l",
+        Form::Back => b"$BPRT,b",
+        Form::Forward => b"$FPRT,b",
+        Form::Reset => b"$EMEMBER(SYSm)",
+    }
+}
