@@ -1,0 +1,5 @@
+//! Tests of `lock_cycle`.
+#![tactic(auto)]
+
+#[cfg(test)]
+mod tests;

@@ -1,0 +1,5 @@
+pub mod Marking
+pub mod Views
+pub mod Hands
+pub mod Passes
+pub mod Rules

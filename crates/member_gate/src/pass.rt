@@ -1,0 +1,37 @@
+//! The gate and its passes, as values.
+ghost use Rattle.std.specs.Prelude.{◌≡◌, ◌≤◌, true, false};
+ghost use Rattle.mas_types.specs.Limits.{members_most};
+ghost use Rattle.member_gate.specs.Hands.{in_hand};
+
+use crate::kept::Kept;
+use crate::plays::Lock;
+use crate::view::View;
+use atomic_table::{Seat, Table};
+use mas_types::MemberId;
+use std::alloc::Global;
+use thiserror::Error;
+
+/// A value that members use in turn.
+#[derive(Drop)]
+pub struct Gate<V: Kept> {
+    pub(crate) table: Table<Option<V>, View, V, Lock, Global>,
+    pub(crate) members: u8,
+    pub ghost counts: { (table.shared.table_id.words ≡ 2) × (table.shared.table_id.slots ≡ 1) },
+    pub ghost few: { members ≤ members_most },
+}
+
+/// What one thread knows of the value, and its right to a turn.
+#[derive(Drop)]
+pub struct Pass<V> {
+    pub(crate) seat: Seat<Option<V>, View>,
+    pub(crate) by: u8,
+    pub ghost live: { seat.me.0.live ≡ true },
+    pub ghost begun: { seat.me.0.opening ≡ false },
+    pub ghost by_is: { by ≡ seat.me.0.member },
+    pub ghost hand_is: { seat.me.1 ≡ in_hand seat.me.0.has },
+}
+
+/// The member that has the turn.
+#[derive(Clone, Copy, Debug, PartialEq, Eq, Error)]
+#[error("member {} has the turn", .0.0)]
+pub struct Held(pub MemberId);
