@@ -1,0 +1,14 @@
+pub mod Basics
+pub mod Frames
+pub mod Journals
+pub mod Found
+pub mod Locks
+pub mod Copies
+pub mod Members
+pub mod Runs
+pub mod Paper
+pub mod Falls
+pub mod Every
+pub mod Right
+pub mod Places
+pub mod Computed

@@ -1,0 +1,22 @@
+//! The members, the copies and the journal as plain data, under every order of events.
+#![tactic(auto)]
+
+pub mod examples;
+pub mod steps;
+pub mod worlds;
+
+ghost use Rattle.member_core.specs.Right.{EveryRunIsRight};
+ghost use Rattle.member_core.specs.Told.{EveryRunHolds};
+
+pub use worlds::{At, CopyAt, Event, Inked, Left, MemberAt, Said, World};
+
+/// Over a sound base every list of events leaves a world in which all of it holds.
+pub fn every_run_holds()
+    ensures { EveryRunHolds }
+{}
+
+/// Over a sound base every list of events leaves a right world: no copy reads anything but the kept entries, or those and
+/// the ones in flight, and all that was told is kept.
+pub fn every_run_is_right()
+    ensures { EveryRunIsRight }
+{}
