@@ -22,9 +22,9 @@ use Rattle.mas_types.specs.Fit.{IsConfig}
 use Rattle.ckpt_pages.specs.Shape.{IsRoute}
 use Rattle.ckpt_pages.specs.Starts.{empty_tables, first_levels}
 use Rattle.ckpt_pages.specs.Laws.{EmptyHasSpelling, AreFirstLevels}
-use Rattle.mas_run.specs.Standing.{StandFor, queue_of}
+use Rattle.mas_complex.specs.Meaning.{StandFor}
+use Rattle.mas_run.specs.Standing.{queue_of}
 use Rattle.mas_run.specs.Drawn.{AreDrawn, raised}
-use Rattle.mas_run.specs.Batches.{Follow}
 
 -- PAGES AS BYTES
 
@@ -249,12 +249,4 @@ blank_drawn config is t levels pages spelling leveled blank first spelled sized 
   leveled = rw (blank, first) (leveled config [] is);
   spelled = spelled;
   sized = sized;
-}
-
--- pages that were drawn again follow those before
-pub drawn_follow : (t t' : Tables) (at at' : ℕ) (levels levels' : List ℕ) (old pages : List Page) (count : ℕ) (numbers : List ℕ) → AreDrawn t at levels old → AreDrawn t' at' levels' pages → at' ≡ at + 1
-    → length pages ≡ count → Covers (length pages) numbers (bytes_of old) (bytes_of pages) → Follow count numbers (bytes_of old) (bytes_of pages)
-drawn_follow t t' at at' levels levels' old pages count numbers before after one many covered = record {
-  newer = omega (arith, drawn_level t at levels old before, drawn_level t' at' levels' pages after);
-  covered = rw (sym many) covered;
 }

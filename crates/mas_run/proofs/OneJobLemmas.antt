@@ -23,7 +23,7 @@ use Rattle.lay_bytes.specs.Slots.{IsJobRec, IfUsed}
 use Rattle.ckpt_pages.specs.Shape.{HasSpelling}
 use Rattle.ckpt_pages.specs.declared.tables.Tables.{Tables}
 use Rattle.ckpt_pages.specs.QueueOf.{used}
-use Rattle.mas_run.specs.Unspooled.{step, run}
+use Rattle.mas_complex.specs.Meaning.{step, run}
 use Rattle.mas_run.specs.Decks.{deck_entries, entries_of}
 use Rattle.mas_run.specs.Standing.{queue_of}
 use Rattle.mas_run.specs.OneJob.{HasNoJob, number_after, in_convert, with_job, job_entries}

@@ -1,28 +1,22 @@
 -- What is refused before play, and what is answered.
-use Rattle.std.proofs.Common.{◌≡◌, ◌⊎◌, inl, inr, ℕ, nat_lt, Bool, true, false, List, [], ◌∷◌, length, Option, None, refl, arith}
+use Rattle.std.proofs.Common.{◌≡◌, ◌⊎◌, inl, inr, ℕ, nat_lt, true, false, List, length, Option, refl, arith}
 use Rattle.std.proofs.lemmas.Bool.Decides.{nat_tests}
-use Rattle.mas_types.specs.declared.ids.Dev.TheVariants.{Ckpt1}
 use Rattle.mas_types.specs.declared.jobs.JobFields.{JobFields}
 use Rattle.mas_types.specs.declared.answers.Status.{Status}
 use Rattle.mas_types.specs.declared.answers.Status.TheVariants as status
 use Rattle.mas_types.specs.Lists.{first_some}
 use Rattle.mas_types.specs.Limits.{script_bytes}
 use Rattle.mas_run.specs.Words.{are_words}
-use Rattle.mas_run.specs.Refusals.{refusal_before_play, refused_where, bytes_needed, Answers, is_refusal, IsAsked}
+use Rattle.mas_run.specs.Refusals.{refusal_before_play, refused_devices, Answers, is_refusal, IsAsked}
 use Rattle.spool_disk.specs.View.{View}
 use Rattle.spool_disk.specs.Acts.{Rose}
 use Rattle.mas_run.specs.Statuses.{IsCaused, IsStill}
 
-asked_at : (small : Bool) (size : ℕ) (answer : Status) → Answers (refused_where small (status.DeviceSize Ckpt1 size)) answer
-    → Answers (first_some (None ∷ None ∷ None ∷ refused_where small (status.DeviceSize Ckpt1 size) ∷ [])) answer
-asked_at true size answer is = is
-asked_at false size answer is = is
-
-pub answers_asked : (words : List (List ℕ)) (script : List ℕ) (size : ℕ) (asked : Option JobFields) (answer : Status) → are_words words ≡ true → IsAsked script asked
-    → Answers (refused_where (nat_lt size bytes_needed) (status.DeviceSize Ckpt1 size)) answer → Answers (refusal_before_play words script size) answer
-answers_asked words script size asked answer are is answered =
+pub answers_asked : (words : List (List ℕ)) (script : List ℕ) (size1 size2 : ℕ) (asked : Option JobFields) (answer : Status) → are_words words ≡ true → IsAsked script asked
+    → Answers (first_some (refused_devices size1 size2)) answer → Answers (refusal_before_play words script size1 size2) answer
+answers_asked words script size1 size2 asked answer are is answered =
     let few : nat_lt script_bytes (length script) ≡ false = grind (arith, nat_tests, is.few) in
-    rw (are, few, is.says) (asked_at (nat_lt size bytes_needed) size answer answered)
+    rw (are, few, is.says) answered
 
 -- what nothing hinders ends with Done, or for want of memory
 pub ends : (answer : Status) (before after : ℕ) (old new : View) → is_refusal answer ≡ false → (answer ≡ status.SourceFault → Rose before after) → IsCaused answer old new → IsStill before after old new
@@ -30,7 +24,7 @@ pub ends : (answer : Status) (before after : ℕ) (old new : View) → is_refusa
 ends status.Done before after old new fine source caused still = inl refl
 ends status.NoMemory before after old new fine source caused still = inr refl
 ends status.SourceFault before after old new fine source caused still = absurd (still.source (source refl))
-ends status.BothLost before after old new fine source caused still = absurd (still.disk (caused.failed refl))
+ends status.BothLost before after old new fine source caused still = absurd (still.disks (caused.failed1 refl) (caused.failed2 refl))
 ends status.ConsoleFault before after old new fine source caused still = absurd (still.console (caused.console refl))
 ends status.Words before after old new fine source caused still = absurd (cc)
 ends (status.BadLine line cause) before after old new fine source caused still = absurd (cc)

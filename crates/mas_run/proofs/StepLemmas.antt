@@ -1,261 +1,156 @@
--- What a crash leaves, and what the console tells, over the first step of a run.
-use Rattle.std.proofs.Common.{◌≡◌, ◌⊎◌, inl, inr, ⊎_elim, ℕ, ◌≤◌, ◌<◌, ◌||◌, nat_le, nat_lt, Bool, true, false, List, [], ◌∷◌, ◌++◌, length, drop, Option, Some, Ok, Err, refl, sym, ◌∙◌, ap, subst, arith, append-nil, Contains}
-use Rattle.std.proofs.lemmas.Bool.Decides.{nat_tests}
-use Rattle.std.proofs.lemmas.List.{drop_all}
-use Rattle.std.proofs.lemmas.List.Elements.{All-nil, All-cons}
-use Rattle.std.specs.List.{list_any}
-use Rattle.mas_types.specs.declared.ids.Dev.{Dev}
+-- A deck's step, by how it ended.
+use Rattle.std.proofs.Common.{◌≡◌, ◌⊎◌, inl, inr, ⊎_elim, ℕ, ◌++◌, Bool, true, false, List, [], ◌∷◌, Option, Some, None, Ok, Err, refl, sym, subst, ◌∙◌, ap}
 use Rattle.mas_types.specs.declared.ids.MemberId.{MemberId}
-use Rattle.mas_types.specs.declared.queues.Queue.{Queue}
-use Rattle.mas_types.specs.declared.journals.Entry.{Entry}
 use Rattle.mas_types.specs.declared.journals.Batch.{Batch}
-use Rattle.mas_types.specs.declared.journals.Journal.{Journal}
+use Rattle.mas_types.specs.declared.journals.Entry.{Entry}
 use Rattle.mas_types.specs.declared.journals.Fate.TheVariants.{Kept}
-use Rattle.mas_types.specs.Journal.{kept_at, flying_at}
-use Rattle.spool_disk.specs.View.{View, World, Disk, Line, IsImage, disk_at, disk_now, Throughout}
-use Rattle.spool_disk.specs.declared.plant.Part.TheVariants.{Disk as DiskPart, Console}
+use Rattle.spool_disk.specs.View.{View, Line}
+use Rattle.spool_disk.specs.declared.plant.Part.TheVariants.{Console}
 use Rattle.spool_disk.specs.declared.plant.Act.{Act}
 use Rattle.spool_disk.specs.declared.plant.Act.TheVariants.{Done, Failed, Halted}
-use Rattle.spool_disk.specs.Acts.{Goes, Acts, Says, Said, Rose, next, top}
-use Rattle.ckpt_copy.specs.Causes.{Caused}
-use Rattle.ckpt_copy.specs.Reading.{AllRead, EachReads}
-use Rattle.ckpt_copy.specs.Meanwhile.{Meanwhile}
-use Rattle.mas_run.specs.Unspooled.{run}
-use Rattle.mas_run.specs.Batches.{begun, kept_from, with_last_kept}
-use Rattle.mas_run.proofs.BatchLemmas.{with_last_kept-append}
-use Rattle.mas_run.specs.Standing.{StandFor}
-use Rattle.mas_run.specs.Crash.{IsAfterKept, IsCrashSafe, IsOnlyOn}
-use Rattle.mas_run.specs.Told.{AreToldKept, IsStepKept, is_of_step, added, whole, torn, console_now}
+use Rattle.spool_disk.specs.Acts.{Goes, Acts, Says, Said}
+use Rattle.duplex_pair.specs.Halves.{IsBothLost, SomeAlive}
+use Rattle.duplex_pair.specs.Both.{PairActed}
+use Rattle.mas_complex.specs.Journals.{begun, fated, with_last, end_of}
+use Rattle.mas_complex.specs.Headline.{whole}
+use Rattle.mas_run.specs.Told.{torn, console_now}
+use Rattle.mas_run.specs.Crash.{IsOnlyOn}
 use Rattle.mas_run.specs.declared.running.StepNo.TheVariants as no_step
-use Rattle.mas_run.specs.Stops.{IsStep, HasKept}
-use Rattle.ckpt_copy.specs.Moments.{either_way, goes_on}
+use Rattle.mas_run.specs.Stops.{Apart, Course, IsStep, HasKept}
+use Rattle.mas_run.proofs.WriteLemmas.{kept_out, flying_out}
+use Rattle.mas_run.proofs.CourseLemmas.{course_of, course_none, course_said, only_on, only_none, only_said, rose_later}
 
-abbrev pub journal_of : List Batch → Journal
-journal_of batches = record { batches = batches }
+module _ (T : Type 0) (told : Type 0) (by : MemberId) (line : List ℕ) (entries : List Entry) (batches : List Batch) (a b : Bool) (v0 : View) where
+  abbrev batch : Batch
+  batch = begun v0.now by entries
 
-or_true : (c : Bool) → (c || true) ≡ true
-or_true true = refl
-or_true false = refl
-
--- the entries of the only batch, in flight and kept
-module _ (first : ℕ) (by : MemberId) (entries : List Entry) where
-  flies_begun : (t : ℕ) → first ≤ t → flying_at (journal_of (begun first by entries ∷ [])) t ≡ entries
-  flies_begun t from =
-      let p : nat_le first t ≡ true = grind (arith, nat_tests) in
-      rw (p, or_true (nat_lt t top)) (append-nil entries)
-
-  flies_kept : (last t : ℕ) → first ≤ t → t < last → flying_at (journal_of (kept_from last (begun first by entries) ∷ [])) t ≡ entries
-  flies_kept last t from before =
-      let p : nat_le first t ≡ true = grind (arith, nat_tests) in
-      let q : nat_lt t last ≡ true = grind (arith, nat_tests) in
-      rw (p, q) (append-nil entries)
-
-  kept_not_yet : (last t : ℕ) → t < last → kept_at (journal_of (kept_from last (begun first by entries) ∷ [])) t ≡ []
-  kept_not_yet last t before =
-      let p : nat_le last t ≡ false = grind (arith, nat_tests) in
-      rw p refl
-
-  kept_then : (last t : ℕ) → last ≤ t → kept_at (journal_of (kept_from last (begun first by entries) ∷ [])) t ≡ entries
-  kept_then last t after =
-      let p : nat_le last t ≡ true = grind (arith, nat_tests) in
-      rw p (append-nil entries)
-
-goes_nowhere : (v : View) → Goes v v
-goes_nowhere v = record { later = omega arith; past = λ t le. refl; size = λ d. refl; faults = λ p. omega arith; stops = λ m. omega arith; lost = λ p is. is }
-
--- the journal with the batch, as it was begun and as it was kept
-pub flying_is : (old before after : List Batch) (first first' : ℕ) (by : MemberId) (es es' : List Entry) → after ≡ before → before ≡ old ++ begun first by es ∷ [] → first ≡ first' → es ≡ es'
-    → after ≡ old ++ begun first' by es' ∷ []
-flying_is old before after first first' by es es' same begun_is at are = same ∙ begun_is ∙ rw (at, are) refl
-
-pub kept_is : (old before after : List Batch) (first first' last : ℕ) (by : MemberId) (es es' : List Entry) → after ≡ with_last_kept last before → before ≡ old ++ begun first by es ∷ [] → first ≡ first' → es ≡ es'
-    → after ≡ old ++ kept_from last (begun first' by es') ∷ []
-kept_is old before after first first' last by es es' same begun_is at are =
-    same ∙ ap (with_last_kept last) begun_is ∙ with_last_kept-append last old (begun first by es) ∙ rw (at, are) refl
-
-rose_later : (a b c : ℕ) → a ≤ b → Rose b c → Rose a c
-rose_later a b c le rose = omega (arith, rose)
-
--- a moment after one act is that before it or the one that it made
-after_act : (v1 v2 : View) (t : ℕ) → v2.now ≡ next v1.now → v1.now < t → t ≤ v2.now → t ≡ v2.now
-after_act v1 v2 t time above le = omega (arith, time)
-
--- WHAT A CRASH LEAVES
-
-module _ (reads : List ℕ → Option (List ℕ)) (base : Queue) (dev : Dev) (was : List ℕ) (stand_was : StandFor base was) (v0 : View) where
-  pub crash_still : AllRead reads was (disk_now v0 dev) → IsCrashSafe reads base (journal_of []) v0.now dev v0
-  crash_still read t from le image is =
-      let now : t ≡ v0.now = omega arith in
-      inl (was, read image (subst (λ (m : ℕ). IsImage (disk_at v0 m dev) image) now is), stand_was)
-
-  module _ (by : MemberId) (entries : List Entry) (pages : List ℕ) (stand_next : StandFor (run base entries) pages) (v1 : View) (call : Meanwhile dev (EachReads reads was pages) v0 v1) where
-    in_flight : (J : Journal) (t : ℕ) (image : List ℕ) → kept_at J t ≡ [] → flying_at J t ≡ entries → (reads image ≡ Some was) ⊎ (reads image ≡ Some pages) → IsAfterKept reads base J t image
-    in_flight J t image none flies read = ⊎_elim
-        (λ r. inl (was, r, subst (λ (es : List Entry). StandFor (run base es) was) (sym none) stand_was))
-        (λ r. inr (pages, r, subst (λ (es : List Entry). StandFor (run base es) pages) (sym (ap (λ (es : List Entry). es ++ flying_at J t) none ∙ flies)) stand_next))
-        read
-
-    pub crash_begun : IsCrashSafe reads base (journal_of (begun v0.now by entries ∷ [])) v0.now dev v1
-    crash_begun t from le image is = in_flight (journal_of (begun v0.now by entries ∷ [])) t image refl (flies_begun v0.now by entries t from) (call.here t from le image is)
-
-    module _ (read : AllRead reads pages (disk_now v1 dev)) (v2 : View) (goes : Goes v1 v2) (time : v2.now ≡ next v1.now) (same : disk_now v2 dev ≡ disk_now v1 dev) where
-      afterwards : (t : ℕ) (image : List ℕ) → v1.now ≤ t → t ≤ v2.now → IsImage (disk_at v2 t dev) image → IsImage (disk_now v1 dev) image
-      afterwards t image from le is = ⊎_elim
-          (λ below. let now : t ≡ v1.now = omega arith in
-          subst (λ (w : World). IsImage (w.disk dev) image) (goes.past v1.now (omega arith)) (subst (λ (m : ℕ). IsImage (disk_at v2 m dev) image) now is))
-          (λ above. subst (λ (d : Disk). IsImage d image) same (subst (λ (m : ℕ). IsImage (disk_at v2 m dev) image) (after_act v1 v2 t time above le) is))
-          (either_way t v1.now)
-
-      pub crash_kept : IsCrashSafe reads base (journal_of (kept_from v1.now (begun v0.now by entries) ∷ [])) v0.now dev v2
-      crash_kept t from le image is = ⊎_elim
-          (λ after. inl (pages, read image (afterwards t image after le is), subst (λ (es : List Entry). StandFor (run base es) pages) (sym (kept_then v0.now by entries v1.now t after)) stand_next))
-          (λ before. in_flight (journal_of (kept_from v1.now (begun v0.now by entries) ∷ [])) t image (kept_not_yet v0.now by entries v1.now t before) (flies_kept v0.now by entries v1.now t from before)
-          (call.here t from (omega arith) image (subst (λ (w : World). IsImage (w.disk dev) image) (goes.past t (omega arith)) is)))
-          (either_way v1.now t)
-
--- WHAT THE CONSOLE TELLS
-
-nothing_in : {X : Type 0} (xs : List X) (x : X) → xs ≡ [] → Contains xs x → ⊥
-nothing_in xs x none there =
-    let k : length xs ≡ 0 = ap length none in
-    omega (arith, there.1)
-
--- nothing was added
-untold : (v : View) (was : List Line) (t : ℕ) → (v.world t).console ≡ was → (line : Line) → Contains (added v was t) line → ⊥
-untold v was t same line there =
-    nothing_in (added v was t) line (ap (drop (length was)) same ∙ drop_all (length was) was (omega arith)) there
-
-module _ (J : Journal) (v0 : View) where
-  pub told_still : AreToldKept J (v0.world v0.now).console v0.now v0
-  told_still t from le by at end telling there =
-      let now : t ≡ v0.now = omega arith in
-      absurd (untold v0 (v0.world v0.now).console t (ap (λ (m : ℕ). (v0.world m).console) now) _ there)
-
-  module _ (v1 : View) (quiet : Throughout v0.now v1.now (λ t. (v1.world t).console ≡ (v0.world v0.now).console)) where
-    pub told_begun : AreToldKept J (v0.world v0.now).console v0.now v1
-    told_begun t from le by at end telling there = absurd (untold v1 (v0.world v0.now).console t (quiet t from le) _ there)
-
--- the only batch, once it is kept
-step_kept : (last first : ℕ) (m : MemberId) (entries : List Entry) (t : ℕ) (by : MemberId) (at : ℕ) → last ≤ t → IsStepKept (journal_of (kept_from last (begun first m entries) ∷ [])) t by at
-step_kept last first m entries t by at after =
-    All-cons (λ (b : Batch). list_any (is_of_step by at) b.entries ≡ true → (b.fate ≡ Kept) × (b.last ≤ t)) (kept_from last (begun first m entries)) [] (λ has. (refl, after))
-    (All-nil (λ (b : Batch). list_any (is_of_step by at) b.entries ≡ true → (b.fate ≡ Kept) × (b.last ≤ t)))
-
-module _ (m : MemberId) (entries : List Entry) (v0 v1 v2 : View) (quiet : Throughout v0.now v1.now (λ t. (v1.world t).console ≡ (v0.world v0.now).console)) (goes : Goes v1 v2) where
-  pub told_kept : AreToldKept (journal_of (kept_from v1.now (begun v0.now m entries) ∷ [])) (v0.world v0.now).console v0.now v2
-  told_kept t from le by at end telling there = ⊎_elim
-      (λ after. step_kept v1.now v0.now m entries t by at after)
-      (λ before. absurd (untold v2 (v0.world v0.now).console t (ap (λ (w : World). w.console) (goes.past t (omega arith)) ∙ quiet t from (omega arith)) _ there))
-      (either_way v1.now t)
-
--- THE STEP
-
-module _ (T : Type 0) (told : Type 0) (reads : List ℕ → Option (List ℕ)) (base : Queue) (by : MemberId) (dev : Dev) (line : List ℕ) (entries : List Entry) (old : List Batch) (v0 : View)
-    (was : List ℕ) (stand_was : StandFor base was) (read : told → AllRead reads was (disk_now v0 dev)) where
   -- nothing was done
-  pub step_unplayed : (batches : List Batch) → batches ≡ old → IsStep {T = T} told reads base by.0 dev line (begun v0.now by entries) old batches v0 v0 (Err no_step.NoMemory)
-  step_unplayed batches same = record {
-    goes = goes_nowhere v0;
-    cause = tt;
-    loses = λ d. refl;
-    there = λ is. is;
-    elsewhere = λ t m from le d other. let now : m ≡ v0.now = omega arith in ap (λ (n : ℕ). disk_at v0 n d) now;
-    journal = same;
+  pub step_unplayed : batches ≡ [] → SomeAlive a b → IsStep {T = T} told by.0 line (begun v0.now by entries) batches a a b b v0 v0 (Err no_step.NoMemory)
+  step_unplayed none some = record {
+    course = course_none a b v0;
+    cause = some;
+    journal = none;
+    elsewhere = λ t. only_none v0;
     console = λ t. refl;
-    crash = λ t none. rw (same, none) (crash_still reads base dev was stand_was v0 (read t));
-    tells = λ t none. rw (same, none) (told_still (journal_of []) v0);
   }
 
-  module _ (pages : List ℕ) (stand_next : StandFor (run base entries) pages) (v1 : View) (call : told → Meanwhile dev (EachReads reads was pages) v0 v1) (batches : List Batch) where
+  module _ (a' b' : Bool) (v1 : View) (apart : told → Apart v0 v1) where
     -- the batch was not kept
-    module _ (flying : batches ≡ old ++ begun v0.now by entries ∷ []) where
-      crash_flying : told → old ≡ [] → IsCrashSafe reads base (journal_of batches) v0.now dev v1
-      crash_flying t none = rw (flying, none) (crash_begun reads base dev was stand_was v0 by entries pages stand_next v1 (call t))
+    pub step_lost : PairActed by.0 a a' b b' false v0 v1 → IsBothLost a' b' → batches ≡ begun v0.now by entries ∷ [] → IsStep {T = T} told by.0 line (begun v0.now by entries) batches a a' b b' v0 v1 (Err no_step.Lost)
+    step_lost acted both flying = record {
+      course = course_of by.0 a a' b b' false v0 v1 acted;
+      cause = both;
+      journal = flying;
+      elsewhere = λ t. (apart t).others;
+      console = λ t. (apart t).console;
+    }
 
-      tells_flying : told → old ≡ [] → AreToldKept (journal_of batches) (console_now v0) v0.now v1
-      tells_flying t none = told_begun (journal_of batches) v0 v1 (call t).console
-
-      quiet : told → console_now v1 ≡ console_now v0
-      quiet t = (call t).console v1.now (call t).goes.later (omega arith)
-
-      pub step_lost : Caused by.0 dev v0 v1 Failed → IsStep {T = T} told reads base by.0 dev line (begun v0.now by entries) old batches v0 v1 (Err no_step.Lost)
-      step_lost cause = record { goes = cause.goes; cause = (cause.is_lost refl, cause.failed refl); loses = cause.loses; there = λ is. tt; elsewhere = λ t. (call t).others; journal = flying; console = quiet; crash = crash_flying; tells = tells_flying }
-
-      pub step_stopped : Caused by.0 dev v0 v1 Halted → IsStep {T = T} told reads base by.0 dev line (begun v0.now by entries) old batches v0 v1 (Err no_step.Stopped)
-      step_stopped cause = record { goes = cause.goes; cause = cause.halted refl; loses = cause.loses; there = λ is. cause.else_lost (DiskPart dev) (inr (λ e. absurd (cc))) ∙ is; elsewhere = λ t. (call t).others; journal = inl flying; console = λ t. inl (quiet t); crash = crash_flying; tells = tells_flying }
+    pub step_stopped : PairActed by.0 a a' b b' true v0 v1 → batches ≡ begun v0.now by entries ∷ [] → IsStep {T = T} told by.0 line (begun v0.now by entries) batches a a' b b' v0 v1 (Err no_step.Stopped)
+    step_stopped acted flying = record {
+      course = course_of by.0 a a' b b' true v0 v1 acted;
+      cause = (acted.stands refl, acted.halted refl);
+      journal = inl flying;
+      elsewhere = λ t. (apart t).others;
+      console = λ t. inl (apart t).console;
+    }
 
     -- it was kept
-    module _ (kept : batches ≡ old ++ kept_from v1.now (begun v0.now by entries) ∷ []) (cause : Caused by.0 dev v0 v1 Done) (rested : told → AllRead reads pages (disk_now v1 dev)) (v2 : View) where
+    module _ (acted : PairActed by.0 a a' b b' false v0 v1) (some : SomeAlive a' b') (kept : batches ≡ fated Kept v1.now (begun v0.now by entries) ∷ []) (v2 : View) where
       goes : Goes v0 v1
-      goes = cause.goes
+      goes = acted.goes
 
-      lost_not : (said : Act) → Acts by.0 Console v1 v2 said → v0.lost (DiskPart dev) ≡ false → v2.lost (DiskPart dev) ≡ false
-      lost_not said act is = act.else_lost (DiskPart dev) (inl (λ e. absurd (cc))) ∙ cause.else_lost (DiskPart dev) (inr (λ e. absurd (cc))) ∙ is
+      has_kept : (said : Act) → Acts by.0 Console v1 v2 said → HasKept batches (begun v0.now by entries) v2.now
+      has_kept said act = (v1.now, goes.later, act.goes.later, kept)
 
-      elsewhere_after : (said : Act) → Acts by.0 Console v1 v2 said → (told → Says line v1 v2 said) → told → IsOnlyOn dev v0 v2
-      elsewhere_after said act says t m from le d other = ⊎_elim
-          (λ below. ap (λ (w : World). w.disk d) (act.goes.past m below) ∙ (call t).others m from below d other)
-          (λ above. let now : m ≡ v2.now = after_act v1 v2 m act.time above le in
-          ap (λ (n : ℕ). disk_at v2 n d) now ∙ (says t).disks d ∙ (call t).others v1.now goes.later (omega arith) d other)
-          (either_way m v1.now)
+      course : (said : Act) → Acts by.0 Console v1 v2 said → Course a a' b b' v0 v2
+      course said act = course_said by.0 a a' b b' v0 v1 v2 said (course_of by.0 a a' b b' false v0 v1 acted) act
 
-      has_kept : Goes v1 v2 → HasKept old batches (begun v0.now by entries) v2.now
-      has_kept later = (v1.now, goes.later, later.later, kept)
+      elsewhere : (said : Act) → Acts by.0 Console v1 v2 said → (told → Says line v1 v2 said) → told → IsOnlyOn v0 v2
+      elsewhere said act says t = only_on v0 v1 v2 goes.later act.goes (apart t).others (only_said by.0 line v1 v2 said act (says t))
 
-      crash_after : (said : Act) → Acts by.0 Console v1 v2 said → (told → Says line v1 v2 said) → told → old ≡ [] → IsCrashSafe reads base (journal_of batches) v0.now dev v2
-      crash_after said act says t none =
-          rw (kept, none) (crash_kept reads base dev was stand_was v0 by entries pages stand_next v1 (call t) (rested t) v2 act.goes act.time ((says t).disks dev))
-
-      tells_after : Goes v1 v2 → told → old ≡ [] → AreToldKept (journal_of batches) (console_now v0) v0.now v2
-      tells_after later t none = rw (kept, none) (told_kept by entries v0 v1 v2 (call t).console later)
-
-      still : told → console_now v1 ≡ console_now v0
-      still t = (call t).console v1.now goes.later (omega arith)
-
-      pub step_done : (done : T) → Acts by.0 Console v1 v2 Done → (told → Says line v1 v2 Done) → IsStep told reads base by.0 dev line (begun v0.now by entries) old batches v0 v2 (Ok done)
+      pub step_done : (done : T) → Acts by.0 Console v1 v2 Done → (told → Says line v1 v2 Done) → IsStep told by.0 line (begun v0.now by entries) batches a a' b b' v0 v2 (Ok done)
       step_done done act says = record {
-        goes = goes_on v0 v1 v2 goes act.goes;
-        cause = tt;
-        loses = λ d. act.loses d ∙ cause.loses d;
-        there = lost_not Done act;
-        elsewhere = elsewhere_after Done act says;
-        journal = has_kept act.goes;
-        console = λ t. (says t).console ∙ ap (λ (ls : List Line). ls ++ whole line ∷ []) (still t);
-        crash = crash_after Done act says;
-        tells = tells_after act.goes;
+        course = course Done act;
+        cause = some;
+        journal = has_kept Done act;
+        elsewhere = elsewhere Done act says;
+        console = λ t. (says t).console ∙ ap (λ (ls : List Line). ls ++ whole line ∷ []) (apart t).console;
       }
 
-      pub step_unsaid : Acts by.0 Console v1 v2 Failed → (told → Says line v1 v2 Failed) → IsStep {T = T} told reads base by.0 dev line (begun v0.now by entries) old batches v0 v2 (Err no_step.Unsaid)
+      pub step_unsaid : Acts by.0 Console v1 v2 Failed → (told → Says line v1 v2 Failed) → IsStep {T = T} told by.0 line (begun v0.now by entries) batches a a' b b' v0 v2 (Err no_step.Unsaid)
       step_unsaid act says = record {
-        goes = goes_on v0 v1 v2 goes act.goes;
-        cause = rose_later (v0.faults Console) (v1.faults Console) (v2.faults Console) (goes.faults Console) (act.failed refl);
-        loses = λ d. act.loses d ∙ cause.loses d;
-        there = lost_not Failed act;
-        elsewhere = elsewhere_after Failed act says;
-        journal = has_kept act.goes;
-        console = λ t. (says t).console ∙ still t;
-        crash = crash_after Failed act says;
-        tells = tells_after act.goes;
+        course = course Failed act;
+        cause = (some, rose_later (v0.faults Console) (v1.faults Console) (v2.faults Console) (goes.faults Console) (act.failed refl));
+        journal = has_kept Failed act;
+        elsewhere = elsewhere Failed act says;
+        console = λ t. (says t).console ∙ (apart t).console;
       }
 
-      pub step_broken : Acts by.0 Console v1 v2 Halted → (told → Says line v1 v2 Halted) → IsStep {T = T} told reads base by.0 dev line (begun v0.now by entries) old batches v0 v2 (Err no_step.Stopped)
+      pub step_broken : Acts by.0 Console v1 v2 Halted → (told → Says line v1 v2 Halted) → IsStep {T = T} told by.0 line (begun v0.now by entries) batches a a' b b' v0 v2 (Err no_step.Stopped)
       step_broken act says = record {
-        goes = goes_on v0 v1 v2 goes act.goes;
-        cause = rose_later (v0.stops by.0) (v1.stops by.0) (v2.stops by.0) (goes.stops by.0) (act.halted refl);
-        loses = λ d. act.loses d ∙ cause.loses d;
-        there = lost_not Halted act;
-        elsewhere = elsewhere_after Halted act says;
-        journal = inr (has_kept act.goes);
-        console = λ t. either (still t) (says t).console;
-        crash = crash_after Halted act says;
-        tells = tells_after act.goes;
+        course = course Halted act;
+        cause = (some, rose_later (v0.stops by.0) (v1.stops by.0) (v2.stops by.0) (goes.stops by.0) (act.halted refl));
+        journal = inr (has_kept Halted act);
+        elsewhere = elsewhere Halted act says;
+        console = λ t. either (apart t).console (says t).console;
       } where
         either : console_now v1 ≡ console_now v0 → Said line (console_now v1) (console_now v2) Halted
-            → (console_now v2 ≡ console_now v0) ⊎ ((console_now v2 ≡ console_now v0 ++ whole line ∷ []) × HasKept old batches (begun v0.now by entries) v2.now) ⊎ ((text : List ℕ) × (console_now v2 ≡ console_now v0 ++ torn text ∷ []))
+            → (console_now v2 ≡ console_now v0) ⊎ ((console_now v2 ≡ console_now v0 ++ whole line ∷ []) × HasKept batches (begun v0.now by entries) v2.now) ⊎ ((text : List ℕ) × (console_now v2 ≡ console_now v0 ++ torn text ∷ []))
         either same said = ⊎_elim
             (λ none. inl (none ∙ same))
             (λ more. ⊎_elim
             (λ part. inr (inr (part.0, part.1 ∙ ap (λ (ls : List Line). ls ++ torn part.0 ∷ []) same)))
-            (λ all. inr (inl (all ∙ ap (λ (ls : List Line). ls ++ whole line ∷ []) same, has_kept act.goes)))
+            (λ all. inr (inl (all ∙ ap (λ (ls : List Line). ls ++ whole line ∷ []) same, has_kept Halted act)))
             more)
             said
+
+-- THE STEP AS IT IS CALLED: the place of its batch was reserved first
+
+module _ (T : Type 0) (told : Type 0) (by : MemberId) (line : List ℕ) (entries : List Entry) (a b : Bool) (v0 : View) (a1 b1 : Bool) (vr : View) (same_a : a1 ≡ a) (same_b : b1 ≡ b) (same : vr ≡ v0) where
+  pub deck_unplayed : (batches : List Batch) → batches ≡ [] → SomeAlive a b → IsStep {T = T} told by.0 line (begun v0.now by entries) batches a a1 b b1 v0 vr (Err no_step.NoMemory)
+  deck_unplayed batches none some =
+      subst (λ (x : Bool). IsStep {T = T} told by.0 line (begun v0.now by entries) batches a x b b1 v0 vr (Err no_step.NoMemory)) (sym same_a)
+      (subst (λ (y : Bool). IsStep {T = T} told by.0 line (begun v0.now by entries) batches a a b y v0 vr (Err no_step.NoMemory)) (sym same_b)
+      (subst (λ (v : View). IsStep {T = T} told by.0 line (begun v0.now by entries) batches a a b b v0 v (Err no_step.NoMemory)) (sym same)
+      (step_unplayed T told by line entries batches a b v0 none some)))
+
+  module _ (was : List Batch) (place : Batch) (one : was ≡ [] ++ place ∷ []) (es : List Entry) (are : es ≡ entries) (a' b' : Bool) (v1 : View) (given : told → Apart vr v1) (batches : List Batch) (placed : Bool) (current : Option Batch) where
+    from_here : (stopped : Bool) → PairActed by.0 a1 a' b1 b' stopped vr v1 → PairActed by.0 a a' b b' stopped v0 v1
+    from_here stopped acted =
+        subst (λ (x : Bool). PairActed by.0 x a' b b' stopped v0 v1) same_a
+        (subst (λ (y : Bool). PairActed by.0 a1 a' y b' stopped v0 v1) same_b
+        (subst (λ (v : View). PairActed by.0 a1 a' b1 b' stopped v v1) same acted))
+
+    apart_here : told → Apart v0 v1
+    apart_here t = subst (λ (v : View). Apart v v1) same (given t)
+
+    batch_is : begun vr.now by es ≡ begun v0.now by entries
+    batch_is = ap (λ (v : View). begun v.now by es) same ∙ ap (λ (l : List Entry). begun v0.now by l) are
+
+    flying_here : batches ≡ was → current ≡ Some (begun vr.now by es) → end_of placed current batches ≡ begun v0.now by entries ∷ []
+    flying_here is flies = flying_out was batches place (begun vr.now by es) placed current one is flies ∙ ap (λ (x : Batch). x ∷ []) batch_is
+
+    kept_here : batches ≡ with_last (fated Kept v1.now (begun vr.now by es)) was → placed ≡ false → current ≡ None → end_of placed current batches ≡ fated Kept v1.now (begun v0.now by entries) ∷ []
+    kept_here is unplaced none = kept_out was batches place (fated Kept v1.now (begun vr.now by es)) placed current one is unplaced none ∙ ap (λ (x : Batch). fated Kept v1.now x ∷ []) batch_is
+
+    pub deck_lost : PairActed by.0 a1 a' b1 b' false vr v1 → IsBothLost a' b' → batches ≡ was → current ≡ Some (begun vr.now by es)
+        → IsStep {T = T} told by.0 line (begun v0.now by entries) (end_of placed current batches) a a' b b' v0 v1 (Err no_step.Lost)
+    deck_lost acted both is flies = step_lost T told by line entries (end_of placed current batches) a b v0 a' b' v1 apart_here (from_here false acted) both (flying_here is flies)
+
+    pub deck_stopped : PairActed by.0 a1 a' b1 b' true vr v1 → batches ≡ was → current ≡ Some (begun vr.now by es)
+        → IsStep {T = T} told by.0 line (begun v0.now by entries) (end_of placed current batches) a a' b b' v0 v1 (Err no_step.Stopped)
+    deck_stopped acted is flies = step_stopped T told by line entries (end_of placed current batches) a b v0 a' b' v1 apart_here (from_here true acted) (flying_here is flies)
+
+    module _ (acted : PairActed by.0 a1 a' b1 b' false vr v1) (some : SomeAlive a' b') (kept : batches ≡ with_last (fated Kept v1.now (begun vr.now by es)) was) (unplaced : placed ≡ false) (none : current ≡ None) (v2 : View)
+        (text : List ℕ) (spelled : text ≡ line) where
+      said_here : (said : Act) → (told → Says text v1 v2 said) → told → Says line v1 v2 said
+      said_here said says t = subst (λ (l : List ℕ). Says l v1 v2 said) spelled (says t)
+
+      pub deck_done : (done : T) → Acts by.0 Console v1 v2 Done → (told → Says text v1 v2 Done) → IsStep told by.0 line (begun v0.now by entries) (end_of placed current batches) a a' b b' v0 v2 (Ok done)
+      deck_done done act says = step_done T told by line entries (end_of placed current batches) a b v0 a' b' v1 apart_here (from_here false acted) some (kept_here kept unplaced none) v2 done act (said_here Done says)
+
+      pub deck_unsaid : Acts by.0 Console v1 v2 Failed → (told → Says text v1 v2 Failed) → IsStep {T = T} told by.0 line (begun v0.now by entries) (end_of placed current batches) a a' b b' v0 v2 (Err no_step.Unsaid)
+      deck_unsaid act says = step_unsaid T told by line entries (end_of placed current batches) a b v0 a' b' v1 apart_here (from_here false acted) some (kept_here kept unplaced none) v2 act (said_here Failed says)
+
+      pub deck_broken : Acts by.0 Console v1 v2 Halted → (told → Says text v1 v2 Halted) → IsStep {T = T} told by.0 line (begun v0.now by entries) (end_of placed current batches) a a' b b' v0 v2 (Err no_step.Stopped)
+      deck_broken act says = step_broken T told by line entries (end_of placed current batches) a b v0 a' b' v1 apart_here (from_here false acted) some (kept_here kept unplaced none) v2 act (said_here Halted says)

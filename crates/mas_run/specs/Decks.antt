@@ -11,7 +11,7 @@ use Rattle.mas_types.specs.declared.answers.Closing.TheVariants as closing
 use Rattle.mas_types.specs.declared.queues.Queue.{Queue}
 use Rattle.mas_types.specs.Number.{next_number}
 use Rattle.mas_types.specs.Closings.{closing_line}
-use Rattle.mas_run.specs.Unspooled.{step}
+use Rattle.mas_complex.specs.Meaning.{step}
 
 -- the first member, whose deck it is
 abbrev pub sysa : MemberId

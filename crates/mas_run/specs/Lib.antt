@@ -1,13 +1,11 @@
 pub mod Words
 pub mod Refusals
-pub mod Unspooled
 pub mod Decks
 pub mod Standing
 pub mod Crash
 pub mod Told
 pub mod Runs
 pub mod Statuses
-pub mod Batches
 pub mod OneJob
 pub mod Drawn
 pub mod Stops

@@ -1,6 +1,7 @@
 -- What is refused before anything is played.
-use Rattle.std.specs.Prelude.{◌≡◌, ◌⊎◌, ℕ, ◌≤◌, nat_lt, Bool, true, false, not, if◌then◌else◌, List, [], ◌∷◌, length, Option, Some, None, Result, Ok, Err}
-use Rattle.mas_types.specs.declared.ids.Dev.TheVariants.{Ckpt1}
+use Rattle.std.specs.Prelude.{◌≡◌, ◌⊎◌, ℕ, ◌≤◌, ◌<◌, nat_lt, Bool, true, false, not, if◌then◌else◌, List, [], ◌∷◌, length, Option, Some, None, Result, Ok, Err}
+use Rattle.mas_types.specs.declared.ids.Dev.{Dev}
+use Rattle.mas_types.specs.declared.ids.Dev.TheVariants.{Ckpt1, Ckpt2, Spool}
 use Rattle.mas_types.specs.declared.jobs.JobFields.{JobFields}
 use Rattle.mas_types.specs.declared.answers.Status.{Status}
 use Rattle.mas_types.specs.declared.answers.Status.TheVariants as status
@@ -28,14 +29,25 @@ abbrev pub refused_line : Result (Option JobFields) BadLine → Option Status
 refused_line (Ok asked) = None
 refused_line (Err bad) = Some (status.BadLine bad.line bad.cause)
 
--- the first that applies to the words, the script and the size of CKPT1
-abbrev pub refusal_before_play : List (List ℕ) → List ℕ → ℕ → Option Status
-refusal_before_play words script size = first_some (
+-- the first checkpoint device that is too small
+abbrev pub refused_devices : ℕ → ℕ → List (Option Status)
+refused_devices size1 size2 =
+    refused_where (nat_lt size1 bytes_needed) (status.DeviceSize Ckpt1 size1)
+    ∷ refused_where (nat_lt size2 bytes_needed) (status.DeviceSize Ckpt2 size2) ∷ []
+
+-- the first that applies to the words, the script and the sizes of CKPT1 and CKPT2
+abbrev pub refusal_before_play : List (List ℕ) → List ℕ → ℕ → ℕ → Option Status
+refusal_before_play words script size1 size2 = first_some (
     refused_where (not (are_words words)) status.Words
     ∷ refused_where (nat_lt script_bytes (length script)) status.TooLong
     ∷ refused_line (said_by script)
-    ∷ refused_where (nat_lt size bytes_needed) (status.DeviceSize Ckpt1 size)
-    ∷ [])
+    ∷ refused_devices size1 size2)
+
+-- the first device that is too small, with its size
+abbrev pub IsSmall : Dev → ℕ → ℕ → ℕ → Type 0
+IsSmall Ckpt1 size size1 size2 = (size ≡ size1) × (size < bytes_needed)
+IsSmall Ckpt2 size size1 size2 = (size ≡ size2) × (size < bytes_needed) × (bytes_needed ≤ size1)
+IsSmall (Spool n) size size1 size2 = ⊥
 
 -- the status says what the words, the script or a device lack
 abbrev pub is_refusal : Status → Bool

@@ -8,14 +8,15 @@ use Rattle.mas_types.specs.declared.answers.Status.{Status}
 use Rattle.mas_types.specs.declared.answers.Status.TheVariants as status
 use Rattle.mas_types.specs.declared.queues.Queue.{Queue}
 use Rattle.mas_types.specs.Starts.{default_config, empty_queue, no_queue}
-use Rattle.mas_types.specs.declared.ids.Dev.TheVariants.{Ckpt1}
+use Rattle.mas_types.specs.declared.ids.Dev.TheVariants.{Ckpt1, Ckpt2}
 use Rattle.spool_disk.specs.declared.plant.Part.TheVariants.{Disk}
 use Rattle.spool_disk.specs.View.{View, Line}
 use Rattle.spool_disk.specs.Acts.{Rose, top}
 use Rattle.ckpt_copy.specs.Areas.{reads}
 use Rattle.mas_run.specs.Decks.{sysa, deck_entries, output}
-use Rattle.mas_run.specs.Told.{whole, torn, console_now, AreToldKept}
-use Rattle.mas_run.specs.Crash.{IsCrashSafe, IsFresh}
+use Rattle.mas_complex.specs.Headline.{whole, IsCrashSafe, AreToldKept}
+use Rattle.mas_run.specs.Told.{torn, console_now}
+use Rattle.mas_run.specs.Crash.{IsFresh}
 
 -- a run has begun where its first queue has members
 abbrev pub has_begun : Queue → Bool
@@ -80,10 +81,10 @@ IsStopped old new = Rose (old.stops sysa.0) (new.stops sysa.0)
 -- A run that has begun, over what was asked of it, on a plant that showed `old` before and `new` after it. What it says
 -- of contents is said of a plant that tells.
 pub record IsRun (tells : Type 0) (asked : Option JobFields) (answer : Status) (base : Queue) (journal : Journal) (since : ℕ) (old new : View) : Type 0 where
-  -- it began with the empty queue, which CKPT1 had then, and nothing was said before
+  -- it began with the empty queue, which the copies had then, and nothing was said before
   pub queue : base ≡ empty_queue default_config []
   pub moment : (old.now ≤ since) × (since ≤ new.now)
-  pub fresh : tells → IsFresh reads base since Ckpt1 new
+  pub fresh : tells → ∥ IsFresh reads base since new ∥₁
   pub quiet : tells → (new.world since).console ≡ console_now old
   -- its journal is that of the script
   pub history : IsHistory base asked since new.now journal
@@ -93,7 +94,8 @@ pub record IsRun (tells : Type 0) (asked : Option JobFields) (answer : Status) (
   -- its lines are those of its steps
   pub said : tells → Adds (output base asked) (console_now old) (console_now new) (AreKept asked journal) (IsStopped old new)
   pub closed : tells → answer ≡ status.Done → (console_now new ≡ console_now old ++ map whole (output base asked)) ⊎ IsStopped old new
-  -- at each moment a crash leaves the queue after what was kept, and what is told is kept
-  pub crash : tells → IsCrashSafe reads base journal since Ckpt1 new
-  pub told : tells → AreToldKept journal (console_now old) since new
-  pub there : answer ≢ status.BothLost → new.lost (Disk Ckpt1) ≡ false
+  -- at each moment a crash leaves the queue after what was kept, and what is told is kept; a copy is left but where
+  -- both are lost
+  pub crash : tells → ∥ IsCrashSafe reads base journal since new ∥₁
+  pub told : tells → AreToldKept journal since new
+  pub there : answer ≢ status.BothLost → (new.lost (Disk Ckpt1) ≡ false) ⊎ (new.lost (Disk Ckpt2) ≡ false)

@@ -1,6 +1,6 @@
 -- Why a run ends.
 use Rattle.std.specs.Prelude.{◌≡◌, ℕ, Bool, true, false, Result, Ok, Err}
-use Rattle.mas_types.specs.declared.ids.Dev.TheVariants.{Ckpt1}
+use Rattle.mas_types.specs.declared.ids.Dev.TheVariants.{Ckpt1, Ckpt2}
 use Rattle.mas_types.specs.declared.answers.Status.{Status}
 use Rattle.mas_types.specs.declared.answers.Status.TheVariants as status
 use Rattle.spool_disk.specs.declared.plant.Part.TheVariants.{Disk, Console}
@@ -9,17 +9,17 @@ use Rattle.spool_disk.specs.Acts.{Rose}
 use Rattle.mas_run.specs.declared.running.StepNo.{StepNo}
 use Rattle.mas_run.specs.declared.running.StepNo.TheVariants as no_step
 
--- A part is named only where its faults rose, and both copies only where they are lost. CKPT2 counts as lost
--- from the start.
+-- A part is named only where its faults rose, and both copies only where both are lost.
 pub record IsCaused (answer : Status) (old new : View) : Type 0 where
-  pub lost : answer ≡ status.BothLost → new.lost (Disk Ckpt1) ≡ true
-  pub failed : answer ≡ status.BothLost → Rose (old.faults (Disk Ckpt1)) (new.faults (Disk Ckpt1))
+  pub lost : answer ≡ status.BothLost → (new.lost (Disk Ckpt1) ≡ true) × (new.lost (Disk Ckpt2) ≡ true)
+  pub failed1 : answer ≡ status.BothLost → Rose (old.faults (Disk Ckpt1)) (new.faults (Disk Ckpt1))
+  pub failed2 : answer ≡ status.BothLost → Rose (old.faults (Disk Ckpt2)) (new.faults (Disk Ckpt2))
   pub console : answer ≡ status.ConsoleFault → Rose (old.faults Console) (new.faults Console)
 
--- no fault of the source, of CKPT1 or of the console rose
+-- no fault of the source or of the console rose, and not those of both copies
 pub record IsStill (before after : ℕ) (old new : View) : Type 0 where
   pub source : Rose before after → ⊥
-  pub disk : Rose (old.faults (Disk Ckpt1)) (new.faults (Disk Ckpt1)) → ⊥
+  pub disks : Rose (old.faults (Disk Ckpt1)) (new.faults (Disk Ckpt1)) → Rose (old.faults (Disk Ckpt2)) (new.faults (Disk Ckpt2)) → ⊥
   pub console : Rose (old.faults Console) (new.faults Console) → ⊥
 
 -- the status of a run that has begun and ended with this answer of its step
@@ -37,3 +37,10 @@ is_of_play status.BothLost = true
 is_of_play status.ConsoleFault = true
 is_of_play status.NoMemory = true
 is_of_play _ = false
+
+-- the same over a part of a run, where these copies counted as alive before it
+pub record IsCausedFrom (one two : Bool) (answer : Status) (old new : View) : Type 0 where
+  pub lost : answer ≡ status.BothLost → (new.lost (Disk Ckpt1) ≡ true) × (new.lost (Disk Ckpt2) ≡ true)
+  pub failed1 : answer ≡ status.BothLost → one ≡ true → Rose (old.faults (Disk Ckpt1)) (new.faults (Disk Ckpt1))
+  pub failed2 : answer ≡ status.BothLost → two ≡ true → Rose (old.faults (Disk Ckpt2)) (new.faults (Disk Ckpt2))
+  pub console : answer ≡ status.ConsoleFault → Rose (old.faults Console) (new.faults Console)

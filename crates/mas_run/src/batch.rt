@@ -1,96 +1,134 @@
-//! A batch: begun in the journal, written to a copy, and kept.
-ghost use Rattle.std.specs.Prelude.{◌≡◌, ℕ, ◌≤◌, [], ◌∷◌, ◌++◌, List, length, OnOk, OnErr};
+//! A batch, written to both copies and kept.
+ghost use Rattle.std.specs.Prelude.{◌≡◌, ◌+◌, ◌≤◌, ◌<◌, ◌++◌, ℕ, List, None, Some, Option, length, true, false, OnOk, OnErr, IsErrOf, IsSome};
+ghost use Rattle.mas_types.specs.declared.ids.Dev.TheVariants.{Ckpt1, Ckpt2};
+ghost use Rattle.mas_types.specs.declared.journals.Batch.{Batch};
+ghost use Rattle.mas_types.specs.declared.journals.Fate.TheVariants.{Kept};
 ghost use Rattle.spool_disk.specs.View.{disk_now};
-ghost use Rattle.ckpt_copy.specs.Pages.{bytes_of, ArePages};
-ghost use Rattle.ckpt_copy.specs.Causes.{Caused, answer_of};
-ghost use Rattle.ckpt_copy.specs.Reading.{EachReads};
-ghost use Rattle.ckpt_copy.specs.Meanwhile.{Meanwhile};
-ghost use Rattle.mas_run.specs.Batches.{begun, with_last_kept, Follow};
+ghost use Rattle.spool_disk.specs.Acts.{top};
+ghost use Rattle.ckpt_copy.specs.Pages.{bytes_of, level, ArePages, Covers};
+ghost use Rattle.duplex_pair.specs.declared.errors.PairNo.TheVariants.{BothLost as PairNoBothLost};
+ghost use Rattle.duplex_pair.specs.Halves.{IsBothLost, SomeAlive};
+ghost use Rattle.duplex_pair.specs.Both.{PairActed};
+ghost use Rattle.duplex_pair.specs.Outcomes.{pair_stopped};
+ghost use Rattle.mas_complex.specs.declared.places.Place.TheVariants.{Before as AtBefore, Put as AtPut};
+ghost use Rattle.mas_complex.specs.Crash.{IsUntold, setting};
+ghost use Rattle.mas_complex.specs.Journals.{begun, entries_reserved, fated, kept_all, with_last};
+ghost use Rattle.mas_complex.specs.Meaning.{StandFor, run};
+ghost use Rattle.mas_run.specs.Stops.{Apart};
 
-use ckpt_copy::{CopyNo, Copying};
-use mas_types::{Batch, Entry, Fate, Journal, List, MemberId, NoMemory, Page};
+use duplex_pair::PairNo;
+use mas_complex::{Complex, Steady};
+use mas_types::{Dev, MemberId, Page};
 use spool_disk::Plant;
 
-/// Begins a batch: it is in flight from this moment on.
-pub(crate) fn begin_batch(
-    journal: &mut Journal,
-    first: u64,
+// The reserved batch begins, and its pages stand behind the closed gates of both copies.
+fn log_both<P: Plant + Drop, C: Steady + Drop>(
+    complex: &mut Complex<P, C>,
     by: MemberId,
-    entries: List<Entry>,
-) -> Result<(), NoMemory>
-    ensures ok { OnOk result (journal.new.batches ≡ journal.old.batches ++ begun first by entries ∷ []) }
-    ensures err { OnErr result (journal.new ≡ journal.old) }
+    pages: &[Page],
+    changed: &[u16],
+) -> Result<(), PairNo>
+    requires none { complex.old.current ≡ None }
+    requires reserved { IsSome complex.old.reserved }
+    requires first { complex.old.pair.first.alive ≡ true → complex.old.first ≡ AtBefore }
+    requires second { complex.old.pair.second.alive ≡ true → complex.old.second ≡ AtBefore }
+    requires room1 { complex.old.pair.first.alive ≡ true → 1 ≤ C.room complex.old.pair.first.copy }
+    requires room2 { complex.old.pair.second.alive ≡ true → 1 ≤ C.room complex.old.pair.second.copy }
+    requires as_many1 { complex.old.pair.first.alive ≡ true → length pages.now ≡ C.count complex.old.pair.first.copy }
+    requires as_many2 { complex.old.pair.second.alive ≡ true → length pages.now ≡ C.count complex.old.pair.second.copy }
+    requires changed1 { complex.old.pair.first.alive ≡ true → ArePages (C.count complex.old.pair.first.copy) changed.now }
+    requires changed2 { complex.old.pair.second.alive ≡ true → ArePages (C.count complex.old.pair.second.copy) changed.now }
+    requires covered1 { P.tells → complex.old.pair.first.alive ≡ true → (was : List ℕ) → C.reads (disk_now (P.view complex.old.plant) Ckpt1).bytes ≡ Some was → Covers (C.count complex.old.pair.first.copy) changed.now was (bytes_of pages.now) }
+    requires covered2 { P.tells → complex.old.pair.second.alive ≡ true → (was : List ℕ) → C.reads (disk_now (P.view complex.old.plant) Ckpt2).bytes ≡ Some was → Covers (C.count complex.old.pair.second.copy) changed.now was (bytes_of pages.now) }
+    requires level { P.tells → level (bytes_of pages.now) ≡ complex.old.level + 1 }
+    requires untold { P.tells → IsUntold (setting C.reads complex.old.base complex.old.since) (P.view complex.old.plant) (entries_reserved complex.old.reserved) }
+    requires queue { P.tells → ∥ StandFor (run complex.old.base (kept_all complex.old.journal.batches ++ entries_reserved complex.old.reserved)) (bytes_of pages.now) ∥₁ }
+    ensures base { complex.new.base ≡ complex.old.base }
+    ensures since { complex.new.since ≡ complex.old.since }
+    ensures journal { complex.new.journal ≡ complex.old.journal }
+    ensures placed { complex.new.placed ≡ complex.old.placed }
+    ensures level { complex.new.level ≡ complex.old.level }
+    ensures flying { complex.new.current ≡ Some (begun (P.view complex.old.plant).now by (entries_reserved complex.old.reserved)) }
+    ensures places { OnOk result ((complex.new.first ≡ AtPut) × (complex.new.second ≡ AtPut)) }
+    ensures room1 { C.room complex.new.pair.first.copy ≡ C.room complex.old.pair.first.copy }
+    ensures room2 { C.room complex.new.pair.second.copy ≡ C.room complex.old.pair.second.copy }
+    ensures acted { PairActed by.0 complex.old.pair.first.alive complex.new.pair.first.alive complex.old.pair.second.alive complex.new.pair.second.alive (pair_stopped result) (P.view complex.old.plant) (P.view complex.new.plant) }
+    ensures apart { P.tells → Apart (P.view complex.old.plant) (P.view complex.new.plant) }
+    ensures both { IsErrOf result PairNoBothLost → IsBothLost complex.new.pair.first.alive complex.new.pair.second.alive }
+    ensures ok { OnOk result (SomeAlive complex.new.pair.first.alive complex.new.pair.second.alive) }
 {
-    journal.batches.push(Batch {
-        first,
-        last: u64::MAX,
-        by,
-        fate: Fate::Flying,
-        entries,
-    })
+    complex.log(by, Dev::Ckpt1, pages, changed)?;
+    complex.log(by, Dev::Ckpt2, pages, changed)
 }
 
-// The last batch is kept, and was in flight until this moment.
-fn keep_last(journal: &mut Journal, last: u64)
-    ensures { journal.new.batches ≡ with_last_kept last journal.old.batches }
+// Opens the gates of both copies. The batch is kept once they are open: the first call keeps it where the other copy
+// counts as lost.
+fn open_both<P: Plant + Drop, C: Steady + Drop>(
+    complex: &mut Complex<P, C>,
+    by: MemberId,
+) -> Result<(), PairNo>
+    requires current { IsSome complex.old.current }
+    requires first { complex.old.pair.first.alive ≡ true → complex.old.first ≡ AtPut }
+    requires second { complex.old.pair.second.alive ≡ true → complex.old.second ≡ AtPut }
+    requires room1 { complex.old.pair.first.alive ≡ true → 1 ≤ C.room complex.old.pair.first.copy }
+    requires room2 { complex.old.pair.second.alive ≡ true → 1 ≤ C.room complex.old.pair.second.copy }
+    requires level { complex.old.level < top }
+    ensures base { complex.new.base ≡ complex.old.base }
+    ensures since { complex.new.since ≡ complex.old.since }
+    ensures kept { OnOk result ((b : Batch) → complex.old.current ≡ Some b → complex.new.journal.batches ≡ with_last (fated Kept (P.view complex.new.plant).now b) complex.old.journal.batches) }
+    ensures unplaced { OnOk result (complex.new.placed ≡ false) }
+    ensures none { OnOk result (complex.new.current ≡ None) }
+    ensures journal { OnErr result (complex.new.journal ≡ complex.old.journal) }
+    ensures placed { OnErr result (complex.new.placed ≡ complex.old.placed) }
+    ensures flying { OnErr result (complex.new.current ≡ complex.old.current) }
+    ensures acted { PairActed by.0 complex.old.pair.first.alive complex.new.pair.first.alive complex.old.pair.second.alive complex.new.pair.second.alive (pair_stopped result) (P.view complex.old.plant) (P.view complex.new.plant) }
+    ensures apart { P.tells → Apart (P.view complex.old.plant) (P.view complex.new.plant) }
+    ensures both { IsErrOf result PairNoBothLost → IsBothLost complex.new.pair.first.alive complex.new.pair.second.alive }
+    ensures ok { OnOk result (SomeAlive complex.new.pair.first.alive complex.new.pair.second.alive) }
 {
-    if let Some(batch) = journal.batches.as_mut_slice().last_mut() {
-        batch.fate = Fate::Kept;
-        batch.last = last;
+    complex.open_copy(by, Dev::Ckpt1)?;
+    if !complex.pair.second.alive {
+        return Ok(());
     }
+    complex.open_copy(by, Dev::Ckpt2)
 }
 
-// Each image reads as the old or the new pages, and after Ok as the new.
-fn write_batch<P: Plant, C: Copying>(
-    plant: &mut P,
-    copy: &mut C,
+/// Writes the pages of the reserved batch to both copies, and keeps it once their gates are open.
+pub(crate) fn commit<P: Plant + Drop, C: Steady + Drop>(
+    complex: &mut Complex<P, C>,
     by: MemberId,
     pages: &[Page],
     changed: &[u16],
-) -> Result<(), CopyNo>
-    requires ready { C.ready copy.old (P.view plant.old) }
-    requires as_many { length pages.now ≡ C.count copy.old }
-    requires room { 1 ≤ C.room copy.old }
-    requires changed { ArePages (C.count copy.old) changed.now }
-    ensures dev { C.dev copy.new ≡ C.dev copy.old }
-    ensures ready { C.ready copy.new (P.view plant.new) }
-    ensures count { C.count copy.new ≡ C.count copy.old }
-    ensures cause { Caused by.0 (C.dev copy.old) (P.view plant.old) (P.view plant.new) (answer_of result) }
-    ensures during { P.tells → (was : List ℕ) → C.rests copy.old was (disk_now (P.view plant.old) (C.dev copy.old)) → Follow (C.count copy.old) changed.now was (bytes_of pages.now)
-        → Meanwhile (C.dev copy.old) (EachReads C.reads was (bytes_of pages.now)) (P.view plant.old) (P.view plant.new) }
-    ensures written { OnOk result (P.tells → (was : List ℕ) → C.rests copy.old was (disk_now (P.view plant.old) (C.dev copy.old)) → Follow (C.count copy.old) changed.now was (bytes_of pages.now)
-        → C.rests copy.new (bytes_of pages.now) (disk_now (P.view plant.new) (C.dev copy.old))) }
+) -> Result<(), PairNo>
+    requires none { complex.old.current ≡ None }
+    requires reserved { IsSome complex.old.reserved }
+    requires first { complex.old.pair.first.alive ≡ true → complex.old.first ≡ AtBefore }
+    requires second { complex.old.pair.second.alive ≡ true → complex.old.second ≡ AtBefore }
+    requires room1 { complex.old.pair.first.alive ≡ true → 1 ≤ C.room complex.old.pair.first.copy }
+    requires room2 { complex.old.pair.second.alive ≡ true → 1 ≤ C.room complex.old.pair.second.copy }
+    requires as_many1 { complex.old.pair.first.alive ≡ true → length pages.now ≡ C.count complex.old.pair.first.copy }
+    requires as_many2 { complex.old.pair.second.alive ≡ true → length pages.now ≡ C.count complex.old.pair.second.copy }
+    requires changed1 { complex.old.pair.first.alive ≡ true → ArePages (C.count complex.old.pair.first.copy) changed.now }
+    requires changed2 { complex.old.pair.second.alive ≡ true → ArePages (C.count complex.old.pair.second.copy) changed.now }
+    requires covered1 { P.tells → complex.old.pair.first.alive ≡ true → (was : List ℕ) → C.reads (disk_now (P.view complex.old.plant) Ckpt1).bytes ≡ Some was → Covers (C.count complex.old.pair.first.copy) changed.now was (bytes_of pages.now) }
+    requires covered2 { P.tells → complex.old.pair.second.alive ≡ true → (was : List ℕ) → C.reads (disk_now (P.view complex.old.plant) Ckpt2).bytes ≡ Some was → Covers (C.count complex.old.pair.second.copy) changed.now was (bytes_of pages.now) }
+    requires level { P.tells → level (bytes_of pages.now) ≡ complex.old.level + 1 }
+    requires small { complex.old.level < top }
+    requires untold { P.tells → IsUntold (setting C.reads complex.old.base complex.old.since) (P.view complex.old.plant) (entries_reserved complex.old.reserved) }
+    requires queue { P.tells → ∥ StandFor (run complex.old.base (kept_all complex.old.journal.batches ++ entries_reserved complex.old.reserved)) (bytes_of pages.now) ∥₁ }
+    ensures base { complex.new.base ≡ complex.old.base }
+    ensures since { complex.new.since ≡ complex.old.since }
+    ensures kept { OnOk result (complex.new.journal.batches ≡ with_last (fated Kept (P.view complex.new.plant).now (begun (P.view complex.old.plant).now by (entries_reserved complex.old.reserved))) complex.old.journal.batches) }
+    ensures unplaced { OnOk result (complex.new.placed ≡ false) }
+    ensures none { OnOk result (complex.new.current ≡ None) }
+    ensures journal { OnErr result (complex.new.journal ≡ complex.old.journal) }
+    ensures placed { OnErr result (complex.new.placed ≡ complex.old.placed) }
+    ensures flying { OnErr result (complex.new.current ≡ Some (begun (P.view complex.old.plant).now by (entries_reserved complex.old.reserved))) }
+    ensures acted { PairActed by.0 complex.old.pair.first.alive complex.new.pair.first.alive complex.old.pair.second.alive complex.new.pair.second.alive (pair_stopped result) (P.view complex.old.plant) (P.view complex.new.plant) }
+    ensures apart { P.tells → Apart (P.view complex.old.plant) (P.view complex.new.plant) }
+    ensures both { IsErrOf result PairNoBothLost → IsBothLost complex.new.pair.first.alive complex.new.pair.second.alive }
+    ensures ok { OnOk result (SomeAlive complex.new.pair.first.alive complex.new.pair.second.alive) }
 {
-    copy.put(plant, by, pages, changed)?;
-    copy.open_gate(plant, by)?;
-    Ok(())
-}
-
-/// Writes the pages of the batch that is in flight, and keeps it once their gate is open.
-pub(crate) fn commit<P: Plant, C: Copying>(
-    plant: &mut P,
-    copy: &mut C,
-    journal: &mut Journal,
-    by: MemberId,
-    pages: &[Page],
-    changed: &[u16],
-) -> Result<(), CopyNo>
-    requires ready { C.ready copy.old (P.view plant.old) }
-    requires as_many { length pages.now ≡ C.count copy.old }
-    requires room { 1 ≤ C.room copy.old }
-    requires changed { ArePages (C.count copy.old) changed.now }
-    ensures kept { OnOk result (journal.new.batches ≡ with_last_kept (P.view plant.new).now journal.old.batches) }
-    ensures flying { OnErr result (journal.new ≡ journal.old) }
-    ensures dev { C.dev copy.new ≡ C.dev copy.old }
-    ensures ready { C.ready copy.new (P.view plant.new) }
-    ensures count { C.count copy.new ≡ C.count copy.old }
-    ensures cause { Caused by.0 (C.dev copy.old) (P.view plant.old) (P.view plant.new) (answer_of result) }
-    ensures during { P.tells → (was : List ℕ) → C.rests copy.old was (disk_now (P.view plant.old) (C.dev copy.old)) → Follow (C.count copy.old) changed.now was (bytes_of pages.now)
-        → Meanwhile (C.dev copy.old) (EachReads C.reads was (bytes_of pages.now)) (P.view plant.old) (P.view plant.new) }
-    ensures written { OnOk result (P.tells → (was : List ℕ) → C.rests copy.old was (disk_now (P.view plant.old) (C.dev copy.old)) → Follow (C.count copy.old) changed.now was (bytes_of pages.now)
-        → C.rests copy.new (bytes_of pages.now) (disk_now (P.view plant.new) (C.dev copy.old))) }
-{
-    write_batch(plant, copy, by, pages, changed)?;
-    keep_last(journal, plant.now());
-    Ok(())
+    log_both(complex, by, pages, changed)?;
+    open_both(complex, by)
 }

@@ -3,7 +3,7 @@ ghost use Rattle.std.specs.Prelude.{◌≡◌, ℕ, ◌+◌, ◌≤◌, ◌<◌,
 ghost use Rattle.mas_types.specs.declared.commands.Reply.TheVariants.{Job};
 ghost use Rattle.mas_types.specs.Limits.{members_most};
 ghost use Rattle.ckpt_copy.specs.Pages.{bytes_of, ArePages, Covers};
-ghost use Rattle.mas_run.specs.Unspooled.{run};
+ghost use Rattle.mas_complex.specs.Meaning.{run};
 ghost use Rattle.mas_run.specs.Decks.{deck_entries as deck_entries_lem, deck_line};
 ghost use Rattle.mas_run.specs.Standing.{queue_of};
 ghost use Rattle.mas_run.specs.OneJob.{job_entries, MayEnter};

@@ -1,17 +1,22 @@
 //! A script that is played from an empty queue.
-ghost use Rattle.std.specs.Prelude.{◌≡◌, ◌⊎◌, ◌≤◌, [], true, false, length, IfOk, IfSome, nat_lt};
+ghost use Rattle.std.specs.Prelude.{◌≡◌, ◌⊎◌, ◌≤◌, [], true, false, length, IfOk, IfSome, None, Some};
 ghost use Rattle.mas_types.specs.Starts.{default_config as config_by_default, empty_queue as queue_without_jobs};
 ghost use Rattle.mas_types.specs.Fit.{IsJobFields};
-ghost use Rattle.mas_types.specs.declared.ids.Dev.TheVariants.{Ckpt1};
+ghost use Rattle.mas_types.specs.Lists.{first_some};
+ghost use Rattle.mas_types.specs.declared.ids.Dev.TheVariants.{Ckpt1, Ckpt2};
 ghost use Rattle.mas_types.specs.declared.ids.Dev.{Dev};
 ghost use Rattle.mas_types.specs.declared.answers.CopyState.{CopyState};
 ghost use Rattle.spool_disk.specs.declared.plant.Part.TheVariants.{Disk};
 ghost use Rattle.spool_disk.specs.View.{disk_now};
 ghost use Rattle.spool_disk.specs.Acts.{Goes};
+ghost use Rattle.ckpt_copy.specs.Areas.{reads};
 ghost use Rattle.ckpt_copy.specs.Pages.{bytes_of};
-ghost use Rattle.ckpt_pages.specs.Shape.{page_count as page_count_lem};
 ghost use Rattle.ckpt_pages.specs.Starts.{empty_tables};
-ghost use Rattle.mas_run.specs.Refusals.{bytes_needed, refused_where, Answers};
+ghost use Rattle.duplex_pair.specs.Halves.{SomeAlive};
+ghost use Rattle.mas_complex.specs.declared.places.Place.TheVariants.{Before as AtBefore};
+ghost use Rattle.mas_complex.specs.Headline.{Headline};
+ghost use Rattle.mas_complex.specs.Journals.{end_of};
+ghost use Rattle.mas_run.specs.Refusals.{bytes_needed, refused_devices, Answers};
 ghost use Rattle.mas_run.specs.Standing.{queue_of};
 ghost use Rattle.mas_run.specs.OneJob.{MayEnter};
 ghost use Rattle.mas_run.specs.Drawn.{AreDrawn};
@@ -19,13 +24,15 @@ ghost use Rattle.mas_run.specs.Decks.{sysa};
 ghost use Rattle.mas_run.specs.Told.{console_now};
 ghost use Rattle.mas_run.specs.Crash.{IsOnlyOn};
 ghost use Rattle.mas_run.specs.Runs.{has_begun, Begins, IsUnbegun, IsRun};
-ghost use Rattle.mas_run.specs.Statuses.{IsCaused, status_of as status_of_lem, is_of_play};
+ghost use Rattle.mas_run.specs.Statuses.{IsCaused, IsCausedFrom, status_of as status_of_lem, is_of_play};
 
 use crate::checkpoint::{Checkpoint, blank};
 use crate::ended::Ended;
 use crate::running::{Running, StepNo};
 use ckpt_copy::{AreaCopy, Copying};
 use ckpt_pages::page_count;
+use duplex_pair::Pair;
+use mas_complex::Complex;
 use mas_types::{
     Dev, JobFields, Journal, List, MemberId, NoMemory, Queue, Status, default_config, empty_queue,
     no_queue,
@@ -33,7 +40,7 @@ use mas_types::{
 use spool_disk::Plant;
 use std::alloc::Global;
 
-/// The operator, who formats a copy.
+/// The operator, who formats the copies.
 const OPERATOR: MemberId = MemberId(0);
 
 /// The first member, whose decks are played.
@@ -76,30 +83,25 @@ fn status_of(answer: &Result<(), StepNo>) -> Status
 }
 
 // The end of a run that has begun.
-fn ended<P: Plant + Drop>(
-    status: Status,
-    base: Queue,
-    since: u64,
-    run: Running<P, AreaCopy>,
-) -> Ended<P>
+fn ended<P: Plant + Drop>(status: Status, run: Running<P, AreaCopy>) -> Ended<P>
     ensures status { result.status ≡ status }
-    ensures base { result.base ≡ base }
-    ensures since { result.since ≡ since }
-    ensures plant { result.plant ≡ run.plant }
-    ensures journal { result.journal ≡ run.journal }
+    ensures base { result.base ≡ run.complex.base }
+    ensures since { result.since ≡ run.complex.since }
+    ensures plant { result.plant ≡ run.complex.plant }
+    ensures journal { result.journal.batches ≡ end_of run.complex.placed run.complex.current run.complex.journal.batches }
+    ensures headline { P.tells → ∥ Headline reads result.base result.since result.journal (P.view result.plant) ∥₁ }
 {
     let Running {
-        plant,
-        copy: _,
+        complex,
         checkpoint: _,
-        journal,
     } = run;
+    let end = complex.end();
     Ended {
         status,
-        plant,
-        base,
-        since,
-        journal,
+        plant: end.plant,
+        base: end.base,
+        since: end.since,
+        journal: end.journal,
     }
 }
 
@@ -107,36 +109,42 @@ fn ended<P: Plant + Drop>(
 fn play_asked<P: Plant + Drop>(
     alloc: Global,
     asked: Option<JobFields>,
-    base: Queue,
     run: Running<P, AreaCopy>,
 ) -> Ended<P>
-    requires base { base ≡ queue_without_jobs config_by_default [] }
-    requires queue { queue_of run.checkpoint.tables ≡ base }
+    requires base { run.complex.base ≡ queue_without_jobs config_by_default [] }
+    requires queue { queue_of run.checkpoint.tables ≡ run.complex.base }
     requires may { IfSome asked (MayEnter run.checkpoint.tables sysa) }
     requires drawn { AreDrawn run.checkpoint.tables run.checkpoint.level run.checkpoint.levels run.checkpoint.pages }
     requires level { run.checkpoint.level ≡ 1 }
-    requires dev { ⟦<AreaCopy as Copying>⟧.dev run.copy ≡ Ckpt1 }
-    requires ready { ⟦<AreaCopy as Copying>⟧.ready run.copy (P.view run.plant) }
-    requires as_many { length run.checkpoint.pages ≡ ⟦<AreaCopy as Copying>⟧.count run.copy }
-    requires journal { run.journal.batches ≡ [] }
-    requires there { (P.view run.plant).lost (Disk Ckpt1) ≡ false }
-    ensures base { result.base ≡ base }
+    requires same_level { run.complex.level ≡ 1 }
+    requires none { run.complex.current ≡ None }
+    requires unplaced { run.complex.placed ≡ false }
+    requires journal { run.complex.journal.batches ≡ [] }
+    requires since { run.complex.since ≡ (P.view run.complex.plant).now }
+    requires places { (run.complex.first ≡ AtBefore) × (run.complex.second ≡ AtBefore) }
+    requires some { SomeAlive run.complex.pair.first.alive run.complex.pair.second.alive }
+    requires room1 { run.complex.pair.first.alive ≡ true → 1 ≤ ⟦<AreaCopy as Copying>⟧.room run.complex.pair.first.copy }
+    requires room2 { run.complex.pair.second.alive ≡ true → 1 ≤ ⟦<AreaCopy as Copying>⟧.room run.complex.pair.second.copy }
+    requires as_many1 { run.complex.pair.first.alive ≡ true → length run.checkpoint.pages ≡ ⟦<AreaCopy as Copying>⟧.count run.complex.pair.first.copy }
+    requires as_many2 { run.complex.pair.second.alive ≡ true → length run.checkpoint.pages ≡ ⟦<AreaCopy as Copying>⟧.count run.complex.pair.second.copy }
+    requires reads1 { P.tells → run.complex.pair.first.alive ≡ true → reads (disk_now (P.view run.complex.plant) Ckpt1).bytes ≡ Some (bytes_of run.checkpoint.pages) }
+    requires reads2 { P.tells → run.complex.pair.second.alive ≡ true → reads (disk_now (P.view run.complex.plant) Ckpt2).bytes ≡ Some (bytes_of run.checkpoint.pages) }
+    requires there1 { run.complex.pair.first.alive ≡ true → (P.view run.complex.plant).lost (Disk Ckpt1) ≡ false }
+    requires there2 { run.complex.pair.second.alive ≡ true → (P.view run.complex.plant).lost (Disk Ckpt2) ≡ false }
+    ensures base { result.base ≡ run.complex.base }
     ensures kind { is_of_play result.status ≡ true }
-    ensures goes { Goes (P.view run.plant) (P.view result.plant) }
-    ensures loses { (d : Dev) → (P.view result.plant).loses d ≡ (P.view run.plant).loses d }
-    ensures elsewhere { P.tells × ⟦<AreaCopy as Copying>⟧.rests run.copy (bytes_of run.checkpoint.pages) (disk_now (P.view run.plant) Ckpt1)
-        → IsOnlyOn Ckpt1 (P.view run.plant) (P.view result.plant) }
-    ensures cause { IsCaused result.status (P.view run.plant) (P.view result.plant) }
-    ensures run { IsRun (P.tells × ⟦<AreaCopy as Copying>⟧.rests run.copy (bytes_of run.checkpoint.pages) (disk_now (P.view run.plant) Ckpt1))
-        asked result.status result.base result.journal result.since (P.view run.plant) (P.view result.plant) }
+    ensures goes { Goes (P.view run.complex.plant) (P.view result.plant) }
+    ensures loses { (d : Dev) → (P.view result.plant).loses d ≡ (P.view run.complex.plant).loses d }
+    ensures elsewhere { P.tells → IsOnlyOn (P.view run.complex.plant) (P.view result.plant) }
+    ensures cause { IsCausedFrom run.complex.pair.first.alive run.complex.pair.second.alive result.status (P.view run.complex.plant) (P.view result.plant) }
+    ensures run { IsRun P.tells asked result.status result.base result.journal result.since (P.view run.complex.plant) (P.view result.plant) }
 {
     let mut run = run;
-    let since = run.plant.now();
     match asked {
-        None => ended(Status::Done, base, since, run),
+        None => ended(Status::Done, run),
         Some(fields) => {
             let answer = run.play_deck(alloc, SYSA, 1, fields);
-            ended(status_of(&answer), base, since, run)
+            ended(status_of(&answer), run)
         }
     }
 }
@@ -154,14 +162,37 @@ fn start(alloc: Global) -> Result<(Queue, Checkpoint), NoMemory>
     Ok((base, checkpoint))
 }
 
-/// Formats CKPT1 with the empty queue, and plays what the script asks for.
+// The first checkpoint device that is too small for the pages of the default configuration.
+fn refuse_devices<P: Plant>(plant: &P) -> Option<Status>
+    ensures refused { result ≡ first_some (refused_devices ((P.view plant.now).size Ckpt1) ((P.view plant.now).size Ckpt2)) }
+    ensures large { result ≡ None → (bytes_needed ≤ (P.view plant.now).size Ckpt1) × (bytes_needed ≤ (P.view plant.now).size Ckpt2) }
+{
+    let needed = AreaCopy::size_for(page_count(&default_config()));
+    let first = plant.size(Dev::Ckpt1);
+    if first < needed {
+        return Some(Status::DeviceSize {
+            dev: Dev::Ckpt1,
+            size: first,
+        });
+    }
+    let second = plant.size(Dev::Ckpt2);
+    if second < needed {
+        return Some(Status::DeviceSize {
+            dev: Dev::Ckpt2,
+            size: second,
+        });
+    }
+    None
+}
+
+/// Formats both copies with the empty queue, and plays what the script asks for. A copy that fails is left out.
 pub(crate) fn play_script<P: Plant + Drop>(
     alloc: Global,
     asked: Option<JobFields>,
     plant: P,
 ) -> Ended<P>
     requires fits { IfSome asked (λ fields. (fields.node ≡ config_by_default.node) × IsJobFields fields) }
-    ensures refused { Answers (refused_where (nat_lt ((P.view plant).size Ckpt1) bytes_needed) (Status.DeviceSize Ckpt1 ((P.view plant).size Ckpt1))) result.status }
+    ensures refused { Answers (first_some (refused_devices ((P.view plant).size Ckpt1) ((P.view plant).size Ckpt2))) result.status }
     ensures no_source { result.status ≡ Status.SourceFault → ⊥ }
     ensures formatted { (first second : CopyState) → result.status ≡ Status.NotFormatted first second → ⊥ }
     ensures cause { IsCaused result.status (P.view plant) (P.view result.plant) }
@@ -171,36 +202,34 @@ pub(crate) fn play_script<P: Plant + Drop>(
     ensures unsaid { P.tells → has_begun result.base ≡ false → console_now (P.view result.plant) ≡ console_now (P.view plant) }
     ensures goes { Goes (P.view plant) (P.view result.plant) }
     ensures loses { (d : Dev) → (P.view result.plant).loses d ≡ (P.view plant).loses d }
-    ensures elsewhere { P.tells → IsOnlyOn Ckpt1 (P.view plant) (P.view result.plant) }
-    ensures room { has_begun result.base ≡ true → bytes_needed ≤ (P.view plant).size Ckpt1 }
+    ensures elsewhere { P.tells → IsOnlyOn (P.view plant) (P.view result.plant) }
+    ensures room { has_begun result.base ≡ true → (bytes_needed ≤ (P.view plant).size Ckpt1) × (bytes_needed ≤ (P.view plant).size Ckpt2) }
     ensures run { has_begun result.base ≡ true → IsRun P.tells asked result.status result.base result.journal result.since (P.view plant) (P.view result.plant) }
 {
-    let pages = page_count(&default_config());
-    let size = plant.size(Dev::Ckpt1);
-    if size < AreaCopy::size_for(pages) {
-        return unbegun(
-            alloc,
-            Status::DeviceSize {
-                dev: Dev::Ckpt1,
-                size,
-            },
-            plant,
-        );
+    if let Some(status) = refuse_devices(&plant) {
+        return unbegun(alloc, status, plant);
     }
     let Ok((base, checkpoint)) = start(alloc) else {
         return unbegun(alloc, Status::NoMemory, plant);
     };
     let mut plant = plant;
-    let mut copy = AreaCopy::new(Dev::Ckpt1, pages);
+    let pages = page_count(&default_config());
+    let mut pair = Pair::new(
+        AreaCopy::new(Dev::Ckpt1, pages),
+        AreaCopy::new(Dev::Ckpt2, pages),
+    );
     // The operator never halts.
-    let Ok(()) = copy.form(&mut plant, OPERATOR, checkpoint.pages.as_slice()) else {
+    let Ok(()) = pair.form(&mut plant, OPERATOR, checkpoint.pages.as_slice()) else {
         return unbegun(alloc, Status::BothLost, plant);
     };
-    let run = Running {
-        plant,
-        copy,
-        checkpoint,
-        journal: no_journal(alloc),
-    };
-    play_asked(alloc, asked, base, run)
+    let level = checkpoint.level;
+    let complex = Complex::make(alloc, plant, pair, base, level);
+    play_asked(
+        alloc,
+        asked,
+        Running {
+            complex,
+            checkpoint,
+        },
+    )
 }

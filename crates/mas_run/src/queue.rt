@@ -1,7 +1,7 @@
 //! A deck's commands on the tables of a queue. Until commands are played on every queue, these are played on a queue
 //! without jobs.
 ghost use Rattle.std.specs.Prelude.{◌≡◌, ◌+◌, ◌<◌, ◌^◌, ℕ, length};
-ghost use Rattle.mas_run.specs.Unspooled.{run};
+ghost use Rattle.mas_complex.specs.Meaning.{run};
 ghost use Rattle.mas_run.specs.Decks.{deck_entries};
 ghost use Rattle.mas_run.specs.Standing.{queue_of};
 ghost use Rattle.mas_run.specs.OneJob.{MayEnter, with_job, in_convert, number_after, job_entries};

@@ -1,13 +1,13 @@
 //! The top call.
 ghost use Rattle.std.specs.Prelude.{◌≡◌, ◌⊎◌, ◌↔◌, ℕ, ◌≤◌, ◌<◌, map, string_bytes, nat_lt, true, false, [], List, Option, None, Ok, IfOk, IfErr, OnOk, IfSome, IsErrOf};
 ghost use Rattle.mas_types.specs.declared.ids.Dev.{Dev};
-ghost use Rattle.mas_types.specs.declared.ids.Dev.TheVariants.{Ckpt1};
+ghost use Rattle.mas_types.specs.declared.ids.Dev.TheVariants.{Ckpt1, Ckpt2};
 ghost use Rattle.mas_types.specs.declared.jobs.JobFields.{JobFields};
 ghost use Rattle.mas_types.specs.Starts.{default_config as config_by_default};
 ghost use Rattle.mas_types.specs.Fit.{IsJobFields};
 ghost use Rattle.spool_disk.specs.Acts.{Goes, Rose};
 ghost use Rattle.mas_run.specs.Words.{are_words as are_words_lem};
-ghost use Rattle.mas_run.specs.Refusals.{said_by, refusal_before_play, bytes_needed, Answers, is_of_script, IsAsked};
+ghost use Rattle.mas_run.specs.Refusals.{said_by, refusal_before_play, bytes_needed, Answers, IsSmall, is_of_script, IsAsked};
 ghost use Rattle.mas_run.specs.Runs.{has_begun, Begins, IsUnbegun, IsRun};
 ghost use Rattle.mas_run.specs.Statuses.{IsCaused, IsStill};
 ghost use Rattle.mas_run.specs.Told.{console_now};
@@ -28,8 +28,8 @@ fn read_all<S: Source>(alloc: Global, script: &mut S) -> Result<Option<JobFields
     ensures asked { S.tells → IfOk result (λ asked. IsAsked (S.left script.old) asked) }
     ensures read { S.tells → OnOk result (S.left script.new ≡ []) }
     ensures kind { IfErr result (λ status. is_of_script status ≡ true) }
-    ensures refused { S.tells → IfErr result (λ status. (words : List (List ℕ)) (size : ℕ) → are_words_lem words ≡ true
-        → Answers (refusal_before_play words (S.left script.old) size) status) }
+    ensures refused { S.tells → IfErr result (λ status. (words : List (List ℕ)) (size1 size2 : ℕ) → are_words_lem words ≡ true
+        → Answers (refusal_before_play words (S.left script.old) size1 size2) status) }
     ensures source { IsErrOf result Status.SourceFault → Rose (S.faults script.old) (S.faults script.new) }
 {
     let bytes = match read_source(alloc, script) {
@@ -44,12 +44,12 @@ fn read_all<S: Source>(alloc: Global, script: &mut S) -> Result<Option<JobFields
     }
 }
 
-/// Plays a script from an empty queue on a plant whose CKPT1 is formatted for it.
+/// Plays a script from an empty queue on a plant whose CKPT1 and CKPT2 are formatted for it.
 ///
 /// The words are `play --cold`. The script has no deck, or one deck of a JOB card at SYSA. It is read to its end before
-/// anything is played. Then CKPT1 is formatted with the empty queue of the default configuration, and a deck's job is
-/// entered in one batch; the closing line of its step is said once the batch is kept. CKPT2 is not touched, and counts
-/// as lost.
+/// anything is played. Then both copies are formatted with the empty queue of the default configuration, and a deck's job
+/// is entered in one batch, which is kept once each copy that is left has it; the closing line of its step is said then.
+/// A copy that fails is left out, and the run goes on with the other.
 ///
 /// A stop of the member inside an act ends the run with Done, and no further line is said.
 pub fn calm_top<P: Plant + Drop, S: Source>(
@@ -60,32 +60,32 @@ pub fn calm_top<P: Plant + Drop, S: Source>(
 ) -> Ended<P>
     // What is refused before play, and why else a run ends.
     ensures words { (result.status ≡ Status.Words) ↔ (are_words_lem (map string_bytes words.now) ≡ false) }
-    ensures refused { S.tells → Answers (refusal_before_play (map string_bytes words.now) (S.left script.old) ((P.view plant).size Ckpt1)) result.status }
-    ensures device { (dev : Dev) (size : ℕ) → result.status ≡ Status.DeviceSize dev size → (dev ≡ Ckpt1) × (size ≡ (P.view plant).size Ckpt1) × (size < bytes_needed) }
+    ensures refused { S.tells → Answers (refusal_before_play (map string_bytes words.now) (S.left script.old) ((P.view plant).size Ckpt1) ((P.view plant).size Ckpt2)) result.status }
+    ensures device { (dev : Dev) (size : ℕ) → result.status ≡ Status.DeviceSize dev size → IsSmall dev size ((P.view plant).size Ckpt1) ((P.view plant).size Ckpt2) }
     ensures formatted { (first second : CopyState) → result.status ≡ Status.NotFormatted first second → ⊥ }
     ensures source { result.status ≡ Status.SourceFault → Rose (S.faults script.old) (S.faults script.new) }
     ensures cause { IsCaused result.status (P.view plant) (P.view result.plant) }
     ensures begun { Begins result.status result.base }
 
-    // A run that has not begun leaves all as it was, but where its copy was lost in the formatting.
+    // A run that has not begun leaves all as it was, but where both copies were lost in the formatting.
     ensures unread { result.status ≡ Status.Words → script.new ≡ script.old }
     ensures unbegun { has_begun result.base ≡ false → IsUnbegun result.base result.journal result.since (P.view result.plant).now }
     ensures untouched { has_begun result.base ≡ false → (result.status ≡ Status.BothLost) ⊎ (result.plant ≡ plant) }
     ensures unsaid { P.tells → has_begun result.base ≡ false → console_now (P.view result.plant) ≡ console_now (P.view plant) }
 
-    // Any run acts on CKPT1 and the console alone, and loses no device by itself.
+    // Any run acts on CKPT1, CKPT2 and the console alone, and loses no device by itself.
     ensures goes { Goes (P.view plant) (P.view result.plant) }
     ensures loses { (d : Dev) → (P.view result.plant).loses d ≡ (P.view plant).loses d }
-    ensures elsewhere { P.tells → IsOnlyOn Ckpt1 (P.view plant) (P.view result.plant) }
+    ensures elsewhere { P.tells → IsOnlyOn (P.view plant) (P.view result.plant) }
 
     // A run that has begun plays what its script asks for.
-    ensures room { has_begun result.base ≡ true → bytes_needed ≤ (P.view plant).size Ckpt1 }
+    ensures room { has_begun result.base ≡ true → (bytes_needed ≤ (P.view plant).size Ckpt1) × (bytes_needed ≤ (P.view plant).size Ckpt2) }
     ensures read { S.tells → has_begun result.base ≡ true → S.left script.new ≡ [] }
     ensures run { has_begun result.base ≡ true → ((asked : Option JobFields) × (S.tells → said_by (S.left script.old) ≡ Ok asked)
         × IsRun P.tells asked result.status result.base result.journal result.since (P.view plant) (P.view result.plant)) }
 
     // What nothing hinders is played to its end.
-    ensures complete { S.tells → refusal_before_play (map string_bytes words.now) (S.left script.old) ((P.view plant).size Ckpt1) ≡ None
+    ensures complete { S.tells → refusal_before_play (map string_bytes words.now) (S.left script.old) ((P.view plant).size Ckpt1) ((P.view plant).size Ckpt2) ≡ None
         → IsStill (S.faults script.old) (S.faults script.new) (P.view plant) (P.view result.plant)
         → (result.status ≡ Status.Done) ⊎ (result.status ≡ Status.NoMemory) }
 {

@@ -1,51 +1,48 @@
-use Rattle.std.proofs.Common.{subst}
-use Rattle.mas_types.specs.declared.queues.Queue.{Queue}
-use Rattle.spool_disk.specs.View.{disk_now, Disk}
-use Rattle.ckpt_copy.specs.AreaStates.{Rests}
-use Rattle.ckpt_copy.specs.Images.{area_rests_reads}
-use Rattle.ckpt_copy.specs.Pages.{bytes_of}
-use Rattle.mas_types.specs.declared.ids.Dev.TheVariants.{Ckpt1}
-use Rattle.mas_run.specs.Standing.{queue_of, StandFor}
-use Rattle.mas_run.proofs.DrawnLemmas.{drawn_stand}
-use Rattle.mas_run.proofs.RunLemmas.{run_of_step, run_of_none, step_here}
+use Rattle.std.proofs.Common.{◌∙◌, ℕ, subst}
+use Rattle.std.proofs.Math.Logic.{∥∥₁_map}
+use Rattle.ckpt_copy.specs.Areas.{reads}
+use Rattle.ckpt_copy.specs.Moments.{goes_none}
+use Rattle.mas_complex.specs.Headline.{Headline}
+use Rattle.mas_complex.specs.Journals.{begun, end_of}
+use Rattle.mas_run.specs.Crash.{IsFresh}
+use Rattle.mas_run.specs.Decks.{sysa, deck_entries, deck_line}
+use Rattle.mas_run.proofs.WriteLemmas.{none_out}
+use Rattle.mas_run.proofs.RunLemmas.{fresh_of, run_of_step, run_of_none, step_out}
 use Rattle.mas_run.proofs.play.play_asked.Goals as goal
 
 pub returns-in-None-clause-run : goal.returns-in-None-clause-run
 returns-in-None-clause-run g c =
     let P = g.P.Plant in
-    let r = c.args.run in
-    let k = r.checkpoint in
+    let x = c.args.run.complex in
+    let v = P.view x.plant in
     let e = c.ended.ensures in
-    let told = P.tells × Rests r.copy.pages r.copy.second r.copy.stale (bytes_of k.pages) (disk_now (P.view r.plant) Ckpt1) in
-    let stand : StandFor c.args.base (bytes_of k.pages) = subst (λ (Q : Queue). StandFor Q (bytes_of k.pages)) c.requires.queue (drawn_stand k.tables k.level k.levels k.pages c.requires.drawn) in
-    rw (c.in-None.is, e.status, e.base, e.since, e.plant, e.journal, c.now-since.ensures)
-    (run_of_none told c.args.base c.requires.base r.journal c.requires.journal (P.view r.plant) (bytes_of k.pages) stand
-    (λ t. area_rests_reads r.copy.pages r.copy.second r.copy.stale (bytes_of k.pages) (disk_now (P.view r.plant) Ckpt1) t.1) c.requires.there)
+    let J = c.ended.result.journal in
+    let fresh : P.tells → ∥ IsFresh reads x.base v.now v ∥₁ = λ t. subst (λ (m : ℕ). ∥ IsFresh reads x.base m v ∥₁) c.requires.since
+    (∥∥₁_map (x.kept t) (λ k. fresh_of x.base x.since x.level _ _ v v x.journal.batches x.current c.requires.journal c.requires.none k (goes_none v))) in
+    let head : P.tells → ∥ Headline reads x.base v.now J v ∥₁ = λ t. rw (e.base, e.since, e.plant, c.requires.since) at (e.headline t) in
+    rw (c.in-None.is, e.status, e.base, e.since, e.plant, c.requires.since)
+    (run_of_none P.tells x.base c.requires.base J (e.journal ∙ none_out x.journal.batches x.placed x.current c.requires.journal c.requires.unplaced c.requires.none) v x.pair.first.alive x.pair.second.alive fresh head c.requires.some c.requires.there1 c.requires.there2)
 
 pub returns-in-Some-clause-run : goal.returns-in-Some-clause-run
 returns-in-Some-clause-run g c =
     let P = g.P.Plant in
-    let r = c.args.run in
-    let k = r.checkpoint in
-    let n = c.play_deck-answer.new.self in
+    let x = c.args.run.complex in
+    let y = c.play_deck-answer.new.self.complex in
+    let v = P.view x.plant in
+    let w = P.view y.plant in
     let e = c.ended-in-Some.ensures in
-    let told = P.tells × Rests r.copy.pages r.copy.second r.copy.stale (bytes_of k.pages) (disk_now (P.view r.plant) Ckpt1) in
-    let stand : StandFor c.args.base (bytes_of k.pages) = subst (λ (Q : Queue). StandFor Q (bytes_of k.pages)) c.requires.queue (drawn_stand k.tables k.level k.levels k.pages c.requires.drawn) in
-    let step = step_here P.tells (λ (d : Disk). Rests r.copy.pages r.copy.second r.copy.stale (bytes_of k.pages) d) (queue_of k.tables) c.args.base r.copy.dev c.in-Some.fields r.journal.batches n.journal.batches
-    (P.view r.plant) (P.view n.plant) c.play_deck-answer.result c.requires.queue c.requires.dev c.requires.journal c.play_deck-answer.ensures.step in
-    rw (c.in-Some.is, e.status, c.status_of.ensures, e.base, e.since, e.plant, e.journal, c.now-since.ensures)
-    (run_of_step told c.in-Some.fields c.args.base c.requires.base n.journal (P.view r.plant) (P.view n.plant) (bytes_of k.pages) stand
-    (λ t. area_rests_reads r.copy.pages r.copy.second r.copy.stale (bytes_of k.pages) (disk_now (P.view r.plant) Ckpt1) t.1) c.requires.there c.play_deck-answer.result step)
+    let d = c.play_deck-answer.ensures in
+    let J = c.ended-in-Some.result.journal in
+    let fresh : P.tells → ∥ IsFresh reads x.base v.now w ∥₁ = λ t. subst (λ (m : ℕ). ∥ IsFresh reads x.base m w ∥₁) c.requires.since
+    (∥∥₁_map (x.kept t) (λ k. fresh_of x.base x.since x.level _ _ v w x.journal.batches x.current c.requires.journal c.requires.none k d.step.course.goes)) in
+    let head : P.tells → ∥ Headline reads x.base v.now J w ∥₁ = λ t. rw (e.base, e.since, e.plant, d.base, d.since, c.requires.since) at (e.headline t) in
+    let step = step_out P.tells sysa.0 (deck_line x.base sysa 1 c.in-Some.fields) (begun v.now sysa (deck_entries x.base sysa 1 c.in-Some.fields)) (end_of y.placed y.current y.journal.batches) J.batches
+    x.pair.first.alive y.pair.first.alive x.pair.second.alive y.pair.second.alive v w c.play_deck-answer.result e.journal d.step in
+    rw (c.in-Some.is, e.status, c.status_of.ensures, e.base, e.since, e.plant, d.base, d.since, c.requires.since)
+    (run_of_step P.tells c.in-Some.fields x.base c.requires.base J v w x.pair.first.alive y.pair.first.alive x.pair.second.alive y.pair.second.alive fresh head c.requires.there1 c.requires.there2 c.play_deck-answer.result step)
 
 pub returns-in-Some-clause-loses : goal.returns-in-Some-clause-loses
-returns-in-Some-clause-loses g c d = rw c.ended-in-Some.ensures.plant (c.play_deck-answer.ensures.step.loses d)
+returns-in-Some-clause-loses g c d = rw c.ended-in-Some.ensures.plant (c.play_deck-answer.ensures.step.course.loses d)
 
 pub returns-in-Some-clause-elsewhere : goal.returns-in-Some-clause-elsewhere
-returns-in-Some-clause-elsewhere g c told =
-    let P = g.P.Plant in
-    let r = c.args.run in
-    let k = r.checkpoint in
-    let n = c.play_deck-answer.new.self in
-    let step = step_here P.tells (λ (d : Disk). Rests r.copy.pages r.copy.second r.copy.stale (bytes_of k.pages) d) (queue_of k.tables) c.args.base r.copy.dev c.in-Some.fields r.journal.batches n.journal.batches
-    (P.view r.plant) (P.view n.plant) c.play_deck-answer.result c.requires.queue c.requires.dev c.requires.journal c.play_deck-answer.ensures.step in
-    rw c.ended-in-Some.ensures.plant (step.elsewhere told)
+returns-in-Some-clause-elsewhere g c told = rw c.ended-in-Some.ensures.plant (c.play_deck-answer.ensures.step.elsewhere told)

@@ -1,50 +1,108 @@
-use Rattle.std.proofs.Common.{◌≡◌, ◌∙◌, arith}
-use Rattle.mas_types.specs.declared.ids.Dev.TheVariants.{Ckpt1}
-use Rattle.spool_disk.specs.View.{disk_now}
-use Rattle.ckpt_copy.specs.AreaStates.{Rests}
+use Rattle.std.proofs.Common.{◌≡◌, ◌∙◌, true, false, sym, ap, subst, arith}
+use Rattle.mas_types.specs.declared.ids.Dev.TheVariants.{Ckpt1, Ckpt2}
+use Rattle.mas_types.specs.declared.queues.Queue.{Queue}
+use Rattle.spool_disk.specs.View.{View, disk_now}
+use Rattle.ckpt_copy.specs.Areas.{reads}
+use Rattle.ckpt_copy.specs.AreaStates.{Rests, Holds}
+use Rattle.ckpt_copy.specs.Images.{area_rests_now}
 use Rattle.ckpt_copy.specs.Moments.{goes_on}
 use Rattle.ckpt_copy.specs.Pages.{bytes_of}
+use Rattle.duplex_pair.specs.Both.{PairActed}
+use Rattle.mas_complex.specs.Meaning.{StandFor}
+use Rattle.mas_run.specs.Standing.{queue_of}
 use Rattle.mas_run.specs.Told.{console_now}
 use Rattle.mas_run.specs.Crash.{IsOnlyOn}
-use Rattle.mas_run.proofs.RunLemmas.{run_since, caused_since, only_on}
+use Rattle.mas_run.specs.Runs.{IsRun}
+use Rattle.mas_run.specs.Statuses.{IsCausedFrom}
+use Rattle.mas_run.proofs.DrawnLemmas.{drawn_stand, drawn_level}
+use Rattle.mas_run.proofs.CourseLemmas.{only_on}
+use Rattle.mas_run.proofs.RunLemmas.{run_since, caused_since, formed_copy}
 use Rattle.mas_run.proofs.play.play_script.Goals as goal
+
+pub make-complex-requires-clause-first : goal.make-complex-requires-clause-first
+make-complex-requires-clause-first g c told =
+    let v = g.P.Plant.view c.form.new.plant in
+    let k = c.in-Ok.checkpoint in
+    let n = c.form.new.self.first in
+    let f = c.in-Ok-form.ensures in
+    let queue : queue_of k.tables ≡ c.in-Ok.base = ap queue_of c.in-Ok.ensures.tables ∙ sym c.in-Ok.ensures.base in
+    let stand : StandFor c.in-Ok.base (bytes_of k.pages) = subst (λ (Q : Queue). StandFor Q (bytes_of k.pages)) queue (drawn_stand k.tables k.level k.levels k.pages c.in-Ok.ensures.drawn) in
+    ∣ formed_copy c.in-Ok.base v.now k.level (λ pages disk. Rests n.copy.pages n.copy.second n.copy.stale pages disk) (λ was next disk. Holds n.copy.pages n.copy.second n.copy.stale was next disk) n.alive (disk_now v Ckpt1) (bytes_of k.pages)
+    (drawn_level k.tables k.level k.levels k.pages c.in-Ok.ensures.drawn) stand (λ is. rw c.as_slice.ensures at (f.formed1 told is)) (λ not lt. f.gone1 told c.new-pair.ensures.alive.0 not lt) ∣₁
+
+pub make-complex-requires-clause-second : goal.make-complex-requires-clause-second
+make-complex-requires-clause-second g c told =
+    let v = g.P.Plant.view c.form.new.plant in
+    let k = c.in-Ok.checkpoint in
+    let n = c.form.new.self.second in
+    let f = c.in-Ok-form.ensures in
+    let queue : queue_of k.tables ≡ c.in-Ok.base = ap queue_of c.in-Ok.ensures.tables ∙ sym c.in-Ok.ensures.base in
+    let stand : StandFor c.in-Ok.base (bytes_of k.pages) = subst (λ (Q : Queue). StandFor Q (bytes_of k.pages)) queue (drawn_stand k.tables k.level k.levels k.pages c.in-Ok.ensures.drawn) in
+    ∣ formed_copy c.in-Ok.base v.now k.level (λ pages disk. Rests n.copy.pages n.copy.second n.copy.stale pages disk) (λ was next disk. Holds n.copy.pages n.copy.second n.copy.stale was next disk) n.alive (disk_now v Ckpt2) (bytes_of k.pages)
+    (drawn_level k.tables k.level k.levels k.pages c.in-Ok.ensures.drawn) stand (λ is. rw c.as_slice.ensures at (f.formed2 told is)) (λ not lt. f.gone2 told c.new-pair.ensures.alive.1 not lt) ∣₁
+
+pub play_asked-requires-clause-reads1 : goal.play_asked-requires-clause-reads1
+play_asked-requires-clause-reads1 g c told is =
+    let v = g.P.Plant.view c.form.new.plant in
+    let n = c.form.new.self.first in
+    let m = c.make-complex.ensures in
+    let alive : n.alive ≡ true = sym (ap (λ p. p.first.alive) m.pair) ∙ is in
+    ap (λ p. reads (disk_now (g.P.Plant.view p) Ckpt1).bytes) m.plant
+    ∙ area_rests_now n.copy.pages n.copy.second n.copy.stale (bytes_of c.in-Ok.checkpoint.pages) (disk_now v Ckpt1) (rw c.as_slice.ensures at (c.in-Ok-form.ensures.formed1 told alive))
+
+pub play_asked-requires-clause-reads2 : goal.play_asked-requires-clause-reads2
+play_asked-requires-clause-reads2 g c told is =
+    let v = g.P.Plant.view c.form.new.plant in
+    let n = c.form.new.self.second in
+    let m = c.make-complex.ensures in
+    let alive : n.alive ≡ true = sym (ap (λ p. p.second.alive) m.pair) ∙ is in
+    ap (λ p. reads (disk_now (g.P.Plant.view p) Ckpt2).bytes) m.plant
+    ∙ area_rests_now n.copy.pages n.copy.second n.copy.stale (bytes_of c.in-Ok.checkpoint.pages) (disk_now v Ckpt2) (rw c.as_slice.ensures at (c.in-Ok-form.ensures.formed2 told alive))
+
+pub returns-in_default-form-clause-elsewhere : goal.returns-in_default-form-clause-elsewhere
+returns-in_default-form-clause-elsewhere g c t =
+    let formed : IsOnlyOn (g.P.Plant.view c.args.plant) (g.P.Plant.view c.form.new.plant) = (c.in_default-form.ensures.during t).others in
+    rw c.unbegun-in_default-form.ensures.plant formed
+
+pub returns-clause-cause : goal.returns-clause-cause
+returns-clause-cause g c =
+    let P = g.P.Plant in
+    let v1 = P.view c.form.new.plant in
+    let n = c.form.new.self in
+    let m = c.make-complex.ensures in
+    let r = c.play_asked.result in
+    let formed : PairActed 0 true n.first.alive true n.second.alive false (P.view c.args.plant) v1 = rw (c.new-pair.ensures.alive.0, c.new-pair.ensures.alive.1) at c.in-Ok-form.ensures.acted in
+    let later = subst (λ (v : View). IsCausedFrom c.make-complex.result.pair.first.alive c.make-complex.result.pair.second.alive r.status v (P.view r.plant)) (ap P.view m.plant) c.play_asked.ensures.cause in
+    let caused : IsCausedFrom n.first.alive n.second.alive r.status v1 (P.view r.plant) = rw m.pair at later in
+    caused_since 0 n.first.alive n.second.alive false r.status (P.view c.args.plant) v1 (P.view r.plant) formed (rw m.plant at c.play_asked.ensures.goes) caused
+
+pub returns-clause-goes : goal.returns-clause-goes
+returns-clause-goes g c =
+    let P = g.P.Plant in
+    goes_on (P.view c.args.plant) (P.view c.form.new.plant) (P.view c.play_asked.result.plant) c.in-Ok-form.ensures.acted.goes (rw c.make-complex.ensures.plant at c.play_asked.ensures.goes)
+
+pub returns-clause-loses : goal.returns-clause-loses
+returns-clause-loses g c d =
+    let P = g.P.Plant in
+    c.play_asked.ensures.loses d ∙ ap (λ p. (P.view p).loses d) c.make-complex.ensures.plant ∙ c.in-Ok-form.ensures.acted.loses d
+
+pub returns-clause-elsewhere : goal.returns-clause-elsewhere
+returns-clause-elsewhere g c t =
+    let P = g.P.Plant in
+    let f = c.in-Ok-form.ensures in
+    let m = c.make-complex.ensures in
+    let formed : IsOnlyOn (P.view c.args.plant) (P.view c.form.new.plant) = (f.during t).others in
+    only_on (P.view c.args.plant) (P.view c.form.new.plant) (P.view c.play_asked.result.plant) f.acted.goes.later (rw m.plant at c.play_asked.ensures.goes) formed
+    (subst (λ (v : View). IsOnlyOn v (P.view c.play_asked.result.plant)) (ap P.view m.plant) (c.play_asked.ensures.elsewhere t))
 
 pub returns-clause-run : goal.returns-clause-run
 returns-clause-run g c begun =
     let P = g.P.Plant in
     let v0 = P.view c.args.plant in
     let v1 = P.view c.form.new.plant in
-    let n = c.form.new.self in
-    let k = c.in-Ok.checkpoint in
     let r = c.play_asked.result in
     let f = c.in-Ok-form.ensures in
-    let rests : P.tells → Rests n.pages n.second n.stale (bytes_of k.pages) (disk_now v1 Ckpt1) = λ t. rw (c.as_slice.ensures, c.new-copy.ensures.dev) at (f.formed t) in
-    let quiet : P.tells → console_now v1 ≡ console_now v0 = λ t. (f.during t).console v1.now f.cause.goes.later (omega arith) in
-    run_since (P.tells × Rests n.pages n.second n.stale (bytes_of k.pages) (disk_now v1 Ckpt1)) P.tells c.args.asked r.status r.base r.journal r.since v0 v1 (P.view r.plant) f.cause.goes (λ t. (t, rests t)) quiet c.play_asked.ensures.run
-
-pub returns-clause-cause : goal.returns-clause-cause
-returns-clause-cause g c =
-    caused_since c.play_asked.result.status (g.P.Plant.view c.args.plant) (g.P.Plant.view c.form.new.plant) (g.P.Plant.view c.play_asked.result.plant) c.in-Ok-form.ensures.cause.goes c.play_asked.ensures.cause
-
-pub returns-clause-goes : goal.returns-clause-goes
-returns-clause-goes g c =
-    goes_on (g.P.Plant.view c.args.plant) (g.P.Plant.view c.form.new.plant) (g.P.Plant.view c.play_asked.result.plant) c.in-Ok-form.ensures.cause.goes c.play_asked.ensures.goes
-
-pub returns-clause-loses : goal.returns-clause-loses
-returns-clause-loses g c d = c.play_asked.ensures.loses d ∙ c.in-Ok-form.ensures.cause.loses d
-
-pub returns-clause-elsewhere : goal.returns-clause-elsewhere
-returns-clause-elsewhere g c t =
-    let P = g.P.Plant in
-    let v1 = P.view c.form.new.plant in
-    let n = c.form.new.self in
-    let k = c.in-Ok.checkpoint in
-    let f = c.in-Ok-form.ensures in
-    let rests : Rests n.pages n.second n.stale (bytes_of k.pages) (disk_now v1 Ckpt1) = rw (c.as_slice.ensures, c.new-copy.ensures.dev) at (f.formed t) in
-    let formed : IsOnlyOn Ckpt1 (P.view c.args.plant) v1 = rw c.new-copy.ensures.dev at (f.during t).others in
-    only_on Ckpt1 (P.view c.args.plant) v1 (P.view c.play_asked.result.plant) f.cause.goes.later c.play_asked.ensures.goes formed (c.play_asked.ensures.elsewhere (t, rests))
-
-pub returns-in_default-form-clause-elsewhere : goal.returns-in_default-form-clause-elsewhere
-returns-in_default-form-clause-elsewhere g c t =
-    let formed : IsOnlyOn Ckpt1 (g.P.Plant.view c.args.plant) (g.P.Plant.view c.form.new.plant) = rw c.new-copy.ensures.dev at (c.in_default-form.ensures.during t).others in
-    rw c.unbegun-in_default-form.ensures.plant formed
+    let m = c.make-complex.ensures in
+    let quiet : P.tells → console_now v1 ≡ console_now v0 = λ t. (f.during t).console v1.now f.acted.goes.later (omega arith) in
+    run_since P.tells c.args.asked r.status r.base r.journal r.since v0 v1 (P.view r.plant) f.acted.goes quiet
+    (subst (λ (v : View). IsRun P.tells c.args.asked r.status r.base r.journal r.since v (P.view r.plant)) (ap P.view m.plant) c.play_asked.ensures.run)

@@ -1,0 +1,5 @@
+pub mod Halves
+pub mod Outcomes
+pub mod Looks
+pub mod Both
+pub mod Finds

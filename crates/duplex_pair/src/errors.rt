@@ -1,0 +1,53 @@
+//! How calls of a pair end.
+ghost use Rattle.std.specs.Prelude.{◌≡◌};
+ghost use Rattle.duplex_pair.specs.Outcomes.{pair_halted};
+
+use mas_types::{List, Page};
+use thiserror::Error;
+
+/// The member was stopped inside the call: its count of stops rose.
+#[derive(Clone, Copy, Debug, PartialEq, Eq, Error)]
+#[error("the member was stopped")]
+pub struct Halted;
+
+/// Why a call on the pair wasn't done.
+#[derive(Clone, Copy, Debug, PartialEq, Eq, Error)]
+pub enum PairNo {
+    /// Both copies count as lost at the end of the call.
+    #[error("both copies are lost")]
+    BothLost,
+    /// The member was stopped inside the call: its count of stops rose. What stands on the copies is known again after
+    /// `find`.
+    #[error("the member was stopped")]
+    Halted,
+}
+
+impl From<Halted> for PairNo {
+    ghost from_gives = { λ no e. e ≡ pair_halted };
+
+    fn from(_no: Halted) -> PairNo {
+        PairNo::Halted
+    }
+}
+
+/// What one copy holds.
+#[derive(Drop)]
+pub enum Look {
+    /// The device is lost.
+    Lost,
+    /// The copy reads as none.
+    Unread,
+    /// The pages that the copy reads as.
+    Pages(List<Page>),
+}
+
+/// Why nothing is known of a copy.
+#[derive(Clone, Copy, Debug, PartialEq, Eq, Error)]
+pub enum LookNo {
+    /// The member was stopped inside the call: its count of stops rose.
+    #[error("the member was stopped")]
+    Halted,
+    /// There was no memory for the pages.
+    #[error("no memory")]
+    NoMemory,
+}

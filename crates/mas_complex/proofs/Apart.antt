@@ -1,0 +1,29 @@
+-- What a call on one copy leaves as it was, said of plain data.
+use Rattle.std.proofs.Common.{◌≡◌, ◌≢◌, ℕ, Bool, List, refl}
+use Rattle.std.proofs.Math.Logic.{∥∥₁_elim}
+use Rattle.std.specs.Coded.{Coded, Coded-set, coded_list, coded_ℕ, coded_bool, coded×, code_by}
+use Rattle.mas_types.specs.declared.ids.Dev.{Dev}
+use Rattle.spool_disk.specs.View.{View, Disk, Line, Stretch}
+use Rattle.ckpt_copy.specs.Meanwhile.{Meanwhile}
+use Rattle.mas_complex.specs.Elsewhere.{Elsewhere}
+
+abbrev coded_stretch : Coded Stretch
+coded_stretch = code_by (ℕ × ℕ) (coded× coded_ℕ coded_ℕ) (λ s. (s.from, s.len)) (λ p. record { from = p.0; len = p.1 }) (λ _. refl)
+
+abbrev pub coded_disk : Coded Disk
+coded_disk =
+    code_by ((List ℕ × List Stretch) × Bool) (coded× (coded× (coded_list coded_ℕ) (coded_list coded_stretch)) coded_bool)
+    (λ d. ((d.bytes, d.unsynced), d.lost)) (λ p. record { bytes = p.0.0; unsynced = p.0.1; lost = p.1 }) (λ _. refl)
+
+abbrev pub coded_line : Coded Line
+coded_line = code_by (List ℕ × Bool) (coded× (coded_list coded_ℕ) coded_bool) (λ l. (l.text, l.whole)) (λ p. record { text = p.0; whole = p.1 }) (λ _. refl)
+
+pub elsewhere_of : (dev : Dev) (P : Disk → Type 0) (old new : View) → Meanwhile dev P old new → Elsewhere dev old new
+elsewhere_of dev P old new m = record { others = m.others; console = m.console }
+
+-- equations of devices and lines need no choice
+pub elsewhere_is : (dev : Dev) (old new : View) → ∥ Elsewhere dev old new ∥₁ → Elsewhere dev old new
+elsewhere_is dev old new some = record {
+  others = λ t from le d ne. ∥∥₁_elim some (Coded-set coded_disk _ _) (λ e. e.others t from le d ne);
+  console = λ t from le. ∥∥₁_elim some (Coded-set (coded_list coded_line) _ _) (λ e. e.console t from le);
+}

@@ -1,0 +1,89 @@
+-- From the invariant of the shared value to its headline.
+use Rattle.std.proofs.Common.{◌≡◌, inl, inr, ⊎_elim, ℕ, ◌≤◌, cond, Bool, true, false, List, [], ◌∷◌, ◌++◌, filter, All, Contains, Option, Some, None, refl, subst, sym, ◌∙◌, ap}
+use Rattle.std.proofs.lemmas.List.Elements.{All-nil, All-cons}
+use Rattle.mas_types.specs.declared.ids.MemberId.{MemberId}
+use Rattle.mas_types.specs.declared.journals.Batch.{Batch}
+use Rattle.mas_types.specs.declared.journals.Entry.{Entry}
+use Rattle.mas_types.specs.declared.journals.Fate.TheVariants.{Kept}
+use Rattle.mas_types.specs.declared.queues.Queue.{Queue}
+use Rattle.mas_types.specs.Journal.{kept_at, flying_at, entries_of, is_kept_by, is_flying_at}
+use Rattle.mas_types.specs.Closings.{closing_line}
+use Rattle.spool_disk.specs.View.{View, Line}
+use Rattle.mas_complex.specs.Journals.{kept, flying, in_flight, StepIsKept, has_step, EndsInPlace, HasPlace, end_of, with_last, without_last}
+use Rattle.std.specs.Prelude.{IsSome}
+use Rattle.std.proofs.lemmas.List.{append-nil}
+use Rattle.mas_complex.proofs.BatchEnds.{with_last-append, without_last-append}
+use Rattle.mas_complex.proofs.Moves.{unplace_keeps}
+use Rattle.mas_complex.specs.Meaning.{Closes, run, StandFor}
+use Rattle.mas_complex.specs.Crash.{Setting, setting, Copy, Keeps, IsFound, IsAfter, EachTells, said, found}
+use Rattle.mas_complex.specs.Headline.{Headline, FoundFor, IsAfterKept, whole}
+
+pub kept_is : (bs : List Batch) (t : ℕ) → kept bs t ≡ entries_of (filter (is_kept_by t) bs)
+kept_is [] t = refl
+kept_is (b ∷ bs) t = by_test (is_kept_by t b) (kept_is bs t) where
+  by_test : (c : Bool) → kept bs t ≡ entries_of (filter (is_kept_by t) bs) → (cond c b.entries []) ++ kept bs t ≡ entries_of (cond c (b ∷ filter (is_kept_by t) bs) (filter (is_kept_by t) bs))
+  by_test true e = ap (λ (l : List Entry). b.entries ++ l) e
+  by_test false e = e
+
+pub flying_is : (bs : List Batch) (t : ℕ) → flying bs t ≡ entries_of (filter (is_flying_at t) bs)
+flying_is [] t = refl
+flying_is (b ∷ bs) t = by_test (is_flying_at t b) (flying_is bs t) where
+  by_test : (c : Bool) → flying bs t ≡ entries_of (filter (is_flying_at t) bs) → (cond c b.entries []) ++ flying bs t ≡ entries_of (cond c (b ∷ filter (is_flying_at t) bs) (filter (is_flying_at t) bs))
+  by_test true e = ap (λ (l : List Entry). b.entries ++ l) e
+  by_test false e = e
+
+step_is : (bs : List Batch) (t : ℕ) (by : MemberId) (at : ℕ) → StepIsKept bs t by at → All (λ b. has_step by at b.entries ≡ true → (b.fate ≡ Kept) × (b.last ≤ t)) bs
+step_is [] t by at kept = All-nil (λ (b : Batch). has_step by at b.entries ≡ true → (b.fate ≡ Kept) × (b.last ≤ t))
+step_is (b ∷ bs) t by at kept = All-cons (λ (b : Batch). has_step by at b.entries ≡ true → (b.fate ≡ Kept) × (b.last ≤ t)) b bs kept.0 (step_is bs t by at kept.1)
+
+module _ (closes : List ℕ → MemberId → ℕ → Type 0) (P : MemberId → ℕ → Type 0) where
+  abbrev Tells : Line → Type 0
+  Tells line = line.whole ≡ true → (m : MemberId) (s : ℕ) → closes line.text m s → P m s
+
+  all_tell : (lines : List Line) → EachTells closes lines P → All Tells lines
+  all_tell [] tells = All-nil Tells
+  all_tell (line ∷ lines) tells = All-cons Tells line lines tells.0 (all_tell lines tells.1)
+
+  one_tells : (lines : List Line) (line : Line) → EachTells closes lines P → Contains lines line → Tells line
+  one_tells lines line tells there = subst Tells there.2 (all_tell lines tells there.0 line there.1)
+
+module _ (reads : List ℕ → Option (List ℕ)) (base : Queue) (since : ℕ) (js : List Batch) (c : Option Batch) (reached : ℕ) (first second : Copy) (v : View) where
+  abbrev S : Setting
+  S = setting reads base since
+
+  found_for : (E G : List Entry) → E ≡ G → (q : Option (List ℕ)) → IsFound S E q → FoundFor (run base G) q
+  found_for E G e None is = is
+  found_for E G e (Some pages) is = subst (λ (l : List Entry). StandFor (run base l) pages) e is
+
+  after_kept : (t : ℕ) (q : Option (List ℕ)) → IsAfter S (js ++ in_flight c) t q → IsAfterKept base (record { batches = js ++ in_flight c }) t q
+  after_kept t q after = ⊎_elim
+      (λ x. inl (found_for (kept (js ++ in_flight c) t) (kept_at (record { batches = js ++ in_flight c }) t) (kept_is (js ++ in_flight c) t) q x))
+      (λ x. inr (found_for (kept (js ++ in_flight c) t ++ flying (js ++ in_flight c) t) (kept_at (record { batches = js ++ in_flight c }) t ++ flying_at (record { batches = js ++ in_flight c }) t)
+      (ap (λ (l : List Entry). l ++ flying (js ++ in_flight c) t) (kept_is (js ++ in_flight c) t) ∙ ap (λ (l : List Entry). kept_at (record { batches = js ++ in_flight c }) t ++ l) (flying_is (js ++ in_flight c) t)) q x))
+      after
+
+  pub headline_of : Keeps S js c reached first second v → Headline reads base since (record { batches = js ++ in_flight c }) v
+  headline_of keeps = record {
+    crash = λ t from le lt one two left right some. after_kept t (found S one two) (keeps.crash t from le lt one two left right some);
+    told = λ t from le by at end telling there.
+        step_is (js ++ in_flight c) t by at
+        (one_tells Closes (StepIsKept (js ++ in_flight c) t) (said S v t) (whole (closing_line by at end)) (keeps.told t from le) there refl by at (record { end = end; telling = telling; is = refl }));
+  }
+
+-- and with the journal as it is handed out
+module _ (reads : List ℕ → Option (List ℕ)) (base : Queue) (since : ℕ) (reached : ℕ) (first second : Copy) (v : View) where
+  by_place : (J : List Batch) (c : Option Batch) (p : EndsInPlace J) → Keeps (setting reads base since) J c reached first second v → Headline reads base since (record { batches = p.before ++ in_flight c }) v
+  by_place J c p keeps = headline_of reads base since p.before c reached first second v
+      (unplace_keeps (setting reads base since) p.before p.place c reached first second v p.free (subst (λ (l : List Batch). Keeps (setting reads base since) l c reached first second v) p.is keeps))
+
+  as_batches : (J K : List Batch) → J ≡ K → Headline reads base since (record { batches = J }) v → Headline reads base since (record { batches = K }) v
+  as_batches J K e h = subst (λ (l : List Batch). Headline reads base since (record { batches = l }) v) e h
+
+  pub ended_headline : (placed : Bool) (c : Option Batch) (J : List Batch) → (IsSome c → placed ≡ true) → HasPlace placed J → Keeps (setting reads base since) J c reached first second v
+      → Headline reads base since (record { batches = end_of placed c J }) v
+  ended_headline true (Some b) J some p keeps = as_batches (p.before ++ b ∷ []) (with_last b J) (sym (ap (with_last b) p.is ∙ with_last-append b p.before p.place)) (by_place J (Some b) p keeps)
+  ended_headline true None J some p keeps = as_batches (p.before ++ []) (without_last J) (append-nil p.before ∙ sym (ap without_last p.is ∙ without_last-append p.before p.place)) (by_place J None p keeps)
+  ended_headline false None J some p keeps = as_batches (J ++ []) J (append-nil J) (headline_of reads base since J None reached first second v keeps)
+  ended_headline false (Some b) J some p keeps = absurd (clash (some refl)) where
+    clash : false ≡ true → ⊥
+    clash e = cc

@@ -1,0 +1,14 @@
+pub mod Batches
+pub mod Lines
+pub mod Present
+pub mod Moves
+pub mod Sides
+pub mod Fates
+pub mod Making
+pub mod BatchEnds
+pub mod Ending
+pub mod Lost
+pub mod Fating
+pub mod Calm
+pub mod Shows
+pub mod Apart

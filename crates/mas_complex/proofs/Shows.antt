@@ -1,0 +1,70 @@
+-- What a copy holds after a call, as the bytes of its device show it.
+use Rattle.std.proofs.Common.{◌≡◌, ◌≢◌, ℕ, ◌+◌, ◌<◌, Bool, true, List, ◌++◌, Some, Result, Ok, Err, OnOk, subst, sym, ◌∙◌, ap, arith}
+use Rattle.mas_types.specs.declared.ids.Dev.{Dev}
+use Rattle.mas_types.specs.declared.ids.Dev.TheVariants.{Ckpt1, Ckpt2, Spool}
+use Rattle.mas_types.specs.declared.journals.Entry.{Entry}
+use Rattle.spool_disk.specs.View.{View, Disk, disk_now}
+use Rattle.ckpt_copy.specs.Changes.{NoMore}
+use Rattle.ckpt_copy.specs.Pages.{level, Covers}
+use Rattle.ckpt_copy.specs.Meanwhile.{Meanwhile}
+use Rattle.ckpt_copy.specs.Moments.{meanwhile_end}
+use Rattle.duplex_pair.specs.Halves.{SameOrLost}
+use Rattle.duplex_pair.specs.Both.{BothMeanwhile}
+use Rattle.mas_complex.specs.declared.places.Place.{Place}
+use Rattle.mas_complex.specs.declared.places.Place.TheVariants.{Before, Put}
+use Rattle.mas_complex.specs.Crash.{Setting, Stands, Side, OneCopy}
+
+pub on_ok : {T E A B : Type 0} (r : Result T E) → OnOk r A → (A → B) → OnOk r B
+on_ok (Ok x) a f = f a
+on_ok (Err x) a f = tt
+
+module _ (S : Setting) (reached : ℕ) (K F : List Entry) (rests : List ℕ → Disk → Type 0) (holds : List ℕ → List ℕ → Disk → Type 0) (place : Place) (alive : Bool) (now : ℕ) (d d' : Disk)
+    (copy : OneCopy S rests holds reached K F place alive now d) (is : alive ≡ true) where
+  side_at : (p : Place) → place ≡ p → Side S rests holds reached K F p d
+  side_at p e = subst (λ (x : Place). Side S rests holds reached K F x d) e (copy.at is)
+
+  pub put_shows : place ≡ Before → (n : ℕ) (changed pages : List ℕ) → Stands S (reached + 1) (K ++ F) pages → ((was : List ℕ) → rests was d → Covers n changed was pages)
+      → (holds' : List ℕ → List ℕ → Disk → Type 0) → ((was : List ℕ) → rests was d → level was < level pages → Covers n changed was pages → holds' was pages d')
+      → (behind : List ℕ → List ℕ) → ((was next : List ℕ) (x : Disk) → holds' was next x → behind x.bytes ≡ next) → behind d'.bytes ≡ pages
+  put_shows before n changed pages stands covered holds' held behind shown =
+      let s : Side S rests holds reached K F Before d = side_at Before before in
+      shown s.was pages d' (held s.was s.here (omega (arith, s.stands.at_level, stands.at_level)) (covered s.was s.here))
+
+  pub open_shows : place ≡ Put → (behind : List ℕ → List ℕ) → ((was next : List ℕ) (x : Disk) → holds was next x → behind x.bytes ≡ next)
+      → (rests' : List ℕ → Disk → Type 0) → ((was next : List ℕ) → holds was next d → rests' next d') → ((pages : List ℕ) (x : Disk) → rests' pages x → S.reads x.bytes ≡ Some pages)
+      → S.reads d'.bytes ≡ Some (behind d.bytes)
+  open_shows put behind shown rests' opened rests_now =
+      let s : Side S rests holds reached K F Put d = side_at Put put in
+      let next : List ℕ = s.here.next in
+      rests_now next d' (opened s.was next s.here.here) ∙ ap Some (sym (shown s.was next d s.here.here))
+
+ne12 : Ckpt2 ≢ Ckpt1
+ne12 e = absurd (cc)
+
+ne21 : Ckpt1 ≢ Ckpt2
+ne21 e = absurd (cc)
+
+ne13 : (n : ℕ) → Spool n ≢ Ckpt1
+ne13 n e = absurd (cc)
+
+ne23 : (n : ℕ) → Spool n ≢ Ckpt2
+ne23 n e = absurd (cc)
+
+module _ (old new : View) where
+  other_bytes : (dev d : Dev) (P : Disk → Type 0) → d ≢ dev → Meanwhile dev P old new → (disk_now new d).bytes ≡ (disk_now old d).bytes
+  other_bytes dev d P ne m = ap (λ (x : Disk). x.bytes) (m.others new.now m.goes.later (omega arith) d ne)
+
+  pub lose_first_bytes : Meanwhile Ckpt1 (SameOrLost (disk_now old Ckpt1)) old new → (d : Dev) → (disk_now new d).bytes ≡ (disk_now old d).bytes
+  lose_first_bytes m Ckpt1 = (meanwhile_end Ckpt1 (SameOrLost (disk_now old Ckpt1)) old new m).bytes
+  lose_first_bytes m Ckpt2 = other_bytes Ckpt1 Ckpt2 (SameOrLost (disk_now old Ckpt1)) ne12 m
+  lose_first_bytes m (Spool n) = other_bytes Ckpt1 (Spool n) (SameOrLost (disk_now old Ckpt1)) (ne13 n) m
+
+  pub lose_second_bytes : Meanwhile Ckpt2 (SameOrLost (disk_now old Ckpt2)) old new → (d : Dev) → (disk_now new d).bytes ≡ (disk_now old d).bytes
+  lose_second_bytes m Ckpt1 = other_bytes Ckpt2 Ckpt1 (SameOrLost (disk_now old Ckpt2)) ne21 m
+  lose_second_bytes m Ckpt2 = (meanwhile_end Ckpt2 (SameOrLost (disk_now old Ckpt2)) old new m).bytes
+  lose_second_bytes m (Spool n) = other_bytes Ckpt2 (Spool n) (SameOrLost (disk_now old Ckpt2)) (ne23 n) m
+
+  pub read_bytes : BothMeanwhile (NoMore (disk_now old Ckpt1)) (NoMore (disk_now old Ckpt2)) old new → (d : Dev) → (disk_now new d).bytes ≡ (disk_now old d).bytes
+  read_bytes m Ckpt1 = (m.first new.now m.goes.later (omega arith)).bytes
+  read_bytes m Ckpt2 = (m.second new.now m.goes.later (omega arith)).bytes
+  read_bytes m (Spool n) = ap (λ (x : Disk). x.bytes) (m.others new.now m.goes.later (omega arith) (Spool n) (ne13 n) (ne23 n))

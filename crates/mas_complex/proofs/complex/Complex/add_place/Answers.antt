@@ -1,0 +1,29 @@
+use Rattle.std.proofs.Common.{subst, ℕ}
+use Rattle.std.proofs.Math.Logic.{∥∥₁_map}
+use Rattle.mas_complex.specs.Crash.{Setting, setting, copy_of}
+use Rattle.std.proofs.Common.{◌≤◌}
+use Rattle.mas_complex.proofs.Fating.{is_place}
+use Rattle.mas_complex.proofs.Batches.{placed_all}
+use Rattle.mas_complex.proofs.Moves.{place_keeps}
+use Rattle.mas_complex.proofs.complex.Complex.add_place.Goals as goal
+
+pub invariant_of-self-2-clause-kept : goal.invariant_of-self-2-clause-kept
+invariant_of-self-2-clause-kept g c told =
+    let s = c.args.self.now in
+    let C = g.C.Copying in
+    let S : Setting = setting C.reads s.base s.since in
+    let first = copy_of (C.rests s.pair.first.copy) (C.holds s.pair.first.copy) s.pair.first.alive s.first in
+    let second = copy_of (C.rests s.pair.second.copy) (C.holds s.pair.second.copy) s.pair.second.alive s.second in
+    let old = g.P.Plant.view s.plant in
+    let place = is_place c.empty_place-place.result c.now.result (record { 0 = 0 }) c.empty_place-place.ensures in
+    ∥∥₁_map (s.kept told) (λ k. rw (c.in_ok-push.ensures.ok) (place_keeps S s.journal.batches c.empty_place-place.result s.current s.level first second old place.0 place.1 (subst (λ (n : ℕ). c.empty_place-place.result.last ≤ n) c.now.ensures place.2) k))
+
+pub invariant_of-self-2-clause-place : goal.invariant_of-self-2-clause-place
+invariant_of-self-2-clause-place g c =
+    let place = is_place c.empty_place-place.result c.now.result (record { 0 = 0 }) c.empty_place-place.ensures in
+    ∣ record { before = c.args.self.now.journal.batches; place = c.empty_place-place.result; is = c.in_ok-push.ensures.ok; free = place.0 } ∣₁
+
+pub returns-clause-kept : goal.returns-clause-kept
+returns-clause-kept g c =
+    let place = is_place c.empty_place-place.result c.now.result (record { 0 = 0 }) c.empty_place-place.ensures in
+    rw (c.in_ok-push.ensures.ok) (placed_all c.empty_place-place.result place.0 c.args.self.now.journal.batches)

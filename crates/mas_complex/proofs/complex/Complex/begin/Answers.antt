@@ -1,0 +1,24 @@
+use Rattle.std.proofs.Common.{refl, subst, sym, ◌≡◌, ◌∙◌, ap, List, Option, ◌-◌, ◌^◌}
+use Rattle.std.proofs.Math.Logic.{∥∥₁_map}
+use Rattle.mas_types.specs.declared.journals.Batch.{Batch}
+use Rattle.mas_types.specs.declared.journals.Entry.{Entry}
+use Rattle.mas_types.specs.declared.journals.Fate.TheVariants.{Flying}
+use Rattle.mas_complex.specs.Journals.{entries_reserved}
+use Rattle.mas_complex.specs.Crash.{Keeps, Setting, setting, copy_of}
+use Rattle.mas_complex.specs.Crash.{IsUntold}
+use Rattle.mas_complex.proofs.Moves.{begins_keep}
+use Rattle.mas_complex.proofs.complex.Complex.begin.Goals as goal
+
+pub invariant_of-self-clause-kept : goal.invariant_of-self-clause-kept
+invariant_of-self-clause-kept g c told =
+    let s = c.args.self.now in
+    let C = g.C.Copying in
+    let S : Setting = setting C.reads s.base s.since in
+    let first = copy_of (C.rests s.pair.first.copy) (C.holds s.pair.first.copy) s.pair.first.alive s.first in
+    let second = copy_of (C.rests s.pair.second.copy) (C.holds s.pair.second.copy) s.pair.second.alive s.second in
+    let old = g.P.Plant.view s.plant in
+    let es = c.in-Some.entries in
+    let e : entries_reserved s.reserved ≡ es = ap entries_reserved (sym c.take.ensures.value ∙ c.in-Some.is) in
+    ∥∥₁_map (s.kept told) (λ k. begins_keep S s.journal.batches (record { first = c.now-first.result; last = 2 ^ 64 - 1; by = c.args.by; fate = Flying; entries = es }) s.level first second old
+    (subst (λ (x : Option Batch). Keeps S s.journal.batches x s.level first second old) c.requires.none k) refl c.now-first.ensures
+    (subst (λ (l : List Entry). IsUntold S old l) e (c.requires.untold told)) c.requires.first c.requires.second)

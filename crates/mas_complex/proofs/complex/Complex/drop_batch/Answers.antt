@@ -1,0 +1,22 @@
+use Rattle.std.proofs.Common.{refl, subst, sym, ◌≡◌, ◌∙◌, Option, Some}
+use Rattle.std.proofs.Math.Logic.{∥∥₁_map, ∥∥₁_elim, ∥∥₁_prop}
+use Rattle.mas_types.specs.declared.journals.Batch.{Batch}
+use Rattle.mas_types.specs.declared.journals.Fate.TheVariants.{Dropped}
+use Rattle.mas_complex.specs.Crash.{Keeps, Setting, setting, copy_of}
+use Rattle.mas_complex.proofs.Fating.{has_ends, dropped_placed}
+use Rattle.mas_complex.proofs.complex.Complex.drop_batch.Goals as goal
+
+pub invariant_of-self-clause-kept : goal.invariant_of-self-clause-kept
+invariant_of-self-clause-kept g c told =
+    let s = c.args.self.now in
+    let C = g.C.Copying in
+    let S : Setting = setting C.reads s.base s.since in
+    let first = copy_of (C.rests s.pair.first.copy) (C.holds s.pair.first.copy) s.pair.first.alive s.first in
+    let second = copy_of (C.rests s.pair.second.copy) (C.holds s.pair.second.copy) s.pair.second.alive s.second in
+    let old = g.P.Plant.view s.plant in
+    let b = c.in-Some.batch in
+    let was : s.current ≡ Some b = sym c.take.ensures.value ∙ c.in-Some.is in
+    ∥∥₁_elim (s.kept told) ∥∥₁_prop (λ k. ∥∥₁_map s.place (λ has. rw (c.set_last.ensures, c.take.ensures.after)
+    (dropped_placed S s.level first second old (λ pages d r. g.met.C.Copying.rests_reads s.pair.first.copy pages d r) (λ was next d r. g.met.C.Copying.holds_reads s.pair.first.copy was next d r) (λ pages d r. g.met.C.Copying.rests_reads s.pair.second.copy pages d r) (λ was next d r. g.met.C.Copying.holds_reads s.pair.second.copy was next d r) s.journal.batches (has_ends s.placed s.journal.batches (s.place_current c.requires.current) has)
+    (record { first = b.first; last = c.now-last.result; by = b.by; fate = Dropped; entries = b.entries }) b
+    (subst (λ (x : Option Batch). Keeps S s.journal.batches x s.level first second old) was k) refl refl c.now-last.ensures refl c.requires.first c.requires.second)))

@@ -1,0 +1,18 @@
+use Rattle.std.proofs.Common.{subst, sym, List}
+use Rattle.std.proofs.Math.Logic.{∥∥₁_map, ∥∥₁_elim, ∥∥₁_prop}
+use Rattle.mas_types.specs.declared.journals.Batch.{Batch}
+use Rattle.mas_complex.specs.Crash.{copy_of}
+use Rattle.mas_complex.specs.Headline.{Headline}
+use Rattle.mas_complex.proofs.Ending.{ended_headline}
+use Rattle.mas_complex.proofs.complex.Complex.end.Goals as goal
+
+pub returns-clause-headline : goal.returns-clause-headline
+returns-clause-headline g c told =
+    let s = c.args.self in
+    let C = g.C.Copying in
+    let first = copy_of (C.rests s.pair.first.copy) (C.holds s.pair.first.copy) s.pair.first.alive s.first in
+    let second = copy_of (C.rests s.pair.second.copy) (C.holds s.pair.second.copy) s.pair.second.alive s.second in
+    let v = g.P.Plant.view s.plant in
+    ∥∥₁_elim (s.kept told) ∥∥₁_prop (λ k. ∥∥₁_map s.place (λ has.
+    subst (λ (l : List Batch). Headline C.reads s.base s.since (record { batches = l }) v) (sym c.finished-journal.ensures)
+    (ended_headline C.reads s.base s.since s.level first second v s.placed s.current s.journal.batches s.place_current has k)))

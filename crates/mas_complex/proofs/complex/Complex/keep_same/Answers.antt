@@ -1,0 +1,28 @@
+use Rattle.std.proofs.Common.{refl, subst, sym, ◌≡◌, ◌∙◌, ap, List, Option, ◌++◌}
+use Rattle.std.proofs.Math.Logic.{∥∥₁_map, ∥∥₁_elim, ∥∥₁_prop}
+use Rattle.mas_types.specs.declared.journals.Batch.{Batch}
+use Rattle.mas_types.specs.declared.journals.Entry.{Entry}
+use Rattle.mas_types.specs.declared.journals.Fate.TheVariants.{Kept, Flying}
+use Rattle.mas_complex.specs.Journals.{kept_all, entries_reserved}
+use Rattle.mas_complex.specs.Crash.{Keeps, Setting, setting, copy_of}
+use Rattle.mas_complex.specs.Crash.{IsUntold}
+use Rattle.mas_complex.proofs.Fating.{has_ends, same_placed}
+use Rattle.mas_complex.proofs.complex.Complex.keep_same.Goals as goal
+
+pub invariant_of-self-clause-kept : goal.invariant_of-self-clause-kept
+invariant_of-self-clause-kept g c told =
+    let s = c.args.self.now in
+    let C = g.C.Copying in
+    let S : Setting = setting C.reads s.base s.since in
+    let first = copy_of (C.rests s.pair.first.copy) (C.holds s.pair.first.copy) s.pair.first.alive s.first in
+    let second = copy_of (C.rests s.pair.second.copy) (C.holds s.pair.second.copy) s.pair.second.alive s.second in
+    let old = g.P.Plant.view s.plant in
+    let es = c.in-Some.entries in
+    let e : entries_reserved s.reserved ≡ es = ap entries_reserved (sym c.take.ensures.value ∙ c.in-Some.is) in
+    ∥∥₁_elim (s.kept told) ∥∥₁_prop (λ k. ∥∥₁_map s.place (λ has. rw (c.set_last.ensures, c.requires.none)
+    (same_placed S s.level first second old (λ pages d r. g.met.C.Copying.rests_reads s.pair.first.copy pages d r) (λ was next d r. g.met.C.Copying.holds_reads s.pair.first.copy was next d r) (λ pages d r. g.met.C.Copying.rests_reads s.pair.second.copy pages d r) (λ was next d r. g.met.C.Copying.holds_reads s.pair.second.copy was next d r) s.journal.batches (has_ends s.placed s.journal.batches (s.place_reserved c.requires.reserved) has)
+    (record { first = c.now-now.result; last = c.now-now.result; by = c.args.by; fate = Kept; entries = es })
+    (record { first = c.now-now.result; last = 0; by = c.args.by; fate = Flying; entries = es })
+    (subst (λ (x : Option Batch). Keeps S s.journal.batches x s.level first second old) c.requires.none k) refl c.now-now.ensures
+    (subst (λ (l : List Entry). IsUntold S old l) e (c.requires.untold told)) c.requires.first c.requires.second refl refl refl c.now-now.ensures
+    (subst (λ (l : List Entry). S.run S.base (kept_all s.journal.batches ++ l) ≡ S.run S.base (kept_all s.journal.batches)) e (c.requires.queue told)))))

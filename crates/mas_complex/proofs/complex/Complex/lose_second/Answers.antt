@@ -1,0 +1,38 @@
+use Rattle.std.proofs.Common.{refl, subst, ◌≡◌, false}
+use Rattle.std.proofs.Math.Logic.{∥∥₁_map}
+use Rattle.mas_types.specs.declared.ids.Dev.TheVariants.{Ckpt1, Ckpt2}
+use Rattle.mas_complex.specs.Journals.{kept_all, entries_in}
+use Rattle.mas_complex.specs.Crash.{Setting, setting, copy_of}
+use Rattle.mas_complex.proofs.Sides.{lose_side, on_second}
+use Rattle.mas_complex.proofs.Lost.{lost_later}
+use Rattle.mas_complex.proofs.Shows.{lose_second_bytes}
+use Rattle.mas_complex.proofs.complex.Complex.lose_second.Goals as goal
+
+pub invariant_of-self-clause-kept : goal.invariant_of-self-clause-kept
+invariant_of-self-clause-kept g c told =
+    let s = c.args.self.now in
+    let C = g.C.Copying in
+    let S : Setting = setting C.reads s.base s.since in
+    let first = copy_of (C.rests s.pair.first.copy) (C.holds s.pair.first.copy) s.pair.first.alive s.first in
+    let second = copy_of (C.rests s.pair.second.copy) (C.holds s.pair.second.copy) s.pair.second.alive s.second in
+    let old = g.P.Plant.view s.plant in
+    let new = g.P.Plant.view c.lose.new.plant in
+    let p = c.lose.new.self in
+    let first' = copy_of (C.rests p.first.copy) (C.holds p.first.copy) p.first.alive s.first in
+    let second' = copy_of (C.rests p.second.copy) (C.holds p.second.copy) p.second.alive s.second in
+    let K = kept_all s.journal.batches in
+    let F = entries_in s.current in
+    let e = c.lose.ensures in
+    ∥∥₁_map (s.kept told) (λ kk. on_second S s.journal.batches s.current s.level first second first' second' old new kk
+    (λ pages d r. g.met.C.Copying.rests_reads s.pair.first.copy pages d r) (λ was next d r. g.met.C.Copying.holds_reads s.pair.first.copy was next d r)
+    (lose_side S s.level K F Ckpt2 old new second.rests second'.rests second.holds second'.holds second.place second'.place second.alive second'.alive kk.second_at (λ pages d r. g.met.C.Copying.rests_reads s.pair.second.copy pages d r) (λ was next d r. g.met.C.Copying.holds_reads s.pair.second.copy was next d r) (e.during told) e.alive (e.gone told refl e.alive))
+    (λ x. rw (e.other) x))
+
+pub invariant_of-self-clause-first_lost : goal.invariant_of-self-clause-first_lost
+invariant_of-self-clause-first_lost g c dead =
+    let s = c.args.self.now in
+    let e = c.lose.ensures in
+    lost_later Ckpt1 s.pair.first.alive (g.P.Plant.view s.plant) (g.P.Plant.view c.lose.new.plant) e.loses.goes s.first_lost (subst (λ h. h.alive ≡ false) e.other dead)
+
+pub returns-clause-bytes : goal.returns-clause-bytes
+returns-clause-bytes g c told = lose_second_bytes (g.P.Plant.view c.args.self.now.plant) (g.P.Plant.view c.lose.new.plant) (c.lose.ensures.during told)

@@ -1,0 +1,28 @@
+use Rattle.std.proofs.Math.Logic.{∥∥₁_map}
+use Rattle.mas_types.specs.declared.ids.Dev.TheVariants.{Ckpt1, Ckpt2}
+use Rattle.mas_complex.specs.Crash.{Setting, setting, copy_of}
+use Rattle.mas_complex.proofs.Lost.{lost_later}
+use Rattle.mas_complex.proofs.Fates.{says_keep}
+use Rattle.mas_complex.proofs.complex.Complex.say.Goals as goal
+
+pub invariant_of-self-clause-kept : goal.invariant_of-self-clause-kept
+invariant_of-self-clause-kept g c told =
+    let s = c.args.self.now in
+    let C = g.C.Copying in
+    let S : Setting = setting C.reads s.base s.since in
+    let first = copy_of (C.rests s.pair.first.copy) (C.holds s.pair.first.copy) s.pair.first.alive s.first in
+    let second = copy_of (C.rests s.pair.second.copy) (C.holds s.pair.second.copy) s.pair.second.alive s.second in
+    let old = g.P.Plant.view s.plant in
+    let new = g.P.Plant.view c.say.new.self in
+    ∥∥₁_map (s.kept told) (λ k. says_keep S s.journal.batches s.current s.level first second old new c.args.line.now c.say.result k (λ pages d r. g.met.C.Copying.rests_reads s.pair.first.copy pages d r) (λ was next d r. g.met.C.Copying.holds_reads s.pair.first.copy was next d r) (λ pages d r. g.met.C.Copying.rests_reads s.pair.second.copy pages d r) (λ was next d r. g.met.C.Copying.holds_reads s.pair.second.copy was next d r)
+    c.say.ensures.acts.goes c.say.ensures.acts.time (c.say.ensures.content told) (c.requires.told told))
+
+pub invariant_of-self-clause-first_lost : goal.invariant_of-self-clause-first_lost
+invariant_of-self-clause-first_lost g c dead =
+    let s = c.args.self.now in
+    lost_later Ckpt1 s.pair.first.alive (g.P.Plant.view s.plant) (g.P.Plant.view c.say.new.self) c.say.ensures.acts.goes s.first_lost dead
+
+pub invariant_of-self-clause-second_lost : goal.invariant_of-self-clause-second_lost
+invariant_of-self-clause-second_lost g c dead =
+    let s = c.args.self.now in
+    lost_later Ckpt2 s.pair.second.alive (g.P.Plant.view s.plant) (g.P.Plant.view c.say.new.self) c.say.ensures.acts.goes s.second_lost dead

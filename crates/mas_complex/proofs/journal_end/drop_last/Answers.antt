@@ -1,0 +1,8 @@
+use Rattle.std.proofs.Common.{ℕ, ◌-◌, ◌∙◌, ap, arith}
+use Rattle.std.specs.Prelude.{remove}
+use Rattle.mas_complex.proofs.BatchEnds.{last_removed}
+use Rattle.mas_complex.proofs.journal_end.drop_last.Goals as goal
+
+pub returns-then-count-gt0 : goal.returns-then-count-gt0
+returns-then-count-gt0 c =
+    c.remove.ensures.rest ∙ ap (λ (n : ℕ). remove c.args.batches.now (n - 1)) c.len-count.ensures ∙ last_removed c.args.batches.now (omega arith)

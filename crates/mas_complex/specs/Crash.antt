@@ -1,0 +1,141 @@
+-- What a crash leaves of the two copies, and what the console tells.
+use Rattle.std.specs.Prelude.{◌≡◌, ◌⊎◌, ℕ, ◌+◌, ◌≤◌, ◌<◌, Bool, true, false, List, [], ◌∷◌, ◌++◌, length, drop, Option, Some, None}
+use Rattle.mas_types.specs.declared.ids.Dev.TheVariants.{Ckpt1, Ckpt2}
+use Rattle.spool_disk.specs.View.{View, Disk, Line, IsImage, LeavesOnly, disk_at, disk_now}
+use Rattle.spool_disk.specs.Acts.{top}
+use Rattle.ckpt_copy.specs.Pages.{level}
+use Rattle.mas_types.specs.declared.journals.Batch.{Batch}
+use Rattle.mas_types.specs.declared.journals.Entry.{Entry}
+use Rattle.mas_complex.specs.declared.places.Place.{Place}
+use Rattle.mas_complex.specs.declared.places.Place.TheVariants.{Before, Put, Opened, Unsure}
+use Rattle.mas_types.specs.declared.ids.MemberId.{MemberId}
+use Rattle.mas_types.specs.declared.queues.Queue.{Queue}
+use Rattle.duplex_pair.specs.Finds.{best}
+use Rattle.mas_complex.specs.Meaning.{StandFor, run, Closes}
+use Rattle.mas_complex.specs.Journals.{kept, flying, kept_all, in_flight, entries_in, StepIsKept, has_step, AreSettled, IsBegun}
+
+-- what pages, entries and lines mean, and where the value began
+pub record Setting : Type 1 where
+  pub reads : List ℕ → Option (List ℕ)
+  pub stand : Queue → List ℕ → Type 0
+  pub run : Queue → List Entry → Queue
+  pub closes : List ℕ → MemberId → ℕ → Type 0
+  pub base : Queue
+  pub since : ℕ
+
+-- what a crash leaves of a device: an image, or nothing of a lost one
+abbrev pub IsLeft : Disk → Option (List ℕ) → Type 0
+IsLeft disk None = disk.lost ≡ true
+IsLeft disk (Some image) = IsImage disk image
+
+abbrev pub SomeLeft : Option (List ℕ) → Option (List ℕ) → Type 0
+SomeLeft None None = ⊥
+SomeLeft None (Some two) = Unit {0}
+SomeLeft (Some one) two = Unit {0}
+
+abbrev pub read_left : (List ℕ → Option (List ℕ)) → Option (List ℕ) → Option (List ℕ)
+read_left reads None = None
+read_left reads (Some image) = reads image
+
+-- the pages that a start finds
+abbrev pub found : Setting → Option (List ℕ) → Option (List ℕ) → Option (List ℕ)
+found S one two = best (read_left S.reads one) (read_left S.reads two)
+
+-- pages are found, which stand for the queue after these entries
+abbrev pub IsFound : Setting → List Entry → Option (List ℕ) → Type 0
+IsFound S entries None = ⊥
+IsFound S entries (Some pages) = S.stand (S.run S.base entries) pages
+
+-- the queue after the kept batches of a moment, with the batch in flight or without it
+abbrev pub IsAfter : Setting → List Batch → ℕ → Option (List ℕ) → Type 0
+IsAfter S J t pages = IsFound S (kept J t) pages ⊎ IsFound S (kept J t ++ flying J t) pages
+
+-- each crash at a moment at which a copy is left leaves such a queue
+abbrev pub CrashAt : Setting → List Batch → View → ℕ → Type 0
+CrashAt S J v t = (one two : Option (List ℕ)) → IsLeft (disk_at v t Ckpt1) one → IsLeft (disk_at v t Ckpt2) two → SomeLeft one two → IsAfter S J t (found S one two)
+
+-- the whole lines tell only such steps
+abbrev pub EachTells : (List ℕ → MemberId → ℕ → Type 0) → List Line → (MemberId → ℕ → Type 0) → Type 0
+EachTells closes [] P = Unit {0}
+EachTells closes (line ∷ lines) P = (line.whole ≡ true → (m : MemberId) (s : ℕ) → closes line.text m s → P m s) × EachTells closes lines P
+
+-- the lines said since the value began
+abbrev pub said : Setting → View → ℕ → List Line
+said S v t = drop (length (v.world S.since).console) (v.world t).console
+
+-- each step told at a moment was kept by then
+abbrev pub ToldAt : Setting → List Batch → View → ℕ → Type 0
+ToldAt S J v t = EachTells S.closes (said S v t) (StepIsKept J t)
+
+-- what is said stays
+pub record Begins (old new : List Line) : Type 0 where
+  pub more : List Line
+  pub is : new ≡ old ++ more
+
+-- no line tells a step that has an entry among these
+abbrev pub IsUntold : Setting → View → List Entry → Type 0
+IsUntold S v entries = EachTells S.closes (said S v v.now) (λ m s. has_step m s entries ≡ false)
+
+-- pages of this level that stand for the queue after these entries
+pub record Stands (S : Setting) (l : ℕ) (entries : List Entry) (pages : List ℕ) : Type 0 where
+  pub at_level : level pages ≡ l
+  pub queue : S.stand (S.run S.base entries) pages
+
+-- an image reads as pages of the kept entries, or with those in flight
+pub record ReadsAs (S : Setting) (reached : ℕ) (K F : List Entry) (image : List ℕ) : Type 0 where
+  pub pages : List ℕ
+  pub reads : S.reads image ≡ Some pages
+  pub stands : Stands S reached K pages ⊎ Stands S (reached + 1) (K ++ F) pages
+
+abbrev pub ReadsOne : Setting → ℕ → List Entry → List Entry → Disk → Type 0
+ReadsOne S reached K F disk = LeavesOnly disk (ReadsAs S reached K F)
+
+-- the next pages of a copy
+pub record Next (S : Setting) (reached : ℕ) (K F : List Entry) (P : List ℕ → Type 0) : Type 0 where
+  pub next : List ℕ
+  pub stands : Stands S (reached + 1) (K ++ F) next
+  pub here : P next
+
+abbrev pub IsAt : Setting → (List ℕ → Disk → Type 0) → (List ℕ → List ℕ → Disk → Type 0) → ℕ → List Entry → List Entry → Place → List ℕ → Disk → Type 0
+IsAt S rests holds reached K F Before was disk = rests was disk
+IsAt S rests holds reached K F Put was disk = Next S reached K F (λ next. holds was next disk)
+IsAt S rests holds reached K F Opened was disk = Next S reached K F (λ next. rests next disk)
+IsAt S rests holds reached K F Unsure was disk = ReadsOne S reached K F disk
+
+-- an alive copy at its place
+pub record Side (S : Setting) (rests : List ℕ → Disk → Type 0) (holds : List ℕ → List ℕ → Disk → Type 0) (reached : ℕ) (K F : List Entry) (place : Place) (disk : Disk) : Type 0 where
+  pub was : List ℕ
+  pub stands : Stands S reached K was
+  pub here : IsAt S rests holds reached K F place was disk
+
+-- a copy, alive or lost
+pub record OneCopy (S : Setting) (rests : List ℕ → Disk → Type 0) (holds : List ℕ → List ℕ → Disk → Type 0) (reached : ℕ) (K F : List Entry) (place : Place) (alive : Bool) (now : ℕ) (disk : Disk) : Type 0 where
+  pub at : alive ≡ true → Side S rests holds reached K F place disk
+  pub gone : alive ≡ false → now < top → disk.lost ≡ true
+
+-- a call's own names for the two copies
+pub record Copy : Type 1 where
+  pub rests : List ℕ → Disk → Type 0
+  pub holds : List ℕ → List ℕ → Disk → Type 0
+  pub alive : Bool
+  pub place : Place
+
+abbrev pub CopyAt : Setting → ℕ → List Entry → List Entry → Copy → ℕ → Disk → Type 0
+CopyAt S reached K F c now disk = OneCopy S c.rests c.holds reached K F c.place c.alive now disk
+
+abbrev pub copy_of : (List ℕ → Disk → Type 0) → (List ℕ → List ℕ → Disk → Type 0) → Bool → Place → Copy
+copy_of rests holds alive place = record { rests = rests; holds = holds; alive = alive; place = place }
+
+abbrev pub setting : (List ℕ → Option (List ℕ)) → Queue → ℕ → Setting
+setting reads base since = record { reads = reads; stand = StandFor; run = run; closes = Closes; base = base; since = since }
+
+-- What the shared value keeps of its past, and of its present below the greatest moment.
+pub record Keeps (S : Setting) (js : List Batch) (current : Option Batch) (reached : ℕ) (first second : Copy) (v : View) : Type 0 where
+  pub started : S.since ≤ v.now
+  pub settled : AreSettled js v.now
+  pub begun : IsBegun current v.now
+  pub crash : (t : ℕ) → S.since ≤ t → t ≤ v.now → t < top → CrashAt S (js ++ in_flight current) v t
+  pub told : (t : ℕ) → S.since ≤ t → t ≤ v.now → ToldAt S (js ++ in_flight current) v t
+  pub grows : (t : ℕ) → S.since ≤ t → t ≤ v.now → Begins (v.world t).console (v.world v.now).console
+  pub first_at : CopyAt S reached (kept_all js) (entries_in current) first v.now (disk_now v Ckpt1)
+  pub second_at : CopyAt S reached (kept_all js) (entries_in current) second v.now (disk_now v Ckpt2)

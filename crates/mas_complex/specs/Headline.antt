@@ -1,0 +1,54 @@
+-- What holds at each moment since a shared value was made, in the words of journal, images and console.
+use Rattle.std.specs.Prelude.{◌≡◌, ◌⊎◌, ℕ, ◌≤◌, ◌<◌, true, List, ◌++◌, length, drop, Option, Some, None, All, Contains}
+use Rattle.mas_types.specs.declared.ids.Dev.TheVariants.{Ckpt1, Ckpt2}
+use Rattle.mas_types.specs.declared.ids.MemberId.{MemberId}
+use Rattle.mas_types.specs.declared.journals.Journal.{Journal}
+use Rattle.mas_types.specs.declared.journals.Fate.TheVariants.{Kept}
+use Rattle.mas_types.specs.declared.queues.Queue.{Queue}
+use Rattle.mas_types.specs.declared.answers.Closing.{Closing}
+use Rattle.mas_types.specs.Journal.{kept_at, flying_at}
+use Rattle.mas_types.specs.Closings.{closing_line}
+use Rattle.spool_disk.specs.View.{View, Line, Throughout, disk_at}
+use Rattle.spool_disk.specs.Acts.{top}
+use Rattle.duplex_pair.specs.Finds.{best}
+use Rattle.mas_complex.specs.Meaning.{run, StandFor, is_telling}
+use Rattle.mas_complex.specs.Journals.{has_step}
+use Rattle.mas_complex.specs.Crash.{IsLeft, SomeLeft, read_left}
+
+-- pages are found, which stand for the queue
+abbrev pub FoundFor : Queue → Option (List ℕ) → Type 0
+FoundFor Q None = ⊥
+FoundFor Q (Some pages) = StandFor Q pages
+
+-- the pages that a start finds stand for the queue after the kept entries, with those in flight or without them
+abbrev pub IsAfterKept : Queue → Journal → ℕ → Option (List ℕ) → Type 0
+IsAfterKept base J t pages =
+    FoundFor (run base (kept_at J t)) pages ⊎ FoundFor (run base (kept_at J t ++ flying_at J t)) pages
+
+-- at each moment at which a copy is left, for each choice of images
+abbrev pub IsCrashSafe : (List ℕ → Option (List ℕ)) → Queue → Journal → ℕ → View → Type 0
+IsCrashSafe reads base J since v = (t : ℕ) → since ≤ t → t ≤ v.now → t < top
+    → (one two : Option (List ℕ)) → IsLeft (disk_at v t Ckpt1) one → IsLeft (disk_at v t Ckpt2) two → SomeLeft one two
+    → IsAfterKept base J t (best (read_left reads one) (read_left reads two))
+
+abbrev pub whole : List ℕ → Line
+whole text = record { text = text; whole = true }
+
+-- each batch with an entry of the step was kept by the moment
+abbrev pub IsStepKept : Journal → ℕ → MemberId → ℕ → Type 0
+IsStepKept J t by at = All (λ b. has_step by at b.entries ≡ true → (b.fate ≡ Kept) × (b.last ≤ t)) J.batches
+
+-- what stands on the console behind what stood there at first, at a moment
+abbrev pub added : View → ℕ → ℕ → List Line
+added v since t = drop (length (v.world since).console) (v.world t).console
+
+-- at each moment, where a line that was added since tells a step, the step's entries are kept
+abbrev pub AreToldKept : Journal → ℕ → View → Type 0
+AreToldKept J since v = Throughout since v.now (λ t.
+    (by : MemberId) (at : ℕ) (end : Closing) → is_telling end ≡ true
+    → Contains (added v since t) (whole (closing_line by at end)) → IsStepKept J t by at)
+
+-- both
+pub record Headline (reads : List ℕ → Option (List ℕ)) (base : Queue) (since : ℕ) (J : Journal) (v : View) : Type 0 where
+  pub crash : IsCrashSafe reads base J since v
+  pub told : AreToldKept J since v

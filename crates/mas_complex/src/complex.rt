@@ -1,0 +1,790 @@
+//! The shared value.
+ghost use Rattle.std.specs.Prelude.{◌≡◌, ◌≢◌, ◌⊎◌, ◌+◌, ◌≤◌, ◌<◌, ◌++◌, [], ◌∷◌, ℕ, List, Option, Some, None, length, true, false, OnOk, OnErr, IfOk, IsErrOf, IsSome};
+ghost use Rattle.std.specs.Prelude.{Bool};
+ghost use Rattle.mas_types.specs.declared.ids.MemberId.{MemberId};
+ghost use Rattle.mas_types.specs.declared.ids.Dev.{Dev};
+ghost use Rattle.mas_types.specs.declared.journals.Batch.{Batch};
+ghost use Rattle.mas_types.specs.declared.journals.Entry.{Entry};
+ghost use Rattle.mas_types.specs.declared.ids.Dev.TheVariants.{Ckpt1, Ckpt2};
+ghost use Rattle.mas_types.specs.declared.journals.Fate.TheVariants.{Kept as FateKept, Dropped as FateDropped};
+ghost use Rattle.spool_disk.specs.View.{View, disk_now};
+ghost use Rattle.spool_disk.specs.Acts.{top, Acts, Goes, Loses, Says};
+ghost use Rattle.spool_disk.specs.declared.plant.Part.TheVariants.{Console, Disk};
+ghost use Rattle.ckpt_copy.specs.Pages.{bytes_of, level, page_in, ArePages, Covers};
+ghost use Rattle.duplex_pair.specs.declared.errors.PairNo.TheVariants.{Halted as PairNoHalted, BothLost as PairNoBothLost};
+ghost use Rattle.duplex_pair.specs.Halves.{IsCkpt, pick, other, IsBothLost, SomeAlive, Acted, AreReady};
+ghost use Rattle.duplex_pair.specs.Both.{PairActed};
+ghost use Rattle.duplex_pair.specs.Outcomes.{pair_stopped};
+ghost use Rattle.mas_complex.specs.declared.places.Place.TheVariants.{Before as AtBefore, Put as AtPut, Opened as AtOpened, Unsure as AtUnsure};
+ghost use Rattle.mas_complex.specs.Journals.{coming, kept_all, entries_in, entries_reserved, in_flight, StepIsKept, begun, fated, HasPlace, with_last, end_of, IsKeptAt};
+ghost use Rattle.mas_complex.specs.Meaning.{StandFor, run, Closes};
+ghost use Rattle.mas_complex.specs.Places.{IsPlaceAfter, all_open};
+ghost use Rattle.mas_complex.specs.Crash.{Keeps, setting, copy_of, CopyAt, IsUntold};
+ghost use Rattle.mas_complex.specs.Headline.{Headline};
+ghost use Rattle.mas_complex.specs.Elsewhere.{Elsewhere};
+
+use crate::journal_end::{empty_place, finished, set_last};
+use crate::places::{Place, place_after};
+use crate::steady::Steady;
+use duplex_pair::{Pair, PairNo};
+use mas_types::{Batch, Dev, Entry, Fate, Journal, List, MemberId, NoMemory, Page, Queue};
+use spool_disk::{Act, Plant};
+use std::alloc::Global;
+
+/// What a shared value hands out at its end.
+#[derive(Drop)]
+pub struct Ended<P: Plant + Drop> {
+    pub plant: P,
+    pub base: Queue,
+    pub since: u64,
+    pub journal: Journal,
+}
+
+/// A plant with two copies of the checkpoint, which stand for a queue, and the journal of what was done since `since`, when
+/// they stood for `base`.
+#[derive(Drop)]
+pub struct Complex<P: Plant + Drop, C: Steady + Drop> {
+    pub plant: P,
+    pub pair: Pair<C>,
+    pub base: Queue,
+    pub since: u64,
+    /// The batches that have their fates, and the place of one to come.
+    pub journal: Journal,
+    /// The batch in flight.
+    pub current: Option<Batch>,
+    /// The entries of the batch to come.
+    pub reserved: Option<List<Entry>>,
+    /// The journal ends in the place of the batch to come.
+    pub placed: bool,
+    /// How far the batch in flight has come on CKPT1.
+    pub first: Place,
+    /// And on CKPT2.
+    pub second: Place,
+    /// The level of the kept pages.
+    pub level: u64,
+
+    /// What a crash leaves and the console tells at each moment since then, and where each copy stands now.
+    ghost kept: { P.tells → ∥ Keeps (setting C.reads base since) journal.batches current level (copy_of (C.rests pair.first.copy) (C.holds pair.first.copy) pair.first.alive first) (copy_of (C.rests pair.second.copy) (C.holds pair.second.copy) pair.second.alive second) (P.view plant) ∥₁ },
+
+    /// A copy that counts as alive is ready.
+    ghost first_ready: { pair.first.alive ≡ true → C.fits pair.first.copy (P.view plant) ≡ true },
+
+    ghost second_ready: { pair.second.alive ≡ true → C.fits pair.second.copy (P.view plant) ≡ true },
+
+    /// The device of one that counts as lost is lost.
+    ghost first_lost: { pair.first.alive ≡ false → (P.view plant).lost (Disk Ckpt1) ≡ true },
+
+    ghost second_lost: { pair.second.alive ≡ false → (P.view plant).lost (Disk Ckpt2) ≡ true },
+
+    /// Nothing is reserved while a batch is in flight.
+    ghost one: { IsSome current → IsSome reserved → ⊥ },
+
+    /// A batch that is reserved or in flight has its place in the journal.
+    ghost place_reserved: { IsSome reserved → placed ≡ true },
+
+    ghost place_current: { IsSome current → placed ≡ true },
+
+    ghost place: { ∥ HasPlace placed journal.batches ∥₁ },
+}
+
+impl<P: Plant + Drop, C: Steady + Drop> Complex<P, C> {
+    /// A shared value of a plant and the two copies on it. Each copy that counts as alive is at rest with pages of this
+    /// level that stand for the base, and the device of one that counts as lost is lost.
+    pub fn make(alloc: Global, plant: P, pair: Pair<C>, base: Queue, level: u64) -> Complex<P, C>
+        requires ready1 { pair.first.alive ≡ true → C.ready pair.first.copy (P.view plant) }
+        requires ready2 { pair.second.alive ≡ true → C.ready pair.second.copy (P.view plant) }
+        requires lost1 { pair.first.alive ≡ false → (P.view plant).lost (Disk Ckpt1) ≡ true }
+        requires lost2 { pair.second.alive ≡ false → (P.view plant).lost (Disk Ckpt2) ≡ true }
+        requires first { P.tells → ∥ CopyAt (setting C.reads base (P.view plant).now) level [] [] (copy_of (C.rests pair.first.copy) (C.holds pair.first.copy) pair.first.alive AtBefore) (P.view plant).now (disk_now (P.view plant) Ckpt1) ∥₁ }
+        requires second { P.tells → ∥ CopyAt (setting C.reads base (P.view plant).now) level [] [] (copy_of (C.rests pair.second.copy) (C.holds pair.second.copy) pair.second.alive AtBefore) (P.view plant).now (disk_now (P.view plant) Ckpt2) ∥₁ }
+        ensures plant { result.plant ≡ plant }
+        ensures pair { result.pair ≡ pair }
+        ensures base { result.base ≡ base }
+        ensures since { result.since ≡ (P.view plant).now }
+        ensures journal { result.journal.batches ≡ [] }
+        ensures placed { result.placed ≡ false }
+        ensures current { result.current ≡ None }
+        ensures reserved { result.reserved ≡ None }
+        ensures places { (result.first ≡ AtBefore) × (result.second ≡ AtBefore) }
+        ensures level { result.level ≡ level }
+    {
+        let since = plant.now();
+        Complex {
+            plant,
+            pair,
+            base,
+            since,
+            journal: Journal {
+                batches: List::new(alloc),
+            },
+            current: None,
+            reserved: None,
+            placed: false,
+            first: Place::Before,
+            second: Place::Before,
+            level,
+        }
+    }
+
+    // The journal gets the place of a batch to come.
+    fn add_place(&mut self, alloc: Global) -> Result<(), NoMemory>
+        requires none { self.old.placed ≡ false }
+        ensures plant { self.new.plant ≡ self.old.plant }
+        ensures pair { self.new.pair ≡ self.old.pair }
+        ensures base { self.new.base ≡ self.old.base }
+        ensures since { self.new.since ≡ self.old.since }
+        ensures current { self.new.current ≡ self.old.current }
+        ensures reserved { self.new.reserved ≡ self.old.reserved }
+        ensures first { self.new.first ≡ self.old.first }
+        ensures second { self.new.second ≡ self.old.second }
+        ensures level { self.new.level ≡ self.old.level }
+        ensures kept { kept_all self.new.journal.batches ≡ kept_all self.old.journal.batches }
+        ensures err { OnErr result ((self.new.journal ≡ self.old.journal) × (self.new.placed ≡ self.old.placed)) }
+        ensures placed { OnOk result (self.new.placed ≡ true) }
+        ensures grown { OnOk result ((place : Batch) × (self.new.journal.batches ≡ self.old.journal.batches ++ place ∷ [])) }
+    {
+        let place = empty_place(alloc, self.plant.now());
+        self.journal.batches.push(place)?;
+        self.placed = true;
+        Ok(())
+    }
+
+    /// The batch to come gets its place in the journal. Nothing may be in flight. A batch that was reserved before and
+    /// hasn't begun is given up.
+    ///
+    /// NoMemory comes where the place can't be had; the value is as it was.
+    pub fn reserve(&mut self, alloc: Global, entries: List<Entry>) -> Result<(), NoMemory>
+        requires none { self.old.current ≡ None }
+        ensures plant { self.new.plant ≡ self.old.plant }
+        ensures pair { self.new.pair ≡ self.old.pair }
+        ensures base { self.new.base ≡ self.old.base }
+        ensures since { self.new.since ≡ self.old.since }
+        ensures current { self.new.current ≡ self.old.current }
+        ensures first { self.new.first ≡ self.old.first }
+        ensures second { self.new.second ≡ self.old.second }
+        ensures level { self.new.level ≡ self.old.level }
+        ensures kept { kept_all self.new.journal.batches ≡ kept_all self.old.journal.batches }
+        ensures err { OnErr result ((self.new.journal ≡ self.old.journal) × (self.new.reserved ≡ self.old.reserved)) }
+        ensures reserved { OnOk result (self.new.reserved ≡ Some entries) }
+        ensures placed { OnOk result (self.new.placed ≡ true) }
+        ensures grown { OnOk result (self.old.placed ≡ false → (place : Batch) × (self.new.journal.batches ≡ self.old.journal.batches ++ place ∷ [])) }
+        ensures unplaced { OnErr result (self.new.placed ≡ self.old.placed) }
+    {
+        if !self.placed {
+            self.add_place(alloc)?;
+        }
+        self.reserved = Some(entries);
+        Ok(())
+    }
+
+    // The reserved batch begins.
+    fn begin(&mut self, by: MemberId)
+        requires none { self.old.current ≡ None }
+        requires first { self.old.pair.first.alive ≡ true → self.old.first ≡ AtBefore }
+        requires second { self.old.pair.second.alive ≡ true → self.old.second ≡ AtBefore }
+        requires untold { P.tells → IsUntold (setting C.reads self.old.base self.old.since) (P.view self.old.plant) (entries_reserved self.old.reserved) }
+        ensures plant { self.new.plant ≡ self.old.plant }
+        ensures pair { self.new.pair ≡ self.old.pair }
+        ensures base { self.new.base ≡ self.old.base }
+        ensures since { self.new.since ≡ self.old.since }
+        ensures journal { self.new.journal ≡ self.old.journal }
+        ensures placed { self.new.placed ≡ self.old.placed }
+        ensures first { self.new.first ≡ self.old.first }
+        ensures second { self.new.second ≡ self.old.second }
+        ensures level { self.new.level ≡ self.old.level }
+        ensures coming { entries_in self.new.current ≡ entries_reserved self.old.reserved }
+        ensures begun { (entries : List Entry) → self.old.reserved ≡ Some entries → self.new.current ≡ Some (begun (P.view self.old.plant).now by entries) }
+    {
+        let first = self.plant.now();
+        if let Some(entries) = self.reserved.take() {
+            self.current = Some(Batch {
+                first,
+                last: u64::MAX,
+                by,
+                fate: Fate::Flying,
+                entries,
+            });
+        }
+    }
+
+    // The next pages, behind the closed gate of CKPT1.
+    fn put_first(&mut self, by: MemberId, pages: &[Page], changed: &[u16]) -> Result<(), PairNo>
+        requires place { self.old.pair.first.alive ≡ true → self.old.first ≡ AtBefore }
+        requires as_many { self.old.pair.first.alive ≡ true → length pages.now ≡ C.count self.old.pair.first.copy }
+        requires room { self.old.pair.first.alive ≡ true → 1 ≤ C.room self.old.pair.first.copy }
+        requires changed { self.old.pair.first.alive ≡ true → ArePages (C.count self.old.pair.first.copy) changed.now }
+        requires covered { P.tells → self.old.pair.first.alive ≡ true → (was : List ℕ) → C.reads (disk_now (P.view self.old.plant) Ckpt1).bytes ≡ Some was → Covers (C.count self.old.pair.first.copy) changed.now was (bytes_of pages.now) }
+        requires level { P.tells → level (bytes_of pages.now) ≡ self.old.level + 1 }
+        requires queue { P.tells → ∥ StandFor (run self.old.base (kept_all self.old.journal.batches ++ entries_in self.old.current)) (bytes_of pages.now) ∥₁ }
+        ensures place { IsPlaceAfter result AtPut self.new.first }
+        ensures count { C.count self.new.pair.first.copy ≡ C.count self.old.pair.first.copy }
+        ensures room { C.room self.new.pair.first.copy ≡ C.room self.old.pair.first.copy }
+        ensures pair_second { self.new.pair.second ≡ self.old.pair.second }
+        ensures base { self.new.base ≡ self.old.base }
+        ensures since { self.new.since ≡ self.old.since }
+        ensures journal { self.new.journal ≡ self.old.journal }
+        ensures current { self.new.current ≡ self.old.current }
+        ensures reserved { self.new.reserved ≡ self.old.reserved }
+        ensures placed { self.new.placed ≡ self.old.placed }
+        ensures second { self.new.second ≡ self.old.second }
+        ensures level { self.new.level ≡ self.old.level }
+        ensures acted { Acted by.0 Ckpt1 self.old.pair.first.alive self.new.pair.first.alive (pair_stopped result) (P.view self.old.plant) (P.view self.new.plant) }
+        ensures both { IsErrOf result PairNoBothLost → IsBothLost self.new.pair.first.alive self.new.pair.second.alive }
+        ensures ok { OnOk result (SomeAlive self.new.pair.first.alive self.new.pair.second.alive) }
+        ensures others { P.tells → (d : Dev) → d ≢ Ckpt1 → (disk_now (P.view self.new.plant) d).bytes ≡ (disk_now (P.view self.old.plant) d).bytes }
+        ensures elsewhere { P.tells → Elsewhere Ckpt1 (P.view self.old.plant) (P.view self.new.plant) }
+        ensures behind { OnOk result (P.tells → self.new.pair.first.alive ≡ true → C.behind self.new.pair.first.copy (disk_now (P.view self.new.plant) Ckpt1).bytes ≡ bytes_of pages.now) }
+    {
+        let done = self
+            .pair
+            .put(&mut self.plant, by, Dev::Ckpt1, pages, changed);
+        self.first = place_after(&done, Place::Put);
+        done
+    }
+
+    // The gate of CKPT1.
+    fn open_first(&mut self, by: MemberId) -> Result<(), PairNo>
+        requires place { self.old.pair.first.alive ≡ true → self.old.first ≡ AtPut }
+        requires room { self.old.pair.first.alive ≡ true → 1 ≤ C.room self.old.pair.first.copy }
+        ensures place { IsPlaceAfter result AtOpened self.new.first }
+        ensures count { C.count self.new.pair.first.copy ≡ C.count self.old.pair.first.copy }
+        ensures room { OnOk result (self.new.pair.first.alive ≡ true → C.room self.new.pair.first.copy ≡ C.room_after (C.room self.old.pair.first.copy)) }
+        ensures pair_second { self.new.pair.second ≡ self.old.pair.second }
+        ensures base { self.new.base ≡ self.old.base }
+        ensures since { self.new.since ≡ self.old.since }
+        ensures journal { self.new.journal ≡ self.old.journal }
+        ensures current { self.new.current ≡ self.old.current }
+        ensures reserved { self.new.reserved ≡ self.old.reserved }
+        ensures placed { self.new.placed ≡ self.old.placed }
+        ensures second { self.new.second ≡ self.old.second }
+        ensures level { self.new.level ≡ self.old.level }
+        ensures acted { Acted by.0 Ckpt1 self.old.pair.first.alive self.new.pair.first.alive (pair_stopped result) (P.view self.old.plant) (P.view self.new.plant) }
+        ensures both { IsErrOf result PairNoBothLost → IsBothLost self.new.pair.first.alive self.new.pair.second.alive }
+        ensures ok { OnOk result (SomeAlive self.new.pair.first.alive self.new.pair.second.alive) }
+        ensures others { P.tells → (d : Dev) → d ≢ Ckpt1 → (disk_now (P.view self.new.plant) d).bytes ≡ (disk_now (P.view self.old.plant) d).bytes }
+        ensures elsewhere { P.tells → Elsewhere Ckpt1 (P.view self.old.plant) (P.view self.new.plant) }
+        ensures reads { OnOk result (P.tells → self.new.pair.first.alive ≡ true → C.reads (disk_now (P.view self.new.plant) Ckpt1).bytes ≡ Some (C.behind self.old.pair.first.copy (disk_now (P.view self.old.plant) Ckpt1).bytes)) }
+    {
+        let done = self.pair.open_copy(&mut self.plant, by, Dev::Ckpt1);
+        self.first = place_after(&done, Place::Opened);
+        done
+    }
+
+    fn lose_first(&mut self)
+        ensures pair_second { self.new.pair.second ≡ self.old.pair.second }
+        ensures base { self.new.base ≡ self.old.base }
+        ensures since { self.new.since ≡ self.old.since }
+        ensures journal { self.new.journal ≡ self.old.journal }
+        ensures current { self.new.current ≡ self.old.current }
+        ensures reserved { self.new.reserved ≡ self.old.reserved }
+        ensures placed { self.new.placed ≡ self.old.placed }
+        ensures first { self.new.first ≡ self.old.first }
+        ensures second { self.new.second ≡ self.old.second }
+        ensures level { self.new.level ≡ self.old.level }
+        ensures dead { self.new.pair.first.alive ≡ false }
+        ensures copy { self.new.pair.first.copy ≡ self.old.pair.first.copy }
+        ensures loses { Loses (Disk Ckpt1) (P.view self.old.plant) (P.view self.new.plant) }
+        ensures bytes { P.tells → (d : Dev) → (disk_now (P.view self.new.plant) d).bytes ≡ (disk_now (P.view self.old.plant) d).bytes }
+    {
+        self.pair.lose(&mut self.plant, Dev::Ckpt1);
+    }
+
+    // The next pages, behind the closed gate of CKPT2.
+    fn put_second(&mut self, by: MemberId, pages: &[Page], changed: &[u16]) -> Result<(), PairNo>
+        requires place { self.old.pair.second.alive ≡ true → self.old.second ≡ AtBefore }
+        requires as_many { self.old.pair.second.alive ≡ true → length pages.now ≡ C.count self.old.pair.second.copy }
+        requires room { self.old.pair.second.alive ≡ true → 1 ≤ C.room self.old.pair.second.copy }
+        requires changed { self.old.pair.second.alive ≡ true → ArePages (C.count self.old.pair.second.copy) changed.now }
+        requires covered { P.tells → self.old.pair.second.alive ≡ true → (was : List ℕ) → C.reads (disk_now (P.view self.old.plant) Ckpt2).bytes ≡ Some was → Covers (C.count self.old.pair.second.copy) changed.now was (bytes_of pages.now) }
+        requires level { P.tells → level (bytes_of pages.now) ≡ self.old.level + 1 }
+        requires queue { P.tells → ∥ StandFor (run self.old.base (kept_all self.old.journal.batches ++ entries_in self.old.current)) (bytes_of pages.now) ∥₁ }
+        ensures place { IsPlaceAfter result AtPut self.new.second }
+        ensures count { C.count self.new.pair.second.copy ≡ C.count self.old.pair.second.copy }
+        ensures room { C.room self.new.pair.second.copy ≡ C.room self.old.pair.second.copy }
+        ensures pair_first { self.new.pair.first ≡ self.old.pair.first }
+        ensures base { self.new.base ≡ self.old.base }
+        ensures since { self.new.since ≡ self.old.since }
+        ensures journal { self.new.journal ≡ self.old.journal }
+        ensures current { self.new.current ≡ self.old.current }
+        ensures reserved { self.new.reserved ≡ self.old.reserved }
+        ensures placed { self.new.placed ≡ self.old.placed }
+        ensures first { self.new.first ≡ self.old.first }
+        ensures level { self.new.level ≡ self.old.level }
+        ensures acted { Acted by.0 Ckpt2 self.old.pair.second.alive self.new.pair.second.alive (pair_stopped result) (P.view self.old.plant) (P.view self.new.plant) }
+        ensures both { IsErrOf result PairNoBothLost → IsBothLost self.new.pair.first.alive self.new.pair.second.alive }
+        ensures ok { OnOk result (SomeAlive self.new.pair.first.alive self.new.pair.second.alive) }
+        ensures others { P.tells → (d : Dev) → d ≢ Ckpt2 → (disk_now (P.view self.new.plant) d).bytes ≡ (disk_now (P.view self.old.plant) d).bytes }
+        ensures elsewhere { P.tells → Elsewhere Ckpt2 (P.view self.old.plant) (P.view self.new.plant) }
+        ensures behind { OnOk result (P.tells → self.new.pair.second.alive ≡ true → C.behind self.new.pair.second.copy (disk_now (P.view self.new.plant) Ckpt2).bytes ≡ bytes_of pages.now) }
+    {
+        let done = self
+            .pair
+            .put(&mut self.plant, by, Dev::Ckpt2, pages, changed);
+        self.second = place_after(&done, Place::Put);
+        done
+    }
+
+    // The gate of CKPT2.
+    fn open_second(&mut self, by: MemberId) -> Result<(), PairNo>
+        requires place { self.old.pair.second.alive ≡ true → self.old.second ≡ AtPut }
+        requires room { self.old.pair.second.alive ≡ true → 1 ≤ C.room self.old.pair.second.copy }
+        ensures place { IsPlaceAfter result AtOpened self.new.second }
+        ensures count { C.count self.new.pair.second.copy ≡ C.count self.old.pair.second.copy }
+        ensures room { OnOk result (self.new.pair.second.alive ≡ true → C.room self.new.pair.second.copy ≡ C.room_after (C.room self.old.pair.second.copy)) }
+        ensures pair_first { self.new.pair.first ≡ self.old.pair.first }
+        ensures base { self.new.base ≡ self.old.base }
+        ensures since { self.new.since ≡ self.old.since }
+        ensures journal { self.new.journal ≡ self.old.journal }
+        ensures current { self.new.current ≡ self.old.current }
+        ensures reserved { self.new.reserved ≡ self.old.reserved }
+        ensures placed { self.new.placed ≡ self.old.placed }
+        ensures first { self.new.first ≡ self.old.first }
+        ensures level { self.new.level ≡ self.old.level }
+        ensures acted { Acted by.0 Ckpt2 self.old.pair.second.alive self.new.pair.second.alive (pair_stopped result) (P.view self.old.plant) (P.view self.new.plant) }
+        ensures both { IsErrOf result PairNoBothLost → IsBothLost self.new.pair.first.alive self.new.pair.second.alive }
+        ensures ok { OnOk result (SomeAlive self.new.pair.first.alive self.new.pair.second.alive) }
+        ensures others { P.tells → (d : Dev) → d ≢ Ckpt2 → (disk_now (P.view self.new.plant) d).bytes ≡ (disk_now (P.view self.old.plant) d).bytes }
+        ensures elsewhere { P.tells → Elsewhere Ckpt2 (P.view self.old.plant) (P.view self.new.plant) }
+        ensures reads { OnOk result (P.tells → self.new.pair.second.alive ≡ true → C.reads (disk_now (P.view self.new.plant) Ckpt2).bytes ≡ Some (C.behind self.old.pair.second.copy (disk_now (P.view self.old.plant) Ckpt2).bytes)) }
+    {
+        let done = self.pair.open_copy(&mut self.plant, by, Dev::Ckpt2);
+        self.second = place_after(&done, Place::Opened);
+        done
+    }
+
+    fn lose_second(&mut self)
+        ensures pair_first { self.new.pair.first ≡ self.old.pair.first }
+        ensures base { self.new.base ≡ self.old.base }
+        ensures since { self.new.since ≡ self.old.since }
+        ensures journal { self.new.journal ≡ self.old.journal }
+        ensures current { self.new.current ≡ self.old.current }
+        ensures reserved { self.new.reserved ≡ self.old.reserved }
+        ensures placed { self.new.placed ≡ self.old.placed }
+        ensures first { self.new.first ≡ self.old.first }
+        ensures second { self.new.second ≡ self.old.second }
+        ensures level { self.new.level ≡ self.old.level }
+        ensures dead { self.new.pair.second.alive ≡ false }
+        ensures copy { self.new.pair.second.copy ≡ self.old.pair.second.copy }
+        ensures loses { Loses (Disk Ckpt2) (P.view self.old.plant) (P.view self.new.plant) }
+        ensures bytes { P.tells → (d : Dev) → (disk_now (P.view self.new.plant) d).bytes ≡ (disk_now (P.view self.old.plant) d).bytes }
+    {
+        self.pair.lose(&mut self.plant, Dev::Ckpt2);
+    }
+
+    // The batch in flight is kept: every alive copy has opened it.
+    fn keep(&mut self)
+        requires current { IsSome self.old.current }
+        requires first { self.old.pair.first.alive ≡ true → self.old.first ≡ AtOpened }
+        requires second { self.old.pair.second.alive ≡ true → self.old.second ≡ AtOpened }
+        requires level { self.old.level < top }
+        ensures plant { self.new.plant ≡ self.old.plant }
+        ensures pair { self.new.pair ≡ self.old.pair }
+        ensures base { self.new.base ≡ self.old.base }
+        ensures since { self.new.since ≡ self.old.since }
+        ensures reserved { self.new.reserved ≡ self.old.reserved }
+        ensures fated { (batch : Batch) → self.old.current ≡ Some batch → self.new.journal.batches ≡ with_last (fated FateKept (P.view self.old.plant).now batch) self.old.journal.batches }
+        ensures none { self.new.current ≡ None }
+        ensures still { (self.new.first ≡ AtBefore) × (self.new.second ≡ AtBefore) }
+        ensures level { self.new.level ≡ self.old.level + 1 }
+        ensures unplaced { self.new.placed ≡ false }
+    {
+        let last = self.plant.now();
+        if let Some(batch) = self.current.take() {
+            set_last(
+                &mut self.journal.batches,
+                Batch {
+                    first: batch.first,
+                    last,
+                    by: batch.by,
+                    fate: Fate::Kept,
+                    entries: batch.entries,
+                },
+            );
+            self.placed = false;
+            self.first = Place::Before;
+            self.second = Place::Before;
+            self.level += 1;
+        }
+    }
+
+    // The batch in flight is dropped: no alive copy has it.
+    fn drop_batch(&mut self)
+        requires current { IsSome self.old.current }
+        requires first { self.old.pair.first.alive ≡ true → self.old.first ≡ AtBefore }
+        requires second { self.old.pair.second.alive ≡ true → self.old.second ≡ AtBefore }
+        ensures plant { self.new.plant ≡ self.old.plant }
+        ensures pair { self.new.pair ≡ self.old.pair }
+        ensures base { self.new.base ≡ self.old.base }
+        ensures since { self.new.since ≡ self.old.since }
+        ensures reserved { self.new.reserved ≡ self.old.reserved }
+        ensures level { self.new.level ≡ self.old.level }
+        ensures fated { (batch : Batch) → self.old.current ≡ Some batch → self.new.journal.batches ≡ with_last (fated FateDropped (P.view self.old.plant).now batch) self.old.journal.batches }
+        ensures none { self.new.current ≡ None }
+        ensures still { (self.new.first ≡ AtBefore) × (self.new.second ≡ AtBefore) }
+    {
+        let last = self.plant.now();
+        if let Some(batch) = self.current.take() {
+            set_last(
+                &mut self.journal.batches,
+                Batch {
+                    first: batch.first,
+                    last,
+                    by: batch.by,
+                    fate: Fate::Dropped,
+                    entries: batch.entries,
+                },
+            );
+            self.placed = false;
+            self.first = Place::Before;
+            self.second = Place::Before;
+        }
+    }
+
+    /// Says a line on the console. One that tells a step may be said once each entry of the step is kept.
+    pub fn say(&mut self, by: MemberId, line: &[u8]) -> Act
+        requires told { P.tells → (m : MemberId) (s : ℕ) → Closes line.now m s → StepIsKept (self.old.journal.batches ++ in_flight self.old.current) (P.view self.old.plant).now m s }
+        ensures pair { self.new.pair ≡ self.old.pair }
+        ensures base { self.new.base ≡ self.old.base }
+        ensures since { self.new.since ≡ self.old.since }
+        ensures journal { self.new.journal ≡ self.old.journal }
+        ensures current { self.new.current ≡ self.old.current }
+        ensures reserved { self.new.reserved ≡ self.old.reserved }
+        ensures placed { self.new.placed ≡ self.old.placed }
+        ensures first { self.new.first ≡ self.old.first }
+        ensures second { self.new.second ≡ self.old.second }
+        ensures level { self.new.level ≡ self.old.level }
+        ensures acts { Acts by.0 Console (P.view self.old.plant) (P.view self.new.plant) result }
+        ensures disks { P.tells → (d : Dev) → disk_now (P.view self.new.plant) d ≡ disk_now (P.view self.old.plant) d }
+        ensures content { P.tells → Says line.now (P.view self.old.plant) (P.view self.new.plant) result }
+    {
+        self.plant.say(by, line)
+    }
+
+    /// Keeps the reserved batch without a write: the queue is the same with it.
+    pub fn keep_same(&mut self, by: MemberId)
+        requires none { self.old.current ≡ None }
+        requires reserved { IsSome self.old.reserved }
+        requires first { self.old.pair.first.alive ≡ true → self.old.first ≡ AtBefore }
+        requires second { self.old.pair.second.alive ≡ true → self.old.second ≡ AtBefore }
+        requires untold { P.tells → IsUntold (setting C.reads self.old.base self.old.since) (P.view self.old.plant) (entries_reserved self.old.reserved) }
+        requires queue { P.tells → run self.old.base (kept_all self.old.journal.batches ++ entries_reserved self.old.reserved) ≡ run self.old.base (kept_all self.old.journal.batches) }
+        ensures plant { self.new.plant ≡ self.old.plant }
+        ensures pair { self.new.pair ≡ self.old.pair }
+        ensures base { self.new.base ≡ self.old.base }
+        ensures since { self.new.since ≡ self.old.since }
+        ensures current { self.new.current ≡ self.old.current }
+        ensures first { self.new.first ≡ self.old.first }
+        ensures second { self.new.second ≡ self.old.second }
+        ensures level { self.new.level ≡ self.old.level }
+        ensures fated { (entries : List Entry) → self.old.reserved ≡ Some entries → self.new.journal.batches ≡ with_last (fated FateKept (P.view self.old.plant).now (begun (P.view self.old.plant).now by entries)) self.old.journal.batches }
+        ensures none { self.new.reserved ≡ None }
+    {
+        let now = self.plant.now();
+        if let Some(entries) = self.reserved.take() {
+            set_last(
+                &mut self.journal.batches,
+                Batch {
+                    first: now,
+                    last: now,
+                    by,
+                    fate: Fate::Kept,
+                    entries,
+                },
+            );
+            self.placed = false;
+        }
+    }
+
+    /// The copy on a device, and the device, are lost.
+    pub fn lose(&mut self, dev: Dev)
+        requires ckpt { IsCkpt dev }
+        ensures base { self.new.base ≡ self.old.base }
+        ensures since { self.new.since ≡ self.old.since }
+        ensures journal { self.new.journal ≡ self.old.journal }
+        ensures current { self.new.current ≡ self.old.current }
+        ensures reserved { self.new.reserved ≡ self.old.reserved }
+        ensures placed { self.new.placed ≡ self.old.placed }
+        ensures first { self.new.first ≡ self.old.first }
+        ensures second { self.new.second ≡ self.old.second }
+        ensures level { self.new.level ≡ self.old.level }
+        ensures dead { (pick dev self.new.pair.first self.new.pair.second).alive ≡ false }
+        ensures other { other dev self.new.pair.first self.new.pair.second ≡ other dev self.old.pair.first self.old.pair.second }
+        ensures loses { Loses (Disk dev) (P.view self.old.plant) (P.view self.new.plant) }
+        ensures bytes { P.tells → (d : Dev) → (disk_now (P.view self.new.plant) d).bytes ≡ (disk_now (P.view self.old.plant) d).bytes }
+    {
+        match dev {
+            Dev::Ckpt1 => self.lose_first(),
+            Dev::Ckpt2 => self.lose_second(),
+            Dev::Spool(_) => unreachable!(),
+        }
+    }
+
+    fn put_on(
+        &mut self,
+        by: MemberId,
+        dev: Dev,
+        pages: &[Page],
+        changed: &[u16],
+    ) -> Result<(), PairNo>
+        requires ckpt { IsCkpt dev }
+        requires place { (pick dev self.old.pair.first self.old.pair.second).alive ≡ true → pick dev self.old.first self.old.second ≡ AtBefore }
+        requires room { (pick dev self.old.pair.first self.old.pair.second).alive ≡ true → 1 ≤ C.room (pick dev self.old.pair.first self.old.pair.second).copy }
+        requires as_many { (pick dev self.old.pair.first self.old.pair.second).alive ≡ true → length pages.now ≡ C.count (pick dev self.old.pair.first self.old.pair.second).copy }
+        requires changed { (pick dev self.old.pair.first self.old.pair.second).alive ≡ true → ArePages (C.count (pick dev self.old.pair.first self.old.pair.second).copy) changed.now }
+        requires covered { P.tells → (pick dev self.old.pair.first self.old.pair.second).alive ≡ true → (was : List ℕ) → C.reads (disk_now (P.view self.old.plant) dev).bytes ≡ Some was → Covers (C.count (pick dev self.old.pair.first self.old.pair.second).copy) changed.now was (bytes_of pages.now) }
+        requires level { P.tells → level (bytes_of pages.now) ≡ self.old.level + 1 }
+        requires queue { P.tells → ∥ StandFor (run self.old.base (kept_all self.old.journal.batches ++ entries_in self.old.current)) (bytes_of pages.now) ∥₁ }
+        ensures base { self.new.base ≡ self.old.base }
+        ensures since { self.new.since ≡ self.old.since }
+        ensures journal { self.new.journal ≡ self.old.journal }
+        ensures current { self.new.current ≡ self.old.current }
+        ensures reserved { self.new.reserved ≡ self.old.reserved }
+        ensures placed { self.new.placed ≡ self.old.placed }
+        ensures level { self.new.level ≡ self.old.level }
+        ensures place { IsPlaceAfter result AtPut (pick dev self.new.first self.new.second) }
+        ensures other_place { other dev self.new.first self.new.second ≡ other dev self.old.first self.old.second }
+        ensures other { other dev self.new.pair.first self.new.pair.second ≡ other dev self.old.pair.first self.old.pair.second }
+        ensures count { C.count (pick dev self.new.pair.first self.new.pair.second).copy ≡ C.count (pick dev self.old.pair.first self.old.pair.second).copy }
+        ensures room { C.room (pick dev self.new.pair.first self.new.pair.second).copy ≡ C.room (pick dev self.old.pair.first self.old.pair.second).copy }
+        ensures acted { Acted by.0 dev (pick dev self.old.pair.first self.old.pair.second).alive (pick dev self.new.pair.first self.new.pair.second).alive (pair_stopped result) (P.view self.old.plant) (P.view self.new.plant) }
+        ensures both { IsErrOf result PairNoBothLost → IsBothLost self.new.pair.first.alive self.new.pair.second.alive }
+        ensures ok { OnOk result (SomeAlive self.new.pair.first.alive self.new.pair.second.alive) }
+        ensures others { P.tells → (d : Dev) → d ≢ dev → (disk_now (P.view self.new.plant) d).bytes ≡ (disk_now (P.view self.old.plant) d).bytes }
+        ensures elsewhere { P.tells → Elsewhere dev (P.view self.old.plant) (P.view self.new.plant) }
+        ensures behind { OnOk result (P.tells → (pick dev self.new.pair.first self.new.pair.second).alive ≡ true → C.behind (pick dev self.new.pair.first self.new.pair.second).copy (disk_now (P.view self.new.plant) dev).bytes ≡ bytes_of pages.now) }
+    {
+        match dev {
+            Dev::Ckpt1 => self.put_first(by, pages, changed),
+            Dev::Ckpt2 => self.put_second(by, pages, changed),
+            Dev::Spool(_) => unreachable!(),
+        }
+    }
+
+    // The reserved batch begins, where none is in flight.
+    fn begin_first(&mut self, by: MemberId)
+        requires first { self.old.current ≡ None → self.old.pair.first.alive ≡ true → self.old.first ≡ AtBefore }
+        requires second { self.old.current ≡ None → self.old.pair.second.alive ≡ true → self.old.second ≡ AtBefore }
+        requires untold { P.tells → self.old.current ≡ None → IsUntold (setting C.reads self.old.base self.old.since) (P.view self.old.plant) (entries_reserved self.old.reserved) }
+        ensures plant { self.new.plant ≡ self.old.plant }
+        ensures pair { self.new.pair ≡ self.old.pair }
+        ensures base { self.new.base ≡ self.old.base }
+        ensures since { self.new.since ≡ self.old.since }
+        ensures journal { self.new.journal ≡ self.old.journal }
+        ensures placed { self.new.placed ≡ self.old.placed }
+        ensures first { self.new.first ≡ self.old.first }
+        ensures second { self.new.second ≡ self.old.second }
+        ensures level { self.new.level ≡ self.old.level }
+        ensures coming { entries_in self.new.current ≡ coming self.old.current self.old.reserved }
+        ensures begun { self.old.current ≡ None → (entries : List Entry) → self.old.reserved ≡ Some entries → self.new.current ≡ Some (begun (P.view self.old.plant).now by entries) }
+        ensures stays { IsSome self.old.current → self.new.current ≡ self.old.current }
+    {
+        if self.current.is_some() {
+            return;
+        }
+        self.begin(by);
+    }
+
+    /// Writes the pages of the batch to come, or in flight, behind the closed gate of one copy. The first call for a batch
+    /// begins it: it is in flight from the moment before the call on. On a copy that counts as lost nothing is written.
+    ///
+    /// The pages stand for the queue with the batch, and have the level after the one of the kept pages. `changed` are the
+    /// numbers of those that differ from what the copy reads. Both copies are to be given the same pages.
+    pub fn log(
+        &mut self,
+        by: MemberId,
+        dev: Dev,
+        pages: &[Page],
+        changed: &[u16],
+    ) -> Result<(), PairNo>
+        requires ckpt { IsCkpt dev }
+        requires place { (pick dev self.old.pair.first self.old.pair.second).alive ≡ true → pick dev self.old.first self.old.second ≡ AtBefore }
+        requires room { (pick dev self.old.pair.first self.old.pair.second).alive ≡ true → 1 ≤ C.room (pick dev self.old.pair.first self.old.pair.second).copy }
+        requires as_many { (pick dev self.old.pair.first self.old.pair.second).alive ≡ true → length pages.now ≡ C.count (pick dev self.old.pair.first self.old.pair.second).copy }
+        requires changed { (pick dev self.old.pair.first self.old.pair.second).alive ≡ true → ArePages (C.count (pick dev self.old.pair.first self.old.pair.second).copy) changed.now }
+        requires covered { P.tells → (pick dev self.old.pair.first self.old.pair.second).alive ≡ true → (was : List ℕ) → C.reads (disk_now (P.view self.old.plant) dev).bytes ≡ Some was → Covers (C.count (pick dev self.old.pair.first self.old.pair.second).copy) changed.now was (bytes_of pages.now) }
+        requires level { P.tells → level (bytes_of pages.now) ≡ self.old.level + 1 }
+        requires first { self.old.current ≡ None → self.old.pair.first.alive ≡ true → self.old.first ≡ AtBefore }
+        requires second { self.old.current ≡ None → self.old.pair.second.alive ≡ true → self.old.second ≡ AtBefore }
+        requires untold { P.tells → self.old.current ≡ None → IsUntold (setting C.reads self.old.base self.old.since) (P.view self.old.plant) (entries_reserved self.old.reserved) }
+        requires queue { P.tells → ∥ StandFor (run self.old.base (kept_all self.old.journal.batches ++ coming self.old.current self.old.reserved)) (bytes_of pages.now) ∥₁ }
+        ensures base { self.new.base ≡ self.old.base }
+        ensures since { self.new.since ≡ self.old.since }
+        ensures journal { self.new.journal ≡ self.old.journal }
+        ensures placed { self.new.placed ≡ self.old.placed }
+        ensures level { self.new.level ≡ self.old.level }
+        ensures coming { entries_in self.new.current ≡ coming self.old.current self.old.reserved }
+        ensures begun { self.old.current ≡ None → (entries : List Entry) → self.old.reserved ≡ Some entries → self.new.current ≡ Some (begun (P.view self.old.plant).now by entries) }
+        ensures stays { IsSome self.old.current → self.new.current ≡ self.old.current }
+        ensures place { IsPlaceAfter result AtPut (pick dev self.new.first self.new.second) }
+        ensures other_place { other dev self.new.first self.new.second ≡ other dev self.old.first self.old.second }
+        ensures other { other dev self.new.pair.first self.new.pair.second ≡ other dev self.old.pair.first self.old.pair.second }
+        ensures count { C.count (pick dev self.new.pair.first self.new.pair.second).copy ≡ C.count (pick dev self.old.pair.first self.old.pair.second).copy }
+        ensures room { C.room (pick dev self.new.pair.first self.new.pair.second).copy ≡ C.room (pick dev self.old.pair.first self.old.pair.second).copy }
+        ensures acted { Acted by.0 dev (pick dev self.old.pair.first self.old.pair.second).alive (pick dev self.new.pair.first self.new.pair.second).alive (pair_stopped result) (P.view self.old.plant) (P.view self.new.plant) }
+        ensures both { IsErrOf result PairNoBothLost → IsBothLost self.new.pair.first.alive self.new.pair.second.alive }
+        ensures ok { OnOk result (SomeAlive self.new.pair.first.alive self.new.pair.second.alive) }
+        ensures others { P.tells → (d : Dev) → d ≢ dev → (disk_now (P.view self.new.plant) d).bytes ≡ (disk_now (P.view self.old.plant) d).bytes }
+        ensures elsewhere { P.tells → Elsewhere dev (P.view self.old.plant) (P.view self.new.plant) }
+        ensures behind { OnOk result (P.tells → (pick dev self.new.pair.first self.new.pair.second).alive ≡ true → C.behind (pick dev self.new.pair.first self.new.pair.second).copy (disk_now (P.view self.new.plant) dev).bytes ≡ bytes_of pages.now) }
+    {
+        self.begin_first(by);
+        self.put_on(by, dev, pages, changed)
+    }
+
+    fn open_on(&mut self, by: MemberId, dev: Dev) -> Result<(), PairNo>
+        requires ckpt { IsCkpt dev }
+        requires place { (pick dev self.old.pair.first self.old.pair.second).alive ≡ true → pick dev self.old.first self.old.second ≡ AtPut }
+        requires room { (pick dev self.old.pair.first self.old.pair.second).alive ≡ true → 1 ≤ C.room (pick dev self.old.pair.first self.old.pair.second).copy }
+        ensures base { self.new.base ≡ self.old.base }
+        ensures since { self.new.since ≡ self.old.since }
+        ensures journal { self.new.journal ≡ self.old.journal }
+        ensures current { self.new.current ≡ self.old.current }
+        ensures reserved { self.new.reserved ≡ self.old.reserved }
+        ensures placed { self.new.placed ≡ self.old.placed }
+        ensures level { self.new.level ≡ self.old.level }
+        ensures place { IsPlaceAfter result AtOpened (pick dev self.new.first self.new.second) }
+        ensures other_place { other dev self.new.first self.new.second ≡ other dev self.old.first self.old.second }
+        ensures other { other dev self.new.pair.first self.new.pair.second ≡ other dev self.old.pair.first self.old.pair.second }
+        ensures count { C.count (pick dev self.new.pair.first self.new.pair.second).copy ≡ C.count (pick dev self.old.pair.first self.old.pair.second).copy }
+        ensures room { OnOk result ((pick dev self.new.pair.first self.new.pair.second).alive ≡ true → C.room (pick dev self.new.pair.first self.new.pair.second).copy ≡ C.room_after (C.room (pick dev self.old.pair.first self.old.pair.second).copy)) }
+        ensures acted { Acted by.0 dev (pick dev self.old.pair.first self.old.pair.second).alive (pick dev self.new.pair.first self.new.pair.second).alive (pair_stopped result) (P.view self.old.plant) (P.view self.new.plant) }
+        ensures both { IsErrOf result PairNoBothLost → IsBothLost self.new.pair.first.alive self.new.pair.second.alive }
+        ensures ok { OnOk result (SomeAlive self.new.pair.first.alive self.new.pair.second.alive) }
+        ensures others { P.tells → (d : Dev) → d ≢ dev → (disk_now (P.view self.new.plant) d).bytes ≡ (disk_now (P.view self.old.plant) d).bytes }
+        ensures elsewhere { P.tells → Elsewhere dev (P.view self.old.plant) (P.view self.new.plant) }
+        ensures reads { OnOk result (P.tells → (pick dev self.new.pair.first self.new.pair.second).alive ≡ true → C.reads (disk_now (P.view self.new.plant) dev).bytes ≡ Some (C.behind (pick dev self.old.pair.first self.old.pair.second).copy (disk_now (P.view self.old.plant) dev).bytes)) }
+    {
+        match dev {
+            Dev::Ckpt1 => self.open_first(by),
+            Dev::Ckpt2 => self.open_second(by),
+            Dev::Spool(_) => unreachable!(),
+        }
+    }
+
+    fn all_opened(&self) -> bool
+        ensures all { result ≡ all_open self.now.pair.first.alive self.now.pair.second.alive self.now.first self.now.second }
+        ensures opened { result ≡ true → (self.now.pair.first.alive ≡ true → self.now.first ≡ AtOpened) × (self.now.pair.second.alive ≡ true → self.now.second ≡ AtOpened) }
+    {
+        (!self.pair.first.alive || matches!(self.first, Place::Opened))
+            && (!self.pair.second.alive || matches!(self.second, Place::Opened))
+    }
+
+    /// Opens the gate before the pages that one copy was given. The batch is kept by the call after which each copy that counts
+    /// as alive has opened its gate: from then on no copy is as before it.
+    pub fn open_copy(&mut self, by: MemberId, dev: Dev) -> Result<(), PairNo>
+        requires ckpt { IsCkpt dev }
+        requires place { (pick dev self.old.pair.first self.old.pair.second).alive ≡ true → pick dev self.old.first self.old.second ≡ AtPut }
+        requires room { (pick dev self.old.pair.first self.old.pair.second).alive ≡ true → 1 ≤ C.room (pick dev self.old.pair.first self.old.pair.second).copy }
+        requires current { IsSome self.old.current }
+        requires level { self.old.level < top }
+        ensures base { self.new.base ≡ self.old.base }
+        ensures since { self.new.since ≡ self.old.since }
+        ensures reserved { self.new.reserved ≡ self.old.reserved }
+        ensures other { other dev self.new.pair.first self.new.pair.second ≡ other dev self.old.pair.first self.old.pair.second }
+        ensures count { C.count (pick dev self.new.pair.first self.new.pair.second).copy ≡ C.count (pick dev self.old.pair.first self.old.pair.second).copy }
+        ensures room { OnOk result ((pick dev self.new.pair.first self.new.pair.second).alive ≡ true → C.room (pick dev self.new.pair.first self.new.pair.second).copy ≡ C.room_after (C.room (pick dev self.old.pair.first self.old.pair.second).copy)) }
+        ensures acted { Acted by.0 dev (pick dev self.old.pair.first self.old.pair.second).alive (pick dev self.new.pair.first self.new.pair.second).alive (pair_stopped result) (P.view self.old.plant) (P.view self.new.plant) }
+        ensures both { IsErrOf result PairNoBothLost → IsBothLost self.new.pair.first.alive self.new.pair.second.alive }
+        ensures ok { OnOk result (SomeAlive self.new.pair.first.alive self.new.pair.second.alive) }
+        ensures others { P.tells → (d : Dev) → d ≢ dev → (disk_now (P.view self.new.plant) d).bytes ≡ (disk_now (P.view self.old.plant) d).bytes }
+        ensures elsewhere { P.tells → Elsewhere dev (P.view self.old.plant) (P.view self.new.plant) }
+        ensures reads { OnOk result (P.tells → (pick dev self.new.pair.first self.new.pair.second).alive ≡ true → C.reads (disk_now (P.view self.new.plant) dev).bytes ≡ Some (C.behind (pick dev self.old.pair.first self.old.pair.second).copy (disk_now (P.view self.old.plant) dev).bytes)) }
+        ensures kept { OnOk result (((other dev self.new.pair.first self.new.pair.second).alive ≡ true → other dev self.old.first self.old.second ≡ AtOpened) → IsKeptAt self.old.current (P.view self.new.plant).now self.old.journal.batches self.new.journal.batches × (self.new.current ≡ None) × (self.new.level ≡ self.old.level + 1) × (self.new.first ≡ AtBefore) × (self.new.second ≡ AtBefore)) }
+        ensures flying { OnOk result ((other dev self.new.pair.first self.new.pair.second).alive ≡ true → other dev self.old.first self.old.second ≢ AtOpened → (self.new.journal ≡ self.old.journal) × (self.new.current ≡ self.old.current) × (self.new.level ≡ self.old.level) × (pick dev self.new.first self.new.second ≡ AtOpened) × (other dev self.new.first self.new.second ≡ other dev self.old.first self.old.second)) }
+        ensures err { OnErr result ((self.new.journal ≡ self.old.journal) × (self.new.current ≡ self.old.current) × (self.new.level ≡ self.old.level)) }
+        ensures unplaced { OnOk result (((other dev self.new.pair.first self.new.pair.second).alive ≡ true → other dev self.old.first self.old.second ≡ AtOpened) → self.new.placed ≡ false) }
+        ensures still_placed { OnOk result ((other dev self.new.pair.first self.new.pair.second).alive ≡ true → other dev self.old.first self.old.second ≢ AtOpened → self.new.placed ≡ self.old.placed) }
+        ensures err_placed { OnErr result (self.new.placed ≡ self.old.placed) }
+    {
+        self.open_on(by, dev)?;
+        if self.all_opened() {
+            self.keep();
+        }
+        Ok(())
+    }
+
+    /// Makes room for puts again on each copy that counts as alive. Nothing may be in flight, and the pages are those that
+    /// these copies read.
+    pub fn settle(&mut self, by: MemberId, pages: &[Page]) -> Result<(), PairNo>
+        requires none { self.old.current ≡ None }
+        requires first { self.old.pair.first.alive ≡ true → self.old.first ≡ AtBefore }
+        requires second { self.old.pair.second.alive ≡ true → self.old.second ≡ AtBefore }
+        requires as_many1 { self.old.pair.first.alive ≡ true → length pages.now ≡ C.count self.old.pair.first.copy }
+        requires as_many2 { self.old.pair.second.alive ≡ true → length pages.now ≡ C.count self.old.pair.second.copy }
+        requires reads1 { P.tells → self.old.pair.first.alive ≡ true → C.reads (disk_now (P.view self.old.plant) Ckpt1).bytes ≡ Some (bytes_of pages.now) }
+        requires reads2 { P.tells → self.old.pair.second.alive ≡ true → C.reads (disk_now (P.view self.old.plant) Ckpt2).bytes ≡ Some (bytes_of pages.now) }
+        ensures base { self.new.base ≡ self.old.base }
+        ensures since { self.new.since ≡ self.old.since }
+        ensures journal { self.new.journal ≡ self.old.journal }
+        ensures current { self.new.current ≡ self.old.current }
+        ensures reserved { self.new.reserved ≡ self.old.reserved }
+        ensures placed { self.new.placed ≡ self.old.placed }
+        ensures level { self.new.level ≡ self.old.level }
+        ensures place1 { IsPlaceAfter result AtBefore self.new.first }
+        ensures place2 { IsPlaceAfter result AtBefore self.new.second }
+        ensures count1 { C.count self.new.pair.first.copy ≡ C.count self.old.pair.first.copy }
+        ensures count2 { C.count self.new.pair.second.copy ≡ C.count self.old.pair.second.copy }
+        ensures room1 { OnOk result (self.new.pair.first.alive ≡ true → C.room self.new.pair.first.copy ≡ C.room_most) }
+        ensures room2 { OnOk result (self.new.pair.second.alive ≡ true → C.room self.new.pair.second.copy ≡ C.room_most) }
+        ensures acted { PairActed by.0 self.old.pair.first.alive self.new.pair.first.alive self.old.pair.second.alive self.new.pair.second.alive (pair_stopped result) (P.view self.old.plant) (P.view self.new.plant) }
+        ensures both { IsErrOf result PairNoBothLost → IsBothLost self.new.pair.first.alive self.new.pair.second.alive }
+        ensures ok { OnOk result (SomeAlive self.new.pair.first.alive self.new.pair.second.alive) }
+    {
+        let done = self.pair.settle(&mut self.plant, by, pages);
+        self.first = place_after(&done, Place::Before);
+        self.second = place_after(&done, Place::Before);
+        done
+    }
+
+    /// Reads a page of the checkpoint, from CKPT1 while its copy counts as alive, else from CKPT2.
+    pub fn read_page(&mut self, by: MemberId, page: u16, into: &mut Page) -> Result<(), PairNo>
+        requires page1 { self.old.pair.first.alive ≡ true → page < C.count self.old.pair.first.copy }
+        requires page2 { self.old.pair.second.alive ≡ true → page < C.count self.old.pair.second.copy }
+        ensures base { self.new.base ≡ self.old.base }
+        ensures since { self.new.since ≡ self.old.since }
+        ensures journal { self.new.journal ≡ self.old.journal }
+        ensures current { self.new.current ≡ self.old.current }
+        ensures reserved { self.new.reserved ≡ self.old.reserved }
+        ensures placed { self.new.placed ≡ self.old.placed }
+        ensures first { self.new.first ≡ self.old.first }
+        ensures second { self.new.second ≡ self.old.second }
+        ensures level { self.new.level ≡ self.old.level }
+        ensures copy1 { self.new.pair.first.copy ≡ self.old.pair.first.copy }
+        ensures copy2 { self.new.pair.second.copy ≡ self.old.pair.second.copy }
+        ensures err { OnErr result (into.new ≡ into.old) }
+        ensures bytes { P.tells → (d : Dev) → (disk_now (P.view self.new.plant) d).bytes ≡ (disk_now (P.view self.old.plant) d).bytes }
+        ensures read { OnOk result (P.tells → (was : List ℕ) → (self.new.pair.first.alive ≡ true → C.rests self.old.pair.first.copy was (disk_now (P.view self.old.plant) Ckpt1))
+            → (self.new.pair.first.alive ≡ false → C.rests self.old.pair.second.copy was (disk_now (P.view self.old.plant) Ckpt2)) → into.new.0 ≡ page_in page was) }
+        ensures acted { PairActed by.0 self.old.pair.first.alive self.new.pair.first.alive self.old.pair.second.alive self.new.pair.second.alive (pair_stopped result) (P.view self.old.plant) (P.view self.new.plant) }
+        ensures both { IsErrOf result PairNoBothLost → IsBothLost self.new.pair.first.alive self.new.pair.second.alive }
+        ensures ok { OnOk result (SomeAlive self.new.pair.first.alive self.new.pair.second.alive) }
+    {
+        self.pair.read_page(&mut self.plant, by, page, into)
+    }
+
+    /// Hands out the plant, the base, the first moment and the journal, of which the headline holds.
+    pub fn end(self) -> Ended<P>
+        ensures plant { result.plant ≡ self.plant }
+        ensures base { result.base ≡ self.base }
+        ensures since { result.since ≡ self.since }
+        ensures journal { result.journal.batches ≡ end_of self.placed self.current self.journal.batches }
+        ensures headline { P.tells → ∥ Headline C.reads result.base result.since result.journal (P.view result.plant) ∥₁ }
+    {
+        let Complex {
+            plant,
+            base,
+            since,
+            journal,
+            current,
+            placed,
+            ..
+        } = self;
+        let journal = finished(journal, current, placed);
+        Ended {
+            plant,
+            base,
+            since,
+            journal,
+        }
+    }
+}

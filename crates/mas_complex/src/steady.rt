@@ -1,0 +1,32 @@
+//! Copies that a shared value may have.
+ghost use Rattle.std.specs.Prelude.{◌≡◌, ℕ, Bool, true};
+ghost use Rattle.spool_disk.specs.View.{View};
+ghost use Rattle.spool_disk.specs.Acts.{Goes};
+ghost use Rattle.mas_complex.specs.Steady.{is_fit, ready_where, fit_where, stays_fit_lem};
+
+use ckpt_copy::{AreaCopy, Copying};
+
+/// A copy of which a test says that it is ready, so that a type can keep that it is.
+pub trait Steady: Copying {
+    /// The test.
+    ghost fits: { Self → View → Bool };
+
+    /// What passes it is ready.
+    ghost fit_ready: { (copy : Self) (v : View) → fits copy v ≡ true → Self.ready copy v };
+
+    /// What is ready passes it.
+    ghost ready_fit: { (copy : Self) (v : View) → Self.ready copy v → fits copy v ≡ true };
+
+    /// Any acts leave it as it is.
+    ghost stays_fit: { (copy : Self) (old new : View) → Goes old new → fits copy old ≡ true → fits copy new ≡ true };
+}
+
+impl Steady for AreaCopy {
+    ghost fits = { λ c v. is_fit c.pages (v.size c.dev) };
+
+    ghost fit_ready = { λ c v fit. ready_where c.pages (v.size c.dev) fit };
+
+    ghost ready_fit = { λ c v ready. fit_where c.pages (v.size c.dev) ready };
+
+    ghost stays_fit = { λ c old new goes fit. stays_fit_lem c.pages (old.size c.dev) (new.size c.dev) (goes.size c.dev) fit };
+}

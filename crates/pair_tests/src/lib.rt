@@ -1,0 +1,5 @@
+//! The two copies of the checkpoint at work on a plant in memory.
+#![tactic(auto)]
+
+#[cfg(test)]
+mod pairs;
