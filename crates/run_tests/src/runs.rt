@@ -323,10 +323,11 @@ fn one_copy_fails_at_each_act(rt: HostRuntime) -> Result<(), Fail> {
 #[test]
 fn both_copies_fail_at_each_act(rt: HostRuntime) -> Result<(), Fail> {
     let alloc = rt.alloc();
-    for act in 1..=ONE_KEPT {
-        if is_amid_pages(act - 1, 1) {
+    for place in 0..ONE_KEPT {
+        if is_amid_pages(place, 1) {
             continue;
         }
+        let act = place + 1;
         let mut plant = plant(alloc)?;
         plant.fail_at(0);
         plant.fail_at(act);
@@ -388,8 +389,8 @@ const CHOICES: [Choice; 3] = [Choice::Old, Choice::New, Choice::Ones];
 // once its gate is synced.
 fn is_as_wanted(queue: Reading, t: u64, formed: u64, opened: u64) -> bool {
     let may_be_none = t < formed;
-    let may_be_empty = t + 1 >= formed && t < opened;
-    let may_have_job = t + 1 >= opened;
+    let may_be_empty = t.saturating_add(1) >= formed && t < opened;
+    let may_have_job = t.saturating_add(1) >= opened;
     match queue {
         Reading::Nothing => may_be_none,
         Reading::Empty => may_be_empty,
