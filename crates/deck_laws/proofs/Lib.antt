@@ -1,2 +1,4 @@
 pub mod Known
 pub mod Jobs
+mod Converting
+mod Within
