@@ -2,3 +2,4 @@ pub mod Reaching
 pub mod Following
 pub mod AllForms
 pub mod Typing
+pub mod Computing

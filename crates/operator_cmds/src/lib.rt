@@ -2,6 +2,7 @@
 #![tactic(auto)]
 
 mod forms;
+pub mod laws;
 mod places;
 mod reading;
 mod walks;

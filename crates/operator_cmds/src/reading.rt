@@ -38,7 +38,8 @@ impl From<NoMemory> for CommandNo {
     }
 }
 
-ghost use Rattle.operator_cmds.specs.Read.{IsReadAs};
+ghost use Rattle.operator_cmds.specs.Read.{IsReadAs, ComesTo};
+ghost use Rattle.operator_cmds.specs.Typed.{command_in};
 
 /// Reads a command as the operator types it. `BadCommand` exactly where the text is none, with the length of its longest
 /// front that can be gone on with to a command.
@@ -47,6 +48,8 @@ pub fn read_command(alloc: Global, text: &[u8]) -> Result<Command, CommandNo>
     ensures found { IfOk result (λ typed. IsSpelling typed text.now) }
     // What is spelled so is read, unless memory runs out.
     ensures only { (typed : AnyCommand) → IsSpelling typed text.now → IsReadAs result typed }
+    // The same, as it is computed.
+    ensures computed { ComesTo result (command_in text.now) }
     ensures bad { (n : ℕ) → result ≡ Err (CommandNo.BadCommand n) → IsLongestBeginning text.now n }
 {
     let mut longest: usize = 0;

@@ -6,6 +6,7 @@ use Rattle.operator_cmds.specs.Forms.{form_text}
 use Rattle.operator_cmds.specs.Walks.{stop}
 use Rattle.operator_cmds.specs.Spellings.{IsSpelling, IsLongestBeginning}
 use Rattle.operator_cmds.proofs.AllForms.{LeaveBy, leave_none, leave_more, spelled, one_command, no_command, longest_of}
+use Rattle.operator_cmds.proofs.Computing.{leaves_from, command_in-at, command_in-none}
 use Rattle.operator_cmds.proofs.reading.read_command.Goals as goal
 
 pub loop-form-init : goal.loop-form-init
@@ -37,3 +38,14 @@ returns-clause-bad c n e =
     let all : c.loop-form.form-index ≡ 18 = omega arith in
     let same : c.loop-form.longest ≡ n = cc in
     subst (IsLongestBeginning c.args.text.now) same (longest_of c.args.text.now c.loop-form.longest (subst (λ (i : ℕ). LeaveBy FORMS i c.args.text.now c.loop-form.longest) all c.loop-form.invariant))
+
+pub returns-in-None-clause-computed : goal.returns-in-None-clause-computed
+returns-in-None-clause-computed c =
+    let f = get_or FORMS c.loop-form.form-index form.Hold in
+    let follows : stop (form_text f) c.args.text.now ≡ None = ap (λ (x : List ℕ). stop x c.args.text.now) (sym c.form_text.ensures) ∙ sym c.in-None.ensures.value in
+    command_in-at c.loop-form.form-index c.args.text.now (omega arith) (leaves_from FORMS c.loop-form.form-index c.args.text.now c.loop-form.longest c.loop-form.invariant) follows ∙ ap (λ (typed : Command). Some typed) (sym c.in_ok-command_of-in-None.ensures)
+
+pub returns-clause-computed : goal.returns-clause-computed
+returns-clause-computed c =
+    let all : c.loop-form.form-index ≡ 18 = omega arith in
+    command_in-none c.args.text.now (leaves_from FORMS 18 c.args.text.now c.loop-form.longest (subst (λ (i : ℕ). LeaveBy FORMS i c.args.text.now c.loop-form.longest) all c.loop-form.invariant))

@@ -1,0 +1,14 @@
+use Rattle.std.proofs.Common.{◌≡◌, ◌<◌, ◌+◌, ◌^◌, length}
+use Rattle.script_lang.specs.Lines.{lines_of}
+use Rattle.script_lang.specs.Script.{said, said_from}
+use Rattle.script_lang.proofs.script.read_script.Given as goal
+
+-- the rest decides
+abbrev pub invariant-loop-rest : goal.invariant-loop-rest
+invariant-loop-rest l = record {
+  fits : l.number + length l.rest < 2 ^ 32;
+  said : said_from l.run l.number l.state (lines_of l.rest) ≡ said l.run l.fn.bytes;
+}
+
+abbrev pub decreases-loop-rest : goal.decreases-loop-rest
+decreases-loop-rest l = length l.rest

@@ -1,0 +1,4 @@
+pub mod Lines
+pub mod Config
+pub mod Asks
+pub mod Script
