@@ -1,0 +1,5 @@
+//! Tests of the crate that reads scripts.
+#![tactic(auto)]
+
+#[cfg(test)]
+mod scripts;
