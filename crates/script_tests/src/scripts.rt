@@ -1,6 +1,4 @@
-use mas_types::{
-    Command, Dev, JobNo, LineCause, List, MemberId, Name8, NoMemory, Route, default_config,
-};
+use mas_types::{Command, Dev, LineCause, List, Name8, NoMemory, default_config};
 use script_lang::{Ask, Fuse, Script, ScriptNo, Step, read_script};
 use std::alloc::Global;
 use std::test::Fail;
@@ -221,74 +219,72 @@ fn refuses_what_is_too_long(rt: HostRuntime) -> Result<(), Fail> {
     Ok(())
 }
 
-#[test]
-fn reads_steps_of_members(rt: HostRuntime) -> Result<(), Fail> {
-    let text =
-        b"SYSA WORK 0040\nSYSH LOCK \r\n  \n\nSYSB FREE\nSYSC LINE 8\nSYSA REPLACE CKPT2\nSYSA $HJ7";
-    let script = read(rt.alloc(), Mode::Cold, text)?;
-    let asked = matches!(
-        script.steps.as_slice(),
-        [
-            Step {
-                by: MemberId(1),
-                what: Ask::Work(40)
-            },
-            Step {
-                by: MemberId(8),
-                what: Ask::Lock
-            },
-            Step {
-                by: MemberId(2),
-                what: Ask::Free
-            },
-            Step {
-                by: MemberId(3),
-                what: Ask::Line(8)
-            },
-            Step {
-                by: MemberId(1),
-                what: Ask::Replace(Dev::Ckpt2)
-            },
-            Step {
-                by: MemberId(1),
-                what: Ask::Command(Command::Hold { job: JobNo(7) })
-            },
-        ]
-    );
-    assert!(rt; asked);
-    Ok(())
+fn number_of_device(dev: Dev) -> u32 {
+    match dev {
+        Dev::Ckpt1 => 1,
+        Dev::Ckpt2 => 2,
+        Dev::Spool(volume) => 10 + u32::from(volume),
+    }
+}
+
+// What a step asks for, as a word and a number.
+fn summary(what: &Ask) -> (&'static [u8], u32) {
+    match what {
+        Ask::Deck(_) => (b"DECK", 0),
+        Ask::Command(Command::Hold { job }) => (b"HOLD", job.0),
+        Ask::Command(_) => (b"OTHER", 0),
+        Ask::Work(n) => (b"WORK", *n),
+        Ask::Lock => (b"LOCK", 0),
+        Ask::Free => (b"FREE", 0),
+        Ask::Line(line) => (b"LINE", u32::from(*line)),
+        Ask::Replace(dev) => (b"REPLACE", number_of_device(*dev)),
+        Ask::Stop => (b"STOP", 0),
+        Ask::StopIn(Fuse::Any, n) => (b"IN", *n),
+        Ask::StopIn(Fuse::Print, n) => (b"PRINT", *n),
+        Ask::Lose(dev) => (b"LOSE", number_of_device(*dev)),
+    }
+}
+
+fn assert_step(
+    rt: &impl std::process::Abort,
+    script: &Script,
+    at: usize,
+    by: u8,
+    word: &[u8],
+    number: u32,
+) {
+    if at >= script.steps.len() {
+        assert!(rt; false, "no step {at}");
+        return;
+    }
+    let step = script.steps.item(at);
+    let (found, n) = summary(&step.what);
+    assert_eq!(rt; step.by.0, by);
+    assert_eq!(rt; found, word);
+    assert_eq!(rt; n, number);
 }
 
 #[test]
-fn reads_stops_and_losses(rt: HostRuntime) -> Result<(), Fail> {
-    let text = b"STOP SYSB\nSTOP SYSA IN 999999\nSTOP SYSA PRINT 1\nLOSE CKPT1\nLOSE SPOOL08\n";
+fn reads_steps(rt: HostRuntime) -> Result<(), Fail> {
+    let text =
+        b"SYSA WORK 0040\nSYSH LOCK \r\n  \n\nSYSB FREE\nSYSC LINE 8\nSYSA REPLACE CKPT2\nSYSA $HJ7\nSTOP SYSB\nSTOP SYSA IN 999999\nSTOP SYSA PRINT 1\nLOSE CKPT1\nLOSE SPOOL08";
     let script = read(rt.alloc(), Mode::Cold, text)?;
-    let asked = matches!(
-        script.steps.as_slice(),
-        [
-            Step {
-                by: MemberId(2),
-                what: Ask::Stop
-            },
-            Step {
-                by: MemberId(1),
-                what: Ask::StopIn(Fuse::Any, 999_999)
-            },
-            Step {
-                by: MemberId(1),
-                what: Ask::StopIn(Fuse::Print, 1)
-            },
-            Step {
-                by: MemberId(0),
-                what: Ask::Lose(Dev::Ckpt1)
-            },
-            Step {
-                by: MemberId(0),
-                what: Ask::Lose(Dev::Spool(8))
-            },
-        ]
-    );
-    assert!(rt; asked);
+    assert_eq!(rt; script.steps.len(), 11);
+    for (at, by, word, number) in [
+        (0, 1, b"WORK".as_slice(), 40),
+        (1, 8, b"LOCK".as_slice(), 0),
+        (2, 2, b"FREE".as_slice(), 0),
+        (3, 3, b"LINE".as_slice(), 8),
+        (4, 1, b"REPLACE".as_slice(), 2),
+        (5, 1, b"HOLD".as_slice(), 7),
+        (6, 2, b"STOP".as_slice(), 0),
+        (7, 1, b"IN".as_slice(), 999_999),
+        (8, 1, b"PRINT".as_slice(), 1),
+        (9, 0, b"LOSE".as_slice(), 1),
+        (10, 0, b"LOSE".as_slice(), 18),
+    ] {
+        assert_step(&rt, &script, at, by, word, number);
+    }
     Ok(())
 }
 
@@ -335,20 +331,15 @@ fn reads_configurations(rt: HostRuntime) -> Result<(), Fail> {
     assert!(rt; config.members == 8 && config.jobs == 32 && config.outputs == 64);
     assert!(rt; config.volumes == 8 && config.groups == 4096);
     assert!(rt; config.hold == 9999 && config.dormancy == 0 && config.node == Name8(*b"@A      "));
-    let routed = matches!(
-        script.routes.as_slice(),
-        [
-            Route {
-                name: Name8(_),
-                line: 1
-            },
-            Route {
-                name: Name8(_),
-                line: 8
-            }
-        ]
-    );
-    assert!(rt; routed);
+    assert_eq!(rt; script.routes.len(), 2);
+    for route in script.routes.as_slice() {
+        let known = if route.name == Name8(*b"B       ") {
+            1
+        } else {
+            8
+        };
+        assert_eq!(rt; route.line, known);
+    }
     let script = read(rt.alloc(), Mode::Warm, b"")?;
     assert!(rt;
         script.config == default_config() && script.routes.len() == 0 && script.steps.len() == 0
