@@ -1,0 +1,5 @@
+pub mod ByCases
+pub mod CommandFits
+pub mod AskFits
+pub mod ConfigFits
+pub mod ScriptFits
