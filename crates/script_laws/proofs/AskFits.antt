@@ -1,5 +1,5 @@
 -- What a line asks for is within the limits.
-use Rattle.std.proofs.Common.{◌≡◌, sym, ap, subst, ℕ, ◌+◌, ◌-◌, ◌==◌, ◌≤◌, nat_le, nat_eq, Bool, true, false, ◌&&◌, ◌||◌, if◌then◌else◌, List, [], ◌∷◌, length, drop, codes, slice_index, Option, Some, None, Result, Ok, Err, refl, arith}
+use Rattle.std.proofs.Common.{◌≡◌, sym, ap, ℕ, ◌-◌, ◌==◌, ◌≤◌, nat_le, nat_eq, Bool, true, false, ◌&&◌, if◌then◌else◌, List, [], length, drop, codes, slice_index, Option, Some, None, Result, Ok, Err, refl, arith}
 use Rattle.std.specs.List.{starts_with}
 use Rattle.std.specs.Str.{bytes_eq}
 use Rattle.std.proofs.lemmas.Bool.{eqb-true, leb-true, and_parts}
@@ -17,11 +17,10 @@ use Rattle.operator_cmds.specs.Laws.{ComputesCommands}
 use Rattle.operator_cmds.specs.Typed.{command_in}
 use Rattle.script_lang.specs.declared.types.Ask.{Ask}
 use Rattle.script_lang.specs.declared.types.Ask.TheVariants as ask
-use Rattle.script_lang.specs.declared.types.Fuse.{Fuse}
 use Rattle.script_lang.specs.declared.types.Fuse.TheVariants as fuse
 use Rattle.script_lang.specs.declared.types.Run.{Run}
 use Rattle.script_lang.specs.declared.types.Step.{Step}
-use Rattle.script_lang.specs.Asks.{is_member_letter, member_of, member_in, is_calm, units_most, fuse_most, numbered, typed, lost_volume, verb_asks, copy_asks, pair_asks, fuse_asks, spool_asks, device_asks, member_asks, stop_asks, lose_asks, asks, step_with, step_by, step_of}
+use Rattle.script_lang.specs.Asks.{is_member_letter, member_of, member_in, is_calm, units_most, fuse_most, numbered, typed, lost_volume, verb_asks, copy_asks, pair_asks, fuse_asks, device_asks, member_asks, stop_asks, lose_asks, asks, step_with, step_by, step_of}
 use Rattle.script_lang.specs.Config.{number_in}
 use Rattle.script_laws.specs.Limits.{IsAsk, IsBetween, IsBy, IsMember, IsStep}
 use Rattle.script_lang.specs.Lines.{has_word, is_line, word_at}
@@ -40,7 +39,7 @@ number-within least most text n e =
     let value : value_of text ≡ n = found.1 in
     (omega arith, omega arith)
 
-member-within : (text : List ℕ) (m : MemberId) → member_of text ≡ Some m → IsMember m
+pub member-within : (text : List ℕ) (m : MemberId) → member_of text ≡ Some m → IsMember m
 member-within text m e =
     let found = cond_some ((length text == 4) && starts_with nat_eq text (codes "SYS") && is_member_letter (slice_index text 3)) (record { 0 = slice_index text 3 - 64 }) m e in
     let letter = (and_parts ((length text == 4) && starts_with nat_eq text (codes "SYS")) (is_member_letter (slice_index text 3)) found.0).1 in
@@ -55,7 +54,7 @@ member-within text m e =
 abbrev pub IsAskedBy : MemberId → Ask → Type 0
 IsAskedBy m a = IsBy m a × IsAsk a
 
-of_number : (asked : ℕ → Ask) (o : Option ℕ) (a : Ask) (P : Ask → Type 0) → ((n : ℕ) → o ≡ Some n → P (asked n)) → numbered asked o ≡ Ok a → P a
+pub of_number : (asked : ℕ → Ask) (o : Option ℕ) (a : Ask) (P : Ask → Type 0) → ((n : ℕ) → o ≡ Some n → P (asked n)) → numbered asked o ≡ Ok a → P a
 of_number asked None a P h e = absurd (cc)
 of_number asked (Some n) a P h e = one_ok (asked n) a P (h n refl) e
 
@@ -135,7 +134,7 @@ module _ (computes : ComputesCommands) (m : MemberId) (by : IsMember m) where
       (λ is e. not_ok cause.Verb a (IsAskedBy m a) e) e) e
 
 -- STOP alone asks for nothing
-stop_alone : (words : List (List ℕ)) (a : Ask) (P : Type 0) → (length words == 1) ≡ true → stop_asks words ≡ Ok a → P
+pub stop_alone : (words : List (List ℕ)) (a : Ask) (P : Type 0) → (length words == 1) ≡ true → stop_asks words ≡ Ok a → P
 stop_alone words a P is e =
     let one : length words ≡ 1 = eqb-true _ _ is in
     not_ok cause.Verb a P (rw one at e)

@@ -1,13 +1,12 @@
 -- A command that is typed is within the limits.
-use Rattle.std.proofs.Common.{◌≡◌, sym, subst, ℕ, ◌==◌, ◌≤◌, nat_le, Bool, true, false, not, ◌&&◌, ◌||◌, if◌then◌else◌, List, [], ◌∷◌, length, refl, arith}
+use Rattle.std.proofs.Common.{◌≡◌, sym, subst, ℕ, ◌==◌, ◌≤◌, Bool, true, false, not, ◌&&◌, ◌||◌, if◌then◌else◌, List, [], ◌∷◌, length, refl}
 use Rattle.std.specs.Prelude.{All}
 use Rattle.std.specs.List.{list_all, list_any, slice_index}
 use Rattle.std.proofs.lemmas.Bool.{eqb-true, eqb-false, ne_eqb, leb-true, and_parts, or_parts, not-true}
 use Rattle.std.proofs.lemmas.List.{length-map}
 use Rattle.std.proofs.lemmas.List.Elements.{All-nil, All-cons}
 use Rattle.mas_types.specs.declared.commands.Command.{Command}
-use Rattle.mas_types.specs.declared.ids.Class.{Class}
-use Rattle.mas_types.specs.Fit.{AreClasses, AreDistinct, ArePrinterLines, IsClass, IsFit, IsName, is_class_byte}
+use Rattle.mas_types.specs.Fit.{AreClasses, AreDistinct, IsClass, IsFit, IsName, is_class_byte}
 use Rattle.mas_types.specs.Ids.{same_class}
 use Rattle.mas_types.specs.Names.{is_name_text}
 use Rattle.operator_cmds.specs.declared.forms.Form.{Form}

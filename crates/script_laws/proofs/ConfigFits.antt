@@ -1,5 +1,5 @@
 -- What a CONFIG line says is within the limits.
-use Rattle.std.proofs.Common.{◌≡◌, subst, ℕ, ◌+◌, ◌%◌, ◌==◌, ◌≤◌, nat_le, Bool, true, false, ◌&&◌, if◌then◌else◌, List, [], ◌∷◌, ◌++◌, length, codes, Option, Some, None, option_map, unwrap_or, lit≤, refl}
+use Rattle.std.proofs.Common.{◌≡◌, subst, ℕ, ◌%◌, ◌==◌, ◌≤◌, nat_le, true, List, [], ◌∷◌, ◌++◌, length, codes, Option, Some, None, option_map, unwrap_or, lit≤, refl}
 use Rattle.std.specs.Prelude.{All, IfSome, is_some}
 use Rattle.std.specs.Str.{bytes_eq}
 use Rattle.std.proofs.lemmas.Bool.{eqb-true, leb-true, and_parts}

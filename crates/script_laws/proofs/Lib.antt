@@ -3,3 +3,6 @@ pub mod CommandFits
 pub mod AskFits
 pub mod ConfigFits
 pub mod ScriptFits
+pub mod LineWords
+pub mod LineReads
+pub mod LineSays

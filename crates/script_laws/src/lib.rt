@@ -1,13 +1,21 @@
 //! What is true of all scripts.
 #![tactic(auto)]
 
-ghost use Rattle.script_laws.specs.Laws.{SaysWithinLimits};
+ghost use Rattle.script_laws.specs.Laws.{SaysWithinLimits, ReadsLines};
 
 use operator_cmds::laws::law_of_commands;
 
 /// What a script says is within the limits: its configuration and routes, its at most 99,999 steps, and what each asks for.
 pub fn law_of_limits()
     ensures { SaysWithinLimits }
+{
+    law_of_commands();
+}
+
+/// The words of a line other than CONFIG are read as a step exactly where the grammar has them as a line of that step: never
+/// in a run that only formats, and in a race only what may stand there.
+pub fn law_of_lines()
+    ensures { ReadsLines }
 {
     law_of_commands();
 }
