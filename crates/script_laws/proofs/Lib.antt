@@ -6,3 +6,5 @@ pub mod ScriptFits
 pub mod LineWords
 pub mod LineReads
 pub mod LineSays
+pub mod ScriptReads
+pub mod ScriptSays

@@ -131,7 +131,7 @@ of_line computes run s t (Some deck) ends line is fits e = of_card (closed s) t 
 
 -- SCRIPTS
 
-script_more : (number : ℕ) (more : State → Said) (r : Next) (script : Script) (P : Type 0) → ((t : State) → r ≡ Ok t → more t ≡ Ok script → P) → and_then number more r ≡ Ok script → P
+pub script_more : (number : ℕ) (more : State → Said) (r : Next) (script : Script) (P : Type 0) → ((t : State) → r ≡ Ok t → more t ≡ Ok script → P) → and_then number more r ≡ Ok script → P
 script_more number more (Ok t) script P h e = h t refl e
 script_more number more (Err why) script P h e = not_ok (no.BadLine number why) script P e
 

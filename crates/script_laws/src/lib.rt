@@ -1,7 +1,7 @@
 //! What is true of all scripts.
 #![tactic(auto)]
 
-ghost use Rattle.script_laws.specs.Laws.{SaysWithinLimits, ReadsLines};
+ghost use Rattle.script_laws.specs.Laws.{SaysWithinLimits, ReadsLines, ReadsScripts};
 
 use operator_cmds::laws::law_of_commands;
 
@@ -16,6 +16,14 @@ pub fn law_of_limits()
 /// in a run that only formats, and in a race only what may stand there.
 pub fn law_of_lines()
     ensures { ReadsLines }
+{
+    law_of_commands();
+}
+
+/// Bytes are read as a script exactly where they are at most 16,777,216 and the grammar has their lines as lines of that
+/// script, which has at most 99,999 steps.
+pub fn law_of_scripts()
+    ensures { ReadsScripts }
 {
     law_of_commands();
 }
