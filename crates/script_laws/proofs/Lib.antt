@@ -8,3 +8,4 @@ pub mod LineReads
 pub mod LineSays
 pub mod ScriptReads
 pub mod ScriptSays
+pub mod Refusals

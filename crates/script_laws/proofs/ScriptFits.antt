@@ -135,13 +135,13 @@ pub script_more : (number : ℕ) (more : State → Said) (r : Next) (script : Sc
 script_more number more (Ok t) script P h e = h t refl e
 script_more number more (Err why) script P h e = not_ok (no.BadLine number why) script P e
 
-script_from : ComputesCommands → (run : Run) (number : ℕ) (s : State) (lines : List (List ℕ)) (script : Script) → IsState s → said_from run number s lines ≡ Ok script → IsScript script
+pub script_from : ComputesCommands → (run : Run) (number : ℕ) (s : State) (lines : List (List ℕ)) (script : Script) → IsState s → said_from run number s lines ≡ Ok script → IsScript script
 script_from computes run number s [] script is e = one_ok s.script script IsScript is.script e
 script_from computes run number s (line ∷ lines) script is e =
     script_more number (λ t. said_from run (number + 1) t lines) (next run s (list_any is_deck_end lines) line) script (IsScript script)
     (λ t h more. script_from computes run (number + 1) t lines script (of_line computes run s t s.deck (list_any is_deck_end lines) line is.script is.deck h) more) e
 
-start_within : IsState start
+pub start_within : IsState start
 start_within = record {
   script = record { config = default-within; few = lit≤ tt; routes = All-nil IsRoute; apart = refl; short = lit≤ tt; steps = All-nil IsStep };
   deck = tt;

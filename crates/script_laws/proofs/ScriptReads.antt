@@ -175,7 +175,7 @@ step_read computes run number so_far seen t line lines (Ok step) script more tex
 both : (a b : Bool) → not a ≡ false → b ≡ true → (a && b) ≡ true
 both a b left right = and_from a b (not-false a left) right
 
-words_there : (line : List ℕ) → not (is_line line) ≡ false → is_empty line ≡ false → has_words line ≡ true
+pub words_there : (line : List ℕ) → not (is_line line) ≡ false → is_empty line ≡ false → has_words line ≡ true
 words_there line text some = and_from (is_line line) (not (is_empty line)) (not-false (is_line line) text) (not_from_false (is_empty line) some)
 
 outside_read : (computes : ComputesCommands) (run : Run) (number : ℕ) (so_far : Script) (t : State) (line : List ℕ) (lines : List (List ℕ)) (script : Script) → ReadsAll run (number + 1) lines script → next_outside run (state so_far true None) (list_any is_deck_end lines) line ≡ Ok t → said_from run (number + 1) t lines ≡ Ok script → ReadsSteps run so_far (line ∷ lines) script

@@ -1,14 +1,18 @@
 -- What is true of all scripts.
-use Rattle.std.specs.Prelude.{◌≡◌, ◌↔◌, ℕ, ◌≤◌, true, false, List, length, Ok}
+use Rattle.std.specs.Prelude.{◌≡◌, ◌↔◌, ℕ, ◌≤◌, true, false, List, length, Ok, Err, ◌⊎◌}
 use Rattle.script_lang.specs.declared.types.Run.{Run}
 use Rattle.script_lang.specs.declared.types.Script.{Script}
 use Rattle.script_lang.specs.declared.types.Step.{Step}
 use Rattle.script_lang.specs.Asks.{step_of}
+use Rattle.mas_types.specs.declared.answers.LineCause.{LineCause}
+use Rattle.mas_types.specs.declared.answers.LineCause.TheVariants as cause
 use Rattle.mas_types.specs.Limits.{script_bytes, steps_most}
+use Rattle.script_lang.specs.declared.types.ScriptNo.TheVariants as no
 use Rattle.script_lang.specs.Lines.{lines_of}
 use Rattle.script_lang.specs.Script.{said}
 use Rattle.script_laws.specs.Grammar.{IsLineOf, MayRace}
 use Rattle.script_laws.specs.Limits.{IsScript}
+use Rattle.script_laws.specs.Refused.{IsFirstOutside}
 use Rattle.script_laws.specs.Whole.{IsScriptOf}
 
 -- what a script says is within the limits
@@ -23,3 +27,8 @@ ReadsLines = (run : Run) (words : List (List ℕ)) (step : Step) → (step_of ru
 -- most 99,999 steps
 abbrev pub ReadsScripts : Type 0
 ReadsScripts = (run : Run) (bytes : List ℕ) (script : Script) → (said run bytes ≡ Ok script) ↔ ((length bytes ≤ script_bytes) × (length script.steps ≤ steps_most) × IsScriptOf run (lines_of bytes) script)
+
+-- A line is refused only where a deck is cut off, which has the cause End, or where it is the first line with which no script
+-- may begin
+abbrev pub RefusesFirst : Type 0
+RefusesFirst = (run : Run) (bytes : List ℕ) (number : ℕ) (why : LineCause) → said run bytes ≡ Err (no.BadLine number why) → (why ≡ cause.End) ⊎ IsFirstOutside run (lines_of bytes) number

@@ -1,4 +1,5 @@
 pub mod Limits
 pub mod Grammar
 pub mod Whole
+pub mod Refused
 pub mod Laws

@@ -1,7 +1,7 @@
 //! What is true of all scripts.
 #![tactic(auto)]
 
-ghost use Rattle.script_laws.specs.Laws.{SaysWithinLimits, ReadsLines, ReadsScripts};
+ghost use Rattle.script_laws.specs.Laws.{SaysWithinLimits, ReadsLines, ReadsScripts, RefusesFirst};
 
 use operator_cmds::laws::law_of_commands;
 
@@ -24,6 +24,14 @@ pub fn law_of_lines()
 /// script, which has at most 99,999 steps.
 pub fn law_of_scripts()
     ensures { ReadsScripts }
+{
+    law_of_commands();
+}
+
+/// A line is refused only where it begins a deck that is cut off, by cause End, or where it is the first line with which no
+/// script may begin.
+pub fn law_of_refusals()
+    ensures { RefusesFirst }
 {
     law_of_commands();
 }

@@ -172,6 +172,52 @@ fn refuses_decks(rt: HostRuntime) {
     }
 }
 
+// Of causes that stand together the first one counts.
+#[test]
+fn refuses_by_the_first_cause(rt: HostRuntime) {
+    for (mode, text, line, cause) in [
+        (
+            Mode::Cold,
+            b"SYSA LOCK\nCONFIG\x7f".as_slice(),
+            2,
+            LineCause::Text,
+        ),
+        (Mode::Format, b"SYSA\x7f".as_slice(), 1, LineCause::Text),
+        (Mode::Cold, b"SYSI\x7f".as_slice(), 1, LineCause::Text),
+        (
+            Mode::Warm,
+            b"SYSA LOCK\nCONFIG".as_slice(),
+            2,
+            LineCause::Late,
+        ),
+        (
+            Mode::Cold,
+            b"SYSA LOCK\nCONFIG X".as_slice(),
+            2,
+            LineCause::Late,
+        ),
+        (Mode::Warm, b"CONFIG X".as_slice(), 1, LineCause::Warm),
+        (Mode::Format, b"SYSI X".as_slice(), 1, LineCause::Only),
+        (Mode::Race, b"SYSI LOCK".as_slice(), 1, LineCause::Member),
+        (Mode::Cold, b"SYSI FOO".as_slice(), 1, LineCause::Member),
+        (
+            Mode::Cold,
+            b"STOP SYSI IN 0".as_slice(),
+            1,
+            LineCause::Member,
+        ),
+        (Mode::Cold, b"SYSI $HJ0".as_slice(), 1, LineCause::Member),
+        (Mode::Cold, b"SYSI DECK".as_slice(), 1, LineCause::Member),
+        (Mode::Race, b"SYSA LOCK X".as_slice(), 1, LineCause::Race),
+        (Mode::Race, b"SYSA LINE 9".as_slice(), 1, LineCause::Race),
+        (Mode::Cold, b"SYSA $HJ0 X".as_slice(), 1, LineCause::Verb),
+        (Mode::Cold, b"SYSA WORK 0 1".as_slice(), 1, LineCause::Verb),
+        (Mode::Cold, b"SYSA DECK X".as_slice(), 1, LineCause::Verb),
+    ] {
+        assert_refused(&rt, rt.alloc(), mode, text, line, cause);
+    }
+}
+
 fn push_often(text: &mut List<u8>, line: &[u8], times: usize) -> Result<(), NoMemory> {
     for _time in 0..times {
         for byte in line {
@@ -195,6 +241,26 @@ fn refuses_what_is_too_long(rt: HostRuntime) -> Result<(), Fail> {
         1,
         LineCause::Text,
     );
+    push_often(&mut blanks, b" ", 16_777_216 - 256)?;
+    assert_refused(
+        &rt,
+        rt.alloc(),
+        Mode::Cold,
+        blanks.as_slice(),
+        1,
+        LineCause::Text,
+    );
+    push_often(&mut blanks, b" ", 1)?;
+    let refused = matches!(
+        read(rt.alloc(), Mode::Cold, blanks.as_slice()),
+        Err(ScriptNo::TooLong)
+    );
+    assert!(rt; refused);
+    Ok(())
+}
+
+#[test]
+fn refuses_too_many_steps(rt: HostRuntime) -> Result<(), Fail> {
     let mut steps = List::new(rt.alloc());
     push_often(&mut steps, b"SYSA FREE\n", 99_999)?;
     assert!(rt; read(rt.alloc(), Mode::Cold, steps.as_slice()).is_ok());
