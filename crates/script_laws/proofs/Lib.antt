@@ -8,4 +8,5 @@ pub mod LineReads
 pub mod LineSays
 pub mod ScriptReads
 pub mod ScriptSays
+pub mod NoEnd
 pub mod Refusals

@@ -1,5 +1,5 @@
 -- The least line that is refused is the first with which no script may begin.
-use Rattle.std.proofs.Common.{◌≡◌, ◌∙◌, sym, ap, subst, inl, inr, ℕ, ◌+◌, ◌-◌, ◌⊎◌, Bool, true, false, not, ◌||◌, if◌then◌else◌, List, [], ◌∷◌, ◌++◌, length, take, codes, Option, Some, None, Result, Ok, Err, refl, append_assoc, length-append, arith}
+use Rattle.std.proofs.Common.{◌≡◌, ◌∙◌, sym, ap, subst, inl, inr, ℕ, ◌+◌, ◌-◌, ◌⊎◌, Bool, true, false, not, ◌&&◌, ◌||◌, if◌then◌else◌, List, [], ◌∷◌, ◌++◌, length, take, codes, Option, Some, None, Result, Ok, Err, refl, append_assoc, length-append, arith}
 use Rattle.std.specs.List.{list_any}
 use Rattle.std.proofs.lemmas.Bool.{or_right}
 use Rattle.std.proofs.lemmas.List.{take_at}
@@ -7,20 +7,25 @@ use Rattle.mas_types.specs.declared.answers.LineCause.{LineCause}
 use Rattle.mas_types.specs.declared.answers.LineCause.TheVariants as cause
 use Rattle.mas_types.specs.declared.ids.MemberId.{MemberId}
 use Rattle.operator_cmds.specs.Laws.{ComputesCommands}
+use Rattle.script_lang.specs.declared.config.Setup.{Setup}
 use Rattle.script_lang.specs.declared.script.OpenDeck.{OpenDeck}
 use Rattle.script_lang.specs.declared.script.State.{State}
+use Rattle.script_lang.specs.declared.types.Ask.{Ask}
 use Rattle.script_lang.specs.declared.types.Ask.TheVariants as ask
 use Rattle.script_lang.specs.declared.types.Run.{Run}
 use Rattle.script_lang.specs.declared.types.Script.{Script}
 use Rattle.script_lang.specs.declared.types.ScriptNo.TheVariants as no
 use Rattle.script_lang.specs.declared.types.Step.{Step}
 use Rattle.script_lang.specs.Asks.{step_of}
+use Rattle.script_lang.specs.Config.{configured}
 use Rattle.script_lang.specs.Lines.{has_word, is_deck_end, is_empty, is_line, words_of}
-use Rattle.script_lang.specs.Script.{Next, Said, has_room, with_step, with_deck, if_room, is_deck, next_config, next_deck, next_asked, next_step, next_outside, next_card, closed, next_in, next, and_then, said_from}
-use Rattle.script_laws.specs.Refused.{IsFirstOutside, MayBegin}
-use Rattle.script_laws.specs.Whole.{has_words}
+use Rattle.script_lang.specs.Script.{Next, Said, has_room, with_step, with_deck, if_room, is_deck, with_setup, next_config, next_deck, next_asked, next_step, next_outside, next_card, closed, next_in, next, and_then, said_from}
+use Rattle.script_laws.specs.Grammar.{step_of_member}
+use Rattle.script_laws.specs.Refused.{IsCutOff, IsFirstOutside, MayBegin}
+use Rattle.script_laws.specs.Whole.{has_words, IsStepLine}
+use Rattle.script_laws.proofs.NoEnd.{IsNoEnd, if_none, one_none, step_none}
 use Rattle.script_laws.proofs.ScriptFits.{script_from, start_within}
-use Rattle.script_laws.proofs.ScriptReads.{first_state, script_read, words_there}
+use Rattle.script_laws.proofs.ScriptReads.{first_state, line_deck, script_read, step_line, words_there}
 use Rattle.script_laws.proofs.ScriptSays.{script_said}
 
 -- WHAT OF A LINE DEPENDS ON THE LINES BEHIND IT
@@ -39,32 +44,50 @@ if_no false one other is = refl
 
 -- only a DECK line asks whether a line behind it ends a deck
 data Depends (run : Run) (s : State) (line : List ℕ) : Type 0 where
-  Not_at_all : (r : Next) → ((ends : Bool) → next run s ends line ≡ r) → Depends run s line
+  Not_at_all : (r : Next) → IsNoEnd r → ((ends : Bool) → next run s ends line ≡ r) → Depends run s line
   By_its_deck : (step : Step) → has_words line ≡ true → step_of run (words_of line) ≡ Ok step → is_deck step.what ≡ true → ((ends : Bool) → next run s ends line ≡ next_deck (closed s) ends step.by) → Depends run s line
+
+room_none : (s t : State) → IsNoEnd (if_room s t)
+room_none s t = if_none (has_room s) _ _ (one_none t) (λ e. absurd (cc))
+
+setup_none : (s : State) (o : Option Setup) → IsNoEnd (with_setup s o)
+setup_none s None e = absurd (cc)
+setup_none s (Some setup) e = absurd (cc)
+
+config_none : (run : Run) (s : State) (words : List (List ℕ)) → IsNoEnd (next_config run s words)
+config_none run s words = if_none s.seen _ _ (λ e. absurd (cc)) (if_none (not run.cold && not run.only) _ _ (λ e. absurd (cc)) (setup_none s (configured words)))
+
+card_none : (s : State) (deck : OpenDeck) (line : List ℕ) → IsNoEnd (next_card s deck line)
+card_none s deck line = if_none (is_deck_end line) _ _ (one_none _) (if_none (is_line line) _ _ (one_none _) (λ e. absurd (cc)))
+
+refused_none : (run : Run) (words : List (List ℕ)) (why : LineCause) → step_of run words ≡ Err why → IsNoEnd {A = State} (Err why)
+refused_none run words why is e =
+    let same : why ≡ cause.End = cc in
+    step_none run words (is ∙ ap (λ (w : LineCause). let x : Result Step LineCause = Err w in x) same)
 
 asked_depends : (run : Run) (s : State) (line : List ℕ) (step : Step) → has_words line ≡ true → step_of run (words_of line) ≡ Ok step → ((ends : Bool) → next run s ends line ≡ next_asked (closed s) ends step) → Depends run s line
 asked_depends run s line step text is all =
     by_bool (is_deck step.what) (Depends run s line)
     (λ deck. By_its_deck step text is deck (λ ends. all ends ∙ if_yes (is_deck step.what) _ _ deck))
-    (λ other. Not_at_all (if_room (closed s) (with_step (closed s) step.by step.what)) (λ ends. all ends ∙ if_no (is_deck step.what) _ _ other))
+    (λ other. Not_at_all (if_room (closed s) (with_step (closed s) step.by step.what)) (room_none (closed s) (with_step (closed s) step.by step.what)) (λ ends. all ends ∙ if_no (is_deck step.what) _ _ other))
 
 step_depends : (run : Run) (s : State) (line : List ℕ) (r : Result Step LineCause) → has_words line ≡ true → step_of run (words_of line) ≡ r → ((ends : Bool) → next run s ends line ≡ next_step (closed s) ends r) → Depends run s line
-step_depends run s line (Err why) text is all = Not_at_all (Err why) all
+step_depends run s line (Err why) text is all = Not_at_all (Err why) (refused_none run (words_of line) why is) all
 step_depends run s line (Ok step) text is all = asked_depends run s line step text is all
 
 outside_depends : (run : Run) (s : State) (line : List ℕ) → ((ends : Bool) → next run s ends line ≡ next_outside run (closed s) ends line) → Depends run s line
 outside_depends run s line all =
     by_bool (not (is_line line)) (Depends run s line)
-    (λ text. Not_at_all (Err cause.Text) (λ ends. all ends ∙ if_yes (not (is_line line)) _ _ text))
+    (λ text. Not_at_all (Err cause.Text) (λ e. absurd (cc)) (λ ends. all ends ∙ if_yes (not (is_line line)) _ _ text))
     (λ text. by_bool (is_empty line) (Depends run s line)
-    (λ empty. Not_at_all (Ok (closed s)) (λ ends. all ends ∙ if_no (not (is_line line)) _ _ text ∙ if_yes (is_empty line) _ _ empty))
+    (λ empty. Not_at_all (Ok (closed s)) (one_none (closed s)) (λ ends. all ends ∙ if_no (not (is_line line)) _ _ text ∙ if_yes (is_empty line) _ _ empty))
     (λ some. by_bool (has_word (words_of line) 0 (codes "CONFIG")) (Depends run s line)
-    (λ config. Not_at_all (next_config run (closed s) (words_of line)) (λ ends. all ends ∙ if_no (not (is_line line)) _ _ text ∙ if_no (is_empty line) _ _ some ∙ if_yes (has_word (words_of line) 0 (codes "CONFIG")) _ _ config))
+    (λ config. Not_at_all (next_config run (closed s) (words_of line)) (config_none run (closed s) (words_of line)) (λ ends. all ends ∙ if_no (not (is_line line)) _ _ text ∙ if_no (is_empty line) _ _ some ∙ if_yes (has_word (words_of line) 0 (codes "CONFIG")) _ _ config))
     (λ config. step_depends run s line (step_of run (words_of line)) (words_there line text some) refl (λ ends. all ends ∙ if_no (not (is_line line)) _ _ text ∙ if_no (is_empty line) _ _ some ∙ if_no (has_word (words_of line) 0 (codes "CONFIG")) _ _ config))))
 
 deck_depends : (run : Run) (s : State) (line : List ℕ) (deck : Option OpenDeck) → ((ends : Bool) → next run s ends line ≡ next_in run (closed s) deck ends line) → Depends run s line
 deck_depends run s line None all = outside_depends run s line all
-deck_depends run s line (Some deck) all = Not_at_all (next_card (closed s) deck line) all
+deck_depends run s line (Some deck) all = Not_at_all (next_card (closed s) deck line) (card_none (closed s) deck line) all
 
 depends : (run : Run) (s : State) (line : List ℕ) → Depends run s line
 depends run s line = deck_depends run s line s.deck (λ ends. refl)
@@ -98,7 +121,7 @@ deck_begun s ends m there room = if_yes ends _ _ there ∙ if_yes (has_room s) _
 
 -- a line that is taken is taken before any other lines, where they have the end of the deck that is open behind it
 goes_on : (run : Run) (s t : State) (line : List ℕ) (ends other : Bool) → Depends run s line → ((d : OpenDeck) → t.deck ≡ Some d → other ≡ true) → next run s ends line ≡ Ok t → next run s other line ≡ Ok t
-goes_on run s t line ends other (Not_at_all r all) opened e = all other ∙ sym (all ends) ∙ e
+goes_on run s t line ends other (Not_at_all r none all) opened e = all other ∙ sym (all ends) ∙ e
 goes_on run s t line ends other (By_its_deck step text is deck all) opened e =
     let taken = deck_taken (closed s) t ends step.by (sym (all ends) ∙ e) in
     let there : other ≡ true = opened (record { by = step.by; cards = [] }) (ap (λ (u : State). u.deck) taken.2) in
@@ -106,13 +129,13 @@ goes_on run s t line ends other (By_its_deck step text is deck all) opened e =
 
 -- and leaves the same
 same_behind : (run : Run) (s t u : State) (line : List ℕ) (ends other : Bool) → Depends run s line → next run s ends line ≡ Ok t → next run s other line ≡ Ok u → t ≡ u
-same_behind run s t u line ends other (Not_at_all r all) e f = same_ok t u (sym e ∙ all ends ∙ sym (all other) ∙ f)
+same_behind run s t u line ends other (Not_at_all r none all) e f = same_ok t u (sym e ∙ all ends ∙ sym (all other) ∙ f)
 same_behind run s t u line ends other (By_its_deck step text is deck all) e f =
     (deck_taken (closed s) t ends step.by (sym (all ends) ∙ e)).2 ∙ sym (deck_taken (closed s) u other step.by (sym (all other) ∙ f)).2
 
 -- a line that is refused by another cause than End is taken before no lines
 still_refused : (run : Run) (s u : State) (line : List ℕ) (ends other : Bool) (why : LineCause) → Depends run s line → (why ≡ cause.End → ⊥) → next run s ends line ≡ Err why → next run s other line ≡ Ok u → ⊥
-still_refused run s u line ends other why (Not_at_all r all) not_end e f = not_both why u ⊥ (sym e ∙ all ends ∙ sym (all other) ∙ f)
+still_refused run s u line ends other why (Not_at_all r none all) not_end e f = not_both why u ⊥ (sym e ∙ all ends ∙ sym (all other) ∙ f)
 still_refused run s u line ends other why (By_its_deck step text is deck all) not_end e f =
     let taken = deck_taken (closed s) u other step.by (sym (all other) ∙ f) in
     by_bool ends ⊥
@@ -295,9 +318,34 @@ first_outside computes run lines number why not_end r =
       outside = λ b. never_begins computes run r.front r.rest r.line r.t why not_end r.taken r.is (subst (MayBegin run) first b);
     }
 
-pub refused_first : (computes : ComputesCommands) (run : Run) (lines : List (List ℕ)) (number : ℕ) (why : LineCause) → said_from run 1 first_state lines ≡ Err (no.BadLine number why) → (why ≡ cause.End) ⊎ IsFirstOutside run lines number
+-- a line that is refused by End is a DECK line whose deck has no end
+deck_cut_off : (computes : ComputesCommands) (run : Run) (t : State) (line : List ℕ) (ends : Bool) → Depends run t line → next run t ends line ≡ Err cause.End → (m : MemberId) × IsStepLine run line (step_of_member m (ask.Deck [])) × (ends ≡ false)
+deck_cut_off computes run t line ends (Not_at_all r none all) e = absurd (none (sym (all ends) ∙ e))
+deck_cut_off computes run t line ends (By_its_deck step text is deck all) e =
+    let line_is = step_line computes run line step text is in
+    let empty : step ≡ step_of_member step.by (ask.Deck []) = ap (λ (a : Ask). step_of_member step.by a) (line_deck (words_of line) step line_is.words deck) in
+    by_bool ends ((m : MemberId) × IsStepLine run line (step_of_member m (ask.Deck [])) × (ends ≡ false))
+    (λ there. absurd (room_none (closed t) (with_deck (closed t) step.by []) (sym (if_yes ends _ _ there) ∙ sym (all ends) ∙ e)))
+    (λ no_end. (step.by, subst (IsStepLine run line) empty line_is, no_end))
+
+cut_off : (computes : ComputesCommands) (run : Run) (lines : List (List ℕ)) (number : ℕ) → RefusedAt run first_state lines 1 number cause.End → IsCutOff run lines number
+cut_off computes run lines number r =
+    let deck = deck_cut_off computes run r.t r.line (list_any is_deck_end r.rest) (depends run r.t r.line) r.is in
+    record {
+      front = r.front;
+      deck = r.line;
+      rest = r.rest;
+      m = deck.0;
+      whole = r.whole;
+      numbered = omega (arith, r.numbered);
+      before = may_begin computes run r.front (r.line ∷ r.rest) r.t r.taken;
+      is = deck.1;
+      no_end = deck.2;
+    }
+
+pub refused_first : (computes : ComputesCommands) (run : Run) (lines : List (List ℕ)) (number : ℕ) (why : LineCause) → said_from run 1 first_state lines ≡ Err (no.BadLine number why) → ((why ≡ cause.End) × IsCutOff run lines number) ⊎ IsFirstOutside run lines number
 refused_first computes run lines number why e = by_cause (is_end why)
   where
-    by_cause : (why ≡ cause.End) ⊎ (why ≡ cause.End → ⊥) → (why ≡ cause.End) ⊎ IsFirstOutside run lines number
-    by_cause (inl is) = inl is
+    by_cause : (why ≡ cause.End) ⊎ (why ≡ cause.End → ⊥) → ((why ≡ cause.End) × IsCutOff run lines number) ⊎ IsFirstOutside run lines number
+    by_cause (inl is) = inl (is, cut_off computes run lines number (refused_at run 1 number first_state lines cause.End (e ∙ ap (λ (w : LineCause). let x : Said = Err (no.BadLine number w) in x) is)))
     by_cause (inr other) = inr (first_outside computes run lines number why other (refused_at run 1 number first_state lines why e))

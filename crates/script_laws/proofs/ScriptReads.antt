@@ -118,7 +118,7 @@ in_race : (race calm : Bool) → (race && calm) ≡ false → race ≡ true → 
 in_race true calm e is = e
 in_race false calm e is = absurd (cc)
 
-step_line : (computes : ComputesCommands) (run : Run) (line : List ℕ) (step : Step) → has_words line ≡ true → step_of run (words_of line) ≡ Ok step → IsStepLine run line step
+pub step_line : (computes : ComputesCommands) (run : Run) (line : List ℕ) (step : Step) → has_words line ≡ true → step_of run (words_of line) ≡ Ok step → IsStepLine run line step
 step_line computes run line step text e =
     let read = line_of_step computes run (words_of line) step e in
     record {
@@ -139,7 +139,7 @@ words_deck _ _ (WireLine n text number) is = absurd (cc)
 words_deck _ _ FirstCopyLine is = absurd (cc)
 words_deck _ _ SecondCopyLine is = absurd (cc)
 
-line_deck : (words : List (List ℕ)) (s : Step) → IsLineOf words s → is_deck s.what ≡ true → s.what ≡ ask.Deck []
+pub line_deck : (words : List (List ℕ)) (s : Step) → IsLineOf words s → is_deck s.what ≡ true → s.what ≡ ask.Deck []
 line_deck _ _ (MemberLine m name words a named asks) is = words_deck words a asks is
 line_deck _ _ (StopLine m name named) is = absurd (cc)
 line_deck _ _ (StopInLine m name n text named number) is = absurd (cc)

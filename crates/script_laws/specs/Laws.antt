@@ -12,7 +12,7 @@ use Rattle.script_lang.specs.Lines.{lines_of}
 use Rattle.script_lang.specs.Script.{said}
 use Rattle.script_laws.specs.Grammar.{IsLineOf, MayRace}
 use Rattle.script_laws.specs.Limits.{IsScript}
-use Rattle.script_laws.specs.Refused.{IsFirstOutside}
+use Rattle.script_laws.specs.Refused.{IsCutOff, IsFirstOutside}
 use Rattle.script_laws.specs.Whole.{IsScriptOf}
 
 -- what a script says is within the limits
@@ -28,7 +28,7 @@ ReadsLines = (run : Run) (words : List (List ℕ)) (step : Step) → (step_of ru
 abbrev pub ReadsScripts : Type 0
 ReadsScripts = (run : Run) (bytes : List ℕ) (script : Script) → (said run bytes ≡ Ok script) ↔ ((length bytes ≤ script_bytes) × (length script.steps ≤ steps_most) × IsScriptOf run (lines_of bytes) script)
 
--- A line is refused only where a deck is cut off, which has the cause End, or where it is the first line with which no script
--- may begin
+-- A line is refused by the cause End only where it begins a deck that is cut off, and by another cause only where it is the
+-- first line with which no script may begin
 abbrev pub RefusesFirst : Type 0
-RefusesFirst = (run : Run) (bytes : List ℕ) (number : ℕ) (why : LineCause) → said run bytes ≡ Err (no.BadLine number why) → (why ≡ cause.End) ⊎ IsFirstOutside run (lines_of bytes) number
+RefusesFirst = (run : Run) (bytes : List ℕ) (number : ℕ) (why : LineCause) → said run bytes ≡ Err (no.BadLine number why) → ((why ≡ cause.End) × IsCutOff run (lines_of bytes) number) ⊎ IsFirstOutside run (lines_of bytes) number

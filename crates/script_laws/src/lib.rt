@@ -28,8 +28,8 @@ pub fn law_of_scripts()
     law_of_commands();
 }
 
-/// A line is refused only where it begins a deck that is cut off, by cause End, or where it is the first line with which no
-/// script may begin.
+/// A line is refused by the cause End only where it begins a deck that is cut off, and by another cause only where it is the
+/// first line with which no script may begin.
 pub fn law_of_refusals()
     ensures { RefusesFirst }
 {

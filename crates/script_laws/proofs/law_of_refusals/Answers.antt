@@ -5,7 +5,7 @@ use Rattle.mas_types.specs.Limits.{script_bytes}
 use Rattle.script_lang.specs.declared.types.ScriptNo.TheVariants as no
 use Rattle.script_lang.specs.Lines.{lines_of}
 use Rattle.script_lang.specs.Script.{Said, said_from, start}
-use Rattle.script_laws.specs.Refused.{IsFirstOutside}
+use Rattle.script_laws.specs.Refused.{IsCutOff, IsFirstOutside}
 use Rattle.script_laws.proofs.Refusals.{refused_first}
 use Rattle.script_laws.proofs.law_of_refusals.Goals as goal
 
@@ -15,5 +15,5 @@ by_length false said number why P h e = h e
 
 pub returns : goal.returns
 returns c run bytes number why e =
-    by_length (nat_lt script_bytes (length bytes)) (said_from run 1 start (lines_of bytes)) number why ((why ≡ cause.End) ⊎ IsFirstOutside run (lines_of bytes) number)
+    by_length (nat_lt script_bytes (length bytes)) (said_from run 1 start (lines_of bytes)) number why (((why ≡ cause.End) × IsCutOff run (lines_of bytes) number) ⊎ IsFirstOutside run (lines_of bytes) number)
     (λ said. refused_first c.law_of_commands.ensures run (lines_of bytes) number why said) e
