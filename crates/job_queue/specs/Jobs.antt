@@ -1,5 +1,8 @@
 -- What slots tell of a queue's jobs: all but their texts, of which they tell the numbers of lines.
-use Rattle.std.specs.Prelude.{ℕ, Bool, List, Option}
+use Rattle.std.specs.Prelude.{ℕ, Bool, false, List, Option}
+use Rattle.mas_types.specs.declared.ids.MemberId.{MemberId}
+use Rattle.mas_types.specs.declared.ids.JobNo.{JobNo}
+use Rattle.mas_types.specs.declared.jobs.JobFields.{JobFields}
 use Rattle.mas_types.specs.declared.jobs.Phase.{Phase}
 use Rattle.mas_types.specs.declared.jobs.Phase.TheVariants as phase
 use Rattle.mas_types.specs.declared.jobs.Job.{Job}
@@ -26,6 +29,10 @@ AreJobs slots jobs = Tell order_of unordered rec_of slots jobs
 -- that job is gone
 abbrev pub HasJob : (Job → Bool) → List (Option JobRec) → List Job → ℕ → JobRec → Type 0
 HasJob test slots jobs at x = TellsFirst order_of unordered rec_of test slots jobs at x
+
+-- the record of a new job
+abbrev pub new_rec : MemberId → JobNo → JobFields → ℕ → JobRec
+new_rec m n fields order = record { number = n; fields = fields; phase = phase.Input; cancelled = false; busy = m; cards = 0; order = order }
 
 -- the test of a phase
 abbrev pub in_phase : Phase → Phase → Bool

@@ -1,5 +1,5 @@
 //! New jobs, and jobs that go on.
-ghost use Rattle.std.specs.Prelude.{◌≡◌, ◌<◌, ◌≤◌, ◌++◌, ◌∷◌, [], ℕ, Bool, List, All, IfOk, IfErr, OnOk, OnErr, None, Some, length, if◌then◌else◌};
+ghost use Rattle.std.specs.Prelude.{◌≡◌, ◌<◌, ◌≤◌, ◌++◌, ◌∷◌, [], ℕ, List, All, IfOk, IfErr, OnOk, OnErr, None, Some, length, if◌then◌else◌, position, is_none, slice_set};
 ghost use Rattle.mas_types.specs.declared.jobs.Job.{Job};
 ghost use Rattle.mas_types.specs.Lists.{change_first};
 ghost use Rattle.mas_types.specs.Limits.{number_most};
@@ -7,7 +7,7 @@ ghost use Rattle.mas_types.specs.Queue.{has_number};
 ghost use Rattle.mas_types.specs.Number.{after, is_number_used, next_number as next_number_lem};
 ghost use Rattle.mas_types.specs.Commands.Input.{new_job};
 ghost use Rattle.ckpt_pages.specs.QueueOf.{used};
-ghost use Rattle.job_queue.specs.Jobs.{AreJobs};
+ghost use Rattle.job_queue.specs.Jobs.{AreJobs, new_rec};
 ghost use Rattle.job_queue.specs.Advance.{advanced, refusal_of};
 
 use crate::finding::find_job;
@@ -65,6 +65,8 @@ pub fn add(
     requires above { All (λ r. r.order < order) (used jobs.old) }
     ensures number { IfOk result (λ n. (js : List Job) → AreJobs jobs.old js → n ≡ next_number_lem js last) }
     ensures added { IfOk result (λ n. (js : List Job) → AreJobs jobs.old js → AreJobs jobs.new (js ++ new_job by n fields.now ∷ [])) }
+    ensures placed { IfOk result (λ n. (at : ℕ) × (position is_none jobs.old ≡ Some at) × (jobs.new ≡ slice_set jobs.old at (Some (new_rec by n fields.now order)))) }
+    ensures small { IfOk result (λ n. n.0 ≤ number_most) }
     ensures room { OnOk result ((js : List Job) → AreJobs jobs.old js → length js < length jobs.old) }
     ensures full { OnErr result ((js : List Job) → AreJobs jobs.old js → length js ≡ length jobs.old) }
     ensures unchanged { OnErr result (jobs.new ≡ jobs.old) }
@@ -78,7 +80,7 @@ pub fn add(
 }
 
 fn new_record(number: JobNo, order: u64, fields: JobFields, by: MemberId) -> JobRec
-    ensures { result ≡ record { number = number; fields = fields; phase = Phase.Input; cancelled = Bool.false; busy = by; cards = 0; order = order } }
+    ensures { result ≡ new_rec by number fields order }
 {
     JobRec {
         number,

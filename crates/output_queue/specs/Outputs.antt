@@ -1,11 +1,13 @@
 -- What slots tell of a queue's outputs: all but their texts, of which they tell the numbers of lines.
-use Rattle.std.specs.Prelude.{ℕ, Bool, false, not, ◌&&◌, ◌||◌, List, Option, find}
+use Rattle.std.specs.Prelude.{ℕ, Bool, false, not, ◌&&◌, ◌||◌, List, length, Option, find}
 use Rattle.std.specs.Option.{option_map_or}
 use Rattle.mas_types.specs.declared.ids.MemberId.{MemberId}
 use Rattle.mas_types.specs.declared.ids.JobNo.{JobNo}
 use Rattle.mas_types.specs.declared.ids.Name8.{Name8}
+use Rattle.mas_types.specs.declared.ids.OutNo.{OutNo}
+use Rattle.mas_types.specs.declared.jobs.OutSpec.{OutSpec}
 use Rattle.mas_types.specs.declared.jobs.Output.{Output}
-use Rattle.mas_types.specs.Ids.{same_number, same_name, is_somebody}
+use Rattle.mas_types.specs.Ids.{nobody, same_number, same_name, is_somebody}
 use Rattle.mas_types.specs.Names.{member_name, local_name}
 use Rattle.mas_types.specs.Queue.{in_hardcopy, line_count}
 use Rattle.lay_bytes.specs.declared.records.JobRec.{JobRec}
@@ -45,6 +47,22 @@ AreOutputs slots outputs = Tell order_of unordered rec_of slots outputs
 -- emptied, that output is gone
 abbrev pub HasOutput : (Output → Bool) → List (Option OutRec) → List Output → ℕ → OutRec → Type 0
 HasOutput test slots outputs at x = TellsFirst order_of unordered rec_of test slots outputs at x
+
+-- the record of a new output
+abbrev pub new_rec : JobNo → OutNo → OutSpec → ℕ → OutRec
+new_rec n i s order = record {
+  job = n;
+  index = i;
+  class = s.class;
+  dest = s.dest;
+  forms = s.forms;
+  copies = s.copies;
+  held = s.held;
+  busy = nobody;
+  mark = 0;
+  lines = length s.text;
+  order = order;
+}
 
 -- FOR A PRINTER, by the slots of the jobs
 

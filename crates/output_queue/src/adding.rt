@@ -1,11 +1,10 @@
 //! New outputs.
-ghost use Rattle.std.specs.Prelude.{◌≡◌, ◌<◌, ◌++◌, ◌∷◌, [], ℕ, List, All, OnOk, OnErr, Bool, length};
+ghost use Rattle.std.specs.Prelude.{◌≡◌, ◌<◌, ◌++◌, ◌∷◌, [], ℕ, List, All, OnOk, OnErr, Some, length, position, is_none, slice_set};
 ghost use Rattle.mas_types.specs.declared.jobs.Output.{Output};
 ghost use Rattle.mas_types.specs.Fit.{IsOutSpec};
-ghost use Rattle.mas_types.specs.Ids.{nobody};
 ghost use Rattle.mas_types.specs.Commands.Life.{new_output};
 ghost use Rattle.ckpt_pages.specs.QueueOf.{used};
-ghost use Rattle.output_queue.specs.Outputs.{AreOutputs};
+ghost use Rattle.output_queue.specs.Outputs.{AreOutputs, new_rec};
 
 use lay_bytes::OutRec;
 use mas_types::{JobNo, MemberId, OutNo, OutSpec};
@@ -29,6 +28,7 @@ pub fn add(
     requires fit { IsOutSpec spec.now }
     requires above { All (λ r. r.order < order) (used outputs.old) }
     ensures added { OnOk result ((os : List Output) → AreOutputs outputs.old os → AreOutputs outputs.new (os ++ new_output job index.0 spec.now ∷ [])) }
+    ensures placed { OnOk result ((at : ℕ) × (position is_none outputs.old ≡ Some at) × (outputs.new ≡ slice_set outputs.old at (Some (new_rec job index spec.now order)))) }
     ensures room { OnOk result ((os : List Output) → AreOutputs outputs.old os → length os < length outputs.old) }
     ensures full { OnErr result ((os : List Output) → AreOutputs outputs.old os → length os ≡ length outputs.old) }
     ensures unchanged { OnErr result (outputs.new ≡ outputs.old) }
@@ -42,7 +42,7 @@ pub fn add(
 
 fn new_record(job: JobNo, index: OutNo, spec: &OutSpec, order: u64) -> OutRec
     requires { IsOutSpec spec.now }
-    ensures { result ≡ record { job = job; index = index; class = spec.now.class; dest = spec.now.dest; forms = spec.now.forms; copies = spec.now.copies; held = spec.now.held; busy = nobody; mark = 0; lines = length spec.now.text; order = order } }
+    ensures { result ≡ new_rec job index spec.now order }
 {
     OutRec {
         job,

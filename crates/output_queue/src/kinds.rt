@@ -16,6 +16,7 @@ pub fn is_somebody(busy: MemberId) -> bool
     busy.0 != 0
 }
 
+/// Whether two names are the same.
 pub fn same_name(a: &Name8, b: &Name8) -> bool
     ensures { result ≡ same_name_lem a.now b.now }
 {

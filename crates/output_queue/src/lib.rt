@@ -9,4 +9,5 @@ mod selecting;
 
 pub use adding::{OutputsFull, add};
 pub use finding::{NoOutput, find_elsewhere, find_output, find_printing, has_output, place_of};
+pub use kinds::same_name;
 pub use selecting::{find_for_printer, select};
