@@ -1,0 +1,11 @@
+pub mod Changing
+pub mod EndLemmas
+pub mod FitLemmas
+pub mod GroupLemmas
+pub mod LawLemmas
+pub mod Leaving
+pub mod Loops
+pub mod Showing
+pub mod SlotLemmas
+pub mod Sorting
+pub mod UnitLemmas

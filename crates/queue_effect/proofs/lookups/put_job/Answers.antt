@@ -1,0 +1,5 @@
+use Rattle.queue_effect.proofs.FitLemmas.{job_put_fit}
+use Rattle.queue_effect.proofs.lookups.put_job.Goals as goal
+
+pub returns-clause-fit : goal.returns-clause-fit
+returns-clause-fit c = λ x here keeps fit. job_put_fit c.args.tables.now c.args.at x c.args.job here keeps fit

@@ -1,0 +1,15 @@
+use Rattle.std.proofs.lemmas.List.{length-map}
+use Rattle.lay_bytes.specs.declared.records.JobRec.{JobRec}
+use Rattle.queue_effect.specs.Resets.{is_one_of, job_reset}
+use Rattle.queue_effect.specs.Slots.{changed_where}
+use Rattle.queue_effect.specs.Standing.{IsFitJob}
+use Rattle.std.proofs.Common.{map}
+use Rattle.queue_effect.proofs.FitLemmas.{jobs_fit, used_changed, reset_job_fit, refill_map}
+use Rattle.queue_effect.proofs.members.reset_jobs.Goals as goal
+
+pub returns-clause-fit : goal.returns-clause-fit
+returns-clause-fit c = λ fit.
+    let t = c.args.tables.now in
+    let f = changed_where (λ (r : JobRec). is_one_of c.args.who r.busy) job_reset in
+    rw (refill_map t.jobs c.reset_job_slots.new.slots f (rw c.as_mut_slice.ensures.value at c.reset_job_slots.ensures))
+    (jobs_fit t fit (map f t.jobs) (length-map t.jobs f) (used_changed (IsFitJob t.order) (λ (r : JobRec). is_one_of c.args.who r.busy) job_reset (reset_job_fit t.order) t.jobs fit.jobs))

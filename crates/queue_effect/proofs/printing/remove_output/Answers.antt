@@ -1,0 +1,8 @@
+use Rattle.mas_types.specs.Commands.Printing.{output_removed}
+use Rattle.queue_effect.proofs.Changing.{output_taken}
+use Rattle.queue_effect.proofs.printing.remove_output.Goals as goal
+
+pub returns-clause-stands : goal.returns-clause-stands
+returns-clause-stands c = λ Q stands has.
+    c.close_job.ensures.stands (output_removed c.args.job c.args.index Q)
+    (rw (c.free_groups.ensures.value, c.take_output.ensures.value) (output_taken c.args.tables.now Q c.args.job c.args.index c.args.found.now.at c.args.found.now.item stands has))

@@ -1,0 +1,55 @@
+-- Which queues tables stand for, and what a command on tables comes to.
+use Rattle.std.specs.Prelude.{◌≡◌, ◌≤◌, ◌<◌, ℕ, All}
+use Rattle.mas_types.specs.declared.queues.Queue.{Queue}
+use Rattle.mas_types.specs.declared.commands.Reply.{Reply}
+use Rattle.mas_types.specs.declared.commands.Reply.TheVariants as reply
+use Rattle.mas_types.specs.Limits.{members_most}
+use Rattle.mas_types.specs.Row.{Row, done}
+use Rattle.lay_bytes.specs.declared.records.JobRec.{JobRec}
+use Rattle.lay_bytes.specs.declared.records.OutRec.{OutRec}
+use Rattle.ckpt_pages.specs.declared.tables.Tables.{Tables}
+use Rattle.ckpt_pages.specs.QueueOf.{used}
+use Rattle.ckpt_pages.specs.Shape.{HasShape}
+use Rattle.job_queue.specs.Jobs.{AreJobs}
+use Rattle.output_queue.specs.Outputs.{AreOutputs}
+
+-- the tables tell all of the queue but its texts, of which they tell the numbers of lines
+pub record StandFor (t : Tables) (Q : Queue) : Type 0 where
+  pub config : Q.config ≡ t.config
+  pub jobs : AreJobs t.jobs Q.jobs
+  pub outputs : AreOutputs t.outputs Q.outputs
+  pub owners : Q.owners ≡ t.owners
+  pub members : Q.members ≡ t.members
+  pub routes : Q.routes ≡ t.routes
+  pub lines : Q.lines ≡ t.lines
+  pub last : Q.last ≡ t.last
+
+-- the tables stand for what the row leaves of the queue, and the reply is the row's
+pub record Leaves (t : Tables) (Q : Queue) (row : Row) (r : Reply) : Type 0 where
+  pub stands : StandFor t (done Q row).0
+  pub reply : (done Q row).1 ≡ r
+
+-- so for each queue that the tables stood for
+abbrev pub Plays : Tables → Tables → (Queue → Row) → Reply → Type 0
+Plays old new row r = (Q : Queue) → StandFor old Q → Leaves new Q (row Q) r
+
+-- it holds where the reply is a refusal
+abbrev pub IfRefused : Reply → Type 0 → Type 0
+IfRefused (reply.No why) A = A
+IfRefused _ A = Unit {0}
+
+-- a job's order is below the next one, and nobody or a member that there may be is at work on it
+pub record IsFitJob (order : ℕ) (j : JobRec) : Type 0 where
+  pub below : j.order < order
+  pub busy : j.busy.0 ≤ members_most
+
+-- the same of an output
+pub record IsFitOutput (order : ℕ) (o : OutRec) : Type 0 where
+  pub below : o.order < order
+  pub busy : o.busy.0 ≤ members_most
+
+-- the tables have their shape, and their jobs and outputs are such
+pub record AreFit (t : Tables) : Type 0 where
+  pub shape : HasShape t
+  pub jobs : All (IsFitJob t.order) (used t.jobs)
+  pub outputs : All (IsFitOutput t.order) (used t.outputs)

@@ -1,0 +1,101 @@
+//! Whose the track groups of the tables are.
+ghost use Rattle.std.specs.Prelude.{◌≡◌, ◌≤◌, ◌==◌, ◌+◌, List, length, min, filter, if◌then◌else◌, IfOk, OnOk, OnErr, true, false};
+ghost use Rattle.mas_types.specs.declared.jobs.Output.{Output};
+ghost use Rattle.mas_types.specs.Owners.{freed, is_members, taken, free_count, member_count, handed_out, is_of_any};
+ghost use Rattle.mas_types.specs.Queue.{is_of};
+ghost use Rattle.track_groups.specs.Groups.{is_things, first_places, given};
+ghost use Rattle.output_queue.specs.Outputs.{AreOutputs};
+ghost use Rattle.queue_effect.specs.Standing.{AreFit};
+
+use ckpt_pages::Tables;
+use lay_bytes::OutRec;
+use mas_types::{JobNo, MemberId, Owner, Thing};
+use output_queue::find_output;
+use track_groups::{SpoolFull, free_member, free_thing, give_to, law_of_giving, take};
+
+/// The groups of a deck or an output become free.
+pub fn free_groups(tables: &mut Tables, thing: Thing)
+    ensures value { tables.new ≡ record tables.old { owners = freed (is_things thing) tables.old.owners } }
+    ensures fit { AreFit tables.old → AreFit tables.new }
+{
+    free_thing(tables.owners.as_mut_slice(), thing);
+}
+
+/// The groups of a member become free.
+pub fn free_members(tables: &mut Tables, by: MemberId)
+    ensures value { tables.new ≡ record tables.old { owners = freed (is_members by) tables.old.owners } }
+    ensures fit { AreFit tables.old → AreFit tables.new }
+{
+    free_member(tables.owners.as_mut_slice(), by);
+}
+
+/// The lowest free groups become the member's. `SpoolFull` where none is free; nothing is changed then.
+pub fn take_groups(tables: &mut Tables, by: MemberId, want: u32) -> Result<u32, SpoolFull>
+    ensures taken { OnOk result (tables.new ≡ record tables.old { owners = taken by want tables.old.owners }) }
+    ensures count { IfOk result (λ n. n ≡ min want (free_count tables.old.owners)) }
+    ensures some { OnOk result ((free_count tables.old.owners == 0) ≡ false) }
+    ensures full { OnErr result ((free_count tables.old.owners == 0) ≡ true) }
+    ensures unchanged { OnErr result (tables.new ≡ tables.old) }
+    ensures fit { AreFit tables.old → AreFit tables.new }
+{
+    take(tables.owners.as_mut_slice(), by, want)
+}
+
+/// A text gets the lowest groups of the member, which has so many.
+pub fn give_groups(tables: &mut Tables, by: MemberId, thing: Thing, count: u32)
+    requires few { count ≤ 65536 }
+    requires room { count ≤ member_count by tables.old.owners }
+    ensures value { tables.new ≡ record tables.old { owners = given by (first_places thing count) tables.old.owners } }
+    ensures left { member_count by tables.new.owners + count ≡ member_count by tables.old.owners }
+    ensures fit { AreFit tables.old → AreFit tables.new }
+{
+    give_to(tables.owners.as_mut_slice(), by, thing, count);
+}
+
+/// A text gets the lowest groups of the member, which has so many, and the member's others become free.
+pub fn hand_out(tables: &mut Tables, by: MemberId, thing: Thing, count: u32)
+    requires few { count ≤ 65536 }
+    requires room { count ≤ member_count by tables.old.owners }
+    ensures value { tables.new ≡ record tables.old { owners = handed_out by (first_places thing count) tables.old.owners } }
+    ensures fit { AreFit tables.old → AreFit tables.new }
+{
+    law_of_giving();
+    give_groups(tables, by, thing, count);
+    free_members(tables, by);
+}
+
+fn is_print_of(owner: Owner, outputs: &[Option<OutRec>], of: JobNo) -> bool
+    ensures { (os : List Output) → AreOutputs outputs.now os → result ≡ is_of_any (filter (is_of of) os) owner }
+{
+    match owner {
+        Owner::Output { job, index, .. } => {
+            job.0 == of.0 && find_output(outputs, job, index).is_some()
+        }
+        _ => false,
+    }
+}
+
+fn free_if(test: bool, owner: Owner) -> Owner
+    ensures { result ≡ (if test then Owner.Free else owner) }
+{
+    if test { Owner::Free } else { owner }
+}
+
+fn free_owners(owners: &mut [Owner], outputs: &[Option<OutRec>], job: JobNo)
+    ensures value { (os : List Output) → AreOutputs outputs.now os → owners.new ≡ freed (is_of_any (filter (is_of job) os)) owners.old }
+    ensures length { length owners.new ≡ length owners.old }
+{
+    for owner in owners.iter_mut() {
+        *owner = free_if(is_print_of(*owner, outputs, job), *owner);
+    }
+}
+
+/// The groups of the outputs of a job become free.
+pub fn free_prints(tables: &mut Tables, job: JobNo)
+    ensures value { (os : List Output) → AreOutputs tables.old.outputs os → tables.new ≡ record tables.old { owners = freed (is_of_any (filter (is_of job) os)) tables.old.owners } }
+    ensures fit { AreFit tables.old → AreFit tables.new }
+    ensures jobs { tables.new.jobs ≡ tables.old.jobs }
+    ensures order { tables.new.order ≡ tables.old.order }
+{
+    free_owners(tables.owners.as_mut_slice(), tables.outputs.as_slice(), job);
+}

@@ -1,0 +1,22 @@
+//! The commands on tables, and the next work unit of a member.
+#![tactic(auto)]
+
+mod applying;
+mod displays;
+mod ending;
+mod groups;
+mod input;
+mod laws;
+mod life;
+mod lookups;
+mod members;
+mod operator;
+mod printing;
+mod units;
+mod wire;
+mod working;
+
+pub use applying::apply;
+pub use laws::{law_of_fit_tables, law_of_standing};
+pub use mas_types::Unit;
+pub use units::unit;

@@ -1,0 +1,260 @@
+//! What is set of a member, and the resets.
+ghost use Rattle.std.specs.Prelude.{◌≡◌, ◌≤◌, ◌&&◌, map, if◌then◌else◌, IfOk, OnErr};
+ghost use Rattle.mas_types.specs.declared.queues.Queue.{Queue};
+ghost use Rattle.mas_types.specs.Fit.{AreClasses, IsName, ArePrinterLines};
+ghost use Rattle.mas_types.specs.Lists.{change_at};
+ghost use Rattle.mas_types.specs.Owners.{freed, is_held_by};
+ghost use Rattle.mas_types.specs.Reset.{reset as reset_lem, phase_reset as phase_reset_lem};
+ghost use Rattle.mas_types.specs.Commands.Members.{set_init_row, set_prt_row, reset_row, restart_row};
+ghost use Rattle.queue_effect.specs.Resets.{is_one_of as is_one_of_lem, job_reset, output_reset};
+ghost use Rattle.queue_effect.specs.Slots.{changed_where, setting_changed};
+ghost use Rattle.queue_effect.specs.Standing.{StandFor, Plays, IfRefused, AreFit};
+
+use ckpt_pages::Tables;
+use lay_bytes::{JobRec, OutRec};
+use mas_types::{Class, Copied, List, MemberId, Name8, NoMemory, Owner, Phase, Refusal, Reply};
+use std::alloc::Global;
+
+fn put_init_at(tables: &mut Tables, at: usize, init: List<Class>)
+    requires { AreClasses init }
+    ensures value { tables.new ≡ record tables.old { members = change_at at (λ s. record s { init = init }) tables.old.members } }
+    ensures fit { AreFit tables.old → AreFit tables.new }
+{
+    if at >= tables.members.len() {
+        return;
+    }
+    tables.members.item_mut(at).init = init;
+}
+
+fn put_init(tables: &mut Tables, by: MemberId, init: List<Class>)
+    requires { AreClasses init }
+    ensures value { tables.new ≡ record tables.old { members = setting_changed by (λ s. record s { init = init }) tables.old.members } }
+    ensures fit { AreFit tables.old → AreFit tables.new }
+{
+    if by.0 == 0 {
+        return;
+    }
+    put_init_at(tables, by.0 as usize - 1, init);
+}
+
+/// SetInit: the member's initiators get other classes. Nothing is changed without memory.
+pub fn set_init(
+    alloc: Global,
+    tables: &mut Tables,
+    by: MemberId,
+    classes: &List<Class>,
+) -> Result<Reply, NoMemory>
+    requires { AreClasses classes.now }
+    ensures plays { IfOk result (λ reply. Plays tables.old tables.new (λ Q. set_init_row Q by classes.now) reply) }
+    ensures refused { IfOk result (λ reply. IfRefused reply (tables.new ≡ tables.old)) }
+    ensures unchanged { OnErr result (tables.new ≡ tables.old) }
+    ensures fit { AreFit tables.old → AreFit tables.new }
+    ensures order { tables.new.order ≡ tables.old.order }
+{
+    let init = classes.copy(alloc)?;
+    put_init(tables, by, init);
+    Ok(Reply::Plain)
+}
+
+fn put_prt_at(tables: &mut Tables, at: usize, prt: List<Class>, forms: Name8, lines: u16)
+    requires classes { AreClasses prt }
+    requires forms { IsName forms }
+    requires lines { ArePrinterLines lines }
+    ensures value { tables.new ≡ record tables.old { members = change_at at (λ s. record s { prt = prt; forms = forms; lines = lines }) tables.old.members } }
+    ensures fit { AreFit tables.old → AreFit tables.new }
+{
+    if at >= tables.members.len() {
+        return;
+    }
+    let setting = tables.members.item_mut(at);
+    setting.prt = prt;
+    setting.forms = forms;
+    setting.lines = lines;
+}
+
+fn put_prt(tables: &mut Tables, by: MemberId, prt: List<Class>, forms: Name8, lines: u16)
+    requires classes { AreClasses prt }
+    requires forms { IsName forms }
+    requires lines { ArePrinterLines lines }
+    ensures value { tables.new ≡ record tables.old { members = setting_changed by (λ s. record s { prt = prt; forms = forms; lines = lines }) tables.old.members } }
+    ensures fit { AreFit tables.old → AreFit tables.new }
+{
+    if by.0 == 0 {
+        return;
+    }
+    put_prt_at(tables, by.0 as usize - 1, prt, forms, lines);
+}
+
+/// SetPrt: the member's printer gets other classes, forms and lines. Nothing is changed without memory.
+pub fn set_prt(
+    alloc: Global,
+    tables: &mut Tables,
+    by: MemberId,
+    classes: &List<Class>,
+    forms: Name8,
+    lines: u16,
+) -> Result<Reply, NoMemory>
+    requires classes { AreClasses classes.now }
+    requires forms { IsName forms }
+    requires lines { ArePrinterLines lines }
+    ensures plays { IfOk result (λ reply. Plays tables.old tables.new (λ Q. set_prt_row Q by classes.now forms lines) reply) }
+    ensures refused { IfOk result (λ reply. IfRefused reply (tables.new ≡ tables.old)) }
+    ensures unchanged { OnErr result (tables.new ≡ tables.old) }
+    ensures fit { AreFit tables.old → AreFit tables.new }
+    ensures order { tables.new.order ≡ tables.old.order }
+{
+    let prt = classes.copy(alloc)?;
+    put_prt(tables, by, prt, forms, lines);
+    Ok(Reply::Plain)
+}
+
+/// Which members are reset.
+#[derive(Clone, Copy)]
+enum Who {
+    One(MemberId),
+    /// Those up to the greatest one of the configuration.
+    Every(u8),
+}
+
+fn is_one_of(who: Who, member: MemberId) -> bool
+    ensures { result ≡ is_one_of_lem who member }
+{
+    match who {
+        Who::One(of) => member.0 == of.0,
+        Who::Every(members) => member.0 != 0 && member.0 <= members,
+    }
+}
+
+fn phase_reset(restart: bool, phase: Phase) -> Phase
+    ensures { result ≡ phase_reset_lem restart phase }
+{
+    match phase {
+        Phase::Input => Phase::Purge,
+        Phase::Execute if !restart => Phase::Purge,
+        _ => phase,
+    }
+}
+
+fn phase_of(job: &JobRec) -> Phase
+    ensures { result ≡ (if job.now.cancelled then Phase.Purge else phase_reset_lem job.now.fields.restart job.now.phase) }
+{
+    if job.cancelled {
+        return Phase::Purge;
+    }
+    phase_reset(job.fields.restart, job.phase)
+}
+
+fn reset_job(slot: Option<JobRec>, who: Who) -> Option<JobRec>
+    ensures { result ≡ changed_where (λ r. is_one_of_lem who r.busy) job_reset slot }
+{
+    match slot {
+        Some(job) if is_one_of(who, job.busy) => Some(JobRec {
+            busy: MemberId(0),
+            phase: phase_of(&job),
+            ..job
+        }),
+        _ => slot,
+    }
+}
+
+fn reset_output(slot: Option<OutRec>, who: Who) -> Option<OutRec>
+    ensures { result ≡ changed_where (λ r. is_one_of_lem who r.busy) output_reset slot }
+{
+    match slot {
+        Some(output) if is_one_of(who, output.busy) => Some(OutRec {
+            busy: MemberId(0),
+            ..output
+        }),
+        _ => slot,
+    }
+}
+
+fn reset_owner(owner: Owner, who: Who) -> Owner
+    ensures { result ≡ (if is_held_by (is_one_of_lem who) owner then Owner.Free else owner) }
+{
+    match owner {
+        Owner::Member(member) if is_one_of(who, member) => Owner::Free,
+        _ => owner,
+    }
+}
+
+fn reset_job_slots(slots: &mut [Option<JobRec>], who: Who)
+    ensures { slots.new ≡ map (changed_where (λ r. is_one_of_lem who r.busy) job_reset) slots.old }
+{
+    for slot in slots.iter_mut() {
+        *slot = reset_job(*slot, who);
+    }
+}
+
+fn reset_output_slots(slots: &mut [Option<OutRec>], who: Who)
+    ensures { slots.new ≡ map (changed_where (λ r. is_one_of_lem who r.busy) output_reset) slots.old }
+{
+    for slot in slots.iter_mut() {
+        *slot = reset_output(*slot, who);
+    }
+}
+
+fn reset_owner_list(owners: &mut [Owner], who: Who)
+    ensures { owners.new ≡ freed (is_held_by (is_one_of_lem who)) owners.old }
+{
+    for owner in owners.iter_mut() {
+        *owner = reset_owner(*owner, who);
+    }
+}
+
+fn reset_jobs(tables: &mut Tables, who: Who)
+    ensures value { tables.new ≡ record tables.old { jobs = map (changed_where (λ r. is_one_of_lem who r.busy) job_reset) tables.old.jobs } }
+    ensures fit { AreFit tables.old → AreFit tables.new }
+{
+    reset_job_slots(tables.jobs.as_mut_slice(), who);
+}
+
+fn reset_outputs(tables: &mut Tables, who: Who)
+    ensures value { tables.new ≡ record tables.old { outputs = map (changed_where (λ r. is_one_of_lem who r.busy) output_reset) tables.old.outputs } }
+    ensures fit { AreFit tables.old → AreFit tables.new }
+{
+    reset_output_slots(tables.outputs.as_mut_slice(), who);
+}
+
+fn reset_owners(tables: &mut Tables, who: Who)
+    ensures value { tables.new ≡ record tables.old { owners = freed (is_held_by (is_one_of_lem who)) tables.old.owners } }
+    ensures fit { AreFit tables.old → AreFit tables.new }
+{
+    reset_owner_list(tables.owners.as_mut_slice(), who);
+}
+
+/// What is busy at one of the members becomes free of it, and its groups become free.
+fn reset_members(tables: &mut Tables, who: Who)
+    ensures stands { (Q : Queue) → StandFor tables.old Q → StandFor tables.new (reset_lem (is_one_of_lem who) Q) }
+    ensures fit { AreFit tables.old → AreFit tables.new }
+    ensures order { tables.new.order ≡ tables.old.order }
+{
+    reset_jobs(tables, who);
+    reset_outputs(tables, who);
+    reset_owners(tables, who);
+}
+
+/// Reset: what is busy at the member becomes free of it, and its groups become free.
+pub fn reset(tables: &mut Tables, of: MemberId) -> Reply
+    ensures plays { Plays tables.old tables.new (λ Q. reset_row Q of) result }
+    ensures refused { IfRefused result (tables.new ≡ tables.old) }
+    ensures fit { AreFit tables.old → AreFit tables.new }
+    ensures order { tables.new.order ≡ tables.old.order }
+{
+    if !is_one_of(Who::Every(tables.config.members), of) {
+        return Reply::No(Refusal::NoMember);
+    }
+    reset_members(tables, Who::One(of));
+    Reply::Plain
+}
+
+/// Restart: Reset of every member.
+pub fn restart(tables: &mut Tables) -> Reply
+    ensures plays { Plays tables.old tables.new restart_row result }
+    ensures refused { IfRefused result (tables.new ≡ tables.old) }
+    ensures fit { AreFit tables.old → AreFit tables.new }
+    ensures order { tables.new.order ≡ tables.old.order }
+{
+    reset_members(tables, Who::Every(tables.config.members));
+    Reply::Plain
+}

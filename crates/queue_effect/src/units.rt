@@ -1,0 +1,113 @@
+//! The next work unit of a member.
+ghost use Rattle.std.specs.Prelude.{◌≡◌, ◌≤◌, ◌*◌, is_some, option_map, nat_lt, if◌then◌else◌};
+ghost use Rattle.mas_types.specs.declared.queues.Queue.{Queue};
+ghost use Rattle.mas_types.specs.Limits.{members_most};
+ghost use Rattle.mas_types.specs.Queue.{first_in, printing_at};
+ghost use Rattle.mas_types.specs.Selection.{for_convert, for_execute, for_printer};
+ghost use Rattle.mas_types.specs.Units.{unit_of, print_unit as print_unit_lem, working_at};
+ghost use Rattle.job_queue.specs.Jobs.{in_phase};
+ghost use Rattle.queue_effect.specs.Standing.{StandFor};
+
+use crate::lookups::setting;
+use ckpt_pages::Tables;
+use job_queue::{find_convert, find_exec, find_in, find_working};
+use lay_bytes::OutRec;
+use mas_types::{JobNo, MemberId, Phase, Unit};
+use output_queue::{find_for_printer, find_printing};
+
+/// The next unit of a member: the first that applies, Idle where none does.
+pub fn unit(tables: &Tables, by: MemberId) -> Unit
+    requires { by.0 ≤ members_most }
+    ensures { (Q : Queue) → StandFor tables.now Q → result ≡ unit_of Q by }
+{
+    if let Some(unit) = printing(tables, by) {
+        return unit;
+    }
+    if may_pick(tables, by) {
+        return Unit::Pick;
+    }
+    if any_in(tables, Phase::Purge) {
+        return Unit::Purge;
+    }
+    if any_in(tables, Phase::Output) {
+        return Unit::Gather;
+    }
+    if let Some(job) = working(tables, by, Phase::Execute) {
+        return Unit::Run(job);
+    }
+    if let Some(job) = working(tables, by, Phase::Convert) {
+        return Unit::Convert(job);
+    }
+    if may_execute(tables, by) {
+        return Unit::TakeExec;
+    }
+    if find_convert(tables.jobs.as_slice()).is_some() {
+        return Unit::TakeConvert;
+    }
+    Unit::Idle
+}
+
+fn print_unit(output: &OutRec) -> Unit
+    ensures { result ≡ (if nat_lt output.now.mark (output.now.lines * output.now.copies) then Unit.Print output.now.job output.now.index else Unit.Finish output.now.job output.now.index) }
+{
+    if output.mark < output.lines as u32 * output.copies as u32 {
+        Unit::Print(output.job, output.index)
+    } else {
+        Unit::Finish(output.job, output.index)
+    }
+}
+
+fn printing(tables: &Tables, by: MemberId) -> Option<Unit>
+    ensures { (Q : Queue) → StandFor tables.now Q → result ≡ option_map print_unit_lem (printing_at Q by) }
+{
+    if by.0 == 0 {
+        return None;
+    }
+    match find_printing(tables.outputs.as_slice(), by) {
+        Some(found) => Some(print_unit(&found.item)),
+        None => None,
+    }
+}
+
+fn may_pick(tables: &Tables, by: MemberId) -> bool
+    requires { by.0 ≤ members_most }
+    ensures { (Q : Queue) → StandFor tables.now Q → result ≡ is_some (for_printer Q by) }
+{
+    match setting(tables, by) {
+        Some(setting) => find_for_printer(
+            tables.outputs.as_slice(),
+            tables.jobs.as_slice(),
+            by,
+            setting,
+        )
+        .is_some(),
+        None => false,
+    }
+}
+
+fn any_in(tables: &Tables, phase: Phase) -> bool
+    ensures { (Q : Queue) → StandFor tables.now Q → result ≡ is_some (first_in (in_phase phase) Q) }
+{
+    find_in(tables.jobs.as_slice(), phase).is_some()
+}
+
+fn working(tables: &Tables, by: MemberId, phase: Phase) -> Option<JobNo>
+    ensures { (Q : Queue) → StandFor tables.now Q → result ≡ option_map (λ j. j.number) (working_at Q by (in_phase phase)) }
+{
+    if by.0 == 0 {
+        return None;
+    }
+    match find_working(tables.jobs.as_slice(), by, phase) {
+        Some(found) => Some(found.item.number),
+        None => None,
+    }
+}
+
+fn may_execute(tables: &Tables, by: MemberId) -> bool
+    ensures { (Q : Queue) → StandFor tables.now Q → result ≡ is_some (for_execute Q by) }
+{
+    match setting(tables, by) {
+        Some(setting) => find_exec(tables.jobs.as_slice(), &setting.init).is_some(),
+        None => false,
+    }
+}
