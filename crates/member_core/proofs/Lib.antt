@@ -12,3 +12,5 @@ pub mod Every
 pub mod Right
 pub mod Places
 pub mod Computed
+pub mod Overwrites
+pub mod Loops

@@ -24,3 +24,9 @@ module _ {A : Type 0} (f : A → A) where
   change_found i [] x h = absurd (cc)
   change_found zero (y ∷ xs) x h = let same : y ≡ x = cc in rw same refl
   change_found (suc i) (y ∷ xs) x h = ap (λ ys. y ∷ ys) (change_found i xs x h)
+
+-- a write of what stands there
+pub set_same : {A : Type 0} (i : ℕ) (xs : List A) (x : A) → slice_get xs i ≡ Some x → slice_set xs i x ≡ xs
+set_same i [] x h = absurd (cc)
+set_same zero (y ∷ xs) x h = let same : y ≡ x = cc in rw same refl
+set_same (suc i) (y ∷ xs) x h = ap (λ ys. y ∷ ys) (set_same i xs x h)

@@ -1,9 +1,16 @@
 //! The members, the copies and the journal as plain data, under every order of events.
 #![tactic(auto)]
 
+pub mod acts;
+pub mod batches;
 pub mod examples;
-pub mod steps;
+pub mod pair;
+pub mod people;
+pub mod stages;
+pub mod starts;
+pub mod turns;
 pub mod worlds;
+pub mod writes;
 
 ghost use Rattle.member_core.specs.Right.{EveryRunIsRight};
 ghost use Rattle.member_core.specs.Told.{EveryRunHolds};
