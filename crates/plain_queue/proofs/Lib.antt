@@ -1,0 +1,9 @@
+pub mod Places
+pub mod Writes
+pub mod Best
+pub mod Handing
+pub mod GroupLemmas
+pub mod NumberLemmas
+pub mod Listed
+pub mod Rows
+pub mod RunLemmas
