@@ -12,5 +12,7 @@ pub mod Every
 pub mod Right
 pub mod Places
 pub mod Computed
-pub mod Overwrites
 pub mod Loops
+pub mod Given
+pub mod Counted
+pub mod Restarts

@@ -1,5 +1,5 @@
 -- What loops over the journal compute, and writes at both copies.
-use Rattle.std.proofs.Common.{◌≡◌, ℕ, zero, suc, ◌+◌, ◌-◌, ◌<◌, Bool, not, ◌&&◌, ◌||◌, nat_lt, List, [], ◌∷◌, ◌++◌, length, length-append, get_or, drop, map, refl, ap, sym, ◌∙◌, arith}
+use Rattle.std.proofs.Common.{◌≡◌, ℕ, zero, suc, ◌+◌, ◌-◌, ◌<◌, Bool, not, ◌&&◌, ◌||◌, nat_lt, List, [], ◌∷◌, ◌++◌, length, length-append, get_or, drop, map, refl, ap, sym, ◌∙◌, arith, append_assoc}
 use Rattle.std.specs.List.{list_any}
 use Rattle.std.proofs.lemmas.Bool.Decides.{nat_tests}
 use Rattle.std.proofs.lemmas.List.Folds.{list_any-append}
@@ -13,7 +13,7 @@ use Rattle.mas_types.specs.Lists.{change_at}
 use Rattle.member_core.specs.declared.worlds.CopyAt.{CopyAt}
 use Rattle.member_core.specs.Worlds.{is_nil, entries_kept, entries_flying, kept_in, flying_in, fate_after, settled, on_copies, same_copy, is_of, is_unkept, has_unkept}
 use Rattle.member_core.specs.Events.{new_member, new_members}
-use Rattle.member_core.proofs.Overwrites.{drop_here}
+use Rattle.plain_queue.proofs.Writes.{drop_here}
 
 -- no entry is in flight exactly where no batch in flight has one
 none_flying_head : (f : Fate) (es rest : List Entry) (any : Bool) → not any ≡ is_nil rest → not ((is_flying f && not (is_nil es)) || any) ≡ is_nil (entries_flying f es ++ rest)
@@ -83,3 +83,16 @@ new_more n = let next : suc n ≡ n + 1 = omega arith in push n ∙ ap new_membe
     push : (k : ℕ) → new_members k ++ new_member ∷ [] ≡ new_members (suc k)
     push zero = refl
     push (suc k) = ap (λ ys. new_member ∷ ys) (push k)
+
+-- one batch further in a copy of the kept entries
+pub kept_more : (bs : List Batch) (i : ℕ) (b : Batch) (front all : List Entry) → i < length bs → b ≡ get_or bs i b → front ++ kept_in (drop i bs) ≡ all
+    → (front ++ entries_kept b.fate b.entries) ++ kept_in (drop (i + 1) bs) ≡ all
+kept_more bs i b front all inside is so_far =
+    let here : drop i bs ≡ b ∷ drop (i + 1) bs = drop_here bs i inside b ∙ ap (λ (x : Batch). x ∷ drop (i + 1) bs) (sym is) in
+    append_assoc front (entries_kept b.fate b.entries) (kept_in (drop (i + 1) bs)) ∙ rw here at so_far
+
+pub flying_more : (bs : List Batch) (i : ℕ) (b : Batch) (front all : List Entry) → i < length bs → b ≡ get_or bs i b → front ++ flying_in (drop i bs) ≡ all
+    → (front ++ entries_flying b.fate b.entries) ++ flying_in (drop (i + 1) bs) ≡ all
+flying_more bs i b front all inside is so_far =
+    let here : drop i bs ≡ b ∷ drop (i + 1) bs = drop_here bs i inside b ∙ ap (λ (x : Batch). x ∷ drop (i + 1) bs) (sym is) in
+    append_assoc front (entries_flying b.fate b.entries) (flying_in (drop (i + 1) bs)) ∙ rw here at so_far

@@ -90,3 +90,100 @@ StartKeepsWhatACopyReads =
 abbrev pub UnsureGateFallsBack : Type 0
 UnsureGateFallsBack =
     fates (half_open ++ event.Lose dev.Ckpt1 ∷ event.Stop (member 1) left.New ∷ event.Crash left.Old ∷ event.Start ∷ []) ≡ fate.Dropped ∷ []
+
+-- WHICH EVENTS ARE POSSIBLE IN WHICH STAGE OF MEMBER 1
+
+-- the events of a turn in order, then Free, Tell, a spool write of a group that is not the member's, a spool sync, a printed line
+-- where nothing is printed, a stop, the lock for member 2, member 2 taking over, and a start
+abbrev pub probes : List Event
+probes =
+    event.Lock (member 1) ∷ event.FirstRead (member 1) ∷ event.SecondRead (member 1) ∷ event.Primary (member 1)
+    ∷ event.Do (member 1) (command.Take 1) ∷ event.Log (member 1) dev.Ckpt1 ∷ event.Log (member 1) dev.Ckpt2
+    ∷ event.OpenCopy (member 1) dev.Ckpt1 ∷ event.OpenCopy (member 1) dev.Ckpt2 ∷ event.Free (member 1)
+    ∷ event.Tell (member 1) ∷ event.SpoolWrite (member 1) (record { 0 = 0 }) ∷ event.SpoolSync (member 1) 1 ∷ event.PrintLine (member 1)
+    ∷ event.Stop (member 1) left.Old ∷ event.Lock (member 2) ∷ event.Seize (member 2) (member 1) ∷ event.Start ∷ []
+
+-- which of them are possible after some events
+abbrev pub possible_after : List Event → List Bool
+possible_after events = map (possible (runs (start base) events)) probes
+
+abbrev pub with_batch : List Event
+with_batch = turn 1 ++ event.Do (member 1) (command.Take 1) ∷ []
+
+abbrev pub both_logged : List Event
+both_logged = event.Log (member 1) dev.Ckpt1 ∷ event.Log (member 1) dev.Ckpt2 ∷ []
+
+abbrev pub written : List Event
+written = with_batch ++ both_logged ++ event.OpenCopy (member 1) dev.Ckpt1 ∷ event.OpenCopy (member 1) dev.Ckpt2 ∷ []
+
+-- away, and nobody holds the lock
+abbrev pub AwayMayLock : Type 0
+AwayMayLock =
+    possible_after ([])
+    ≡ true ∷ false ∷ false ∷ false ∷ false ∷ false ∷ false ∷ false ∷ false ∷ false ∷ false ∷ false ∷ true ∷ false ∷ true ∷ true ∷ false ∷ false ∷ []
+
+-- it has the lock
+abbrev pub LockedReadsFirst : Type 0
+LockedReadsFirst =
+    possible_after (event.Lock (member 1) ∷ [])
+    ≡ false ∷ true ∷ false ∷ false ∷ false ∷ false ∷ false ∷ false ∷ false ∷ true ∷ false ∷ false ∷ true ∷ false ∷ true ∷ false ∷ false ∷ false ∷ []
+
+-- after the first read
+abbrev pub FirstReadIsFollowed : Type 0
+FirstReadIsFollowed =
+    possible_after (event.Lock (member 1) ∷ event.FirstRead (member 1) ∷ [])
+    ≡ false ∷ false ∷ true ∷ false ∷ false ∷ false ∷ false ∷ false ∷ false ∷ true ∷ false ∷ false ∷ true ∷ false ∷ true ∷ false ∷ false ∷ false ∷ []
+
+-- after the second read
+abbrev pub SecondReadIsFollowed : Type 0
+SecondReadIsFollowed =
+    possible_after (event.Lock (member 1) ∷ event.FirstRead (member 1) ∷ event.SecondRead (member 1) ∷ [])
+    ≡ false ∷ false ∷ false ∷ true ∷ false ∷ false ∷ false ∷ false ∷ false ∷ true ∷ false ∷ false ∷ true ∷ false ∷ true ∷ false ∷ false ∷ false ∷ []
+
+-- ready, without a batch
+abbrev pub ReadyGivesCommands : Type 0
+ReadyGivesCommands =
+    possible_after (turn 1)
+    ≡ false ∷ false ∷ false ∷ false ∷ true ∷ false ∷ false ∷ false ∷ false ∷ true ∷ false ∷ false ∷ true ∷ false ∷ true ∷ false ∷ false ∷ false ∷ []
+
+-- ready, with a batch: after a Take group 0 is no member's yet
+abbrev pub BatchIsLogged : Type 0
+BatchIsLogged =
+    possible_after (with_batch)
+    ≡ false ∷ false ∷ false ∷ false ∷ true ∷ true ∷ false ∷ false ∷ false ∷ false ∷ false ∷ false ∷ true ∷ false ∷ true ∷ false ∷ false ∷ false ∷ []
+
+-- the batch is logged on the first copy
+abbrev pub FirstLogIsFollowed : Type 0
+FirstLogIsFollowed =
+    possible_after (with_batch ++ event.Log (member 1) dev.Ckpt1 ∷ [])
+    ≡ false ∷ false ∷ false ∷ false ∷ false ∷ false ∷ true ∷ false ∷ false ∷ false ∷ false ∷ false ∷ true ∷ false ∷ true ∷ false ∷ false ∷ false ∷ []
+
+-- and on the second
+abbrev pub SecondLogIsFollowed : Type 0
+SecondLogIsFollowed =
+    possible_after (with_batch ++ both_logged)
+    ≡ false ∷ false ∷ false ∷ false ∷ false ∷ false ∷ false ∷ true ∷ false ∷ false ∷ false ∷ false ∷ true ∷ false ∷ true ∷ false ∷ false ∷ false ∷ []
+
+-- the first copy is opened
+abbrev pub FirstOpeningIsFollowed : Type 0
+FirstOpeningIsFollowed =
+    possible_after (with_batch ++ both_logged ++ event.OpenCopy (member 1) dev.Ckpt1 ∷ [])
+    ≡ false ∷ false ∷ false ∷ false ∷ false ∷ false ∷ false ∷ false ∷ true ∷ false ∷ false ∷ false ∷ true ∷ false ∷ true ∷ false ∷ false ∷ false ∷ []
+
+-- and the second: the batch is kept, and group 0 is the member's
+abbrev pub WrittenBatchIsTold : Type 0
+WrittenBatchIsTold =
+    possible_after (written)
+    ≡ false ∷ false ∷ false ∷ false ∷ true ∷ false ∷ false ∷ false ∷ false ∷ true ∷ true ∷ true ∷ true ∷ false ∷ true ∷ false ∷ false ∷ false ∷ []
+
+-- the member stopped with the lock
+abbrev pub StoppedIsTakenOver : Type 0
+StoppedIsTakenOver =
+    possible_after (turn 1 ++ event.Stop (member 1) left.Old ∷ [])
+    ≡ false ∷ false ∷ false ∷ false ∷ false ∷ false ∷ false ∷ false ∷ false ∷ false ∷ false ∷ false ∷ false ∷ false ∷ false ∷ false ∷ true ∷ false ∷ []
+
+-- after a crash
+abbrev pub CrashIsFollowedByStart : Type 0
+CrashIsFollowedByStart =
+    possible_after (turn 1 ++ event.Crash left.Old ∷ [])
+    ≡ false ∷ false ∷ false ∷ false ∷ false ∷ false ∷ false ∷ false ∷ false ∷ false ∷ false ∷ false ∷ false ∷ false ∷ false ∷ false ∷ false ∷ true ∷ []

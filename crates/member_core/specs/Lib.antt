@@ -4,3 +4,4 @@ pub mod Holds
 pub mod Told
 pub mod Right
 pub mod Examples
+pub mod Steps

@@ -1,8 +1,8 @@
 //! The batches of a world's journal, and lists of entries.
-ghost use Rattle.std.specs.Prelude.{◌≡◌, ◌-◌, ◌&&◌, ◌++◌, ◌∷◌, [], not, nat_lt, length, IfOk};
+ghost use Rattle.std.specs.Prelude.{◌≡◌, ◌-◌, ◌&&◌, ◌++◌, ◌∷◌, [], not, nat_lt, length, IfOk, OnOk};
 ghost use Rattle.std.specs.List.{list_any};
 ghost use Rattle.mas_types.specs.Journal.{is_flying as in_flight};
-ghost use Rattle.member_core.specs.Worlds.{entries_kept, fate_after as fate_settled, flying_in, has_unkept as any_unkept, is_nil as is_empty_list, is_of as is_entry_of, is_unkept as not_kept, kept_in, settled};
+ghost use Rattle.member_core.specs.Worlds.{entries_flying, entries_kept, fate_after as fate_settled, flying_in, has_unkept as any_unkept, is_nil as is_empty_list, is_of as is_entry_of, is_unkept as not_kept, kept_in, settled};
 ghost use Rattle.member_core.specs.Events.{fate_by as fate_found, kept_once};
 
 use crate::people::{is_nil, is_same};
@@ -155,4 +155,64 @@ pub fn with_entry(
     let mut all = entries.copy(alloc)?;
     all.push(entry)?;
     Ok(all)
+}
+
+/// A copy of the kept entries.
+pub fn kept_entries(alloc: Global, batches: &List<Batch>) -> Result<List<Entry>, NoMemory>
+    ensures { IfOk result (λ all. all ≡ kept_in batches.now) }
+{
+    let mut all = List::new(alloc);
+    for batch in batches.as_slice() {
+        add_kept(alloc, &mut all, batch)?;
+    }
+    Ok(all)
+}
+
+fn add_kept(alloc: Global, all: &mut List<Entry>, batch: &Batch) -> Result<(), NoMemory>
+    ensures { OnOk result (all.new ≡ all.old ++ entries_kept batch.now.fate batch.now.entries) }
+{
+    match batch.fate {
+        Fate::Kept => add_all(alloc, all, &batch.entries),
+        Fate::Dropped | Fate::Flying => Ok(()),
+    }
+}
+
+fn add_all(alloc: Global, all: &mut List<Entry>, entries: &List<Entry>) -> Result<(), NoMemory>
+    ensures { OnOk result (all.new ≡ all.old ++ entries.now) }
+{
+    for entry in entries.as_slice() {
+        all.push(entry.copy(alloc)?)?;
+    }
+    Ok(())
+}
+
+/// A copy of the kept entries, and those in flight behind them.
+pub fn both_entries(alloc: Global, batches: &List<Batch>) -> Result<List<Entry>, NoMemory>
+    ensures { IfOk result (λ all. all ≡ kept_in batches.now ++ flying_in batches.now) }
+{
+    let mut all = kept_entries(alloc, batches)?;
+    add_each_flying(alloc, &mut all, batches)?;
+    Ok(all)
+}
+
+fn add_each_flying(
+    alloc: Global,
+    all: &mut List<Entry>,
+    batches: &List<Batch>,
+) -> Result<(), NoMemory>
+    ensures { OnOk result (all.new ≡ all.old ++ flying_in batches.now) }
+{
+    for batch in batches.as_slice() {
+        add_flying(alloc, all, batch)?;
+    }
+    Ok(())
+}
+
+fn add_flying(alloc: Global, all: &mut List<Entry>, batch: &Batch) -> Result<(), NoMemory>
+    ensures { OnOk result (all.new ≡ all.old ++ entries_flying batch.now.fate batch.now.entries) }
+{
+    match batch.fate {
+        Fate::Flying => add_all(alloc, all, &batch.entries),
+        Fate::Dropped | Fate::Kept => Ok(()),
+    }
 }

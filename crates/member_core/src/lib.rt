@@ -3,11 +3,14 @@
 
 pub mod acts;
 pub mod batches;
+pub mod crashes;
 pub mod examples;
 pub mod pair;
 pub mod people;
+pub mod spools;
 pub mod stages;
 pub mod starts;
+pub mod steps;
 pub mod turns;
 pub mod worlds;
 pub mod writes;
@@ -15,6 +18,7 @@ pub mod writes;
 ghost use Rattle.member_core.specs.Right.{EveryRunIsRight};
 ghost use Rattle.member_core.specs.Told.{EveryRunHolds};
 
+pub use steps::{no_run_loses, world_step};
 pub use worlds::{At, CopyAt, Event, Inked, Left, MemberAt, Said, World};
 
 /// Over a sound base every list of events leaves a world in which all of it holds.

@@ -58,7 +58,7 @@ fn may_mark(queue: &Queue, m: MemberId, printed: u32, job: JobNo, index: OutNo, 
 }
 
 /// Whether the member may give the command, on the queue after its own list.
-fn is_allowed(world: &World, queue: &Queue, by: MemberId, command: &Command) -> bool
+pub fn is_allowed(world: &World, queue: &Queue, by: MemberId, command: &Command) -> bool
     requires here { queue.now ≡ run world.now.base (member_at world.now by).own }
     ensures { result ≡ allowed world.now by command.now }
 {

@@ -1,0 +1,15 @@
+use Rattle.std.proofs.Common.{◌≡◌, ◌≤◌, ◌∙◌, length, sym, ap, arith}
+use Rattle.member_core.specs.declared.worlds.MemberAt.{MemberAt}
+use Rattle.member_core.specs.Worlds.{absent}
+use Rattle.member_core.specs.Events.{has_printed}
+use Rattle.member_core.proofs.Places.{at_found, change_past, change_found}
+use Rattle.member_core.proofs.spools.put_printed.Goals as goal
+
+pub returns-then-m-len : goal.returns-then-m-len
+returns-then-m-len c =
+    let x = c.item_mut.result.now in
+    let printed : c.printed_of-printed.result ≡ x.printed = c.printed_of-printed.ensures ∙ ap (λ (y : MemberAt). y.printed) (at_found absent c.args.m.0 c.args.members.now x c.item_mut.ensures.value) in
+    rw printed (sym (change_found has_printed c.args.m.0 c.args.members.now x c.item_mut.ensures.value))
+
+pub returns-else-m-len : goal.returns-else-m-len
+returns-else-m-len c = let past : length c.args.members.now ≤ c.args.m.0 = omega arith in sym (change_past has_printed c.args.m.0 c.args.members.now past)
