@@ -1,7 +1,6 @@
 -- How far the steps of the members come, event by event.
-use Rattle.std.proofs.Common.{◌≡◌, ℕ, zero, suc, ◌+◌, ◌<◌, ◌≤◌, Bool, true, false, List, [], ◌∷◌, ◌++◌, length, get_or, take, map, refl, ap, sym, ◌∙◌, subst, arith}
+use Rattle.std.proofs.Common.{◌≡◌, ℕ, zero, suc, ◌+◌, ◌<◌, ◌≤◌, Bool, List, [], ◌∷◌, ◌++◌, length, get_or, take, map, refl, ap, sym, ◌∙◌, subst, arith}
 use Rattle.std.specs.Prelude.{Result, Ok, Err, OnOk, OnErr}
-use Rattle.std.specs.List.{AllByRecursion}
 use Rattle.mas_types.specs.declared.ids.NoMemory.{NoMemory}
 use Rattle.std.proofs.lemmas.List.{take_more}
 use Rattle.mas_types.specs.declared.ids.MemberId.{MemberId}

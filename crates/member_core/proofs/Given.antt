@@ -1,11 +1,9 @@
 -- The entries of a world are given by those that may give them, and what a member's next command asks for.
-use Rattle.std.proofs.Common.{◌≡◌, ℕ, suc, ◌<◌, ◌≤◌, Bool, true, false, ◌&&◌, nat_le, List, [], ◌∷◌, ◌++◌, length, Some, refl, ap, sym, ◌∙◌, subst, arith}
-use Rattle.std.specs.List.{AllByRecursion}
+use Rattle.std.proofs.Common.{◌≡◌, suc, ◌<◌, ◌≤◌, true, nat_le, ◌++◌, length, Some, sym, subst, arith}
 use Rattle.std.proofs.lemmas.Bool.{le-leb}
 use Rattle.mas_types.specs.declared.ids.MemberId.{MemberId}
 use Rattle.mas_types.specs.declared.commands.Command.{Command}
 use Rattle.mas_types.specs.declared.commands.Command.TheVariants as command
-use Rattle.mas_types.specs.declared.journals.Entry.{Entry}
 use Rattle.mas_types.specs.declared.jobs.Output.{Output}
 use Rattle.mas_types.specs.declared.queues.Queue.{Queue}
 use Rattle.mas_types.specs.Ids.{is_somebody}
@@ -16,13 +14,11 @@ use Rattle.mas_types.specs.Sound.{IsSound}
 use Rattle.mas_types.specs.Step.{may_give}
 use Rattle.queue_laws.specs.Runs.{IsGiven}
 use Rattle.queue_laws.proofs.RunLaws.{give_alike, runs_keep_configuration}
-use Rattle.member_core.specs.declared.worlds.At.{At}
 use Rattle.member_core.specs.declared.worlds.At.TheVariants as at
-use Rattle.member_core.specs.declared.worlds.MemberAt.{MemberAt}
 use Rattle.member_core.specs.declared.worlds.World.{World}
-use Rattle.member_core.specs.Worlds.{is_ready, is_logged1, acts, acts_in, first_copy, second_copy, flying, is_up, is_up_in, kept, member_at, member_in}
+use Rattle.member_core.specs.Worlds.{is_ready, is_logged1, acts, first_copy, second_copy, flying, is_up, kept, member_at}
 use Rattle.member_core.specs.Events.{allowed}
-use Rattle.member_core.specs.Holds.{AreGiven, Holds, IsAt, IsReady, IsLogged1}
+use Rattle.member_core.specs.Holds.{AreGiven, Holds, IsReady, IsLogged1}
 use Rattle.plain_queue.proofs.Rows.{few_lines}
 use Rattle.member_core.proofs.Basics.{test_cases, acting_inside, all_append, and_both, and_left, ready_is, logged1_is}
 use Rattle.member_core.proofs.Locks.{up_acts}

@@ -2,7 +2,6 @@ use Rattle.std.proofs.Common.{[], sym, subst}
 use Rattle.std.proofs.lemmas.Result.{IfOk-weaker}
 use Rattle.member_core.specs.declared.worlds.World.{World}
 use Rattle.member_core.specs.Holds.{Holds}
-use Rattle.member_core.specs.Events.{start}
 use Rattle.member_core.specs.Steps.{AreStepsBelow}
 use Rattle.member_core.proofs.Counted.{steps_start}
 use Rattle.member_core.proofs.Every.{every_run}
