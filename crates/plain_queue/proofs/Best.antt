@@ -1,5 +1,5 @@
 -- The greatest rank of those that are picked, and the first class that any of them has, as loops find them.
-use Rattle.std.proofs.Common.{◌≡◌, ℕ, ◌+◌, ◌<◌, max, Bool, true, false, ◌&&◌, ◌==◌, List, [], ◌∷◌, length, get_or, drop, Option, Some, None, refl, ap, sym, ◌∙◌, subst, arith}
+use Rattle.std.proofs.Common.{◌≡◌, ℕ, ◌+◌, ◌<◌, max, Bool, true, false, ◌&&◌, ◌==◌, List, [], ◌∷◌, length, get_or, drop, Option, None, refl, ap, sym, ◌∙◌, subst, arith}
 use Rattle.std.specs.Prelude.{if◌then◌else◌, IfSome, IfNone}
 use Rattle.std.specs.List.{find, filter, list_any}
 use Rattle.mas_types.specs.Lists.{greatest, is_greatest_of, has_first_key_of}

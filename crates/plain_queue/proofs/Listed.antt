@@ -1,6 +1,6 @@
 -- Lists without the items that a test picks, and tests over lists.
-use Rattle.std.proofs.Common.{◌≡◌, ℕ, zero, suc, ◌≤◌, Bool, true, false, ◌&&◌, ◌||◌, List, [], ◌∷◌, length, Some, None, slice_get, slice_set, refl, ap, sym, ◌∙◌, arith}
-use Rattle.std.specs.List.{find, filter, list_any, remove}
+use Rattle.std.proofs.Common.{◌≡◌, ℕ, zero, suc, ◌≤◌, Bool, ◌&&◌, ◌||◌, List, [], ◌∷◌, length, Some, None, slice_get, slice_set, refl, ap, arith}
+use Rattle.std.specs.List.{find, filter, list_any}
 use Rattle.mas_types.specs.Lists.{change_at, without, without_first}
 use Rattle.queue_laws.proofs.Finds.{test_cases}
 

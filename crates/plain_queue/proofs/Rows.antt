@@ -1,8 +1,6 @@
 -- What rows come to.
-use Rattle.std.proofs.Common.{◌≡◌, ◌≤◌, ℕ, Bool, List, Option, Some, None, slice_get, slice_set, refl, sym, ap, ◌∙◌, ◌++◌, ◌∷◌, []}
-use Rattle.std.specs.Prelude.{option_map, remove}
+use Rattle.std.proofs.Common.{◌≡◌, ◌≤◌, ℕ, Bool, List, Option, Some, None, slice_get, slice_set, refl, ◌++◌, ◌∷◌, []}
 use Rattle.std.specs.List.{find}
-use Rattle.mas_types.specs.declared.ids.MemberId.{MemberId}
 use Rattle.mas_types.specs.declared.ids.JobNo.{JobNo}
 use Rattle.mas_types.specs.declared.jobs.Job.{Job}
 use Rattle.mas_types.specs.declared.queues.Queue.{Queue}
@@ -10,11 +8,9 @@ use Rattle.mas_types.specs.declared.commands.Refusal.{Refusal}
 use Rattle.mas_types.specs.declared.commands.Refusal.TheVariants as refusal
 use Rattle.mas_types.specs.declared.commands.Reply.{Reply}
 use Rattle.mas_types.specs.declared.commands.Reply.TheVariants as reply
-use Rattle.mas_types.specs.Lists.{first_some, change_first}
-use Rattle.mas_types.specs.Queue.{is_in, in_purge}
-use Rattle.mas_types.specs.Owners.{freed, is_deck_of}
-use Rattle.mas_types.specs.Row.{Row, done, ComesTo}
-use Rattle.mas_types.specs.Commands.Life.{first_job_row, purge_row}
+use Rattle.mas_types.specs.Lists.{first_some}
+use Rattle.mas_types.specs.Row.{Row, ComesTo}
+use Rattle.mas_types.specs.Commands.Life.{first_job_row}
 use Rattle.mas_types.specs.declared.jobs.Output.{Output}
 use Rattle.mas_types.specs.declared.jobs.Text.{Text}
 use Rattle.mas_types.specs.declared.jobs.Text.TheVariants.{Whole, Gone}

@@ -1,5 +1,3 @@
-use Rattle.std.proofs.Common.{◌≡◌, ◌<◌, [], length, drop, arith}
-use Rattle.std.proofs.lemmas.List.{drop_all}
 use Rattle.plain_queue.proofs.Best.{greatest_more}
 use Rattle.plain_queue.proofs.picking.greatest.Goals as goal
 

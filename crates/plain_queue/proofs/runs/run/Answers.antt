@@ -1,4 +1,4 @@
-use Rattle.std.proofs.Common.{◌≡◌, ◌∙◌, true, subst, sym}
+use Rattle.std.proofs.Common.{◌≡◌, ◌∙◌, subst, sym}
 use Rattle.std.specs.List.{AllByRecursion}
 use Rattle.mas_types.specs.Step.{step}
 use Rattle.queue_laws.specs.Runs.{IsGiven}
