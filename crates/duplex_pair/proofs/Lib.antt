@@ -1,1 +1,5 @@
 pub mod Composing
+pub mod FirstLevel
+pub mod Mends
+pub mod Numbers
+pub mod Chosen

@@ -3,3 +3,5 @@ pub mod Outcomes
 pub mod Looks
 pub mod Both
 pub mod Finds
+pub mod Lagging
+pub mod Founds

@@ -5,6 +5,8 @@ use Rattle.duplex_pair.specs.declared.errors.PairNo.{PairNo}
 use Rattle.duplex_pair.specs.declared.errors.PairNo.TheVariants.{BothLost, Halted as PairHalted}
 use Rattle.duplex_pair.specs.declared.errors.LookNo.{LookNo}
 use Rattle.duplex_pair.specs.declared.errors.LookNo.TheVariants.{Halted as LookHalted, NoMemory as LookNoMemory}
+use Rattle.duplex_pair.specs.declared.errors.PairFindNo.{PairFindNo}
+use Rattle.duplex_pair.specs.declared.errors.PairFindNo.TheVariants.{Halted as FindHalted, NoMemory as FindNoMemory}
 
 -- the member was stopped in a call on one copy
 abbrev pub half_stopped : {T : Type 0} → Result T Halted → Bool
@@ -25,6 +27,11 @@ look_stopped (Err LookNoMemory) = false
 
 abbrev pub pair_halted : PairNo
 pair_halted = PairHalted
+
+-- the answer of a find in which a look was answered so
+abbrev pub find_no : LookNo → PairFindNo
+find_no LookHalted = FindHalted
+find_no LookNoMemory = FindNoMemory
 
 -- the least room of the copies that count as alive
 abbrev pub least_room : Bool → Bool → ℕ → ℕ → ℕ

@@ -1,6 +1,6 @@
 //! How calls of a pair end.
 ghost use Rattle.std.specs.Prelude.{◌≡◌};
-ghost use Rattle.duplex_pair.specs.Outcomes.{pair_halted};
+ghost use Rattle.duplex_pair.specs.Outcomes.{pair_halted, find_no};
 
 use mas_types::{List, Page};
 use thiserror::Error;
@@ -50,4 +50,32 @@ pub enum LookNo {
     /// There was no memory for the pages.
     #[error("no memory")]
     NoMemory,
+}
+
+/// Why no pages were found on a pair.
+#[derive(Clone, Copy, Debug, PartialEq, Eq, Error)]
+pub enum PairFindNo {
+    /// Both copies count as lost at the end of the call.
+    #[error("both copies are lost")]
+    BothLost,
+    /// The member was stopped inside the call: its count of stops rose.
+    #[error("the member was stopped")]
+    Halted,
+    /// A copy isn't lost, and none reads.
+    #[error("no copy can be read")]
+    NotValid,
+    /// There was no memory for the pages.
+    #[error("no memory")]
+    NoMemory,
+}
+
+impl From<LookNo> for PairFindNo {
+    ghost from_gives = { λ no e. e ≡ find_no no };
+
+    fn from(no: LookNo) -> PairFindNo {
+        match no {
+            LookNo::Halted => PairFindNo::Halted,
+            LookNo::NoMemory => PairFindNo::NoMemory,
+        }
+    }
 }

@@ -12,8 +12,10 @@ ghost use Rattle.duplex_pair.specs.Halves.{Acted, IsGone, SameOrLost};
 ghost use Rattle.duplex_pair.specs.Looks.{WasSeen};
 ghost use Rattle.duplex_pair.specs.Outcomes.{half_stopped, look_stopped};
 ghost use Rattle.duplex_pair.specs.Both.{Touched};
+ghost use Rattle.duplex_pair.specs.Lagging.{IsLevelFound};
 
 use crate::errors::{Halted, Look, LookNo};
+use crate::pages::pages_level;
 use ckpt_copy::{CopyNo, Copying, FindNo};
 use mas_types::{Dev, MemberId, Page};
 use spool_disk::Plant;
@@ -24,6 +26,8 @@ use std::alloc::Global;
 pub struct Half<C: Copying + Drop> {
     pub copy: C,
     pub alive: bool,
+    /// The level of the pages that the last look found.
+    pub found: u64,
 }
 
 impl<C: Copying + Drop> Half<C> {
@@ -202,6 +206,7 @@ impl<C: Copying + Drop> Half<C> {
     pub(crate) fn lose<P: Plant>(&mut self, plant: &mut P, dev: Dev)
         ensures copy { self.new.copy ≡ self.old.copy }
         ensures alive { self.new.alive ≡ false }
+        ensures found { self.new.found ≡ self.old.found }
         ensures loses { Loses (Disk dev) (P.view plant.old) (P.view plant.new) }
         ensures gone { P.tells → IsGone dev true self.new.alive (P.view plant.new) }
         ensures during { P.tells → Meanwhile dev (SameOrLost (disk_now (P.view plant.old) dev)) (P.view plant.old) (P.view plant.new) }
@@ -225,12 +230,16 @@ impl<C: Copying + Drop> Half<C> {
         ensures gone { P.tells → IsGone (C.dev self.old.copy) self.old.alive self.new.alive (P.view plant.new) }
         ensures during { P.tells → Meanwhile (C.dev self.old.copy) (NoMore (disk_now (P.view plant.old) (C.dev self.old.copy))) (P.view plant.old) (P.view plant.new) }
         ensures seen { IfOk result (λ look. WasSeen C.count C.room C.room_most C.ready C.reads C.rests P.tells (C.dev self.old.copy) (P.view plant.new) self.old.copy self.new.copy self.new.alive look) }
+        ensures level { IfOk result (λ look. IsLevelFound look self.new.found) }
     {
         if !self.alive {
             return Ok(Look::Lost);
         }
         match self.copy.find(alloc, plant, by) {
-            Ok(pages) => Ok(Look::Pages(pages)),
+            Ok(pages) => {
+                self.found = pages_level(pages.as_slice());
+                Ok(Look::Pages(pages))
+            }
             Err(FindNo::Failed) => {
                 self.alive = false;
                 Ok(Look::Lost)

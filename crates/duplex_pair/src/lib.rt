@@ -5,9 +5,13 @@
 #![tactic(auto)]
 
 mod errors;
+mod finding;
 mod half;
+mod mending;
+mod pages;
 mod pair;
 
-pub use errors::{Halted, Look, LookNo, PairNo};
+pub use errors::{Halted, Look, LookNo, PairFindNo, PairNo};
 pub use half::Half;
+pub use pages::{first_numbers, page_numbers, pages_level};
 pub use pair::Pair;

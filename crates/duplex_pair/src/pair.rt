@@ -12,6 +12,7 @@ ghost use Rattle.ckpt_copy.specs.Pages.{bytes_of, level, page_in, ArePages, Cove
 ghost use Rattle.ckpt_copy.specs.Reading.{AllRead, EachReads, EachForms};
 ghost use Rattle.duplex_pair.specs.declared.errors.PairNo.TheVariants.{BothLost as PairNoBothLost, Halted as PairNoHalted};
 ghost use Rattle.duplex_pair.specs.Halves.{IsCkpt, pick, other, Acted, IsGone, SameOrLost, SomeAlive, IsBothLost, AreReady};
+ghost use Rattle.duplex_pair.specs.Lagging.{IsLevelFound};
 ghost use Rattle.duplex_pair.specs.Looks.{WasSeen};
 ghost use Rattle.duplex_pair.specs.Both.{PairActed, Touched, BothMeanwhile};
 ghost use Rattle.duplex_pair.specs.Outcomes.{half_stopped, pair_stopped, look_stopped, least_room};
@@ -47,10 +48,12 @@ impl<C: Copying + Drop> Pair<C> {
             first: Half {
                 copy: first,
                 alive: true,
+                found: 0,
             },
             second: Half {
                 copy: second,
                 alive: true,
+                found: 0,
             },
         }
     }
@@ -227,6 +230,7 @@ impl<C: Copying + Drop> Pair<C> {
         ensures other { other dev self.new.first self.new.second ≡ other dev self.old.first self.old.second }
         ensures copy { (pick dev self.new.first self.new.second).copy ≡ (pick dev self.old.first self.old.second).copy }
         ensures alive { (pick dev self.new.first self.new.second).alive ≡ false }
+        ensures found { (pick dev self.new.first self.new.second).found ≡ (pick dev self.old.first self.old.second).found }
         ensures loses { Loses (Disk dev) (P.view plant.old) (P.view plant.new) }
         ensures gone { P.tells → IsGone dev true (pick dev self.new.first self.new.second).alive (P.view plant.new) }
         ensures during { P.tells → Meanwhile dev (SameOrLost (disk_now (P.view plant.old) dev)) (P.view plant.old) (P.view plant.new) }
@@ -258,6 +262,7 @@ impl<C: Copying + Drop> Pair<C> {
         ensures gone { P.tells → IsGone dev (pick dev self.old.first self.old.second).alive (pick dev self.new.first self.new.second).alive (P.view plant.new) }
         ensures during { P.tells → Meanwhile dev (NoMore (disk_now (P.view plant.old) dev)) (P.view plant.old) (P.view plant.new) }
         ensures seen { IfOk result (λ look. WasSeen C.count C.room C.room_most C.ready C.reads C.rests P.tells dev (P.view plant.new) (pick dev self.old.first self.old.second).copy (pick dev self.new.first self.new.second).copy (pick dev self.new.first self.new.second).alive look) }
+        ensures level { IfOk result (λ look. IsLevelFound look (pick dev self.new.first self.new.second).found) }
     {
         match dev {
             Dev::Ckpt1 => self.first.look(alloc, plant, by),

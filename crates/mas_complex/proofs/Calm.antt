@@ -50,7 +50,7 @@ module _ (S : Setting) (reached : ℕ) (K F : List Entry) (dev : Dev) (old new :
   pub settle_rests : alive ≡ true → rests pages (disk_now old dev)
   settle_rests is = (side_before place (before is) (copy.at is) (reads is)).0
 
-  settle_stands : alive ≡ true → Stands S reached K pages
+  pub settle_stands : alive ≡ true → Stands S reached K pages
   settle_stands is = (side_before place (before is) (copy.at is) (reads is)).1
 
   touched_reads : old.now < top → (b : Bool) → alive ≡ b → (d : Disk) → Touched b (AllRead S.reads pages) (disk_now old dev) d → ReadsOne S reached K F d

@@ -1,5 +1,5 @@
 -- From the invariant of the shared value to its headline.
-use Rattle.std.proofs.Common.{◌≡◌, inl, inr, ⊎_elim, ℕ, ◌≤◌, cond, Bool, true, false, List, [], ◌∷◌, ◌++◌, filter, All, Contains, Option, Some, None, refl, subst, sym, ◌∙◌, ap}
+use Rattle.std.proofs.Common.{◌≡◌, inl, inr, ⊎_elim, ℕ, ◌≤◌, ◌<◌, ◌&&◌, cond, Bool, true, false, List, [], ◌∷◌, ◌++◌, filter, All, Contains, Option, Some, None, refl, subst, sym, ◌∙◌, ap, arith}
 use Rattle.std.proofs.lemmas.List.Elements.{All-nil, All-cons}
 use Rattle.mas_types.specs.declared.ids.MemberId.{MemberId}
 use Rattle.mas_types.specs.declared.journals.Batch.{Batch}
@@ -8,14 +8,23 @@ use Rattle.mas_types.specs.declared.journals.Fate.TheVariants.{Kept}
 use Rattle.mas_types.specs.declared.queues.Queue.{Queue}
 use Rattle.mas_types.specs.Journal.{kept_at, flying_at, entries_of, is_kept_by, is_flying_at}
 use Rattle.mas_types.specs.Closings.{closing_line}
-use Rattle.spool_disk.specs.View.{View, Line}
-use Rattle.mas_complex.specs.Journals.{kept, flying, in_flight, StepIsKept, has_step, EndsInPlace, HasPlace, end_of, with_last, without_last}
+use Rattle.mas_types.specs.declared.ids.Dev.{Dev}
+use Rattle.mas_types.specs.declared.ids.Dev.TheVariants.{Ckpt1, Ckpt2}
+use Rattle.spool_disk.specs.declared.plant.Part.TheVariants.{Disk as DiskPart}
+use Rattle.spool_disk.specs.View.{View, Line, Disk, disk_at}
+use Rattle.spool_disk.specs.Acts.{top}
+use Rattle.ckpt_copy.specs.Reading.{AllRead}
+use Rattle.ckpt_copy.specs.Moments.{either_way}
+use Rattle.std.proofs.lemmas.Bool.{ne_eqb}
+use Rattle.mas_complex.specs.Journals.{kept, flying, kept_all, entries_in, in_flight, StepIsKept, has_step, EndsInPlace, HasPlace, end_of, with_last, without_last}
 use Rattle.std.specs.Prelude.{IsSome}
 use Rattle.std.proofs.lemmas.List.{append-nil}
 use Rattle.mas_complex.proofs.BatchEnds.{with_last-append, without_last-append}
+use Rattle.mas_complex.proofs.Batches.{now_kept, now_flying}
+use Rattle.mas_complex.proofs.Present.{crash_of, top_reads}
 use Rattle.mas_complex.proofs.Moves.{unplace_keeps}
 use Rattle.mas_complex.specs.Meaning.{Closes, run, StandFor}
-use Rattle.mas_complex.specs.Crash.{Setting, setting, Copy, Keeps, IsFound, IsAfter, EachTells, said, found}
+use Rattle.mas_complex.specs.Crash.{Setting, setting, Copy, Keeps, IsLeft, SomeLeft, IsFound, IsAfter, EachTells, said, found, lost_if, left_at}
 use Rattle.mas_complex.specs.Headline.{Headline, FoundFor, IsAfterKept, whole}
 
 pub kept_is : (bs : List Batch) (t : ℕ) → kept bs t ≡ entries_of (filter (is_kept_by t) bs)
@@ -62,18 +71,44 @@ module _ (reads : List ℕ → Option (List ℕ)) (base : Queue) (since : ℕ) (
       (ap (λ (l : List Entry). l ++ flying (js ++ in_flight c) t) (kept_is (js ++ in_flight c) t) ∙ ap (λ (l : List Entry). kept_at (record { batches = js ++ in_flight c }) t ++ l) (flying_is (js ++ in_flight c) t)) q x))
       after
 
-  pub headline_of : Keeps S js c reached first second v → Headline reads base since (record { batches = js ++ in_flight c }) v
-  headline_of keeps = record {
-    crash = λ t from le lt one two left right some. after_kept t (found S one two) (keeps.crash t from le lt one two left right some);
-    told = λ t from le by at end telling there.
-        step_is (js ++ in_flight c) t by at
-        (one_tells Closes (StepIsKept (js ++ in_flight c) t) (said S v t) (whole (closing_line by at end)) (keeps.told t from le) there refl by at (record { end = end; telling = telling; is = refl }));
-  }
+  -- a moment below the greatest is as the world shows it
+  left_below : (t : ℕ) (dev : Dev) → t < top → left_at v t dev ≡ disk_at v t dev
+  left_below t dev lt = ap (λ (b : Bool). lost_if (b && v.lost (DiskPart dev)) (disk_at v t dev)) (ne_eqb t top (λ e. absurd (omega (arith, e, lt))))
+
+  module _ (keeps : Keeps S js c reached first second v) (most : v.now ≤ top) (lost1 : first.alive ≡ false → v.lost (DiskPart Ckpt1) ≡ true) (lost2 : second.alive ≡ false → v.lost (DiskPart Ckpt2) ≡ true)
+      (rests_reads1 : (pages : List ℕ) (d : Disk) → first.rests pages d → AllRead reads pages d) (holds_reads1 : (was next : List ℕ) (d : Disk) → first.holds was next d → AllRead reads was d)
+      (rests_reads2 : (pages : List ℕ) (d : Disk) → second.rests pages d → AllRead reads pages d) (holds_reads2 : (was next : List ℕ) (d : Disk) → second.holds was next d → AllRead reads was d) where
+    at_top : v.now ≡ top → (one two : Option (List ℕ)) → IsLeft (left_at v v.now Ckpt1) one → IsLeft (left_at v v.now Ckpt2) two → SomeLeft one two → IsAfter S (js ++ in_flight c) v.now (found S one two)
+    at_top last = crash_of S reached (kept_all js) (entries_in c) (js ++ in_flight c) v.now (now_kept js c v.now v.now keeps.settled keeps.begun (omega arith)) (now_flying js c v.now v.now keeps.settled keeps.begun (omega arith))
+        (left_at v v.now Ckpt1) (left_at v v.now Ckpt2)
+        (top_reads S reached (kept_all js) (entries_in c) first.rests first.holds rests_reads1 holds_reads1 first.place first.alive Ckpt1 v last keeps.first_at lost1)
+        (top_reads S reached (kept_all js) (entries_in c) second.rests second.holds rests_reads2 holds_reads2 second.place second.alive Ckpt2 v last keeps.second_at lost2)
+
+    at_any : (t : ℕ) → since ≤ t → t ≤ v.now → (one two : Option (List ℕ)) → IsLeft (left_at v t Ckpt1) one → IsLeft (left_at v t Ckpt2) two → SomeLeft one two → IsAfter S (js ++ in_flight c) t (found S one two)
+    at_any t from le one two left right some = ⊎_elim
+        (λ h. let last : v.now ≡ top = omega (arith, most, le, h) in let e : v.now ≡ t = omega (arith, most, le, h) in
+        subst (λ (m : ℕ). IsLeft (left_at v m Ckpt1) one → IsLeft (left_at v m Ckpt2) two → IsAfter S (js ++ in_flight c) m (found S one two)) e (λ x y. at_top last one two x y some) left right)
+        (λ lt. keeps.crash t from le lt one two (subst (λ (d : Disk). IsLeft d one) (left_below t Ckpt1 lt) left) (subst (λ (d : Disk). IsLeft d two) (left_below t Ckpt2 lt) right) some)
+        (either_way top t)
+
+    pub headline_of : Headline reads base since (record { batches = js ++ in_flight c }) v
+    headline_of = record {
+      crash = λ t from le one two left right some. after_kept t (found S one two) (at_any t from le one two left right some);
+      told = λ t from le by at end telling there.
+          step_is (js ++ in_flight c) t by at
+          (one_tells Closes (StepIsKept (js ++ in_flight c) t) (said S v t) (whole (closing_line by at end)) (keeps.told t from le) there refl by at (record { end = end; telling = telling; is = refl }));
+    }
 
 -- and with the journal as it is handed out
-module _ (reads : List ℕ → Option (List ℕ)) (base : Queue) (since : ℕ) (reached : ℕ) (first second : Copy) (v : View) where
+module _ (reads : List ℕ → Option (List ℕ)) (base : Queue) (since : ℕ) (reached : ℕ) (first second : Copy) (v : View)
+    (most : v.now ≤ top) (lost1 : first.alive ≡ false → v.lost (DiskPart Ckpt1) ≡ true) (lost2 : second.alive ≡ false → v.lost (DiskPart Ckpt2) ≡ true)
+    (rests_reads1 : (pages : List ℕ) (d : Disk) → first.rests pages d → AllRead reads pages d) (holds_reads1 : (was next : List ℕ) (d : Disk) → first.holds was next d → AllRead reads was d)
+    (rests_reads2 : (pages : List ℕ) (d : Disk) → second.rests pages d → AllRead reads pages d) (holds_reads2 : (was next : List ℕ) (d : Disk) → second.holds was next d → AllRead reads was d) where
+  of_batches : (J : List Batch) (c : Option Batch) → Keeps (setting reads base since) J c reached first second v → Headline reads base since (record { batches = J ++ in_flight c }) v
+  of_batches J c keeps = headline_of reads base since J c reached first second v keeps most lost1 lost2 rests_reads1 holds_reads1 rests_reads2 holds_reads2
+
   by_place : (J : List Batch) (c : Option Batch) (p : EndsInPlace J) → Keeps (setting reads base since) J c reached first second v → Headline reads base since (record { batches = p.before ++ in_flight c }) v
-  by_place J c p keeps = headline_of reads base since p.before c reached first second v
+  by_place J c p keeps = of_batches p.before c
       (unplace_keeps (setting reads base since) p.before p.place c reached first second v p.free (subst (λ (l : List Batch). Keeps (setting reads base since) l c reached first second v) p.is keeps))
 
   as_batches : (J K : List Batch) → J ≡ K → Headline reads base since (record { batches = J }) v → Headline reads base since (record { batches = K }) v
@@ -83,7 +118,7 @@ module _ (reads : List ℕ → Option (List ℕ)) (base : Queue) (since : ℕ) (
       → Headline reads base since (record { batches = end_of placed c J }) v
   ended_headline true (Some b) J some p keeps = as_batches (p.before ++ b ∷ []) (with_last b J) (sym (ap (with_last b) p.is ∙ with_last-append b p.before p.place)) (by_place J (Some b) p keeps)
   ended_headline true None J some p keeps = as_batches (p.before ++ []) (without_last J) (append-nil p.before ∙ sym (ap without_last p.is ∙ without_last-append p.before p.place)) (by_place J None p keeps)
-  ended_headline false None J some p keeps = as_batches (J ++ []) J (append-nil J) (headline_of reads base since J None reached first second v keeps)
+  ended_headline false None J some p keeps = as_batches (J ++ []) J (append-nil J) (of_batches J None keeps)
   ended_headline false (Some b) J some p keeps = absurd (clash (some refl)) where
     clash : false ≡ true → ⊥
     clash e = cc

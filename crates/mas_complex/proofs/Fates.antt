@@ -76,6 +76,20 @@ module _ (S : Setting) (js : List Batch) (b c : Batch) (reached : ℕ) (first se
       ))
       x y
 
+-- pages of the next level that stand for the same queue
+pub risen_keeps : (S : Setting) (js : List Batch) (reached : ℕ) (first second : Copy) (v : View) → Keeps S js None reached first second v → (first.alive ≡ true → first.place ≡ Opened) → (second.alive ≡ true → second.place ≡ Opened)
+    → Keeps S js None (reached + 1) (copy_of first.rests first.holds first.alive Before) (copy_of second.rests second.holds second.alive Before) v
+risen_keeps S js reached first second v keeps one two = record {
+  started = keeps.started;
+  settled = keeps.settled;
+  begun = keeps.begun;
+  crash = keeps.crash;
+  told = keeps.told;
+  grows = keeps.grows;
+  first_at = after_kept S first.rests first.holds reached (kept_all js) [] (kept_all js) first.alive v.now (disk_now v Ckpt1) first.place one (sym (append-nil (kept_all js))) keeps.first_at;
+  second_at = after_kept S second.rests second.holds reached (kept_all js) [] (kept_all js) second.alive v.now (disk_now v Ckpt2) second.place two (sym (append-nil (kept_all js))) keeps.second_at;
+}
+
 -- a line is said
 module _ (S : Setting) (js : List Batch) (c : Option Batch) (reached : ℕ) (first second : Copy) (old new : View) (line : List ℕ) (act : Act) where
   at_end : (t : ℕ) → new.now ≡ next old.now → old.now < t → t ≤ new.now → t ≡ new.now

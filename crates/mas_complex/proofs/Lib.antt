@@ -12,3 +12,7 @@ pub mod Fating
 pub mod Calm
 pub mod Shows
 pub mod Apart
+pub mod Looking
+pub mod Fitted
+pub mod Choosing
+pub mod Recovered

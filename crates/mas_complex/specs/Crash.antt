@@ -1,6 +1,8 @@
 -- What a crash leaves of the two copies, and what the console tells.
-use Rattle.std.specs.Prelude.{◌≡◌, ◌⊎◌, ℕ, ◌+◌, ◌≤◌, ◌<◌, Bool, true, false, List, [], ◌∷◌, ◌++◌, length, drop, Option, Some, None}
+use Rattle.std.specs.Prelude.{◌≡◌, ◌⊎◌, ℕ, ◌+◌, ◌≤◌, ◌<◌, ◌==◌, ◌&&◌, Bool, true, false, List, [], ◌∷◌, ◌++◌, length, drop, Option, Some, None}
+use Rattle.mas_types.specs.declared.ids.Dev.{Dev}
 use Rattle.mas_types.specs.declared.ids.Dev.TheVariants.{Ckpt1, Ckpt2}
+use Rattle.spool_disk.specs.declared.plant.Part.TheVariants.{Disk as DiskPart}
 use Rattle.spool_disk.specs.View.{View, Disk, Line, IsImage, LeavesOnly, disk_at, disk_now}
 use Rattle.spool_disk.specs.Acts.{top}
 use Rattle.ckpt_copy.specs.Pages.{level}
@@ -22,6 +24,16 @@ pub record Setting : Type 1 where
   pub closes : List ℕ → MemberId → ℕ → Type 0
   pub base : Queue
   pub since : ℕ
+
+-- a device, lost where this is true
+abbrev pub lost_if : Bool → Disk → Disk
+lost_if false disk = disk
+lost_if true disk = record disk { lost = true }
+
+-- A device as a crash at a moment finds it. At the greatest moment the world stays while acts still fail, so there a
+-- device is lost too where the plant now says so.
+abbrev pub left_at : View → ℕ → Dev → Disk
+left_at v t dev = lost_if ((t == top) && v.lost (DiskPart dev)) (disk_at v t dev)
 
 -- what a crash leaves of a device: an image, or nothing of a lost one
 abbrev pub IsLeft : Disk → Option (List ℕ) → Type 0

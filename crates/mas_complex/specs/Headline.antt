@@ -1,5 +1,5 @@
 -- What holds at each moment since a shared value was made, in the words of journal, images and console.
-use Rattle.std.specs.Prelude.{◌≡◌, ◌⊎◌, ℕ, ◌≤◌, ◌<◌, true, List, ◌++◌, length, drop, Option, Some, None, All, Contains}
+use Rattle.std.specs.Prelude.{◌≡◌, ◌⊎◌, ℕ, ◌≤◌, true, List, ◌++◌, length, drop, Option, Some, None, All, Contains}
 use Rattle.mas_types.specs.declared.ids.Dev.TheVariants.{Ckpt1, Ckpt2}
 use Rattle.mas_types.specs.declared.ids.MemberId.{MemberId}
 use Rattle.mas_types.specs.declared.journals.Journal.{Journal}
@@ -8,12 +8,11 @@ use Rattle.mas_types.specs.declared.queues.Queue.{Queue}
 use Rattle.mas_types.specs.declared.answers.Closing.{Closing}
 use Rattle.mas_types.specs.Journal.{kept_at, flying_at}
 use Rattle.mas_types.specs.Closings.{closing_line}
-use Rattle.spool_disk.specs.View.{View, Line, Throughout, disk_at}
-use Rattle.spool_disk.specs.Acts.{top}
+use Rattle.spool_disk.specs.View.{View, Line, Throughout}
 use Rattle.duplex_pair.specs.Finds.{best}
 use Rattle.mas_complex.specs.Meaning.{run, StandFor, is_telling}
 use Rattle.mas_complex.specs.Journals.{has_step}
-use Rattle.mas_complex.specs.Crash.{IsLeft, SomeLeft, read_left}
+use Rattle.mas_complex.specs.Crash.{IsLeft, SomeLeft, read_left, left_at}
 
 -- pages are found, which stand for the queue
 abbrev pub FoundFor : Queue → Option (List ℕ) → Type 0
@@ -27,8 +26,8 @@ IsAfterKept base J t pages =
 
 -- at each moment at which a copy is left, for each choice of images
 abbrev pub IsCrashSafe : (List ℕ → Option (List ℕ)) → Queue → Journal → ℕ → View → Type 0
-IsCrashSafe reads base J since v = (t : ℕ) → since ≤ t → t ≤ v.now → t < top
-    → (one two : Option (List ℕ)) → IsLeft (disk_at v t Ckpt1) one → IsLeft (disk_at v t Ckpt2) two → SomeLeft one two
+IsCrashSafe reads base J since v = (t : ℕ) → since ≤ t → t ≤ v.now
+    → (one two : Option (List ℕ)) → IsLeft (left_at v t Ckpt1) one → IsLeft (left_at v t Ckpt2) two → SomeLeft one two
     → IsAfterKept base J t (best (read_left reads one) (read_left reads two))
 
 abbrev pub whole : List ℕ → Line

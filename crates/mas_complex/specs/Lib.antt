@@ -5,3 +5,6 @@ pub mod Crash
 pub mod Headline
 pub mod Steady
 pub mod Elsewhere
+pub mod Seen
+pub mod Fits
+pub mod Recovers

@@ -371,12 +371,12 @@ impl<P: Plant + Drop, C: Steady + Drop> Complex<P, C> {
         self.pair.lose(&mut self.plant, Dev::Ckpt2);
     }
 
-    // The batch in flight is kept: every alive copy has opened it.
-    fn keep(&mut self)
+    // The batch in flight is kept: every alive copy has opened it, and has pages of this level.
+    pub(crate) fn keep(&mut self, reached: u64)
         requires current { IsSome self.old.current }
         requires first { self.old.pair.first.alive ≡ true → self.old.first ≡ AtOpened }
         requires second { self.old.pair.second.alive ≡ true → self.old.second ≡ AtOpened }
-        requires level { self.old.level < top }
+        requires next { P.tells → reached ≡ self.old.level + 1 }
         ensures plant { self.new.plant ≡ self.old.plant }
         ensures pair { self.new.pair ≡ self.old.pair }
         ensures base { self.new.base ≡ self.old.base }
@@ -385,7 +385,7 @@ impl<P: Plant + Drop, C: Steady + Drop> Complex<P, C> {
         ensures fated { (batch : Batch) → self.old.current ≡ Some batch → self.new.journal.batches ≡ with_last (fated FateKept (P.view self.old.plant).now batch) self.old.journal.batches }
         ensures none { self.new.current ≡ None }
         ensures still { (self.new.first ≡ AtBefore) × (self.new.second ≡ AtBefore) }
-        ensures level { self.new.level ≡ self.old.level + 1 }
+        ensures level { self.new.level ≡ reached }
         ensures unplaced { self.new.placed ≡ false }
     {
         let last = self.plant.now();
@@ -403,12 +403,12 @@ impl<P: Plant + Drop, C: Steady + Drop> Complex<P, C> {
             self.placed = false;
             self.first = Place::Before;
             self.second = Place::Before;
-            self.level += 1;
+            self.level = reached;
         }
     }
 
     // The batch in flight is dropped: no alive copy has it.
-    fn drop_batch(&mut self)
+    pub(crate) fn drop_batch(&mut self)
         requires current { IsSome self.old.current }
         requires first { self.old.pair.first.alive ≡ true → self.old.first ≡ AtBefore }
         requires second { self.old.pair.second.alive ≡ true → self.old.second ≡ AtBefore }
@@ -519,7 +519,7 @@ impl<P: Plant + Drop, C: Steady + Drop> Complex<P, C> {
         }
     }
 
-    fn put_on(
+    pub(crate) fn put_on(
         &mut self,
         by: MemberId,
         dev: Dev,
@@ -631,7 +631,7 @@ impl<P: Plant + Drop, C: Steady + Drop> Complex<P, C> {
         self.put_on(by, dev, pages, changed)
     }
 
-    fn open_on(&mut self, by: MemberId, dev: Dev) -> Result<(), PairNo>
+    pub(crate) fn open_on(&mut self, by: MemberId, dev: Dev) -> Result<(), PairNo>
         requires ckpt { IsCkpt dev }
         requires place { (pick dev self.old.pair.first self.old.pair.second).alive ≡ true → pick dev self.old.first self.old.second ≡ AtPut }
         requires room { (pick dev self.old.pair.first self.old.pair.second).alive ≡ true → 1 ≤ C.room (pick dev self.old.pair.first self.old.pair.second).copy }
@@ -698,7 +698,7 @@ impl<P: Plant + Drop, C: Steady + Drop> Complex<P, C> {
     {
         self.open_on(by, dev)?;
         if self.all_opened() {
-            self.keep();
+            self.keep(self.level + 1);
         }
         Ok(())
     }
@@ -779,6 +779,7 @@ impl<P: Plant + Drop, C: Steady + Drop> Complex<P, C> {
             placed,
             ..
         } = self;
+        let _last = moment_of(&plant);
         let journal = finished(journal, current, placed);
         Ended {
             plant,
@@ -787,4 +788,12 @@ impl<P: Plant + Drop, C: Steady + Drop> Complex<P, C> {
             journal,
         }
     }
+}
+
+// The moment of a plant, which is a count.
+fn moment_of<P: Plant>(plant: &P) -> u64
+    ensures now { result ≡ (P.view plant.now).now }
+    ensures most { (P.view plant.now).now ≤ top }
+{
+    plant.now()
 }

@@ -5,10 +5,15 @@
 #![tactic(auto)]
 
 mod complex;
+mod fitting;
 mod journal_end;
 mod places;
+mod recover;
+mod seeing;
 mod steady;
 
 pub use complex::{Complex, Ended};
+pub use fitting::fits;
 pub use places::Place;
+pub use recover::RecoverNo;
 pub use steady::Steady;

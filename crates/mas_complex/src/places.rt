@@ -1,8 +1,9 @@
 //! How far a batch has come on a copy.
 ghost use Rattle.std.specs.Prelude.{◌≡◌, true};
-ghost use Rattle.mas_complex.specs.Places.{IsPlaceAfter};
+ghost use Rattle.mas_complex.specs.Places.{IsPlaceAfter, IsAtLevel};
+ghost use Rattle.mas_complex.specs.Seen.{IsPlaceSeen};
 
-use duplex_pair::PairNo;
+use duplex_pair::{Look, LookNo, PairNo, pages_level};
 
 /// How far the batch in flight has come on a copy.
 #[derive(Clone, Copy, Debug, PartialEq, Eq)]
@@ -25,5 +26,28 @@ pub(crate) fn place_after(done: &Result<(), PairNo>, there: Place) -> Place
         Ok(()) => there,
         Err(PairNo::BothLost) => there,
         Err(PairNo::Halted) => Place::Unsure,
+    }
+}
+
+// Pages of the level reached don't have the batch in flight.
+fn place_at(level: u64, reached: u64) -> Place
+    ensures { IsAtLevel level reached result }
+{
+    if level == reached {
+        Place::Before
+    } else {
+        Place::Opened
+    }
+}
+
+// How far the batch in flight has come on a copy that was looked at.
+pub(crate) fn place_seen(done: &Result<Look, LookNo>, reached: u64) -> Place
+    ensures { IsPlaceSeen done.now reached result }
+{
+    match done {
+        Ok(Look::Pages(pages)) => place_at(pages_level(pages.as_slice()), reached),
+        Ok(Look::Lost) => Place::Unsure,
+        Ok(Look::Unread) => Place::Unsure,
+        Err(_) => Place::Unsure,
     }
 }

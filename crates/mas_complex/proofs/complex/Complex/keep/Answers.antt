@@ -16,7 +16,7 @@ invariant_of-self-clause-kept g c told =
     let old = g.P.Plant.view s.plant in
     let b = c.in-Some.batch in
     let was : s.current ≡ Some b = sym c.take.ensures.value ∙ c.in-Some.is in
-    ∥∥₁_elim (s.kept told) ∥∥₁_prop (λ k. ∥∥₁_map s.place (λ has. rw (c.set_last.ensures, c.take.ensures.after)
+    ∥∥₁_elim (s.kept told) ∥∥₁_prop (λ k. ∥∥₁_map s.place (λ has. rw (c.set_last.ensures, c.take.ensures.after, c.requires.next told)
     (kept_placed S s.level first second old (λ pages d r. g.met.C.Copying.rests_reads s.pair.first.copy pages d r) (λ was next d r. g.met.C.Copying.holds_reads s.pair.first.copy was next d r) (λ pages d r. g.met.C.Copying.rests_reads s.pair.second.copy pages d r) (λ was next d r. g.met.C.Copying.holds_reads s.pair.second.copy was next d r) s.journal.batches (has_ends s.placed s.journal.batches (s.place_current c.requires.current) has)
     (record { first = b.first; last = c.now-last.result; by = b.by; fate = Kept; entries = b.entries }) b
     (subst (λ (x : Option Batch). Keeps S s.journal.batches x s.level first second old) was k) refl refl c.now-last.ensures refl c.requires.first c.requires.second)))

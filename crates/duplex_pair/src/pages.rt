@@ -1,0 +1,53 @@
+// The level of pages, and their numbers.
+ghost use Rattle.std.specs.Prelude.{◌≡◌, ◌+◌, ◌≤◌, ◌<◌, ℕ, length, Contains};
+ghost use Rattle.std.specs.Int.{from_be_bytes, w64};
+ghost use Rattle.mas_types.specs.Limits.{page_bytes, pages_most};
+ghost use Rattle.lay_bytes.specs.Fields.{piece};
+ghost use Rattle.ckpt_copy.specs.Pages.{bytes_of, level, ArePages};
+ghost use Rattle.duplex_pair.specs.Lagging.{AreNumbers};
+
+use lay_bytes::read_u64;
+use mas_types::Page;
+use mas_types::limits::PAGES_MOST;
+
+const MOST: usize = PAGES_MOST as usize;
+
+// The level in a first page.
+fn page_level(page: &Page) -> u64
+    ensures level { result ≡ from_be_bytes w64 (piece 8 8 page.now.0) }
+    ensures size { length page.now.0 ≡ page_bytes }
+{
+    read_u64(&page.0, 8)
+}
+
+/// The level of pages, which stands in the first of them. It is 0 where there are none.
+pub fn pages_level(pages: &[Page]) -> u64
+    ensures { result ≡ level (bytes_of pages.now) }
+{
+    if pages.is_empty() {
+        return 0;
+    }
+    page_level(&pages[0])
+}
+
+/// The numbers of pages from 0 on, as many as a checkpoint may have.
+pub fn page_numbers() -> [u16; MOST]
+    ensures { AreNumbers result }
+{
+    let mut numbers = [0; MOST];
+    for page in 0..PAGES_MOST {
+        numbers[page as usize] = page;
+    }
+    numbers
+}
+
+/// Of these numbers those of a checkpoint of so many pages.
+pub fn first_numbers(numbers: &[u16; MOST], count: u16) -> &[u16]
+    requires numbers { AreNumbers numbers.now }
+    requires some { 1 ≤ count }
+    requires few { count ≤ pages_most }
+    ensures pages { ArePages count result.now }
+    ensures all { (p : ℕ) → p < count → Contains result.now p }
+{
+    &numbers[..count as usize]
+}

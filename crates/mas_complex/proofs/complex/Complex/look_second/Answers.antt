@@ -1,0 +1,91 @@
+use Rattle.std.proofs.Common.{refl, subst, ◌≡◌, ap, true, false, ◌++◌}
+use Rattle.std.proofs.Math.Logic.{∥∥₁_map, ∥∥₁_elim}
+use Rattle.mas_types.specs.declared.ids.Dev.TheVariants.{Ckpt1, Ckpt2}
+use Rattle.mas_complex.specs.Journals.{kept_all, entries_in}
+use Rattle.mas_complex.specs.Crash.{Setting, setting, copy_of}
+use Rattle.mas_complex.proofs.Sides.{on_second}
+use Rattle.mas_complex.proofs.Lost.{still_lost, lost_later}
+use Rattle.std.proofs.Common.{Result, Ok, Err, IfOk, OnErr}
+use Rattle.std.specs.Coded.{Coded-set, coded_ℕ}
+use Rattle.duplex_pair.specs.declared.errors.Look.{Look}
+use Rattle.duplex_pair.specs.declared.errors.Look.TheVariants.{Lost, Unread, Pages}
+use Rattle.duplex_pair.specs.declared.errors.LookNo.{LookNo}
+use Rattle.duplex_pair.specs.Looks.{WasSeen}
+use Rattle.mas_complex.specs.Meaning.{run}
+use Rattle.mas_complex.specs.Seen.{HasNext}
+use Rattle.mas_complex.proofs.Sides.{no}
+use Rattle.mas_complex.proofs.Looking.{look_side, look_next}
+use Rattle.mas_complex.proofs.complex.Complex.look_second.Goals as goal
+
+pub invariant_of-self-clause-kept : goal.invariant_of-self-clause-kept
+invariant_of-self-clause-kept g c told =
+    let s = c.args.self.now in
+    let C = g.C.Copying in
+    let S : Setting = setting C.reads s.base s.since in
+    let first = copy_of (C.rests s.pair.first.copy) (C.holds s.pair.first.copy) s.pair.first.alive s.first in
+    let second = copy_of (C.rests s.pair.second.copy) (C.holds s.pair.second.copy) s.pair.second.alive s.second in
+    let old = g.P.Plant.view s.plant in
+    let new = g.P.Plant.view c.look-done.new.plant in
+    let p = c.look-done.new.self in
+    let first' = copy_of (C.rests p.first.copy) (C.holds p.first.copy) p.first.alive s.first in
+    let second' = copy_of (C.rests p.second.copy) (C.holds p.second.copy) p.second.alive c.place_seen-self.result in
+    let K = kept_all s.journal.batches in
+    let F = entries_in s.current in
+    let e = c.look-done.ensures in
+    ∥∥₁_map (s.kept told) (λ kk. on_second S s.journal.batches s.current s.level first second first' second' old new kk
+    (λ pages d r. g.met.C.Copying.rests_reads s.pair.first.copy pages d r) (λ was next d r. g.met.C.Copying.holds_reads s.pair.first.copy was next d r)
+    (look_side S s.level K F Ckpt2 old new second.rests second.holds second.place second'.place second.alive second'.alive C.count C.room C.room_most C.ready C.rests C.holds s.pair.second.copy p.second.copy kk.second_at e.acted.goes e.acted.alive (λ dead. ap g.P.Plant.view (e.idle dead)) (e.gone told) g.P.Plant.tells told (λ l. g.met.P.Plant.there c.look-done.new.plant told Ckpt2 l) c.look-done.result (e.during told) e.seen c.place_seen-self.ensures (λ pages d r. g.met.C.Copying.rests_reads s.pair.second.copy pages d r) (λ was next d r. g.met.C.Copying.holds_reads s.pair.second.copy was next d r) (λ pages d r. g.met.C.Copying.rests_reads p.second.copy pages d r))
+    (λ x. rw (e.other) x))
+
+pub invariant_of-self-clause-second_lost : goal.invariant_of-self-clause-second_lost
+invariant_of-self-clause-second_lost g c dead =
+    let s = c.args.self.now in
+    let e = c.look-done.ensures in
+    still_lost c.args.by.0 Ckpt2 s.pair.second.alive _ _ (g.P.Plant.view s.plant) (g.P.Plant.view c.look-done.new.plant) e.acted s.second_lost dead
+
+pub invariant_of-self-clause-first_lost : goal.invariant_of-self-clause-first_lost
+invariant_of-self-clause-first_lost g c dead =
+    let s = c.args.self.now in
+    let e = c.look-done.ensures in
+    lost_later Ckpt1 s.pair.first.alive (g.P.Plant.view s.plant) (g.P.Plant.view c.look-done.new.plant) e.acted.goes s.first_lost (subst (λ h. h.alive ≡ false) e.other dead)
+
+pub invariant_of-self-clause-second_ready : goal.invariant_of-self-clause-second_ready
+invariant_of-self-clause-second_ready g c now =
+    let s = c.args.self.now in
+    let e = c.look-done.ensures in
+    let old = g.P.Plant.view s.plant in
+    let new = g.P.Plant.view c.look-done.new.plant in
+    let p = c.look-done.new.self.second in
+    let stays : g.C.Steady.fits s.pair.second.copy new ≡ true = g.met.C.Steady.ready_fit s.pair.second.copy new (g.met.C.Copying.stays_ready s.pair.second.copy old new e.acted.goes (g.met.C.Steady.fit_ready s.pair.second.copy old (s.second_ready (e.acted.alive now)))) in
+    by_result c.look-done.result e.seen e.err stays where
+      by_result : (d : Result Look LookNo) → IfOk d (λ look. WasSeen g.C.Copying.count g.C.Copying.room g.C.Copying.room_most g.C.Copying.ready g.C.Copying.reads g.C.Copying.rests g.P.Plant.tells Ckpt2 (g.P.Plant.view c.look-done.new.plant) c.args.self.now.pair.second.copy c.look-done.new.self.second.copy c.look-done.new.self.second.alive look)
+          → OnErr d (c.look-done.new.self.second ≡ c.args.self.now.pair.second) → g.C.Steady.fits c.args.self.now.pair.second.copy (g.P.Plant.view c.look-done.new.plant) ≡ true → g.C.Steady.fits c.look-done.new.self.second.copy (g.P.Plant.view c.look-done.new.plant) ≡ true
+      by_result (Ok Lost) seen err stays = absurd (no c.look-done.new.self.second.alive now seen.is_dead)
+      by_result (Ok Unread) seen err stays = rw seen.copy stays
+      by_result (Ok (Pages pages)) seen err stays = g.met.C.Steady.ready_fit c.look-done.new.self.second.copy (g.P.Plant.view c.look-done.new.plant) seen.is_ready
+      by_result (Err x) seen err stays = rw err stays
+
+pub returns-clause-next : goal.returns-clause-next
+returns-clause-next g c =
+    by_result c.look-done.result refl where
+      by_result : (d : Result Look LookNo) → c.look-done.result ≡ d → IfOk d (λ look. g.P.Plant.tells → HasNext (run c.args.self.now.base (kept_all c.args.self.now.journal.batches ++ entries_in c.args.self.now.current)) c.args.self.now.level c.place_seen-self.result look)
+      by_result (Ok Lost) is = λ told. tt
+      by_result (Ok Unread) is = λ told. tt
+      by_result (Err x) is = tt
+      by_result (Ok (Pages pages)) is = λ told opened.
+          let s = c.args.self.now in
+          let C = g.C.Copying in
+          let S : Setting = setting C.reads s.base s.since in
+          let first = copy_of (C.rests s.pair.first.copy) (C.holds s.pair.first.copy) s.pair.first.alive s.first in
+          let second = copy_of (C.rests s.pair.second.copy) (C.holds s.pair.second.copy) s.pair.second.alive s.second in
+          let old = g.P.Plant.view s.plant in
+          let new = g.P.Plant.view c.look-done.new.plant in
+          let p = c.look-done.new.self in
+          let first' = copy_of (C.rests p.first.copy) (C.holds p.first.copy) p.first.alive s.first in
+          let second' = copy_of (C.rests p.second.copy) (C.holds p.second.copy) p.second.alive c.place_seen-self.result in
+          let K = kept_all s.journal.batches in
+          let F = entries_in s.current in
+          let e = c.look-done.ensures in (
+            ∥∥₁_elim (s.kept told) (Coded-set coded_ℕ _ _) (λ kk. (look_next S s.level K F Ckpt2 old new second.rests second.holds second.place second'.place second.alive second'.alive C.count C.room C.room_most C.ready C.rests C.holds s.pair.second.copy p.second.copy kk.second_at e.acted.goes e.acted.alive (λ dead. ap g.P.Plant.view (e.idle dead)) (e.gone told) g.P.Plant.tells told (λ l. g.met.P.Plant.there c.look-done.new.plant told Ckpt2 l) c.look-done.result (e.during told) e.seen c.place_seen-self.ensures (λ pages d r. g.met.C.Copying.rests_reads s.pair.second.copy pages d r) (λ was next d r. g.met.C.Copying.holds_reads s.pair.second.copy was next d r) (λ pages d r. g.met.C.Copying.rests_reads p.second.copy pages d r) pages is opened).at_level),
+            ∥∥₁_map (s.kept told) (λ kk. (look_next S s.level K F Ckpt2 old new second.rests second.holds second.place second'.place second.alive second'.alive C.count C.room C.room_most C.ready C.rests C.holds s.pair.second.copy p.second.copy kk.second_at e.acted.goes e.acted.alive (λ dead. ap g.P.Plant.view (e.idle dead)) (e.gone told) g.P.Plant.tells told (λ l. g.met.P.Plant.there c.look-done.new.plant told Ckpt2 l) c.look-done.result (e.during told) e.seen c.place_seen-self.ensures (λ pages d r. g.met.C.Copying.rests_reads s.pair.second.copy pages d r) (λ was next d r. g.met.C.Copying.holds_reads s.pair.second.copy was next d r) (λ pages d r. g.met.C.Copying.rests_reads p.second.copy pages d r) pages is opened).queue),
+          )

@@ -1,0 +1,40 @@
+-- Whether a copy's pages fit those that were found.
+use Rattle.std.specs.Prelude.{ℕ, ◌+◌, ◌==◌, ◌&&◌, ◌||◌, nat_le, if◌then◌else◌, Bool, true, false, List, [], ◌∷◌}
+use Rattle.std.specs.Str.{bytes_eq}
+use Rattle.mas_types.specs.declared.ids.Page.{Page}
+use Rattle.mas_complex.specs.declared.places.Place.{Place}
+use Rattle.mas_complex.specs.declared.places.Place.TheVariants.{Before}
+use Rattle.ckpt_copy.specs.Pages.{bytes_of, level}
+use Rattle.ckpt_pages.specs.Shape.{level_in}
+
+-- page by page they are equal
+abbrev pub are_same : List Page → List Page → Bool
+are_same [] [] = true
+are_same (x ∷ xs) (y ∷ ys) = bytes_eq x.0 y.0 && are_same xs ys
+are_same _ _ = false
+
+abbrev pub first_page : List Page → List ℕ
+first_page [] = []
+first_page (page ∷ pages) = page.0
+
+-- from page p on each is equal, or has this level, as page 0 gives it
+abbrev pub differ_at : List ℕ → ℕ → ℕ → List Page → List Page → Bool
+differ_at page0 reached p [] [] = true
+differ_at page0 reached p (x ∷ xs) (y ∷ ys) = (bytes_eq x.0 y.0 || (level_in page0 p == reached)) && differ_at page0 reached (p + 1) xs ys
+differ_at page0 reached p _ _ = false
+
+-- Another copy's pages fit those found: they are equal, or their level is one less, they differ only in pages of the
+-- found level, and the copy has room for a put.
+abbrev pub fits : List Page → List Page → ℕ → Bool
+fits found other room =
+    if level (bytes_of other) == level (bytes_of found) then are_same found other
+    else (level (bytes_of other) + 1 == level (bytes_of found)) && (nat_le 1 room && differ_at (first_page found) (level (bytes_of found)) 0 found other)
+
+abbrev pub is_before : Place → Bool
+is_before Before = true
+is_before _ = false
+
+-- such a copy stays beside those pages, unless it isn't as before the batch in flight though its level is the lower one
+abbrev pub can_stay : Place → ℕ → List Page → List Page → Bool
+can_stay place room found other =
+    if level (bytes_of other) == level (bytes_of found) then fits found other room else is_before place && fits found other room

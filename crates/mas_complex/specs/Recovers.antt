@@ -1,0 +1,17 @@
+-- Why nothing is recovered.
+use Rattle.duplex_pair.specs.declared.errors.PairNo.{PairNo}
+use Rattle.duplex_pair.specs.declared.errors.PairNo.TheVariants.{BothLost as PairBothLost, Halted as PairHalted}
+use Rattle.duplex_pair.specs.declared.errors.LookNo.{LookNo}
+use Rattle.duplex_pair.specs.declared.errors.LookNo.TheVariants.{Halted as LookHalted, NoMemory as LookNoMemory}
+use Rattle.mas_complex.specs.declared.recover.RecoverNo.{RecoverNo}
+use Rattle.mas_complex.specs.declared.recover.RecoverNo.TheVariants.{BothLost, Halted, NoMemory}
+
+-- where a look was answered so
+abbrev pub recover_no_seen : LookNo → RecoverNo
+recover_no_seen LookHalted = Halted
+recover_no_seen LookNoMemory = NoMemory
+
+-- where a call on the pair was
+abbrev pub recover_no : PairNo → RecoverNo
+recover_no PairBothLost = BothLost
+recover_no PairHalted = Halted

@@ -1,0 +1,85 @@
+-- How far the batch in flight has come on a copy that was looked at.
+use Rattle.std.specs.Prelude.{◌≡◌, ◌≢◌, ◌⊎◌, ℕ, ◌+◌, ◌≤◌, ◌==◌, if◌then◌else◌, Bool, true, false, List, length, Option, Some, None, Result, Ok, Err}
+use Rattle.mas_types.specs.declared.ids.Page.{Page}
+use Rattle.mas_types.specs.declared.journals.Batch.{Batch}
+use Rattle.mas_types.specs.declared.journals.Fate.TheVariants.{Kept, Dropped}
+use Rattle.mas_types.specs.declared.queues.Queue.{Queue}
+use Rattle.mas_types.specs.Limits.{pages_most}
+use Rattle.ckpt_copy.specs.Pages.{bytes_of, level}
+use Rattle.duplex_pair.specs.declared.errors.Look.{Look}
+use Rattle.duplex_pair.specs.declared.errors.Look.TheVariants.{Lost, Unread, Pages}
+use Rattle.duplex_pair.specs.declared.errors.LookNo.{LookNo}
+use Rattle.mas_complex.specs.Meaning.{StandFor}
+use Rattle.mas_complex.specs.declared.places.Place.{Place}
+use Rattle.mas_complex.specs.declared.places.Place.TheVariants.{Before, Opened, Unsure}
+use Rattle.mas_complex.specs.Journals.{with_last, fated}
+use Rattle.mas_complex.specs.Places.{IsAtLevel}
+
+-- pages of the level reached don't have the batch, others do; without pages it isn't known
+abbrev pub IsPlaceSeen : Result Look LookNo → ℕ → Place → Type 0
+IsPlaceSeen (Ok Lost) reached place = place ≡ Unsure
+IsPlaceSeen (Ok Unread) reached place = place ≡ Unsure
+IsPlaceSeen (Ok (Pages pages)) reached place = IsAtLevel (level (bytes_of pages)) reached place
+IsPlaceSeen (Err why) reached place = place ≡ Unsure
+
+-- pages with the batch in flight are those of the level after the one reached
+abbrev pub HasNext : Queue → ℕ → Place → Look → Type 0
+HasNext queue reached place Lost = Unit {0}
+HasNext queue reached place Unread = Unit {0}
+HasNext queue reached place (Pages pages) = place ≡ Opened → (level (bytes_of pages) ≡ reached + 1) × ∥ StandFor queue (bytes_of pages) ∥₁
+
+-- A copy that was looked at has these pages, and so many: how far the batch has come on it, and what the pages stand for
+-- where they have it.
+pub record OneSeen (queue : Queue) (tells : Type 0) (reached : ℕ) (alive : Bool) (count : ℕ) (place : Place) (pages : List Page) : Type 0 where
+  pub is_alive : alive ≡ true
+  pub as_many : length pages ≡ count
+  pub few : count ≤ pages_most
+  pub some : 1 ≤ count
+  pub at : IsAtLevel (level (bytes_of pages)) reached place
+  pub next : tells → HasNext queue reached place (Pages pages)
+
+-- one that has none counts as lost
+abbrev pub IsOneSeen : Queue → Type 0 → ℕ → Bool → ℕ → Place → Option (List Page) → Type 0
+IsOneSeen queue tells reached alive count place None = alive ≡ false
+IsOneSeen queue tells reached alive count place (Some pages) = OneSeen queue tells reached alive count place pages
+
+-- the bytes of a device read as the pages that were seen on it
+abbrev pub ReadsSeen : (List ℕ → Option (List ℕ)) → List ℕ → Option (List Page) → Type 0
+ReadsSeen reads bytes None = Unit {0}
+ReadsSeen reads bytes (Some pages) = reads bytes ≡ Some (bytes_of pages)
+
+-- A copy that was looked at stays: it has the pages found, or it is as before the batch that they have, and has room.
+abbrev pub Stays : Place → ℕ → List Page → List Page → Type 0
+Stays place room found other = (length found ≡ length other) × (((level (bytes_of other) ≡ level (bytes_of found)) × (bytes_of other ≡ bytes_of found)) ⊎ ((place ≡ Before) × (level (bytes_of found) ≡ level (bytes_of other) + 1) × (1 ≤ room)))
+
+-- it has the pages found
+abbrev pub HasFound : (List ℕ → Option (List ℕ)) → Type 0 → ℕ → Place → List ℕ → List Page → Type 0
+HasFound reads tells reached place bytes found = IsAtLevel (level (bytes_of found)) reached place × (tells → reads bytes ≡ Some (bytes_of found))
+
+-- or lags one batch behind them
+abbrev pub IsBehind : ℕ → ℕ → Place → List Page → Type 0
+IsBehind reached room place found = (place ≡ Before) × (level (bytes_of found) ≡ reached + 1) × (1 ≤ room)
+
+-- a copy of so many pages, once pages were found
+pub record Agrees (reads : List ℕ → Option (List ℕ)) (tells : Type 0) (reached count room : ℕ) (place : Place) (bytes : List ℕ) (found : List Page) : Type 0 where
+  pub as_many : length found ≡ count
+  pub has : HasFound reads tells reached place bytes found ⊎ IsBehind reached room place found
+
+-- the pages with the batch in flight have the next level, and stand for the queue with it
+abbrev pub IsNextOr : Queue → ℕ → List Page → Type 0
+IsNextOr queue reached found = level (bytes_of found) ≢ reached → (level (bytes_of found) ≡ reached + 1) × ∥ StandFor queue (bytes_of found) ∥₁
+
+-- the pages found on two copies: one that counts as alive has them, and the other agrees
+pub record Chosen (reads : List ℕ → Option (List ℕ)) (tells : Type 0) (queue : Queue) (reached : ℕ) (alive1 : Bool) (count1 room1 : ℕ) (place1 : Place) (bytes1 : List ℕ) (alive2 : Bool) (count2 room2 : ℕ) (place2 : Place) (bytes2 : List ℕ) (found : List Page) : Type 0 where
+  pub first : alive1 ≡ true → Agrees reads tells reached count1 room1 place1 bytes1 found
+  pub second : alive2 ≡ true → Agrees reads tells reached count2 room2 place2 bytes2 found
+  pub one : ((alive1 ≡ true) × HasFound reads tells reached place1 bytes1 found) ⊎ ((alive2 ≡ true) × HasFound reads tells reached place2 bytes2 found)
+  pub next : tells → IsNextOr queue reached found
+  pub some : 1 ≤ length found
+  pub few : length found ≤ pages_most
+
+-- The batch in flight has its fate since this moment: it is kept where the pages found have another level than the kept
+-- ones had, and else it is dropped. Without one the journal is as it was.
+abbrev pub IsFatedBy : ℕ → ℕ → ℕ → Option Batch → List Batch → List Batch → Type 0
+IsFatedBy found reached now None was is = is ≡ was
+IsFatedBy found reached now (Some b) was is = is ≡ with_last (fated (if found == reached then Dropped else Kept) now b) was

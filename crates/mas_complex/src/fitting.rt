@@ -1,0 +1,62 @@
+//! Whether the pages of two copies fit each other.
+ghost use Rattle.std.specs.Prelude.{◌≡◌, ◌≤◌, length, get_or};
+ghost use Rattle.std.specs.Str.{bytes_eq};
+ghost use Rattle.mas_types.specs.Limits.{pages_most};
+ghost use Rattle.mas_complex.specs.Fits.{are_same, differ_at, first_page, fits as fits_spec};
+
+use ckpt_pages::level_of;
+use duplex_pair::pages_level;
+use mas_types::Page;
+
+fn is_same_page(a: &Page, b: &Page) -> bool
+    ensures { result ≡ bytes_eq a.now.0 b.now.0 }
+{
+    a.0 == b.0
+}
+
+fn same_pages(found: &[Page], other: &[Page]) -> bool
+    ensures { result ≡ are_same found.now other.now }
+{
+    if found.len() != other.len() {
+        return false;
+    }
+    for page in 0..found.len() {
+        if !is_same_page(&found[page], &other[page]) {
+            return false;
+        }
+    }
+    true
+}
+
+// They differ only in pages of this level, as the first of them gives it.
+fn differ_only_at(found: &[Page], other: &[Page], reached: u64) -> bool
+    requires few { length found.now ≤ pages_most }
+    ensures { result ≡ differ_at (first_page found.now) reached 0 found.now other.now }
+{
+    if found.len() != other.len() {
+        return false;
+    }
+    for page in 0..found.len() {
+        if !is_same_page(&found[page], &other[page])
+            && level_of(&found[0], page as u16) != reached
+        {
+            return false;
+        }
+    }
+    true
+}
+
+/// Whether another copy's pages fit those that were found: they are the same, or their level is one less, they differ only
+/// in pages that have the found level, and the copy has room for a put. A copy that doesn't fit counts as one that can't
+/// be read.
+pub fn fits(found: &[Page], other: &[Page], room: u8) -> bool
+    requires few { length found.now ≤ pages_most }
+    ensures { result ≡ fits_spec found.now other.now room }
+{
+    let reached = pages_level(found);
+    let lower = pages_level(other);
+    if lower == reached {
+        return same_pages(found, other);
+    }
+    reached > 0 && lower == reached - 1 && room >= 1 && differ_only_at(found, other, reached)
+}

@@ -1,0 +1,309 @@
+//! What became of a batch in flight is found on the copies.
+ghost use Rattle.std.specs.Prelude.{◌≡◌, ◌≢◌, ◌⊎◌, ◌+◌, ◌≤◌, ◌<◌, ◌++◌, [], ◌∷◌, ℕ, List, Option, Some, None, length, true, false, OnOk, OnErr, IfOk, IfSome, IsErrOf, IsSome};
+ghost use Rattle.mas_types.specs.declared.ids.Dev.{Dev};
+ghost use Rattle.mas_types.specs.declared.ids.Dev.TheVariants.{Ckpt1, Ckpt2};
+ghost use Rattle.mas_types.specs.declared.journals.Batch.{Batch};
+ghost use Rattle.mas_types.specs.Limits.{pages_most};
+ghost use Rattle.spool_disk.specs.View.{View, disk_now};
+ghost use Rattle.spool_disk.specs.Acts.{Goes, Rose, top};
+ghost use Rattle.ckpt_copy.specs.Pages.{bytes_of, level};
+ghost use Rattle.duplex_pair.specs.declared.errors.PairNo.TheVariants.{Halted as PairNoHalted, BothLost as PairNoBothLost};
+ghost use Rattle.duplex_pair.specs.Halves.{IsCkpt, pick, other, Acted, IsBothLost, SomeAlive};
+ghost use Rattle.duplex_pair.specs.Outcomes.{pair_stopped};
+ghost use Rattle.mas_complex.specs.declared.places.Place.TheVariants.{Before as AtBefore, Opened as AtOpened};
+ghost use Rattle.mas_complex.specs.declared.recover.RecoverNo.TheVariants.{BothLost as RecoverNoBothLost, Halted as RecoverNoHalted};
+ghost use Rattle.mas_complex.specs.Journals.{kept_all, entries_in};
+ghost use Rattle.mas_complex.specs.Meaning.{StandFor, run};
+ghost use Rattle.mas_complex.specs.Places.{IsAtLevel};
+ghost use Rattle.mas_complex.specs.Seen.{IsOneSeen, ReadsSeen, Stays, HasFound, Chosen, IsNextOr, IsFatedBy};
+ghost use Rattle.mas_complex.specs.Recovers.{recover_no, recover_no_seen};
+ghost use Rattle.mas_complex.specs.Fits.{can_stay};
+
+use crate::complex::Complex;
+use crate::fitting::fits;
+use crate::places::Place;
+use crate::steady::Steady;
+use duplex_pair::{LookNo, PairNo, first_numbers, page_numbers, pages_level};
+use mas_types::{Dev, List, MemberId, Page};
+use spool_disk::Plant;
+use std::alloc::Global;
+use thiserror::Error;
+
+/// Why nothing was recovered. A batch in flight still is.
+#[derive(Clone, Copy, Debug, PartialEq, Eq, Error)]
+pub enum RecoverNo {
+    /// Both copies count as lost at the end of the call.
+    #[error("both copies are lost")]
+    BothLost,
+    /// The member was stopped inside the call: its count of stops rose.
+    #[error("the member was stopped")]
+    Halted,
+    /// There was no memory for the pages.
+    #[error("no memory")]
+    NoMemory,
+}
+
+impl From<LookNo> for RecoverNo {
+    ghost from_gives = { λ no e. e ≡ recover_no_seen no };
+
+    fn from(no: LookNo) -> RecoverNo {
+        match no {
+            LookNo::Halted => RecoverNo::Halted,
+            LookNo::NoMemory => RecoverNo::NoMemory,
+        }
+    }
+}
+
+impl From<PairNo> for RecoverNo {
+    ghost from_gives = { λ no e. e ≡ recover_no no };
+
+    fn from(no: PairNo) -> RecoverNo {
+        match no {
+            PairNo::BothLost => RecoverNo::BothLost,
+            PairNo::Halted => RecoverNo::Halted,
+        }
+    }
+}
+
+// A copy with these pages, which isn't lost, stays beside those found: it has them, or is one batch behind and has room.
+#[tactic(auto, using(crate::proofs::Fitted::fits_many))]
+fn may_stay(place: Place, room: u8, found: &[Page], other: &[Page]) -> bool
+    requires few { length found.now ≤ pages_most }
+    ensures stays { result ≡ true → Stays place room found.now other.now }
+    ensures fits { result ≡ can_stay place room found.now other.now }
+{
+    if pages_level(other) == pages_level(found) {
+        return fits(found, other, room);
+    }
+    matches!(place, Place::Before) && fits(found, other, room)
+}
+
+impl<P: Plant + Drop, C: Steady + Drop> Complex<P, C> {
+    fn lose_unless(&mut self, dev: Dev, stays: bool)
+        requires ckpt { IsCkpt dev }
+        ensures base { self.new.base ≡ self.old.base }
+        ensures since { self.new.since ≡ self.old.since }
+        ensures journal { self.new.journal ≡ self.old.journal }
+        ensures current { self.new.current ≡ self.old.current }
+        ensures reserved { self.new.reserved ≡ self.old.reserved }
+        ensures placed { self.new.placed ≡ self.old.placed }
+        ensures level { self.new.level ≡ self.old.level }
+        ensures first { self.new.first ≡ self.old.first }
+        ensures second { self.new.second ≡ self.old.second }
+        ensures other { other dev self.new.pair.first self.new.pair.second ≡ other dev self.old.pair.first self.old.pair.second }
+        ensures lost { stays ≡ false → (pick dev self.new.pair.first self.new.pair.second).alive ≡ false }
+        ensures stays { stays ≡ true → pick dev self.new.pair.first self.new.pair.second ≡ pick dev self.old.pair.first self.old.pair.second }
+        ensures goes { Goes (P.view self.old.plant) (P.view self.new.plant) }
+        ensures bytes { P.tells → (d : Dev) → (disk_now (P.view self.new.plant) d).bytes ≡ (disk_now (P.view self.old.plant) d).bytes }
+    {
+        if !stays {
+            self.lose(dev);
+        }
+    }
+
+    // The pages of greater level, those of CKPT1 on a tie. The other copy is lost where it may not stay beside them.
+    fn choose(&mut self, first: List<Page>, second: List<Page>) -> List<Page>
+        requires first { IsOneSeen (run self.old.base (kept_all self.old.journal.batches ++ entries_in self.old.current)) P.tells self.old.level self.old.pair.first.alive (C.count self.old.pair.first.copy) self.old.first (Some first) }
+        requires second { IsOneSeen (run self.old.base (kept_all self.old.journal.batches ++ entries_in self.old.current)) P.tells self.old.level self.old.pair.second.alive (C.count self.old.pair.second.copy) self.old.second (Some second) }
+        requires reads1 { P.tells → ReadsSeen C.reads (disk_now (P.view self.old.plant) Ckpt1).bytes (Some first) }
+        requires reads2 { P.tells → ReadsSeen C.reads (disk_now (P.view self.old.plant) Ckpt2).bytes (Some second) }
+        ensures base { self.new.base ≡ self.old.base }
+        ensures since { self.new.since ≡ self.old.since }
+        ensures journal { self.new.journal ≡ self.old.journal }
+        ensures current { self.new.current ≡ self.old.current }
+        ensures reserved { self.new.reserved ≡ self.old.reserved }
+        ensures placed { self.new.placed ≡ self.old.placed }
+        ensures level { self.new.level ≡ self.old.level }
+        ensures goes { Goes (P.view self.old.plant) (P.view self.new.plant) }
+        ensures chosen { Chosen C.reads P.tells (run self.old.base (kept_all self.old.journal.batches ++ entries_in self.old.current)) self.old.level self.new.pair.first.alive (C.count self.new.pair.first.copy) (C.room self.new.pair.first.copy) self.new.first (disk_now (P.view self.new.plant) Ckpt1).bytes self.new.pair.second.alive (C.count self.new.pair.second.copy) (C.room self.new.pair.second.copy) self.new.second (disk_now (P.view self.new.plant) Ckpt2).bytes result }
+    {
+        if pages_level(first.as_slice()) < pages_level(second.as_slice()) {
+            let room = self.pair.first.copy.room();
+            let stays = may_stay(self.first, room, second.as_slice(), first.as_slice());
+            self.lose_unless(Dev::Ckpt1, stays);
+            return second;
+        }
+        let room = self.pair.second.copy.room();
+        let stays = may_stay(self.second, room, first.as_slice(), second.as_slice());
+        self.lose_unless(Dev::Ckpt2, stays);
+        first
+    }
+
+    // The pages found where a copy has some.
+    fn choose_any(
+        &mut self,
+        first: Option<List<Page>>,
+        second: Option<List<Page>>,
+    ) -> Option<List<Page>>
+        requires first { IsOneSeen (run self.old.base (kept_all self.old.journal.batches ++ entries_in self.old.current)) P.tells self.old.level self.old.pair.first.alive (C.count self.old.pair.first.copy) self.old.first first }
+        requires second { IsOneSeen (run self.old.base (kept_all self.old.journal.batches ++ entries_in self.old.current)) P.tells self.old.level self.old.pair.second.alive (C.count self.old.pair.second.copy) self.old.second second }
+        requires reads1 { P.tells → ReadsSeen C.reads (disk_now (P.view self.old.plant) Ckpt1).bytes first }
+        requires reads2 { P.tells → ReadsSeen C.reads (disk_now (P.view self.old.plant) Ckpt2).bytes second }
+        ensures base { self.new.base ≡ self.old.base }
+        ensures since { self.new.since ≡ self.old.since }
+        ensures journal { self.new.journal ≡ self.old.journal }
+        ensures current { self.new.current ≡ self.old.current }
+        ensures reserved { self.new.reserved ≡ self.old.reserved }
+        ensures placed { self.new.placed ≡ self.old.placed }
+        ensures level { self.new.level ≡ self.old.level }
+        ensures goes { Goes (P.view self.old.plant) (P.view self.new.plant) }
+        ensures none { result ≡ None → IsBothLost self.new.pair.first.alive self.new.pair.second.alive }
+        ensures chosen { IfSome result (λ found. Chosen C.reads P.tells (run self.old.base (kept_all self.old.journal.batches ++ entries_in self.old.current)) self.old.level self.new.pair.first.alive (C.count self.new.pair.first.copy) (C.room self.new.pair.first.copy) self.new.first (disk_now (P.view self.new.plant) Ckpt1).bytes self.new.pair.second.alive (C.count self.new.pair.second.copy) (C.room self.new.pair.second.copy) self.new.second (disk_now (P.view self.new.plant) Ckpt2).bytes found) }
+    {
+        match (first, second) {
+            (Some(first), Some(second)) => Some(self.choose(first, second)),
+            (Some(first), None) => Some(first),
+            (None, second) => second,
+        }
+    }
+
+    // One copy, which is one batch behind these pages, gets them.
+    fn bring_copy(&mut self, by: MemberId, dev: Dev, found: &[Page]) -> Result<(), PairNo>
+        requires ckpt { IsCkpt dev }
+        requires alive { (pick dev self.old.pair.first self.old.pair.second).alive ≡ true }
+        requires place { pick dev self.old.first self.old.second ≡ AtBefore }
+        requires room { 1 ≤ C.room (pick dev self.old.pair.first self.old.pair.second).copy }
+        requires as_many { length found.now ≡ C.count (pick dev self.old.pair.first self.old.pair.second).copy }
+        requires some { 1 ≤ length found.now }
+        requires few { length found.now ≤ pages_most }
+        requires next { P.tells → IsNextOr (run self.old.base (kept_all self.old.journal.batches ++ entries_in self.old.current)) self.old.level found.now }
+        requires level { level (bytes_of found.now) ≡ self.old.level + 1 }
+        ensures base { self.new.base ≡ self.old.base }
+        ensures since { self.new.since ≡ self.old.since }
+        ensures journal { self.new.journal ≡ self.old.journal }
+        ensures current { self.new.current ≡ self.old.current }
+        ensures reserved { self.new.reserved ≡ self.old.reserved }
+        ensures placed { self.new.placed ≡ self.old.placed }
+        ensures level { self.new.level ≡ self.old.level }
+        ensures acted { Acted by.0 dev (pick dev self.old.pair.first self.old.pair.second).alive (pick dev self.new.pair.first self.new.pair.second).alive (pair_stopped result) (P.view self.old.plant) (P.view self.new.plant) }
+        ensures other_place { other dev self.new.first self.new.second ≡ other dev self.old.first self.old.second }
+        ensures other { other dev self.new.pair.first self.new.pair.second ≡ other dev self.old.pair.first self.old.pair.second }
+        ensures count { C.count (pick dev self.new.pair.first self.new.pair.second).copy ≡ C.count (pick dev self.old.pair.first self.old.pair.second).copy }
+        ensures place { OnOk result (pick dev self.new.first self.new.second ≡ AtOpened) }
+        ensures reads { OnOk result (P.tells → (pick dev self.new.pair.first self.new.pair.second).alive ≡ true → C.reads (disk_now (P.view self.new.plant) dev).bytes ≡ Some (bytes_of found.now)) }
+        ensures others { P.tells → (d : Dev) → d ≢ dev → (disk_now (P.view self.new.plant) d).bytes ≡ (disk_now (P.view self.old.plant) d).bytes }
+        ensures both { IsErrOf result PairNoBothLost → IsBothLost self.new.pair.first.alive self.new.pair.second.alive }
+        ensures ok { OnOk result (SomeAlive self.new.pair.first.alive self.new.pair.second.alive) }
+    {
+        let numbers = page_numbers();
+        let all = first_numbers(&numbers, found.len() as u16);
+        self.put_on(by, dev, found, all)?;
+        self.open_on(by, dev)
+    }
+
+    // Each copy that counts as alive gets the pages found.
+    fn bring(&mut self, by: MemberId, found: &[Page]) -> Result<(), PairNo>
+        requires chosen { Chosen C.reads P.tells (run self.old.base (kept_all self.old.journal.batches ++ entries_in self.old.current)) self.old.level self.old.pair.first.alive (C.count self.old.pair.first.copy) (C.room self.old.pair.first.copy) self.old.first (disk_now (P.view self.old.plant) Ckpt1).bytes self.old.pair.second.alive (C.count self.old.pair.second.copy) (C.room self.old.pair.second.copy) self.old.second (disk_now (P.view self.old.plant) Ckpt2).bytes found.now }
+        ensures base { self.new.base ≡ self.old.base }
+        ensures since { self.new.since ≡ self.old.since }
+        ensures journal { self.new.journal ≡ self.old.journal }
+        ensures current { self.new.current ≡ self.old.current }
+        ensures reserved { self.new.reserved ≡ self.old.reserved }
+        ensures placed { self.new.placed ≡ self.old.placed }
+        ensures level { self.new.level ≡ self.old.level }
+        ensures goes { Goes (P.view self.old.plant) (P.view self.new.plant) }
+        ensures halted { IsErrOf result PairNoHalted → Rose ((P.view self.old.plant).stops by.0) ((P.view self.new.plant).stops by.0) }
+        ensures both { IsErrOf result PairNoBothLost → IsBothLost self.new.pair.first.alive self.new.pair.second.alive }
+        ensures ok { OnOk result (SomeAlive self.new.pair.first.alive self.new.pair.second.alive) }
+        ensures as_many1 { self.new.pair.first.alive ≡ true → length found.now ≡ C.count self.new.pair.first.copy }
+        ensures as_many2 { self.new.pair.second.alive ≡ true → length found.now ≡ C.count self.new.pair.second.copy }
+        ensures first { OnOk result (self.new.pair.first.alive ≡ true → HasFound C.reads P.tells self.old.level self.new.first (disk_now (P.view self.new.plant) Ckpt1).bytes found.now) }
+        ensures second { OnOk result (self.new.pair.second.alive ≡ true → HasFound C.reads P.tells self.old.level self.new.second (disk_now (P.view self.new.plant) Ckpt2).bytes found.now) }
+    {
+        if pages_level(found) == self.level {
+            return Ok(());
+        }
+        if self.pair.first.alive && matches!(self.first, Place::Before) {
+            return self.bring_copy(by, Dev::Ckpt1, found);
+        }
+        if self.pair.second.alive && matches!(self.second, Place::Before) {
+            return self.bring_copy(by, Dev::Ckpt2, found);
+        }
+        Ok(())
+    }
+
+    // The pages with this level are kept, though no batch is in flight.
+    fn rise(&mut self, reached: u64)
+        requires none { self.old.current ≡ None }
+        requires next { P.tells → reached ≡ self.old.level + 1 }
+        requires first { self.old.pair.first.alive ≡ true → self.old.first ≡ AtOpened }
+        requires second { self.old.pair.second.alive ≡ true → self.old.second ≡ AtOpened }
+        ensures plant { self.new.plant ≡ self.old.plant }
+        ensures pair { self.new.pair ≡ self.old.pair }
+        ensures base { self.new.base ≡ self.old.base }
+        ensures since { self.new.since ≡ self.old.since }
+        ensures journal { self.new.journal ≡ self.old.journal }
+        ensures current { self.new.current ≡ self.old.current }
+        ensures reserved { self.new.reserved ≡ self.old.reserved }
+        ensures placed { self.new.placed ≡ self.old.placed }
+        ensures still { (self.new.first ≡ AtBefore) × (self.new.second ≡ AtBefore) }
+        ensures level { self.new.level ≡ reached }
+    {
+        self.first = Place::Before;
+        self.second = Place::Before;
+        self.level = reached;
+    }
+
+    // The batch in flight, if there is one, gets its fate by the level of the pages that the copies have.
+    fn give_fate(&mut self, reached: u64)
+        requires next { P.tells → reached ≢ self.old.level → reached ≡ self.old.level + 1 }
+        requires first { self.old.pair.first.alive ≡ true → IsAtLevel reached self.old.level self.old.first }
+        requires second { self.old.pair.second.alive ≡ true → IsAtLevel reached self.old.level self.old.second }
+        ensures plant { self.new.plant ≡ self.old.plant }
+        ensures pair { self.new.pair ≡ self.old.pair }
+        ensures base { self.new.base ≡ self.old.base }
+        ensures since { self.new.since ≡ self.old.since }
+        ensures reserved { self.new.reserved ≡ self.old.reserved }
+        ensures fated { IsFatedBy reached self.old.level (P.view self.old.plant).now self.old.current self.old.journal.batches self.new.journal.batches }
+        ensures none { self.new.current ≡ None }
+        ensures first { self.new.pair.first.alive ≡ true → self.new.first ≡ AtBefore }
+        ensures second { self.new.pair.second.alive ≡ true → self.new.second ≡ AtBefore }
+        ensures level { self.new.level ≡ reached }
+    {
+        let in_flight = self.current.is_some();
+        match (reached == self.level, in_flight) {
+            (true, true) => self.drop_batch(),
+            (true, false) => {}
+            (false, true) => self.keep(reached),
+            (false, false) => self.rise(reached),
+        }
+    }
+
+    /// Finds out what became of a batch in flight: syncs and reads both copies, brings the one that lags up to the other, and
+    /// hands back the pages that both then have. The batch is kept where the pages have it, and else it is dropped; one that
+    /// is reserved and hasn't begun is given up. The pages are those of greatest level, those of CKPT1 on a tie. A copy that
+    /// can't be read, or whose pages don't fit them, is lost.
+    ///
+    /// BothLost comes only where both copies count as lost at the end of the call, Halted only where the member was stopped
+    /// in it. After an error a batch in flight still is.
+    pub fn recover(&mut self, alloc: Global, by: MemberId) -> Result<List<Page>, RecoverNo>
+        ensures base { self.new.base ≡ self.old.base }
+        ensures since { self.new.since ≡ self.old.since }
+        ensures reserved { self.new.reserved ≡ None }
+        ensures goes { Goes (P.view self.old.plant) (P.view self.new.plant) }
+        ensures halted { IsErrOf result RecoverNoHalted → Rose ((P.view self.old.plant).stops by.0) ((P.view self.new.plant).stops by.0) }
+        ensures both { IsErrOf result RecoverNoBothLost → IsBothLost self.new.pair.first.alive self.new.pair.second.alive }
+        ensures err { OnErr result ((self.new.journal ≡ self.old.journal) × (self.new.current ≡ self.old.current) × (self.new.level ≡ self.old.level)) }
+        ensures ok { OnOk result (SomeAlive self.new.pair.first.alive self.new.pair.second.alive) }
+        ensures none { OnOk result (self.new.current ≡ None) }
+        ensures fated { IfOk result (λ found. IsFatedBy (level (bytes_of found)) self.old.level (P.view self.new.plant).now self.old.current self.old.journal.batches self.new.journal.batches) }
+        ensures level { IfOk result (λ found. self.new.level ≡ level (bytes_of found)) }
+        ensures first { OnOk result (self.new.pair.first.alive ≡ true → self.new.first ≡ AtBefore) }
+        ensures second { OnOk result (self.new.pair.second.alive ≡ true → self.new.second ≡ AtBefore) }
+        ensures as_many1 { IfOk result (λ found. self.new.pair.first.alive ≡ true → length found ≡ C.count self.new.pair.first.copy) }
+        ensures as_many2 { IfOk result (λ found. self.new.pair.second.alive ≡ true → length found ≡ C.count self.new.pair.second.copy) }
+        ensures reads1 { IfOk result (λ found. P.tells → self.new.pair.first.alive ≡ true → C.reads (disk_now (P.view self.new.plant) Ckpt1).bytes ≡ Some (bytes_of found)) }
+        ensures reads2 { IfOk result (λ found. P.tells → self.new.pair.second.alive ≡ true → C.reads (disk_now (P.view self.new.plant) Ckpt2).bytes ≡ Some (bytes_of found)) }
+        ensures stands { IfOk result (λ found. P.tells → ∥ StandFor (run self.new.base (kept_all self.new.journal.batches)) (bytes_of found) ∥₁) }
+    {
+        self.reserved = None;
+        let first = self.see_first(alloc, by)?;
+        let second = self.see_second(alloc, by)?;
+        let Some(found) = self.choose_any(first, second) else {
+            return Err(RecoverNo::BothLost);
+        };
+        self.bring(by, found.as_slice())?;
+        self.give_fate(pages_level(found.as_slice()));
+        Ok(found)
+    }
+}
