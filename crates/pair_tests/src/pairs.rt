@@ -13,19 +13,19 @@ use spool_disk::{MemPlant, Part, Plant, Sizes};
 use std::alloc::Global;
 use std::test::Fail;
 
-const OPERATOR: MemberId = MemberId(0);
+pub(crate) const OPERATOR: MemberId = MemberId(0);
 
-const MEMBER: MemberId = MemberId(1);
+pub(crate) const MEMBER: MemberId = MemberId(1);
 
 // Room for two areas of six pages on each device.
-const SIZES: Sizes = Sizes {
+pub(crate) const SIZES: Sizes = Sizes {
     ckpt: 4096 * 13,
     volumes: 0,
     volume: 0,
 };
 
 // Six pages: page 0 has the level, every other its number in each byte.
-fn pages(alloc: Global, level: u8) -> Result<List<Page>, NoMemory>
+pub(crate) fn pages(alloc: Global, level: u8) -> Result<List<Page>, NoMemory>
     ensures { IfOk result (λ pages. length pages ≡ 6) }
 {
     let mut pages = List::new(alloc);
