@@ -56,6 +56,10 @@ module _ (closes : List ℕ → MemberId → ℕ → Type 0) (P : MemberId → �
   one_tells : (lines : List Line) (line : Line) → EachTells closes lines P → Contains lines line → Tells line
   one_tells lines line tells there = subst Tells there.2 (all_tell lines tells there.0 line there.1)
 
+-- a moment below the greatest is as the world shows it
+pub left_below : (v : View) (t : ℕ) (dev : Dev) → t < top → left_at v t dev ≡ disk_at v t dev
+left_below v t dev lt = ap (λ (b : Bool). lost_if (b && v.lost (DiskPart dev)) (disk_at v t dev)) (ne_eqb t top (λ e. absurd (omega (arith, e, lt))))
+
 module _ (reads : List ℕ → Option (List ℕ)) (base : Queue) (since : ℕ) (js : List Batch) (c : Option Batch) (reached : ℕ) (first second : Copy) (v : View) where
   abbrev S : Setting
   S = setting reads base since
@@ -71,10 +75,6 @@ module _ (reads : List ℕ → Option (List ℕ)) (base : Queue) (since : ℕ) (
       (ap (λ (l : List Entry). l ++ flying (js ++ in_flight c) t) (kept_is (js ++ in_flight c) t) ∙ ap (λ (l : List Entry). kept_at (record { batches = js ++ in_flight c }) t ++ l) (flying_is (js ++ in_flight c) t)) q x))
       after
 
-  -- a moment below the greatest is as the world shows it
-  left_below : (t : ℕ) (dev : Dev) → t < top → left_at v t dev ≡ disk_at v t dev
-  left_below t dev lt = ap (λ (b : Bool). lost_if (b && v.lost (DiskPart dev)) (disk_at v t dev)) (ne_eqb t top (λ e. absurd (omega (arith, e, lt))))
-
   module _ (keeps : Keeps S js c reached first second v) (most : v.now ≤ top) (lost1 : first.alive ≡ false → v.lost (DiskPart Ckpt1) ≡ true) (lost2 : second.alive ≡ false → v.lost (DiskPart Ckpt2) ≡ true)
       (rests_reads1 : (pages : List ℕ) (d : Disk) → first.rests pages d → AllRead reads pages d) (holds_reads1 : (was next : List ℕ) (d : Disk) → first.holds was next d → AllRead reads was d)
       (rests_reads2 : (pages : List ℕ) (d : Disk) → second.rests pages d → AllRead reads pages d) (holds_reads2 : (was next : List ℕ) (d : Disk) → second.holds was next d → AllRead reads was d) where
@@ -88,7 +88,7 @@ module _ (reads : List ℕ → Option (List ℕ)) (base : Queue) (since : ℕ) (
     at_any t from le one two left right some = ⊎_elim
         (λ h. let last : v.now ≡ top = omega (arith, most, le, h) in let e : v.now ≡ t = omega (arith, most, le, h) in
         subst (λ (m : ℕ). IsLeft (left_at v m Ckpt1) one → IsLeft (left_at v m Ckpt2) two → IsAfter S (js ++ in_flight c) m (found S one two)) e (λ x y. at_top last one two x y some) left right)
-        (λ lt. keeps.crash t from le lt one two (subst (λ (d : Disk). IsLeft d one) (left_below t Ckpt1 lt) left) (subst (λ (d : Disk). IsLeft d two) (left_below t Ckpt2 lt) right) some)
+        (λ lt. keeps.crash t from le lt one two (subst (λ (d : Disk). IsLeft d one) (left_below v t Ckpt1 lt) left) (subst (λ (d : Disk). IsLeft d two) (left_below v t Ckpt2 lt) right) some)
         (either_way top t)
 
     pub headline_of : Headline reads base since (record { batches = js ++ in_flight c }) v

@@ -16,3 +16,4 @@ pub mod Looking
 pub mod Fitted
 pub mod Choosing
 pub mod Recovered
+pub mod First

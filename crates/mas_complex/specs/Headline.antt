@@ -30,6 +30,11 @@ IsCrashSafe reads base J since v = (t : ℕ) → since ≤ t → t ≤ v.now
     → (one two : Option (List ℕ)) → IsLeft (left_at v t Ckpt1) one → IsLeft (left_at v t Ckpt2) two → SomeLeft one two
     → IsAfterKept base J t (best (read_left reads one) (read_left reads two))
 
+-- at a moment, for each choice of images of which one is left, the pages that a start finds stand for the queue itself
+abbrev pub LeavesQueue : (List ℕ → Option (List ℕ)) → Queue → ℕ → View → Type 0
+LeavesQueue reads Q t v = (one two : Option (List ℕ)) → IsLeft (left_at v t Ckpt1) one → IsLeft (left_at v t Ckpt2) two → SomeLeft one two
+    → FoundFor Q (best (read_left reads one) (read_left reads two))
+
 abbrev pub whole : List ℕ → Line
 whole text = record { text = text; whole = true }
 

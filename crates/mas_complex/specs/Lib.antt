@@ -8,3 +8,4 @@ pub mod Elsewhere
 pub mod Seen
 pub mod Fits
 pub mod Recovers
+pub mod Locking

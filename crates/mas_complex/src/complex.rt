@@ -20,14 +20,20 @@ ghost use Rattle.mas_complex.specs.Journals.{coming, kept_all, entries_in, entri
 ghost use Rattle.mas_complex.specs.Meaning.{StandFor, run, Closes};
 ghost use Rattle.mas_complex.specs.Places.{IsPlaceAfter, all_open};
 ghost use Rattle.mas_complex.specs.Crash.{Keeps, setting, copy_of, CopyAt, IsUntold};
-ghost use Rattle.mas_complex.specs.Headline.{Headline};
+ghost use Rattle.mas_complex.specs.Headline.{Headline, LeavesQueue};
 ghost use Rattle.mas_complex.specs.Elsewhere.{Elsewhere};
+ghost use Rattle.std.specs.Prelude.{min};
+ghost use Rattle.mas_types.specs.Limits.{members_most};
+ghost use Rattle.lock_cycle.specs.Books.{new_book};
 
 use crate::journal_end::{empty_place, finished, set_last};
 use crate::places::{Place, place_after};
 use crate::steady::Steady;
 use duplex_pair::{Pair, PairNo};
-use mas_types::{Batch, Dev, Entry, Fate, Journal, List, MemberId, NoMemory, Page, Queue};
+use lock_cycle::LockBook;
+use mas_types::{
+    Batch, Config, Dev, Entry, Fate, Journal, List, MEMBERS_MOST, MemberId, NoMemory, Page, Queue,
+};
 use spool_disk::{Act, Plant};
 use std::alloc::Global;
 
@@ -46,6 +52,8 @@ pub struct Ended<P: Plant + Drop> {
 pub struct Complex<P: Plant + Drop, C: Steady + Drop> {
     pub plant: P,
     pub pair: Pair<C>,
+    /// Who holds the lock of the checkpoint, and how each member stands with it.
+    pub book: LockBook,
     pub base: Queue,
     pub since: u64,
     /// The batches that have their fates, and the place of one to come.
@@ -89,7 +97,7 @@ pub struct Complex<P: Plant + Drop, C: Steady + Drop> {
 
 impl<P: Plant + Drop, C: Steady + Drop> Complex<P, C> {
     /// A shared value of a plant and the two copies on it. Each copy that counts as alive is at rest with pages of this
-    /// level that stand for the base, and the device of one that counts as lost is lost.
+    /// level that stand for the base, and the device of one that counts as lost is lost. Nobody holds the lock.
     pub fn make(alloc: Global, plant: P, pair: Pair<C>, base: Queue, level: u64) -> Complex<P, C>
         requires ready1 { pair.first.alive ≡ true → C.ready pair.first.copy (P.view plant) }
         requires ready2 { pair.second.alive ≡ true → C.ready pair.second.copy (P.view plant) }
@@ -101,17 +109,21 @@ impl<P: Plant + Drop, C: Steady + Drop> Complex<P, C> {
         ensures pair { result.pair ≡ pair }
         ensures base { result.base ≡ base }
         ensures since { result.since ≡ (P.view plant).now }
+        ensures book { result.book ≡ new_book (min base.config.members members_most) base.config.hold base.config.dormancy }
         ensures journal { result.journal.batches ≡ [] }
         ensures placed { result.placed ≡ false }
         ensures current { result.current ≡ None }
         ensures reserved { result.reserved ≡ None }
         ensures places { (result.first ≡ AtBefore) × (result.second ≡ AtBefore) }
         ensures level { result.level ≡ level }
+        ensures fresh { P.tells → ∥ ((later : View) → Goes (P.view plant) later → LeavesQueue C.reads base (P.view plant).now later) ∥₁ }
     {
-        let since = plant.now();
+        let since = moment_of(&plant);
+        let book = new_book_of(&base.config);
         Complex {
             plant,
             pair,
+            book,
             base,
             since,
             journal: Journal {
@@ -133,6 +145,7 @@ impl<P: Plant + Drop, C: Steady + Drop> Complex<P, C> {
         ensures pair { self.new.pair ≡ self.old.pair }
         ensures base { self.new.base ≡ self.old.base }
         ensures since { self.new.since ≡ self.old.since }
+        ensures book { self.new.book ≡ self.old.book }
         ensures current { self.new.current ≡ self.old.current }
         ensures reserved { self.new.reserved ≡ self.old.reserved }
         ensures first { self.new.first ≡ self.old.first }
@@ -159,6 +172,7 @@ impl<P: Plant + Drop, C: Steady + Drop> Complex<P, C> {
         ensures pair { self.new.pair ≡ self.old.pair }
         ensures base { self.new.base ≡ self.old.base }
         ensures since { self.new.since ≡ self.old.since }
+        ensures book { self.new.book ≡ self.old.book }
         ensures current { self.new.current ≡ self.old.current }
         ensures first { self.new.first ≡ self.old.first }
         ensures second { self.new.second ≡ self.old.second }
@@ -187,6 +201,7 @@ impl<P: Plant + Drop, C: Steady + Drop> Complex<P, C> {
         ensures pair { self.new.pair ≡ self.old.pair }
         ensures base { self.new.base ≡ self.old.base }
         ensures since { self.new.since ≡ self.old.since }
+        ensures book { self.new.book ≡ self.old.book }
         ensures journal { self.new.journal ≡ self.old.journal }
         ensures placed { self.new.placed ≡ self.old.placed }
         ensures first { self.new.first ≡ self.old.first }
@@ -222,6 +237,7 @@ impl<P: Plant + Drop, C: Steady + Drop> Complex<P, C> {
         ensures pair_second { self.new.pair.second ≡ self.old.pair.second }
         ensures base { self.new.base ≡ self.old.base }
         ensures since { self.new.since ≡ self.old.since }
+        ensures book { self.new.book ≡ self.old.book }
         ensures journal { self.new.journal ≡ self.old.journal }
         ensures current { self.new.current ≡ self.old.current }
         ensures reserved { self.new.reserved ≡ self.old.reserved }
@@ -252,6 +268,7 @@ impl<P: Plant + Drop, C: Steady + Drop> Complex<P, C> {
         ensures pair_second { self.new.pair.second ≡ self.old.pair.second }
         ensures base { self.new.base ≡ self.old.base }
         ensures since { self.new.since ≡ self.old.since }
+        ensures book { self.new.book ≡ self.old.book }
         ensures journal { self.new.journal ≡ self.old.journal }
         ensures current { self.new.current ≡ self.old.current }
         ensures reserved { self.new.reserved ≡ self.old.reserved }
@@ -274,6 +291,7 @@ impl<P: Plant + Drop, C: Steady + Drop> Complex<P, C> {
         ensures pair_second { self.new.pair.second ≡ self.old.pair.second }
         ensures base { self.new.base ≡ self.old.base }
         ensures since { self.new.since ≡ self.old.since }
+        ensures book { self.new.book ≡ self.old.book }
         ensures journal { self.new.journal ≡ self.old.journal }
         ensures current { self.new.current ≡ self.old.current }
         ensures reserved { self.new.reserved ≡ self.old.reserved }
@@ -304,6 +322,7 @@ impl<P: Plant + Drop, C: Steady + Drop> Complex<P, C> {
         ensures pair_first { self.new.pair.first ≡ self.old.pair.first }
         ensures base { self.new.base ≡ self.old.base }
         ensures since { self.new.since ≡ self.old.since }
+        ensures book { self.new.book ≡ self.old.book }
         ensures journal { self.new.journal ≡ self.old.journal }
         ensures current { self.new.current ≡ self.old.current }
         ensures reserved { self.new.reserved ≡ self.old.reserved }
@@ -334,6 +353,7 @@ impl<P: Plant + Drop, C: Steady + Drop> Complex<P, C> {
         ensures pair_first { self.new.pair.first ≡ self.old.pair.first }
         ensures base { self.new.base ≡ self.old.base }
         ensures since { self.new.since ≡ self.old.since }
+        ensures book { self.new.book ≡ self.old.book }
         ensures journal { self.new.journal ≡ self.old.journal }
         ensures current { self.new.current ≡ self.old.current }
         ensures reserved { self.new.reserved ≡ self.old.reserved }
@@ -356,6 +376,7 @@ impl<P: Plant + Drop, C: Steady + Drop> Complex<P, C> {
         ensures pair_first { self.new.pair.first ≡ self.old.pair.first }
         ensures base { self.new.base ≡ self.old.base }
         ensures since { self.new.since ≡ self.old.since }
+        ensures book { self.new.book ≡ self.old.book }
         ensures journal { self.new.journal ≡ self.old.journal }
         ensures current { self.new.current ≡ self.old.current }
         ensures reserved { self.new.reserved ≡ self.old.reserved }
@@ -381,6 +402,7 @@ impl<P: Plant + Drop, C: Steady + Drop> Complex<P, C> {
         ensures pair { self.new.pair ≡ self.old.pair }
         ensures base { self.new.base ≡ self.old.base }
         ensures since { self.new.since ≡ self.old.since }
+        ensures book { self.new.book ≡ self.old.book }
         ensures reserved { self.new.reserved ≡ self.old.reserved }
         ensures fated { (batch : Batch) → self.old.current ≡ Some batch → self.new.journal.batches ≡ with_last (fated FateKept (P.view self.old.plant).now batch) self.old.journal.batches }
         ensures none { self.new.current ≡ None }
@@ -416,6 +438,7 @@ impl<P: Plant + Drop, C: Steady + Drop> Complex<P, C> {
         ensures pair { self.new.pair ≡ self.old.pair }
         ensures base { self.new.base ≡ self.old.base }
         ensures since { self.new.since ≡ self.old.since }
+        ensures book { self.new.book ≡ self.old.book }
         ensures reserved { self.new.reserved ≡ self.old.reserved }
         ensures level { self.new.level ≡ self.old.level }
         ensures fated { (batch : Batch) → self.old.current ≡ Some batch → self.new.journal.batches ≡ with_last (fated FateDropped (P.view self.old.plant).now batch) self.old.journal.batches }
@@ -446,6 +469,7 @@ impl<P: Plant + Drop, C: Steady + Drop> Complex<P, C> {
         ensures pair { self.new.pair ≡ self.old.pair }
         ensures base { self.new.base ≡ self.old.base }
         ensures since { self.new.since ≡ self.old.since }
+        ensures book { self.new.book ≡ self.old.book }
         ensures journal { self.new.journal ≡ self.old.journal }
         ensures current { self.new.current ≡ self.old.current }
         ensures reserved { self.new.reserved ≡ self.old.reserved }
@@ -472,6 +496,7 @@ impl<P: Plant + Drop, C: Steady + Drop> Complex<P, C> {
         ensures pair { self.new.pair ≡ self.old.pair }
         ensures base { self.new.base ≡ self.old.base }
         ensures since { self.new.since ≡ self.old.since }
+        ensures book { self.new.book ≡ self.old.book }
         ensures current { self.new.current ≡ self.old.current }
         ensures first { self.new.first ≡ self.old.first }
         ensures second { self.new.second ≡ self.old.second }
@@ -500,6 +525,7 @@ impl<P: Plant + Drop, C: Steady + Drop> Complex<P, C> {
         requires ckpt { IsCkpt dev }
         ensures base { self.new.base ≡ self.old.base }
         ensures since { self.new.since ≡ self.old.since }
+        ensures book { self.new.book ≡ self.old.book }
         ensures journal { self.new.journal ≡ self.old.journal }
         ensures current { self.new.current ≡ self.old.current }
         ensures reserved { self.new.reserved ≡ self.old.reserved }
@@ -536,6 +562,7 @@ impl<P: Plant + Drop, C: Steady + Drop> Complex<P, C> {
         requires queue { P.tells → ∥ StandFor (run self.old.base (kept_all self.old.journal.batches ++ entries_in self.old.current)) (bytes_of pages.now) ∥₁ }
         ensures base { self.new.base ≡ self.old.base }
         ensures since { self.new.since ≡ self.old.since }
+        ensures book { self.new.book ≡ self.old.book }
         ensures journal { self.new.journal ≡ self.old.journal }
         ensures current { self.new.current ≡ self.old.current }
         ensures reserved { self.new.reserved ≡ self.old.reserved }
@@ -569,6 +596,7 @@ impl<P: Plant + Drop, C: Steady + Drop> Complex<P, C> {
         ensures pair { self.new.pair ≡ self.old.pair }
         ensures base { self.new.base ≡ self.old.base }
         ensures since { self.new.since ≡ self.old.since }
+        ensures book { self.new.book ≡ self.old.book }
         ensures journal { self.new.journal ≡ self.old.journal }
         ensures placed { self.new.placed ≡ self.old.placed }
         ensures first { self.new.first ≡ self.old.first }
@@ -609,6 +637,7 @@ impl<P: Plant + Drop, C: Steady + Drop> Complex<P, C> {
         requires queue { P.tells → ∥ StandFor (run self.old.base (kept_all self.old.journal.batches ++ coming self.old.current self.old.reserved)) (bytes_of pages.now) ∥₁ }
         ensures base { self.new.base ≡ self.old.base }
         ensures since { self.new.since ≡ self.old.since }
+        ensures book { self.new.book ≡ self.old.book }
         ensures journal { self.new.journal ≡ self.old.journal }
         ensures placed { self.new.placed ≡ self.old.placed }
         ensures level { self.new.level ≡ self.old.level }
@@ -637,6 +666,7 @@ impl<P: Plant + Drop, C: Steady + Drop> Complex<P, C> {
         requires room { (pick dev self.old.pair.first self.old.pair.second).alive ≡ true → 1 ≤ C.room (pick dev self.old.pair.first self.old.pair.second).copy }
         ensures base { self.new.base ≡ self.old.base }
         ensures since { self.new.since ≡ self.old.since }
+        ensures book { self.new.book ≡ self.old.book }
         ensures journal { self.new.journal ≡ self.old.journal }
         ensures current { self.new.current ≡ self.old.current }
         ensures reserved { self.new.reserved ≡ self.old.reserved }
@@ -679,6 +709,7 @@ impl<P: Plant + Drop, C: Steady + Drop> Complex<P, C> {
         requires level { self.old.level < top }
         ensures base { self.new.base ≡ self.old.base }
         ensures since { self.new.since ≡ self.old.since }
+        ensures book { self.new.book ≡ self.old.book }
         ensures reserved { self.new.reserved ≡ self.old.reserved }
         ensures other { other dev self.new.pair.first self.new.pair.second ≡ other dev self.old.pair.first self.old.pair.second }
         ensures count { C.count (pick dev self.new.pair.first self.new.pair.second).copy ≡ C.count (pick dev self.old.pair.first self.old.pair.second).copy }
@@ -715,6 +746,7 @@ impl<P: Plant + Drop, C: Steady + Drop> Complex<P, C> {
         requires reads2 { P.tells → self.old.pair.second.alive ≡ true → C.reads (disk_now (P.view self.old.plant) Ckpt2).bytes ≡ Some (bytes_of pages.now) }
         ensures base { self.new.base ≡ self.old.base }
         ensures since { self.new.since ≡ self.old.since }
+        ensures book { self.new.book ≡ self.old.book }
         ensures journal { self.new.journal ≡ self.old.journal }
         ensures current { self.new.current ≡ self.old.current }
         ensures reserved { self.new.reserved ≡ self.old.reserved }
@@ -742,6 +774,7 @@ impl<P: Plant + Drop, C: Steady + Drop> Complex<P, C> {
         requires page2 { self.old.pair.second.alive ≡ true → page < C.count self.old.pair.second.copy }
         ensures base { self.new.base ≡ self.old.base }
         ensures since { self.new.since ≡ self.old.since }
+        ensures book { self.new.book ≡ self.old.book }
         ensures journal { self.new.journal ≡ self.old.journal }
         ensures current { self.new.current ≡ self.old.current }
         ensures reserved { self.new.reserved ≡ self.old.reserved }
@@ -796,4 +829,15 @@ fn moment_of<P: Plant>(plant: &P) -> u64
     ensures most { (P.view plant.now).now ≤ top }
 {
     plant.now()
+}
+
+// The book of a complex of this configuration, in which nobody holds.
+fn new_book_of(config: &Config) -> LockBook
+    ensures { result ≡ new_book (min config.now.members members_most) config.now.hold config.now.dormancy }
+{
+    LockBook::new(
+        config.members.min(MEMBERS_MOST),
+        config.hold,
+        config.dormancy,
+    )
 }

@@ -7,6 +7,7 @@
 mod complex;
 mod fitting;
 mod journal_end;
+mod locking;
 mod places;
 mod recover;
 mod seeing;

@@ -83,6 +83,7 @@ impl<P: Plant + Drop, C: Steady + Drop> Complex<P, C> {
         requires ckpt { IsCkpt dev }
         ensures base { self.new.base ≡ self.old.base }
         ensures since { self.new.since ≡ self.old.since }
+        ensures book { self.new.book ≡ self.old.book }
         ensures journal { self.new.journal ≡ self.old.journal }
         ensures current { self.new.current ≡ self.old.current }
         ensures reserved { self.new.reserved ≡ self.old.reserved }
@@ -109,6 +110,7 @@ impl<P: Plant + Drop, C: Steady + Drop> Complex<P, C> {
         requires reads2 { P.tells → ReadsSeen C.reads (disk_now (P.view self.old.plant) Ckpt2).bytes (Some second) }
         ensures base { self.new.base ≡ self.old.base }
         ensures since { self.new.since ≡ self.old.since }
+        ensures book { self.new.book ≡ self.old.book }
         ensures journal { self.new.journal ≡ self.old.journal }
         ensures current { self.new.current ≡ self.old.current }
         ensures reserved { self.new.reserved ≡ self.old.reserved }
@@ -141,6 +143,7 @@ impl<P: Plant + Drop, C: Steady + Drop> Complex<P, C> {
         requires reads2 { P.tells → ReadsSeen C.reads (disk_now (P.view self.old.plant) Ckpt2).bytes second }
         ensures base { self.new.base ≡ self.old.base }
         ensures since { self.new.since ≡ self.old.since }
+        ensures book { self.new.book ≡ self.old.book }
         ensures journal { self.new.journal ≡ self.old.journal }
         ensures current { self.new.current ≡ self.old.current }
         ensures reserved { self.new.reserved ≡ self.old.reserved }
@@ -170,6 +173,7 @@ impl<P: Plant + Drop, C: Steady + Drop> Complex<P, C> {
         requires level { level (bytes_of found.now) ≡ self.old.level + 1 }
         ensures base { self.new.base ≡ self.old.base }
         ensures since { self.new.since ≡ self.old.since }
+        ensures book { self.new.book ≡ self.old.book }
         ensures journal { self.new.journal ≡ self.old.journal }
         ensures current { self.new.current ≡ self.old.current }
         ensures reserved { self.new.reserved ≡ self.old.reserved }
@@ -196,6 +200,7 @@ impl<P: Plant + Drop, C: Steady + Drop> Complex<P, C> {
         requires chosen { Chosen C.reads P.tells (run self.old.base (kept_all self.old.journal.batches ++ entries_in self.old.current)) self.old.level self.old.pair.first.alive (C.count self.old.pair.first.copy) (C.room self.old.pair.first.copy) self.old.first (disk_now (P.view self.old.plant) Ckpt1).bytes self.old.pair.second.alive (C.count self.old.pair.second.copy) (C.room self.old.pair.second.copy) self.old.second (disk_now (P.view self.old.plant) Ckpt2).bytes found.now }
         ensures base { self.new.base ≡ self.old.base }
         ensures since { self.new.since ≡ self.old.since }
+        ensures book { self.new.book ≡ self.old.book }
         ensures journal { self.new.journal ≡ self.old.journal }
         ensures current { self.new.current ≡ self.old.current }
         ensures reserved { self.new.reserved ≡ self.old.reserved }
@@ -232,6 +237,7 @@ impl<P: Plant + Drop, C: Steady + Drop> Complex<P, C> {
         ensures pair { self.new.pair ≡ self.old.pair }
         ensures base { self.new.base ≡ self.old.base }
         ensures since { self.new.since ≡ self.old.since }
+        ensures book { self.new.book ≡ self.old.book }
         ensures journal { self.new.journal ≡ self.old.journal }
         ensures current { self.new.current ≡ self.old.current }
         ensures reserved { self.new.reserved ≡ self.old.reserved }
@@ -253,6 +259,7 @@ impl<P: Plant + Drop, C: Steady + Drop> Complex<P, C> {
         ensures pair { self.new.pair ≡ self.old.pair }
         ensures base { self.new.base ≡ self.old.base }
         ensures since { self.new.since ≡ self.old.since }
+        ensures book { self.new.book ≡ self.old.book }
         ensures reserved { self.new.reserved ≡ self.old.reserved }
         ensures fated { IsFatedBy reached self.old.level (P.view self.old.plant).now self.old.current self.old.journal.batches self.new.journal.batches }
         ensures none { self.new.current ≡ None }
@@ -279,6 +286,7 @@ impl<P: Plant + Drop, C: Steady + Drop> Complex<P, C> {
     pub fn recover(&mut self, alloc: Global, by: MemberId) -> Result<List<Page>, RecoverNo>
         ensures base { self.new.base ≡ self.old.base }
         ensures since { self.new.since ≡ self.old.since }
+        ensures book { self.new.book ≡ self.old.book }
         ensures reserved { self.new.reserved ≡ None }
         ensures goes { Goes (P.view self.old.plant) (P.view self.new.plant) }
         ensures halted { IsErrOf result RecoverNoHalted → Rose ((P.view self.old.plant).stops by.0) ((P.view self.new.plant).stops by.0) }

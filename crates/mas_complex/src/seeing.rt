@@ -25,6 +25,7 @@ impl<P: Plant + Drop, C: Steady + Drop> Complex<P, C> {
         ensures pair_second { self.new.pair.second ≡ self.old.pair.second }
         ensures base { self.new.base ≡ self.old.base }
         ensures since { self.new.since ≡ self.old.since }
+        ensures book { self.new.book ≡ self.old.book }
         ensures journal { self.new.journal ≡ self.old.journal }
         ensures current { self.new.current ≡ self.old.current }
         ensures reserved { self.new.reserved ≡ self.old.reserved }
@@ -46,6 +47,7 @@ impl<P: Plant + Drop, C: Steady + Drop> Complex<P, C> {
         ensures pair_first { self.new.pair.first ≡ self.old.pair.first }
         ensures base { self.new.base ≡ self.old.base }
         ensures since { self.new.since ≡ self.old.since }
+        ensures book { self.new.book ≡ self.old.book }
         ensures journal { self.new.journal ≡ self.old.journal }
         ensures current { self.new.current ≡ self.old.current }
         ensures reserved { self.new.reserved ≡ self.old.reserved }
@@ -71,6 +73,7 @@ impl<P: Plant + Drop, C: Steady + Drop> Complex<P, C> {
         ensures pair_second { self.new.pair.second ≡ self.old.pair.second }
         ensures base { self.new.base ≡ self.old.base }
         ensures since { self.new.since ≡ self.old.since }
+        ensures book { self.new.book ≡ self.old.book }
         ensures journal { self.new.journal ≡ self.old.journal }
         ensures current { self.new.current ≡ self.old.current }
         ensures reserved { self.new.reserved ≡ self.old.reserved }
@@ -101,6 +104,7 @@ impl<P: Plant + Drop, C: Steady + Drop> Complex<P, C> {
         ensures pair_first { self.new.pair.first ≡ self.old.pair.first }
         ensures base { self.new.base ≡ self.old.base }
         ensures since { self.new.since ≡ self.old.since }
+        ensures book { self.new.book ≡ self.old.book }
         ensures journal { self.new.journal ≡ self.old.journal }
         ensures current { self.new.current ≡ self.old.current }
         ensures reserved { self.new.reserved ≡ self.old.reserved }

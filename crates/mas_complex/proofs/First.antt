@@ -1,0 +1,44 @@
+-- What a crash at the first moment of a shared value leaves.
+use Rattle.std.proofs.Common.{◌≡◌, ◌⊎◌, ⊎_elim, ℕ, ◌≤◌, ◌<◌, Bool, true, false, List, [], Option, Some, None, refl, subst, sym, ◌∙◌, ap, arith}
+use Rattle.mas_types.specs.declared.ids.Dev.{Dev}
+use Rattle.mas_types.specs.declared.ids.Dev.TheVariants.{Ckpt1, Ckpt2}
+use Rattle.mas_types.specs.declared.queues.Queue.{Queue}
+use Rattle.spool_disk.specs.declared.plant.Part.TheVariants.{Disk as DiskPart}
+use Rattle.spool_disk.specs.View.{View, World, Disk, disk_at, disk_now}
+use Rattle.spool_disk.specs.Acts.{Goes, top}
+use Rattle.ckpt_copy.specs.Moments.{either_way}
+use Rattle.ckpt_copy.specs.Reading.{AllRead}
+use Rattle.mas_complex.specs.declared.places.Place.{Place}
+use Rattle.mas_complex.specs.Crash.{Setting, setting, OneCopy, ReadsOne, IsFound, found, left_at}
+use Rattle.mas_complex.specs.Headline.{FoundFor, LeavesQueue}
+use Rattle.mas_complex.proofs.Present.{copy_reads, crash_of, top_reads}
+use Rattle.mas_complex.proofs.Ending.{left_below}
+
+-- a copy at a moment, as a crash finds it after later acts
+module _ (S : Setting) (reached : ℕ) (rests : List ℕ → Disk → Type 0) (holds : List ℕ → List ℕ → Disk → Type 0) (rests_reads : (pages : List ℕ) (d : Disk) → rests pages d → AllRead S.reads pages d) (holds_reads : (was next : List ℕ) (d : Disk) → holds was next d → AllRead S.reads was d)
+    (place : Place) (alive : Bool) (dev : Dev) (v later : View) (most : v.now ≤ top) (goes : Goes v later) (copy : OneCopy S rests holds reached [] [] place alive v.now (disk_now v dev)) (lost : alive ≡ false → v.lost (DiskPart dev) ≡ true) where
+  same_world : disk_at later v.now dev ≡ disk_now v dev
+  same_world = ap (λ (w : World). w.disk dev) (goes.past v.now (omega arith))
+
+  -- the later view at that moment
+  abbrev again : View
+  again = record v { world = later.world; lost = later.lost }
+
+  first_below : v.now < top → ReadsOne S reached [] [] (left_at later v.now dev)
+  first_below lt = subst (λ (d : Disk). ReadsOne S reached [] [] d) (sym (left_below later v.now dev lt ∙ same_world)) (copy_reads S reached [] [] rests holds rests_reads holds_reads place alive v.now (disk_now v dev) lt copy)
+
+  first_top : v.now ≡ top → ReadsOne S reached [] [] (left_at later v.now dev)
+  first_top last = top_reads S reached [] [] rests holds rests_reads holds_reads place alive dev again last (subst (λ (d : Disk). OneCopy S rests holds reached [] [] place alive v.now d) (sym same_world) copy) (λ dead. goes.lost (DiskPart dev) (lost dead))
+
+  pub first_reads : ReadsOne S reached [] [] (left_at later v.now dev)
+  first_reads = ⊎_elim (λ le. first_top (omega (arith, most, le))) (λ lt. first_below lt) (either_way top v.now)
+
+module _ (reads : List ℕ → Option (List ℕ)) (base : Queue) (since : ℕ) where
+  for_base : (q : Option (List ℕ)) → IsFound (setting reads base since) [] q ⊎ IsFound (setting reads base since) [] q → FoundFor base q
+  for_base None after = ⊎_elim (λ h. h) (λ h. h) after
+  for_base (Some pages) after = ⊎_elim (λ h. h) (λ h. h) after
+
+  pub leaves_base : (reached : ℕ) (v later : View) → ReadsOne (setting reads base since) reached [] [] (left_at later v.now Ckpt1) → ReadsOne (setting reads base since) reached [] [] (left_at later v.now Ckpt2) → LeavesQueue reads base v.now later
+  leaves_base reached v later one two x y left right some =
+      for_base (found (setting reads base since) x y)
+      (crash_of (setting reads base since) reached [] [] [] v.now refl refl (left_at later v.now Ckpt1) (left_at later v.now Ckpt2) one two x y left right some)
