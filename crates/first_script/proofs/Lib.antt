@@ -1,9 +1,9 @@
 pub mod Parts
-pub mod Decks
 pub mod Rest
 pub mod Jobs
-pub mod Said
 pub mod Words
+pub mod Ahead
 pub mod Forms
 pub mod CutOff
 pub mod Outside
+pub mod Fits

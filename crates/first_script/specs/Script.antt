@@ -1,15 +1,21 @@
--- A script: its lines, and what it says.
-use Rattle.std.specs.Prelude.{ℕ, ◌+◌, ◌==◌, Bool, true, false, if◌then◌else◌, Option, Some, None, Result, Ok, Err, List, [], ◌∷◌, length, codes}
-use Rattle.std.specs.List.{list_any, slice_split, before_first, after_first}
+-- A script: its lines, and what it asks for.
+use Rattle.std.specs.Prelude.{ℕ, ◌+◌, ◌==◌, Bool, true, false, if◌then◌else◌, Some, None, Result, Ok, Err, List, [], ◌∷◌, length, codes}
+use Rattle.std.specs.List.{list_any, slice_split}
 use Rattle.std.specs.Str.{bytes_eq}
 use Rattle.std.specs.Str.Lines.{strip_carriage_return}
 use Rattle.mas_types.specs.declared.answers.LineCause.{LineCause}
 use Rattle.mas_types.specs.declared.answers.LineCause.TheVariants.{End, NotBuilt}
+use Rattle.mas_types.specs.declared.ids.Dev.{Dev}
+use Rattle.mas_types.specs.declared.ids.Dev.TheVariants.{Ckpt1, Ckpt2, Spool}
 use Rattle.mas_types.specs.declared.ids.Name8.{Name8}
 use Rattle.mas_types.specs.declared.jobs.JobFields.{JobFields}
 use Rattle.mas_types.specs.Limits.{script_line_bytes}
 use Rattle.mas_types.specs.Names.{local_name}
-use Rattle.first_script.specs.declared.script.BadLine.{BadLine}
+use Rattle.first_script.specs.declared.asked.Asked.{Asked}
+use Rattle.first_script.specs.declared.asked.Asked.TheVariants as asked
+use Rattle.first_script.specs.declared.asked.BadLine.{BadLine}
+use Rattle.first_script.specs.declared.turns.Place.{Place}
+use Rattle.first_script.specs.declared.turns.Place.TheVariants as place
 use Rattle.first_script.specs.declared.cards.JobCard.{JobCard}
 use Rattle.first_script.specs.Cards.{class_a, is_text_then_blanks, job_of, is_last_card}
 
@@ -38,6 +44,12 @@ is_deck_line = is_text_then_blanks (codes "SYSA DECK") script_line_bytes
 abbrev pub is_deck_end : List ℕ → Bool
 is_deck_end line = bytes_eq line (codes "++END")
 
+-- the line that loses a copy of the checkpoint
+abbrev pub is_lose_line : Dev → List ℕ → Bool
+is_lose_line Ckpt1 line = is_text_then_blanks (codes "LOSE CKPT1") script_line_bytes line
+is_lose_line Ckpt2 line = is_text_then_blanks (codes "LOSE CKPT2") script_line_bytes line
+is_lose_line (Spool volume) line = false
+
 -- the job of a JOB card, at its own node, with the default of all else
 abbrev pub fields_of : Name8 → JobCard → JobFields
 fields_of own card = record {
@@ -53,47 +65,50 @@ fields_of own card = record {
   origin = own;
 }
 
--- what a script says: nothing, one job, or that a line is refused
+-- what a script says: the steps that it asks for, or that a line is refused
 abbrev pub Said : Type 0
-Said = Result (Option JobFields) BadLine
+Said = Result (List Asked) BadLine
 
 abbrev pub refused : ℕ → LineCause → Said
 refused number why = Err (record { line = number; cause = why })
 
--- what the lines behind the deck say, the first of them being of this number: each is blank
-abbrev pub said_behind : JobFields → ℕ → List (List ℕ) → Said
-said_behind job number [] = Ok (Some job)
-said_behind job number (line ∷ lines) = if is_blank_line line then said_behind job (number + 1) lines else refused number NotBuilt
+-- one step more in front
+abbrev pub with_step : Asked → Said → Said
+with_step step (Ok steps) = Ok (step ∷ steps)
+with_step step (Err bad) = Err bad
 
--- What a deck says of these cards, with the lines behind its end, where its DECK line has this number.
--- The first card is a JOB card, and the second, if there is one, ends the job.
-abbrev pub said_of_cards : Name8 → Option JobCard → ℕ → List (List ℕ) → List (List ℕ) → Said
-said_of_cards own None number cards behind = refused (number + 1) NotBuilt
-said_of_cards own (Some job) number [] behind = refused (number + 1) NotBuilt
-said_of_cards own (Some job) number (card ∷ []) behind = said_behind (fields_of own job) (number + 3) behind
-said_of_cards own (Some job) number (card ∷ last ∷ []) behind = if is_last_card last then said_behind (fields_of own job) (number + 4) behind else refused (number + 2) NotBuilt
-said_of_cards own (Some job) number (card ∷ last ∷ third ∷ cards) behind = if is_last_card last then refused (number + 3) NotBuilt else refused (number + 2) NotBuilt
+-- A line of a deck stands where it may not, this and those behind it being left of the script: where the deck has an end it is
+-- refused, else the deck's DECK line is.
+abbrev pub misplaced : ℕ → ℕ → List (List ℕ) → Said
+misplaced start number lines = if list_any is_deck_end lines then refused number NotBuilt else refused start End
 
--- what the first card says as a JOB card
-abbrev pub job_of_cards : List (List ℕ) → Option JobCard
-job_of_cards [] = None
-job_of_cards (card ∷ cards) = job_of card
-
--- What a deck says whose DECK line has this number, with the lines behind that. Its cards are the lines before its end.
-abbrev pub said_of_deck : Name8 → ℕ → List (List ℕ) → Said
-said_of_deck own number lines =
-    if list_any is_deck_end lines
-    then said_of_cards own (job_of_cards (before_first is_deck_end lines)) number (before_first is_deck_end lines) (after_first is_deck_end lines)
-    else refused number End
-
--- what the lines from this number on say, which stand outside a deck
-abbrev pub said_from : Name8 → ℕ → List (List ℕ) → Said
-said_from own number [] = Ok None
-said_from own number (line ∷ lines) =
-    if is_blank_line line then said_from own (number + 1) lines
-    else if is_deck_line line then said_of_deck own number lines
+-- What the lines of a script say from one on that has this number and stands at a place.
+--
+-- Outside decks blank lines are skipped, and a line begins a deck or loses a copy. A deck is a JOB card, at most one card that ends
+-- the job, and the deck's end.
+abbrev pub said_at : Name8 → Place → ℕ → List (List ℕ) → Said
+said_at own place.Outside number [] = Ok []
+said_at own (place.Deck start) number [] = refused start End
+said_at own (place.Job start job) number [] = refused start End
+said_at own (place.Last start job) number [] = refused start End
+said_at own place.Outside number (line ∷ lines) =
+    if is_blank_line line then said_at own place.Outside (number + 1) lines
+    else if is_deck_line line then said_at own (place.Deck number) (number + 1) lines
+    else if is_lose_line Ckpt1 line then with_step (asked.Lose Ckpt1) (said_at own place.Outside (number + 1) lines)
+    else if is_lose_line Ckpt2 line then with_step (asked.Lose Ckpt2) (said_at own place.Outside (number + 1) lines)
     else refused number NotBuilt
+said_at own (place.Deck start) number (card ∷ lines) = elim (job_of card) [
+  | None ↦ misplaced start number (card ∷ lines)
+  | Some job ↦ said_at own (place.Job start job) (number + 1) lines
+]
+said_at own (place.Job start job) number (card ∷ lines) =
+    if is_deck_end card then with_step (asked.Deck (fields_of own job)) (said_at own place.Outside (number + 1) lines)
+    else if is_last_card card then said_at own (place.Last start job) (number + 1) lines
+    else misplaced start number (card ∷ lines)
+said_at own (place.Last start job) number (card ∷ lines) =
+    if is_deck_end card then with_step (asked.Deck (fields_of own job)) (said_at own place.Outside (number + 1) lines)
+    else misplaced start number (card ∷ lines)
 
 -- What a script says to a node. Lines are numbered from 1.
 abbrev pub read_as : Name8 → List ℕ → Said
-read_as own bytes = said_from own 1 (lines_of bytes)
+read_as own bytes = said_at own place.Outside 1 (lines_of bytes)

@@ -1,19 +1,14 @@
 //! What is true of all scripts.
-ghost use Rattle.first_script.specs.Laws.{ReadsJobCards, PlaysNothing, PlaysOneDeck, RefusesCutOff, RefusesFirst};
+ghost use Rattle.first_script.specs.Laws.{ReadsJobCards, PlaysScripts, RefusesCutOff, RefusesFirst};
 
 /// A card says a job exactly where it is `//name JOB` or `//name JOB (d),'p',CLASS=c`.
 pub fn law_of_job_cards()
     ensures { ReadsJobCards }
 {}
 
-/// A script says nothing exactly where its lines are blank.
-pub fn law_of_no_deck()
-    ensures { PlaysNothing }
-{}
-
-/// A script says a job exactly where it is one deck of that job.
-pub fn law_of_one_deck()
-    ensures { PlaysOneDeck }
+/// A script asks for steps exactly where its lines are those of these steps, one after another, with blank lines round them.
+pub fn law_of_scripts()
+    ensures { PlaysScripts }
 {}
 
 /// A line is refused by cause End exactly where it begins a deck that is cut off.

@@ -1,11 +1,14 @@
-//! Reading the script that the first program plays: no deck, or one deck of a JOB card.
+//! Reading the script that the program plays: decks of a JOB card, and losses of a copy of the checkpoint.
 #![tactic(auto)]
 
+mod asked;
 mod cards;
 pub mod laws;
 mod lines;
 mod reading;
 mod script;
+mod turns;
 
+pub use asked::{Asked, BadLine, ScriptNo};
 pub use reading::{SourceNo, read_source};
-pub use script::{BadLine, read_script};
+pub use script::read_script;

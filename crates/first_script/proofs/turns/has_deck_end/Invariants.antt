@@ -1,7 +1,7 @@
 use Rattle.std.proofs.Common.{◌≡◌, length}
 use Rattle.std.specs.List.{list_any}
 use Rattle.first_script.specs.Script.{is_deck_end, lines_of}
-use Rattle.first_script.proofs.script.has_deck_end.Given as goal
+use Rattle.first_script.proofs.turns.has_deck_end.Given as goal
 
 -- the rest decides
 abbrev pub invariant-loop-rest : goal.invariant-loop-rest
