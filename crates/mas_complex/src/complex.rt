@@ -302,6 +302,7 @@ impl<P: Plant + Drop, C: Steady + Drop> Complex<P, C> {
         ensures dead { self.new.pair.first.alive ≡ false }
         ensures copy { self.new.pair.first.copy ≡ self.old.pair.first.copy }
         ensures loses { Loses (Disk Ckpt1) (P.view self.old.plant) (P.view self.new.plant) }
+        ensures elsewhere { P.tells → Elsewhere Ckpt1 (P.view self.old.plant) (P.view self.new.plant) }
         ensures bytes { P.tells → (d : Dev) → (disk_now (P.view self.new.plant) d).bytes ≡ (disk_now (P.view self.old.plant) d).bytes }
     {
         self.pair.lose(&mut self.plant, Dev::Ckpt1);
@@ -387,6 +388,7 @@ impl<P: Plant + Drop, C: Steady + Drop> Complex<P, C> {
         ensures dead { self.new.pair.second.alive ≡ false }
         ensures copy { self.new.pair.second.copy ≡ self.old.pair.second.copy }
         ensures loses { Loses (Disk Ckpt2) (P.view self.old.plant) (P.view self.new.plant) }
+        ensures elsewhere { P.tells → Elsewhere Ckpt2 (P.view self.old.plant) (P.view self.new.plant) }
         ensures bytes { P.tells → (d : Dev) → (disk_now (P.view self.new.plant) d).bytes ≡ (disk_now (P.view self.old.plant) d).bytes }
     {
         self.pair.lose(&mut self.plant, Dev::Ckpt2);
@@ -503,6 +505,7 @@ impl<P: Plant + Drop, C: Steady + Drop> Complex<P, C> {
         ensures level { self.new.level ≡ self.old.level }
         ensures fated { (entries : List Entry) → self.old.reserved ≡ Some entries → self.new.journal.batches ≡ with_last (fated FateKept (P.view self.old.plant).now (begun (P.view self.old.plant).now by entries)) self.old.journal.batches }
         ensures none { self.new.reserved ≡ None }
+        ensures unplaced { self.new.placed ≡ false }
     {
         let now = self.plant.now();
         if let Some(entries) = self.reserved.take() {
@@ -536,6 +539,7 @@ impl<P: Plant + Drop, C: Steady + Drop> Complex<P, C> {
         ensures dead { (pick dev self.new.pair.first self.new.pair.second).alive ≡ false }
         ensures other { other dev self.new.pair.first self.new.pair.second ≡ other dev self.old.pair.first self.old.pair.second }
         ensures loses { Loses (Disk dev) (P.view self.old.plant) (P.view self.new.plant) }
+        ensures elsewhere { P.tells → Elsewhere dev (P.view self.old.plant) (P.view self.new.plant) }
         ensures bytes { P.tells → (d : Dev) → (disk_now (P.view self.new.plant) d).bytes ≡ (disk_now (P.view self.old.plant) d).bytes }
     {
         match dev {

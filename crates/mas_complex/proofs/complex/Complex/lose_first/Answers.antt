@@ -3,6 +3,9 @@ use Rattle.std.proofs.Math.Logic.{∥∥₁_map}
 use Rattle.mas_types.specs.declared.ids.Dev.TheVariants.{Ckpt1, Ckpt2}
 use Rattle.mas_complex.specs.Journals.{kept_all, entries_in}
 use Rattle.mas_complex.specs.Crash.{Setting, setting, copy_of}
+use Rattle.spool_disk.specs.View.{disk_now}
+use Rattle.duplex_pair.specs.Halves.{SameOrLost}
+use Rattle.mas_complex.proofs.Apart.{elsewhere_of}
 use Rattle.mas_complex.proofs.Sides.{lose_side, on_first}
 use Rattle.mas_complex.proofs.Lost.{lost_later}
 use Rattle.mas_complex.proofs.Shows.{lose_first_bytes}
@@ -36,3 +39,8 @@ invariant_of-self-clause-second_lost g c dead =
 
 pub returns-clause-bytes : goal.returns-clause-bytes
 returns-clause-bytes g c told = lose_first_bytes (g.P.Plant.view c.args.self.now.plant) (g.P.Plant.view c.lose.new.plant) (c.lose.ensures.during told)
+
+pub returns-clause-elsewhere : goal.returns-clause-elsewhere
+returns-clause-elsewhere g c told =
+    let old = g.P.Plant.view c.args.self.now.plant in
+    elsewhere_of Ckpt1 (SameOrLost (disk_now old Ckpt1)) old (g.P.Plant.view c.lose.new.plant) (c.lose.ensures.during told)
