@@ -1,6 +1,6 @@
-use first_script::{BadLine, SourceNo, read_script, read_source};
+use first_script::{Asked, BadLine, ScriptNo, SourceNo, read_script, read_source};
 use mas_types::limits::SCRIPT_BYTES;
-use mas_types::{Class, JobFields, LineCause, List, Name8, NoMemory, Prio};
+use mas_types::{Class, Dev, JobFields, LineCause, List, Name8, NoMemory, Prio};
 use spool_disk::{Got, MemSource, Source};
 use std::alloc::Global;
 use std::test::Fail;
@@ -22,8 +22,19 @@ fn job(name: &[u8; 8], class: u8) -> JobFields {
     }
 }
 
+// Why a script is refused, if a line of it is.
+fn refusal(alloc: Global, script: &[u8]) -> Option<BadLine> {
+    if script.len() > SCRIPT_BYTES {
+        return None;
+    }
+    match read_script(alloc, OWN, script) {
+        Err(ScriptNo::BadLine(bad)) => Some(bad),
+        _ => None,
+    }
+}
+
 #[test]
-fn plays_one_deck(rt: HostRuntime) {
+fn plays_one_deck(rt: HostRuntime) -> Result<(), Fail> {
     let hello = job(b"HELLO   ", b'A');
     let scripts = [
         (
@@ -43,12 +54,26 @@ fn plays_one_deck(rt: HostRuntime) {
     ];
     for (script, want) in scripts {
         assert!(rt; script.len() <= SCRIPT_BYTES);
-        assert_eq!(rt; read_script(OWN, script), Ok(Some(want)));
+        let asked = read_script(rt.alloc(), OWN, script)?;
+        assert_eq!(rt; asked.as_slice(), [Asked::Deck(want)].as_slice());
     }
+    Ok(())
 }
 
 #[test]
-fn plays_nothing(rt: HostRuntime) {
+fn plays_steps_in_order(rt: HostRuntime) -> Result<(), Fail> {
+    let a = Asked::Deck(job(b"A       ", b'A'));
+    let b = Asked::Deck(job(b"B       ", b'B'));
+    let script = b"SYSA DECK\n//A JOB\n++END\n\nLOSE CKPT1\nSYSA DECK\n//B JOB (1),'ME',CLASS=B\n//\n++END\nLOSE CKPT2  \r\nSYSA DECK\n//A JOB\n++END".as_slice();
+    assert!(rt; script.len() <= SCRIPT_BYTES);
+    let asked = read_script(rt.alloc(), OWN, script)?;
+    let want = [a, Asked::Lose(Dev::Ckpt1), b, Asked::Lose(Dev::Ckpt2), a];
+    assert_eq!(rt; asked.as_slice(), want.as_slice());
+    Ok(())
+}
+
+#[test]
+fn plays_nothing(rt: HostRuntime) -> Result<(), Fail> {
     let blanks = [b' '; 256];
     for script in [
         b"".as_slice(),
@@ -57,15 +82,16 @@ fn plays_nothing(rt: HostRuntime) {
         &blanks[..255],
     ] {
         assert!(rt; script.len() <= SCRIPT_BYTES);
-        assert_eq!(rt; read_script(OWN, script), Ok(None));
+        assert!(rt; read_script(rt.alloc(), OWN, script)?.len() == 0);
     }
     assert_eq!(rt;
-        read_script(OWN, &blanks),
-        Err(BadLine {
+        refusal(rt.alloc(), &blanks),
+        Some(BadLine {
             line: 1,
             cause: LineCause::NotBuilt
         })
     );
+    Ok(())
 }
 
 #[test]
@@ -81,15 +107,17 @@ fn refuses_the_least_line(rt: HostRuntime) {
         (b" SYSA DECK\n//A JOB\n++END\n".as_slice(), 1, not_built),
         (b"SYSA DECK\n++END\n".as_slice(), 2, not_built),
         (
-            b"SYSA DECK\n//A JOB\n//\n++END\nSYSA DECK\n//A JOB\n//\n++END\n".as_slice(),
-            5,
+            b"SYSA DECK\n//A JOB\n//\n++END\nSYSA DECK\n//A JOB\n//X\n++END\n".as_slice(),
+            7,
             not_built,
         ),
         (
             b"SYSA DECK\n//A JOB\n++END\n\nSYSA DECK\n".as_slice(),
             5,
-            not_built,
+            end,
         ),
+        (b"LOSE CKPT1\nLOSE CKPT3\n".as_slice(), 2, not_built),
+        (b"LOSE  CKPT1\n".as_slice(), 1, not_built),
         (
             b"SYSA DECK\n//A JOB\n//\n//\n++END\n".as_slice(),
             4,
@@ -106,10 +134,9 @@ fn refuses_the_least_line(rt: HostRuntime) {
         (b"\x80\n".as_slice(), 1, not_built),
     ];
     for (script, line, cause) in scripts {
-        assert!(rt; script.len() <= SCRIPT_BYTES);
         assert_eq!(rt;
-            read_script(OWN, script),
-            Err(BadLine { line, cause }),
+            refusal(rt.alloc(), script),
+            Some(BadLine { line, cause }),
             "at {line}"
         );
     }
@@ -142,10 +169,9 @@ fn refuses_other_job_cards(rt: HostRuntime) -> Result<(), Fail> {
         let mut script = b"SYSA DECK\n".to_vec(rt.alloc())?;
         script.extend_from_slice(card)?;
         script.extend_from_slice(b"\n++END\n")?;
-        assert!(rt; script.len() <= SCRIPT_BYTES);
         assert_eq!(rt;
-            read_script(OWN, &script),
-            Err(BadLine {
+            refusal(rt.alloc(), &script),
+            Some(BadLine {
                 line: 2,
                 cause: LineCause::NotBuilt
             })

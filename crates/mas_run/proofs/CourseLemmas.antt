@@ -1,17 +1,19 @@
 -- Calls on the copies, one after another.
 use Rattle.std.proofs.Common.{◌≡◌, ◌≢◌, ◌⊎◌, inl, inr, ⊎_elim, ℕ, ◌≤◌, ◌||◌, Bool, true, false, List, refl, sym, ◌∙◌, ap, subst, arith}
 use Rattle.mas_types.specs.declared.ids.Dev.{Dev}
-use Rattle.mas_types.specs.declared.ids.Dev.TheVariants.{Ckpt1, Ckpt2}
+use Rattle.mas_types.specs.declared.ids.Dev.TheVariants.{Ckpt1, Ckpt2, Spool}
 use Rattle.spool_disk.specs.declared.plant.Part.TheVariants.{Disk as DiskPart, Console}
 use Rattle.spool_disk.specs.declared.plant.Act.{Act}
 use Rattle.spool_disk.specs.View.{View, World, disk_at}
-use Rattle.spool_disk.specs.Acts.{Goes, Acts, Says, Rose, next}
+use Rattle.spool_disk.specs.Acts.{Goes, Acts, Says, Loses, Rose, next}
 use Rattle.ckpt_copy.specs.Moments.{either_way, goes_on, goes_none}
-use Rattle.duplex_pair.specs.Halves.{Acted}
+use Rattle.duplex_pair.specs.Halves.{Acted, IsCkpt}
 use Rattle.duplex_pair.specs.Both.{PairActed}
 use Rattle.duplex_pair.proofs.Composing.{acted_first, acted_second}
 use Rattle.mas_complex.specs.Elsewhere.{Elsewhere}
 use Rattle.mas_run.specs.Crash.{IsOnlyOn}
+use Rattle.mas_run.specs.Statuses.{WasLost, Grows}
+use Rattle.mas_run.specs.Runs.{HasLost}
 use Rattle.mas_run.specs.Stops.{Apart, Course}
 
 -- WHICH COPIES COUNT AS ALIVE
@@ -39,13 +41,13 @@ disks_apart_too e = absurd (cc)
 pub course_of : (by : ℕ) (a a' b b' stopped : Bool) (old new : View) → PairActed by a a' b b' stopped old new → Course a a' b b' old new
 course_of by a a' b b' stopped old new acted = record {
   goes = acted.goes;
-  failed1 = acted.failed1;
-  failed2 = acted.failed2;
+  failed1 = λ was not. inl (acted.failed1 was not);
+  failed2 = λ was not. inl (acted.failed2 was not);
   there1 = λ is there. acted.else_lost (DiskPart Ckpt1) (inr (same_alive a a' acted.alive1 is)) (inl disks_apart) ∙ there;
   there2 = λ is there. acted.else_lost (DiskPart Ckpt2) (inl disks_apart_too) (inr (same_alive b b' acted.alive2 is)) ∙ there;
   alive1 = acted.alive1;
   alive2 = acted.alive2;
-  loses = acted.loses;
+  grow = λ d. inl (acted.loses d);
 }
 
 pub course_none : (a b : Bool) (v : View) → Course a a b b v v
@@ -57,8 +59,10 @@ course_none a b v = record {
   there2 = λ is there. there;
   alive1 = λ is. is;
   alive2 = λ is. is;
-  loses = λ d. refl;
+  grow = λ d. inl refl;
 }
+
+-- COUNTS THAT ROSE
 
 pub rose_later : (x y z : ℕ) → x ≤ y → Rose y z → Rose x z
 rose_later x y z le rose = omega (arith, le, rose)
@@ -66,21 +70,128 @@ rose_later x y z le rose = omega (arith, le, rose)
 pub rose_more : (x y z : ℕ) → Rose x y → y ≤ z → Rose x z
 rose_more x y z rose le = omega (arith, le, rose)
 
+pub rose_grow : (x y z : ℕ) → Rose x y → Grows y z → Rose x z
+rose_grow x y z rose grow = ⊎_elim (λ same. omega (arith, rose, same)) (λ more. omega (arith, rose, more)) grow
+
+pub grow_rose : (x y z : ℕ) → Grows x y → Rose y z → Rose x z
+grow_rose x y z grow rose = ⊎_elim (λ same. omega (arith, rose, same)) (λ more. omega (arith, rose, more)) grow
+
+grow_grow : (x y z : ℕ) → Grows x y → Grows y z → Grows x z
+grow_grow x y z one two = ⊎_elim (λ same. ⊎_elim (λ still. inl (still ∙ same)) (λ rose. inr (grow_rose x y z one rose)) two) (λ rose. inr (rose_grow x y z rose two)) one
+
+pub lost_more : (d : Dev) (v0 v1 v2 : View) → WasLost d v0 v1 → Goes v1 v2 → Grows (v1.loses d) (v2.loses d) → WasLost d v0 v2
+lost_more d v0 v1 v2 lost goes grow = ⊎_elim
+    (λ rose. inl (rose_more (v0.faults (DiskPart d)) (v1.faults (DiskPart d)) (v2.faults (DiskPart d)) rose (goes.faults (DiskPart d))))
+    (λ rose. inr (rose_grow (v0.loses d) (v1.loses d) (v2.loses d) rose grow))
+    lost
+
+pub lost_later : (d : Dev) (v0 v1 v2 : View) → Goes v0 v1 → Grows (v0.loses d) (v1.loses d) → WasLost d v1 v2 → WasLost d v0 v2
+lost_later d v0 v1 v2 goes grow lost = ⊎_elim
+    (λ rose. inl (rose_later (v0.faults (DiskPart d)) (v1.faults (DiskPart d)) (v2.faults (DiskPart d)) (goes.faults (DiskPart d)) rose))
+    (λ rose. inr (grow_rose (v0.loses d) (v1.loses d) (v2.loses d) grow rose))
+    lost
+
+pub has_lost_more : (v0 v1 v2 : View) → HasLost v0 v1 → ((d : Dev) → Grows (v1.loses d) (v2.loses d)) → HasLost v0 v2
+has_lost_more v0 v1 v2 lost grow = ⊎_elim
+    (λ rose. inl (rose_grow (v0.loses Ckpt1) (v1.loses Ckpt1) (v2.loses Ckpt1) rose (grow Ckpt1)))
+    (λ rose. inr (rose_grow (v0.loses Ckpt2) (v1.loses Ckpt2) (v2.loses Ckpt2) rose (grow Ckpt2)))
+    lost
+
+pub has_lost_later : (v0 v1 v2 : View) → ((d : Dev) → Grows (v0.loses d) (v1.loses d)) → HasLost v1 v2 → HasLost v0 v2
+has_lost_later v0 v1 v2 grow lost = ⊎_elim
+    (λ rose. inl (grow_rose (v0.loses Ckpt1) (v1.loses Ckpt1) (v2.loses Ckpt1) (grow Ckpt1) rose))
+    (λ rose. inr (grow_rose (v0.loses Ckpt2) (v1.loses Ckpt2) (v2.loses Ckpt2) (grow Ckpt2) rose))
+    lost
+
+-- ONE CALL AFTER ANOTHER
+
+either_alive : {A : Type 0} (x : Bool) → (x ≡ true → A) → (x ≡ false → A) → A
+either_alive true f g = f refl
+either_alive false f g = g refl
+
+pub course_then : (a a' a'' b b' b'' : Bool) (v0 v1 v2 : View) → Course a a' b b' v0 v1 → Course a' a'' b' b'' v1 v2 → Course a a'' b b'' v0 v2
+course_then a a' a'' b b' b'' v0 v1 v2 x y = record {
+  goes = goes_on v0 v1 v2 x.goes y.goes;
+  failed1 = λ was not. either_alive a'
+      (λ is. lost_later Ckpt1 v0 v1 v2 x.goes (x.grow Ckpt1) (y.failed1 is not))
+      (λ gone. lost_more Ckpt1 v0 v1 v2 (x.failed1 was gone) y.goes (y.grow Ckpt1));
+  failed2 = λ was not. either_alive b'
+      (λ is. lost_later Ckpt2 v0 v1 v2 x.goes (x.grow Ckpt2) (y.failed2 is not))
+      (λ gone. lost_more Ckpt2 v0 v1 v2 (x.failed2 was gone) y.goes (y.grow Ckpt2));
+  there1 = λ is there. y.there1 is (x.there1 (y.alive1 is) there);
+  there2 = λ is there. y.there2 is (x.there2 (y.alive2 is) there);
+  alive1 = λ is. x.alive1 (y.alive1 is);
+  alive2 = λ is. x.alive2 (y.alive2 is);
+  grow = λ d. grow_grow (v0.loses d) (v1.loses d) (v2.loses d) (x.grow d) (y.grow d);
+}
+
 disk_not_console : (d : Dev) → DiskPart d ≢ Console
 disk_not_console d e = absurd (cc)
 
+-- a line that is said
+course_line : (by : ℕ) (a b : Bool) (v1 v2 : View) (said : Act) → Acts by Console v1 v2 said → Course a a b b v1 v2
+course_line by a b v1 v2 said act = record {
+  goes = act.goes;
+  failed1 = λ is not. absurd (no a is not);
+  failed2 = λ is not. absurd (no b is not);
+  there1 = λ is there. act.else_lost (DiskPart Ckpt1) (inl (disk_not_console Ckpt1)) ∙ there;
+  there2 = λ is there. act.else_lost (DiskPart Ckpt2) (inl (disk_not_console Ckpt2)) ∙ there;
+  alive1 = λ is. is;
+  alive2 = λ is. is;
+  grow = λ d. inl (act.loses d);
+}
+
 -- and a line was said then
 pub course_said : (by : ℕ) (a a' b b' : Bool) (v0 v1 v2 : View) (said : Act) → Course a a' b b' v0 v1 → Acts by Console v1 v2 said → Course a a' b b' v0 v2
-course_said by a a' b b' v0 v1 v2 said course act = record {
-  goes = goes_on v0 v1 v2 course.goes act.goes;
-  failed1 = λ was not. rose_more (v0.faults (DiskPart Ckpt1)) (v1.faults (DiskPart Ckpt1)) (v2.faults (DiskPart Ckpt1)) (course.failed1 was not) (act.goes.faults (DiskPart Ckpt1));
-  failed2 = λ was not. rose_more (v0.faults (DiskPart Ckpt2)) (v1.faults (DiskPart Ckpt2)) (v2.faults (DiskPart Ckpt2)) (course.failed2 was not) (act.goes.faults (DiskPart Ckpt2));
-  there1 = λ is there. act.else_lost (DiskPart Ckpt1) (inl (disk_not_console Ckpt1)) ∙ course.there1 is there;
-  there2 = λ is there. act.else_lost (DiskPart Ckpt2) (inl (disk_not_console Ckpt2)) ∙ course.there2 is there;
-  alive1 = course.alive1;
-  alive2 = course.alive2;
-  loses = λ d. act.loses d ∙ course.loses d;
-}
+course_said by a a' b b' v0 v1 v2 said course act = course_then a a' a' b b' b' v0 v1 v2 course (course_line by a' b' v1 v2 said act)
+
+-- A COPY THAT IS LOST BY A CALL
+
+risen : (m n : ℕ) → n ≡ next m → Rose m n
+risen m n is = omega (arith, is)
+
+first_part : DiskPart Ckpt2 ≢ DiskPart Ckpt1
+first_part e = absurd (cc)
+
+second_part : DiskPart Ckpt1 ≢ DiskPart Ckpt2
+second_part e = absurd (cc)
+
+spool_part : (n : ℕ) (d : Dev) → IsCkpt d → DiskPart (Spool n) ≢ DiskPart d
+spool_part n Ckpt1 is e = absurd (cc)
+spool_part n Ckpt2 is e = absurd (cc)
+spool_part n (Spool v) is e = absurd is
+
+pub course_first : (a a' b b' : Bool) (old new : View) → Loses (DiskPart Ckpt1) old new → a' ≡ false → b' ≡ b → Course a a' b b' old new
+course_first a a' b b' old new loses dead same = record {
+  goes = loses.goes;
+  failed1 = λ was not. inr (risen (old.loses Ckpt1) (new.loses Ckpt1) (loses.counted Ckpt1 refl));
+  failed2 = λ was not. absurd (no b was (sym same ∙ not));
+  there1 = λ is there. absurd (no a' is dead);
+  there2 = λ is there. loses.else_lost (DiskPart Ckpt2) first_part ∙ there;
+  alive1 = λ is. absurd (no a' is dead);
+  alive2 = λ is. sym same ∙ is;
+  grow = grows;
+} where
+  grows : (d : Dev) → Grows (old.loses d) (new.loses d)
+  grows Ckpt1 = inr (risen (old.loses Ckpt1) (new.loses Ckpt1) (loses.counted Ckpt1 refl))
+  grows Ckpt2 = inl (loses.else_counted Ckpt2 first_part)
+  grows (Spool n) = inl (loses.else_counted (Spool n) (spool_part n Ckpt1 tt))
+
+pub course_second : (a a' b b' : Bool) (old new : View) → Loses (DiskPart Ckpt2) old new → b' ≡ false → a' ≡ a → Course a a' b b' old new
+course_second a a' b b' old new loses dead same = record {
+  goes = loses.goes;
+  failed1 = λ was not. absurd (no a was (sym same ∙ not));
+  failed2 = λ was not. inr (risen (old.loses Ckpt2) (new.loses Ckpt2) (loses.counted Ckpt2 refl));
+  there1 = λ is there. loses.else_lost (DiskPart Ckpt1) second_part ∙ there;
+  there2 = λ is there. absurd (no b' is dead);
+  alive1 = λ is. sym same ∙ is;
+  alive2 = λ is. absurd (no b' is dead);
+  grow = grows;
+} where
+  grows : (d : Dev) → Grows (old.loses d) (new.loses d)
+  grows Ckpt1 = inl (loses.else_counted Ckpt1 second_part)
+  grows Ckpt2 = inr (risen (old.loses Ckpt2) (new.loses Ckpt2) (loses.counted Ckpt2 refl))
+  grows (Spool n) = inl (loses.else_counted (Spool n) (spool_part n Ckpt2 tt))
 
 -- one of two copies that are left
 pub left : {A B : Type 0} (x y : Bool) → (x || y) ≡ true → (x ≡ true → A) → (y ≡ true → B) → A ⊎ B

@@ -1,8 +1,10 @@
 pub mod BatchLemmas
-pub mod OneJobLemmas
+pub mod EnteringLemmas
 pub mod DrawnLemmas
 pub mod CourseLemmas
 pub mod WriteLemmas
 pub mod StepLemmas
+pub mod LineLemmas
+pub mod PlayLemmas
 pub mod RunLemmas
 pub mod RefusalLemmas

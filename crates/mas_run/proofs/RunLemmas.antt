@@ -1,10 +1,23 @@
 -- A run, from what its step leaves.
-use Rattle.std.proofs.Common.{◌≡◌, ◌≢◌, ◌⊎◌, inl, inr, ⊎_elim, ℕ, zero, suc, ◌≤◌, ◌<◌, Bool, true, false, List, [], ◌∷◌, ◌++◌, length, map, Option, Some, None, Result, Ok, Err, refl, sym, ◌∙◌, ap, subst, arith, append-nil}
+use Rattle.std.proofs.Common.{◌≡◌, ◌≢◌, ◌⊎◌, inl, inr, ⊎_elim, ℕ, zero, suc, ◌+◌, ◌<◌, Bool, true, false, List, [], ◌∷◌, ◌++◌, length, map, take, Option, Some, None, Result, Ok, Err, refl, sym, ◌∙◌, ap, subst, arith, replicate, codes, All}
 use Rattle.std.proofs.Math.Logic.{∥∥₁_map, ∥∥₁_elim}
 use Rattle.std.specs.Coded.{Coded, Coded-set, coded_ℕ, code_by, ×_prop, le_prop}
-use Rattle.std.proofs.lemmas.List.Elements.{All-nil, All-cons}
-use Rattle.mas_types.specs.declared.ids.Dev.TheVariants.{Ckpt1, Ckpt2}
-use Rattle.mas_types.specs.declared.jobs.JobFields.{JobFields}
+use Rattle.std.specs.List.{list_any}
+use Rattle.std.proofs.lemmas.List.Elements.{All-nil, All-weaker}
+use Rattle.mas_types.specs.declared.ids.MemberId.{MemberId}
+use Rattle.mas_types.specs.declared.queues.Owner.TheVariants.{Free}
+use Rattle.mas_types.specs.Ids.{same_name}
+use Rattle.mas_types.specs.Owners.{is_members}
+use Rattle.lay_bytes.specs.declared.records.JobRec.{JobRec}
+use Rattle.ckpt_pages.specs.declared.tables.Tables.{Tables}
+use Rattle.ckpt_pages.specs.QueueOf.{used}
+use Rattle.ckpt_pages.specs.Starts.{empty_tables}
+use Rattle.first_script.specs.declared.asked.Asked.TheVariants.{Deck, Lose}
+use Rattle.first_script.specs.Steps.{IsFitStep}
+use Rattle.mas_run.specs.Entering.{MayEnter, AreBelow}
+use Rattle.mas_types.specs.declared.ids.Dev.TheVariants.{Ckpt1, Ckpt2, Spool}
+use Rattle.mas_types.specs.declared.ids.Dev.{Dev}
+use Rattle.first_script.specs.declared.asked.Asked.{Asked}
 use Rattle.mas_types.specs.declared.journals.Batch.{Batch}
 use Rattle.mas_types.specs.declared.journals.Journal.{Journal}
 use Rattle.mas_types.specs.declared.journals.Fate.{Fate}
@@ -15,25 +28,26 @@ use Rattle.mas_types.specs.declared.answers.Status.TheVariants as status
 use Rattle.mas_types.specs.Starts.{default_config, empty_queue}
 use Rattle.spool_disk.specs.View.{View, World, Line, Disk}
 use Rattle.spool_disk.specs.declared.plant.Part.TheVariants.{Disk as DiskPart, Console}
-use Rattle.spool_disk.specs.Acts.{Goes, top}
+use Rattle.spool_disk.specs.Acts.{Goes, Rose, top}
 use Rattle.ckpt_copy.specs.Areas.{reads}
-use Rattle.duplex_pair.specs.Halves.{SomeAlive, IsBothLost}
+use Rattle.duplex_pair.specs.Halves.{SomeAlive, IsBothLost, IsCkpt}
 use Rattle.duplex_pair.specs.Both.{PairActed}
 use Rattle.ckpt_copy.specs.Pages.{level}
 use Rattle.mas_complex.specs.declared.places.Place.TheVariants.{Before}
 use Rattle.mas_complex.specs.Meaning.{StandFor}
 use Rattle.mas_complex.specs.Crash.{Setting, setting, Copy, Keeps, IsLeft, IsFound, found, CopyAt, copy_of}
 use Rattle.mas_complex.specs.Headline.{Headline, FoundFor, AreToldKept, whole}
-use Rattle.mas_complex.specs.Journals.{begun, fated}
 use Rattle.mas_run.specs.declared.running.StepNo.{StepNo}
 use Rattle.mas_run.specs.declared.running.StepNo.TheVariants as no_step
-use Rattle.mas_run.specs.Decks.{sysa, deck_entries, deck_line, output}
+use Rattle.mas_run.specs.Decks.{sysa}
+use Rattle.mas_run.specs.Steps.{IfDeck, IfLose, output, loses_after}
+use Rattle.mas_run.specs.Plays.{Ends, IfNotLost, ArePlayed}
 use Rattle.mas_run.specs.Told.{torn, console_now}
 use Rattle.mas_run.specs.Crash.{IsFresh}
-use Rattle.mas_run.specs.Stops.{Course, IsStep, HasKept, HasFlying}
-use Rattle.mas_run.specs.Runs.{IsHistory, AreKept, Adds, IsStopped, IsRun}
-use Rattle.mas_run.specs.Statuses.{IsCaused, IsCausedFrom, status_of}
-use Rattle.mas_run.proofs.CourseLemmas.{left, rose_later, rose_more}
+use Rattle.mas_run.specs.Stops.{Course}
+use Rattle.mas_run.specs.Runs.{AreKept, HasLost, IsStopped, IsRun}
+use Rattle.mas_run.specs.Statuses.{Grows, IsCaused, IsCausedFrom, status_of}
+use Rattle.mas_run.proofs.CourseLemmas.{left, lost_later, lost_more, has_lost_later}
 
 -- WHAT THE SHARED VALUE SAYS
 
@@ -79,141 +93,130 @@ told_of base since J v head t from le by at end telling there k d lt has =
 
 -- THE RUN
 
-module _ (told : Type 0) (fields : JobFields) (base : Queue) (is : base ≡ empty_queue default_config []) (journal : Journal) (old new : View) (a a' b b' : Bool)
-    (fresh : told → ∥ IsFresh reads base old.now new ∥₁) (head : told → ∥ Headline reads base old.now journal new ∥₁)
-    (there1 : a ≡ true → old.lost (DiskPart Ckpt1) ≡ false) (there2 : b ≡ true → old.lost (DiskPart Ckpt2) ≡ false) where
-  abbrev the_batch : Batch
-  the_batch = begun old.now sysa (deck_entries base sysa 1 fields)
+not_lost : {T : Type 0} (answer : Result T StepNo) (A : Type 0) → status_of answer ≢ status.BothLost → IfNotLost answer A → A
+not_lost (Ok done) A ne a = a
+not_lost (Err no_step.NoMemory) A ne a = a
+not_lost (Err no_step.Lost) A ne a = absurd (ne refl)
+not_lost (Err no_step.Unsaid) A ne a = a
+not_lost (Err no_step.Stopped) A ne a = a
 
-  abbrev Step : {T : Type 0} → Result T StepNo → Type 0
-  Step answer = IsStep told sysa.0 (deck_line base sysa 1 fields) the_batch journal.batches a a' b b' old new answer
+left_now : (old new : View) (a a' b b' : Bool) → (a ≡ true → old.lost (DiskPart Ckpt1) ≡ false) → (b ≡ true → old.lost (DiskPart Ckpt2) ≡ false) → Course a a' b b' old new → SomeAlive a' b' ⊎ HasLost old new
+    → ((new.lost (DiskPart Ckpt1) ≡ false) ⊎ (new.lost (DiskPart Ckpt2) ≡ false)) ⊎ HasLost old new
+left_now old new a a' b b' there1 there2 course some =
+    ⊎_elim (λ alive. inl (left a' b' alive (λ is. course.there1 is (there1 (course.alive1 is))) (λ is. course.there2 is (there2 (course.alive2 is))))) inr some
 
-  kept_history : HasKept journal.batches the_batch new.now → IsHistory base (Some fields) old.now new.now journal
-  kept_history k = inr (fated Kept k.0 the_batch, k.3, record { by = refl; entries = refl; began = (omega arith, omega (arith, k.1, k.2)); ended = inl (refl, k.1, k.2) })
+module _ {T : Type 0} (told : Type 0) (asked : List Asked) (base : Queue) (journal : Journal) (old new : View) (a a' b b' : Bool) where
+  settled : (answer : Result T StepNo) (kept closed : ℕ) (A : Type 0) → status_of answer ≢ status.BothLost → Ends answer kept closed (length asked) A a' b' old new → A ⊎ IsStopped old new
+  settled (Ok done) kept closed A ne ends = inl ends.2
+  settled (Err no_step.NoMemory) kept closed A ne ends = inl ends.1
+  settled (Err no_step.Lost) kept closed A ne ends = absurd (ne refl)
+  settled (Err no_step.Unsaid) kept closed A ne ends = inl ends.1
+  settled (Err no_step.Stopped) kept closed A ne ends = inr ends
 
-  flying_history : old.now ≤ new.now → HasFlying journal.batches the_batch → IsHistory base (Some fields) old.now new.now journal
-  flying_history later f = inr (the_batch, f, record { by = refl; entries = refl; began = (omega arith, later); ended = inr (refl, refl) })
+  finished : (answer : Result T StepNo) (kept closed : ℕ) (A : Type 0) → status_of answer ≡ status.Done → Ends answer kept closed (length asked) A a' b' old new → (closed ≡ length asked) ⊎ IsStopped old new
+  finished (Ok done) kept closed A e ends = inl ends.1
+  finished (Err no_step.NoMemory) kept closed A e ends = absurd (cc)
+  finished (Err no_step.Lost) kept closed A e ends = absurd (cc)
+  finished (Err no_step.Unsaid) kept closed A e ends = absurd (cc)
+  finished (Err no_step.Stopped) kept closed A e ends = inr ends
 
-  all_kept : HasKept journal.batches the_batch new.now → AreKept (Some fields) journal
-  all_kept k = record {
-    each = ap length k.3;
-    kept = rw k.3 (All-cons (λ (b : Batch). b.fate ≡ Kept) (fated Kept k.0 the_batch) [] refl (All-nil (λ (b : Batch). b.fate ≡ Kept)));
+  one_unsaid : (answer : Result T StepNo) (kept closed : ℕ) (A : Type 0) → status_of answer ≡ status.ConsoleFault → Ends answer kept closed (length asked) A a' b' old new → kept ≡ closed + 1
+  one_unsaid (Ok done) kept closed A e ends = absurd (cc)
+  one_unsaid (Err no_step.NoMemory) kept closed A e ends = absurd (cc)
+  one_unsaid (Err no_step.Lost) kept closed A e ends = absurd (cc)
+  one_unsaid (Err no_step.Unsaid) kept closed A e ends = ends.0
+  one_unsaid (Err no_step.Stopped) kept closed A e ends = absurd (cc)
+
+  none_unplayed : (answer : Result T StepNo) (kept closed : ℕ) (A : Type 0) → status_of answer ≡ status.NoMemory → Ends answer kept closed (length asked) A a' b' old new → kept ≡ closed
+  none_unplayed (Ok done) kept closed A e ends = absurd (cc)
+  none_unplayed (Err no_step.NoMemory) kept closed A e ends = ends.0
+  none_unplayed (Err no_step.Lost) kept closed A e ends = absurd (cc)
+  none_unplayed (Err no_step.Unsaid) kept closed A e ends = absurd (cc)
+  none_unplayed (Err no_step.Stopped) kept closed A e ends = absurd (cc)
+
+  none_unkept : (answer : Result T StepNo) (kept closed : ℕ) (A : Type 0) → status_of answer ≡ status.BothLost → Ends answer kept closed (length asked) A a' b' old new → (kept ≡ closed) × IsBothLost a' b'
+  none_unkept (Ok done) kept closed A e ends = absurd (cc)
+  none_unkept (Err no_step.NoMemory) kept closed A e ends = absurd (cc)
+  none_unkept (Err no_step.Lost) kept closed A e ends = ends
+  none_unkept (Err no_step.Unsaid) kept closed A e ends = absurd (cc)
+  none_unkept (Err no_step.Stopped) kept closed A e ends = absurd (cc)
+
+  console_failed : (answer : Result T StepNo) (kept closed : ℕ) (A : Type 0) → status_of answer ≡ status.ConsoleFault → Ends answer kept closed (length asked) A a' b' old new → Rose (old.faults Console) (new.faults Console)
+  console_failed (Ok done) kept closed A e ends = absurd (cc)
+  console_failed (Err no_step.NoMemory) kept closed A e ends = absurd (cc)
+  console_failed (Err no_step.Lost) kept closed A e ends = absurd (cc)
+  console_failed (Err no_step.Unsaid) kept closed A e ends = ends.2
+  console_failed (Err no_step.Stopped) kept closed A e ends = absurd (cc)
+
+  pub caused_by_steps : (answer : Result T StepNo) → ArePlayed told base asked journal.batches a a' b b' old new answer → (a' ≡ false → new.lost (DiskPart Ckpt1) ≡ true) → (b' ≡ false → new.lost (DiskPart Ckpt2) ≡ true)
+      → IsCausedFrom a b (status_of answer) old new
+  caused_by_steps answer p lost1 lost2 = record {
+    lost = λ e. let both = (none_unkept answer p.kept p.closed (AreKept base 1 (take p.kept asked) old.now new.now journal.batches) e p.ends).1 in (lost1 both.0, lost2 both.1);
+    failed1 = λ e was. p.course.failed1 was (none_unkept answer p.kept p.closed (AreKept base 1 (take p.kept asked) old.now new.now journal.batches) e p.ends).1.0;
+    failed2 = λ e was. p.course.failed2 was (none_unkept answer p.kept p.closed (AreKept base 1 (take p.kept asked) old.now new.now journal.batches) e p.ends).1.1;
+    console = λ e. console_failed answer p.kept p.closed (AreKept base 1 (take p.kept asked) old.now new.now journal.batches) e p.ends;
   }
 
-  left_now : Course a a' b b' old new → SomeAlive a' b' → (new.lost (DiskPart Ckpt1) ≡ false) ⊎ (new.lost (DiskPart Ckpt2) ≡ false)
-  left_now course some = left a' b' some (λ is. course.there1 is (there1 (course.alive1 is))) (λ is. course.there2 is (there2 (course.alive2 is)))
-
-  run_with : (answer : Status) → Goes old new → IsHistory base (Some fields) old.now new.now journal
-      → (answer ≡ status.Done → AreKept (Some fields) journal ⊎ IsStopped old new) → (answer ≡ status.ConsoleFault → AreKept (Some fields) journal) → (answer ≡ status.NoMemory → journal.batches ≡ [])
-      → (told → Adds (output base (Some fields)) (console_now old) (console_now new) (AreKept (Some fields) journal) (IsStopped old new))
-      → (told → answer ≡ status.Done → (console_now new ≡ console_now old ++ map whole (output base (Some fields))) ⊎ IsStopped old new)
-      → (answer ≢ status.BothLost → (new.lost (DiskPart Ckpt1) ≡ false) ⊎ (new.lost (DiskPart Ckpt2) ≡ false))
-      → IsRun told (Some fields) answer base journal old.now old new
-  run_with answer goes history done unsaid unplayed said closed there = record {
-    queue = is;
-    moment = (omega arith, goes.later);
-    fresh = fresh;
-    quiet = λ t. ap (λ (w : World). w.console) (goes.past old.now (omega arith));
-    history = history;
-    done = done;
-    unsaid = unsaid;
-    unplayed = unplayed;
-    said = said;
-    closed = closed;
-    crash = λ t. ∥∥₁_map (head t) (λ h. h.crash);
-    told = λ t. told_of base old.now journal new (head t);
-    there = there;
-  }
-
-  pub run_of_step : {T : Type 0} (answer : Result T StepNo) → Step answer → IsRun told (Some fields) (status_of answer) base journal old.now old new
-  run_of_step (Ok done) s = run_with status.Done s.course.goes (kept_history s.journal)
-      (λ d. inl (all_kept s.journal)) (λ d. absurd (cc)) (λ d. absurd (cc))
-      (λ t. inr (inl (s.console t, all_kept s.journal))) (λ t d. inl (s.console t)) (λ ne. left_now s.course s.cause)
-  run_of_step (Err no_step.NoMemory) s = run_with status.NoMemory s.course.goes (inl s.journal)
-      (λ d. absurd (cc)) (λ d. absurd (cc)) (λ d. s.journal)
-      (λ t. inl (s.console t)) (λ t d. absurd (cc)) (λ ne. left_now s.course s.cause)
-  run_of_step (Err no_step.Lost) s = run_with status.BothLost s.course.goes (flying_history s.course.goes.later s.journal)
-      (λ d. absurd (cc)) (λ d. absurd (cc)) (λ d. absurd (cc))
-      (λ t. inl (s.console t)) (λ t d. absurd (cc)) (λ ne. absurd (ne refl))
-  run_of_step (Err no_step.Unsaid) s = run_with status.ConsoleFault s.course.goes (kept_history s.journal)
-      (λ d. absurd (cc)) (λ d. all_kept s.journal) (λ d. absurd (cc))
-      (λ t. inl (s.console t)) (λ t d. absurd (cc)) (λ ne. left_now s.course s.cause.0)
-  run_of_step (Err no_step.Stopped) s = run_with status.Done s.course.goes
-      (⊎_elim (λ f. flying_history s.course.goes.later f) (λ k. kept_history k) s.journal)
-      (λ d. inr s.cause.1) (λ d. absurd (cc)) (λ d. absurd (cc))
-      (λ t. ⊎_elim inl (λ more. ⊎_elim (λ all. inr (inl (all.0, all_kept all.1))) (λ part. inr (inr (part.0, part.1, s.cause.1))) more) (s.console t))
-      (λ t d. inr s.cause.1) (λ ne. left_now s.course s.cause.0)
-
-  pub caused_by_step : {T : Type 0} (answer : Result T StepNo) → Step answer → (a' ≡ false → new.lost (DiskPart Ckpt1) ≡ true) → (b' ≡ false → new.lost (DiskPart Ckpt2) ≡ true) → IsCausedFrom a b (status_of answer) old new
-  caused_by_step (Ok done) s lost1 lost2 = record { lost = λ d. absurd (cc); failed1 = λ d. absurd (cc); failed2 = λ d. absurd (cc); console = λ d. absurd (cc) }
-  caused_by_step (Err no_step.NoMemory) s lost1 lost2 = record { lost = λ d. absurd (cc); failed1 = λ d. absurd (cc); failed2 = λ d. absurd (cc); console = λ d. absurd (cc) }
-  caused_by_step (Err no_step.Lost) s lost1 lost2 = record {
-    lost = λ d. (lost1 s.cause.0, lost2 s.cause.1);
-    failed1 = λ d was. s.course.failed1 was s.cause.0;
-    failed2 = λ d was. s.course.failed2 was s.cause.1;
-    console = λ d. absurd (cc);
-  }
-  caused_by_step (Err no_step.Unsaid) s lost1 lost2 = record { lost = λ d. absurd (cc); failed1 = λ d. absurd (cc); failed2 = λ d. absurd (cc); console = λ d. s.cause.1 }
-  caused_by_step (Err no_step.Stopped) s lost1 lost2 = record { lost = λ d. absurd (cc); failed1 = λ d. absurd (cc); failed2 = λ d. absurd (cc); console = λ d. absurd (cc) }
-
--- the batches of a step by another name
-pub step_out : {T : Type 0} (told : Type 0) (by : ℕ) (line : List ℕ) (b : Batch) (bs batches : List Batch) (was1 is1 was2 is2 : Bool) (old new : View) (answer : Result T StepNo) → batches ≡ bs
-    → IsStep told by line b bs was1 is1 was2 is2 old new answer → IsStep told by line b batches was1 is1 was2 is2 old new answer
-step_out told by line b bs batches was1 is1 was2 is2 old new answer same step =
-    subst (λ (x : List Batch). IsStep told by line b x was1 is1 was2 is2 old new answer) (sym same) step
-
--- a run of a script without a deck
-pub run_of_none : (told : Type 0) (base : Queue) → base ≡ empty_queue default_config [] → (journal : Journal) → journal.batches ≡ [] → (v : View) (a b : Bool) → (told → ∥ IsFresh reads base v.now v ∥₁)
-    → (told → ∥ Headline reads base v.now journal v ∥₁) → SomeAlive a b → (a ≡ true → v.lost (DiskPart Ckpt1) ≡ false) → (b ≡ true → v.lost (DiskPart Ckpt2) ≡ false) → IsRun told None status.Done base journal v.now v v
-run_of_none told base is journal none v a b fresh head some there1 there2 = record {
-  queue = is;
-  moment = (omega arith, omega arith);
-  fresh = fresh;
-  quiet = λ t. refl;
-  history = none;
-  done = λ d. inl (record { each = ap length none; kept = rw none (All-nil (λ (b : Batch). b.fate ≡ Kept)) });
-  unsaid = λ d. absurd (cc);
-  unplayed = λ d. none;
-  said = λ t. inl refl;
-  closed = λ t d. inl (sym (append-nil (console_now v)));
-  crash = λ t. ∥∥₁_map (head t) (λ h. h.crash);
-  told = λ t. told_of base v.now journal v (head t);
-  there = λ ne. left a b some there1 there2;
-}
+  module _ (is : base ≡ empty_queue default_config []) (fresh : told → ∥ IsFresh reads base old.now new ∥₁) (head : told → ∥ Headline reads base old.now journal new ∥₁)
+      (there1 : a ≡ true → old.lost (DiskPart Ckpt1) ≡ false) (there2 : b ≡ true → old.lost (DiskPart Ckpt2) ≡ false) where
+    pub run_of_steps : (answer : Result T StepNo) → ArePlayed told base asked journal.batches a a' b b' old new answer → IsRun told asked (status_of answer) base journal old.now old new
+    run_of_steps answer p = record {
+      queue = is;
+      moment = (omega arith, p.course.goes.later);
+      fresh = fresh;
+      quiet = λ t. ap (λ (w : World). w.console) (p.course.goes.past old.now (omega arith));
+      kept = p.kept;
+      closed = p.closed;
+      few = p.few;
+      history = p.history;
+      settled = λ ne. settled answer p.kept p.closed (AreKept base 1 (take p.kept asked) old.now new.now journal.batches) ne p.ends;
+      done = λ e. finished answer p.kept p.closed (AreKept base 1 (take p.kept asked) old.now new.now journal.batches) e p.ends;
+      unsaid = λ e. one_unsaid answer p.kept p.closed (AreKept base 1 (take p.kept asked) old.now new.now journal.batches) e p.ends;
+      unplayed = λ e. none_unplayed answer p.kept p.closed (AreKept base 1 (take p.kept asked) old.now new.now journal.batches) e p.ends;
+      unkept = λ e. (none_unkept answer p.kept p.closed (AreKept base 1 (take p.kept asked) old.now new.now journal.batches) e p.ends).0;
+      said = p.said;
+      loses = p.loses;
+      crash = λ t. ∥∥₁_map (head t) (λ h. h.crash);
+      told = λ t. told_of base old.now journal new (head t);
+      there = λ ne. left_now old new a a' b b' there1 there2 p.course (not_lost answer (SomeAlive a' b' ⊎ HasLost old new) ne p.left);
+    }
 
 -- THE RUN AS THE CALL HAS IT, which began before the formatting
 
-pub run_since : (tells : Type 0) (asked : Option JobFields) (answer : Status) (base : Queue) (journal : Journal) (since : ℕ) (entry old new : View) → Goes entry old
+pub run_since : (tells : Type 0) (asked : List Asked) (answer : Status) (base : Queue) (journal : Journal) (since : ℕ) (entry old new : View) → Goes entry old → ((d : Dev) → old.loses d ≡ entry.loses d)
     → (tells → console_now old ≡ console_now entry) → IsRun tells asked answer base journal since old new → IsRun tells asked answer base journal since entry new
-run_since tells asked answer base journal since entry old new goes quiet r = record {
+run_since tells asked answer base journal since entry old new goes same quiet r = record {
   queue = r.queue;
   moment = (omega (arith, r.moment.0, goes.later), r.moment.1);
   fresh = r.fresh;
   quiet = λ t. r.quiet t ∙ quiet t;
+  kept = r.kept;
+  closed = r.closed;
+  few = r.few;
   history = r.history;
+  settled = λ ne. ⊎_elim inl (λ s. inr (stopped s)) (r.settled ne);
   done = λ d. ⊎_elim inl (λ s. inr (stopped s)) (r.done d);
   unsaid = r.unsaid;
   unplayed = r.unplayed;
-  said = λ t. ⊎_elim (λ none. inl (none ∙ quiet t))
-      (λ more. ⊎_elim (λ all. inr (inl (all.0 ∙ ap (λ (ls : List Line). ls ++ map whole (output base asked)) (quiet t), all.1)))
-      (λ part. inr (inr (part.0, part.1 ∙ ap (λ (ls : List Line). ls ++ torn part.0 ∷ []) (quiet t), stopped part.2))) more)
+  unkept = r.unkept;
+  said = λ t. ⊎_elim (λ none. inl (none ∙ ap (λ (ls : List Line). ls ++ map whole (output base (take r.closed asked))) (quiet t)))
+      (λ more. ⊎_elim (λ all. inr (inl (all.0 ∙ ap (λ (ls : List Line). ls ++ map whole (output base (take r.kept asked))) (quiet t), stopped all.1)))
+      (λ part. inr (inr (part.0, part.1 ∙ ap (λ (ls : List Line). (ls ++ map whole (output base (take r.closed asked))) ++ torn part.0 ∷ []) (quiet t), stopped part.2))) more)
       (r.said t);
-  closed = λ t d. ⊎_elim (λ all. inl (all ∙ ap (λ (ls : List Line). ls ++ map whole (output base asked)) (quiet t))) (λ s. inr (stopped s)) (r.closed t d);
+  loses = λ d. r.loses d ∙ ap (loses_after d (take r.kept asked)) (same d);
   crash = r.crash;
   told = r.told;
-  there = r.there;
+  there = λ ne. ⊎_elim inl (λ lost. inr (has_lost_later entry old new (λ d. inl (same d)) lost)) (r.there ne);
 } where
   stopped : IsStopped old new → IsStopped entry new
   stopped s = omega (arith, goes.stops sysa.0, s)
 
--- which copies failed: in the formatting, or later
-pub caused_since : (by : ℕ) (a b stopped : Bool) (answer : Status) (entry old new : View) → PairActed by true a true b stopped entry old → Goes old new → IsCausedFrom a b answer old new → IsCaused answer entry new
-caused_since by a b stopped answer entry old new formed goes caused = record {
+-- how both copies were lost: in the formatting, or later
+pub caused_since : (by : ℕ) (a b stopped : Bool) (answer : Status) (entry old new : View) → PairActed by true a true b stopped entry old → Goes old new → ((d : Dev) → Grows (old.loses d) (new.loses d)) → IsCausedFrom a b answer old new → IsCaused answer entry new
+caused_since by a b stopped answer entry old new formed goes grow caused = record {
   lost = caused.lost;
-  failed1 = λ d. by_copy a (λ is. rose_later (entry.faults (DiskPart Ckpt1)) (old.faults (DiskPart Ckpt1)) (new.faults (DiskPart Ckpt1)) (formed.goes.faults (DiskPart Ckpt1)) (caused.failed1 d is))
-      (λ not. rose_more (entry.faults (DiskPart Ckpt1)) (old.faults (DiskPart Ckpt1)) (new.faults (DiskPart Ckpt1)) (formed.failed1 refl not) (goes.faults (DiskPart Ckpt1)));
-  failed2 = λ d. by_copy b (λ is. rose_later (entry.faults (DiskPart Ckpt2)) (old.faults (DiskPart Ckpt2)) (new.faults (DiskPart Ckpt2)) (formed.goes.faults (DiskPart Ckpt2)) (caused.failed2 d is))
-      (λ not. rose_more (entry.faults (DiskPart Ckpt2)) (old.faults (DiskPart Ckpt2)) (new.faults (DiskPart Ckpt2)) (formed.failed2 refl not) (goes.faults (DiskPart Ckpt2)));
+  failed1 = λ d. by_copy a (λ is. lost_later Ckpt1 entry old new formed.goes (inl (formed.loses Ckpt1)) (caused.failed1 d is)) (λ not. lost_more Ckpt1 entry old new (inl (formed.failed1 refl not)) goes (grow Ckpt1));
+  failed2 = λ d. by_copy b (λ is. lost_later Ckpt2 entry old new formed.goes (inl (formed.loses Ckpt2)) (caused.failed2 d is)) (λ not. lost_more Ckpt2 entry old new (inl (formed.failed2 refl not)) goes (grow Ckpt2));
   console = λ d. omega (arith, formed.goes.faults Console, caused.console d);
 } where
   by_copy : {A : Type 0} (x : Bool) → (x ≡ true → A) → (x ≡ false → A) → A
@@ -224,8 +227,8 @@ caused_since by a b stopped answer entry old new formed goes caused = record {
 pub caused_formed : (by : ℕ) (a b stopped : Bool) (entry new : View) → PairActed by true a true b stopped entry new → IsBothLost a b → IsCaused status.BothLost entry new
 caused_formed by a b stopped entry new formed both = record {
   lost = λ d. (formed.is_lost1 refl both.0, formed.is_lost2 refl both.1);
-  failed1 = λ d. formed.failed1 refl both.0;
-  failed2 = λ d. formed.failed2 refl both.1;
+  failed1 = λ d. inl (formed.failed1 refl both.0);
+  failed2 = λ d. inl (formed.failed2 refl both.1);
   console = λ d. absurd (cc);
 }
 
@@ -237,3 +240,37 @@ formed_copy base now reached rests holds alive disk pages at_level stand rested 
   at = λ is. record { was = pages; stands = record { at_level = at_level; queue = stand }; here = rested is };
   gone = gone;
 }
+
+-- WHAT MAY BE ASKED OF THE EMPTY QUEUE
+
+none_of : (by : MemberId) (n : ℕ) → list_any (is_members by) (replicate n Free) ≡ false
+none_of by zero = refl
+none_of by (suc n) = none_of by n
+
+none_used : (P : JobRec → Type 0) (n : ℕ) → All P (used (replicate n None))
+none_used P zero = All-nil P
+none_used P (suc n) = none_used P n
+
+pub below_empty : (t : Tables) → t ≡ empty_tables default_config [] → AreBelow t
+below_empty t is = subst AreBelow (sym is) (none_used (λ job. job.order < 0) 256)
+
+step_may : (s : Asked) → IsFitStep default_config.node s → IfDeck s (MayEnter default_config (replicate 512 Free) sysa)
+step_may (Deck fields) fit = record {
+  node = ap (λ n. same_name n default_config.node) fit.0 ∙ refl;
+  groups = none_of sysa 512;
+  fit = fit.2 (codes "HERE", refl, refl);
+}
+step_may (Lose dev) fit = tt
+
+pub all_may : (t : Tables) (asked : List Asked) → t ≡ empty_tables default_config [] → All (IsFitStep default_config.node) asked → All (λ step. IfDeck step (MayEnter t.config t.owners sysa)) asked
+all_may t asked is fits = subst (λ (u : Tables). All (λ step. IfDeck step (MayEnter u.config u.owners sysa)) asked) (sym is)
+    (All-weaker (IsFitStep default_config.node) (λ step. IfDeck step (MayEnter default_config (replicate 512 Free) sysa)) step_may asked fits)
+
+copy_of_step : (s : Asked) → IsFitStep default_config.node s → IfLose s IsCkpt
+copy_of_step (Deck fields) fit = tt
+copy_of_step (Lose Ckpt1) fit = tt
+copy_of_step (Lose Ckpt2) fit = tt
+copy_of_step (Lose (Spool v)) fit = absurd fit
+
+pub all_copies : (asked : List Asked) → All (IsFitStep default_config.node) asked → All (λ step. IfLose step IsCkpt) asked
+all_copies asked fits = All-weaker (IsFitStep default_config.node) (λ step. IfLose step IsCkpt) copy_of_step asked fits

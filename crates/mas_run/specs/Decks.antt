@@ -1,25 +1,29 @@
 -- What a deck gives: its commands, and the line with which its step closes.
-use Rattle.std.specs.Prelude.{ℕ, List, [], ◌∷◌, Option, Some, None}
+use Rattle.std.specs.Prelude.{ℕ, List, [], ◌∷◌}
 use Rattle.mas_types.specs.declared.ids.MemberId.{MemberId}
 use Rattle.mas_types.specs.declared.jobs.JobFields.{JobFields}
 use Rattle.mas_types.specs.declared.journals.Entry.{Entry}
 use Rattle.mas_types.specs.declared.commands.Command.{Command}
 use Rattle.mas_types.specs.declared.commands.Command.TheVariants.{Begin, Enter}
 use Rattle.mas_types.specs.declared.commands.Reply.{Reply}
-use Rattle.mas_types.specs.declared.commands.Reply.TheVariants.{Plain}
+use Rattle.mas_types.specs.declared.commands.Reply.TheVariants.{Plain, Job}
 use Rattle.mas_types.specs.declared.answers.Closing.TheVariants as closing
 use Rattle.mas_types.specs.declared.queues.Queue.{Queue}
-use Rattle.mas_types.specs.Number.{next_number}
 use Rattle.mas_types.specs.Closings.{closing_line}
 use Rattle.mas_complex.specs.Meaning.{step}
 
--- the first member, whose deck it is
+-- the first member, whose decks they are
 abbrev pub sysa : MemberId
 sysa = record { 0 = 1 }
 
+-- Enter of the job that began, which has no text; nothing where Begin was refused
+abbrev pub entering : Reply → List Command
+entering (Job number) = Enter number [] ∷ []
+entering _ = []
+
 -- the commands of a deck: a job begins with these fields, and is entered under the number that it got
-abbrev pub deck_commands : Queue → JobFields → List Command
-deck_commands Q fields = Begin fields ∷ Enter (next_number Q.jobs Q.last) [] ∷ []
+abbrev pub deck_commands : Queue → MemberId → JobFields → List Command
+deck_commands Q by fields = Begin fields ∷ entering (step Q by (Begin fields)).1
 
 -- the entries of commands that a member gives in a step, each with the reply that it has at its place
 abbrev pub entries_of : Queue → MemberId → ℕ → List Command → List Entry
@@ -29,7 +33,7 @@ entries_of Q by at (c ∷ cs) =
 
 -- the entries of a deck that a member reads in a step
 abbrev pub deck_entries : Queue → MemberId → ℕ → JobFields → List Entry
-deck_entries Q by at fields = entries_of Q by at (deck_commands Q fields)
+deck_entries Q by at fields = entries_of Q by at (deck_commands Q by fields)
 
 -- the reply to the last of some entries
 abbrev pub last_reply : List Entry → Reply
@@ -40,8 +44,3 @@ last_reply (e ∷ next ∷ es) = last_reply (next ∷ es)
 -- the line with which the deck's step closes
 abbrev pub deck_line : Queue → MemberId → ℕ → JobFields → List ℕ
 deck_line Q by at fields = closing_line by at (closing.Reply (last_reply (deck_entries Q by at fields)))
-
--- the lines of a script that asks for no job or for one: each step closes with one line
-abbrev pub output : Queue → Option JobFields → List (List ℕ)
-output Q None = []
-output Q (Some fields) = deck_line Q sysa 1 fields ∷ []

@@ -1,5 +1,5 @@
--- The tables of a queue with no job, and with one.
-use Rattle.std.specs.Prelude.{◌≡◌, ℕ, ◌+◌, ◌^◌, ◌<◌, ◌≤◌, true, false, List, [], ◌∷◌, length, Some, slice_set}
+-- A job that is entered into tables.
+use Rattle.std.specs.Prelude.{◌≡◌, ℕ, ◌+◌, ◌<◌, true, false, List, [], ◌∷◌, All, Some, None, slice_get, slice_set}
 use Rattle.std.specs.List.{list_any}
 use Rattle.mas_types.specs.declared.ids.MemberId.{MemberId}
 use Rattle.mas_types.specs.declared.ids.JobNo.{JobNo}
@@ -7,34 +7,32 @@ use Rattle.mas_types.specs.declared.jobs.JobFields.{JobFields}
 use Rattle.mas_types.specs.declared.jobs.Phase.TheVariants as phase
 use Rattle.mas_types.specs.declared.journals.Entry.{Entry}
 use Rattle.mas_types.specs.declared.commands.Command.TheVariants.{Begin, Enter}
-use Rattle.mas_types.specs.declared.commands.Reply.TheVariants.{Job}
+use Rattle.mas_types.specs.declared.commands.Reply.TheVariants.{Job, No}
+use Rattle.mas_types.specs.declared.commands.Refusal.TheVariants.{JobsFull}
+use Rattle.mas_types.specs.declared.queues.Config.{Config}
+use Rattle.mas_types.specs.declared.queues.Owner.{Owner}
 use Rattle.mas_types.specs.Ids.{nobody, same_name}
 use Rattle.mas_types.specs.Owners.{is_members}
 use Rattle.mas_types.specs.Fit.{IsJobFields}
-use Rattle.mas_types.specs.Limits.{number_most}
-use Rattle.mas_types.specs.Number.{after}
+use Rattle.mas_types.specs.Number.{next_number}
 use Rattle.lay_bytes.specs.declared.records.JobRec.{JobRec}
 use Rattle.ckpt_pages.specs.declared.tables.Tables.{Tables}
 use Rattle.ckpt_pages.specs.QueueOf.{used}
+use Rattle.mas_run.specs.Standing.{queue_of}
 
--- there are slots for jobs, and none is used
-pub record HasNoJob (t : Tables) : Type 0 where
-  pub slots : 0 < length t.jobs
-  pub unused : used t.jobs ≡ []
-
--- A deck of these fields may be entered by the member: its job is the first, its node is the own one, and the member
--- has no groups.
-pub record MayEnter (t : Tables) (by : MemberId) (fields : JobFields) : Type 0 where
-  pub none : HasNoJob t
-  pub room : 0 < t.config.jobs
-  pub node : same_name fields.node t.config.node ≡ true
-  pub groups : list_any (is_members by) t.owners ≡ false
+-- a job of these fields may be entered by the member: its node is the own one, and the member has no groups
+pub record MayEnter (config : Config) (owners : List Owner) (by : MemberId) (fields : JobFields) : Type 0 where
+  pub node : same_name fields.node config.node ≡ true
+  pub groups : list_any (is_members by) owners ≡ false
   pub fit : IsJobFields fields
-  pub order : t.order + 1 < 2 ^ 63
-  pub last : t.last.0 ≤ number_most
 
-abbrev pub number_after : JobNo → JobNo
-number_after last = record { 0 = after last.0 }
+-- each job's order is below the next one
+abbrev pub AreBelow : Tables → Type 0
+AreBelow t = All (λ job. job.order < t.order) (used t.jobs)
+
+-- the number of a new job
+abbrev pub new_number : Tables → JobNo
+new_number t = next_number (queue_of t).jobs t.last
 
 -- a job that was entered, and waits for its conversion
 abbrev pub in_convert : JobFields → JobNo → ℕ → JobRec
@@ -48,12 +46,22 @@ in_convert fields number order = record {
   order = order;
 }
 
--- the tables with a job in the lowest slot, which has the next number and the next order
-abbrev pub with_job : JobRec → Tables → Tables
-with_job job t = record t { jobs = slice_set t.jobs 0 (Some job); last = job.number; order = t.order + 1 }
+-- the tables with a job in a slot, which has the next number and the next order
+abbrev pub with_job : ℕ → JobRec → Tables → Tables
+with_job at job t = record t { jobs = slice_set t.jobs at (Some job); last = job.number; order = t.order + 1 }
+
+-- the tables with the job of a deck in a slot that was free
+pub record HasEntered (fields : JobFields) (number : JobNo) (old new : Tables) : Type 0 where
+  pub at : ℕ
+  pub free : slice_get old.jobs at ≡ Some None
+  pub is : new ≡ with_job at (in_convert fields number old.order) old
 
 -- the entries of a deck whose job got the number
 abbrev pub job_entries : MemberId → ℕ → JobFields → JobNo → List Entry
 job_entries by at fields number =
     record { by = by; step = at; command = Begin fields; reply = Job number }
     ∷ record { by = by; step = at; command = Enter number []; reply = Job number } ∷ []
+
+-- the entries of a deck for whose job there is no room
+abbrev pub full_entries : MemberId → ℕ → JobFields → List Entry
+full_entries by at fields = record { by = by; step = at; command = Begin fields; reply = No JobsFull } ∷ []

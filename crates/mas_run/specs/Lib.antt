@@ -1,11 +1,14 @@
 pub mod Words
 pub mod Refusals
 pub mod Decks
+pub mod Steps
 pub mod Standing
+pub mod Entering
+pub mod Drawn
+pub mod Between
 pub mod Crash
 pub mod Told
 pub mod Runs
 pub mod Statuses
-pub mod OneJob
-pub mod Drawn
 pub mod Stops
+pub mod Plays

@@ -2,20 +2,20 @@
 use Rattle.std.specs.Prelude.{◌≡◌, ◌⊎◌, ℕ, ◌≤◌, ◌<◌, nat_lt, Bool, true, false, not, if◌then◌else◌, List, [], ◌∷◌, length, Option, Some, None, Result, Ok, Err}
 use Rattle.mas_types.specs.declared.ids.Dev.{Dev}
 use Rattle.mas_types.specs.declared.ids.Dev.TheVariants.{Ckpt1, Ckpt2, Spool}
-use Rattle.mas_types.specs.declared.jobs.JobFields.{JobFields}
 use Rattle.mas_types.specs.declared.answers.Status.{Status}
 use Rattle.mas_types.specs.declared.answers.Status.TheVariants as status
 use Rattle.mas_types.specs.Lists.{first_some}
 use Rattle.mas_types.specs.Limits.{script_bytes}
 use Rattle.mas_types.specs.Starts.{default_config}
-use Rattle.first_script.specs.declared.script.BadLine.{BadLine}
+use Rattle.first_script.specs.declared.asked.Asked.{Asked}
+use Rattle.first_script.specs.declared.asked.BadLine.{BadLine}
 use Rattle.first_script.specs.Script.{read_as}
 use Rattle.ckpt_copy.specs.Areas.{areas_size}
 use Rattle.ckpt_pages.specs.Shape.{page_count}
 use Rattle.mas_run.specs.Words.{are_words}
 
--- what a script says to the node of the default configuration: no job, one job, or that a line is refused
-abbrev pub said_by : List ℕ → Result (Option JobFields) BadLine
+-- what a script says to the node of the default configuration: the steps that it asks for, or that a line is refused
+abbrev pub said_by : List ℕ → Result (List Asked) BadLine
 said_by script = read_as default_config.node script
 
 -- how many bytes a checkpoint device needs for the pages of the default configuration
@@ -25,7 +25,7 @@ bytes_needed = areas_size (page_count default_config)
 abbrev pub refused_where : Bool → Status → Option Status
 refused_where holds why = if holds then Some why else None
 
-abbrev pub refused_line : Result (Option JobFields) BadLine → Option Status
+abbrev pub refused_line : Result (List Asked) BadLine → Option Status
 refused_line (Ok asked) = None
 refused_line (Err bad) = Some (status.BadLine bad.line bad.cause)
 
@@ -73,6 +73,6 @@ is_of_script status.NoMemory = true
 is_of_script _ = false
 
 -- a script that asks for this
-pub record IsAsked (script : List ℕ) (asked : Option JobFields) : Type 0 where
+pub record IsAsked (script : List ℕ) (asked : List Asked) : Type 0 where
   pub few : length script ≤ script_bytes
   pub says : said_by script ≡ Ok asked

@@ -1,5 +1,6 @@
 -- Why a run ends.
-use Rattle.std.specs.Prelude.{◌≡◌, ℕ, Bool, true, false, Result, Ok, Err}
+use Rattle.std.specs.Prelude.{◌≡◌, ◌⊎◌, ℕ, Bool, true, false, Result, Ok, Err}
+use Rattle.mas_types.specs.declared.ids.Dev.{Dev}
 use Rattle.mas_types.specs.declared.ids.Dev.TheVariants.{Ckpt1, Ckpt2}
 use Rattle.mas_types.specs.declared.answers.Status.{Status}
 use Rattle.mas_types.specs.declared.answers.Status.TheVariants as status
@@ -9,20 +10,28 @@ use Rattle.spool_disk.specs.Acts.{Rose}
 use Rattle.mas_run.specs.declared.running.StepNo.{StepNo}
 use Rattle.mas_run.specs.declared.running.StepNo.TheVariants as no_step
 
--- A part is named only where its faults rose, and both copies only where both are lost.
+-- a device was lost: its faults rose, or the calls that lose it did
+abbrev pub WasLost : Dev → View → View → Type 0
+WasLost d old new = Rose (old.faults (Disk d)) (new.faults (Disk d)) ⊎ Rose (old.loses d) (new.loses d)
+
+-- a count of calls that lose a device, later: the same, or it rose
+abbrev pub Grows : ℕ → ℕ → Type 0
+Grows old new = (new ≡ old) ⊎ Rose old new
+
+-- a part is named only where its faults rose, and both copies only where both are lost, each by a fault or by a call
 pub record IsCaused (answer : Status) (old new : View) : Type 0 where
   pub lost : answer ≡ status.BothLost → (new.lost (Disk Ckpt1) ≡ true) × (new.lost (Disk Ckpt2) ≡ true)
-  pub failed1 : answer ≡ status.BothLost → Rose (old.faults (Disk Ckpt1)) (new.faults (Disk Ckpt1))
-  pub failed2 : answer ≡ status.BothLost → Rose (old.faults (Disk Ckpt2)) (new.faults (Disk Ckpt2))
+  pub failed1 : answer ≡ status.BothLost → WasLost Ckpt1 old new
+  pub failed2 : answer ≡ status.BothLost → WasLost Ckpt2 old new
   pub console : answer ≡ status.ConsoleFault → Rose (old.faults Console) (new.faults Console)
 
--- no fault of the source or of the console rose, and not those of both copies
+-- no fault of the source or of the console rose, and not both copies were lost
 pub record IsStill (before after : ℕ) (old new : View) : Type 0 where
   pub source : Rose before after → ⊥
-  pub disks : Rose (old.faults (Disk Ckpt1)) (new.faults (Disk Ckpt1)) → Rose (old.faults (Disk Ckpt2)) (new.faults (Disk Ckpt2)) → ⊥
+  pub disks : WasLost Ckpt1 old new → WasLost Ckpt2 old new → ⊥
   pub console : Rose (old.faults Console) (new.faults Console) → ⊥
 
--- the status of a run that has begun and ended with this answer of its step
+-- the status of a run that has begun and ended with this answer of its steps
 abbrev pub status_of : {T : Type 0} → Result T StepNo → Status
 status_of (Ok done) = status.Done
 status_of (Err no_step.NoMemory) = status.NoMemory
@@ -41,6 +50,6 @@ is_of_play _ = false
 -- the same over a part of a run, where these copies counted as alive before it
 pub record IsCausedFrom (one two : Bool) (answer : Status) (old new : View) : Type 0 where
   pub lost : answer ≡ status.BothLost → (new.lost (Disk Ckpt1) ≡ true) × (new.lost (Disk Ckpt2) ≡ true)
-  pub failed1 : answer ≡ status.BothLost → one ≡ true → Rose (old.faults (Disk Ckpt1)) (new.faults (Disk Ckpt1))
-  pub failed2 : answer ≡ status.BothLost → two ≡ true → Rose (old.faults (Disk Ckpt2)) (new.faults (Disk Ckpt2))
+  pub failed1 : answer ≡ status.BothLost → one ≡ true → WasLost Ckpt1 old new
+  pub failed2 : answer ≡ status.BothLost → two ≡ true → WasLost Ckpt2 old new
   pub console : answer ≡ status.ConsoleFault → Rose (old.faults Console) (new.faults Console)

@@ -50,6 +50,10 @@ fn log_both<P: Plant + Drop, C: Steady + Drop>(
     ensures level { complex.new.level ≡ complex.old.level }
     ensures flying { complex.new.current ≡ Some (begun (P.view complex.old.plant).now by (entries_reserved complex.old.reserved)) }
     ensures places { OnOk result ((complex.new.first ≡ AtPut) × (complex.new.second ≡ AtPut)) }
+    ensures count1 { C.count complex.new.pair.first.copy ≡ C.count complex.old.pair.first.copy }
+    ensures count2 { C.count complex.new.pair.second.copy ≡ C.count complex.old.pair.second.copy }
+    ensures behind1 { OnOk result (P.tells → complex.new.pair.first.alive ≡ true → C.behind complex.new.pair.first.copy (disk_now (P.view complex.new.plant) Ckpt1).bytes ≡ bytes_of pages.now) }
+    ensures behind2 { OnOk result (P.tells → complex.new.pair.second.alive ≡ true → C.behind complex.new.pair.second.copy (disk_now (P.view complex.new.plant) Ckpt2).bytes ≡ bytes_of pages.now) }
     ensures room1 { C.room complex.new.pair.first.copy ≡ C.room complex.old.pair.first.copy }
     ensures room2 { C.room complex.new.pair.second.copy ≡ C.room complex.old.pair.second.copy }
     ensures acted { PairActed by.0 complex.old.pair.first.alive complex.new.pair.first.alive complex.old.pair.second.alive complex.new.pair.second.alive (pair_stopped result) (P.view complex.old.plant) (P.view complex.new.plant) }
@@ -77,6 +81,12 @@ fn open_both<P: Plant + Drop, C: Steady + Drop>(
     ensures since { complex.new.since ≡ complex.old.since }
     ensures kept { OnOk result ((b : Batch) → complex.old.current ≡ Some b → complex.new.journal.batches ≡ with_last (fated Kept (P.view complex.new.plant).now b) complex.old.journal.batches) }
     ensures unplaced { OnOk result (complex.new.placed ≡ false) }
+    ensures level { OnOk result (complex.new.level ≡ complex.old.level + 1) }
+    ensures places { OnOk result ((complex.new.first ≡ AtBefore) × (complex.new.second ≡ AtBefore)) }
+    ensures count1 { C.count complex.new.pair.first.copy ≡ C.count complex.old.pair.first.copy }
+    ensures count2 { C.count complex.new.pair.second.copy ≡ C.count complex.old.pair.second.copy }
+    ensures reads1 { OnOk result (P.tells → complex.new.pair.first.alive ≡ true → C.reads (disk_now (P.view complex.new.plant) Ckpt1).bytes ≡ Some (C.behind complex.old.pair.first.copy (disk_now (P.view complex.old.plant) Ckpt1).bytes)) }
+    ensures reads2 { OnOk result (P.tells → complex.new.pair.second.alive ≡ true → C.reads (disk_now (P.view complex.new.plant) Ckpt2).bytes ≡ Some (C.behind complex.old.pair.second.copy (disk_now (P.view complex.old.plant) Ckpt2).bytes)) }
     ensures none { OnOk result (complex.new.current ≡ None) }
     ensures journal { OnErr result (complex.new.journal ≡ complex.old.journal) }
     ensures placed { OnErr result (complex.new.placed ≡ complex.old.placed) }
@@ -120,6 +130,12 @@ pub(crate) fn commit<P: Plant + Drop, C: Steady + Drop>(
     ensures since { complex.new.since ≡ complex.old.since }
     ensures kept { OnOk result (complex.new.journal.batches ≡ with_last (fated Kept (P.view complex.new.plant).now (begun (P.view complex.old.plant).now by (entries_reserved complex.old.reserved))) complex.old.journal.batches) }
     ensures unplaced { OnOk result (complex.new.placed ≡ false) }
+    ensures level { OnOk result (complex.new.level ≡ complex.old.level + 1) }
+    ensures places { OnOk result ((complex.new.first ≡ AtBefore) × (complex.new.second ≡ AtBefore)) }
+    ensures count1 { C.count complex.new.pair.first.copy ≡ C.count complex.old.pair.first.copy }
+    ensures count2 { C.count complex.new.pair.second.copy ≡ C.count complex.old.pair.second.copy }
+    ensures reads1 { OnOk result (P.tells → complex.new.pair.first.alive ≡ true → C.reads (disk_now (P.view complex.new.plant) Ckpt1).bytes ≡ Some (bytes_of pages.now)) }
+    ensures reads2 { OnOk result (P.tells → complex.new.pair.second.alive ≡ true → C.reads (disk_now (P.view complex.new.plant) Ckpt2).bytes ≡ Some (bytes_of pages.now)) }
     ensures none { OnOk result (complex.new.current ≡ None) }
     ensures journal { OnErr result (complex.new.journal ≡ complex.old.journal) }
     ensures placed { OnErr result (complex.new.placed ≡ complex.old.placed) }

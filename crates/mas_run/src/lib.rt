@@ -4,6 +4,7 @@
 mod batch;
 mod checkpoint;
 mod deck;
+mod deck_steps;
 mod ended;
 mod play;
 mod queue;

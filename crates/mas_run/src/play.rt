@@ -1,7 +1,6 @@
 //! A script that is played from an empty queue.
-ghost use Rattle.std.specs.Prelude.{◌≡◌, ◌⊎◌, ◌≤◌, [], true, false, length, IfOk, IfSome, None, Some};
+ghost use Rattle.std.specs.Prelude.{◌≡◌, ◌⊎◌, ◌≤◌, [], true, false, length, All, IfOk, None, Some};
 ghost use Rattle.mas_types.specs.Starts.{default_config as config_by_default, empty_queue as queue_without_jobs};
-ghost use Rattle.mas_types.specs.Fit.{IsJobFields};
 ghost use Rattle.mas_types.specs.Lists.{first_some};
 ghost use Rattle.mas_types.specs.declared.ids.Dev.TheVariants.{Ckpt1, Ckpt2};
 ghost use Rattle.mas_types.specs.declared.ids.Dev.{Dev};
@@ -12,19 +11,21 @@ ghost use Rattle.spool_disk.specs.Acts.{Goes};
 ghost use Rattle.ckpt_copy.specs.Areas.{reads};
 ghost use Rattle.ckpt_copy.specs.Pages.{bytes_of};
 ghost use Rattle.ckpt_pages.specs.Starts.{empty_tables};
-ghost use Rattle.duplex_pair.specs.Halves.{SomeAlive};
-ghost use Rattle.mas_complex.specs.declared.places.Place.TheVariants.{Before as AtBefore};
+ghost use Rattle.duplex_pair.specs.Halves.{SomeAlive, IsCkpt};
+ghost use Rattle.first_script.specs.Steps.{IsFitStep};
 ghost use Rattle.mas_complex.specs.Headline.{Headline};
 ghost use Rattle.mas_complex.specs.Journals.{end_of};
 ghost use Rattle.mas_run.specs.Refusals.{bytes_needed, refused_devices, Answers};
 ghost use Rattle.mas_run.specs.Standing.{queue_of};
-ghost use Rattle.mas_run.specs.OneJob.{MayEnter};
 ghost use Rattle.mas_run.specs.Drawn.{AreDrawn};
+ghost use Rattle.mas_run.specs.Entering.{MayEnter};
+ghost use Rattle.mas_run.specs.Between.{RestsAt, IsBetween};
 ghost use Rattle.mas_run.specs.Decks.{sysa};
+ghost use Rattle.mas_run.specs.Steps.{IfDeck, IfLose};
 ghost use Rattle.mas_run.specs.Told.{console_now};
 ghost use Rattle.mas_run.specs.Crash.{IsOnlyOn};
 ghost use Rattle.mas_run.specs.Runs.{has_begun, Begins, IsUnbegun, IsRun};
-ghost use Rattle.mas_run.specs.Statuses.{IsCaused, IsCausedFrom, status_of as status_of_lem, is_of_play};
+ghost use Rattle.mas_run.specs.Statuses.{Grows, IsCaused, IsCausedFrom, status_of as status_of_lem, is_of_play};
 
 use crate::checkpoint::{Checkpoint, blank};
 use crate::ended::Ended;
@@ -32,19 +33,16 @@ use crate::running::{Running, StepNo};
 use ckpt_copy::{AreaCopy, Copying};
 use ckpt_pages::page_count;
 use duplex_pair::Pair;
+use first_script::Asked;
 use mas_complex::Complex;
 use mas_types::{
-    Dev, JobFields, Journal, List, MemberId, NoMemory, Queue, Status, default_config, empty_queue,
-    no_queue,
+    Dev, Journal, List, MemberId, NoMemory, Queue, Status, default_config, empty_queue, no_queue,
 };
 use spool_disk::Plant;
 use std::alloc::Global;
 
 /// The operator, who formats the copies.
 const OPERATOR: MemberId = MemberId(0);
-
-/// The first member, whose decks are played.
-const SYSA: MemberId = MemberId(1);
 
 /// The end of a run that has not begun.
 pub(crate) fn unbegun<P: Plant + Drop>(alloc: Global, status: Status, plant: P) -> Ended<P>
@@ -70,7 +68,7 @@ fn no_journal(alloc: Global) -> Journal
     }
 }
 
-// What a step's answer means for the run.
+// What the answer of the steps means for the run.
 fn status_of(answer: &Result<(), StepNo>) -> Status
     ensures { result ≡ status_of_lem answer.now }
 {
@@ -108,45 +106,34 @@ fn ended<P: Plant + Drop>(status: Status, run: Running<P, AreaCopy>) -> Ended<P>
 // Plays what the script asks for.
 fn play_asked<P: Plant + Drop>(
     alloc: Global,
-    asked: Option<JobFields>,
+    asked: &[Asked],
     run: Running<P, AreaCopy>,
 ) -> Ended<P>
+    requires few { length asked.now ≤ 16777216 }
     requires base { run.complex.base ≡ queue_without_jobs config_by_default [] }
-    requires queue { queue_of run.checkpoint.tables ≡ run.complex.base }
-    requires may { IfSome asked (MayEnter run.checkpoint.tables sysa) }
-    requires drawn { AreDrawn run.checkpoint.tables run.checkpoint.level run.checkpoint.levels run.checkpoint.pages }
+    requires may { All (λ step. IfDeck step (MayEnter run.checkpoint.tables.config run.checkpoint.tables.owners sysa)) asked.now }
+    requires copies { All (λ step. IfLose step IsCkpt) asked.now }
+    requires between { IsBetween run.complex.base run.complex.journal.batches run.complex.current run.complex.placed run.complex.level run.checkpoint }
+    requires rests1 { RestsAt P.tells run.complex.pair.first.alive run.complex.first (⟦<AreaCopy as Copying>⟧.count run.complex.pair.first.copy) run.checkpoint.pages (reads (disk_now (P.view run.complex.plant) Ckpt1).bytes) }
+    requires rests2 { RestsAt P.tells run.complex.pair.second.alive run.complex.second (⟦<AreaCopy as Copying>⟧.count run.complex.pair.second.copy) run.checkpoint.pages (reads (disk_now (P.view run.complex.plant) Ckpt2).bytes) }
+    requires order { run.checkpoint.tables.order ≡ 0 }
     requires level { run.checkpoint.level ≡ 1 }
-    requires same_level { run.complex.level ≡ 1 }
-    requires none { run.complex.current ≡ None }
-    requires unplaced { run.complex.placed ≡ false }
     requires journal { run.complex.journal.batches ≡ [] }
     requires since { run.complex.since ≡ (P.view run.complex.plant).now }
-    requires places { (run.complex.first ≡ AtBefore) × (run.complex.second ≡ AtBefore) }
     requires some { SomeAlive run.complex.pair.first.alive run.complex.pair.second.alive }
-    requires room1 { run.complex.pair.first.alive ≡ true → 1 ≤ ⟦<AreaCopy as Copying>⟧.room run.complex.pair.first.copy }
-    requires room2 { run.complex.pair.second.alive ≡ true → 1 ≤ ⟦<AreaCopy as Copying>⟧.room run.complex.pair.second.copy }
-    requires as_many1 { run.complex.pair.first.alive ≡ true → length run.checkpoint.pages ≡ ⟦<AreaCopy as Copying>⟧.count run.complex.pair.first.copy }
-    requires as_many2 { run.complex.pair.second.alive ≡ true → length run.checkpoint.pages ≡ ⟦<AreaCopy as Copying>⟧.count run.complex.pair.second.copy }
-    requires reads1 { P.tells → run.complex.pair.first.alive ≡ true → reads (disk_now (P.view run.complex.plant) Ckpt1).bytes ≡ Some (bytes_of run.checkpoint.pages) }
-    requires reads2 { P.tells → run.complex.pair.second.alive ≡ true → reads (disk_now (P.view run.complex.plant) Ckpt2).bytes ≡ Some (bytes_of run.checkpoint.pages) }
     requires there1 { run.complex.pair.first.alive ≡ true → (P.view run.complex.plant).lost (Disk Ckpt1) ≡ false }
     requires there2 { run.complex.pair.second.alive ≡ true → (P.view run.complex.plant).lost (Disk Ckpt2) ≡ false }
     ensures base { result.base ≡ run.complex.base }
     ensures kind { is_of_play result.status ≡ true }
     ensures goes { Goes (P.view run.complex.plant) (P.view result.plant) }
-    ensures loses { (d : Dev) → (P.view result.plant).loses d ≡ (P.view run.complex.plant).loses d }
+    ensures grow { (d : Dev) → Grows ((P.view run.complex.plant).loses d) ((P.view result.plant).loses d) }
     ensures elsewhere { P.tells → IsOnlyOn (P.view run.complex.plant) (P.view result.plant) }
     ensures cause { IsCausedFrom run.complex.pair.first.alive run.complex.pair.second.alive result.status (P.view run.complex.plant) (P.view result.plant) }
-    ensures run { IsRun P.tells asked result.status result.base result.journal result.since (P.view run.complex.plant) (P.view result.plant) }
+    ensures run { IsRun P.tells asked.now result.status result.base result.journal result.since (P.view run.complex.plant) (P.view result.plant) }
 {
     let mut run = run;
-    match asked {
-        None => ended(Status::Done, run),
-        Some(fields) => {
-            let answer = run.play_deck(alloc, SYSA, 1, fields);
-            ended(status_of(&answer), run)
-        }
-    }
+    let answer = run.play_steps(alloc, asked);
+    ended(status_of(&answer), run)
 }
 
 // The empty queue, and its checkpoint.
@@ -186,12 +173,9 @@ fn refuse_devices<P: Plant>(plant: &P) -> Option<Status>
 }
 
 /// Formats both copies with the empty queue, and plays what the script asks for. A copy that fails is left out.
-pub(crate) fn play_script<P: Plant + Drop>(
-    alloc: Global,
-    asked: Option<JobFields>,
-    plant: P,
-) -> Ended<P>
-    requires fits { IfSome asked (λ fields. (fields.node ≡ config_by_default.node) × IsJobFields fields) }
+pub(crate) fn play_script<P: Plant + Drop>(alloc: Global, asked: &[Asked], plant: P) -> Ended<P>
+    requires few { length asked.now ≤ 16777216 }
+    requires fits { All (IsFitStep config_by_default.node) asked.now }
     ensures refused { Answers (first_some (refused_devices ((P.view plant).size Ckpt1) ((P.view plant).size Ckpt2))) result.status }
     ensures no_source { result.status ≡ Status.SourceFault → ⊥ }
     ensures formatted { (first second : CopyState) → result.status ≡ Status.NotFormatted first second → ⊥ }
@@ -201,10 +185,10 @@ pub(crate) fn play_script<P: Plant + Drop>(
     ensures untouched { has_begun result.base ≡ false → (result.status ≡ Status.BothLost) ⊎ (result.plant ≡ plant) }
     ensures unsaid { P.tells → has_begun result.base ≡ false → console_now (P.view result.plant) ≡ console_now (P.view plant) }
     ensures goes { Goes (P.view plant) (P.view result.plant) }
-    ensures loses { (d : Dev) → (P.view result.plant).loses d ≡ (P.view plant).loses d }
+    ensures loses { has_begun result.base ≡ false → (d : Dev) → (P.view result.plant).loses d ≡ (P.view plant).loses d }
     ensures elsewhere { P.tells → IsOnlyOn (P.view plant) (P.view result.plant) }
     ensures room { has_begun result.base ≡ true → (bytes_needed ≤ (P.view plant).size Ckpt1) × (bytes_needed ≤ (P.view plant).size Ckpt2) }
-    ensures run { has_begun result.base ≡ true → IsRun P.tells asked result.status result.base result.journal result.since (P.view plant) (P.view result.plant) }
+    ensures run { has_begun result.base ≡ true → IsRun P.tells asked.now result.status result.base result.journal result.since (P.view plant) (P.view result.plant) }
 {
     if let Some(status) = refuse_devices(&plant) {
         return unbegun(alloc, status, plant);

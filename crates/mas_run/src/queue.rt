@@ -1,47 +1,75 @@
-//! A deck's commands on the tables of a queue. Until commands are played on every queue, these are played on a queue
-//! without jobs.
-ghost use Rattle.std.specs.Prelude.{◌≡◌, ◌+◌, ◌<◌, ◌^◌, ℕ, length};
+//! A deck's commands on the tables of a queue.
+ghost use Rattle.std.specs.Prelude.{◌≡◌, ◌+◌, ◌<◌, ◌^◌, ℕ, Some, None, length, slice_get, true, false};
+ghost use Rattle.ckpt_pages.specs.QueueOf.{used};
+ghost use Rattle.ckpt_pages.specs.Shape.{HasSpelling};
 ghost use Rattle.mas_complex.specs.Meaning.{run};
 ghost use Rattle.mas_run.specs.Decks.{deck_entries};
 ghost use Rattle.mas_run.specs.Standing.{queue_of};
-ghost use Rattle.mas_run.specs.OneJob.{MayEnter, with_job, in_convert, number_after, job_entries};
+ghost use Rattle.mas_run.specs.Entering.{MayEnter, AreBelow, HasEntered, with_job, in_convert, new_number, job_entries, full_entries};
 
 use ckpt_pages::Tables;
+use job_queue::next_number;
 use lay_bytes::JobRec;
-use mas_types::{JobFields, JobNo, MemberId, NUMBER_MOST, Phase};
+use mas_types::{JobFields, JobNo, MemberId, Phase};
+use slot_order::free_slot;
 
-// The number after the last one, which is 1 after the greatest.
-fn next_number(last: JobNo) -> JobNo
-    ensures { result ≡ number_after last }
+// The number of a new job.
+fn number_in(tables: &Tables) -> JobNo
+    requires { HasSpelling tables.now }
+    ensures { result ≡ new_number tables.now }
 {
-    if last.0 < NUMBER_MOST {
-        JobNo(last.0 + 1)
-    } else {
-        JobNo(1)
-    }
+    next_number(tables.jobs.as_slice(), tables.last)
 }
 
-// Puts a job into the lowest slot, with the next order.
-fn put_job(tables: &mut Tables, job: JobRec)
-    requires slots { 0 < length tables.old.jobs }
-    requires order { tables.old.order < 2 ^ 63 }
-    ensures { tables.new ≡ with_job job tables.old }
+// Puts a job into a slot.
+fn put_job(tables: &mut Tables, at: usize, job: JobRec)
+    requires slot { at < length tables.old.jobs }
+    requires order { tables.old.order + 1 < 2 ^ 63 }
+    ensures { tables.new ≡ with_job at job tables.old }
 {
-    tables.jobs.as_mut_slice()[0] = Some(job);
+    tables.jobs.as_mut_slice()[at] = Some(job);
     tables.last = job.number;
     tables.order += 1;
 }
 
-/// Begin and Enter of a deck's job at a member that has no groups, at a queue without jobs. The job stands in the
-/// lowest slot.
+/// Whether no job slot is free.
+pub(crate) fn is_full(tables: &Tables) -> bool
+    ensures full { result ≡ true → length (used tables.now.jobs) ≡ length tables.now.jobs }
+    ensures room { result ≡ false → length (used tables.now.jobs) < length tables.now.jobs }
+{
+    match free_slot(tables.jobs.as_slice()) {
+        Some(_) => false,
+        None => true,
+    }
+}
+
+// The lowest free slot.
+fn free_place(tables: &Tables) -> usize
+    requires { length (used tables.now.jobs) < length tables.now.jobs }
+    ensures free { slice_get tables.now.jobs result ≡ Some None }
+    ensures within { result < length tables.now.jobs }
+{
+    match free_slot(tables.jobs.as_slice()) {
+        Some(at) => at,
+        None => 0,
+    }
+}
+
+/// Begin and Enter of a deck's job at a member that has no groups, where a slot is free. The job stands in the lowest.
 pub(crate) fn enter_job(tables: &mut Tables, by: MemberId, fields: JobFields) -> JobNo
-    requires { MayEnter tables.old by fields }
-    ensures job { tables.new ≡ with_job (in_convert fields result tables.old.order) tables.old }
-    ensures number { result ≡ number_after tables.old.last }
+    requires may { MayEnter tables.old.config tables.old.owners by fields }
+    requires spelling { HasSpelling tables.old }
+    requires below { AreBelow tables.old }
+    requires room { length (used tables.old.jobs) < length tables.old.jobs }
+    requires order { tables.old.order + 1 < 2 ^ 63 }
+    ensures job { HasEntered fields result tables.old tables.new }
+    ensures number { result ≡ new_number tables.old }
+    ensures spelling { HasSpelling tables.new }
+    ensures below { AreBelow tables.new }
     ensures entries { (at : ℕ) → deck_entries (queue_of tables.old) by at fields ≡ job_entries by at fields result }
     ensures effect { (at : ℕ) → run (queue_of tables.old) (deck_entries (queue_of tables.old) by at fields) ≡ queue_of tables.new }
 {
-    let number = next_number(tables.last);
+    let number = number_in(tables);
     let job = JobRec {
         number,
         fields,
@@ -51,6 +79,16 @@ pub(crate) fn enter_job(tables: &mut Tables, by: MemberId, fields: JobFields) ->
         cards: 0,
         order: tables.order,
     };
-    put_job(tables, job);
+    let at = free_place(tables);
+    put_job(tables, at, job);
     number
 }
+
+/// Begin of a deck for whose job no slot is free: it is refused, and changes nothing.
+pub(crate) fn law_of_full_queues(tables: &Tables, by: MemberId, fields: JobFields)
+    requires may { MayEnter tables.now.config tables.now.owners by fields }
+    requires spelling { HasSpelling tables.now }
+    requires full { length (used tables.now.jobs) ≡ length tables.now.jobs }
+    ensures entries { (at : ℕ) → deck_entries (queue_of tables.now) by at fields ≡ full_entries by at fields }
+    ensures effect { (at : ℕ) → run (queue_of tables.now) (deck_entries (queue_of tables.now) by at fields) ≡ queue_of tables.now }
+{}

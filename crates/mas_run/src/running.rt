@@ -1,22 +1,22 @@
 //! A run that has begun: its shared value, and the steps that are played on it.
-ghost use Rattle.std.specs.Prelude.{◌≡◌, ◌+◌, ◌≤◌, ◌<◌, ◌^◌, [], None, Some, length, true, false};
+ghost use Rattle.std.specs.Prelude.{◌≡◌, ◌+◌, ◌≤◌, ◌<◌, ◌^◌, [], length, true, false, OnOk, All};
 ghost use Rattle.mas_types.specs.declared.ids.Dev.TheVariants.{Ckpt1, Ckpt2};
-ghost use Rattle.mas_types.specs.Limits.{members_most};
 ghost use Rattle.spool_disk.specs.View.{disk_now};
-ghost use Rattle.ckpt_copy.specs.Pages.{bytes_of};
-ghost use Rattle.duplex_pair.specs.Halves.{SomeAlive};
-ghost use Rattle.mas_complex.specs.declared.places.Place.TheVariants.{Before as AtBefore};
-ghost use Rattle.mas_complex.specs.Journals.{begun, end_of};
+ghost use Rattle.duplex_pair.specs.Halves.{SomeAlive, IsCkpt};
+ghost use Rattle.mas_complex.specs.Crash.{IsUntold, setting};
+ghost use Rattle.mas_complex.specs.Journals.{begun, end_of, kept_all};
+ghost use Rattle.mas_complex.specs.Meaning.{run};
 
-use crate::batch::commit;
 use crate::checkpoint::Checkpoint;
-use crate::deck::ready_deck;
-use duplex_pair::PairNo;
+use first_script::Asked;
 use mas_complex::{Complex, Steady};
-use mas_types::{JobFields, MemberId};
-use spool_disk::{Act, Plant};
+use mas_types::MemberId;
+use spool_disk::Plant;
 use std::alloc::Global;
 use thiserror::Error;
+
+/// The first member, whose steps are played.
+const SYSA: MemberId = MemberId(1);
 
 /// Why a step ends the run.
 #[derive(Clone, Copy, Debug, PartialEq, Eq, Error)]
@@ -43,64 +43,79 @@ pub(crate) struct Running<P: Plant + Drop, C: Steady + Drop> {
 }
 
 impl<P: Plant + Drop, C: Steady + Drop> Running<P, C> {
-    ghost use Rattle.mas_run.specs.Decks.{deck_entries, deck_line};
-    ghost use Rattle.mas_run.specs.Standing.{queue_of};
-    ghost use Rattle.mas_run.specs.OneJob.{MayEnter};
-    ghost use Rattle.mas_run.specs.Drawn.{AreDrawn};
-    ghost use Rattle.mas_run.specs.Stops.{IsStep};
+    ghost use Rattle.mas_run.specs.Decks.{deck_entries, sysa};
+    ghost use Rattle.mas_run.specs.Steps.{IfDeck, IfLose};
+    ghost use Rattle.mas_run.specs.Entering.{MayEnter};
+    ghost use Rattle.mas_run.specs.Between.{RestsAt, IsBetween, AreAllKept};
+    ghost use Rattle.mas_run.specs.Stops.{IsStepOf};
+    ghost use Rattle.mas_run.specs.Plays.{ArePlayed};
 
-    /// Plays a deck, the first since the shared value was made: its commands are kept in one batch, and then its closing
-    /// line is said. All memory is taken before the first write.
-    pub(crate) fn play_deck(
+    /// Plays a step of SYSA.
+    pub(crate) fn play_step(
         &mut self,
         alloc: Global,
-        by: MemberId,
         step: u32,
-        fields: JobFields,
+        asked: &Asked,
     ) -> Result<(), StepNo>
-        requires may { MayEnter self.old.checkpoint.tables by fields }
-        requires by { by.0 ≤ members_most }
-        requires drawn { AreDrawn self.old.checkpoint.tables self.old.checkpoint.level self.old.checkpoint.levels self.old.checkpoint.pages }
+        requires may { IfDeck asked.now (MayEnter self.old.checkpoint.tables.config self.old.checkpoint.tables.owners sysa) }
+        requires untold { P.tells → IfDeck asked.now (λ fields. IsUntold (setting C.reads self.old.complex.base self.old.complex.since) (P.view self.old.complex.plant) (deck_entries (run self.old.complex.base (kept_all self.old.complex.journal.batches)) sysa step fields)) }
+        requires copy { IfLose asked.now IsCkpt }
+        requires between { IsBetween self.old.complex.base self.old.complex.journal.batches self.old.complex.current self.old.complex.placed self.old.complex.level self.old.checkpoint }
+        requires rests1 { RestsAt P.tells self.old.complex.pair.first.alive self.old.complex.first (C.count self.old.complex.pair.first.copy) self.old.checkpoint.pages (C.reads (disk_now (P.view self.old.complex.plant) Ckpt1).bytes) }
+        requires rests2 { RestsAt P.tells self.old.complex.pair.second.alive self.old.complex.second (C.count self.old.complex.pair.second.copy) self.old.checkpoint.pages (C.reads (disk_now (P.view self.old.complex.plant) Ckpt2).bytes) }
+        requires kept { AreAllKept self.old.complex.journal.batches (P.view self.old.complex.plant).now }
+        requires order { self.old.checkpoint.tables.order + 1 < 2 ^ 63 }
         requires level { self.old.checkpoint.level + 1 < 2 ^ 63 }
-        requires same_level { self.old.complex.level ≡ self.old.checkpoint.level }
-        requires queue { queue_of self.old.checkpoint.tables ≡ self.old.complex.base }
-        requires none { self.old.complex.current ≡ None }
-        requires unplaced { self.old.complex.placed ≡ false }
-        requires journal { self.old.complex.journal.batches ≡ [] }
-        requires since { self.old.complex.since ≡ (P.view self.old.complex.plant).now }
-        requires places { (self.old.complex.first ≡ AtBefore) × (self.old.complex.second ≡ AtBefore) }
-        requires some { SomeAlive self.old.complex.pair.first.alive self.old.complex.pair.second.alive }
         requires room1 { self.old.complex.pair.first.alive ≡ true → 1 ≤ C.room self.old.complex.pair.first.copy }
         requires room2 { self.old.complex.pair.second.alive ≡ true → 1 ≤ C.room self.old.complex.pair.second.copy }
-        requires as_many1 { self.old.complex.pair.first.alive ≡ true → length self.old.checkpoint.pages ≡ C.count self.old.complex.pair.first.copy }
-        requires as_many2 { self.old.complex.pair.second.alive ≡ true → length self.old.checkpoint.pages ≡ C.count self.old.complex.pair.second.copy }
-        requires reads1 { P.tells → self.old.complex.pair.first.alive ≡ true → C.reads (disk_now (P.view self.old.complex.plant) Ckpt1).bytes ≡ Some (bytes_of self.old.checkpoint.pages) }
-        requires reads2 { P.tells → self.old.complex.pair.second.alive ≡ true → C.reads (disk_now (P.view self.old.complex.plant) Ckpt2).bytes ≡ Some (bytes_of self.old.checkpoint.pages) }
         ensures base { self.new.complex.base ≡ self.old.complex.base }
         ensures since { self.new.complex.since ≡ self.old.complex.since }
-        ensures step { IsStep P.tells by.0 (deck_line self.old.complex.base by step fields)
-            (begun (P.view self.old.complex.plant).now by (deck_entries self.old.complex.base by step fields))
-            (end_of self.new.complex.placed self.new.complex.current self.new.complex.journal.batches)
+        ensures step { IsStepOf P.tells asked.now (run self.old.complex.base (kept_all self.old.complex.journal.batches)) step
+            self.old.complex.journal.batches (end_of self.new.complex.placed self.new.complex.current self.new.complex.journal.batches)
+            self.old.complex.pair.first.alive self.new.complex.pair.first.alive self.old.complex.pair.second.alive self.new.complex.pair.second.alive
+            (P.view self.old.complex.plant) (P.view self.new.complex.plant) result }
+        ensures between { OnOk result (IsBetween self.new.complex.base self.new.complex.journal.batches self.new.complex.current self.new.complex.placed self.new.complex.level self.new.checkpoint) }
+        ensures rests1 { OnOk result (RestsAt P.tells self.new.complex.pair.first.alive self.new.complex.first (C.count self.new.complex.pair.first.copy) self.new.checkpoint.pages (C.reads (disk_now (P.view self.new.complex.plant) Ckpt1).bytes)) }
+        ensures rests2 { OnOk result (RestsAt P.tells self.new.complex.pair.second.alive self.new.complex.second (C.count self.new.complex.pair.second.copy) self.new.checkpoint.pages (C.reads (disk_now (P.view self.new.complex.plant) Ckpt2).bytes)) }
+        ensures config { OnOk result (self.new.checkpoint.tables.config ≡ self.old.checkpoint.tables.config) }
+        ensures owners { OnOk result (self.new.checkpoint.tables.owners ≡ self.old.checkpoint.tables.owners) }
+        ensures order { OnOk result (self.new.checkpoint.tables.order ≤ self.old.checkpoint.tables.order + 1) }
+        ensures level { OnOk result (self.new.checkpoint.level ≤ self.old.checkpoint.level + 1) }
+    {
+        match asked {
+            Asked::Deck(fields) => self.play_deck(alloc, SYSA, step, *fields),
+            Asked::Lose(dev) => {
+                self.complex.lose(*dev);
+                Ok(())
+            }
+        }
+    }
+
+    /// Plays the steps of SYSA one after another, up to one that ends the run. Each copy has room for a batch at all times.
+    pub(crate) fn play_steps(&mut self, alloc: Global, asked: &[Asked]) -> Result<(), StepNo>
+        requires few { length asked.now ≤ 16777216 }
+        requires may { All (λ step. IfDeck step (MayEnter self.old.checkpoint.tables.config self.old.checkpoint.tables.owners sysa)) asked.now }
+        requires copies { All (λ step. IfLose step IsCkpt) asked.now }
+        requires journal { self.old.complex.journal.batches ≡ [] }
+        requires since { self.old.complex.since ≡ (P.view self.old.complex.plant).now }
+        requires some { SomeAlive self.old.complex.pair.first.alive self.old.complex.pair.second.alive }
+        requires order { self.old.checkpoint.tables.order < 2 ^ 62 }
+        requires level { self.old.checkpoint.level < 2 ^ 62 }
+        requires rooms { (copy : C) → 1 ≤ C.room copy }
+        requires between { IsBetween self.old.complex.base self.old.complex.journal.batches self.old.complex.current self.old.complex.placed self.old.complex.level self.old.checkpoint }
+        requires rests1 { RestsAt P.tells self.old.complex.pair.first.alive self.old.complex.first (C.count self.old.complex.pair.first.copy) self.old.checkpoint.pages (C.reads (disk_now (P.view self.old.complex.plant) Ckpt1).bytes) }
+        requires rests2 { RestsAt P.tells self.old.complex.pair.second.alive self.old.complex.second (C.count self.old.complex.pair.second.copy) self.old.checkpoint.pages (C.reads (disk_now (P.view self.old.complex.plant) Ckpt2).bytes) }
+        ensures base { self.new.complex.base ≡ self.old.complex.base }
+        ensures since { self.new.complex.since ≡ self.old.complex.since }
+        ensures played { ArePlayed P.tells self.old.complex.base asked.now (end_of self.new.complex.placed self.new.complex.current self.new.complex.journal.batches)
             self.old.complex.pair.first.alive self.new.complex.pair.first.alive self.old.complex.pair.second.alive self.new.complex.pair.second.alive
             (P.view self.old.complex.plant) (P.view self.new.complex.plant) result }
     {
-        let Ok(ready) = ready_deck(alloc, &mut self.checkpoint, by, step, fields) else {
-            return Err(StepNo::NoMemory);
-        };
-        let Ok(()) = self.complex.reserve(alloc, ready.entries) else {
-            return Err(StepNo::NoMemory);
-        };
-        let pages = self.checkpoint.pages.as_slice();
-        let changed = ready.changed.as_slice();
-        match commit(&mut self.complex, by, pages, changed) {
-            Ok(()) => {}
-            Err(PairNo::BothLost) => return Err(StepNo::Lost),
-            Err(PairNo::Halted) => return Err(StepNo::Stopped),
+        let mut number = 0;
+        for step in asked {
+            number += 1;
+            self.play_step(alloc, number, step)?;
         }
-        match self.complex.say(by, ready.line.as_slice()) {
-            Act::Done => Ok(()),
-            Act::Failed => Err(StepNo::Unsaid),
-            Act::Halted => Err(StepNo::Stopped),
-        }
+        Ok(())
     }
 }

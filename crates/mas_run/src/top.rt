@@ -1,10 +1,10 @@
 //! The top call.
-ghost use Rattle.std.specs.Prelude.{◌≡◌, ◌⊎◌, ◌↔◌, ℕ, ◌≤◌, ◌<◌, map, string_bytes, nat_lt, true, false, [], List, Option, None, Ok, IfOk, IfErr, OnOk, IfSome, IsErrOf};
+ghost use Rattle.std.specs.Prelude.{◌≡◌, ◌⊎◌, ◌↔◌, ℕ, ◌≤◌, ◌<◌, map, string_bytes, nat_lt, true, false, [], List, None, Ok, All, length, IfOk, IfErr, OnOk, IsErrOf};
 ghost use Rattle.mas_types.specs.declared.ids.Dev.{Dev};
 ghost use Rattle.mas_types.specs.declared.ids.Dev.TheVariants.{Ckpt1, Ckpt2};
-ghost use Rattle.mas_types.specs.declared.jobs.JobFields.{JobFields};
 ghost use Rattle.mas_types.specs.Starts.{default_config as config_by_default};
-ghost use Rattle.mas_types.specs.Fit.{IsJobFields};
+ghost use Rattle.first_script.specs.declared.asked.Asked.{Asked};
+ghost use Rattle.first_script.specs.Steps.{IsFitStep};
 ghost use Rattle.spool_disk.specs.Acts.{Goes, Rose};
 ghost use Rattle.mas_run.specs.Words.{are_words as are_words_lem};
 ghost use Rattle.mas_run.specs.Refusals.{said_by, refusal_before_play, bytes_needed, Answers, IsSmall, is_of_script, IsAsked};
@@ -17,14 +17,15 @@ ghost use Rattle.mas_types.specs.declared.answers.CopyState.{CopyState};
 use crate::ended::Ended;
 use crate::play::{play_script, unbegun};
 use crate::words::are_words;
-use first_script::{BadLine, SourceNo, read_script, read_source};
-use mas_types::{JobFields, Status, default_config};
+use first_script::{Asked, BadLine, ScriptNo, SourceNo, read_script, read_source};
+use mas_types::{List, Status, default_config};
 use spool_disk::{Plant, Source};
 use std::alloc::Global;
 
-// Reads a script to its end: the job that it asks for, if any, or why the run ends.
-fn read_all<S: Source>(alloc: Global, script: &mut S) -> Result<Option<JobFields>, Status>
-    ensures fits { IfOk result (λ asked. IfSome asked (λ fields. (fields.node ≡ config_by_default.node) × IsJobFields fields)) }
+// Reads a script to its end: the steps that it asks for, or why the run ends.
+fn read_all<S: Source>(alloc: Global, script: &mut S) -> Result<List<Asked>, Status>
+    ensures few { IfOk result (λ asked. length asked ≤ 16777216) }
+    ensures fits { IfOk result (All (IsFitStep config_by_default.node)) }
     ensures asked { S.tells → IfOk result (λ asked. IsAsked (S.left script.old) asked) }
     ensures read { S.tells → OnOk result (S.left script.new ≡ []) }
     ensures kind { IfErr result (λ status. is_of_script status ≡ true) }
@@ -38,18 +39,20 @@ fn read_all<S: Source>(alloc: Global, script: &mut S) -> Result<Option<JobFields
         Err(SourceNo::TooLong) => return Err(Status::TooLong),
         Err(SourceNo::NoMemory) => return Err(Status::NoMemory),
     };
-    match read_script(default_config().node, bytes.as_slice()) {
+    match read_script(alloc, default_config().node, bytes.as_slice()) {
         Ok(asked) => Ok(asked),
-        Err(BadLine { line, cause }) => Err(Status::BadLine { line, cause }),
+        Err(ScriptNo::BadLine(BadLine { line, cause })) => Err(Status::BadLine { line, cause }),
+        Err(ScriptNo::NoMemory) => Err(Status::NoMemory),
     }
 }
 
 /// Plays a script from an empty queue on a plant whose CKPT1 and CKPT2 are formatted for it.
 ///
-/// The words are `play --cold`. The script has no deck, or one deck of a JOB card at SYSA. It is read to its end before
-/// anything is played. Then both copies are formatted with the empty queue of the default configuration, and a deck's job
-/// is entered in one batch, which is kept once each copy that is left has it; the closing line of its step is said then.
-/// A copy that fails is left out, and the run goes on with the other.
+/// The words are `play --cold`. The script is read to its end before anything is played. Its steps are decks of a JOB card at
+/// SYSA, and losses of a copy of the checkpoint. First both copies are formatted with the empty queue of the default
+/// configuration. Then the steps are played one after another: a deck's job is entered in one batch, which is kept once each copy
+/// that is left has it, and the closing line of its step is said then; where no job slot is free the step closes with that
+/// refusal. A copy that fails or is lost is left out, and the run goes on with the other.
 ///
 /// A stop of the member inside an act ends the run with Done, and no further line is said.
 pub fn calm_top<P: Plant + Drop, S: Source>(
@@ -73,15 +76,15 @@ pub fn calm_top<P: Plant + Drop, S: Source>(
     ensures untouched { has_begun result.base ≡ false → (result.status ≡ Status.BothLost) ⊎ (result.plant ≡ plant) }
     ensures unsaid { P.tells → has_begun result.base ≡ false → console_now (P.view result.plant) ≡ console_now (P.view plant) }
 
-    // Any run acts on CKPT1, CKPT2 and the console alone, and loses no device by itself.
+    // Any run acts on CKPT1, CKPT2 and the console alone, and loses no device but by a step that says so.
     ensures goes { Goes (P.view plant) (P.view result.plant) }
-    ensures loses { (d : Dev) → (P.view result.plant).loses d ≡ (P.view plant).loses d }
+    ensures loses { has_begun result.base ≡ false → (d : Dev) → (P.view result.plant).loses d ≡ (P.view plant).loses d }
     ensures elsewhere { P.tells → IsOnlyOn (P.view plant) (P.view result.plant) }
 
     // A run that has begun plays what its script asks for.
     ensures room { has_begun result.base ≡ true → (bytes_needed ≤ (P.view plant).size Ckpt1) × (bytes_needed ≤ (P.view plant).size Ckpt2) }
     ensures read { S.tells → has_begun result.base ≡ true → S.left script.new ≡ [] }
-    ensures run { has_begun result.base ≡ true → ((asked : Option JobFields) × (S.tells → said_by (S.left script.old) ≡ Ok asked)
+    ensures run { has_begun result.base ≡ true → ((asked : List Asked) × (S.tells → said_by (S.left script.old) ≡ Ok asked)
         × IsRun P.tells asked result.status result.base result.journal result.since (P.view plant) (P.view result.plant)) }
 
     // What nothing hinders is played to its end.
@@ -93,7 +96,7 @@ pub fn calm_top<P: Plant + Drop, S: Source>(
         return unbegun(alloc, Status::Words, plant);
     }
     match read_all(alloc, script) {
-        Ok(asked) => play_script(alloc, asked, plant),
+        Ok(asked) => play_script(alloc, asked.as_slice(), plant),
         Err(status) => unbegun(alloc, status, plant),
     }
 }

@@ -4,13 +4,7 @@ use Rattle.mas_types.specs.declared.answers.Closing.TheVariants as closing
 use Rattle.mas_types.specs.Closings.{closing_line}
 use Rattle.mas_run.specs.Decks.{last_reply}
 use Rattle.mas_run.specs.Standing.{queue_of}
-use Rattle.mas_run.proofs.OneJobLemmas.{spelled_with}
 use Rattle.mas_run.proofs.deck.ready_deck.Goals as goal
-
-pub redraw-requires-clause-spelling : goal.redraw-requires-clause-spelling
-redraw-requires-clause-spelling c =
-    rw (c.enter_job-number.ensures.job, c.enter_job-number.ensures.number)
-    (spelled_with c.args.checkpoint.now.tables c.args.fields c.requires.drawn.spelling c.requires.may.fit c.requires.may.last c.requires.may.order)
 
 pub returns-clause-entries : goal.returns-clause-entries
 returns-clause-entries c = c.in_ok-entries.ensures ∙ sym (c.enter_job-number.ensures.entries c.args.step)

@@ -1,4 +1,4 @@
-use Rattle.std.proofs.Common.{◌≡◌, ◌∙◌, true, false, sym, ap, subst, arith}
+use Rattle.std.proofs.Common.{◌≡◌, ◌∙◌, true, false, List, length, sym, ap, subst, arith}
 use Rattle.mas_types.specs.declared.ids.Dev.TheVariants.{Ckpt1, Ckpt2}
 use Rattle.mas_types.specs.declared.queues.Queue.{Queue}
 use Rattle.spool_disk.specs.View.{View, disk_now}
@@ -8,7 +8,9 @@ use Rattle.ckpt_copy.specs.Images.{area_rests_now}
 use Rattle.ckpt_copy.specs.Moments.{goes_on}
 use Rattle.ckpt_copy.specs.Pages.{bytes_of}
 use Rattle.duplex_pair.specs.Both.{PairActed}
-use Rattle.mas_complex.specs.Meaning.{StandFor}
+use Rattle.mas_types.specs.declared.journals.Batch.{Batch}
+use Rattle.mas_complex.specs.Journals.{kept_all}
+use Rattle.mas_complex.specs.Meaning.{StandFor, run}
 use Rattle.mas_run.specs.Standing.{queue_of}
 use Rattle.mas_run.specs.Told.{console_now}
 use Rattle.mas_run.specs.Crash.{IsOnlyOn}
@@ -16,7 +18,7 @@ use Rattle.mas_run.specs.Runs.{IsRun}
 use Rattle.mas_run.specs.Statuses.{IsCausedFrom}
 use Rattle.mas_run.proofs.DrawnLemmas.{drawn_stand, drawn_level}
 use Rattle.mas_run.proofs.CourseLemmas.{only_on}
-use Rattle.mas_run.proofs.RunLemmas.{run_since, caused_since, formed_copy}
+use Rattle.mas_run.proofs.RunLemmas.{run_since, caused_since, formed_copy, all_may, all_copies, below_empty}
 use Rattle.mas_run.proofs.play.play_script.Goals as goal
 
 pub make-complex-requires-clause-first : goal.make-complex-requires-clause-first
@@ -41,23 +43,57 @@ make-complex-requires-clause-second g c told =
     ∣ formed_copy c.in-Ok.base v.now k.level (λ pages disk. Rests n.copy.pages n.copy.second n.copy.stale pages disk) (λ was next disk. Holds n.copy.pages n.copy.second n.copy.stale was next disk) n.alive (disk_now v Ckpt2) (bytes_of k.pages)
     (drawn_level k.tables k.level k.levels k.pages c.in-Ok.ensures.drawn) stand (λ is. rw c.as_slice.ensures at (f.formed2 told is)) (λ not lt. f.gone2 told c.new-pair.ensures.alive.1 not lt) ∣₁
 
-pub play_asked-requires-clause-reads1 : goal.play_asked-requires-clause-reads1
-play_asked-requires-clause-reads1 g c told is =
+pub play_asked-requires-clause-rests1 : goal.play_asked-requires-clause-rests1
+play_asked-requires-clause-rests1 g c =
     let v = g.P.Plant.view c.form.new.plant in
     let n = c.form.new.self.first in
     let m = c.make-complex.ensures in
-    let alive : n.alive ≡ true = sym (ap (λ p. p.first.alive) m.pair) ∙ is in
-    ap (λ p. reads (disk_now (g.P.Plant.view p) Ckpt1).bytes) m.plant
-    ∙ area_rests_now n.copy.pages n.copy.second n.copy.stale (bytes_of c.in-Ok.checkpoint.pages) (disk_now v Ckpt1) (rw c.as_slice.ensures at (c.in-Ok-form.ensures.formed1 told alive))
+    record {
+      before = m.places.0;
+      as_many = λ is.
+          let alive : n.alive ≡ true = sym (ap (λ p. p.first.alive) m.pair) ∙ is in
+          ap length (sym c.as_slice.ensures) ∙ sym (ap (λ p. p.first.copy.pages) m.pair ∙ c.in-Ok-form.ensures.count1 alive);
+      reads = λ told is.
+          let alive : n.alive ≡ true = sym (ap (λ p. p.first.alive) m.pair) ∙ is in
+          ap (λ p. reads (disk_now (g.P.Plant.view p) Ckpt1).bytes) m.plant
+          ∙ area_rests_now n.copy.pages n.copy.second n.copy.stale (bytes_of c.in-Ok.checkpoint.pages) (disk_now v Ckpt1) (rw c.as_slice.ensures at (c.in-Ok-form.ensures.formed1 told alive));
+    }
 
-pub play_asked-requires-clause-reads2 : goal.play_asked-requires-clause-reads2
-play_asked-requires-clause-reads2 g c told is =
+pub play_asked-requires-clause-rests2 : goal.play_asked-requires-clause-rests2
+play_asked-requires-clause-rests2 g c =
     let v = g.P.Plant.view c.form.new.plant in
     let n = c.form.new.self.second in
     let m = c.make-complex.ensures in
-    let alive : n.alive ≡ true = sym (ap (λ p. p.second.alive) m.pair) ∙ is in
-    ap (λ p. reads (disk_now (g.P.Plant.view p) Ckpt2).bytes) m.plant
-    ∙ area_rests_now n.copy.pages n.copy.second n.copy.stale (bytes_of c.in-Ok.checkpoint.pages) (disk_now v Ckpt2) (rw c.as_slice.ensures at (c.in-Ok-form.ensures.formed2 told alive))
+    record {
+      before = m.places.1;
+      as_many = λ is.
+          let alive : n.alive ≡ true = sym (ap (λ p. p.second.alive) m.pair) ∙ is in
+          ap length (sym c.as_slice.ensures) ∙ sym (ap (λ p. p.second.copy.pages) m.pair ∙ c.in-Ok-form.ensures.count2 alive);
+      reads = λ told is.
+          let alive : n.alive ≡ true = sym (ap (λ p. p.second.alive) m.pair) ∙ is in
+          ap (λ p. reads (disk_now (g.P.Plant.view p) Ckpt2).bytes) m.plant
+          ∙ area_rests_now n.copy.pages n.copy.second n.copy.stale (bytes_of c.in-Ok.checkpoint.pages) (disk_now v Ckpt2) (rw c.as_slice.ensures at (c.in-Ok-form.ensures.formed2 told alive));
+    }
+
+pub play_asked-requires-clause-may : goal.play_asked-requires-clause-may
+play_asked-requires-clause-may g c = all_may c.in-Ok.checkpoint.tables c.args.asked.now c.in-Ok.ensures.tables c.requires.fits
+
+pub play_asked-requires-clause-copies : goal.play_asked-requires-clause-copies
+play_asked-requires-clause-copies g c = all_copies c.args.asked.now c.requires.fits
+
+pub play_asked-requires-clause-between : goal.play_asked-requires-clause-between
+play_asked-requires-clause-between g c =
+    let k = c.in-Ok.checkpoint in
+    let m = c.make-complex.ensures in
+    let queue : queue_of k.tables ≡ c.in-Ok.base = ap queue_of c.in-Ok.ensures.tables ∙ sym c.in-Ok.ensures.base in
+    record {
+      none = m.current;
+      unplaced = m.placed;
+      same_level = m.level;
+      drawn = c.in-Ok.ensures.drawn;
+      queue = queue ∙ sym m.base ∙ ap (λ (bs : List Batch). run c.make-complex.result.base (kept_all bs)) (sym m.journal);
+      below = below_empty k.tables c.in-Ok.ensures.tables;
+    }
 
 pub returns-in_default-form-clause-elsewhere : goal.returns-in_default-form-clause-elsewhere
 returns-in_default-form-clause-elsewhere g c t =
@@ -74,17 +110,12 @@ returns-clause-cause g c =
     let formed : PairActed 0 true n.first.alive true n.second.alive false (P.view c.args.plant) v1 = rw (c.new-pair.ensures.alive.0, c.new-pair.ensures.alive.1) at c.in-Ok-form.ensures.acted in
     let later = subst (λ (v : View). IsCausedFrom c.make-complex.result.pair.first.alive c.make-complex.result.pair.second.alive r.status v (P.view r.plant)) (ap P.view m.plant) c.play_asked.ensures.cause in
     let caused : IsCausedFrom n.first.alive n.second.alive r.status v1 (P.view r.plant) = rw m.pair at later in
-    caused_since 0 n.first.alive n.second.alive false r.status (P.view c.args.plant) v1 (P.view r.plant) formed (rw m.plant at c.play_asked.ensures.goes) caused
+    caused_since 0 n.first.alive n.second.alive false r.status (P.view c.args.plant) v1 (P.view r.plant) formed (rw m.plant at c.play_asked.ensures.goes) (λ d. rw m.plant at (c.play_asked.ensures.grow d)) caused
 
 pub returns-clause-goes : goal.returns-clause-goes
 returns-clause-goes g c =
     let P = g.P.Plant in
     goes_on (P.view c.args.plant) (P.view c.form.new.plant) (P.view c.play_asked.result.plant) c.in-Ok-form.ensures.acted.goes (rw c.make-complex.ensures.plant at c.play_asked.ensures.goes)
-
-pub returns-clause-loses : goal.returns-clause-loses
-returns-clause-loses g c d =
-    let P = g.P.Plant in
-    c.play_asked.ensures.loses d ∙ ap (λ p. (P.view p).loses d) c.make-complex.ensures.plant ∙ c.in-Ok-form.ensures.acted.loses d
 
 pub returns-clause-elsewhere : goal.returns-clause-elsewhere
 returns-clause-elsewhere g c t =
@@ -104,5 +135,5 @@ returns-clause-run g c begun =
     let f = c.in-Ok-form.ensures in
     let m = c.make-complex.ensures in
     let quiet : P.tells → console_now v1 ≡ console_now v0 = λ t. (f.during t).console v1.now f.acted.goes.later (omega arith) in
-    run_since P.tells c.args.asked r.status r.base r.journal r.since v0 v1 (P.view r.plant) f.acted.goes quiet
-    (subst (λ (v : View). IsRun P.tells c.args.asked r.status r.base r.journal r.since v (P.view r.plant)) (ap P.view m.plant) c.play_asked.ensures.run)
+    run_since P.tells c.args.asked.now r.status r.base r.journal r.since v0 v1 (P.view r.plant) f.acted.goes f.acted.loses quiet
+    (subst (λ (v : View). IsRun P.tells c.args.asked.now r.status r.base r.journal r.since v (P.view r.plant)) (ap P.view m.plant) c.play_asked.ensures.run)

@@ -1,0 +1,26 @@
+use Rattle.std.proofs.Common.{◌≡◌, ◌+◌, ◌≤◌}
+use Rattle.mas_types.specs.declared.ids.Dev.TheVariants.{Ckpt1, Ckpt2}
+use Rattle.spool_disk.specs.View.{disk_now}
+use Rattle.mas_run.specs.Between.{RestsAt, IsBetween}
+use Rattle.mas_run.specs.Plays.{HavePlayed}
+use Rattle.mas_run.proofs.running.Running.play_steps.Given as goal
+
+abbrev pub invariant-loop-step : goal.invariant-loop-step
+invariant-loop-step g l =
+    let P = g.P.Plant in
+    let C = g.C.Copying in
+    let x = l.fn.self.complex in
+    let y = l.self.complex in
+    record {
+      number : l.number ≡ l.step-index;
+      base : y.base ≡ x.base;
+      since : y.since ≡ x.since;
+      between : IsBetween y.base y.journal.batches y.current y.placed y.level l.self.checkpoint;
+      rests1 : RestsAt P.tells y.pair.first.alive y.first (C.count y.pair.first.copy) l.self.checkpoint.pages (C.reads (disk_now (P.view y.plant) Ckpt1).bytes);
+      rests2 : RestsAt P.tells y.pair.second.alive y.second (C.count y.pair.second.copy) l.self.checkpoint.pages (C.reads (disk_now (P.view y.plant) Ckpt2).bytes);
+      config : l.self.checkpoint.tables.config ≡ l.fn.self.checkpoint.tables.config;
+      owners : l.self.checkpoint.tables.owners ≡ l.fn.self.checkpoint.tables.owners;
+      order : l.self.checkpoint.tables.order ≤ l.fn.self.checkpoint.tables.order + l.step-index;
+      level : l.self.checkpoint.level ≤ l.fn.self.checkpoint.level + l.step-index;
+      played : HavePlayed P.tells x.base l.asked l.step-index y.journal.batches x.pair.first.alive y.pair.first.alive x.pair.second.alive y.pair.second.alive (P.view x.plant) (P.view y.plant);
+    }

@@ -1,0 +1,52 @@
+-- What steps leave that are played one after another.
+use Rattle.std.specs.Prelude.{◌≡◌, ◌⊎◌, ℕ, ◌+◌, ◌≤◌, Bool, List, ◌++◌, length, take, map, Result, Ok, Err}
+use Rattle.mas_types.specs.declared.ids.Dev.{Dev}
+use Rattle.mas_types.specs.declared.journals.Batch.{Batch}
+use Rattle.mas_types.specs.declared.queues.Queue.{Queue}
+use Rattle.first_script.specs.declared.asked.Asked.{Asked}
+use Rattle.spool_disk.specs.declared.plant.Part.TheVariants.{Console}
+use Rattle.spool_disk.specs.View.{View}
+use Rattle.spool_disk.specs.Acts.{Rose}
+use Rattle.duplex_pair.specs.Halves.{IsBothLost, SomeAlive}
+use Rattle.mas_complex.specs.Headline.{whole}
+use Rattle.mas_run.specs.declared.running.StepNo.{StepNo}
+use Rattle.mas_run.specs.declared.running.StepNo.TheVariants as no_step
+use Rattle.mas_run.specs.Crash.{IsOnlyOn}
+use Rattle.mas_run.specs.Runs.{AreKept, IsHistory, Adds, IsStopped, HasLost}
+use Rattle.mas_run.specs.Steps.{output, loses_after}
+use Rattle.mas_run.specs.Stops.{Course}
+use Rattle.mas_run.specs.Told.{console_now}
+
+-- So many steps have been played, from the first on, since the plant showed `old`.
+pub record HavePlayed (told : Type 0) (base : Queue) (asked : List Asked) (played : ℕ) (batches : List Batch) (was1 is1 was2 is2 : Bool) (old new : View) : Type 0 where
+  pub course : Course was1 is1 was2 is2 old new
+  pub left : SomeAlive is1 is2 ⊎ HasLost old new
+  pub kept : AreKept base 1 (take played asked) old.now new.now batches
+  pub loses : (d : Dev) → new.loses d ≡ loses_after d (take played asked) (old.loses d)
+  pub elsewhere : told → IsOnlyOn old new
+  pub said : told → console_now new ≡ console_now old ++ map whole (output base (take played asked))
+
+-- what an answer says: how many steps are kept and closed, whether a batch is in flight, and why
+abbrev pub Ends : {T : Type 0} → Result T StepNo → ℕ → ℕ → ℕ → Type 0 → Bool → Bool → View → View → Type 0
+Ends (Ok done) kept closed all settled one two old new = (kept ≡ all) × (closed ≡ all) × settled
+Ends (Err no_step.NoMemory) kept closed all settled one two old new = (kept ≡ closed) × settled
+Ends (Err no_step.Lost) kept closed all settled one two old new = (kept ≡ closed) × IsBothLost one two
+Ends (Err no_step.Unsaid) kept closed all settled one two old new = (kept ≡ closed + 1) × settled × Rose (old.faults Console) (new.faults Console)
+Ends (Err no_step.Stopped) kept closed all settled one two old new = IsStopped old new
+
+abbrev pub IfNotLost : {T : Type 0} → Result T StepNo → Type 0 → Type 0
+IfNotLost (Err no_step.Lost) P = Unit {0}
+IfNotLost _ P = P
+
+-- The steps were played up to the end, or to one that ends the run.
+pub record ArePlayed {T : Type 0} (told : Type 0) (base : Queue) (asked : List Asked) (batches : List Batch) (was1 is1 was2 is2 : Bool) (old new : View) (result : Result T StepNo) : Type 0 where
+  pub kept : ℕ
+  pub closed : ℕ
+  pub few : (closed ≤ kept) × (kept ≤ closed + 1) × (kept ≤ length asked)
+  pub course : Course was1 is1 was2 is2 old new
+  pub left : IfNotLost result (SomeAlive is1 is2 ⊎ HasLost old new)
+  pub history : IsHistory base asked kept old.now new.now batches
+  pub ends : Ends result kept closed (length asked) (AreKept base 1 (take kept asked) old.now new.now batches) is1 is2 old new
+  pub loses : (d : Dev) → new.loses d ≡ loses_after d (take kept asked) (old.loses d)
+  pub elsewhere : told → IsOnlyOn old new
+  pub said : told → Adds (output base (take closed asked)) (output base (take kept asked)) (console_now old) (console_now new) (IsStopped old new)
