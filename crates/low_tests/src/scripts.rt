@@ -64,7 +64,8 @@ fn plays_one_deck(rt: HostRuntime) -> Result<(), Fail> {
 fn plays_steps_in_order(rt: HostRuntime) -> Result<(), Fail> {
     let a = Asked::Deck(job(b"A       ", b'A'));
     let b = Asked::Deck(job(b"B       ", b'B'));
-    let script = b"SYSA DECK\n//A JOB\n++END\n\nLOSE CKPT1\nSYSA DECK\n//B JOB (1),'ME',CLASS=B\n//\n++END\nLOSE CKPT2  \r\nSYSA DECK\n//A JOB\n++END".as_slice();
+    let script =
+        b"SYSA DECK\n//A JOB\n++END\n\nLOSE CKPT1\nSYSA DECK\n//B JOB (1),'ME',CLASS=B\n//\n++END\nLOSE CKPT2  \r\nSYSA DECK\n//A JOB\n++END".as_slice();
     assert!(rt; script.len() <= SCRIPT_BYTES);
     let asked = read_script(rt.alloc(), OWN, script)?;
     let want = [a, Asked::Lose(Dev::Ckpt1), b, Asked::Lose(Dev::Ckpt2), a];
