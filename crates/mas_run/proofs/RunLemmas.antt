@@ -1,5 +1,5 @@
 -- A run, from what its step leaves.
-use Rattle.std.proofs.Common.{◌≡◌, ◌≢◌, ◌⊎◌, inl, inr, ⊎_elim, ℕ, zero, suc, ◌+◌, ◌<◌, Bool, true, false, List, [], ◌∷◌, ◌++◌, length, map, take, Option, Some, None, Result, Ok, Err, refl, sym, ◌∙◌, ap, subst, arith, replicate, codes, All}
+use Rattle.std.proofs.Common.{◌≡◌, ◌≢◌, ◌⊎◌, inl, inr, ⊎_elim, ℕ, zero, suc, ◌+◌, ◌<◌, Bool, true, false, List, [], ◌∷◌, ◌++◌, length, map, take, None, Result, Ok, Err, refl, sym, ◌∙◌, ap, subst, arith, replicate, codes, All}
 use Rattle.std.proofs.Math.Logic.{∥∥₁_map, ∥∥₁_elim}
 use Rattle.std.specs.Coded.{Coded, Coded-set, coded_ℕ, code_by, ×_prop, le_prop}
 use Rattle.std.specs.List.{list_any}
@@ -18,7 +18,6 @@ use Rattle.mas_run.specs.Entering.{MayEnter, AreBelow}
 use Rattle.mas_types.specs.declared.ids.Dev.TheVariants.{Ckpt1, Ckpt2, Spool}
 use Rattle.mas_types.specs.declared.ids.Dev.{Dev}
 use Rattle.first_script.specs.declared.asked.Asked.{Asked}
-use Rattle.mas_types.specs.declared.journals.Batch.{Batch}
 use Rattle.mas_types.specs.declared.journals.Journal.{Journal}
 use Rattle.mas_types.specs.declared.journals.Fate.{Fate}
 use Rattle.mas_types.specs.declared.journals.Fate.TheVariants.{Kept, Dropped, Flying}
@@ -35,38 +34,18 @@ use Rattle.duplex_pair.specs.Both.{PairActed}
 use Rattle.ckpt_copy.specs.Pages.{level}
 use Rattle.mas_complex.specs.declared.places.Place.TheVariants.{Before}
 use Rattle.mas_complex.specs.Meaning.{StandFor}
-use Rattle.mas_complex.specs.Crash.{Setting, setting, Copy, Keeps, IsLeft, IsFound, found, CopyAt, copy_of}
-use Rattle.mas_complex.specs.Headline.{Headline, FoundFor, AreToldKept, whole}
+use Rattle.mas_complex.specs.Crash.{setting, CopyAt, copy_of}
+use Rattle.mas_complex.specs.Headline.{Headline, LeavesQueue, AreToldKept, whole}
 use Rattle.mas_run.specs.declared.running.StepNo.{StepNo}
 use Rattle.mas_run.specs.declared.running.StepNo.TheVariants as no_step
 use Rattle.mas_run.specs.Decks.{sysa}
 use Rattle.mas_run.specs.Steps.{IfDeck, IfLose, output, loses_after}
 use Rattle.mas_run.specs.Plays.{Ends, IfNotLost, ArePlayed}
 use Rattle.mas_run.specs.Told.{torn, console_now}
-use Rattle.mas_run.specs.Crash.{IsFresh}
 use Rattle.mas_run.specs.Stops.{Course}
 use Rattle.mas_run.specs.Runs.{AreKept, HasLost, IsStopped, IsRun}
 use Rattle.mas_run.specs.Statuses.{Grows, IsCaused, IsCausedFrom, status_of}
 use Rattle.mas_run.proofs.CourseLemmas.{left, lost_later, lost_more, has_lost_later}
-
--- WHAT THE SHARED VALUE SAYS
-
--- at its first moment a crash leaves the base
-module _ (base : Queue) (since reached : ℕ) (first second : Copy) (v new : View) where
-  abbrev S : Setting
-  S = setting reads base since
-
-  fresh_found : (q : Option (List ℕ)) → IsFound S [] q ⊎ IsFound S [] q → FoundFor base q
-  fresh_found None after = ⊎_elim (λ h. h) (λ h. h) after
-  fresh_found (Some pages) after = ⊎_elim (λ h. h) (λ h. h) after
-
-  pub fresh_of : (js : List Batch) (c : Option Batch) → js ≡ [] → c ≡ None → Keeps S js c reached first second v → Goes v new → IsFresh reads base since new
-  fresh_of js c none idle keeps goes lt one two left right some =
-      let k : Keeps S [] None reached first second v = subst (λ (bs : List Batch). Keeps S bs None reached first second v) none (subst (λ (x : Option Batch). Keeps S js x reached first second v) idle keeps) in
-      let past : new.world since ≡ v.world since = goes.past since keeps.started in
-      fresh_found (found S one two)
-      (k.crash since (omega arith) keeps.started lt one two
-      (subst (λ (w : World). IsLeft (w.disk Ckpt1) one) past left) (subst (λ (w : World). IsLeft (w.disk Ckpt2) two) past right) some)
 
 abbrev fate_code : Fate → ℕ
 fate_code Kept = 0
@@ -157,7 +136,7 @@ module _ {T : Type 0} (told : Type 0) (asked : List Asked) (base : Queue) (journ
     console = λ e. console_failed answer p.kept p.closed (AreKept base 1 (take p.kept asked) old.now new.now journal.batches) e p.ends;
   }
 
-  module _ (is : base ≡ empty_queue default_config []) (fresh : told → ∥ IsFresh reads base old.now new ∥₁) (head : told → ∥ Headline reads base old.now journal new ∥₁)
+  module _ (is : base ≡ empty_queue default_config []) (fresh : told → ∥ LeavesQueue reads base old.now new ∥₁) (head : told → ∥ Headline reads base old.now journal new ∥₁)
       (there1 : a ≡ true → old.lost (DiskPart Ckpt1) ≡ false) (there2 : b ≡ true → old.lost (DiskPart Ckpt2) ≡ false) where
     pub run_of_steps : (answer : Result T StepNo) → ArePlayed told base asked journal.batches a a' b b' old new answer → IsRun told asked (status_of answer) base journal old.now old new
     run_of_steps answer p = record {

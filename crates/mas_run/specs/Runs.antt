@@ -16,11 +16,10 @@ use Rattle.spool_disk.specs.declared.plant.Part.TheVariants.{Disk}
 use Rattle.spool_disk.specs.View.{View, Line}
 use Rattle.spool_disk.specs.Acts.{Rose, top}
 use Rattle.ckpt_copy.specs.Areas.{reads}
-use Rattle.mas_complex.specs.Headline.{whole, IsCrashSafe, AreToldKept}
+use Rattle.mas_complex.specs.Headline.{whole, IsCrashSafe, LeavesQueue, AreToldKept}
 use Rattle.mas_run.specs.Decks.{sysa, deck_entries}
 use Rattle.mas_run.specs.Steps.{after_step, queue_after, output, loses_after}
 use Rattle.mas_run.specs.Told.{torn, console_now}
-use Rattle.mas_run.specs.Crash.{IsFresh}
 
 -- a run has begun where its first queue has members
 abbrev pub has_begun : Queue → Bool
@@ -97,7 +96,7 @@ pub record IsRun (tells : Type 0) (asked : List Asked) (answer : Status) (base :
   -- it began with the empty queue, which the copies had then, and nothing was said before
   pub queue : base ≡ empty_queue default_config []
   pub moment : (old.now ≤ since) × (since ≤ new.now)
-  pub fresh : tells → ∥ IsFresh reads base since new ∥₁
+  pub fresh : tells → ∥ LeavesQueue reads base since new ∥₁
   pub quiet : tells → (new.world since).console ≡ console_now old
   -- so many of its steps are kept, from the first on, and so many of these are known to be closed
   pub kept : ℕ

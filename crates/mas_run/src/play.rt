@@ -6,14 +6,14 @@ ghost use Rattle.mas_types.specs.declared.ids.Dev.TheVariants.{Ckpt1, Ckpt2};
 ghost use Rattle.mas_types.specs.declared.ids.Dev.{Dev};
 ghost use Rattle.mas_types.specs.declared.answers.CopyState.{CopyState};
 ghost use Rattle.spool_disk.specs.declared.plant.Part.TheVariants.{Disk};
-ghost use Rattle.spool_disk.specs.View.{disk_now};
+ghost use Rattle.spool_disk.specs.View.{View, disk_now};
 ghost use Rattle.spool_disk.specs.Acts.{Goes};
 ghost use Rattle.ckpt_copy.specs.Areas.{reads};
 ghost use Rattle.ckpt_copy.specs.Pages.{bytes_of};
 ghost use Rattle.ckpt_pages.specs.Starts.{empty_tables};
 ghost use Rattle.duplex_pair.specs.Halves.{SomeAlive, IsCkpt};
 ghost use Rattle.first_script.specs.Steps.{IsFitStep};
-ghost use Rattle.mas_complex.specs.Headline.{Headline};
+ghost use Rattle.mas_complex.specs.Headline.{Headline, LeavesQueue};
 ghost use Rattle.mas_complex.specs.Journals.{end_of};
 ghost use Rattle.mas_run.specs.Refusals.{bytes_needed, refused_devices, Answers};
 ghost use Rattle.mas_run.specs.Standing.{queue_of};
@@ -120,6 +120,7 @@ fn play_asked<P: Plant + Drop>(
     requires level { run.checkpoint.level ≡ 1 }
     requires journal { run.complex.journal.batches ≡ [] }
     requires since { run.complex.since ≡ (P.view run.complex.plant).now }
+    requires fresh { P.tells → ∥ ((later : View) → Goes (P.view run.complex.plant) later → LeavesQueue reads run.complex.base run.complex.since later) ∥₁ }
     requires some { SomeAlive run.complex.pair.first.alive run.complex.pair.second.alive }
     requires there1 { run.complex.pair.first.alive ≡ true → (P.view run.complex.plant).lost (Disk Ckpt1) ≡ false }
     requires there2 { run.complex.pair.second.alive ≡ true → (P.view run.complex.plant).lost (Disk Ckpt2) ≡ false }

@@ -2,10 +2,9 @@ use Rattle.std.proofs.Common.{ℕ, List, subst, sym}
 use Rattle.std.proofs.Math.Logic.{∥∥₁_map}
 use Rattle.mas_types.specs.declared.journals.Batch.{Batch}
 use Rattle.ckpt_copy.specs.Areas.{reads}
-use Rattle.mas_complex.specs.Headline.{Headline}
-use Rattle.mas_run.specs.Crash.{IsFresh}
+use Rattle.mas_complex.specs.Headline.{Headline, LeavesQueue}
 use Rattle.mas_run.specs.Plays.{ArePlayed}
-use Rattle.mas_run.proofs.RunLemmas.{fresh_of, run_of_steps, caused_by_steps}
+use Rattle.mas_run.proofs.RunLemmas.{run_of_steps, caused_by_steps}
 use Rattle.mas_run.proofs.play.play_asked.Goals as goal
 
 pub returns-clause-run : goal.returns-clause-run
@@ -19,8 +18,8 @@ returns-clause-run g c =
     let d = c.play_steps-answer.ensures in
     let J = c.ended.result.journal in
     let asked = c.args.asked.now in
-    let fresh : P.tells → ∥ IsFresh reads x.base v.now w ∥₁ = λ t. subst (λ (m : ℕ). ∥ IsFresh reads x.base m w ∥₁) c.requires.since
-    (∥∥₁_map (x.kept t) (λ k. fresh_of x.base x.since x.level _ _ v w x.journal.batches x.current c.requires.journal c.requires.between.none k d.played.course.goes)) in
+    let fresh : P.tells → ∥ LeavesQueue reads x.base v.now w ∥₁ = λ t. subst (λ (m : ℕ). ∥ LeavesQueue reads x.base m w ∥₁) c.requires.since
+    (∥∥₁_map (c.requires.fresh t) (λ k. k w d.played.course.goes)) in
     let head : P.tells → ∥ Headline reads x.base v.now J w ∥₁ = λ t. rw (e.base, e.since, e.plant, d.base, d.since, c.requires.since) at (e.headline t) in
     let played : ArePlayed P.tells x.base asked J.batches x.pair.first.alive y.pair.first.alive x.pair.second.alive y.pair.second.alive v w c.play_steps-answer.result =
     subst (λ (bs : List Batch). ArePlayed P.tells x.base asked bs x.pair.first.alive y.pair.first.alive x.pair.second.alive y.pair.second.alive v w c.play_steps-answer.result) (sym e.journal) d.played in

@@ -43,6 +43,11 @@ make-complex-requires-clause-second g c told =
     ∣ formed_copy c.in-Ok.base v.now k.level (λ pages disk. Rests n.copy.pages n.copy.second n.copy.stale pages disk) (λ was next disk. Holds n.copy.pages n.copy.second n.copy.stale was next disk) n.alive (disk_now v Ckpt2) (bytes_of k.pages)
     (drawn_level k.tables k.level k.levels k.pages c.in-Ok.ensures.drawn) stand (λ is. rw c.as_slice.ensures at (f.formed2 told is)) (λ not lt. f.gone2 told c.new-pair.ensures.alive.1 not lt) ∣₁
 
+pub play_asked-requires-clause-fresh : goal.play_asked-requires-clause-fresh
+play_asked-requires-clause-fresh g c told =
+    let m = c.make-complex.ensures in
+    rw (m.plant, m.base, m.since) (m.fresh told)
+
 pub play_asked-requires-clause-rests1 : goal.play_asked-requires-clause-rests1
 play_asked-requires-clause-rests1 g c =
     let v = g.P.Plant.view c.form.new.plant in
