@@ -1,5 +1,7 @@
-//! Tests of the queue's slots and of printing.
+//! Tests of the queue's slots, of commands and of printing.
 #![tactic(auto)]
 
+#[cfg(test)]
+mod commands;
 #[cfg(test)]
 mod tests;
