@@ -9,7 +9,7 @@ ghost use Rattle.mas_types.specs.Owners.{free_count as free_count_lem};
 ghost use Rattle.std.specs.Option.{option_copied};
 ghost use Rattle.cmd_report.specs.Named.{IsNamed};
 
-use line_words::{
+use mas_types::words::{
     push_classes, push_decimal, push_digits, push_key, push_member, push_name, push_output_key,
     push_phase, push_text,
 };

@@ -5,7 +5,7 @@ ghost use Rattle.mas_types.specs.Histories.{command_word as command_word_lem, ou
 ghost use Rattle.mas_types.specs.Journal.{is_kept as is_kept_lem, kept_list};
 ghost use Rattle.cmd_report.specs.Named.{IsEntryNamed, IsHistoryNamed, kept_in};
 
-use line_words::{
+use mas_types::words::{
     push_decimal, push_digits, push_key, push_member, push_output_key, push_phase, push_text,
 };
 use mas_types::{Batch, Command, Entry, Fate, Journal, Lines, List, NoMemory, Refusal, Reply};

@@ -3,7 +3,7 @@ ghost use Rattle.std.specs.Prelude.{◌≡◌, ◌≤◌, [], ◌∷◌, ◌++�
 ghost use Rattle.mas_types.specs.Closings.{AreMembersNamed, closing_line as closing_line_lem, detail_line as detail_line_lem, detail_lines};
 ghost use Rattle.mas_types.specs.Limits.{members_most};
 
-use line_words::{push_digits, push_member, push_text};
+use mas_types::words::{push_digits, push_member, push_text};
 use mas_types::{Closing, Lines, List, MemberId, NoMemory, closing_line};
 use std::alloc::Global;
 

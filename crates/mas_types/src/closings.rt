@@ -9,7 +9,7 @@ use crate::commands::{Refusal, Reply};
 use crate::ids::{Dev, MemberId, NoMemory};
 use crate::lists::List;
 use crate::words::{
-    phase_word, push_device, push_digits, push_key, push_member, push_output_key, push_text,
+    push_device, push_digits, push_key, push_member, push_output_key, push_phase, push_text,
     push_with_member, push_with_number,
 };
 use std::alloc::Global;
@@ -94,7 +94,7 @@ fn push_refusal(line: &mut List<u8>, why: Refusal) -> Result<(), NoMemory>
         Refusal::InUse(member) => push_with_member(line, b"IN USE ", member),
         Refusal::WrongPhase(phase) => {
             push_text(line, b"PHASE ")?;
-            push_text(line, phase_word(phase))
+            push_phase(line, phase)
         }
         Refusal::Nothing => push_text(line, b"NOTHING"),
         Refusal::NoMember => push_text(line, b"NO MEMBER"),

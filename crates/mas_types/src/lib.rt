@@ -20,7 +20,7 @@ pub mod starts;
 pub mod statuses;
 pub mod texts;
 pub mod units;
-mod words;
+pub mod words;
 
 pub use answers::{CardCause, Closing, CopyState, FaultKind, JclCause, LineCause, Status, Verdict};
 pub use closings::closing_line;

@@ -1,10 +1,9 @@
 //! Lines on paper.
-ghost use Rattle.std.specs.Prelude.{◌≡◌, ◌+◌, ◌%◌, ◌++◌, ◌<◌, ◌≤◌, decimal, length, IfOk, OnOk};
-ghost use Rattle.mas_types.specs.Numerals.{in_digits, key_of};
-ghost use Rattle.mas_types.specs.Shown.{output_key};
+ghost use Rattle.std.specs.Prelude.{◌≡◌, ◌≤◌, length, IfOk};
 ghost use Rattle.mas_types.specs.Printed.{printed_line, text_at};
 
-use mas_types::{JobNo, Lines, List, NUMBER_MOST, NoMemory, OutNo};
+use mas_types::words::{push_digits, push_output_key, push_text};
+use mas_types::{JobNo, Lines, List, NoMemory, OutNo};
 use std::alloc::Global;
 
 /// A line of an output on paper: the job identifier, a point and the index in two digits, a blank, the line's number in eight
@@ -35,59 +34,4 @@ fn text_of(text: &Lines, line: u32) -> &[u8]
     ensures { result.now ≡ text_at text.now line }
 {
     text.line((line - 1) as usize % text.len())
-}
-
-fn push_output_key(line: &mut List<u8>, job: JobNo, index: OutNo) -> Result<(), NoMemory>
-    ensures { OnOk result (line.new ≡ line.old ++ output_key job index) }
-{
-    push_key(line, job)?;
-    line.push(b'.')?;
-    push_digits(line, 2, index.0 as u64)
-}
-
-fn push_key(line: &mut List<u8>, job: JobNo) -> Result<(), NoMemory>
-    ensures { OnOk result (line.new ≡ line.old ++ key_of job.0) }
-{
-    if job.0 <= NUMBER_MOST {
-        push_text(line, b"JOB")?;
-        push_digits(line, 5, job.0 as u64)
-    } else {
-        push_text(line, b"J0")?;
-        push_digits(line, 6, job.0 as u64)
-    }
-}
-
-fn push_digits(line: &mut List<u8>, width: u8, n: u64) -> Result<(), NoMemory>
-    ensures { OnOk result (line.new ≡ line.old ++ in_digits width n) }
-{
-    if width < 2 {
-        return push_decimal(line, n);
-    }
-    push_digits(line, width - 1, n / 10)?;
-    line.push(last_digit(n))
-}
-
-fn push_decimal(line: &mut List<u8>, n: u64) -> Result<(), NoMemory>
-    ensures { OnOk result (line.new ≡ line.old ++ decimal n) }
-{
-    if n < 10 {
-        return line.push(last_digit(n));
-    }
-    push_decimal(line, n / 10)?;
-    line.push(last_digit(n))
-}
-
-fn last_digit(n: u64) -> u8
-    ensures { result ≡ 48 + n % 10 }
-{
-    b'0' + (n % 10) as u8
-}
-
-fn push_text(line: &mut List<u8>, text: &[u8]) -> Result<(), NoMemory>
-    ensures { OnOk result (line.new ≡ line.old ++ text.now) }
-{
-    for byte in text {
-        line.push(*byte)?;
-    }
-    Ok(())
 }

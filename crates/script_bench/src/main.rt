@@ -1,4 +1,5 @@
-//! Reads a script of nearly 16 MiB as often as its word says. `bench/layers` takes the time and the memory.
+//! Reads a script of nearly 16 MiB as often as its first word says, with cards of as many bytes as its second says.
+//! `bench/layers` takes the time and the memory.
 #![tactic(auto)]
 
 use mas_types::limits::SCRIPT_BYTES;
@@ -7,43 +8,46 @@ use std::alloc::{AllocError, Global};
 use std::env;
 use std::process::ExitCode;
 
-// The cards of a deck.
-const CARDS: usize = 200;
+// The bytes of the cards of a deck.
+const CARDS_BYTES: usize = 16_000;
 
 // The bytes of a deck with the lines behind it, or more.
 const DECK_BYTES: usize = 20_000;
 
-fn push_deck(text: &mut Vec<u8>) -> Result<(), AllocError> {
+const CARD: &[u8] =
+    b"A CARD OF DATA THAT FILLS ALL OF ITS EIGHTY COLUMNS WITH TEXT UP TO THE LAST ONE";
+
+fn push_deck(text: &mut Vec<u8>, width: usize) -> Result<(), AllocError> {
     text.extend_from_slice(b"SYSA DECK\n")?;
-    for _card in 0..CARDS {
-        text.extend_from_slice(
-            b"A CARD OF DATA THAT FILLS ALL OF ITS EIGHTY COLUMNS WITH TEXT UP TO THE LAST ONE\n",
-        )?;
+    let card = &CARD[..width.min(CARD.len())];
+    for _card in 0..CARDS_BYTES / (card.len() + 1) {
+        text.extend_from_slice(card)?;
+        text.push(b'\n')?;
     }
     text.extend_from_slice(b"++END\nSYSA WORK 40\nSYSA $TPRT,Q=ABC,F=STD,L=20\n\n")
 }
 
-fn script(alloc: Global) -> Result<Vec<u8>, AllocError> {
+fn script(alloc: Global, width: usize) -> Result<Vec<u8>, AllocError> {
     let mut text = Vec::with_capacity(alloc, SCRIPT_BYTES)?;
     for _deck in 0..SCRIPT_BYTES {
         if text.len() + DECK_BYTES > SCRIPT_BYTES {
             break;
         }
-        push_deck(&mut text)?;
+        push_deck(&mut text, width)?;
     }
     Ok(text)
 }
 
-// The number that the word after the program's name is, 0 where it isn't there or is no number.
-fn count(rt: &HostRuntime) -> u32 {
+// The number that a word after the program's name is, 0 where it isn't there or is no number.
+fn number(rt: &HostRuntime, at: usize) -> u32 {
     let Ok(args) = env::args(rt) else {
         return 0;
     };
-    let mut count = 0;
-    for word in args.skip(1).take(1) {
-        count = word.as_str().parse::<u32>().unwrap_or(0);
+    let mut number = 0;
+    for word in args.skip(at).take(1) {
+        number = word.as_str().parse::<u32>().unwrap_or(0);
     }
-    count
+    number
 }
 
 // How many steps were read in all.
@@ -57,10 +61,10 @@ fn read_often(alloc: Global, text: &[u8], count: u32) -> Result<usize, ScriptNo>
 }
 
 fn main(rt: HostRuntime) -> ExitCode {
-    let Ok(text) = script(rt.alloc()) else {
+    let Ok(text) = script(rt.alloc(), number(&rt, 2) as usize) else {
         return ExitCode::FAILURE;
     };
-    match read_often(rt.alloc(), text.as_slice(), count(&rt)) {
+    match read_often(rt.alloc(), text.as_slice(), number(&rt, 1)) {
         Ok(_steps) => ExitCode::SUCCESS,
         Err(_) => ExitCode::FAILURE,
     }

@@ -1,6 +1,6 @@
 mod Walks
 mod Giving
-mod Sorting
+pub mod Sorting
 mod LowestLemmas
 mod TextLemmas
 mod OrderLemmas

@@ -1,6 +1,6 @@
 use Rattle.std.proofs.Common.{◌≡◌, ◌++◌, take}
 use Rattle.mas_types.specs.Shown.{classes_text}
-use Rattle.line_words.proofs.words.push_classes.Given as goal
+use Rattle.mas_types.proofs.words.push_classes.Given as goal
 
 -- the classes so far stand at the end
 abbrev pub invariant-loop-class : goal.invariant-loop-class

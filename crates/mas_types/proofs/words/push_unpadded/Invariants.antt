@@ -1,6 +1,6 @@
 use Rattle.std.proofs.Common.{◌≡◌, ◌++◌, drop}
 use Rattle.mas_types.specs.Names.{unpadded}
-use Rattle.line_words.proofs.words.push_unpadded.Given as goal
+use Rattle.mas_types.proofs.words.push_unpadded.Given as goal
 
 -- what is left decides
 abbrev pub invariant-loop-i : goal.invariant-loop-i

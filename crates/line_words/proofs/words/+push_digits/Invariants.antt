@@ -1,4 +1,0 @@
-use Rattle.line_words.proofs.words.+push_digits.Given as goal
-
-abbrev pub decreases-push_digits : goal.decreases-push_digits
-decreases-push_digits l = l.width
