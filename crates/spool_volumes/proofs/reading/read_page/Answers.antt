@@ -1,0 +1,16 @@
+use Rattle.std.proofs.Common.{◌≡◌, length, refl, arith}
+use Rattle.mas_types.specs.declared.ids.Dev.TheVariants.{Spool}
+use Rattle.mas_types.specs.Limits.{page_bytes}
+use Rattle.spool_disk.specs.View.{disk_now}
+use Rattle.spool_disk.specs.declared.plant.Part.TheVariants.{Disk as DiskPart}
+use Rattle.spool_volumes.specs.Volumes.{volume_of, start_of}
+use Rattle.spool_volumes.proofs.ReadLemmas.{page_there}
+use Rattle.spool_volumes.proofs.reading.read_page.Goals as goal
+
+pub returns-in-Done-clause-read : goal.returns-in-Done-clause-read
+returns-in-Done-clause-read g c is told =
+    let old = g.P.Plant.view c.args.plant.now in
+    let dev = Spool (volume_of c.args.per c.args.group) in
+    let read = (c.in-Done.ensures.content told).disk in
+    let long : length c.read.new.into ≡ page_bytes = omega (arith, c.requires.page) in
+    page_there (old.lost (DiskPart dev)) (start_of c.args.per c.args.group) (disk_now old dev).bytes c.read.new.into (λ lost. c.in-Done.ensures.acts.stays_lost lost refl) (rw long at read.1)

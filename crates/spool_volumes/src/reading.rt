@@ -1,0 +1,129 @@
+//! Reading a text.
+ghost use Rattle.std.specs.Prelude.{◌≡◌, ◌≤◌, ◌++◌, true, false, Some, None, All, length, IfOk, IsErrOf, Ok as OkLem};
+ghost use Rattle.mas_types.specs.Limits.{page_bytes};
+ghost use Rattle.spool_disk.specs.Acts.{Goes, Rose};
+ghost use Rattle.spool_volumes.specs.Volumes.{page_of, volumes_now, IsPlaced, IsSteady, AreSame};
+ghost use Rattle.spool_volumes.specs.Texts.{last_of, records_on, text_of, whole_text, Adds};
+ghost use Rattle.spool_volumes.specs.declared.reading.ReadNo.TheVariants.{Halted as ReadNoHalted};
+
+use mas_types::limits::PAGE_BYTES;
+use mas_types::{Dev, GroupNo, Lines, MemberId, NoMemory, Page, Text};
+use spool_disk::{Act, Plant};
+use spool_text::{TextNo, law_of_reading, unpack};
+use std::alloc::Global;
+use thiserror::Error;
+
+/// Why a text was not read.
+#[derive(Clone, Copy, Debug, PartialEq, Eq, Error)]
+pub enum ReadNo {
+    /// The member was stopped inside a read.
+    #[error("the member was stopped")]
+    Halted,
+    /// There was no memory for the lines.
+    #[error("no memory")]
+    NoMemory,
+}
+
+// Reads the page of a group; false where its volume is lost.
+fn read_page<P: Plant>(
+    plant: &mut P,
+    by: MemberId,
+    per: u32,
+    group: GroupNo,
+    into: &mut [u8],
+) -> Result<bool, ReadNo>
+    requires some { 1 ≤ per }
+    requires page { length into.old ≡ page_bytes }
+    requires placed { IsPlaced (P.view plant.old) per group }
+    ensures goes { Goes (P.view plant.old) (P.view plant.new) }
+    ensures same { P.tells → AreSame (P.view plant.old) (P.view plant.new) }
+    ensures read { result ≡ OkLem true → P.tells → page_of (volumes_now (P.view plant.old)) per group ≡ Some into.new }
+    ensures lost { result ≡ OkLem false → IsSteady (P.view plant.old) (P.view plant.new) → page_of (volumes_now (P.view plant.old)) per group ≡ None }
+    ensures halted { IsErrOf result ReadNoHalted → Rose ((P.view plant.old).stops by.0) ((P.view plant.new).stops by.0) }
+{
+    let dev = Dev::Spool((group.0 / per) as u8 + 1);
+    let at = PAGE_BYTES as u64 * (group.0 % per) as u64;
+    match plant.read(by, dev, at, into) {
+        Act::Done => Ok(true),
+        Act::Failed => Ok(false),
+        Act::Halted => Err(ReadNo::Halted),
+    }
+}
+
+// Adds the lines of a group; false where it holds no records or its volume is lost.
+fn add_group<P: Plant>(
+    alloc: Global,
+    plant: &mut P,
+    by: MemberId,
+    per: u32,
+    group: GroupNo,
+    lines: &mut Lines,
+) -> Result<bool, ReadNo>
+    requires some { 1 ≤ per }
+    requires placed { IsPlaced (P.view plant.old) per group }
+    ensures goes { Goes (P.view plant.old) (P.view plant.new) }
+    ensures same { P.tells → AreSame (P.view plant.old) (P.view plant.new) }
+    ensures added { result ≡ OkLem true → P.tells → Adds (records_on (volumes_now (P.view plant.old)) per group) lines.old lines.new }
+    ensures none { result ≡ OkLem false → P.tells → IsSteady (P.view plant.old) (P.view plant.new) → records_on (volumes_now (P.view plant.old)) per group ≡ None }
+    ensures halted { IsErrOf result ReadNoHalted → Rose ((P.view plant.old).stops by.0) ((P.view plant.new).stops by.0) }
+{
+    law_of_reading();
+    let mut page = Page([0; 4096]);
+    if !read_page(plant, by, per, group, &mut page.0)? {
+        return Ok(false);
+    }
+    match unpack(alloc, &page, lines) {
+        Ok(()) => Ok(true),
+        Err(TextNo::Bad) => Ok(false),
+        Err(TextNo::NoMemory) => Err(ReadNo::NoMemory),
+    }
+}
+
+// The text of these lines, of which so many are counted.
+fn ended(count: u16, groups: &[GroupNo], lines: Lines) -> Text
+    ensures { result ≡ whole_text count groups.now lines }
+{
+    if lines.len() == count as usize {
+        return Text::Whole(lines);
+    }
+    Text::Gone(last_group(groups), count)
+}
+
+fn last_group(groups: &[GroupNo]) -> GroupNo
+    ensures { result ≡ last_of groups.now }
+{
+    match groups.last() {
+        Some(group) => *group,
+        None => GroupNo(0),
+    }
+}
+
+/// The text of groups in the order of their places, of which its slot counts so many lines; each volume has `per` groups,
+/// at least one, and each group lies within its volume. It is whole, or gone with the first group that lies on a lost
+/// volume or holds no records; the last group counts as such where the lines are not as many as the slot counts.
+///
+/// What is said of the text holds where no volume was lost in the call: else read again. Halted comes only where the
+/// member was stopped inside a read. No byte of a volume is changed.
+pub fn read_text<P: Plant>(
+    alloc: Global,
+    plant: &mut P,
+    by: MemberId,
+    per: u32,
+    groups: &[GroupNo],
+    count: u16,
+) -> Result<Text, ReadNo>
+    requires some { 1 ≤ per }
+    requires placed { All (IsPlaced (P.view plant.old) per) groups.now }
+    ensures goes { Goes (P.view plant.old) (P.view plant.new) }
+    ensures same { P.tells → AreSame (P.view plant.old) (P.view plant.new) }
+    ensures text { IfOk result (λ text. P.tells → IsSteady (P.view plant.old) (P.view plant.new) → text ≡ text_of (records_on (volumes_now (P.view plant.old)) per) count groups.now) }
+    ensures halted { IsErrOf result ReadNoHalted → Rose ((P.view plant.old).stops by.0) ((P.view plant.new).stops by.0) }
+{
+    let mut lines = Lines::new(alloc);
+    for group in groups {
+        if !add_group(alloc, plant, by, per, *group, &mut lines)? {
+            return Ok(Text::Gone(*group, count));
+        }
+    }
+    Ok(ended(count, groups, lines))
+}
