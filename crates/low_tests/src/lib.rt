@@ -12,3 +12,5 @@ mod scripts;
 mod texts;
 #[cfg(test)]
 mod types;
+#[cfg(test)]
+mod volumes;

@@ -12,7 +12,7 @@ use crate::places::{
     INDEX_NUMBERS, JOB_NUMBERS, LINE_NUMBERS, MARK_NUMBERS, Numbers, PRIO_NUMBERS, Place, stands_in,
 };
 use mas_types::limits::MEMBERS_MOST;
-use mas_types::words::{push_classes, push_decimal, push_name, push_text};
+use mas_types::words::{self, push_decimal, push_name, push_text};
 use mas_types::{Class, Command, JobNo, List, MemberId, Name8, NoMemory, OutNo, What, read_name};
 use std::alloc::Global;
 use thiserror::Error;
@@ -140,7 +140,7 @@ fn push_classes(alloc: Global, line: &mut List<u8>, classes: &[Class]) -> Result
     ensures { Adds result (are_classes (classes_text classes.now)) line.old line.new (classes_text classes.now) }
 {
     let mut text = List::new(alloc);
-    push_classes(&mut text, classes)?;
+    words::push_classes(&mut text, classes)?;
     push_standing(line, Place::Classes, text.as_slice())
 }
 
