@@ -1,7 +1,7 @@
 -- What the acts of a plant in memory show.
 use Rattle.std.proofs.Common.{◌≡◌, ◌≢◌, ◌⊎◌, inl, inr, ⊎_elim, ℕ, zero, suc, ◌+◌, ◌*◌, ◌≤◌, ◌<◌, ◌==◌, nat_lt, nat_le, Bool, true, false, if◌then◌else◌, Option, Some, None, List, [], ◌∷◌, ◌++◌, length, take, set, slice_index, append_assoc, refl, subst, sym, ◌∙◌, ap, arith, get_or-set_same, get_or-set_other}
 use Rattle.std.proofs.lemmas.Bool.Decides.{nat_tests}
-use Rattle.std.proofs.lemmas.List.{take_all, take-append-le}
+use Rattle.std.proofs.lemmas.List.{take_all, take-append-le, append-nil}
 use Rattle.std.proofs.lemmas.Grind.{common_steps}
 use Rattle.std.proofs.Math.Path.{fun_ext}
 use Rattle.mas_types.specs.declared.ids.Dev.{Dev}
@@ -11,13 +11,13 @@ use Rattle.spool_disk.specs.declared.plant.Part.TheVariants.{Disk as DiskPart, C
 use Rattle.spool_disk.specs.declared.plant.Act.TheVariants.{Done, Halted}
 use Rattle.spool_disk.specs.declared.health.Health.{Health}
 use Rattle.spool_disk.specs.View.{Disk, Line, disk_now}
-use Rattle.spool_disk.specs.Acts.{Goes, Acts, next, top}
+use Rattle.spool_disk.specs.Acts.{Goes, Acts, SamePaper, SameWires, next, top}
 use Rattle.spool_disk.specs.Places.{slot_of, place_of}
 use Rattle.spool_disk.specs.Health.{sound, health_at, was_lost, since_of, lost_from}
 use Rattle.spool_disk.specs.Kept.{fresh, size_at}
-use Rattle.spool_disk.specs.Deeds.{Deed, Idle, effect, after, lines_of, idled}
-use Rattle.spool_disk.specs.DeedLaws.{after_push, lines_append}
-use Rattle.spool_disk.specs.State.{State, shown, disk_in, first_lines, world_in, view_of, counted, recorded}
+use Rattle.spool_disk.specs.Deeds.{Deed, Idle, effect, after, gather, line_on, lines_of, moved, idled}
+use Rattle.spool_disk.specs.DeedLaws.{after_push, gather_append}
+use Rattle.spool_disk.specs.State.{State, shown, disk_in, first_lines, lines_in, moved_in, world_in, view_of, counted, recorded}
 
 -- no two devices have one slot, and no two parts one place
 pub slot_apart : (d e : Dev) → slot_of d ≡ slot_of e → d ≡ e
@@ -127,15 +127,12 @@ idle_after slot d [] (suc (suc k)) = refl
 idle_after slot d (e ∷ es) zero = refl
 idle_after slot d (e ∷ es) (suc k) = idle_after slot (effect slot d e) es k
 
-pub idle_lines : (es : List Deed) (k : ℕ) → lines_of (take k (es ++ Idle ∷ [])) ≡ lines_of (take k es)
-idle_lines [] zero = refl
-idle_lines [] (suc zero) = refl
-idle_lines [] (suc (suc k)) = refl
-idle_lines (e ∷ es) zero = refl
-idle_lines (e ∷ es) (suc k) =
-    lines_append (e ∷ []) (take k (es ++ Idle ∷ []))
-    ∙ ap (λ (l : List Line). lines_of (e ∷ []) ++ l) (idle_lines es k)
-    ∙ sym (lines_append (e ∷ []) (take k es))
+pub idle_gather : {T : Type 0} (adds : Deed → List T) → adds Idle ≡ [] → (es : List Deed) (k : ℕ) → gather adds (take k (es ++ Idle ∷ [])) ≡ gather adds (take k es)
+idle_gather adds none [] zero = refl
+idle_gather adds none [] (suc zero) = ap (λ l. l ++ []) none
+idle_gather adds none [] (suc (suc k)) = ap (λ l. l ++ []) none
+idle_gather adds none (e ∷ es) zero = refl
+idle_gather adds none (e ∷ es) (suc k) = ap (λ l. adds e ++ l) (idle_gather adds none es k)
 
 pub idled_after : (slot : ℕ) (d : Disk) (acts : ℕ) (es : List Deed) (k : ℕ) → after slot d (take k (idled acts es)) ≡ after slot d (take k es)
 idled_after slot d acts es k = by_test (nat_lt (length es) acts) where
@@ -143,10 +140,10 @@ idled_after slot d acts es k = by_test (nat_lt (length es) acts) where
   by_test true = idle_after slot d es k
   by_test false = refl
 
-pub idled_lines : (acts : ℕ) (es : List Deed) (k : ℕ) → lines_of (take k (idled acts es)) ≡ lines_of (take k es)
-idled_lines acts es k = by_test (nat_lt (length es) acts) where
-  by_test : (b : Bool) → lines_of (take k (if b then es ++ Idle ∷ [] else es)) ≡ lines_of (take k es)
-  by_test true = idle_lines es k
+pub idled_gather : {T : Type 0} (adds : Deed → List T) → adds Idle ≡ [] → (acts : ℕ) (es : List Deed) (k : ℕ) → gather adds (take k (idled acts es)) ≡ gather adds (take k es)
+idled_gather adds none acts es k = by_test (nat_lt (length es) acts) where
+  by_test : (b : Bool) → gather adds (take k (if b then es ++ Idle ∷ [] else es)) ≡ gather adds (take k es)
+  by_test true = idle_gather adds none es k
   by_test false = refl
 
 -- an act that is recorded
@@ -154,7 +151,15 @@ module _ (s : State) (full : length s.deeds ≡ s.now) (by_now : (k : ℕ) → s
   pub past_recorded : (e : Deed) (stops : List ℕ) (t : ℕ) → t ≤ s.now → world_in (recorded s e stops) t ≡ world_in s t
   past_recorded e stops t le =
       let short : t ≤ length s.deeds = omega arith in
-      ap (λ (l : List Deed). record { disk = λ d. shown (after (slot_of d) (fresh s.base (slot_of d)) l) (was_lost (health_at s.parts (4 * slot_of d)).since t); console = first_lines s.base ++ lines_of l }) (take-append-le t s.deeds (e ∷ []) short)
+      ap
+      (λ (l : List Deed). record {
+        disk = λ d. shown (after (slot_of d) (fresh s.base (slot_of d)) l) (was_lost (health_at s.parts (4 * slot_of d)).since t);
+        console = first_lines s.base 1 ++ lines_of 1 l;
+        paper = λ m. first_lines s.base (4 * m + 2) ++ lines_of (4 * m + 2) l;
+        taken = λ w m. gather (moved false w m) l;
+        given = λ w m. gather (moved true w m) l;
+      })
+      (take-append-le t s.deeds (e ∷ []) short)
 
   pub disk_old : (slot : ℕ) → disk_in s s.now slot ≡ shown (after slot (fresh s.base slot) s.deeds) (was_lost (health_at s.parts (4 * slot)).since s.now)
   disk_old slot = ap (λ (l : List Deed). shown (after slot (fresh s.base slot) l) (was_lost (health_at s.parts (4 * slot)).since s.now)) (take_all s.now s.deeds (omega arith))
@@ -165,17 +170,26 @@ module _ (s : State) (full : length s.deeds ≡ s.now) (by_now : (k : ℕ) → s
       ∙ ap (λ (d : Disk). shown d (was_lost (health_at s.parts (4 * slot)).since (s.now + 1))) (after_push slot (fresh s.base slot) s.deeds e)
       ∙ ap (shown (effect slot (after slot (fresh s.base slot) s.deeds) e)) (lost_on (health_at s.parts (4 * slot)).since s.now (s.now + 1) (by_now (4 * slot)) (omega arith))
 
-  pub lines_old : (world_in s s.now).console ≡ first_lines s.base ++ lines_of s.deeds
-  lines_old = ap (λ (l : List Deed). first_lines s.base ++ lines_of l) (take_all s.now s.deeds (omega arith))
+  pub all_old : {T : Type 0} (adds : Deed → List T) → gather adds (take s.now s.deeds) ≡ gather adds s.deeds
+  all_old adds = ap (gather adds) (take_all s.now s.deeds (omega arith))
 
-  pub lines_new : (e : Deed) (stops : List ℕ) → (world_in (recorded s e stops) (s.now + 1)).console ≡ (first_lines s.base ++ lines_of s.deeds) ++ lines_of (e ∷ [])
-  lines_new e stops =
-      ap (λ (l : List Deed). first_lines s.base ++ lines_of l) (take_all (s.now + 1) (s.deeds ++ e ∷ []) (grind (arith, common_steps)))
-      ∙ ap (λ (l : List Line). first_lines s.base ++ l) (lines_append s.deeds (e ∷ []))
-      ∙ sym (append_assoc (first_lines s.base) (lines_of s.deeds) (lines_of (e ∷ [])))
+  pub all_new : {T : Type 0} (adds : Deed → List T) (e : Deed) → gather adds (take (s.now + 1) (s.deeds ++ e ∷ [])) ≡ gather adds s.deeds ++ gather adds (e ∷ [])
+  all_new adds e = ap (gather adds) (take_all (s.now + 1) (s.deeds ++ e ∷ []) (grind (arith, common_steps))) ∙ gather_append adds s.deeds (e ∷ [])
 
-  pub goes_recorded : (e : Deed) (stops : List ℕ) → s.now < top → ((m : ℕ) → slice_index s.stops m ≤ slice_index stops m) → Goes (view_of s) (view_of (recorded s e stops))
-  goes_recorded e stops below more = record {
+  -- what acts add to a list is as before, where the last one adds nothing
+  pub none_new : {T : Type 0} (adds : Deed → List T) (e : Deed) → gather adds (e ∷ []) ≡ [] → gather adds (take (s.now + 1) (s.deeds ++ e ∷ [])) ≡ gather adds (take s.now s.deeds)
+  none_new adds e none = all_new adds e ∙ ap (λ l. gather adds s.deeds ++ l) none ∙ append-nil (gather adds s.deeds) ∙ sym (all_old adds)
+
+  pub lines_new : (place : ℕ) (e : Deed) (stops : List ℕ) → lines_in (recorded s e stops) (s.now + 1) place ≡ lines_in s s.now place ++ lines_of place (e ∷ [])
+  lines_new place e stops =
+      ap (λ (l : List Line). first_lines s.base place ++ l) (all_new (line_on place) e ∙ ap (λ (l : List Line). l ++ lines_of place (e ∷ [])) (sym (all_old (line_on place))))
+      ∙ sym (append_assoc (first_lines s.base place) (lines_of place (take s.now s.deeds)) (lines_of place (e ∷ [])))
+
+  pub lines_same : (place : ℕ) (e : Deed) (stops : List ℕ) → lines_of place (e ∷ []) ≡ [] → lines_in (recorded s e stops) (s.now + 1) place ≡ lines_in s s.now place
+  lines_same place e stops none = ap (λ (l : List Line). first_lines s.base place ++ l) (none_new (line_on place) e none)
+
+  pub goes_recorded : (e : Deed) (stops : List ℕ) (waiting : ℕ → List ℕ) → s.now < top → ((m : ℕ) → slice_index s.stops m ≤ slice_index stops m) → Goes (view_of s) (view_of (record (recorded s e stops) { waiting = waiting }))
+  goes_recorded e stops waiting below more = record {
     later = omega arith;
     past = λ t le. past_recorded e stops t le;
     size = λ d. refl;
@@ -184,10 +198,10 @@ module _ (s : State) (full : length s.deeds ≡ s.now) (by_now : (k : ℕ) → s
     lost = λ p is. is;
   }
 
-  pub acts_done : (by : ℕ) (part : Part) (e : Deed) → s.now < top → (health_at s.parts (place_of part)).lost ≡ false → Acts by part (view_of s) (view_of (recorded s e s.stops)) Done
-  acts_done by part e below whole = record {
+  pub acts_done : (by : ℕ) (part : Part) (e : Deed) (waiting : ℕ → List ℕ) → s.now < top → (health_at s.parts (place_of part)).lost ≡ false → Acts by part (view_of s) (view_of (record (recorded s e s.stops) { waiting = waiting })) Done
+  acts_done by part e waiting below whole = record {
     time = omega arith;
-    goes = goes_recorded e s.stops below (λ m. omega arith);
+    goes = goes_recorded e s.stops waiting below (λ m. omega arith);
     failed = λ f. absurd (cc);
     is_lost = λ f. absurd (cc);
     stays_lost = λ was f. absurd (cc);
@@ -197,12 +211,13 @@ module _ (s : State) (full : length s.deeds ≡ s.now) (by_now : (k : ℕ) → s
     no_other_stop = λ m other. refl;
     last = λ at. absurd (omega arith);
     loses = λ d. refl;
+    arms = λ m. refl;
   }
 
   pub acts_halted : (by : ℕ) (part : Part) (e : Deed) → s.now < top → slice_index s.stops by ≤ top → 0 < by → by < length s.stops → Acts by part (view_of s) (view_of (recorded s e (counted s.stops by))) Halted
   acts_halted by part e below fits member there = record {
     time = omega arith;
-    goes = goes_recorded e (counted s.stops by) below (λ m. rises s.stops by m fits there);
+    goes = goes_recorded e (counted s.stops by) s.waiting below (λ m. rises s.stops by m fits there);
     failed = λ f. absurd (cc);
     is_lost = λ f. absurd (cc);
     stays_lost = λ was f. absurd (cc);
@@ -212,23 +227,26 @@ module _ (s : State) (full : length s.deeds ≡ s.now) (by_now : (k : ℕ) → s
     no_other_stop = λ m other. ⊎_elim (λ ne. get_or-set_other s.stops by m _ 0 ne) (λ f. absurd (f refl)) other;
     last = λ at. absurd (omega arith);
     loses = λ d. refl;
+    arms = λ m. refl;
   }
 
 -- an act in which nothing is done, and a part is lost
 module _ (acts : ℕ) (s s' : State) (part : Part) (h : Health) (small : s.now ≤ top) (short : length s.deeds ≤ s.now) (by_now : (k : ℕ) → since_of (health_at s.parts k).since ≤ s.now) (there : place_of part < length s.parts)
     (time : s'.now ≡ next s.now) (base : s'.base ≡ s.base) (deeds : s'.deeds ≡ idled acts s.deeds) (parts : s'.parts ≡ set s.parts (place_of part) h)
-    (since : h.since ≡ lost_from (health_at s.parts (place_of part)).since s.now) (gone : h.lost ≡ true) where
+    (since : h.since ≡ lost_from (health_at s.parts (place_of part)).since s.now) (gone : h.lost ≡ true) (waits : s'.waiting ≡ s.waiting) where
   pub same_after : (slot k : ℕ) → after slot (fresh s'.base slot) (take k s'.deeds) ≡ after slot (fresh s.base slot) (take k s.deeds)
   same_after slot k =
       ap (λ (l : List Deed). after slot (fresh s'.base slot) (take k l)) deeds
       ∙ ap (λ b. after slot (fresh b slot) (take k (idled acts s.deeds))) base
       ∙ idled_after slot (fresh s.base slot) acts s.deeds k
 
-  pub same_lines : (k : ℕ) → (world_in s' k).console ≡ (world_in s k).console
-  same_lines k =
-      ap (λ (l : List Deed). first_lines s'.base ++ lines_of (take k l)) deeds
-      ∙ ap (λ b. first_lines b ++ lines_of (take k (idled acts s.deeds))) base
-      ∙ ap (λ (l : List Line). first_lines s.base ++ l) (idled_lines acts s.deeds k)
+  pub same_gather : {T : Type 0} (adds : Deed → List T) → adds Idle ≡ [] → (k : ℕ) → gather adds (take k s'.deeds) ≡ gather adds (take k s.deeds)
+  same_gather adds none k = ap (λ (l : List Deed). gather adds (take k l)) deeds ∙ idled_gather adds none acts s.deeds k
+
+  pub same_lines : (place k : ℕ) → lines_in s' k place ≡ lines_in s k place
+  same_lines place k =
+      ap (λ b. first_lines b place ++ lines_of place (take k s'.deeds)) base
+      ∙ ap (λ (l : List Line). first_lines s.base place ++ l) (same_gather (line_on place) refl k)
 
   same_since : (k t : ℕ) → t ≤ s.now → was_lost (health_at s'.parts k).since t ≡ was_lost (health_at s.parts k).since t
   same_since k t le =
@@ -237,10 +255,21 @@ module _ (acts : ℕ) (s s' : State) (part : Part) (h : Health) (small : s.now �
       (ap (λ (o : Option ℕ). was_lost o t) since ∙ lost_before (health_at s.parts (place_of part)).since s.now t le)
       (λ n. refl) k
 
+  past_disk : (t : ℕ) → t ≤ s.now → (d : Dev) → disk_in s' t (slot_of d) ≡ disk_in s t (slot_of d)
+  past_disk t le d =
+      ap (λ (x : Disk). shown x (was_lost (health_at s'.parts (4 * slot_of d)).since t)) (same_after (slot_of d) t)
+      ∙ ap (shown (after (slot_of d) (fresh s.base (slot_of d)) (take t s.deeds))) (same_since (4 * slot_of d) t le)
+
   pub past_idled : (t : ℕ) → t ≤ s.now → world_in s' t ≡ world_in s t
   past_idled t le =
-      ap (λ (f : Dev → Disk). record { disk = f; console = (world_in s' t).console }) (fun_ext (λ d. ap (λ (x : Disk). shown x (was_lost (health_at s'.parts (4 * slot_of d)).since t)) (same_after (slot_of d) t) ∙ ap (shown (after (slot_of d) (fresh s.base (slot_of d)) (take t s.deeds))) (same_since (4 * slot_of d) t le)))
-      ∙ ap (λ (l : List Line). record { disk = λ d. disk_in s t (slot_of d); console = l }) (same_lines t)
+      let disks : (λ d. disk_in s' t (slot_of d)) ≡ (λ d. disk_in s t (slot_of d)) = fun_ext (past_disk t le) in
+      let papers : (λ m. lines_in s' t (4 * m + 2)) ≡ (λ m. lines_in s t (4 * m + 2)) = fun_ext (λ m. same_lines (4 * m + 2) t) in
+      let wires : (side : Bool) → (λ w m. moved_in s' t side w m) ≡ (λ w m. moved_in s t side w m) = (λ side. fun_ext (λ w. fun_ext (λ m. same_gather (moved side w m) refl t))) in
+      ap (λ (f : Dev → Disk). record { disk = f; console = lines_in s' t 1; paper = λ m. lines_in s' t (4 * m + 2); taken = λ w m. moved_in s' t false w m; given = λ w m. moved_in s' t true w m }) disks
+      ∙ ap (λ (l : List Line). record { disk = λ d. disk_in s t (slot_of d); console = l; paper = λ m. lines_in s' t (4 * m + 2); taken = λ w m. moved_in s' t false w m; given = λ w m. moved_in s' t true w m }) (same_lines 1 t)
+      ∙ ap (λ (f : ℕ → List Line). record { disk = λ d. disk_in s t (slot_of d); console = lines_in s t 1; paper = f; taken = λ w m. moved_in s' t false w m; given = λ w m. moved_in s' t true w m }) papers
+      ∙ ap (λ (f : ℕ → ℕ → List ℕ). record { disk = λ d. disk_in s t (slot_of d); console = lines_in s t 1; paper = λ m. lines_in s t (4 * m + 2); taken = f; given = λ w m. moved_in s' t true w m }) (wires false)
+      ∙ ap (λ (f : ℕ → ℕ → List ℕ). record { disk = λ d. disk_in s t (slot_of d); console = lines_in s t 1; paper = λ m. lines_in s t (4 * m + 2); taken = λ w m. moved_in s t false w m; given = f }) (wires true)
 
   pub goes_idled : ((p : Part) → (health_at s.parts (place_of p)).faults ≤ (health_at s'.parts (place_of p)).faults) → ((m : ℕ) → slice_index s.stops m ≤ slice_index s'.stops m) → Goes (view_of s) (view_of s')
   goes_idled more stops = record {
@@ -273,10 +302,26 @@ module _ (acts : ℕ) (s s' : State) (part : Part) (h : Health) (small : s.now �
       ∙ ap (λ (g : Health). shown (after (slot_of d) (fresh s.base (slot_of d)) (take s.now s.deeds)) (was_lost g.since s'.now)) (else_same (DiskPart d) ne)
       ∙ ap (shown (after (slot_of d) (fresh s.base (slot_of d)) (take s.now s.deeds))) (lost_on (health_at s.parts (4 * slot_of d)).since s.now s'.now (by_now (4 * slot_of d)) (omega (arith, small, time)))
 
+  fails_gather : {T : Type 0} (adds : Deed → List T) → adds Idle ≡ [] → gather adds (take s'.now s'.deeds) ≡ gather adds (take s.now s.deeds)
+  fails_gather adds none = same_gather adds none s'.now ∙ ap (gather adds) (take_all s'.now s.deeds (omega (arith, small, time)) ∙ sym (take_all s.now s.deeds short))
+
+  fails_lines : (place : ℕ) → lines_in s' s'.now place ≡ lines_in s s.now place
+  fails_lines place =
+      ap (λ b. first_lines b place ++ lines_of place (take s'.now s'.deeds)) base
+      ∙ ap (λ (l : List Line). first_lines s.base place ++ l) (fails_gather (line_on place) refl)
+
   pub fails_console : ((view_of s').world s'.now).console ≡ ((view_of s).world s.now).console
-  fails_console =
-      same_lines s'.now
-      ∙ ap (λ (l : List Deed). first_lines s.base ++ lines_of l) (take_all s'.now s.deeds (omega (arith, small, time)) ∙ sym (take_all s.now s.deeds short))
+  fails_console = fails_lines 1
+
+  pub fails_paper : SamePaper (view_of s) (view_of s')
+  fails_paper m = fails_lines (4 * m + 2)
+
+  pub fails_wires : SameWires (view_of s) (view_of s')
+  fails_wires = record {
+    waiting = λ w. ap (λ (f : ℕ → List ℕ). f w) waits;
+    taken = λ w m. fails_gather (moved false w m) refl;
+    given = λ w m. fails_gather (moved true w m) refl;
+  }
 
   pub fails_lost : s.now < top → (d : Dev) → part ≡ DiskPart d → (disk_now (view_of s') d).lost ≡ true
   fails_lost below d is =

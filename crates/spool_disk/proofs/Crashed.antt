@@ -1,5 +1,5 @@
 -- A plant after a crash.
-use Rattle.std.proofs.Common.{◌≡◌, ℕ, ◌*◌, ◌<◌, List, ◌++◌, length, take, map, subst, sym, ◌∙◌, ap}
+use Rattle.std.proofs.Common.{◌≡◌, ℕ, ◌+◌, ◌*◌, ◌<◌, List, ◌++◌, length, take, map, subst, sym, ◌∙◌, ap}
 use Rattle.mas_types.specs.declared.ids.Dev.{Dev}
 use Rattle.spool_disk.specs.declared.base.Base.{Base}
 use Rattle.spool_disk.specs.declared.choice.Choice.{Choice}
@@ -19,7 +19,7 @@ use Rattle.spool_disk.specs.Health.{health_at, was_lost}
 use Rattle.spool_disk.specs.Sizes.{size_in}
 use Rattle.spool_disk.specs.Standing.{bytes_at}
 use Rattle.spool_disk.specs.Places.{slot_of, place_of}
-use Rattle.spool_disk.specs.State.{State, first_lines, view_of}
+use Rattle.spool_disk.specs.State.{State, first_lines, lines_in, view_of}
 use Rattle.spool_disk.specs.MemView.{state_of, mem_view, mem_lost}
 use Rattle.spool_disk.specs.Begins.{BeginsWith, IsCrashed, restarted}
 use Rattle.spool_disk.proofs.Entering.{take-deeds}
@@ -34,7 +34,7 @@ leaves_by New s t d image is = is
 leaves_by Ones s t d image is = record { size = is.size; each = is.each }
 
 module _ (choice : Choice) (m : MemPlant) (t : ℕ) (base : Base) (parts : List Health) (v : View) (log : List Entry) (arena : List ℕ) (taken : log ≡ take t m.kept.log.items) (all : arena ≡ m.kept.arena.items) (sizes : base.sizes ≡ m.kept.base.sizes)
-    (each : (slot : ℕ) → slot < 258 → LeavesAt choice m.kept.base slot (deeds_of log arena) (bytes_at base.start.items slot)) (lines : first_lines base ≡ first_lines m.kept.base ++ lines_of (deeds_of log arena))
+    (each : (slot : ℕ) → slot < 258 → LeavesAt choice m.kept.base slot (deeds_of log arena) (bytes_at base.start.items slot)) (lines : (place : ℕ) → first_lines base place ≡ first_lines m.kept.base place ++ lines_of place (deeds_of log arena))
     (part : parts ≡ map (restarted t) m.counts.parts.items) (begin : BeginsWith base parts v) where
   deeds_are : deeds_of log arena ≡ take t (state_of m).deeds
   deeds_are = ap (λ (l : List Entry). deeds_of l arena) taken ∙ ap (deeds_of (take t m.kept.log.items)) all ∙ sym (take-deeds t m.kept.log.items m.kept.arena.items)
@@ -48,6 +48,9 @@ module _ (choice : Choice) (m : MemPlant) (t : ℕ) (base : Base) (parts : List 
   health_then : (k : ℕ) → health_at parts k ≡ restarted t (health_at m.counts.parts.items k)
   health_then k = ap (λ (l : List Health). health_at l k) part ∙ restarted_at t k m.counts.parts.items
 
+  lines_then : (place : ℕ) → first_lines base place ≡ lines_in (state_of m) t place
+  lines_then place = lines place ∙ ap (λ (l : List Deed). first_lines m.kept.base place ++ lines_of place l) deeds_are
+
   pub crashed : IsCrashed choice t (mem_view m) v
   crashed = record {
     fresh = begin.fresh;
@@ -60,7 +63,8 @@ module _ (choice : Choice) (m : MemPlant) (t : ℕ) (base : Base) (parts : List 
     };
     disk = λ d. begin.disk d ∙ ap (λ (h : Health). was_lost h.since 0) (health_then (4 * slot_of d)) ∙ restarted_lost t (health_at m.counts.parts.items (4 * slot_of d));
     lost = λ d. begin.lost (DiskPart d) ∙ ap (λ (h : Health). h.lost) (health_then (4 * slot_of d));
-    console = begin.console ∙ lines ∙ ap (λ (l : List Deed). first_lines m.kept.base ++ lines_of l) deeds_are;
+    console = begin.console ∙ lines_then 1;
+    paper = λ p. begin.paper p ∙ lines_then (4 * p + 2);
   }
 
   pub crashed_lost : (p : Part) → v.lost p ≡ mem_lost m t p

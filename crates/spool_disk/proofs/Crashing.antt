@@ -5,10 +5,10 @@ use Rattle.std.proofs.lemmas.List.{get_or-take, get_or-drop}
 use Rattle.spool_disk.specs.declared.choice.Choice.{Choice}
 use Rattle.spool_disk.specs.declared.choice.Choice.TheVariants.{Old, New, Ones}
 use Rattle.spool_disk.specs.declared.entry.Entry.{Entry}
-use Rattle.spool_disk.specs.declared.entry.Entry.TheVariants.{Idle as EntryIdle, Wrote as EntryWrote, Synced as EntrySynced, Said as EntrySaid}
+use Rattle.spool_disk.specs.declared.entry.Entry.TheVariants.{Idle as EntryIdle, Wrote as EntryWrote, Synced as EntrySynced, Said as EntrySaid, Passed as EntryPassed, Fetched as EntryFetched}
 use Rattle.spool_disk.specs.View.{Disk, Stretch}
 use Rattle.spool_disk.specs.Acts.{DiffersIn}
-use Rattle.spool_disk.specs.Deeds.{Deed, Idle, Wrote, Synced, Said, overwrite, effect, after}
+use Rattle.spool_disk.specs.Deeds.{Deed, Idle, Wrote, Synced, Said, Passed, Fetched, overwrite, effect, after}
 use Rattle.spool_disk.specs.DeedLaws.{after_append, length-overwrite, length-effect, length-after}
 use Rattle.spool_disk.specs.Entries.{kept_in, deed_of, deeds_of}
 use Rattle.spool_disk.specs.Crash.{IsOnes, is_in, is_unsynced}
@@ -73,7 +73,9 @@ quiet_synced slot (EntryIdle ∷ es) arena bytes d quiet = quiet_synced slot es 
 quiet_synced slot (EntryWrote s at len kept ∷ es) arena bytes d quiet = quiet_synced slot es (drop kept arena) bytes (effect slot d (Wrote s at (max len kept) (take kept arena))) quiet.1
 quiet_synced slot (EntrySynced s ∷ es) arena bytes d quiet =
     ap (λ (b : Bool). last_synced slot (if b then d.bytes else bytes) (effect slot d (Synced s)) (deeds_of es arena)) quiet.0 ∙ quiet_synced slot es arena bytes (effect slot d (Synced s)) quiet.1
-quiet_synced slot (EntrySaid kept whole ∷ es) arena bytes d quiet = quiet_synced slot es (drop kept arena) bytes d quiet.1
+quiet_synced slot (EntrySaid place kept whole ∷ es) arena bytes d quiet = quiet_synced slot es (drop kept arena) bytes d quiet.1
+quiet_synced slot (EntryPassed given wire member kept ∷ es) arena bytes d quiet = quiet_synced slot es (drop kept arena) bytes d quiet.1
+quiet_synced slot (EntryFetched s ∷ es) arena bytes d quiet = quiet_synced slot es arena bytes d quiet.1
 
 synced_append : (slot : ℕ) (bytes : List ℕ) (d : Disk) (es fs : List Deed) → last_synced slot bytes d (es ++ fs) ≡ last_synced slot (last_synced slot bytes d es) (after slot d es) fs
 synced_append slot bytes d [] fs = refl
@@ -137,7 +139,9 @@ length-synced_by slot bytes d (Synced s) same = by_test (s == slot) where
   by_test : (b : Bool) → length (if b then d.bytes else bytes) ≡ length (if b then record { bytes = d.bytes; unsynced = []; lost = d.lost } else d).bytes
   by_test true = refl
   by_test false = same
-length-synced_by slot bytes d (Said text whole) same = same
+length-synced_by slot bytes d (Said place text whole) same = same
+length-synced_by slot bytes d (Passed given wire member some) same = same
+length-synced_by slot bytes d (Fetched s) same = same
 
 pub length-synced : (slot : ℕ) (bytes : List ℕ) (d : Disk) (es : List Deed) → length bytes ≡ length d.bytes → length (last_synced slot bytes d es) ≡ length (after slot d es).bytes
 length-synced slot bytes d [] same = same

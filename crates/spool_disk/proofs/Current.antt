@@ -5,7 +5,7 @@ use Rattle.spool_disk.specs.declared.base.Base.{Base}
 use Rattle.spool_disk.specs.View.{Disk}
 use Rattle.spool_disk.specs.Standing.{bytes_at}
 use Rattle.spool_disk.specs.Kept.{AreCurrent, fresh, size_at}
-use Rattle.spool_disk.specs.Deeds.{Deed, Idle, Wrote, Synced, Said, overwrite, effect, after}
+use Rattle.spool_disk.specs.Deeds.{Deed, Idle, Wrote, Synced, Said, Passed, Fetched, overwrite, effect, after}
 use Rattle.spool_disk.specs.DeedLaws.{after_push, length-after}
 
 -- an act that changes no byte
@@ -15,8 +15,14 @@ IsSilent e = (slot : ℕ) (d : Disk) → (effect slot d e).bytes ≡ d.bytes
 pub silent_idle : IsSilent Idle
 silent_idle slot d = refl
 
-pub silent_said : (text : List ℕ) (whole : Bool) → IsSilent (Said text whole)
-silent_said text whole slot d = refl
+pub silent_said : (place : ℕ) (text : List ℕ) (whole : Bool) → IsSilent (Said place text whole)
+silent_said place text whole slot d = refl
+
+pub silent_passed : (given : Bool) (wire member : ℕ) (bytes : List ℕ) → IsSilent (Passed given wire member bytes)
+silent_passed given wire member bytes slot d = refl
+
+pub silent_read : (s : ℕ) → IsSilent (Fetched s)
+silent_read s slot d = refl
 
 pub silent_sync : (s : ℕ) → IsSilent (Synced s)
 silent_sync s slot d = by_test (s == slot) where

@@ -3,7 +3,7 @@ use Rattle.std.proofs.Common.{◌≡◌, ⊎_elim, ℕ, zero, suc, ◌+◌, ◌�
 use Rattle.std.proofs.lemmas.List.{take_all, take_more}
 use Rattle.mas_types.specs.declared.ids.Dev.{Dev}
 use Rattle.spool_disk.specs.View.{Disk, Stretch}
-use Rattle.spool_disk.specs.Deeds.{Deed, Idle, Wrote, Synced, Said, overwrite, effect, after}
+use Rattle.spool_disk.specs.Deeds.{Deed, Idle, Wrote, Synced, Said, Passed, Fetched, overwrite, effect, after}
 use Rattle.spool_disk.specs.DeedLaws.{after_push}
 use Rattle.spool_disk.specs.Crash.{or_earlier, before_writes}
 use Rattle.spool_disk.specs.Settled.{synced_by, last_synced}
@@ -33,7 +33,9 @@ one_more slot synced d (Synced s) clean = by_test (s == slot) where
   by_test : (b : Bool) → or_earlier (if b then record { bytes = d.bytes; unsynced = []; lost = d.lost } else d).unsynced (if b then record { bytes = d.bytes; unsynced = []; lost = d.lost } else d).bytes synced ≡ (if b then d.bytes else synced)
   by_test true = refl
   by_test false = nothing_more synced d clean
-one_more slot synced d (Said text whole) clean = nothing_more synced d clean
+one_more slot synced d (Said place text whole) clean = nothing_more synced d clean
+one_more slot synced d (Passed given wire member bytes) clean = nothing_more synced d clean
+one_more slot synced d (Fetched s) clean = nothing_more synced d clean
 
 true_on : (slot : ℕ) (synced : List ℕ) (d : Disk) (e : Deed) → IsTrueAt synced d → IsTrueAt (synced_by slot synced d e) (effect slot d e)
 true_on slot synced d Idle clean = clean
@@ -45,7 +47,9 @@ true_on slot synced d (Synced s) clean = by_test (s == slot) where
   by_test : (b : Bool) → IsTrueAt (if b then d.bytes else synced) (if b then record { bytes = d.bytes; unsynced = []; lost = d.lost } else d)
   by_test true = λ none. refl
   by_test false = clean
-true_on slot synced d (Said text whole) clean = clean
+true_on slot synced d (Said place text whole) clean = clean
+true_on slot synced d (Passed given wire member bytes) clean = clean
+true_on slot synced d (Fetched s) clean = clean
 
 true_after : (slot : ℕ) (synced : List ℕ) (d : Disk) (es : List Deed) → IsTrueAt synced d → IsTrueAt (last_synced slot synced d es) (after slot d es)
 true_after slot synced d [] clean = clean

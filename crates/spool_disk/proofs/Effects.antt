@@ -1,10 +1,10 @@
 -- What each act does to a device.
-use Rattle.std.proofs.Common.{◌≡◌, ℕ, ◌+◌, ◌-◌, ◌≤◌, nat_le, Bool, true, List, [], ◌∷◌, ◌++◌, length, take, drop, refl, subst, sym, ◌∙◌, ap, arith, append_assoc, length-append}
+use Rattle.std.proofs.Common.{◌≡◌, ℕ, ◌+◌, ◌-◌, ◌≤◌, ◌==◌, ◌≢◌, ◌⊎◌, ⊎_elim, ◌&&◌, nat_le, if◌then◌else◌, Bool, true, false, List, [], ◌∷◌, ◌++◌, length, take, drop, refl, subst, sym, ◌∙◌, ap, arith, append_assoc, length-append}
 use Rattle.std.proofs.lemmas.Bool.Decides.{nat_tests}
-use Rattle.std.proofs.lemmas.List.{take_at, drop_at, drop-drop, length-take-le}
+use Rattle.std.proofs.lemmas.List.{take_at, drop_at, drop-drop, length-take-le, append-nil}
 use Rattle.spool_disk.specs.View.{Disk, slice}
 use Rattle.spool_disk.specs.Acts.{DiffersIn, Dirtied}
-use Rattle.spool_disk.specs.Deeds.{Deed, Wrote, Synced, overwrite, effect}
+use Rattle.spool_disk.specs.Deeds.{Deed, Idle, Wrote, Synced, Said, Passed, overwrite, effect, gather, lines_of, same_side, moved}
 use Rattle.spool_disk.specs.DeedLaws.{length-overwrite}
 use Rattle.spool_disk.specs.State.{shown}
 use Rattle.spool_disk.proofs.Acting.{same_test, other_test}
@@ -83,3 +83,51 @@ wrote_is_of s at len bytes slot d ne = effect_else slot s at len bytes d ne
 
 pub sync_is_of : (s : ℕ) → IsOf s (Synced s)
 sync_is_of s slot d ne = sync_else slot s d ne
+
+-- an act that changes no device, moves nothing on a wire, and puts lines on one place alone
+pub record IsLineOf (place : ℕ) (e : Deed) : Type 0 where
+  pub disks : (slot : ℕ) (d : Disk) → effect slot d e ≡ d
+  pub elsewhere : (p : ℕ) → (place ≡ p → ⊥) → lines_of p (e ∷ []) ≡ []
+  pub wires : (side : Bool) (w m : ℕ) → gather (moved side w m) (e ∷ []) ≡ []
+
+pub idle_is_line : (place : ℕ) → IsLineOf place Idle
+idle_is_line place = record { disks = λ slot d. refl; elsewhere = λ p ne. refl; wires = λ side w m. refl }
+
+pub said_is_line : (place : ℕ) (text : List ℕ) (whole : Bool) → IsLineOf place (Said place text whole)
+said_is_line place text whole = record {
+  disks = λ slot d. refl;
+  elsewhere = λ p ne. ap (λ (b : Bool). (if b then record { text = text; whole = whole } ∷ [] else []) ++ []) (other_test place p ne);
+  wires = λ side w m. refl;
+}
+
+pub line_there : (place : ℕ) (text : List ℕ) (whole : Bool) → lines_of place (Said place text whole ∷ []) ≡ record { text = text; whole = whole } ∷ []
+line_there place text whole = ap (λ (b : Bool). (if b then record { text = text; whole = whole } ∷ [] else []) ++ []) (same_test place)
+
+-- bytes on a wire
+same_side_test : (side : Bool) → same_side side side ≡ true
+same_side_test true = refl
+same_side_test false = refl
+
+pub moved_there : (side : Bool) (wire member : ℕ) (bytes : List ℕ) → gather (moved side wire member) (Passed side wire member bytes ∷ []) ≡ bytes
+moved_there side wire member bytes =
+    let test : (same_side side side && (wire == wire && member == member)) ≡ true =
+    ap (λ (b : Bool). b && (wire == wire && member == member)) (same_side_test side) ∙ ap (λ (b : Bool). b && member == member) (same_test wire) ∙ same_test member in
+    ap (λ (b : Bool). (if b then bytes else []) ++ []) test ∙ append-nil bytes
+
+pub moved_else : (side : Bool) (wire member w m : ℕ) (bytes : List ℕ) → (w ≢ wire) ⊎ (m ≢ member) → gather (moved side w m) (Passed side wire member bytes ∷ []) ≡ []
+moved_else side wire member w m bytes ne =
+    ap (λ (b : Bool). (if b then bytes else []) ++ []) (⊎_elim (λ other. first (same_side side side) (wire == w) (member == m) (other_test wire w (λ same. other (sym same)))) (λ other. second (same_side side side) (wire == w) (member == m) (other_test member m (λ same. other (sym same)))) ne)
+  where
+    first : (a b c : Bool) → b ≡ false → (a && (b && c)) ≡ false
+    first true false c e = refl
+    first false b c e = refl
+    first true true c e = absurd (cc)
+
+    second : (a b c : Bool) → c ≡ false → (a && (b && c)) ≡ false
+    second true true false e = refl
+    second true false c e = refl
+    second false b c e = refl
+    second true true true e = absurd (cc)
+
+pub moved_other : (other side : Bool) (wire member w m : ℕ) (bytes : List ℕ) → same_side other side ≡ false → gather (moved other w m) (Passed side wire member bytes ∷ []) ≡ []
+moved_other other side wire member w m bytes ne = ap (λ (b : Bool). (if b && (wire == w && member == m) then bytes else []) ++ []) ne

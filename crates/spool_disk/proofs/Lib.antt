@@ -14,3 +14,4 @@ pub mod Matching
 pub mod Earlier
 pub mod Crashed
 pub mod Wholes
+pub mod Counting

@@ -5,7 +5,7 @@ use Rattle.std.proofs.lemmas.List.{get_or-take, get_or-drop, length-take, length
 use Rattle.spool_disk.specs.declared.choice.Choice.{Choice}
 use Rattle.spool_disk.specs.declared.choice.Choice.TheVariants.{Old, New, Ones}
 use Rattle.spool_disk.specs.declared.entry.Entry.{Entry}
-use Rattle.spool_disk.specs.declared.entry.Entry.TheVariants.{Idle as EntryIdle, Wrote as EntryWrote, Synced as EntrySynced, Said as EntrySaid}
+use Rattle.spool_disk.specs.declared.entry.Entry.TheVariants.{Idle as EntryIdle, Wrote as EntryWrote, Synced as EntrySynced, Said as EntrySaid, Passed as EntryPassed, Fetched as EntryFetched}
 use Rattle.spool_disk.specs.View.{Disk, Stretch, Apart, Avoids, slice}
 use Rattle.spool_disk.specs.Acts.{DiffersIn}
 use Rattle.spool_disk.specs.Deeds.{overwrite, effect, after}
@@ -75,7 +75,9 @@ module _ (slot : ℕ) where
     by_test : (b : Bool) → Matches (if b then d.bytes else synced) (if b then record { bytes = d.bytes; unsynced = []; lost = d.lost } else d)
     by_test true = matches_self d.bytes (record { bytes = d.bytes; unsynced = []; lost = d.lost }) refl
     by_test false = was
-  step synced d (EntrySaid kept whole) bytes few was = was
+  step synced d (EntrySaid place kept whole) bytes few was = was
+  step synced d (EntryPassed given wire member kept) bytes few was = was
+  step synced d (EntryFetched s) bytes few was = was
 
   synced_match : (log : List Entry) (arena synced : List ℕ) (d : Disk) → Matches synced d → Matches (last_synced slot synced d (deeds_of log arena)) (after slot d (deeds_of log arena))
   synced_match [] arena synced d was = was

@@ -1,29 +1,33 @@
 -- The acts of a plant in memory.
-use Rattle.std.proofs.Common.{◌≡◌, ℕ, ◌+◌, ◌≤◌, ◌<◌, ◌==◌, nat_le, Bool, true, false, if◌then◌else◌, List, [], ◌∷◌, ◌++◌, length, take, slice_index, subst, sym, ◌∙◌, ap, arith}
-use Rattle.std.proofs.lemmas.List.{length-take, append-nil}
+use Rattle.std.specs.Prelude.{Result, Ok, Err, IfErr}
+use Rattle.mas_types.specs.declared.ids.NoMemory.{NoMemory}
+use Rattle.std.proofs.Common.{◌≡◌, ◌≢◌, ◌⊎◌, inl, inr, min, refl, drop, ℕ, ◌+◌, ◌*◌, ◌≤◌, ◌<◌, ◌==◌, nat_le, Bool, true, false, if◌then◌else◌, List, [], ◌∷◌, ◌++◌, length, take, slice_index, subst, sym, ◌∙◌, ap, arith}
+use Rattle.std.proofs.lemmas.List.{length-take}
 use Rattle.mas_types.specs.declared.ids.Dev.{Dev}
 use Rattle.spool_disk.specs.declared.memory.MemPlant.{MemPlant}
 use Rattle.spool_disk.specs.declared.plant.Part.{Part}
 use Rattle.spool_disk.specs.declared.plant.Part.TheVariants.{Disk as DiskPart}
 use Rattle.spool_disk.specs.declared.plant.Act.TheVariants.{Done, Failed, Halted}
-use Rattle.spool_disk.specs.View.{disk_now, slice}
-use Rattle.spool_disk.specs.Acts.{Acts, Loses, LosesThere, Writes, Syncs, Reads, Says, top}
+use Rattle.spool_disk.specs.declared.plant.Took.TheVariants.{Bytes as TookBytes, Halted as TookHalted}
+use Rattle.spool_disk.specs.View.{disk_now, given_now, slice}
+use Rattle.spool_disk.specs.Acts.{Acts, Loses, LosesThere, Writes, Syncs, Reads, Says, Prints, GivesOn, Takes, top}
 use Rattle.spool_disk.specs.Places.{slot_of, place_of}
 use Rattle.spool_disk.specs.Health.{health_at}
 use Rattle.spool_disk.specs.Kept.{fresh, size_at}
-use Rattle.spool_disk.specs.Deeds.{Deed, Idle, Wrote, Synced, Said, overwrite, after}
+use Rattle.spool_disk.specs.Deeds.{Deed, Idle, Wrote, Synced, Said, Passed, Fetched, overwrite, after}
 use Rattle.spool_disk.specs.Entries.{deeds_of}
-use Rattle.spool_disk.specs.State.{State, view_of, counted, recorded, failed, lost}
+use Rattle.spool_disk.specs.State.{State, lines_in, moved_in, view_of, counted, recorded, failed, lost}
 use Rattle.spool_disk.specs.Courses.{left_of, deed_left}
 use Rattle.spool_disk.specs.Failing.{FailsAlone}
 use Rattle.spool_disk.specs.MemView.{state_of, mem_view}
 use Rattle.spool_disk.proofs.Entering.{length-deeds}
 use Rattle.spool_disk.proofs.Acting.{acts_done, acts_halted}
-use Rattle.spool_disk.proofs.Contents.{wrote, write_done, write_halted, sync_done, sync_halted, read_done, read_halted, said, say_done, silent, say_silent, say_torn, say_whole}
+use Rattle.spool_disk.proofs.Contents.{wrote, write_done, write_halted, sync_done, sync_halted, read_done, read_halted, says_of, prints_of, said_done, said_halted, line_halted, take_halted, passed_disks, passed_lines, passed_there, passed_else, passed_other_side}
+use Rattle.spool_disk.proofs.Effects.{IsLineOf, idle_is_line, said_is_line}
 use Rattle.spool_disk.proofs.Faults.{acts_failed, fails_alone, loses, loses_there}
 
 -- the record is in step with the moment where it has room
-in_full : (m : MemPlant) → m.moment < m.kept.acts → length (state_of m).deeds ≡ (state_of m).now
+pub in_full : (m : MemPlant) → m.moment < m.kept.acts → length (state_of m).deeds ≡ (state_of m).now
 in_full m below = length-deeds m.kept.log.items m.kept.arena.items ∙ m.in_step.1 (omega (arith, m.in_step.0, below))
 
 pub halted_state : (s s1 s2 : State) (e : Deed) (by : ℕ) → s1 ≡ recorded s e s.stops → s2 ≡ record s1 { stops = counted s1.stops by } → s2 ≡ recorded s e (counted s.stops by)
@@ -32,7 +36,7 @@ halted_state s s1 s2 e by first then_stop = then_stop ∙ ap (λ (x : State). re
 module _ (m m' : MemPlant) (e : Deed) (below : m.moment < m.kept.acts) (below_top : m.moment < top) where
   module _ (is : state_of m' ≡ recorded (state_of m) e (state_of m).stops) where
     pub done_acts : (by : ℕ) (part : Part) → (mem_view m).lost part ≡ false → Acts by part (mem_view m) (mem_view m') Done
-    done_acts by part whole = subst (λ (x : State). Acts by part (mem_view m) (view_of x) Done) (sym is) (acts_done (state_of m) (in_full m below) m.lost_by_now by part e below_top whole)
+    done_acts by part whole = subst (λ (x : State). Acts by part (mem_view m) (view_of x) Done) (sym is) (acts_done (state_of m) (in_full m below) m.lost_by_now by part e (state_of m).waiting below_top whole)
 
 pub done_write : (m m' : MemPlant) (dev : Dev) (at slot : ℕ) (bytes : List ℕ) → m.moment < m.kept.acts → slot ≡ slot_of dev → at + length bytes ≤ size_at m.kept.base (slot_of dev)
     → state_of m' ≡ recorded (state_of m) (Wrote slot at (length bytes) bytes) (state_of m).stops → Writes dev at bytes (mem_view m) (mem_view m') Done
@@ -47,14 +51,24 @@ done_sync m m' dev slot below there is =
 
 pub done_read : (m m' : MemPlant) (dev : Dev) (at slot : ℕ) (into : List ℕ) → m.moment < m.kept.acts → slot ≡ slot_of dev
     → into ≡ slice at (length into) (after slot (fresh m.kept.base slot) (deeds_of m.kept.log.items m.kept.arena.items)).bytes
-    → state_of m' ≡ recorded (state_of m) Idle (state_of m).stops → Reads dev at (mem_view m) (mem_view m') into Done
+    → state_of m' ≡ recorded (state_of m) (Fetched slot) (state_of m).stops → Reads dev at (mem_view m) (mem_view m') into Done
 done_read m m' dev at slot into below there read is =
     subst (λ (x : State). Reads dev at (mem_view m) (view_of x) into Done) (sym is)
-    (read_done (state_of m) (state_of m).stops (in_full m below) m.lost_by_now dev at into
+    (read_done (state_of m) (state_of m).stops (in_full m below) m.lost_by_now dev at slot into
     (subst (λ (n : ℕ). into ≡ slice at (length into) (after n (fresh m.kept.base n) (deeds_of m.kept.log.items m.kept.arena.items)).bytes) there read))
 
-pub done_say : (m m' : MemPlant) (line : List ℕ) → m.moment < m.kept.acts → state_of m' ≡ recorded (state_of m) (Said line true) (state_of m).stops → Says line (mem_view m) (mem_view m') Done
-done_say m m' line below is = subst (λ (x : State). Says line (mem_view m) (view_of x) Done) (sym is) (say_done (state_of m) (state_of m).stops (in_full m below) m.lost_by_now line)
+module _ (m m' : MemPlant) (place : ℕ) (line : List ℕ) (below : m.moment < m.kept.acts) (is : state_of m' ≡ recorded (state_of m) (Said place line true) (state_of m).stops) where
+  pub done_say : place ≡ 1 → Says line (mem_view m) (mem_view m') Done
+  done_say at =
+      subst (λ (x : State). Says line (mem_view m) (view_of x) Done) (sym is)
+      (says_of (state_of m) (state_of m).stops (in_full m below) m.lost_by_now place (Said place line true) (said_is_line place line true) line Done at
+      (said_done (state_of m) (state_of m).stops (in_full m below) m.lost_by_now place line))
+
+  pub done_print : (member : ℕ) → place ≡ 4 * member + 2 → Prints member line (mem_view m) (mem_view m') Done
+  done_print member at =
+      subst (λ (x : State). Prints member line (mem_view m) (view_of x) Done) (sym is)
+      (prints_of (state_of m) (state_of m).stops (in_full m below) m.lost_by_now place (Said place line true) (said_is_line place line true) member line Done at
+      (said_done (state_of m) (state_of m).stops (in_full m below) m.lost_by_now place line))
 
 -- an act that halts: it is recorded, and then the stop is counted
 module _ (m m1 m2 : MemPlant) (e : Deed) (by : ℕ) (below : m.moment < m.kept.acts) (first : state_of m1 ≡ recorded (state_of m) e (state_of m).stops)
@@ -101,30 +115,132 @@ module _ (m m1 m2 : MemPlant) (by : ℕ) (below : m.moment < m.kept.acts) (dev :
       subst (λ (x : State). (disk_now (view_of x) dev).bytes ≡ overwrite at (take keep bytes) (disk_now (mem_view m) dev).bytes) (sym both_write)
       (wrote (state_of m) (counted (state_of m).stops by) (in_full m below) m.lost_by_now dev at (length bytes) (take keep bytes))
 
-module _ (m m1 m2 : MemPlant) (by : ℕ) (below : m.moment < m.kept.acts) (keep : ℕ) (line : List ℕ)
-    (first : state_of m1 ≡ recorded (state_of m) (deed_left keep line) (state_of m).stops)
+module _ (m m1 m2 : MemPlant) (by : ℕ) (below : m.moment < m.kept.acts) (place keep : ℕ) (line : List ℕ)
+    (first : state_of m1 ≡ recorded (state_of m) (deed_left place keep line) (state_of m).stops)
     (next_is : state_of m2 ≡ record (state_of m1) { stops = counted (state_of m1).stops by }) where
-  pub halted_say : Says line (mem_view m) (mem_view m2) Halted
-  halted_say =
-      subst (λ (x : State). Says line (mem_view m) (view_of x) Halted) (sym (both m m1 m2 (deed_left keep line) by below first next_is))
-      (by_test (nat_le (length line) keep) (keep == 0)) where
-        stops : List ℕ
-        stops = counted (state_of m).stops by
+  abbrev stopped : List ℕ
+  stopped = counted (state_of m).stops by
 
-        by_test : (b c : Bool) → Says line (mem_view m) (view_of (recorded (state_of m) (if b then Said line true else (if c then Idle else Said (take keep line) false)) (counted (state_of m).stops by))) Halted
-        by_test true c = say_whole (state_of m) (counted (state_of m).stops by) (in_full m below) m.lost_by_now line
-        by_test false true = say_silent (state_of m) (counted (state_of m).stops by) (in_full m below) m.lost_by_now line
-        by_test false false = say_torn (state_of m) (counted (state_of m).stops by) (in_full m below) m.lost_by_now line (take keep line)
+  now_is : state_of m2 ≡ recorded (state_of m) (deed_left place keep line) stopped
+  now_is = both m m1 m2 (deed_left place keep line) by below first next_is
 
-  pub halted_line : ((mem_view m2).world (mem_view m2).now).console ≡ ((mem_view m).world (mem_view m).now).console ++ left_of keep line
-  halted_line =
-      subst (λ (x : State). ((view_of x).world x.now).console ≡ ((mem_view m).world (mem_view m).now).console ++ left_of keep line) (sym (both m m1 m2 (deed_left keep line) by below first next_is))
-      (by_test (nat_le (length line) keep) (keep == 0)) where
-        by_test : (b c : Bool) → ((view_of (recorded (state_of m) (if b then Said line true else (if c then Idle else Said (take keep line) false)) (counted (state_of m).stops by))).world (m.moment + 1)).console
-            ≡ ((mem_view m).world m.moment).console ++ (if b then record { text = line; whole = true } ∷ [] else (if c then [] else record { text = take keep line; whole = false } ∷ []))
-        by_test true c = said (state_of m) (counted (state_of m).stops by) (in_full m below) m.lost_by_now line true
-        by_test false true = silent (state_of m) (counted (state_of m).stops by) (in_full m below) m.lost_by_now ∙ sym (append-nil ((mem_view m).world m.moment).console)
-        by_test false false = said (state_of m) (counted (state_of m).stops by) (in_full m below) m.lost_by_now (take keep line) false
+  left_is_line : IsLineOf place (deed_left place keep line)
+  left_is_line = by_test (nat_le (length line) keep) (keep == 0) where
+    by_test : (b c : Bool) → IsLineOf place (if b then Said place line true else (if c then Idle else Said place (take keep line) false))
+    by_test true c = said_is_line place line true
+    by_test false true = idle_is_line place
+    by_test false false = said_is_line place (take keep line) false
+
+  pub halted_say : place ≡ 1 → Says line (mem_view m) (mem_view m2) Halted
+  halted_say at =
+      subst (λ (x : State). Says line (mem_view m) (view_of x) Halted) (sym now_is)
+      (says_of (state_of m) stopped (in_full m below) m.lost_by_now place (deed_left place keep line) left_is_line line Halted at
+      (said_halted (state_of m) stopped (in_full m below) m.lost_by_now place keep line))
+
+  pub halted_print : (member : ℕ) → place ≡ 4 * member + 2 → Prints member line (mem_view m) (mem_view m2) Halted
+  halted_print member at =
+      subst (λ (x : State). Prints member line (mem_view m) (view_of x) Halted) (sym now_is)
+      (prints_of (state_of m) stopped (in_full m below) m.lost_by_now place (deed_left place keep line) left_is_line member line Halted at
+      (said_halted (state_of m) stopped (in_full m below) m.lost_by_now place keep line))
+
+  -- what the line leaves on its place
+  pub halted_line : (p : ℕ) → place ≡ p → lines_in (state_of m2) m2.moment p ≡ lines_in (state_of m) m.moment p ++ left_of keep line
+  halted_line p at =
+      subst (λ (q : ℕ). lines_in (state_of m2) m2.moment q ≡ lines_in (state_of m) m.moment q ++ left_of keep line) at
+      (subst (λ (x : State). lines_in x x.now place ≡ lines_in (state_of m) m.moment place ++ left_of keep line) (sym now_is)
+      (line_halted (state_of m) stopped (in_full m below) m.lost_by_now place keep line))
+
+-- nothing came where nothing waited, or there was no room
+pub none_left : (n : ℕ) (waits into after : List ℕ) → n ≡ min (length waits) (length into) → length after ≡ length into → n ≡ 0 → (waits ≡ []) ⊎ (after ≡ [])
+none_left n [] into after is long none = inl refl
+none_left n (w ∷ waits) into [] is long none = inr refl
+none_left n (w ∷ waits) into (x ∷ after) is long none = absurd (omega (arith, is, long, none))
+
+-- a fact of an error that doesn't speak of it
+pub if_err : {P : Type 0} (r : Result (Unit {0}) NoMemory) → P → IfErr r (λ e. P)
+if_err (Ok u) p = tt
+if_err (Err e) p = p
+
+-- bytes on a wire
+module _ (m m' : MemPlant) (wire member : ℕ) (bytes : List ℕ) (below : m.moment < m.kept.acts) where
+  pub done_give : state_of m' ≡ recorded (state_of m) (Passed true wire member bytes) (state_of m).stops → GivesOn wire member bytes (mem_view m) (mem_view m') Done
+  done_give is =
+      let s = state_of m in
+      let full = in_full m below in
+      subst (λ (x : State). GivesOn wire member bytes (mem_view m) (view_of x) Done) (sym is)
+      (record {
+        given = passed_there s s.stops s.waiting true wire member bytes full m.lost_by_now;
+        others = passed_else s s.stops s.waiting true wire member bytes full m.lost_by_now;
+        taken = λ w k. passed_other_side s s.stops s.waiting true wire member bytes full m.lost_by_now false w k refl;
+        waiting = λ w. refl;
+        disks = passed_disks s s.stops s.waiting true wire member bytes full m.lost_by_now;
+        console = passed_lines s s.stops s.waiting true wire member bytes full m.lost_by_now 1;
+        paper = λ k. passed_lines s s.stops s.waiting true wire member bytes full m.lost_by_now (4 * k + 2);
+      })
+
+  -- bytes that waited
+  module _ (waiting : ℕ → List ℕ) (is : state_of m' ≡ record (recorded (state_of m) (Passed false wire member bytes) (state_of m).stops) { waiting = waiting }) where
+    pub take_acts : (by : ℕ) (part : Part) → m.moment < top → (mem_view m).lost part ≡ false → Acts by part (mem_view m) (mem_view m') Done
+    take_acts by part below_top whole =
+        subst (λ (x : State). Acts by part (mem_view m) (view_of x) Done) (sym is)
+        (acts_done (state_of m) (in_full m below) m.lost_by_now by part (Passed false wire member bytes) waiting below_top whole)
+
+    pub done_take : (n : ℕ) (into : List ℕ) → n ≤ length ((state_of m).waiting wire) → take n into ≡ take n ((state_of m).waiting wire) → bytes ≡ take n ((state_of m).waiting wire) → waiting wire ≡ drop n ((state_of m).waiting wire)
+        → ((w : ℕ) → w ≢ wire → waiting w ≡ (state_of m).waiting w) → (n ≡ 0 → ((state_of m).waiting wire ≡ []) ⊎ (into ≡ [])) → Takes wire member (mem_view m) (mem_view m') into (TookBytes n)
+    done_take n into few came first rest others none =
+        let s = state_of m in
+        let full = in_full m below in
+        subst (λ (x : State). Takes wire member (mem_view m) (view_of x) into (TookBytes n)) (sym is)
+        (record {
+          took = (
+            few,
+            came,
+            rest,
+            passed_there s s.stops waiting false wire member bytes full m.lost_by_now ∙ ap (λ (l : List ℕ). moved_in s s.now false wire member ++ l) first,
+            none,
+          );
+          others = passed_else s s.stops waiting false wire member bytes full m.lost_by_now;
+          waiting = others;
+          given = λ w k. passed_other_side s s.stops waiting false wire member bytes full m.lost_by_now true w k refl;
+          disks = passed_disks s s.stops waiting false wire member bytes full m.lost_by_now;
+          console = passed_lines s s.stops waiting false wire member bytes full m.lost_by_now 1;
+          paper = λ k. passed_lines s s.stops waiting false wire member bytes full m.lost_by_now (4 * k + 2);
+        })
+
+module _ (m m1 m2 : MemPlant) (wire by keep : ℕ) (bytes some : List ℕ) (below : m.moment < m.kept.acts) (is_some : some ≡ take keep bytes)
+    (first : state_of m1 ≡ recorded (state_of m) (Passed true wire by some) (state_of m).stops)
+    (next_is : state_of m2 ≡ record (state_of m1) { stops = counted (state_of m1).stops by }) where
+  both_give : state_of m2 ≡ recorded (state_of m) (Passed true wire by (take keep bytes)) (counted (state_of m).stops by)
+  both_give = both m m1 m2 (Passed true wire by some) by below first next_is ∙ ap (λ (l : List ℕ). recorded (state_of m) (Passed true wire by l) (counted (state_of m).stops by)) is_some
+
+  pub halted_bytes_given : given_now (mem_view m2) wire by ≡ given_now (mem_view m) wire by ++ take keep bytes
+  halted_bytes_given =
+      subst (λ (x : State). given_now (view_of x) wire by ≡ given_now (mem_view m) wire by ++ take keep bytes) (sym both_give)
+      (passed_there (state_of m) (counted (state_of m).stops by) (state_of m).waiting true wire by (take keep bytes) (in_full m below) m.lost_by_now)
+
+  pub halted_give : GivesOn wire by bytes (mem_view m) (mem_view m2) Halted
+  halted_give =
+      let s = state_of m in
+      let full = in_full m below in
+      let stops = counted s.stops by in
+      let part = take keep bytes in
+      subst (λ (x : State). GivesOn wire by bytes (mem_view m) (view_of x) Halted) (sym both_give)
+      (record {
+        given = (keep, passed_there s stops s.waiting true wire by part full m.lost_by_now);
+        others = passed_else s stops s.waiting true wire by part full m.lost_by_now;
+        taken = λ w k. passed_other_side s stops s.waiting true wire by part full m.lost_by_now false w k refl;
+        waiting = λ w. refl;
+        disks = passed_disks s stops s.waiting true wire by part full m.lost_by_now;
+        console = passed_lines s stops s.waiting true wire by part full m.lost_by_now 1;
+        paper = λ k. passed_lines s stops s.waiting true wire by part full m.lost_by_now (4 * k + 2);
+      })
+
+module _ (m m1 m2 : MemPlant) (by : ℕ) (below : m.moment < m.kept.acts) (first : state_of m1 ≡ recorded (state_of m) Idle (state_of m).stops)
+    (next_is : state_of m2 ≡ record (state_of m1) { stops = counted (state_of m1).stops by }) where
+  pub halted_take : (wire member : ℕ) (into : List ℕ) → Takes wire member (mem_view m) (mem_view m2) into TookHalted
+  halted_take wire member into =
+      subst (λ (x : State). Takes wire member (mem_view m) (view_of x) into TookHalted) (sym (both m m1 m2 Idle by below first next_is))
+      (take_halted (state_of m) (counted (state_of m).stops by) (in_full m below) m.lost_by_now wire member into)
 
 -- a fault, and a device that is lost
 module _ (m m' : MemPlant) (small : m.moment ≤ top) where

@@ -2,10 +2,10 @@
 use Rattle.std.proofs.Common.{◌≡◌, inr, ℕ, zero, suc, ◌+◌, ◌-◌, ◌≤◌, ◌<◌, Bool, true, false, if◌then◌else◌, List, [], ◌∷◌, ◌++◌, length, take, drop, get_or, refl, subst, sym, ◌∙◌, ap, arith, length-append}
 use Rattle.std.proofs.lemmas.List.{drop_all, take_more, drop-drop, drop-append-le, length-take-le, take-append-drop}
 use Rattle.spool_disk.specs.declared.entry.Entry.{Entry}
-use Rattle.spool_disk.specs.declared.entry.Entry.TheVariants.{Idle as EntryIdle, Wrote as EntryWrote, Synced as EntrySynced, Said as EntrySaid}
+use Rattle.spool_disk.specs.declared.entry.Entry.TheVariants.{Idle as EntryIdle, Wrote as EntryWrote, Synced as EntrySynced, Said as EntrySaid, Passed as EntryPassed, Fetched as EntryFetched}
 use Rattle.spool_disk.specs.View.{Disk, slice}
-use Rattle.spool_disk.specs.Deeds.{Deed, effect, after, lines_of}
-use Rattle.spool_disk.specs.DeedLaws.{after_push, lines_append}
+use Rattle.spool_disk.specs.Deeds.{Deed, effect, after, gather, lines_of, line_on}
+use Rattle.spool_disk.specs.DeedLaws.{after_push, gather_append}
 use Rattle.spool_disk.specs.Entries.{kept_by, kept_in, deed_of, deeds_of}
 use Rattle.std.proofs.lemmas.Bool.Decides.{nat_tests}
 use Rattle.spool_disk.specs.Settled.{is_sync, IsQuiet, EndsSynced}
@@ -36,8 +36,8 @@ module _ (log : List Entry) (arena : List ℕ) (i : ℕ) (none : Entry) (below :
   pub next_after : (slot : ℕ) (d : Disk) → after slot d (deeds_of (take (i + 1) log) arena) ≡ effect slot (after slot d (deeds_of (take i log) arena)) (deed_of (get_or log i none) (slice (kept_in (take i log)) (kept_by (get_or log i none)) arena))
   next_after slot d = ap (after slot d) next_deeds ∙ after_push slot d (deeds_of (take i log) arena) (deed_of (get_or log i none) (slice (kept_in (take i log)) (kept_by (get_or log i none)) arena))
 
-  pub next_lines : lines_of (deeds_of (take (i + 1) log) arena) ≡ lines_of (deeds_of (take i log) arena) ++ lines_of (deed_of (get_or log i none) (slice (kept_in (take i log)) (kept_by (get_or log i none)) arena) ∷ [])
-  next_lines = ap lines_of next_deeds ∙ lines_append (deeds_of (take i log) arena) (deed_of (get_or log i none) (slice (kept_in (take i log)) (kept_by (get_or log i none)) arena) ∷ [])
+  pub next_gather : {T : Type 0} (adds : Deed → List T) → gather adds (deeds_of (take (i + 1) log) arena) ≡ gather adds (deeds_of (take i log) arena) ++ gather adds (deed_of (get_or log i none) (slice (kept_in (take i log)) (kept_by (get_or log i none)) arena) ∷ [])
+  next_gather adds = ap (gather adds) next_deeds ∙ gather_append adds (deeds_of (take i log) arena) (deed_of (get_or log i none) (slice (kept_in (take i log)) (kept_by (get_or log i none)) arena) ∷ [])
 
   -- its bytes are there
   pub next_within : kept_in log ≤ length arena → kept_in (take i log) + kept_by (get_or log i none) ≤ length arena
@@ -75,7 +75,9 @@ sync_is : (slot : ℕ) (e : Entry) → is_sync slot e ≡ true → e ≡ EntrySy
 sync_is slot EntryIdle is = absurd (cc)
 sync_is slot (EntryWrote s at len kept) is = absurd (cc)
 sync_is slot (EntrySynced s) is = let same : s ≡ slot = grind (arith, nat_tests) in ap EntrySynced same
-sync_is slot (EntrySaid kept whole) is = absurd (cc)
+sync_is slot (EntrySaid place kept whole) is = absurd (cc)
+sync_is slot (EntryPassed given wire member kept) is = absurd (cc)
+sync_is slot (EntryFetched s) is = absurd (cc)
 
 module _ (slot : ℕ) (log : List Entry) (i : ℕ) (none : Entry) (below : i < length log) where
   pub ends_here : is_sync slot (get_or log i none) ≡ true → EndsSynced slot (take (i + 1) log)
@@ -109,10 +111,10 @@ part_is arena from kept from' kept' same many =
 
 -- a line more
 pub add_said : (said said' : List Entry) (text text' : List ℕ) (e : Entry) (bytes : List ℕ) → kept_in said ≡ length text → kept_by e ≡ length bytes → said' ≡ said ++ e ∷ [] → text' ≡ text ++ bytes
-    → lines_of (deeds_of said' text') ≡ lines_of (deeds_of said text) ++ lines_of (deed_of e bytes ∷ [])
-add_said said said' text text' e bytes fits kept added more =
-    ap lines_of (ap (λ (l : List Entry). deeds_of l text') added ∙ ap (deeds_of (said ++ e ∷ [])) more ∙ deeds_push said text e bytes fits kept)
-    ∙ lines_append (deeds_of said text) (deed_of e bytes ∷ [])
+    → (place : ℕ) → lines_of place (deeds_of said' text') ≡ lines_of place (deeds_of said text) ++ lines_of place (deed_of e bytes ∷ [])
+add_said said said' text text' e bytes fits kept added more place =
+    ap (lines_of place) (ap (λ (l : List Entry). deeds_of l text') added ∙ ap (deeds_of (said ++ e ∷ [])) more ∙ deeds_push said text e bytes fits kept)
+    ∙ gather_append (line_on place) (deeds_of said text) (deed_of e bytes ∷ [])
 
 pub add_said_kept : (said said' : List Entry) (text text' : List ℕ) (e : Entry) (bytes : List ℕ) → kept_in said ≡ length text → kept_by e ≡ length bytes → said' ≡ said ++ e ∷ [] → text' ≡ text ++ bytes → kept_in said' ≡ length text'
 add_said_kept said said' text text' e bytes fits kept added more = omega (arith, ap kept_in added, kept_push said e, fits, kept, ap (λ (l : List ℕ). length l) more, length-append text bytes)

@@ -1,5 +1,5 @@
 -- A plant begun anew, and after a crash.
-use Rattle.std.proofs.Common.{subst, ◌≡◌, ◌⊎◌, inl, inr, ⊎_elim, ℕ, suc, zero, ◌*◌, ◌≤◌, ◌<◌, nat_le, Bool, true, false, if◌then◌else◌, Some, None, is_some, List, [], ◌∷◌, ◌++◌, length, take, slice_index, map, replicate, Vec, refl, sym, ◌∙◌, ap, arith}
+use Rattle.std.proofs.Common.{subst, ◌≡◌, ◌⊎◌, inl, inr, ⊎_elim, ℕ, suc, zero, ◌+◌, ◌*◌, ◌≤◌, ◌<◌, nat_le, Bool, true, false, if◌then◌else◌, Some, None, is_some, List, [], ◌∷◌, ◌++◌, length, take, slice_index, map, replicate, Vec, refl, sym, ◌∙◌, ap, arith}
 use Rattle.std.proofs.lemmas.Bool.Decides.{nat_tests}
 use Rattle.std.specs.declared.alloc.Global.{Global}
 use Rattle.spool_disk.specs.declared.base.Base.{Base}
@@ -8,19 +8,26 @@ use Rattle.spool_disk.specs.declared.entry.Entry.{Entry}
 use Rattle.spool_disk.specs.declared.health.Health.{Health}
 use Rattle.spool_disk.specs.declared.sizes.Sizes.{Sizes}
 use Rattle.std.proofs.lemmas.List.{append-nil}
-use Rattle.spool_disk.specs.View.{View, Disk}
+use Rattle.spool_disk.specs.View.{View, Disk, Line}
 use Rattle.spool_disk.specs.Standing.{bytes_at}
 use Rattle.spool_disk.specs.Sizes.{size_in}
-use Rattle.spool_disk.specs.Deeds.{Deed, after, lines_of}
+use Rattle.spool_disk.specs.Deeds.{Deed, after, gather, line_on, lines_of, moved}
 use Rattle.spool_disk.specs.Entries.{deeds_of}
 use Rattle.spool_disk.specs.Health.{sound, health_at, was_lost, since_of}
 use Rattle.spool_disk.specs.Places.{slot_of, place_of}
-use Rattle.spool_disk.specs.State.{State, shown, disk_in, first_lines, view_of}
+use Rattle.spool_disk.specs.State.{State, shown, disk_in, first_lines, lines_in, view_of}
 use Rattle.spool_disk.specs.Begins.{BeginsWith, IsBlank, restarted}
 use Rattle.spool_disk.specs.Kept.{fresh, size_at}
 use Rattle.spool_disk.specs.LeavesAt.{LeavesAt}
 use Rattle.spool_disk.proofs.Slots.{at_past}
 use Rattle.spool_disk.proofs.Crashing.{leaves_length, leaves_none}
+
+abbrev no_deeds : List Deed
+no_deeds = []
+
+take-nil : (t : ℕ) → take t no_deeds ≡ no_deeds
+take-nil zero = refl
+take-nil (suc t) = refl
 
 pub split : (n s : ℕ) → (n ≤ s) ⊎ (s < n)
 split n s = by_test (nat_le n s) refl where
@@ -85,7 +92,7 @@ restarted_lost t h = by_test (was_lost h.since t) where
   by_test false = refl
 
 -- a plant that has made no act
-module _ (base : Base) (parts : List Health) (s : State) (now : s.now ≡ 0) (based : s.base ≡ base) (deeds : s.deeds ≡ []) (part : s.parts ≡ parts) (stops : s.stops ≡ replicate 256 0) (loses : s.loses ≡ replicate 258 0)
+module _ (base : Base) (parts : List Health) (s : State) (now : s.now ≡ 0) (based : s.base ≡ base) (deeds : s.deeds ≡ []) (part : s.parts ≡ parts) (stops : s.stops ≡ replicate 256 0) (loses : s.loses ≡ replicate 258 0) (arms : s.arms ≡ replicate 256 0) (waits : (w : ℕ) → s.waiting w ≡ [])
     (none : (k : ℕ) → (health_at parts k).faults ≡ 0) where
   first_disk : (slot : ℕ) → disk_in s s.now slot ≡ shown (fresh base slot) (was_lost (health_at parts (4 * slot)).since 0)
   first_disk slot =
@@ -93,6 +100,12 @@ module _ (base : Base) (parts : List Health) (s : State) (now : s.now ≡ 0) (ba
       ∙ ap (λ (l : List Deed). shown (after slot (fresh s.base slot) (take 0 l)) (was_lost (health_at s.parts (4 * slot)).since 0)) deeds
       ∙ ap (λ b. shown (fresh b slot) (was_lost (health_at s.parts (4 * slot)).since 0)) based
       ∙ ap (λ (l : List Health). shown (fresh base slot) (was_lost (health_at l (4 * slot)).since 0)) part
+
+  none_done : {T : Type 0} (adds : Deed → List T) (t : ℕ) → gather adds (take t s.deeds) ≡ []
+  none_done adds t = ap (λ (l : List Deed). gather adds (take t l)) deeds ∙ ap (gather adds) (take-nil t)
+
+  first_said : (place t : ℕ) → lines_in s t place ≡ first_lines base place
+  first_said place t = ap (λ (l : List Line). first_lines s.base place ++ l) (none_done (line_on place) t) ∙ append-nil (first_lines s.base place) ∙ ap (λ b. first_lines b place) based
 
   pub begins : BeginsWith base parts (view_of s)
   begins = record {
@@ -102,12 +115,17 @@ module _ (base : Base) (parts : List Health) (s : State) (now : s.now ≡ 0) (ba
       faults = λ p. ap (λ (l : List Health). (health_at l (place_of p)).faults) part ∙ none (place_of p);
       stops = λ m. zeros_at 256 m s.stops stops;
       loses = λ d. zeros_at 258 (slot_of d) s.loses loses;
+      waiting = waits;
+      taken = λ w m. none_done (moved false w m) s.now;
+      given = λ w m. none_done (moved true w m) s.now;
+      arms = λ m. zeros_at 256 m s.arms arms;
     };
     bytes = λ d. ap (λ (x : Disk). x.bytes) (first_disk (slot_of d));
     disk = λ d. ap (λ (x : Disk). x.lost) (first_disk (slot_of d));
     lost = λ p. ap (λ (l : List Health). (health_at l (place_of p)).lost) part;
     size = λ d. ap (λ b. size_at b (slot_of d)) based;
-    console = ap (λ (l : List Deed). first_lines s.base ++ lines_of (take 0 l)) deeds ∙ append-nil (first_lines s.base) ∙ ap first_lines based;
+    console = first_said 1 0;
+    paper = λ m. first_said (4 * m + 2) 0;
   }
 
 -- devices of zeros
@@ -119,8 +137,12 @@ blank sizes base parts v same zeros none all begin = record {
   bytes = λ d. begin.bytes d ∙ zeros_there (slot_of d);
   disk = λ d. begin.disk d ∙ ap (λ (h : Health). was_lost h.since 0) (sounds_at (4 * slot_of d) parts all);
   lost = λ p. begin.lost p ∙ ap (λ (h : Health). h.lost) (sounds_at (place_of p) parts all);
-  console = begin.console ∙ ap (λ (l : List Entry). lines_of (deeds_of l base.text.items)) none;
+  console = begin.console ∙ no_line 1;
+  paper = λ m. begin.paper m ∙ no_line (4 * m + 2);
 } where
+  no_line : (place : ℕ) → first_lines base place ≡ []
+  no_line place = ap (λ (l : List Entry). lines_of place (deeds_of l base.text.items)) none
+
   zeros_there : (slot : ℕ) → bytes_at base.start.items slot ≡ replicate (size_in sizes slot) 0
   zeros_there slot = ⊎_elim
       (λ le.

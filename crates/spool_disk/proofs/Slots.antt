@@ -1,5 +1,7 @@
 -- The bytes at a slot.
 use Rattle.std.proofs.Common.{◌≡◌, ℕ, ◌+◌, ◌<◌, ◌==◌, Bool, true, false, if◌then◌else◌, List, [], ◌∷◌, ◌++◌, ◌⊎◌, inl, inr, ⊎_elim, nat_le, ◌≤◌, length, length-append, get_or, set, Vec, suc, zero, refl, subst, sym, ◌∙◌, ap, arith}
+use Rattle.std.specs.Prelude.{Result, Ok, Err, is_ok, IfOk, IfErr}
+use Rattle.std.specs.declared.alloc.AllocError.{AllocError}
 use Rattle.std.specs.declared.alloc.Global.{Global}
 use Rattle.std.proofs.lemmas.Bool.Decides.{nat_tests}
 use Rattle.spool_disk.specs.Standing.{bytes_at}
@@ -94,3 +96,30 @@ all_more P vs ws w i many is so_far here = (
       by_test : (b : Bool) → (s == n) ≡ b → (s < n) ⊎ (s ≡ n)
       by_test true e = inr (grind (arith, nat_tests))
       by_test false e = inl (grind (arith, nat_tests))
+
+-- no bytes anywhere
+pub none_more : (vs : List (Vec ℕ Global)) (w : Vec ℕ Global) → ((s : ℕ) → bytes_at vs s ≡ []) → w.items ≡ [] → (s : ℕ) → bytes_at (vs ++ w ∷ []) s ≡ []
+none_more [] w none empty zero = empty
+none_more [] w none empty (suc s) = refl
+none_more (v ∷ vs) w none empty zero = none zero
+none_more (v ∷ vs) w none empty (suc s) = none_more vs w (λ k. none (suc k)) empty s
+
+-- more bytes at a slot, where there is memory for them
+module _ (vs : List (Vec ℕ Global)) (slot : ℕ) (bytes : List ℕ) (d w : Vec ℕ Global) (lt : slot < length vs) (was : d.items ≡ bytes_at vs slot) where
+  pub extended : (r : Result (Unit {0}) AllocError) → w.items ≡ (if is_ok r then d.items ++ bytes else d.items) → IfOk r (λ u. (s : ℕ) → bytes_at (set vs slot w) s ≡ (if slot == s then bytes_at vs s ++ bytes else bytes_at vs s))
+  extended (Err e) is = tt
+  extended (Ok u) is = λ s. by_test is s (slot == s) refl where
+    by_test : w.items ≡ d.items ++ bytes → (s : ℕ) (b : Bool) → (slot == s) ≡ b → bytes_at (set vs slot w) s ≡ (if b then bytes_at vs s ++ bytes else bytes_at vs s)
+    by_test is s true e =
+        let same : slot ≡ s = grind (arith, nat_tests) in
+        subst (λ (k : ℕ). bytes_at (set vs slot w) k ≡ bytes_at vs k ++ bytes) same (at_set_same vs slot w lt ∙ is ∙ ap (λ (l : List ℕ). l ++ bytes) was)
+    by_test is s false e = at_set_other vs slot s w (λ same. let f : (slot == slot) ≡ false = subst (λ (k : ℕ). (slot == k) ≡ false) same e in grind (arith, nat_tests))
+
+  pub not_extended : (r : Result (Unit {0}) AllocError) → w.items ≡ (if is_ok r then d.items ++ bytes else d.items) → IfErr r (λ e. (s : ℕ) → bytes_at (set vs slot w) s ≡ bytes_at vs s)
+  not_extended (Ok u) is = tt
+  not_extended (Err e) is = λ s. by_test is s (slot == s) refl where
+    by_test : w.items ≡ d.items → (s : ℕ) (b : Bool) → (slot == s) ≡ b → bytes_at (set vs slot w) s ≡ bytes_at vs s
+    by_test is s true e =
+        let same : slot ≡ s = grind (arith, nat_tests) in
+        subst (λ (k : ℕ). bytes_at (set vs slot w) k ≡ bytes_at vs k) same (at_set_same vs slot w lt ∙ is ∙ was)
+    by_test is s false e = at_set_other vs slot s w (λ same. let f : (slot == slot) ≡ false = subst (λ (k : ℕ). (slot == k) ≡ false) same e in grind (arith, nat_tests))

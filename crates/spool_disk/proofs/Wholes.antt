@@ -13,13 +13,13 @@ pub whole_append : (a b : List Line) → whole_lines (a ++ b) ≡ whole_lines a 
 whole_append a b = ap (map (λ (l : Line). l.text)) (filter-append (λ (l : Line). l.whole) a b) ∙ map-append (λ (l : Line). l.text) (filter (λ (l : Line). l.whole) a) (filter (λ (l : Line). l.whole) b)
 
 -- the lines of a plant, of which the first stand in its base
-pub all_lines : (first log : List Entry) (text arena : List ℕ) (f l : List Entry) (t a : List ℕ) (now : ℕ) (none mid lines : List (List ℕ)) → none ≡ [] → f ≡ first → t ≡ text → l ≡ log → a ≡ arena → length log ≤ now
-    → mid ≡ none ++ whole_lines (lines_of (deeds_of f t)) → lines ≡ mid ++ whole_lines (lines_of (deeds_of l a)) → lines ≡ whole_lines (lines_of (deeds_of first text) ++ lines_of (take now (deeds_of log arena)))
-all_lines first log text arena f l t a now none mid lines empty is_first is_text is_log is_arena short begin then_all =
+pub all_lines : (first log : List Entry) (text arena : List ℕ) (f l : List Entry) (t a : List ℕ) (now : ℕ) (place : ℕ) (none mid lines : List (List ℕ)) → none ≡ [] → f ≡ first → t ≡ text → l ≡ log → a ≡ arena → length log ≤ now
+    → mid ≡ none ++ whole_lines (lines_of place (deeds_of f t)) → lines ≡ mid ++ whole_lines (lines_of place (deeds_of l a)) → lines ≡ whole_lines (lines_of place (deeds_of first text) ++ lines_of place (take now (deeds_of log arena)))
+all_lines first log text arena f l t a now place none mid lines empty is_first is_text is_log is_arena short begin then_all =
     then_all
-    ∙ ap (λ (m : List (List ℕ)). m ++ whole_lines (lines_of (deeds_of l a)))
-    (begin ∙ ap (λ (m : List (List ℕ)). m ++ whole_lines (lines_of (deeds_of f t))) empty ∙ ap (λ (e : List Entry). whole_lines (lines_of (deeds_of e t))) is_first ∙ ap (λ (b : List ℕ). whole_lines (lines_of (deeds_of first b))) is_text)
-    ∙ ap (λ (e : List Entry). whole_lines (lines_of (deeds_of first text)) ++ whole_lines (lines_of (deeds_of e a))) is_log
-    ∙ ap (λ (b : List ℕ). whole_lines (lines_of (deeds_of first text)) ++ whole_lines (lines_of (deeds_of log b))) is_arena
-    ∙ sym (whole_append (lines_of (deeds_of first text)) (lines_of (deeds_of log arena)))
-    ∙ ap (λ (d : List Deed). whole_lines (lines_of (deeds_of first text) ++ lines_of d)) (sym (take_all now (deeds_of log arena) (omega (arith, short, length-deeds log arena))))
+    ∙ ap (λ (m : List (List ℕ)). m ++ whole_lines (lines_of place (deeds_of l a)))
+    (begin ∙ ap (λ (m : List (List ℕ)). m ++ whole_lines (lines_of place (deeds_of f t))) empty ∙ ap (λ (e : List Entry). whole_lines (lines_of place (deeds_of e t))) is_first ∙ ap (λ (b : List ℕ). whole_lines (lines_of place (deeds_of first b))) is_text)
+    ∙ ap (λ (e : List Entry). whole_lines (lines_of place (deeds_of first text)) ++ whole_lines (lines_of place (deeds_of e a))) is_log
+    ∙ ap (λ (b : List ℕ). whole_lines (lines_of place (deeds_of first text)) ++ whole_lines (lines_of place (deeds_of log b))) is_arena
+    ∙ sym (whole_append (lines_of place (deeds_of first text)) (lines_of place (deeds_of log arena)))
+    ∙ ap (λ (d : List Deed). whole_lines (lines_of place (deeds_of first text) ++ lines_of place d)) (sym (take_all now (deeds_of log arena) (omega (arith, short, length-deeds log arena))))

@@ -5,7 +5,9 @@ use Rattle.spool_disk.specs.declared.plant.Part.{Part}
 use Rattle.spool_disk.specs.declared.plant.Part.TheVariants.{Disk as DiskPart}
 use Rattle.spool_disk.specs.declared.plant.Act.{Act}
 use Rattle.spool_disk.specs.declared.plant.Act.TheVariants.{Done, Failed, Halted}
-use Rattle.spool_disk.specs.View.{View, Disk, Line, disk_now, slice}
+use Rattle.spool_disk.specs.declared.plant.Took.{Took}
+use Rattle.spool_disk.specs.declared.plant.Took.TheVariants.{Bytes as TookBytes, Failed as TookFailed, Halted as TookHalted}
+use Rattle.spool_disk.specs.View.{View, Disk, Line, disk_now, paper_now, taken_now, given_now, slice}
 
 -- the greatest count
 abbrev pub top : ℕ
@@ -41,11 +43,24 @@ pub record Acts (by : ℕ) (part : Part) (old new : View) (result : Act) : Type 
   pub no_other_stop : (m : ℕ) → (m ≢ by) ⊎ (result ≢ Halted) → new.stops m ≡ old.stops m
   pub last : old.now ≡ top → result ≡ Failed
   pub loses : (d : Dev) → new.loses d ≡ old.loses d
+  pub arms : (m : ℕ) → new.arms m ≡ old.arms m
+
+-- the lines on every printer are as they were
+abbrev pub SamePaper : View → View → Type 0
+SamePaper old new = (m : ℕ) → paper_now new m ≡ paper_now old m
+
+-- nothing has moved on any wire
+pub record SameWires (old new : View) : Type 0 where
+  pub waiting : (w : ℕ) → new.waiting w ≡ old.waiting w
+  pub taken : (w m : ℕ) → taken_now new w m ≡ taken_now old w m
+  pub given : (w m : ℕ) → given_now new w m ≡ given_now old w m
 
 -- The world is as it was but for this device.
 pub record OnDevice (dev : Dev) (old new : View) : Type 0 where
   pub others : (d : Dev) → d ≢ dev → disk_now new d ≡ disk_now old d
   pub console : (new.world new.now).console ≡ (old.world old.now).console
+  pub paper : SamePaper old new
+  pub wires : SameWires old new
 
 -- only bytes of this stretch differ
 pub record DiffersIn (at len : ℕ) (old new : List ℕ) : Type 0 where
@@ -63,11 +78,15 @@ pub record Untouched (old new : Disk) : Type 0 where
   pub bytes : new.bytes ≡ old.bytes
   pub unsynced : new.unsynced ≡ old.unsynced
 
+-- the bytes of a stretch with at most so many bytes may differ, and are unsynced
+abbrev pub DirtiedIn : ℕ → ℕ → Disk → Disk → Type 0
+DirtiedIn at len old new = (n : ℕ) × (n ≤ len) × Dirtied at n old new
+
 -- a device after a write
 abbrev pub Written : ℕ → List ℕ → Disk → Disk → Act → Type 0
 Written at bytes old new Done = Dirtied at (length bytes) old new × (slice at (length bytes) new.bytes ≡ bytes) × (new.lost ≡ old.lost)
-Written at bytes old new Halted = Dirtied at (length bytes) old new × (new.lost ≡ old.lost)
-Written at bytes old new Failed = Dirtied at (length bytes) old new ⊎ Untouched old new
+Written at bytes old new Halted = DirtiedIn at (length bytes) old new × (new.lost ≡ old.lost)
+Written at bytes old new Failed = DirtiedIn at (length bytes) old new ⊎ Untouched old new
 
 -- after a sync
 abbrev pub Synced : Disk → Disk → Act → Type 0
@@ -100,7 +119,7 @@ pub record Reads (dev : Dev) (at : ℕ) (old new : View) (into : List ℕ) (resu
   pub lost : IsLostAfter dev old new result
   pub only : OnDevice dev old new
 
--- the console after a line is said
+-- the lines of the console, or of a printer, after a line
 abbrev pub Said : List ℕ → List Line → List Line → Act → Type 0
 Said line old new Done = new ≡ old ++ record { text = line; whole = true } ∷ []
 Said line old new Failed = new ≡ old
@@ -112,6 +131,68 @@ Said line old new Halted =
 pub record Says (line : List ℕ) (old new : View) (result : Act) : Type 0 where
   pub console : Said line (old.world old.now).console (new.world new.now).console result
   pub disks : (d : Dev) → disk_now new d ≡ disk_now old d
+  pub paper : SamePaper old new
+  pub wires : SameWires old new
+
+-- a line goes to the printer of a member
+pub record Prints (member : ℕ) (line : List ℕ) (old new : View) (result : Act) : Type 0 where
+  pub paper : Said line (paper_now old member) (paper_now new member) result
+  pub others : (m : ℕ) → m ≢ member → paper_now new m ≡ paper_now old m
+  pub disks : (d : Dev) → disk_now new d ≡ disk_now old d
+  pub console : (new.world new.now).console ≡ (old.world old.now).console
+  pub wires : SameWires old new
+
+-- what was given on a wire, after bytes are given: with all of them behind it, or with the first of them
+abbrev pub Given : List ℕ → List ℕ → List ℕ → Act → Type 0
+Given bytes old new Done = new ≡ old ++ bytes
+Given bytes old new Failed = (n : ℕ) × (new ≡ old ++ take n bytes)
+Given bytes old new Halted = (n : ℕ) × (new ≡ old ++ take n bytes)
+
+-- a member gives bytes on a wire
+pub record GivesOn (wire member : ℕ) (bytes : List ℕ) (old new : View) (result : Act) : Type 0 where
+  pub given : Given bytes (given_now old wire member) (given_now new wire member) result
+  pub others : (w m : ℕ) → (w ≢ wire) ⊎ (m ≢ member) → given_now new w m ≡ given_now old w m
+  pub taken : (w m : ℕ) → taken_now new w m ≡ taken_now old w m
+  pub waiting : (w : ℕ) → new.waiting w ≡ old.waiting w
+  pub disks : (d : Dev) → disk_now new d ≡ disk_now old d
+  pub console : (new.world new.now).console ≡ (old.world old.now).console
+  pub paper : SamePaper old new
+
+-- the answer of a `take` as that of an act
+abbrev pub act_of : Took → Act
+act_of (TookBytes n) = Done
+act_of TookFailed = Failed
+act_of TookHalted = Halted
+
+-- no more bytes came than there is room for
+abbrev pub FitsInto : ℕ → Took → Type 0
+FitsInto room (TookBytes n) = n ≤ room
+FitsInto room TookFailed = Unit {0}
+FitsInto room TookHalted = Unit {0}
+
+-- What a `take` leaves waiting, of what waited, what the member has taken then, and what came into its bytes: the first
+-- bytes that waited. None came only where nothing waited, or there is no room.
+abbrev pub TookFrom : List ℕ → List ℕ → List ℕ → List ℕ → List ℕ → Took → Type 0
+TookFrom waited waits old new into (TookBytes n) =
+    (n ≤ length waited) × (take n into ≡ take n waited) × (waits ≡ drop n waited) × (new ≡ old ++ take n waited) × (n ≡ 0 → (waited ≡ []) ⊎ (into ≡ []))
+TookFrom waited waits old new into TookFailed = (waits ≡ waited) × (new ≡ old)
+TookFrom waited waits old new into TookHalted = (waits ≡ waited) × (new ≡ old)
+
+-- a member takes bytes from a wire
+pub record Takes (wire member : ℕ) (old new : View) (into : List ℕ) (result : Took) : Type 0 where
+  pub took : TookFrom (old.waiting wire) (new.waiting wire) (taken_now old wire member) (taken_now new wire member) into result
+  pub others : (w m : ℕ) → (w ≢ wire) ⊎ (m ≢ member) → taken_now new w m ≡ taken_now old w m
+  pub waiting : (w : ℕ) → w ≢ wire → new.waiting w ≡ old.waiting w
+  pub given : (w m : ℕ) → given_now new w m ≡ given_now old w m
+  pub disks : (d : Dev) → disk_now new d ≡ disk_now old d
+  pub console : (new.world new.now).console ≡ (old.world old.now).console
+  pub paper : SamePaper old new
+
+-- A stop of a member is armed: nothing that the plant shows changes but the count of such calls.
+pub record Arms (member : ℕ) (old new : View) : Type 0 where
+  pub same : new ≡ record old { arms = new.arms }
+  pub counted : new.arms member ≡ next (old.arms member)
+  pub else_counted : (m : ℕ) → m ≢ member → new.arms m ≡ old.arms m
 
 -- A part is lost by a call that has no answer.
 pub record Loses (part : Part) (old new : View) : Type 0 where
@@ -123,6 +204,7 @@ pub record Loses (part : Part) (old new : View) : Type 0 where
   pub stops : (m : ℕ) → new.stops m ≡ old.stops m
   pub counted : (d : Dev) → DiskPart d ≡ part → new.loses d ≡ next (old.loses d)
   pub else_counted : (d : Dev) → DiskPart d ≢ part → new.loses d ≡ old.loses d
+  pub arms : (m : ℕ) → new.arms m ≡ old.arms m
 
 -- and its device is lost at the moment that the call made
 pub record LosesThere (dev : Dev) (old new : View) : Type 0 where

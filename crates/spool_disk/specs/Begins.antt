@@ -1,5 +1,5 @@
 -- What a plant in memory shows at first, and after a crash.
-use Rattle.std.specs.Prelude.{◌≡◌, ℕ, ◌*◌, false, if◌then◌else◌, Some, None, replicate, List, []}
+use Rattle.std.specs.Prelude.{◌≡◌, ℕ, ◌+◌, ◌*◌, false, if◌then◌else◌, Some, None, replicate, List, []}
 use Rattle.mas_types.specs.declared.ids.Dev.{Dev}
 use Rattle.spool_disk.specs.declared.plant.Part.{Part}
 use Rattle.spool_disk.specs.declared.plant.Part.TheVariants.{Disk as DiskPart}
@@ -13,15 +13,19 @@ use Rattle.spool_disk.specs.Standing.{bytes_at}
 use Rattle.spool_disk.specs.Places.{slot_of, place_of}
 use Rattle.spool_disk.specs.State.{first_lines}
 use Rattle.spool_disk.specs.Crash.{LeavesBy}
-use Rattle.spool_disk.specs.View.{View, disk_at, disk_now, IsImage}
+use Rattle.spool_disk.specs.View.{View, disk_at, disk_now, taken_now, given_now, IsImage}
 
--- no act was made, and every count is 0
+-- no act was made, every count is 0, and nothing waits or has moved on a wire
 pub record IsNew (v : View) : Type 0 where
   pub now : v.now ≡ 0
   pub unsynced : (d : Dev) → (disk_now v d).unsynced ≡ []
   pub faults : (p : Part) → v.faults p ≡ 0
   pub stops : (m : ℕ) → v.stops m ≡ 0
   pub loses : (d : Dev) → v.loses d ≡ 0
+  pub waiting : (w : ℕ) → v.waiting w ≡ []
+  pub taken : (w m : ℕ) → taken_now v w m ≡ []
+  pub given : (w m : ℕ) → given_now v w m ≡ []
+  pub arms : (m : ℕ) → v.arms m ≡ 0
 
 -- a part after a crash at a moment
 abbrev pub restarted : ℕ → Health → Health
@@ -33,7 +37,8 @@ pub record BeginsWith (base : Base) (parts : List Health) (v : View) : Type 0 wh
   pub disk : (d : Dev) → (disk_now v d).lost ≡ was_lost (health_at parts (4 * slot_of d)).since 0
   pub lost : (p : Part) → v.lost p ≡ (health_at parts (place_of p)).lost
   pub size : (d : Dev) → v.size d ≡ size_in base.sizes (slot_of d)
-  pub console : (v.world 0).console ≡ first_lines base
+  pub console : (v.world 0).console ≡ first_lines base 1
+  pub paper : (m : ℕ) → (v.world 0).paper m ≡ first_lines base (4 * m + 2)
 
 -- what a crash at a moment left of an older plant, by a choice
 pub record IsCrashed (choice : Choice) (t : ℕ) (old new : View) : Type 0 where
@@ -44,6 +49,7 @@ pub record IsCrashed (choice : Choice) (t : ℕ) (old new : View) : Type 0 where
   pub disk : (d : Dev) → (disk_now new d).lost ≡ (disk_at old t d).lost
   pub lost : (d : Dev) → new.lost (DiskPart d) ≡ (disk_at old t d).lost
   pub console : (new.world 0).console ≡ (old.world t).console
+  pub paper : (m : ℕ) → (new.world 0).paper m ≡ (old.world t).paper m
 
 -- devices of zeros, no part lost, and no line
 pub record IsBlank (sizes : Sizes) (v : View) : Type 0 where
@@ -53,3 +59,4 @@ pub record IsBlank (sizes : Sizes) (v : View) : Type 0 where
   pub disk : (d : Dev) → (disk_now v d).lost ≡ false
   pub lost : (p : Part) → v.lost p ≡ false
   pub console : (v.world 0).console ≡ []
+  pub paper : (m : ℕ) → (v.world 0).paper m ≡ []

@@ -1,9 +1,9 @@
 -- Laws of what acts come to.
-use Rattle.std.proofs.Common.{◌≡◌, ℕ, ◌+◌, ◌≤◌, ◌==◌, Bool, true, false, if◌then◌else◌, List, [], ◌∷◌, ◌++◌, length, take, drop, refl, ◌∙◌, ap, arith, nat_le}
+use Rattle.std.proofs.Common.{◌≡◌, ℕ, ◌+◌, ◌≤◌, ◌==◌, Bool, true, false, if◌then◌else◌, List, [], ◌∷◌, ◌++◌, length, take, drop, append_assoc, refl, sym, ◌∙◌, ap, arith, nat_le}
 use Rattle.std.proofs.lemmas.Bool.Decides.{nat_tests}
 use Rattle.std.proofs.lemmas.Grind.{common_steps}
-use Rattle.spool_disk.specs.View.{Disk, Line}
-use Rattle.spool_disk.specs.Deeds.{Deed, Idle, Wrote, Synced, Said, overwrite, effect, after, lines_of}
+use Rattle.spool_disk.specs.View.{Disk}
+use Rattle.spool_disk.specs.Deeds.{Deed, Idle, Wrote, Synced, Said, Passed, Fetched, overwrite, effect, after, gather}
 
 pub after_push : (slot : ℕ) (d : Disk) (es : List Deed) (e : Deed) → after slot d (es ++ e ∷ []) ≡ effect slot (after slot d es) e
 after_push slot d [] e = refl
@@ -29,15 +29,14 @@ length-effect slot d (Synced s) = by_test (s == slot) where
   by_test : (b : Bool) → length (if b then record { bytes = d.bytes; unsynced = []; lost = d.lost } else d).bytes ≡ length d.bytes
   by_test true = refl
   by_test false = refl
-length-effect slot d (Said text whole) = refl
+length-effect slot d (Said place text whole) = refl
+length-effect slot d (Passed given wire member bytes) = refl
+length-effect slot d (Fetched s) = refl
 
 pub length-after : (slot : ℕ) (d : Disk) (es : List Deed) → length (after slot d es).bytes ≡ length d.bytes
 length-after slot d [] = refl
 length-after slot d (e ∷ es) = length-after slot (effect slot d e) es ∙ length-effect slot d e
 
-pub lines_append : (es fs : List Deed) → lines_of (es ++ fs) ≡ lines_of es ++ lines_of fs
-lines_append [] fs = refl
-lines_append (Idle ∷ es) fs = lines_append es fs
-lines_append (Wrote s at len bytes ∷ es) fs = lines_append es fs
-lines_append (Synced s ∷ es) fs = lines_append es fs
-lines_append (Said text whole ∷ es) fs = ap (λ (l : List Line). record { text = text; whole = whole } ∷ l) (lines_append es fs)
+pub gather_append : {T : Type 0} (adds : Deed → List T) (es fs : List Deed) → gather adds (es ++ fs) ≡ gather adds es ++ gather adds fs
+gather_append adds [] fs = refl
+gather_append adds (e ∷ es) fs = ap (λ l. adds e ++ l) (gather_append adds es fs) ∙ sym (append_assoc (adds e) (gather adds es) (gather adds fs))

@@ -1,13 +1,16 @@
 -- What acts come to.
-use Rattle.std.specs.Prelude.{ℕ, ◌+◌, nat_le, nat_lt, ◌==◌, if◌then◌else◌, Bool, List, [], ◌∷◌, ◌++◌, length, take, drop}
+use Rattle.std.specs.Prelude.{ℕ, ◌+◌, nat_le, nat_lt, ◌==◌, ◌&&◌, not, if◌then◌else◌, Bool, true, false, List, [], ◌∷◌, ◌++◌, length, take, drop}
 use Rattle.spool_disk.specs.View.{Disk, Line}
 
--- an act that a plant recorded. A write has a stretch of a slot, and the bytes that came there
+-- An act that a plant recorded. A write has a stretch of a slot, and the bytes that came there; a line has the place of the
+-- console or printer that it stands on; bytes on a wire were given or taken by a member.
 pub data Deed : Type 0 where
   Idle : Deed
   Wrote : (slot at len : ℕ) (bytes : List ℕ) → Deed
   Synced : (slot : ℕ) → Deed
-  Said : (text : List ℕ) (whole : Bool) → Deed
+  Said : (place : ℕ) (text : List ℕ) (whole : Bool) → Deed
+  Passed : (given : Bool) (wire member : ℕ) (bytes : List ℕ) → Deed
+  Fetched : (slot : ℕ) → Deed
 
 -- these bytes put over what is there, if they fit
 abbrev pub overwrite : ℕ → List ℕ → List ℕ → List ℕ
@@ -19,20 +22,63 @@ effect slot d Idle = d
 effect slot d (Wrote s at len bytes) =
     if s == slot then record { bytes = overwrite at bytes d.bytes; unsynced = record { from = at; len = len } ∷ d.unsynced; lost = d.lost } else d
 effect slot d (Synced s) = if s == slot then record { bytes = d.bytes; unsynced = []; lost = d.lost } else d
-effect slot d (Said text whole) = d
+effect slot d (Said place text whole) = d
+effect slot d (Passed given wire member bytes) = d
+effect slot d (Fetched s) = d
 
 -- and after all of them
 abbrev pub after : ℕ → Disk → List Deed → Disk
 after slot d [] = d
 after slot d (e ∷ es) = after slot (effect slot d e) es
 
--- the lines said
-abbrev pub lines_of : List Deed → List Line
-lines_of [] = []
-lines_of (Idle ∷ es) = lines_of es
-lines_of (Wrote s at len bytes ∷ es) = lines_of es
-lines_of (Synced s ∷ es) = lines_of es
-lines_of (Said text whole ∷ es) = record { text = text; whole = whole } ∷ lines_of es
+-- all that acts add to a list, one after another
+abbrev pub gather : {T : Type 0} → (Deed → List T) → List Deed → List T
+gather adds [] = []
+gather adds (e ∷ es) = adds e ++ gather adds es
+
+-- the line that an act puts on a place
+abbrev pub line_on : ℕ → Deed → List Line
+line_on place Idle = []
+line_on place (Wrote s at len bytes) = []
+line_on place (Synced s) = []
+line_on place (Said p text whole) = if p == place then record { text = text; whole = whole } ∷ [] else []
+line_on place (Passed given wire member bytes) = []
+line_on place (Fetched s) = []
+
+-- the lines that stand on a place
+abbrev pub lines_of : ℕ → List Deed → List Line
+lines_of place es = gather (line_on place) es
+
+abbrev pub same_side : Bool → Bool → Bool
+same_side true given = given
+same_side false given = not given
+
+-- the bytes that an act of a member gives on a wire, or takes from it
+abbrev pub moved : Bool → ℕ → ℕ → Deed → List ℕ
+moved side wire member Idle = []
+moved side wire member (Wrote s at len bytes) = []
+moved side wire member (Synced s) = []
+moved side wire member (Said p text whole) = []
+moved side wire member (Passed given w m bytes) = if same_side side given && (w == wire && m == member) then bytes else []
+moved side wire member (Fetched s) = []
+
+-- and the bytes that an act of anybody gives on it
+abbrev pub gives : ℕ → Deed → List ℕ
+gives wire Idle = []
+gives wire (Wrote s at len bytes) = []
+gives wire (Synced s) = []
+gives wire (Said p text whole) = []
+gives wire (Passed given w m bytes) = if given && w == wire then bytes else []
+gives wire (Fetched s) = []
+
+-- an act is a read of a slot
+abbrev pub is_read : ℕ → Deed → Bool
+is_read slot Idle = false
+is_read slot (Wrote s at len bytes) = false
+is_read slot (Synced s) = false
+is_read slot (Said p text whole) = false
+is_read slot (Passed given w m bytes) = false
+is_read slot (Fetched s) = s == slot
 
 -- a moment passes, in which nothing is done. It is recorded where there is room
 abbrev pub idled : ℕ → List Deed → List Deed

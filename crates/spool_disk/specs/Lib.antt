@@ -9,9 +9,14 @@ pub mod Kept
 pub mod Added
 pub mod DeedLaws
 pub mod Places
+pub mod Fuses
+pub mod FuseView
+pub mod Waiting
 pub mod State
 pub mod Courses
 pub mod MemView
+pub mod Took
+pub mod CameIn
 pub mod MemLaws
 pub mod Failing
 pub mod Crash

@@ -3,9 +3,9 @@ use Rattle.std.specs.Prelude.{◌≡◌, ◌⊎◌, ℕ, ◌==◌, if◌then◌e
 use Rattle.spool_disk.specs.declared.choice.Choice.{Choice}
 use Rattle.spool_disk.specs.declared.choice.Choice.TheVariants.{Old, New, Ones}
 use Rattle.spool_disk.specs.declared.entry.Entry.{Entry}
-use Rattle.spool_disk.specs.declared.entry.Entry.TheVariants.{Idle as EntryIdle, Wrote as EntryWrote, Synced as EntrySynced, Said as EntrySaid}
+use Rattle.spool_disk.specs.declared.entry.Entry.TheVariants.{Idle as EntryIdle, Wrote as EntryWrote, Synced as EntrySynced, Said as EntrySaid, Passed as EntryPassed, Fetched as EntryFetched}
 use Rattle.spool_disk.specs.View.{Disk}
-use Rattle.spool_disk.specs.Deeds.{Deed, Idle, Wrote, Synced, Said, effect}
+use Rattle.spool_disk.specs.Deeds.{Deed, Idle, Wrote, Synced, Said, Passed, Fetched, effect}
 use Rattle.spool_disk.specs.Crash.{IsOnes}
 
 -- the bytes of the last sync, after an act
@@ -13,7 +13,9 @@ abbrev pub synced_by : ℕ → List ℕ → Disk → Deed → List ℕ
 synced_by slot bytes d Idle = bytes
 synced_by slot bytes d (Wrote s at len some) = bytes
 synced_by slot bytes d (Synced s) = if s == slot then d.bytes else bytes
-synced_by slot bytes d (Said text whole) = bytes
+synced_by slot bytes d (Said place text whole) = bytes
+synced_by slot bytes d (Passed given wire member some) = bytes
+synced_by slot bytes d (Fetched s) = bytes
 
 -- and after all of them
 abbrev pub last_synced : ℕ → List ℕ → Disk → List Deed → List ℕ
@@ -30,7 +32,9 @@ abbrev pub is_sync : ℕ → Entry → Bool
 is_sync slot EntryIdle = false
 is_sync slot (EntryWrote s at len kept) = false
 is_sync slot (EntrySynced s) = s == slot
-is_sync slot (EntrySaid kept whole) = false
+is_sync slot (EntrySaid place kept whole) = false
+is_sync slot (EntryPassed given wire member kept) = false
+is_sync slot (EntryFetched s) = false
 
 -- no entry is a sync of a slot
 abbrev pub IsQuiet : ℕ → List Entry → Type 0

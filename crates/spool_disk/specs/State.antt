@@ -1,12 +1,12 @@
 -- What stands behind a plant in memory, and what it shows.
-use Rattle.std.specs.Prelude.{ℕ, ◌+◌, ◌*◌, Bool, List, [], ◌∷◌, ◌++◌, take, slice_index, slice_set}
+use Rattle.std.specs.Prelude.{ℕ, ◌+◌, ◌*◌, Bool, List, [], ◌∷◌, ◌++◌, take, true, false, slice_index, slice_set}
 use Rattle.mas_types.specs.declared.ids.Dev.{Dev}
 use Rattle.spool_disk.specs.declared.base.Base.{Base}
 use Rattle.spool_disk.specs.declared.health.Health.{Health}
 use Rattle.spool_disk.specs.declared.plant.Part.{Part}
 use Rattle.spool_disk.specs.declared.plant.Part.TheVariants.{Disk as DiskPart}
 use Rattle.spool_disk.specs.Acts.{next}
-use Rattle.spool_disk.specs.Deeds.{Deed, after, lines_of, idled}
+use Rattle.spool_disk.specs.Deeds.{Deed, after, gather, lines_of, moved, idled}
 use Rattle.spool_disk.specs.Entries.{deeds_of}
 use Rattle.spool_disk.specs.Health.{was_lost, health_at, lost_after, failed_after}
 use Rattle.spool_disk.specs.Kept.{fresh, size_at}
@@ -20,6 +20,8 @@ pub record State : Type 0 where
   pub parts : List Health
   pub stops : List ℕ
   pub loses : List ℕ
+  pub arms : List ℕ
+  pub waiting : ℕ → List ℕ
 
 -- a device, lost or not
 abbrev pub shown : Disk → Bool → Disk
@@ -28,12 +30,24 @@ shown d lost = record { bytes = d.bytes; unsynced = d.unsynced; lost = lost }
 abbrev pub disk_in : State → ℕ → ℕ → Disk
 disk_in s t slot = shown (after slot (fresh s.base slot) (take t s.deeds)) (was_lost (health_at s.parts (4 * slot)).since t)
 
--- the lines that the console held at first
-abbrev pub first_lines : Base → List Line
-first_lines base = lines_of (deeds_of base.said.items base.text.items)
+-- the lines that a place held at first
+abbrev pub first_lines : Base → ℕ → List Line
+first_lines base place = lines_of place (deeds_of base.said.items base.text.items)
+
+abbrev pub lines_in : State → ℕ → ℕ → List Line
+lines_in s t place = first_lines s.base place ++ lines_of place (take t s.deeds)
+
+abbrev pub moved_in : State → ℕ → Bool → ℕ → ℕ → List ℕ
+moved_in s t given wire member = gather (moved given wire member) (take t s.deeds)
 
 abbrev pub world_in : State → ℕ → World
-world_in s t = record { disk = λ d. disk_in s t (slot_of d); console = first_lines s.base ++ lines_of (take t s.deeds) }
+world_in s t = record {
+  disk = λ d. disk_in s t (slot_of d);
+  console = lines_in s t 1;
+  paper = λ m. lines_in s t (4 * m + 2);
+  taken = λ w m. moved_in s t false w m;
+  given = λ w m. moved_in s t true w m;
+}
 
 abbrev pub view_of : State → View
 view_of s = record {
@@ -44,6 +58,8 @@ view_of s = record {
   faults = λ p. (health_at s.parts (place_of p)).faults;
   stops = λ n. slice_index s.stops n;
   loses = λ d. slice_index s.loses (slot_of d);
+  waiting = s.waiting;
+  arms = λ n. slice_index s.arms n;
 }
 
 -- a count one higher
@@ -52,7 +68,7 @@ counted counts at = slice_set counts at (next (slice_index counts at))
 
 -- an act that was recorded, with these stops after it
 abbrev pub recorded : State → Deed → List ℕ → State
-recorded s e stops = record { now = s.now + 1; base = s.base; deeds = s.deeds ++ e ∷ []; parts = s.parts; stops = stops; loses = s.loses }
+recorded s e stops = record { now = s.now + 1; base = s.base; deeds = s.deeds ++ e ∷ []; parts = s.parts; stops = stops; loses = s.loses; arms = s.arms; waiting = s.waiting }
 
 abbrev pub failed : ℕ → State → Part → State
 failed acts s part = record {
@@ -62,6 +78,8 @@ failed acts s part = record {
   parts = slice_set s.parts (place_of part) (failed_after (health_at s.parts (place_of part)) s.now);
   stops = s.stops;
   loses = s.loses;
+  arms = s.arms;
+  waiting = s.waiting;
 }
 
 abbrev pub lost : ℕ → State → Dev → State
@@ -72,4 +90,6 @@ lost acts s dev = record {
   parts = slice_set s.parts (place_of (DiskPart dev)) (lost_after (health_at s.parts (place_of (DiskPart dev))) s.now);
   stops = s.stops;
   loses = counted s.loses (slot_of dev);
+  arms = s.arms;
+  waiting = s.waiting;
 }

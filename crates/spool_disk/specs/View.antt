@@ -14,18 +14,23 @@ pub record Disk : Type 0 where
   pub unsynced : List Stretch
   pub lost : Bool
 
--- a line of the console, whole or torn
+-- a line of the console or of a printer, whole or torn
 pub record Line : Type 0 where
   pub text : List ℕ
   pub whole : Bool
 
--- the outside at a moment
+-- The outside at a moment: the devices, the lines of the console and of each member's printer, and for each wire and
+-- each member the bytes that it took from the wire and gave on it.
 pub record World : Type 0 where
   pub disk : Dev → Disk
   pub console : List Line
+  pub paper : ℕ → List Line
+  pub taken : ℕ → ℕ → List ℕ
+  pub given : ℕ → ℕ → List ℕ
 
 -- What a plant shows: the number of acts made, the world at each moment up to now, the bytes of each device, the parts
--- lost now, and for each part its faults, for each member its stops, for each device the calls that lost it.
+-- lost now, and for each part its faults, for each member its stops, for each device the calls that lost it, for each
+-- wire the bytes that wait on it now, and for each member the calls that armed a stop of it.
 pub record View : Type 0 where
   pub now : ℕ
   pub world : ℕ → World
@@ -34,6 +39,8 @@ pub record View : Type 0 where
   pub faults : Part → ℕ
   pub stops : ℕ → ℕ
   pub loses : Dev → ℕ
+  pub waiting : ℕ → List ℕ
+  pub arms : ℕ → ℕ
 
 -- the device at a moment, and now
 abbrev pub disk_at : View → ℕ → Dev → Disk
@@ -41,6 +48,17 @@ disk_at v t dev = (v.world t).disk dev
 
 abbrev pub disk_now : View → Dev → Disk
 disk_now v dev = (v.world v.now).disk dev
+
+-- the lines that a member's printer has now
+abbrev pub paper_now : View → ℕ → List Line
+paper_now v member = (v.world v.now).paper member
+
+-- the bytes that a member has taken from a wire, and given on it
+abbrev pub taken_now : View → ℕ → ℕ → List ℕ
+taken_now v wire member = (v.world v.now).taken wire member
+
+abbrev pub given_now : View → ℕ → ℕ → List ℕ
+given_now v wire member = (v.world v.now).given wire member
 
 abbrev pub slice : ℕ → ℕ → List ℕ → List ℕ
 slice from len bytes = take len (drop from bytes)

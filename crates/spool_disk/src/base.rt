@@ -8,7 +8,7 @@ use crate::entry::Entry;
 use crate::sizes::{SLOTS, Sizes, size_number};
 use std::alloc::{AllocError, Global};
 
-// The sizes, the bytes of each device, and the lines that the console holds already.
+// The sizes, the bytes of each device, and the lines that stand on the console and the printers already.
 #[derive(Drop)]
 pub(crate) struct Base {
     pub(crate) sizes: Sizes,

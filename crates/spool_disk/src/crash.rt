@@ -1,4 +1,4 @@
-// What a crash leaves of the devices and of the console.
+// What a crash leaves of the devices, of the console and of the printers.
 ghost use Rattle.std.specs.Prelude.{◌≡◌, ◌+◌, ◌≤◌, ◌<◌, ◌++◌, ◌∷◌, [], ℕ, List, length, take, drop, IfOk, OnOk, if◌then◌else◌, slice_index, false};
 ghost use Rattle.spool_disk.specs.View.{Disk};
 ghost use Rattle.spool_disk.specs.Deeds.{overwrite, effect, after, lines_of};
@@ -39,8 +39,9 @@ pub(crate) fn bytes_of(entry: &Entry) -> usize
     ensures { result ≡ kept_by entry.now }
 {
     match *entry {
-        Entry::Wrote(_, _, _, kept) | Entry::Said(kept, _) => kept,
-        Entry::Idle | Entry::Synced(_) => 0,
+        Entry::Wrote(_, _, _, kept) | Entry::Said(_, kept, _) | Entry::Passed(_, _, _, kept) =>
+            kept,
+        Entry::Idle | Entry::Synced(_) | Entry::Fetched(_) => 0,
     }
 }
 
@@ -181,10 +182,10 @@ fn add_line(
 ) -> Result<(), AllocError>
     requires fits { kept_in said.old.items ≡ length text.old.items }
     requires kept { kept_by entry.now ≡ length bytes.now }
-    ensures lines { OnOk result (lines_of (deeds_of said.new.items text.new.items) ≡ lines_of (deeds_of said.old.items text.old.items) ++ lines_of (deed_of entry.now bytes.now ∷ [])) }
+    ensures lines { OnOk result ((place : ℕ) → lines_of place (deeds_of said.new.items text.new.items) ≡ lines_of place (deeds_of said.old.items text.old.items) ++ lines_of place (deed_of entry.now bytes.now ∷ [])) }
     ensures fits { OnOk result (kept_in said.new.items ≡ length text.new.items) }
 {
-    if let Entry::Said(_, _) = *entry {
+    if let Entry::Said(_, _, _) = *entry {
         text.extend_from_slice(bytes)?;
         said.push(*entry)?;
     }
@@ -200,7 +201,7 @@ fn add_lines(
 ) -> Result<(), AllocError>
     requires arena { kept_in log.now ≤ length arena.now }
     requires fits { kept_in said.old.items ≡ length text.old.items }
-    ensures lines { OnOk result (lines_of (deeds_of said.new.items text.new.items) ≡ lines_of (deeds_of said.old.items text.old.items) ++ lines_of (deeds_of log.now arena.now)) }
+    ensures lines { OnOk result ((place : ℕ) → lines_of place (deeds_of said.new.items text.new.items) ≡ lines_of place (deeds_of said.old.items text.old.items) ++ lines_of place (deeds_of log.now arena.now)) }
     ensures fits { OnOk result (kept_in said.new.items ≡ length text.new.items) }
 {
     let mut from = 0;
@@ -223,7 +224,7 @@ pub(crate) fn crashed_base(
     requires { kept_in log.now ≤ length arena.now }
     ensures sizes { IfOk result (λ b. b.sizes ≡ base.now.sizes) }
     ensures each { IfOk result (λ b. (slot : ℕ) → slot < 258 → LeavesAt choice base.now slot (deeds_of log.now arena.now) (bytes_at b.start.items slot)) }
-    ensures lines { IfOk result (λ b. first_lines b ≡ first_lines base.now ++ lines_of (deeds_of log.now arena.now)) }
+    ensures lines { IfOk result (λ b. (place : ℕ) → first_lines b place ≡ first_lines base.now place ++ lines_of place (deeds_of log.now arena.now)) }
 {
     let start = images(alloc, base, log, arena, choice)?;
     let mut said = Vec::new(alloc);

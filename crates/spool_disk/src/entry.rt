@@ -8,6 +8,10 @@ pub(crate) enum Entry {
     Wrote(usize, usize, usize, usize),
     // A sync of a slot.
     Synced(usize),
-    // A line with so many bytes, whole or torn.
-    Said(usize, bool),
+    // A line on a place with so many bytes, whole or torn.
+    Said(usize, usize, bool),
+    // So many bytes, given on a wire or else taken from it, by a member.
+    Passed(bool, u8, u8, usize),
+    // A read of a slot.
+    Fetched(usize),
 }

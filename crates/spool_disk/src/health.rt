@@ -4,18 +4,16 @@ ghost use Rattle.spool_disk.specs.Acts.{next, top};
 ghost use Rattle.spool_disk.specs.Begins.{restarted};
 ghost use Rattle.spool_disk.specs.Health.{sound, health_at, lost_from, lost_after, failed_after};
 
+use crate::places::PLACES;
 use std::alloc::{AllocError, Global};
 
-/// The places of all parts: devices, the console, and a printer and a wire for each byte.
-pub(crate) const PLACES: usize = 1032;
-
-// A part: its faults, the moment from which it is lost, and that it is lost now. At the greatest moment it may be
-// lost now and yet at no moment.
+/// A part: its faults, the moment from which it is lost, and that it is lost now. At the greatest moment it may be
+/// lost now and yet at no moment.
 #[derive(Clone, Copy)]
-pub(crate) struct Health {
-    pub(crate) faults: u64,
-    pub(crate) since: Option<u64>,
-    pub(crate) lost: bool,
+pub struct Health {
+    pub faults: u64,
+    pub since: Option<u64>,
+    pub lost: bool,
 }
 
 fn lost_since(since: Option<u64>, now: u64) -> Option<u64>
@@ -53,35 +51,44 @@ impl Health {
     }
 }
 
+/// What is counted of parts by their places, of members by their numbers, and of devices by their slots.
 #[derive(Drop)]
-pub(crate) struct Counts {
-    pub(crate) parts: Vec<Health>,
-    pub(crate) stops: Vec<u64>,
-    pub(crate) loses: Vec<u64>,
+pub struct Counts {
+    /// How each part is.
+    pub parts: Vec<Health>,
+    /// The stops of each member.
+    pub stops: Vec<u64>,
+    /// The calls that lost each device.
+    pub loses: Vec<u64>,
+    /// The calls that armed a stop of each member.
+    pub arms: Vec<u64>,
     ghost parts_len: { length parts.items ≡ 1032 },
     ghost stops_len: { length stops.items ≡ 256 },
     ghost loses_len: { length loses.items ≡ 258 },
+    ghost arms_len: { length arms.items ≡ 256 },
 }
 
 impl Counts {
-    // A fault of a part at a moment.
-    pub(crate) fn fail(&mut self, place: usize, now: u64)
+    /// A fault of a part at a moment.
+    pub fn fail(&mut self, place: usize, now: u64)
         requires { place < 1032 }
         ensures parts { self.new.parts.items ≡ slice_set self.old.parts.items place (failed_after (health_at self.old.parts.items place) now) }
         ensures stops { self.new.stops.items ≡ self.old.stops.items }
         ensures loses { self.new.loses.items ≡ self.old.loses.items }
+        ensures arms { self.new.arms.items ≡ self.old.arms.items }
         ensures fits { (health_at self.old.parts.items place).faults ≤ top }
     {
         let health = self.parts[place];
         self.parts[place] = health.failing(now);
     }
 
-    // A call at a moment that loses a device.
-    pub(crate) fn lose(&mut self, slot: usize, now: u64)
+    /// A call at a moment that loses a device.
+    pub fn lose(&mut self, slot: usize, now: u64)
         requires { slot < 258 }
         ensures parts { self.new.parts.items ≡ slice_set self.old.parts.items (4 * slot) (lost_after (health_at self.old.parts.items (4 * slot)) now) }
         ensures stops { self.new.stops.items ≡ self.old.stops.items }
         ensures loses { self.new.loses.items ≡ slice_set self.old.loses.items slot (next (slice_index self.old.loses.items slot)) }
+        ensures arms { self.new.arms.items ≡ self.old.arms.items }
         ensures fits { slice_index self.old.loses.items slot ≤ top }
     {
         let health = self.parts[4 * slot];
@@ -89,32 +96,47 @@ impl Counts {
         self.loses[slot] = self.loses[slot].saturating_add(1);
     }
 
-    // A stop of a member.
-    pub(crate) fn stop(&mut self, by: usize)
+    /// A stop of a member.
+    pub fn stop(&mut self, by: usize)
         requires { by < 256 }
         ensures parts { self.new.parts.items ≡ self.old.parts.items }
         ensures loses { self.new.loses.items ≡ self.old.loses.items }
+        ensures arms { self.new.arms.items ≡ self.old.arms.items }
         ensures stops { self.new.stops.items ≡ slice_set self.old.stops.items by (next (slice_index self.old.stops.items by)) }
         ensures fits { slice_index self.old.stops.items by ≤ top }
     {
         self.stops[by] = self.stops[by].saturating_add(1);
     }
+
+    /// A call that arms a stop of a member.
+    pub fn arm(&mut self, member: usize)
+        requires { member < 256 }
+        ensures parts { self.new.parts.items ≡ self.old.parts.items }
+        ensures stops { self.new.stops.items ≡ self.old.stops.items }
+        ensures loses { self.new.loses.items ≡ self.old.loses.items }
+        ensures arms { self.new.arms.items ≡ slice_set self.old.arms.items member (next (slice_index self.old.arms.items member)) }
+    {
+        self.arms[member] = self.arms[member].saturating_add(1);
+    }
 }
 
 impl Counts {
-    // Counts that stand at 0, and these parts.
-    pub(crate) fn new(alloc: Global, parts: Vec<Health>) -> Result<Counts, AllocError>
+    /// Counts that stand at 0, and these parts.
+    pub fn new(alloc: Global, parts: Vec<Health>) -> Result<Counts, AllocError>
         requires { length parts.items ≡ 1032 }
         ensures parts { IfOk result (λ c. c.parts.items ≡ parts.items) }
         ensures stops { IfOk result (λ c. c.stops.items ≡ replicate 256 0) }
         ensures loses { IfOk result (λ c. c.loses.items ≡ replicate 258 0) }
+        ensures arms { IfOk result (λ c. c.arms.items ≡ replicate 256 0) }
     {
         let stops = vec![in alloc; 0; 256]?;
         let loses = vec![in alloc; 0; 258]?;
+        let arms = vec![in alloc; 0; 256]?;
         Ok(Counts {
             parts,
             stops,
             loses,
+            arms,
         })
     }
 }

@@ -1,45 +1,25 @@
 // A plant in memory, which keeps a record of all acts.
-ghost use Rattle.std.specs.Prelude.{◌≡◌, ◌+◌, ◌-◌, ◌≤◌, ◌<◌, ◌∷◌, ◌++◌, ℕ, length, min, slice_index, false, true, is_some, take, vec_capacity, IfOk};
+ghost use Rattle.std.specs.Prelude.{◌≡◌, ◌+◌, ◌-◌, ◌≤◌, ◌<◌, ◌∷◌, ◌++◌, ℕ, length, min, slice_index, false, true, is_some, take, vec_capacity, IfOk, IfErr};
 ghost use Rattle.spool_disk.specs.Places.{slot_of, place_of};
 ghost use Rattle.spool_disk.specs.Acts.{next, top};
 ghost use Rattle.spool_disk.specs.Health.{health_at, since_of};
-ghost use Rattle.spool_disk.specs.Courses.{plan_at, as_planned as planned_course};
+ghost use Rattle.spool_disk.specs.Courses.{plan_at, is_print, as_planned as planned_course};
 ghost use Rattle.spool_disk.specs.Kept.{size_at};
 
 use crate::base::{Base, blank_base};
 use crate::choice::Choice;
 use crate::crash::crashed_base;
+use crate::fuses::Fuses;
 use crate::health::{Counts, Health, crashed_parts, sound_parts};
-use crate::lines::add_wholes;
+use crate::incoming::Incoming;
+use crate::lines::{add_wholes, all_given, count_reads};
+use crate::places::{place_number, slot_number};
 use crate::plan::{Course, Plan, Planned};
 use crate::record::Record;
 use crate::sizes::Sizes;
-use crate::{Act, Part, Plant};
-use mas_types::{Dev, Lines, MemberId, NoMemory};
+use crate::{Act, Fuse, Part, Plant, Took};
+use mas_types::{Dev, Lines, List, MemberId, NoMemory};
 use std::alloc::{AllocError, Global};
-
-fn slot_number(dev: Dev) -> usize
-    ensures slot { result ≡ slot_of dev }
-    ensures few { result < 258 }
-{
-    match dev {
-        Dev::Ckpt1 => 0,
-        Dev::Ckpt2 => 1,
-        Dev::Spool(volume) => 2 + volume as usize,
-    }
-}
-
-fn place_number(part: Part) -> usize
-    ensures place { result ≡ place_of part }
-    ensures few { result < 1032 }
-{
-    match part {
-        Part::Disk(dev) => 4 * slot_number(dev),
-        Part::Console => 1,
-        Part::Printer(member) => 4 * member.0 as usize + 2,
-        Part::Wire(wire) => 4 * wire as usize + 3,
-    }
-}
 
 /// How many acts may be planned.
 pub const PLANS_MOST: usize = 64;
@@ -52,6 +32,8 @@ pub struct MemPlant {
     kept: Record,
     counts: Counts,
     plans: Vec<Plan>,
+    fuses: Fuses,
+    incoming: Incoming,
     ghost in_step: { (length kept.log.items ≤ moment) × (length kept.log.items < kept.acts → length kept.log.items ≡ moment) },
     ghost planned: { (length plans.items ≤ 64) × (64 ≤ vec_capacity plans) },
     ghost lost_by_now: { (place : ℕ) → since_of (health_at counts.parts.items place).since ≤ moment },
@@ -68,23 +50,30 @@ fn planned_at(plans: &[Plan], moment: u64) -> Option<Planned>
         .map(|plan| plan.planned)
 }
 
-// What becomes of an act that fits.
-fn as_planned(planned: Option<Planned>, by: MemberId, lost: bool) -> Course
-    ensures { result ≡ planned_course planned by.0 lost }
+// What becomes of an act with so many bytes that fits, of which it is known whether it halts by an armed stop.
+fn as_planned(planned: Option<Planned>, halts: bool, len: usize, by: MemberId, lost: bool) -> Course
+    ensures { result ≡ planned_course planned halts len by.0 lost }
 {
     match planned {
         Some(Planned::Fails) => Course::Fail,
         Some(Planned::Halts(keep)) if by.0 > 0 => Course::Halt(keep as usize),
+        None if halts && by.0 > 0 => Course::Halt(len / 2),
         _ if lost => Course::Fail,
         _ => Course::Go,
     }
+}
+
+fn prints(part: Part) -> bool
+    ensures { result ≡ is_print part }
+{
+    matches!(part, Part::Printer(_))
 }
 
 impl MemPlant {
     ghost use Rattle.spool_disk.specs.Courses.{course_of};
     ghost use Rattle.spool_disk.specs.declared.plan.Course.TheVariants.{Go, Halt};
     ghost use Rattle.spool_disk.specs.MemView.{mem_view, mem_book, state_of};
-    ghost use Rattle.spool_disk.specs.Deeds.{Idle, Wrote, Synced, Said, idled};
+    ghost use Rattle.spool_disk.specs.Deeds.{Idle, Wrote, Synced, Said, Passed, Fetched, idled};
     ghost use Rattle.spool_disk.specs.State.{recorded, counted, failed, lost};
     ghost use Rattle.spool_disk.specs.Acts.{Acts};
     ghost use Rattle.spool_disk.specs.Failing.{FailsAlone};
@@ -100,7 +89,8 @@ impl MemPlant {
         let room = self.kept.room - self.kept.arena.len();
         if self.moment < self.kept.acts as u64 && len <= room {
             let lost = self.counts.parts[place_number(part)].lost;
-            as_planned(planned_at(&self.plans, self.moment), by, lost)
+            let halts = self.fuses.halts(by, prints(part));
+            as_planned(planned_at(&self.plans, self.moment), halts, len, by, lost)
         } else {
             Course::Fail
         }
@@ -125,13 +115,22 @@ impl MemPlant {
         self.moment += 1;
     }
 
-    fn note_line(&mut self, text: &[u8], whole: bool)
+    fn note_read(&mut self, slot: usize)
+        requires { self.old.moment < self.old.kept.acts }
+        ensures state { state_of self.new ≡ recorded (state_of self.old) (Fetched slot) (state_of self.old).stops }
+        ensures book { mem_book self.new ≡ mem_book self.old }
+    {
+        self.kept.add_read(slot);
+        self.moment += 1;
+    }
+
+    fn note_line(&mut self, place: usize, text: &[u8], whole: bool)
         requires acts { self.old.moment < self.old.kept.acts }
         requires room { length self.old.kept.arena.items + length text.now ≤ self.old.kept.room }
-        ensures state { state_of self.new ≡ recorded (state_of self.old) (Said text.now whole) (state_of self.old).stops }
+        ensures state { state_of self.new ≡ recorded (state_of self.old) (Said place text.now whole) (state_of self.old).stops }
         ensures book { mem_book self.new ≡ spent (length text.now) (mem_book self.old) }
     {
-        self.kept.add_line(text, whole);
+        self.kept.add_line(place, text, whole);
         self.moment += 1;
     }
 
@@ -146,6 +145,17 @@ impl MemPlant {
         ensures book { mem_book self.new ≡ spent (length bytes.now) (mem_book self.old) }
     {
         self.kept.add_write(slot, at, len, bytes);
+        self.moment += 1;
+    }
+
+    // Bytes given on a wire, or else taken from it.
+    fn note_passed(&mut self, given: bool, wire: u8, by: MemberId, bytes: &[u8])
+        requires acts { self.old.moment < self.old.kept.acts }
+        requires room { length self.old.kept.arena.items + length bytes.now ≤ self.old.kept.room }
+        ensures state { state_of self.new ≡ recorded (state_of self.old) (Passed given wire by.0 bytes.now) (state_of self.old).stops }
+        ensures book { mem_book self.new ≡ spent (length bytes.now) (mem_book self.old) }
+    {
+        self.kept.add_passed(given, wire, by.0, bytes);
         self.moment += 1;
     }
 
@@ -166,6 +176,7 @@ impl MemPlant {
         ensures base { self.new.kept.base ≡ self.old.kept.base }
         ensures deeds { (state_of self.new).deeds ≡ idled self.old.kept.acts (state_of self.old).deeds }
         ensures counts { self.new.counts ≡ self.old.counts }
+        ensures incoming { self.new.incoming ≡ self.old.incoming }
         ensures book { mem_book self.new ≡ mem_book self.old }
     {
         self.kept.add_pass();
@@ -222,25 +233,28 @@ impl MemPlant {
     ghost use Rattle.spool_disk.specs.State.{recorded};
     ghost use Rattle.spool_disk.specs.Courses.{spent, deed_left};
 
-    // What a halted line leaves.
-    fn note_part(&mut self, line: &[u8], keep: usize)
+    // What a halted line leaves on its place.
+    fn note_part(&mut self, place: usize, line: &[u8], keep: usize)
         requires acts { self.old.moment < self.old.kept.acts }
         requires room { length self.old.kept.arena.items + length line.now ≤ self.old.kept.room }
-        ensures state { state_of self.new ≡ recorded (state_of self.old) (deed_left keep line.now) (state_of self.old).stops }
+        ensures state { state_of self.new ≡ recorded (state_of self.old) (deed_left place keep line.now) (state_of self.old).stops }
         ensures book { mem_book self.new ≡ spent (min keep (length line.now)) (mem_book self.old) }
     {
         if line.len() <= keep {
-            self.note_line(line, true);
+            self.note_line(place, line, true);
         } else if keep == 0 {
             self.note_idle();
         } else {
-            self.note_line(first(line, keep), false);
+            self.note_line(place, first(line, keep), false);
         }
     }
 }
 
 impl MemPlant {
-    ghost use Rattle.spool_disk.specs.MemView.{mem_view, mem_book, mem_lost};
+    ghost use Rattle.spool_disk.specs.MemView.{mem_view, mem_book, mem_lost, mem_reads, mem_given, state_of};
+    ghost use Rattle.spool_disk.specs.View.{paper_now};
+    ghost use Rattle.spool_disk.specs.State.{lines_in};
+    ghost use Rattle.spool_disk.specs.CameIn.{CameIn};
     ghost use Rattle.spool_disk.specs.Begins.{BeginsWith, IsCrashed, IsBlank};
     ghost use Rattle.spool_disk.specs.Whole.{whole_lines};
     ghost use Rattle.spool_disk.specs.Courses.{empty_book, with_plan};
@@ -265,16 +279,19 @@ impl MemPlant {
         let kept = Record::new(alloc, base, acts, bytes)?;
         let counts = Counts::new(alloc, parts)?;
         let plans = Vec::with_capacity(alloc, PLANS_MOST)?;
+        let incoming = Incoming::new(alloc)?;
         Ok(MemPlant {
             moment: 0,
             kept,
             counts,
             plans,
+            fuses: Fuses::new(),
+            incoming,
         })
     }
 
-    /// A plant of zeroed devices. Its record has room for so many acts, and for so many bytes that they write and say.
-    /// NoMemory comes where the devices or the record find no memory.
+    /// A plant of zeroed devices. Its record has room for so many acts, and for so many bytes that they write, say,
+    /// print, give and take. NoMemory comes where the devices or the record find no memory.
     pub fn new(alloc: Global, sizes: Sizes, acts: usize, bytes: usize) -> Result<MemPlant, NoMemory>
         ensures view { IfOk result (λ p. IsBlank sizes (mem_view p)) }
         ensures book { IfOk result (λ p. mem_book p ≡ empty_book acts bytes) }
@@ -298,7 +315,7 @@ impl MemPlant {
     }
 
     /// Plans the act that is made while `now` is that number: it halts, and leaves its first `keep` bytes, or all
-    /// where it has fewer. Of a line that has bytes, of which none is left, nothing stands on the console. The operator
+    /// where it has fewer. Of a line that has bytes, of which none is left, nothing stands on its place. The operator
     /// never halts: a plan for it is passed over, as by `lose`. Otherwise as `fail_at`.
     pub fn halt_at(&mut self, act: u64, keep: u32)
         requires { length (mem_book self.old).plans < PLANS_MOST }
@@ -312,8 +329,8 @@ impl MemPlant {
     }
 
     /// What a crash at a moment up to now leaves, with unsynced bytes by the choice. What was lost at that moment is
-    /// lost, and the console holds what it held. Nothing is planned, no act was made, and the record is empty and has
-    /// the same room. NoMemory comes where the new plant finds none.
+    /// lost, and the console and the printers hold what they held, a torn line too. Nothing waits on a wire, nothing is
+    /// planned or armed, no act was made, and the record is empty and has the same room. NoMemory comes where the new plant finds none.
     pub fn crash_at(&self, alloc: Global, t: u64, choice: Choice) -> Result<MemPlant, NoMemory>
         requires { t ≤ (mem_view self.now).now }
         ensures view { IfOk result (λ p. IsCrashed choice t (mem_view self.now) (mem_view p)) }
@@ -327,26 +344,72 @@ impl MemPlant {
         Ok(MemPlant::begin(alloc, base, parts, self.kept.acts, self.kept.room)?)
     }
 
+    // The lines that stand whole on a place now.
+    fn lines_at(&self, alloc: Global, place: usize) -> Result<Lines, NoMemory>
+        ensures { IfOk result (λ lines. lines ≡ whole_lines (lines_in (state_of self.now) self.now.moment place)) }
+    {
+        let mut lines = Lines::new(alloc);
+        add_wholes(
+            &self.kept.base.said,
+            &self.kept.base.text,
+            place,
+            &mut lines,
+        )?;
+        add_wholes(&self.kept.log, &self.kept.arena, place, &mut lines)?;
+        Ok(lines)
+    }
+
     /// The lines that stand whole on the console now. NoMemory comes where they find none.
     pub fn console_lines(&self, alloc: Global) -> Result<Lines, NoMemory>
         ensures { IfOk result (λ lines. lines ≡ whole_lines ((mem_view self.now).world (mem_view self.now).now).console) }
     {
-        let mut lines = Lines::new(alloc);
-        add_wholes(&self.kept.base.said, &self.kept.base.text, &mut lines)?;
-        add_wholes(&self.kept.log, &self.kept.arena, &mut lines)?;
-        Ok(lines)
+        self.lines_at(alloc, place_number(Part::Console))
+    }
+
+    /// The lines that stand whole on a member's printer now. NoMemory comes where they find none.
+    pub fn printer_lines(&self, alloc: Global, by: MemberId) -> Result<Lines, NoMemory>
+        ensures { IfOk result (λ lines. lines ≡ whole_lines (paper_now (mem_view self.now) by.0)) }
+    {
+        self.lines_at(alloc, place_number(Part::Printer(by)))
+    }
+
+    /// How many reads of a device were done since a moment.
+    pub fn reads_from(&self, dev: Dev, t: u64) -> u64
+        ensures { result ≡ mem_reads self.now dev t }
+    {
+        let start = (t as usize).min(self.kept.log.len());
+        let (_, log) = self.kept.log.split_at(start);
+        count_reads(log, slot_number(dev)) as u64
+    }
+
+    /// More bytes wait on a wire. After NoMemory nothing has changed.
+    pub fn wire_in(&mut self, _alloc: Global, wire: u8, bytes: &[u8]) -> Result<(), NoMemory>
+        ensures added { IfOk result (λ u. CameIn wire bytes.now (mem_view self.old) (mem_view self.new)) }
+        ensures none { IfErr result (λ e. mem_view self.new ≡ mem_view self.old) }
+        ensures book { mem_book self.new ≡ mem_book self.old }
+    {
+        self.incoming.add(wire, bytes)?;
+        Ok(())
+    }
+
+    /// The bytes that were given on a wire, by whatever member. NoMemory comes where they find none.
+    pub fn wire_out(&self, alloc: Global, wire: u8) -> Result<List<u8>, NoMemory>
+        ensures { IfOk result (λ bytes. bytes ≡ mem_given self.now wire) }
+    {
+        all_given(alloc, &self.kept.log, &self.kept.arena, wire)
     }
 }
 
 impl Plant for MemPlant {
-    ghost use Rattle.spool_disk.specs.MemView.{mem_view, mem_book};
+    ghost use Rattle.spool_disk.specs.MemView.{mem_view, mem_book, mem_reads};
+    ghost use Rattle.spool_disk.specs.Took.{IsRead, IfTook};
     ghost use Rattle.spool_disk.specs.MemLaws.{mem_sized, mem_there};
-    ghost use Rattle.spool_disk.specs.Courses.{course_of, answer, spent_by, left_of};
-    ghost use Rattle.spool_disk.specs.Acts.{Acts, Reads, Writes, Syncs, Says, Loses, LosesThere};
-    ghost use Rattle.spool_disk.specs.View.{View, disk_now};
+    ghost use Rattle.spool_disk.specs.Courses.{course_of, answer, spent_by, acted, left_of, with_stop};
+    ghost use Rattle.spool_disk.specs.Acts.{Acts, Reads, Writes, Syncs, Says, Prints, GivesOn, Takes, FitsInto, act_of, Arms, Loses, LosesThere};
+    ghost use Rattle.spool_disk.specs.View.{View, disk_now, paper_now, given_now};
     ghost use Rattle.spool_disk.specs.Deeds.{overwrite};
     ghost use Rattle.spool_disk.specs.declared.plan.Course.TheVariants.{Go, Fail, Halt};
-    ghost use Rattle.spool_disk.specs.declared.plant.Part.TheVariants.{Disk, Console};
+    ghost use Rattle.spool_disk.specs.declared.plant.Part.TheVariants.{Disk, Console, Printer, Wire};
 
     ghost tells = { Unit {0} };
 
@@ -373,12 +436,16 @@ impl Plant for MemPlant {
         ensures acts { Acts by.0 (Disk dev) (mem_view self.old) (mem_view self.new) result }
         ensures content { Reads dev at (mem_view self.old) (mem_view self.new) into.new result }
         ensures course { result ≡ answer (course_of (mem_book self.old) (mem_view self.old) by.0 (Disk dev) 0) }
-        ensures book { mem_book self.new ≡ mem_book self.old }
+        ensures book { mem_book self.new ≡ acted by.0 (Disk dev) (mem_book self.old) }
+        ensures reads { IsRead result → (t : ℕ) → t ≤ (mem_view self.old).now → mem_reads self.new dev t ≡ mem_reads self.old dev t + 1 }
     {
-        match self.course(by, Part::Disk(dev), 0) {
+        let course = self.course(by, Part::Disk(dev), 0);
+        self.fuses.burn(by, false);
+        match course {
             Course::Go => {
-                self.kept.read(slot_number(dev), at as usize, into);
-                self.note_idle();
+                let slot = slot_number(dev);
+                self.kept.read(slot, at as usize, into);
+                self.note_read(slot);
                 Act::Done
             }
             Course::Halt(_) => {
@@ -400,9 +467,11 @@ impl Plant for MemPlant {
         ensures course { result ≡ answer (course_of (mem_book self.old) (mem_view self.old) by.0 (Disk dev) (length bytes.now)) }
         ensures kept { (keep : ℕ) → course_of (mem_book self.old) (mem_view self.old) by.0 (Disk dev) (length bytes.now) ≡ Halt keep
             → (disk_now (mem_view self.new) dev).bytes ≡ overwrite at (take keep bytes.now) (disk_now (mem_view self.old) dev).bytes }
-        ensures book { mem_book self.new ≡ spent_by (course_of (mem_book self.old) (mem_view self.old) by.0 (Disk dev) (length bytes.now)) (length bytes.now) (mem_book self.old) }
+        ensures book { mem_book self.new ≡ acted by.0 (Disk dev) (spent_by (course_of (mem_book self.old) (mem_view self.old) by.0 (Disk dev) (length bytes.now)) (length bytes.now) (mem_book self.old)) }
     {
-        match self.course(by, Part::Disk(dev), bytes.len()) {
+        let course = self.course(by, Part::Disk(dev), bytes.len());
+        self.fuses.burn(by, false);
+        match course {
             Course::Go => {
                 self.note_write(slot_number(dev), at as usize, bytes.len(), bytes);
                 Act::Done
@@ -424,9 +493,11 @@ impl Plant for MemPlant {
         ensures acts { Acts by.0 (Disk dev) (mem_view self.old) (mem_view self.new) result }
         ensures content { Syncs dev (mem_view self.old) (mem_view self.new) result }
         ensures course { result ≡ answer (course_of (mem_book self.old) (mem_view self.old) by.0 (Disk dev) 0) }
-        ensures book { mem_book self.new ≡ mem_book self.old }
+        ensures book { mem_book self.new ≡ acted by.0 (Disk dev) (mem_book self.old) }
     {
-        match self.course(by, Part::Disk(dev), 0) {
+        let course = self.course(by, Part::Disk(dev), 0);
+        self.fuses.burn(by, false);
+        match course {
             Course::Go => {
                 self.note_sync(slot_number(dev));
                 Act::Done
@@ -449,15 +520,18 @@ impl Plant for MemPlant {
         ensures course { result ≡ answer (course_of (mem_book self.old) (mem_view self.old) by.0 Console (length line.now)) }
         ensures kept { (keep : ℕ) → course_of (mem_book self.old) (mem_view self.old) by.0 Console (length line.now) ≡ Halt keep
             → ((mem_view self.new).world (mem_view self.new).now).console ≡ ((mem_view self.old).world (mem_view self.old).now).console ++ left_of keep line.now }
-        ensures book { mem_book self.new ≡ spent_by (course_of (mem_book self.old) (mem_view self.old) by.0 Console (length line.now)) (length line.now) (mem_book self.old) }
+        ensures book { mem_book self.new ≡ acted by.0 Console (spent_by (course_of (mem_book self.old) (mem_view self.old) by.0 Console (length line.now)) (length line.now) (mem_book self.old)) }
     {
-        match self.course(by, Part::Console, line.len()) {
+        let course = self.course(by, Part::Console, line.len());
+        self.fuses.burn(by, false);
+        let place = place_number(Part::Console);
+        match course {
             Course::Go => {
-                self.note_line(line, true);
+                self.note_line(place, line, true);
                 Act::Done
             }
             Course::Halt(keep) => {
-                self.note_part(line, keep);
+                self.note_part(place, line, keep);
                 self.stop(by);
                 Act::Halted
             }
@@ -466,6 +540,99 @@ impl Plant for MemPlant {
                 Act::Failed
             }
         }
+    }
+
+    fn print(&mut self, by: MemberId, line: &[u8]) -> Act
+        ensures acts { Acts by.0 (Printer by) (mem_view self.old) (mem_view self.new) result }
+        ensures content { Prints by.0 line.now (mem_view self.old) (mem_view self.new) result }
+        ensures course { result ≡ answer (course_of (mem_book self.old) (mem_view self.old) by.0 (Printer by) (length line.now)) }
+        ensures kept { (keep : ℕ) → course_of (mem_book self.old) (mem_view self.old) by.0 (Printer by) (length line.now) ≡ Halt keep
+            → paper_now (mem_view self.new) by.0 ≡ paper_now (mem_view self.old) by.0 ++ left_of keep line.now }
+        ensures book { mem_book self.new ≡ acted by.0 (Printer by) (spent_by (course_of (mem_book self.old) (mem_view self.old) by.0 (Printer by) (length line.now)) (length line.now) (mem_book self.old)) }
+    {
+        let part = Part::Printer(by);
+        let course = self.course(by, part, line.len());
+        self.fuses.burn(by, true);
+        let place = place_number(part);
+        match course {
+            Course::Go => {
+                self.note_line(place, line, true);
+                Act::Done
+            }
+            Course::Halt(keep) => {
+                self.note_part(place, line, keep);
+                self.stop(by);
+                Act::Halted
+            }
+            Course::Fail => {
+                self.fail(part);
+                Act::Failed
+            }
+        }
+    }
+
+    fn give(&mut self, by: MemberId, wire: u8, bytes: &[u8]) -> Act
+        ensures acts { Acts by.0 (Wire wire) (mem_view self.old) (mem_view self.new) result }
+        ensures content { GivesOn wire by.0 bytes.now (mem_view self.old) (mem_view self.new) result }
+        ensures course { result ≡ answer (course_of (mem_book self.old) (mem_view self.old) by.0 (Wire wire) (length bytes.now)) }
+        ensures kept { (keep : ℕ) → course_of (mem_book self.old) (mem_view self.old) by.0 (Wire wire) (length bytes.now) ≡ Halt keep
+            → given_now (mem_view self.new) wire by.0 ≡ given_now (mem_view self.old) wire by.0 ++ take keep bytes.now }
+        ensures book { mem_book self.new ≡ acted by.0 (Wire wire) (spent_by (course_of (mem_book self.old) (mem_view self.old) by.0 (Wire wire) (length bytes.now)) (length bytes.now) (mem_book self.old)) }
+    {
+        let course = self.course(by, Part::Wire(wire), bytes.len());
+        self.fuses.burn(by, false);
+        match course {
+            Course::Go => {
+                self.note_passed(true, wire, by, bytes);
+                Act::Done
+            }
+            Course::Halt(keep) => {
+                self.note_passed(true, wire, by, first(bytes, keep));
+                self.stop(by);
+                Act::Halted
+            }
+            Course::Fail => {
+                self.fail(Part::Wire(wire));
+                Act::Failed
+            }
+        }
+    }
+
+    fn take(&mut self, by: MemberId, wire: u8, into: &mut [u8]) -> Took
+        ensures acts { Acts by.0 (Wire wire) (mem_view self.old) (mem_view self.new) (act_of result) }
+        ensures fits { FitsInto (length into.old) result }
+        ensures content { Takes wire by.0 (mem_view self.old) (mem_view self.new) into.new result }
+        ensures course { act_of result ≡ answer (course_of (mem_book self.old) (mem_view self.old) by.0 (Wire wire) (min (length ((mem_view self.old).waiting wire)) (length into.old))) }
+        ensures all { IfTook result (λ n. n ≡ min (length ((mem_view self.old).waiting wire)) (length into.old)) }
+    {
+        let n = self.incoming.count(wire).min(into.len());
+        let course = self.course(by, Part::Wire(wire), n);
+        self.fuses.burn(by, false);
+        match course {
+            Course::Go => {
+                let taken = &mut into[..n];
+                self.incoming.take(wire, taken);
+                self.note_passed(false, wire, by, taken);
+                Took::Bytes(n)
+            }
+            Course::Halt(_) => {
+                self.note_idle();
+                self.stop(by);
+                Took::Halted
+            }
+            Course::Fail => {
+                self.fail(Part::Wire(wire));
+                Took::Failed
+            }
+        }
+    }
+
+    fn arm(&mut self, member: MemberId, fuse: Fuse, n: u32)
+        ensures arms { Arms member.0 (mem_view self.old) (mem_view self.new) }
+        ensures book { mem_book self.new ≡ with_stop member.0 fuse n (mem_book self.old) }
+    {
+        self.counts.arm(member.0 as usize);
+        self.fuses.arm(member, fuse, n);
     }
 
     fn lose(&mut self, dev: Dev)

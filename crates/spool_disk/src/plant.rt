@@ -3,8 +3,8 @@ ghost use Rattle.std.specs.Prelude.{◌≡◌, ◌+◌, ◌≤◌, length, IsTru
 ghost use Rattle.std.specs.Prelude.{ℕ, false};
 ghost use Rattle.mas_types.specs.declared.ids.Dev.{Dev};
 ghost use Rattle.spool_disk.specs.View.{View, disk_at, disk_now};
-ghost use Rattle.spool_disk.specs.Acts.{Acts, Reads, Writes, Syncs, Says, Loses, LosesThere};
-ghost use Rattle.spool_disk.specs.declared.plant.Part.TheVariants.{Disk, Console};
+ghost use Rattle.spool_disk.specs.Acts.{Acts, Reads, Writes, Syncs, Says, Prints, GivesOn, Takes, FitsInto, act_of, Arms, Loses, LosesThere};
+ghost use Rattle.spool_disk.specs.declared.plant.Part.TheVariants.{Disk, Console, Printer, Wire};
 
 use mas_types::{Dev, MemberId};
 
@@ -32,7 +32,27 @@ pub enum Act {
     Halted,
 }
 
-/// The outside. Every call but `now`, `size` and `lost` is an act, which takes one moment.
+/// How taking bytes from a wire ended.
+#[derive(Clone, Copy, Debug, PartialEq, Eq)]
+pub enum Took {
+    /// So many bytes came.
+    Bytes(usize),
+    /// The wire failed. Its count of faults rose, and it is lost from now on.
+    Failed,
+    /// The member was stopped inside the act. Its count of stops rose.
+    Halted,
+}
+
+/// What an armed stop counts.
+#[derive(Clone, Copy, Debug, PartialEq, Eq)]
+pub enum Fuse {
+    /// Acts of any kind.
+    Any,
+    /// Prints.
+    Print,
+}
+
+/// The outside. Every call but `now`, `size`, `lost` and `arm` is an act, which takes one moment.
 ///
 /// A moment is the number of acts made. What holds at a past moment never changes. At the greatest `u64` the
 /// moment stays, and every act that has an answer fails there and changes nothing but the loss of its part.
@@ -77,6 +97,28 @@ pub trait Plant {
     fn say(&mut self, by: MemberId, line: &[u8]) -> Act
         ensures acts { Acts by.0 Console (view self.old) (view self.new) result }
         ensures content { tells → Says line.now (view self.old) (view self.new) result };
+
+    /// Adds a line to the member's own printer. Halted may leave nothing, a torn line or the whole line.
+    fn print(&mut self, by: MemberId, line: &[u8]) -> Act
+        ensures acts { Acts by.0 (Printer by) (view self.old) (view self.new) result }
+        ensures content { tells → Prints by.0 line.now (view self.old) (view self.new) result };
+
+    /// Gives bytes on a wire. Halted and Failed may have given the first of them.
+    fn give(&mut self, by: MemberId, wire: u8, bytes: &[u8]) -> Act
+        ensures acts { Acts by.0 (Wire wire) (view self.old) (view self.new) result }
+        ensures content { tells → GivesOn wire by.0 bytes.now (view self.old) (view self.new) result };
+
+    /// Takes the first bytes that wait on a wire, into the first places of `into`. None come only where none wait or
+    /// `into` is empty. Halted and Failed take none.
+    fn take(&mut self, by: MemberId, wire: u8, into: &mut [u8]) -> Took
+        ensures acts { Acts by.0 (Wire wire) (view self.old) (view self.new) (act_of result) }
+        ensures fits { FitsInto (length into.old) result }
+        ensures content { tells → Takes wire by.0 (view self.old) (view self.new) into.new result };
+
+    /// Arms a stop: the member's `n`-th act from now, or its `n`-th print, is to halt, where the plant can halt
+    /// members. An `n` of 0 arms nothing. It is no act, and the operator never halts.
+    fn arm(&mut self, member: MemberId, fuse: Fuse, n: u32)
+        ensures { Arms member.0 (view self.old) (view self.new) };
 
     /// Loses a device. No fault is counted.
     fn lose(&mut self, dev: Dev)

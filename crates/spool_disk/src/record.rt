@@ -1,6 +1,6 @@
 // A record of acts, and the bytes that they come to.
 ghost use Rattle.std.specs.Prelude.{◌≡◌, ◌+◌, ◌≤◌, ◌<◌, ◌++◌, ◌∷◌, [], ◌==◌, ℕ, length, IfOk, vec_len, vec_capacity, if◌then◌else◌, nat_lt};
-ghost use Rattle.spool_disk.specs.Deeds.{Idle, Wrote, Synced, Said, overwrite, after, idled};
+ghost use Rattle.spool_disk.specs.Deeds.{Idle, Wrote, Synced, Said, Passed, Fetched, overwrite, after, idled};
 ghost use Rattle.spool_disk.specs.Entries.{kept_by, kept_in, deed_of, deeds_of};
 ghost use Rattle.spool_disk.specs.Standing.{bytes_at};
 ghost use Rattle.spool_disk.specs.Kept.{AreCurrent, fresh, size_at};
@@ -111,17 +111,38 @@ impl Record {
         append(&mut self.log, &mut self.arena, Entry::Synced(slot), &[]);
     }
 
-    pub(crate) fn add_line(&mut self, text: &[u8], whole: bool)
+    pub(crate) fn add_line(&mut self, place: usize, text: &[u8], whole: bool)
         requires acts { length self.old.log.items < self.old.acts }
         requires room { length self.old.arena.items + length text.now ≤ self.old.room }
-        ensures { Added (Said text.now whole) (length text.now) self.old self.new }
+        ensures { Added (Said place text.now whole) (length text.now) self.old self.new }
     {
         append(
             &mut self.log,
             &mut self.arena,
-            Entry::Said(text.len(), whole),
+            Entry::Said(place, text.len(), whole),
             text,
         );
+    }
+
+    // Bytes given on a wire, or else taken from it, by a member.
+    pub(crate) fn add_passed(&mut self, given: bool, wire: u8, by: u8, bytes: &[u8])
+        requires acts { length self.old.log.items < self.old.acts }
+        requires room { length self.old.arena.items + length bytes.now ≤ self.old.room }
+        ensures { Added (Passed given wire by bytes.now) (length bytes.now) self.old self.new }
+    {
+        append(
+            &mut self.log,
+            &mut self.arena,
+            Entry::Passed(given, wire, by, bytes.len()),
+            bytes,
+        );
+    }
+
+    pub(crate) fn add_read(&mut self, slot: usize)
+        requires { length self.old.log.items < self.old.acts }
+        ensures { Added (Fetched slot) 0 self.old self.new }
+    {
+        append(&mut self.log, &mut self.arena, Entry::Fetched(slot), &[]);
     }
 
     // A write of so many bytes, of which these came.

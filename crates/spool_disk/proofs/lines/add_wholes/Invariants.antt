@@ -7,5 +7,5 @@ use Rattle.spool_disk.proofs.lines.add_wholes.Given as goal
 abbrev pub invariant-loop-entry : goal.invariant-loop-entry
 invariant-loop-entry l = record {
   used : l.from ≡ kept_in (take l.entry-index l.log);
-  lines : l.lines ≡ l.initial.lines ++ whole_lines (lines_of (deeds_of (take l.entry-index l.log) l.arena));
+  lines : l.lines ≡ l.initial.lines ++ whole_lines (lines_of l.place (deeds_of (take l.entry-index l.log) l.arena));
 }

@@ -1,4 +1,4 @@
-use Rattle.std.proofs.Common.{refl, ◌≡◌, ℕ, true, subst, ◌++◌}
+use Rattle.std.proofs.Common.{◌≡◌, ℕ, true, subst, ◌++◌}
 use Rattle.spool_disk.specs.declared.plant.Part.TheVariants.{Console}
 use Rattle.spool_disk.specs.Deeds.{Said}
 use Rattle.spool_disk.specs.Courses.{deed_left, left_of}
@@ -9,30 +9,30 @@ use Rattle.spool_disk.proofs.memory.MemPlantPlant.say.Goals as goal
 
 pub returns-in-Halt-clause-kept : goal.returns-in-Halt-clause-kept
 returns-in-Halt-clause-kept c keep planned =
-    let halt = c.in-Halt.ensures.halt c.in-Halt.keep refl in
-    let same : c.in-Halt.keep ≡ keep = cc (c.in-Halt.ensures.course, planned) in
+    let halt = c.course-course.ensures.halt c.in-Halt.keep c.in-Halt.is in
+    let same : c.in-Halt.keep ≡ keep = cc (c.in-Halt.is, c.course-course.ensures.course, planned) in
     subst (λ (k : ℕ). ((mem_view c.stop.new.self).world (mem_view c.stop.new.self).now).console ≡ ((mem_view c.args.self.now).world (mem_view c.args.self.now).now).console ++ left_of k c.args.line.now) same
-    (halted_line c.args.self.now c.note_part.new.self c.stop.new.self c.args.by.0 halt.0 c.in-Halt.keep c.args.line.now c.note_part.ensures.state c.stop.ensures.state)
+    (halted_line c.args.self.now c.note_part.new.self c.stop.new.self c.args.by.0 halt.0 c.place_number-place.result c.in-Halt.keep c.args.line.now c.note_part.ensures.state c.stop.ensures.state 1 c.place_number-place.ensures.place)
 
 pub returns-in-Go-clause-acts : goal.returns-in-Go-clause-acts
 returns-in-Go-clause-acts c =
-    let go = c.in-Go.ensures.go refl in
-    done_acts c.args.self.now c.note_line.new.self (Said c.args.line.now true) go.0 go.1 c.note_line.ensures.state c.args.by.0 Console go.3
+    let go = c.course-course.ensures.go c.in-Go.is in
+    done_acts c.args.self.now c.note_line.new.self (Said c.place_number-place.result c.args.line.now true) go.0 go.1 c.note_line.ensures.state c.args.by.0 Console go.3
 
 pub returns-in-Go-clause-content : goal.returns-in-Go-clause-content
 returns-in-Go-clause-content c =
-    let go = c.in-Go.ensures.go refl in
-    done_say c.args.self.now c.note_line.new.self c.args.line.now go.0 c.note_line.ensures.state
+    let go = c.course-course.ensures.go c.in-Go.is in
+    done_say c.args.self.now c.note_line.new.self c.place_number-place.result c.args.line.now go.0 c.note_line.ensures.state c.place_number-place.ensures.place
 
 pub returns-in-Halt-clause-acts : goal.returns-in-Halt-clause-acts
 returns-in-Halt-clause-acts c =
-    let halt = c.in-Halt.ensures.halt c.in-Halt.keep refl in
-    halted_acts c.args.self.now c.note_part.new.self c.stop.new.self (deed_left c.in-Halt.keep c.args.line.now) c.args.by.0 halt.0 c.note_part.ensures.state c.stop.ensures.state Console halt.1 c.stop.ensures.fits c.stop.ensures.there halt.3
+    let halt = c.course-course.ensures.halt c.in-Halt.keep c.in-Halt.is in
+    halted_acts c.args.self.now c.note_part.new.self c.stop.new.self (deed_left c.place_number-place.result c.in-Halt.keep c.args.line.now) c.args.by.0 halt.0 c.note_part.ensures.state c.stop.ensures.state Console halt.1 c.stop.ensures.fits c.stop.ensures.there halt.3
 
 pub returns-in-Halt-clause-content : goal.returns-in-Halt-clause-content
 returns-in-Halt-clause-content c =
-    let halt = c.in-Halt.ensures.halt c.in-Halt.keep refl in
-    halted_say c.args.self.now c.note_part.new.self c.stop.new.self c.args.by.0 halt.0 c.in-Halt.keep c.args.line.now c.note_part.ensures.state c.stop.ensures.state
+    let halt = c.course-course.ensures.halt c.in-Halt.keep c.in-Halt.is in
+    halted_say c.args.self.now c.note_part.new.self c.stop.new.self c.args.by.0 halt.0 c.place_number-place.result c.in-Halt.keep c.args.line.now c.note_part.ensures.state c.stop.ensures.state c.place_number-place.ensures.place
 
 pub returns-in-Fail-clause-acts : goal.returns-in-Fail-clause-acts
 returns-in-Fail-clause-acts c = c.fail.ensures.acts c.args.by.0

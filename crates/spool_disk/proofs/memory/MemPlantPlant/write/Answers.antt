@@ -1,4 +1,4 @@
-use Rattle.std.proofs.Common.{arith, refl, length, ◌≡◌, ◌≤◌, ap, List, ℕ, subst, sym, ◌+◌, take}
+use Rattle.std.proofs.Common.{arith, length, ◌≡◌, ◌≤◌, ap, List, ℕ, subst, sym, ◌+◌, take}
 use Rattle.std.proofs.lemmas.List.{length-take}
 use Rattle.spool_disk.specs.Kept.{size_at}
 use Rattle.spool_disk.specs.View.{disk_now}
@@ -20,29 +20,29 @@ note_write-requires-in-Halt-clause-within c =
 
 pub returns-in-Halt-clause-kept : goal.returns-in-Halt-clause-kept
 returns-in-Halt-clause-kept c keep planned =
-    let halt = c.in-Halt.ensures.halt c.in-Halt.keep refl in
-    let same : c.in-Halt.keep ≡ keep = cc (c.in-Halt.ensures.course, planned) in
+    let halt = c.course-course.ensures.halt c.in-Halt.keep c.in-Halt.is in
+    let same : c.in-Halt.keep ≡ keep = cc (c.in-Halt.is, c.course-course.ensures.course, planned) in
     subst (λ (k : ℕ). (disk_now (mem_view c.stop.new.self) c.args.dev).bytes ≡ overwrite c.args.at (take k c.args.bytes.now) (disk_now (mem_view c.args.self.now) c.args.dev).bytes) same
     (halted_bytes c.args.self.now c.note_write-in-Halt.new.self c.stop.new.self c.args.by.0 halt.0 c.args.dev c.args.at c.slot_number-in-Halt.result c.in-Halt.keep c.args.bytes.now c.first-some.result.now c.slot_number-in-Halt.ensures.slot c.requires c.first-some.ensures c.note_write-in-Halt.ensures.state c.stop.ensures.state)
 
 pub returns-in-Go-clause-acts : goal.returns-in-Go-clause-acts
 returns-in-Go-clause-acts c =
-    let go = c.in-Go.ensures.go refl in
+    let go = c.course-course.ensures.go c.in-Go.is in
     done_acts c.args.self.now c.note_write.new.self (Wrote c.slot_number.result c.args.at (length c.args.bytes.now) c.args.bytes.now) go.0 go.1 c.note_write.ensures.state c.args.by.0 (DiskPart c.args.dev) go.3
 
 pub returns-in-Go-clause-content : goal.returns-in-Go-clause-content
 returns-in-Go-clause-content c =
-    let go = c.in-Go.ensures.go refl in
+    let go = c.course-course.ensures.go c.in-Go.is in
     done_write c.args.self.now c.note_write.new.self c.args.dev c.args.at c.slot_number.result c.args.bytes.now go.0 c.slot_number.ensures.slot c.requires c.note_write.ensures.state
 
 pub returns-in-Halt-clause-acts : goal.returns-in-Halt-clause-acts
 returns-in-Halt-clause-acts c =
-    let halt = c.in-Halt.ensures.halt c.in-Halt.keep refl in
+    let halt = c.course-course.ensures.halt c.in-Halt.keep c.in-Halt.is in
     halted_acts c.args.self.now c.note_write-in-Halt.new.self c.stop.new.self (Wrote c.slot_number-in-Halt.result c.args.at (length c.args.bytes.now) c.first-some.result.now) c.args.by.0 halt.0 c.note_write-in-Halt.ensures.state c.stop.ensures.state (DiskPart c.args.dev) halt.1 c.stop.ensures.fits c.stop.ensures.there halt.3
 
 pub returns-in-Halt-clause-content : goal.returns-in-Halt-clause-content
 returns-in-Halt-clause-content c =
-    let halt = c.in-Halt.ensures.halt c.in-Halt.keep refl in
+    let halt = c.course-course.ensures.halt c.in-Halt.keep c.in-Halt.is in
     halted_write c.args.self.now c.note_write-in-Halt.new.self c.stop.new.self c.args.by.0 halt.0 c.args.dev c.args.at c.slot_number-in-Halt.result c.in-Halt.keep c.args.bytes.now c.first-some.result.now c.slot_number-in-Halt.ensures.slot c.requires c.first-some.ensures c.note_write-in-Halt.ensures.state c.stop.ensures.state
 
 pub returns-in-Fail-clause-acts : goal.returns-in-Fail-clause-acts
