@@ -1,16 +1,20 @@
 -- Writes within a stretch, one after another.
-use Rattle.std.proofs.Common.{◌≡◌, ℕ, ◌+◌, ◌*◌, ◌-◌, ◌≤◌, ◌<◌, List, [], ◌∷◌, ◌++◌, length, take, drop, get_or, sym, ◌∙◌, ap, subst, arith, append_assoc, inl, inr}
+use Rattle.std.proofs.Common.{◌≡◌, ℕ, ◌+◌, ◌*◌, ◌-◌, ◌≤◌, ◌<◌, List, [], ◌∷◌, ◌++◌, length, take, drop, get_or, sym, ◌∙◌, ap, subst, arith, append_assoc, inl, inr, ⊎_elim, refl, true, false}
 use Rattle.std.proofs.lemmas.List.{drop-drop, take-take, take_more, append-nil}
 use Rattle.std.proofs.Math.Seq.{take-add}
 use Rattle.mas_types.specs.declared.ids.Dev.{Dev}
 use Rattle.mas_types.specs.declared.ids.Page.{Page}
-use Rattle.spool_disk.specs.View.{View, Disk, Stretch, Apart, disk_now, slice}
+use Rattle.spool_disk.specs.declared.plant.Act.{Act}
+use Rattle.spool_disk.specs.declared.plant.Act.TheVariants.{Done, Failed, Halted}
+use Rattle.spool_disk.specs.declared.plant.Part.TheVariants.{Disk as DiskPart}
+use Rattle.spool_disk.specs.Acts.{Acts, Writes, Written, Dirtied, top}
+use Rattle.spool_disk.specs.View.{View, World, Disk, Stretch, Apart, Avoids, disk_now, slice}
 use Rattle.mas_types.specs.Limits.{page_bytes}
 use Rattle.ckpt_copy.specs.Changes.{Spreads}
 use Rattle.ckpt_copy.specs.Meanwhile.{Meanwhile}
 use Rattle.ckpt_copy.specs.Pages.{bytes_of}
 use Rattle.ckpt_copy.specs.Slices.{stretch, drop_behind, slice_apart}
-use Rattle.ckpt_copy.specs.Moments.{meanwhile_then, meanwhile_weaker, meanwhile_end}
+use Rattle.ckpt_copy.specs.Moments.{either_way, meanwhile_one, meanwhile_then, meanwhile_weaker, meanwhile_end}
 
 pub apart_inside : (a n w k : ℕ) (s : Stretch) → a ≤ w → w + k ≤ a + n → Apart (stretch a n) s → Apart (stretch w k) s
 apart_inside a n w k s from to (inl behind) = inl (omega arith)
@@ -98,3 +102,41 @@ page_put start i at pages d bytes old new lt place size is before spreads put =
     put_core start i pages d bytes old new lt is before
     (subst (λ (m : ℕ). Spreads m page_bytes old new) place (subst (λ (k : ℕ). Spreads at k old new) size spreads))
     (subst (λ (m : ℕ). slice m page_bytes new.bytes ≡ bytes) place (subst (λ (k : ℕ). slice at k new.bytes ≡ bytes) size put))
+
+-- an act that changes nothing spreads nowhere
+spreads_none : (at len : ℕ) (d : Disk) → Spreads at len d d
+spreads_none at len d = record { differs = record { size = refl; before = refl; after = refl }; unsynced = λ s apart avoids. avoids; there = λ t. t }
+
+dirtied_spreads : (at n len : ℕ) (old new : Disk) → n ≤ len → Dirtied at n old new → (new.lost ≡ false → old.lost ≡ false) → Spreads at len old new
+dirtied_spreads at n len old new le dirtied there = record {
+  differs = record {
+    size = dirtied.differs.size;
+    before = dirtied.differs.before;
+    after = drop_less (at + len) (at + n) old.bytes new.bytes (omega arith) dirtied.differs.after;
+  };
+  unsynced = λ s apart avoids. subst (λ (us : List Stretch). Avoids us s) (sym dirtied.unsynced) (apart_inside at len at n s (omega arith) (omega arith) apart, avoids);
+  there = there;
+}
+
+written_spreads : (at : ℕ) (bytes : List ℕ) (old new : Disk) (r : Act) → Written at bytes old new r → (r ≡ Failed → new.lost ≡ false → old.lost ≡ false) → Spreads at (length bytes) old new
+written_spreads at bytes old new Done w there = dirtied_spreads at (length bytes) (length bytes) old new (omega arith) w.0 (λ t. sym w.2 ∙ t)
+written_spreads at bytes old new Halted w there = dirtied_spreads at w.0.0 (length bytes) old new w.0.1 w.0.2 (λ t. sym w.1 ∙ t)
+written_spreads at bytes old new Failed (inl w) there = dirtied_spreads at w.0 (length bytes) old new w.1 w.2 (there refl)
+written_spreads at bytes old new Failed (inr w) there = record {
+  differs = record { size = ap (λ (l : List ℕ). length l) w.bytes; before = ap (take at) w.bytes; after = ap (drop (at + length bytes)) w.bytes };
+  unsynced = λ s apart avoids. subst (λ (us : List Stretch). Avoids us s) (sym w.unsynced) avoids;
+  there = there refl;
+}
+
+-- the moments of a write
+pub write_spreads : (by : ℕ) (dev : Dev) (at : ℕ) (bytes : List ℕ) (old new : View) (r : Act) → Acts by (DiskPart dev) old new r → Writes dev at bytes old new r → Meanwhile dev (Spreads at (length bytes) (disk_now old dev)) old new
+write_spreads by dev at bytes old new r act write =
+    meanwhile_one dev (Spreads at (length bytes) (disk_now old dev)) old new act.goes (omega (arith, act.time)) write.only (spreads_none at (length bytes) (disk_now old dev))
+    (written_spreads at bytes (disk_now old dev) (disk_now new dev) r write.disk back)
+  where
+    back : r ≡ Failed → (disk_now new dev).lost ≡ false → (disk_now old dev).lost ≡ false
+    back failed there = ⊎_elim stays (λ below. let gone : (disk_now new dev).lost ≡ true = write.lost failed below in absurd (cc)) (either_way top old.now) where
+      stays : top ≤ old.now → (disk_now old dev).lost ≡ false
+      stays late =
+          let same : new.now ≡ old.now = omega (arith, act.time, act.goes.later, late) in
+          sym (ap (λ (w : World). (w.disk dev).lost) (ap new.world same ∙ act.goes.past old.now (omega arith))) ∙ there
