@@ -17,3 +17,4 @@ pub mod Fitted
 pub mod Choosing
 pub mod Recovered
 pub mod First
+pub mod Leaving

@@ -98,3 +98,12 @@ module _ (S : Setting) (reached : ℕ) (K F : List Entry) where
         let f : IsAtLevel (level (bytes_of pages)) reached place' = subst (λ (x : Result Look LookNo). IsPlaceSeen x reached place') is found in
         ⊎_elim (λ b. absurd (clash place' b.0 opened)) (λ o. ⊎_elim (λ s. absurd (o.1 s.at_level)) (λ s. s)
         (reads_stands (disk_now new dev) (bytes_of pages) (rests_reads' (bytes_of pages) (disk_now new dev) (l.found told)) (there l.there) (new_reads (stays l.is_alive)))) f
+
+-- a copy that counts as alive reads something
+pub reads_some : (S : Setting) (rests : List ℕ → Disk → Type 0) (holds : List ℕ → List ℕ → Disk → Type 0) (reached : ℕ) (K F : List Entry) (place : Place) (alive : Bool) (now : ℕ) (d : Disk) → OneCopy S rests holds reached K F place alive now d → alive ≡ true
+    → ((pages : List ℕ) (d : Disk) → rests pages d → AllRead S.reads pages d) → ((was next : List ℕ) (d : Disk) → holds was next d → AllRead S.reads was d) → d.lost ≡ false → S.reads d.bytes ≡ None → ⊥
+reads_some S rests holds reached K F place alive now d copy is rests_reads holds_reads there none =
+    let r = side_reads S reached K F rests holds rests_reads holds_reads place d (copy.at is) d.bytes (own_image d there) in
+    some_none r.pages (sym none ∙ r.reads) where
+      some_none : (pages : List ℕ) → (let nothing : Option (List ℕ) = None in nothing) ≡ Some pages → ⊥
+      some_none pages e = cc

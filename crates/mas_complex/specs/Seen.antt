@@ -13,6 +13,7 @@ use Rattle.mas_complex.specs.Meaning.{StandFor}
 use Rattle.mas_complex.specs.declared.places.Place.{Place}
 use Rattle.mas_complex.specs.declared.places.Place.TheVariants.{Before, Opened, Unsure}
 use Rattle.mas_complex.specs.Journals.{with_last, fated}
+use Rattle.mas_complex.specs.Fits.{fits, can_stay}
 use Rattle.mas_complex.specs.Places.{IsAtLevel}
 
 -- pages of the level reached don't have the batch, others do; without pages it isn't known
@@ -77,6 +78,17 @@ pub record Chosen (reads : List ℕ → Option (List ℕ)) (tells : Type 0) (que
   pub next : tells → IsNextOr queue reached found
   pub some : 1 ≤ length found
   pub few : length found ≤ pages_most
+
+-- these pages of a copy don't stay beside the pages found
+abbrev pub IsUnfit : Option (List Page) → Place → ℕ → List Page → Type 0
+IsUnfit None place room found = ⊥
+IsUnfit (Some other) place room found = can_stay place room found other ≡ false
+
+-- The bytes of a device read as pages that don't fit those found, or that have neither their level nor the one reached.
+pub record WasUnfit (reads : List ℕ → Option (List ℕ)) (bytes : List ℕ) (reached room : ℕ) (found : List Page) : Type 0 where
+  pub other : List Page
+  pub read : reads bytes ≡ Some (bytes_of other)
+  pub unfit : (fits found other room ≡ false) ⊎ ((level (bytes_of other) ≢ level (bytes_of found)) × (level (bytes_of other) ≢ reached))
 
 -- The batch in flight has its fate since this moment: it is kept where the pages found have another level than the kept
 -- ones had, and else it is dropped. Without one the journal is as it was.

@@ -5,7 +5,8 @@ ghost use Rattle.mas_types.specs.declared.ids.Dev.TheVariants.{Ckpt1, Ckpt2};
 ghost use Rattle.mas_types.specs.declared.journals.Batch.{Batch};
 ghost use Rattle.mas_types.specs.Limits.{pages_most};
 ghost use Rattle.spool_disk.specs.View.{View, disk_now};
-ghost use Rattle.spool_disk.specs.Acts.{Goes, Rose, top};
+ghost use Rattle.spool_disk.specs.Acts.{Goes, Rose};
+ghost use Rattle.spool_disk.specs.declared.plant.Part.TheVariants.{Disk};
 ghost use Rattle.ckpt_copy.specs.Pages.{bytes_of, level};
 ghost use Rattle.duplex_pair.specs.declared.errors.PairNo.TheVariants.{Halted as PairNoHalted, BothLost as PairNoBothLost};
 ghost use Rattle.duplex_pair.specs.Halves.{IsCkpt, pick, other, Acted, IsBothLost, SomeAlive};
@@ -15,7 +16,7 @@ ghost use Rattle.mas_complex.specs.declared.recover.RecoverNo.TheVariants.{BothL
 ghost use Rattle.mas_complex.specs.Journals.{kept_all, entries_in};
 ghost use Rattle.mas_complex.specs.Meaning.{StandFor, run};
 ghost use Rattle.mas_complex.specs.Places.{IsAtLevel};
-ghost use Rattle.mas_complex.specs.Seen.{IsOneSeen, ReadsSeen, Stays, HasFound, Chosen, IsNextOr, IsFatedBy};
+ghost use Rattle.mas_complex.specs.Seen.{IsOneSeen, ReadsSeen, Stays, HasFound, Chosen, IsNextOr, IsFatedBy, IsUnfit, WasUnfit};
 ghost use Rattle.mas_complex.specs.Recovers.{recover_no, recover_no_seen};
 ghost use Rattle.mas_complex.specs.Fits.{can_stay};
 
@@ -94,6 +95,8 @@ impl<P: Plant + Drop, C: Steady + Drop> Complex<P, C> {
         ensures other { other dev self.new.pair.first self.new.pair.second ≡ other dev self.old.pair.first self.old.pair.second }
         ensures lost { stays ≡ false → (pick dev self.new.pair.first self.new.pair.second).alive ≡ false }
         ensures stays { stays ≡ true → pick dev self.new.pair.first self.new.pair.second ≡ pick dev self.old.pair.first self.old.pair.second }
+        ensures copy { (pick dev self.new.pair.first self.new.pair.second).copy ≡ (pick dev self.old.pair.first self.old.pair.second).copy }
+        ensures only { (pick dev self.old.pair.first self.old.pair.second).alive ≡ true → (pick dev self.new.pair.first self.new.pair.second).alive ≡ false → stays ≡ false }
         ensures goes { Goes (P.view self.old.plant) (P.view self.new.plant) }
         ensures bytes { P.tells → (d : Dev) → (disk_now (P.view self.new.plant) d).bytes ≡ (disk_now (P.view self.old.plant) d).bytes }
     {
@@ -118,6 +121,10 @@ impl<P: Plant + Drop, C: Steady + Drop> Complex<P, C> {
         ensures level { self.new.level ≡ self.old.level }
         ensures goes { Goes (P.view self.old.plant) (P.view self.new.plant) }
         ensures chosen { Chosen C.reads P.tells (run self.old.base (kept_all self.old.journal.batches ++ entries_in self.old.current)) self.old.level self.new.pair.first.alive (C.count self.new.pair.first.copy) (C.room self.new.pair.first.copy) self.new.first (disk_now (P.view self.new.plant) Ckpt1).bytes self.new.pair.second.alive (C.count self.new.pair.second.copy) (C.room self.new.pair.second.copy) self.new.second (disk_now (P.view self.new.plant) Ckpt2).bytes result }
+        ensures copy1 { self.new.pair.first.copy ≡ self.old.pair.first.copy }
+        ensures copy2 { self.new.pair.second.copy ≡ self.old.pair.second.copy }
+        ensures unfit1 { self.new.pair.first.alive ≡ false → can_stay self.old.first (C.room self.old.pair.first.copy) result first ≡ false }
+        ensures unfit2 { self.new.pair.second.alive ≡ false → can_stay self.old.second (C.room self.old.pair.second.copy) result second ≡ false }
     {
         if pages_level(first.as_slice()) < pages_level(second.as_slice()) {
             let room = self.pair.first.copy.room();
@@ -152,6 +159,12 @@ impl<P: Plant + Drop, C: Steady + Drop> Complex<P, C> {
         ensures goes { Goes (P.view self.old.plant) (P.view self.new.plant) }
         ensures none { result ≡ None → IsBothLost self.new.pair.first.alive self.new.pair.second.alive }
         ensures chosen { IfSome result (λ found. Chosen C.reads P.tells (run self.old.base (kept_all self.old.journal.batches ++ entries_in self.old.current)) self.old.level self.new.pair.first.alive (C.count self.new.pair.first.copy) (C.room self.new.pair.first.copy) self.new.first (disk_now (P.view self.new.plant) Ckpt1).bytes self.new.pair.second.alive (C.count self.new.pair.second.copy) (C.room self.new.pair.second.copy) self.new.second (disk_now (P.view self.new.plant) Ckpt2).bytes found) }
+        ensures copy1 { self.new.pair.first.copy ≡ self.old.pair.first.copy }
+        ensures copy2 { self.new.pair.second.copy ≡ self.old.pair.second.copy }
+        ensures alive1 { self.new.pair.first.alive ≡ true → self.old.pair.first.alive ≡ true }
+        ensures alive2 { self.new.pair.second.alive ≡ true → self.old.pair.second.alive ≡ true }
+        ensures unfit1 { IfSome result (λ found. self.old.pair.first.alive ≡ true → self.new.pair.first.alive ≡ false → IsUnfit first self.old.first (C.room self.old.pair.first.copy) found) }
+        ensures unfit2 { IfSome result (λ found. self.old.pair.second.alive ≡ true → self.new.pair.second.alive ≡ false → IsUnfit second self.old.second (C.room self.old.pair.second.copy) found) }
     {
         match (first, second) {
             (Some(first), Some(second)) => Some(self.choose(first, second)),
@@ -214,6 +227,11 @@ impl<P: Plant + Drop, C: Steady + Drop> Complex<P, C> {
         ensures as_many2 { self.new.pair.second.alive ≡ true → length found.now ≡ C.count self.new.pair.second.copy }
         ensures first { OnOk result (self.new.pair.first.alive ≡ true → HasFound C.reads P.tells self.old.level self.new.first (disk_now (P.view self.new.plant) Ckpt1).bytes found.now) }
         ensures second { OnOk result (self.new.pair.second.alive ≡ true → HasFound C.reads P.tells self.old.level self.new.second (disk_now (P.view self.new.plant) Ckpt2).bytes found.now) }
+        ensures not_both { IsErrOf result PairNoBothLost → ⊥ }
+        ensures room1 { self.new.pair.first.alive ≡ false → self.old.pair.first.alive ≡ false → self.new.pair.first.copy ≡ self.old.pair.first.copy }
+        ensures room2 { self.new.pair.second.alive ≡ false → self.old.pair.second.alive ≡ false → self.new.pair.second.copy ≡ self.old.pair.second.copy }
+        ensures failed1 { self.old.pair.first.alive ≡ true → self.new.pair.first.alive ≡ false → Rose ((P.view self.old.plant).faults (Disk Ckpt1)) ((P.view self.new.plant).faults (Disk Ckpt1)) }
+        ensures failed2 { self.old.pair.second.alive ≡ true → self.new.pair.second.alive ≡ false → Rose ((P.view self.old.plant).faults (Disk Ckpt2)) ((P.view self.new.plant).faults (Disk Ckpt2)) }
     {
         if pages_level(found) == self.level {
             return Ok(());
@@ -303,6 +321,12 @@ impl<P: Plant + Drop, C: Steady + Drop> Complex<P, C> {
         ensures reads1 { IfOk result (λ found. P.tells → self.new.pair.first.alive ≡ true → C.reads (disk_now (P.view self.new.plant) Ckpt1).bytes ≡ Some (bytes_of found)) }
         ensures reads2 { IfOk result (λ found. P.tells → self.new.pair.second.alive ≡ true → C.reads (disk_now (P.view self.new.plant) Ckpt2).bytes ≡ Some (bytes_of found)) }
         ensures stands { IfOk result (λ found. P.tells → ∥ StandFor (run self.new.base (kept_all self.new.journal.batches)) (bytes_of found) ∥₁) }
+        ensures left1 { IfOk result (λ found. P.tells → self.old.pair.first.alive ≡ true → self.new.pair.first.alive ≡ false
+            → Rose ((P.view self.old.plant).faults (Disk Ckpt1)) ((P.view self.new.plant).faults (Disk Ckpt1)) ⊎ WasUnfit C.reads (disk_now (P.view self.old.plant) Ckpt1).bytes self.old.level (C.room self.new.pair.first.copy) found) }
+        ensures left2 { IfOk result (λ found. P.tells → self.old.pair.second.alive ≡ true → self.new.pair.second.alive ≡ false
+            → Rose ((P.view self.old.plant).faults (Disk Ckpt2)) ((P.view self.new.plant).faults (Disk Ckpt2)) ⊎ WasUnfit C.reads (disk_now (P.view self.old.plant) Ckpt2).bytes self.old.level (C.room self.new.pair.second.copy) found) }
+        ensures both_failed1 { IsErrOf result RecoverNoBothLost → P.tells → self.old.pair.first.alive ≡ true → Rose ((P.view self.old.plant).faults (Disk Ckpt1)) ((P.view self.new.plant).faults (Disk Ckpt1)) }
+        ensures both_failed2 { IsErrOf result RecoverNoBothLost → P.tells → self.old.pair.second.alive ≡ true → Rose ((P.view self.old.plant).faults (Disk Ckpt2)) ((P.view self.new.plant).faults (Disk Ckpt2)) }
     {
         self.reserved = None;
         let first = self.see_first(alloc, by)?;

@@ -9,6 +9,7 @@ ghost use Rattle.duplex_pair.specs.Outcomes.{look_stopped};
 ghost use Rattle.mas_complex.specs.Journals.{kept_all, entries_in};
 ghost use Rattle.mas_complex.specs.Meaning.{run};
 ghost use Rattle.spool_disk.specs.Acts.{Goes, Rose};
+ghost use Rattle.spool_disk.specs.declared.plant.Part.TheVariants.{Disk};
 ghost use Rattle.duplex_pair.specs.declared.errors.LookNo.TheVariants.{Halted as LookNoHalted};
 ghost use Rattle.mas_complex.specs.Seen.{IsPlaceSeen, HasNext, IsOneSeen, ReadsSeen};
 
@@ -84,6 +85,8 @@ impl<P: Plant + Drop, C: Steady + Drop> Complex<P, C> {
         ensures halted { IsErrOf result LookNoHalted → Rose ((P.view self.old.plant).stops by.0) ((P.view self.new.plant).stops by.0) }
         ensures seen { IfOk result (λ pages. IsOneSeen (run self.old.base (kept_all self.old.journal.batches ++ entries_in self.old.current)) P.tells self.old.level self.new.pair.first.alive (C.count self.new.pair.first.copy) self.new.first pages) }
         ensures reads { IfOk result (λ pages. P.tells → ReadsSeen C.reads (disk_now (P.view self.new.plant) Ckpt1).bytes pages) }
+        ensures unseen { IfOk result (λ pages. P.tells → pages ≡ None → self.old.pair.first.alive ≡ true → Rose ((P.view self.old.plant).faults (Disk Ckpt1)) ((P.view self.new.plant).faults (Disk Ckpt1))) }
+        ensures was_alive { self.new.pair.first.alive ≡ true → self.old.pair.first.alive ≡ true }
         ensures bytes { P.tells → (d : Dev) → (disk_now (P.view self.new.plant) d).bytes ≡ (disk_now (P.view self.old.plant) d).bytes }
     {
         match self.look_first(alloc, by)? {
@@ -115,6 +118,8 @@ impl<P: Plant + Drop, C: Steady + Drop> Complex<P, C> {
         ensures halted { IsErrOf result LookNoHalted → Rose ((P.view self.old.plant).stops by.0) ((P.view self.new.plant).stops by.0) }
         ensures seen { IfOk result (λ pages. IsOneSeen (run self.old.base (kept_all self.old.journal.batches ++ entries_in self.old.current)) P.tells self.old.level self.new.pair.second.alive (C.count self.new.pair.second.copy) self.new.second pages) }
         ensures reads { IfOk result (λ pages. P.tells → ReadsSeen C.reads (disk_now (P.view self.new.plant) Ckpt2).bytes pages) }
+        ensures unseen { IfOk result (λ pages. P.tells → pages ≡ None → self.old.pair.second.alive ≡ true → Rose ((P.view self.old.plant).faults (Disk Ckpt2)) ((P.view self.new.plant).faults (Disk Ckpt2))) }
+        ensures was_alive { self.new.pair.second.alive ≡ true → self.old.pair.second.alive ≡ true }
         ensures bytes { P.tells → (d : Dev) → (disk_now (P.view self.new.plant) d).bytes ≡ (disk_now (P.view self.old.plant) d).bytes }
     {
         match self.look_second(alloc, by)? {
