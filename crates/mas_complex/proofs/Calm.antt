@@ -1,9 +1,8 @@
 -- Calls that act on both copies and leave the journal: a settle, and the read of a page.
-use Rattle.std.proofs.Common.{◌≡◌, ℕ, ◌≤◌, ◌<◌, Bool, true, false, List, ◌++◌, Option, Some, Result, Ok, Err, OnOk, IsErrOf, refl, subst, sym, ◌∙◌, ap, arith}
+use Rattle.std.proofs.Common.{◌≡◌, ℕ, ◌≤◌, ◌<◌, Bool, true, false, List, ◌++◌, Option, Some, None, Result, Ok, Err, OnOk, IsErrOf, refl, subst, sym, ◌∙◌, ap, arith}
 use Rattle.mas_types.specs.declared.ids.Dev.{Dev}
 use Rattle.mas_types.specs.declared.ids.Dev.TheVariants.{Ckpt1, Ckpt2}
 use Rattle.mas_types.specs.declared.journals.Batch.{Batch}
-use Rattle.mas_types.specs.declared.journals.Entry.{Entry}
 use Rattle.spool_disk.specs.View.{View, Disk, disk_at, disk_now}
 use Rattle.spool_disk.specs.Acts.{top}
 use Rattle.ckpt_copy.specs.Changes.{NoMore}
@@ -16,8 +15,8 @@ use Rattle.duplex_pair.specs.Both.{BothMeanwhile, Touched}
 use Rattle.mas_complex.specs.declared.places.Place.{Place}
 use Rattle.mas_complex.specs.declared.places.Place.TheVariants.{Before, Put, Opened, Unsure}
 use Rattle.mas_complex.specs.Places.{IsPlaceAfter}
-use Rattle.mas_complex.specs.Journals.{kept_all, in_flight, entries_in}
-use Rattle.mas_complex.specs.Crash.{Setting, Stands, ReadsOne, Side, OneCopy, Copy, CopyAt, Keeps}
+use Rattle.mas_complex.specs.Journals.{in_flight}
+use Rattle.mas_complex.specs.Crash.{Setting, ReadsOne, OnComing, IsAt, OneCopy, Copy, CopyAt, Keeps}
 use Rattle.mas_complex.proofs.Present.{all_read, lost_reads, copy_reads}
 use Rattle.mas_complex.proofs.Moves.{acts_keep}
 use Rattle.mas_complex.proofs.Sides.{calm, no}
@@ -26,49 +25,47 @@ some_is : (x y : List ℕ) → Some x ≡ Some y → x ≡ y
 some_is x y e = cc
 
 module _ (S : Setting) (js : List Batch) (c : Option Batch) (reached : ℕ) (first second first' second' : Copy) (old new : View) (P Q : Disk → Type 0) where
-  pub both_keep : Keeps S js c reached first second old → BothMeanwhile P Q old new
-      → (old.now < top → (d : Disk) → P d → ReadsOne S reached (kept_all js) (entries_in c) d) → (old.now < top → (d : Disk) → Q d → ReadsOne S reached (kept_all js) (entries_in c) d)
-      → CopyAt S reached (kept_all js) (entries_in c) first' new.now (disk_now new Ckpt1) → CopyAt S reached (kept_all js) (entries_in c) second' new.now (disk_now new Ckpt2)
+  pub both_keep : (keeps : Keeps S js c reached first second old) → BothMeanwhile P Q old new
+      → (old.now < top → (d : Disk) → P d → ReadsOne S keeps.was keeps.coming d) → (old.now < top → (d : Disk) → Q d → ReadsOne S keeps.was keeps.coming d)
+      → CopyAt S keeps.was keeps.coming first' new.now (disk_now new Ckpt1) → CopyAt S keeps.was keeps.coming second' new.now (disk_now new Ckpt2)
       → Keeps S js c reached first' second' new
   both_keep keeps m one two x y =
-      acts_keep S js c reached first second first' second' old new keeps m.goes
+      acts_keep S js c reached first second first' second' old new keeps m.goes keeps.coming keeps.comes keeps.none
       (λ t lt le below. (one (omega arith) (disk_at new t Ckpt1) (m.first t (omega arith) le), two (omega arith) (disk_at new t Ckpt2) (m.second t (omega arith) le)))
       (calm S (js ++ in_flight c) old new m.console m.goes.later) x y
 
--- the copy at rest with pages that stand for the queue, at a settle
-module _ (S : Setting) (reached : ℕ) (K F : List Entry) (dev : Dev) (old new : View) (rests rests' : List ℕ → Disk → Type 0) (holds holds' : List ℕ → List ℕ → Disk → Type 0) (place place' : Place) (alive alive' : Bool) (pages : List ℕ)
-    (copy : OneCopy S rests holds reached K F place alive old.now (disk_now old dev)) (before : alive ≡ true → place ≡ Before)
+-- a copy before any batch reads the kept pages, at a settle
+module _ (S : Setting) (kept : List ℕ) (coming : Option (List ℕ)) (dev : Dev) (old new : View) (rests rests' : List ℕ → Disk → Type 0) (holds holds' : List ℕ → List ℕ → Disk → Type 0) (place place' : Place) (alive alive' : Bool) (pages : List ℕ)
+    (copy : OneCopy S rests holds kept coming place alive old.now (disk_now old dev)) (before : alive ≡ true → place ≡ Before)
     (rests_now : (was : List ℕ) (d : Disk) → rests was d → S.reads d.bytes ≡ Some was) (reads : alive ≡ true → S.reads (disk_now old dev).bytes ≡ Some pages) where
-  side_before : (p : Place) → p ≡ Before → Side S rests holds reached K F p (disk_now old dev) → S.reads (disk_now old dev).bytes ≡ Some pages → rests pages (disk_now old dev) × Stands S reached K pages
-  side_before Before e s r =
-      let same : s.was ≡ pages = some_is s.was pages (sym (rests_now s.was (disk_now old dev) s.here) ∙ r) in
-      (subst (λ (l : List ℕ). rests l (disk_now old dev)) same s.here, subst (λ (l : List ℕ). Stands S reached K l) same s.stands)
-  side_before Put e s r = absurd (cc)
-  side_before Opened e s r = absurd (cc)
-  side_before Unsure e s r = absurd (cc)
+  at_rest : alive ≡ true → rests kept (disk_now old dev)
+  at_rest is = subst (λ (x : Place). IsAt S rests holds kept coming x (disk_now old dev)) (before is) (copy.at is)
+
+  pub settle_same : alive ≡ true → kept ≡ pages
+  settle_same is = some_is kept pages (sym (rests_now kept (disk_now old dev) (at_rest is)) ∙ reads is)
 
   pub settle_rests : alive ≡ true → rests pages (disk_now old dev)
-  settle_rests is = (side_before place (before is) (copy.at is) (reads is)).0
+  settle_rests is = subst (λ (l : List ℕ). rests l (disk_now old dev)) (settle_same is) (at_rest is)
 
-  pub settle_stands : alive ≡ true → Stands S reached K pages
-  settle_stands is = (side_before place (before is) (copy.at is) (reads is)).1
+  all_reads : alive ≡ true → (d : Disk) → AllRead S.reads pages d → ReadsOne S kept coming d
+  all_reads is d all = all_read S kept coming d (subst (λ (l : List ℕ). AllRead S.reads l d) (sym (settle_same is)) all)
 
-  touched_reads : old.now < top → (b : Bool) → alive ≡ b → (d : Disk) → Touched b (AllRead S.reads pages) (disk_now old dev) d → ReadsOne S reached K F d
-  touched_reads lt true is d all = all_read S reached K F d pages all (settle_stands is)
-  touched_reads lt false is d e = subst (λ (x : Disk). ReadsOne S reached K F x) (sym e) (lost_reads S reached K F (disk_now old dev) (copy.gone is lt))
+  touched_reads : old.now < top → (b : Bool) → alive ≡ b → (d : Disk) → Touched b (AllRead S.reads pages) (disk_now old dev) d → ReadsOne S kept coming d
+  touched_reads lt true is d all = all_reads is d all
+  touched_reads lt false is d e = subst (λ (x : Disk). ReadsOne S kept coming x) (sym e) (lost_reads S kept coming (disk_now old dev) (copy.gone is lt))
 
-  pub settle_reads : old.now < top → (d : Disk) → Touched alive (AllRead S.reads pages) (disk_now old dev) d → ReadsOne S reached K F d
+  pub settle_reads : old.now < top → (d : Disk) → Touched alive (AllRead S.reads pages) (disk_now old dev) d → ReadsOne S kept coming d
   settle_reads lt d t = touched_reads lt alive refl d t
 
   module _ {T : Type 0} (done : Result T PairNo) (stays : alive' ≡ true → alive ≡ true) (le : old.now ≤ new.now) (touched : Touched alive (AllRead S.reads pages) (disk_now old dev) (disk_now new dev))
       (gone : IsGone dev alive alive' new) {A : Type 0} (settled : OnOk done A) (of : A → alive' ≡ true → rests' pages (disk_now new dev)) (both : IsErrOf done BothLost → alive' ≡ false) (after : IsPlaceAfter done Before place') where
-    at_place : (p : Place) → place' ≡ p → Side S rests' holds' reached K F p (disk_now new dev) → Side S rests' holds' reached K F place' (disk_now new dev)
-    at_place p e side = subst (λ (x : Place). Side S rests' holds' reached K F x (disk_now new dev)) (sym e) side
+    at_place : (p : Place) → place' ≡ p → IsAt S rests' holds' kept coming p (disk_now new dev) → IsAt S rests' holds' kept coming place' (disk_now new dev)
+    at_place p e side = subst (λ (x : Place). IsAt S rests' holds' kept coming x (disk_now new dev)) (sym e) side
 
-    by_done : alive ≡ true → alive' ≡ true → (r : Result T PairNo) → OnOk r A → (IsErrOf r BothLost → alive' ≡ false) → IsPlaceAfter r Before place' → Side S rests' holds' reached K F place' (disk_now new dev)
-    by_done is now (Ok x) settled both after = at_place Before after (record { was = pages; stands = settle_stands is; here = of settled now })
+    by_done : alive ≡ true → alive' ≡ true → (r : Result T PairNo) → OnOk r A → (IsErrOf r BothLost → alive' ≡ false) → IsPlaceAfter r Before place' → IsAt S rests' holds' kept coming place' (disk_now new dev)
+    by_done is now (Ok x) settled both after = at_place Before after (subst (λ (l : List ℕ). rests' l (disk_now new dev)) (sym (settle_same is)) (of settled now))
     by_done is now (Err BothLost) settled both after = absurd (no alive' now (both refl))
-    by_done is now (Err Halted) settled both after = at_place Unsure after (record { was = pages; stands = settle_stands is; here = all_read S reached K F (disk_now new dev) pages (all is) (settle_stands is) }) where
+    by_done is now (Err Halted) settled both after = at_place Unsure after (all_reads is (disk_now new dev) (all is)) where
       all : alive ≡ true → AllRead S.reads pages (disk_now new dev)
       all e = subst (λ (b : Bool). Touched b (AllRead S.reads pages) (disk_now old dev) (disk_now new dev)) e touched
 
@@ -76,24 +73,28 @@ module _ (S : Setting) (reached : ℕ) (K F : List Entry) (dev : Dev) (old new :
     by_alive true is dead lt = gone is dead lt
     by_alive false is dead lt = ap (λ (d : Disk). d.lost) (subst (λ (b : Bool). Touched b (AllRead S.reads pages) (disk_now old dev) (disk_now new dev)) is touched) ∙ copy.gone is (omega (arith, le, lt))
 
-    pub settle_copy : OneCopy S rests' holds' reached K F place' alive' new.now (disk_now new dev)
+    pub settle_copy : OneCopy S rests' holds' kept coming place' alive' new.now (disk_now new dev)
     settle_copy = record { at = λ now. by_done (stays now) now done settled both after; gone = λ dead. by_alive alive refl dead }
 
 -- a copy of which nothing but a page was read
-module _ (S : Setting) (reached : ℕ) (K F : List Entry) (dev : Dev) (old new : View) (rests : List ℕ → Disk → Type 0) (holds : List ℕ → List ℕ → Disk → Type 0) (place : Place) (alive alive' : Bool)
-    (copy : OneCopy S rests holds reached K F place alive old.now (disk_now old dev)) where
+module _ (S : Setting) (was : List ℕ) (coming : Option (List ℕ)) (dev : Dev) (old new : View) (rests : List ℕ → Disk → Type 0) (holds : List ℕ → List ℕ → Disk → Type 0) (place : Place) (alive alive' : Bool)
+    (copy : OneCopy S rests holds was coming place alive old.now (disk_now old dev)) where
   pub more_reads : ((pages : List ℕ) (d : Disk) → rests pages d → AllRead S.reads pages d) → ((was next : List ℕ) (d : Disk) → holds was next d → AllRead S.reads was d)
-      → old.now < top → (d : Disk) → NoMore (disk_now old dev) d → ReadsOne S reached K F d
+      → old.now < top → (d : Disk) → NoMore (disk_now old dev) d → ReadsOne S was coming d
   more_reads rests_reads holds_reads lt d more image is =
-      copy_reads S reached K F rests holds rests_reads holds_reads place alive old.now (disk_now old dev) lt copy image (no_more_image (disk_now old dev) d image more is)
+      copy_reads S was rests holds rests_reads holds_reads coming place alive old.now (disk_now old dev) lt copy image (no_more_image (disk_now old dev) d image more is)
 
   module _ (rests_stays : (pages : List ℕ) (d e : Disk) → NoMore d e → rests pages d → rests pages e) (holds_stays : (was next : List ℕ) (d e : Disk) → NoMore d e → holds was next d → holds was next e)
       (more : NoMore (disk_now old dev) (disk_now new dev)) where
-    stays_side : (p : Place) → Side S rests holds reached K F p (disk_now old dev) → Side S rests holds reached K F p (disk_now new dev)
-    stays_side Before s = record { was = s.was; stands = s.stands; here = rests_stays s.was (disk_now old dev) (disk_now new dev) more s.here }
-    stays_side Put s = record { was = s.was; stands = s.stands; here = record { next = s.here.next; stands = s.here.stands; here = holds_stays s.was s.here.next (disk_now old dev) (disk_now new dev) more s.here.here } }
-    stays_side Opened s = record { was = s.was; stands = s.stands; here = record { next = s.here.next; stands = s.here.stands; here = rests_stays s.here.next (disk_now old dev) (disk_now new dev) more s.here.here } }
-    stays_side Unsure s = record { was = s.was; stands = s.stands; here = λ image is. s.here image (no_more_image (disk_now old dev) (disk_now new dev) image more is) }
+    on_coming : (P Q : List ℕ → Type 0) → ((p : List ℕ) → P p → Q p) → (n : Option (List ℕ)) → OnComing n P → OnComing n Q
+    on_coming P Q so None here = absurd here
+    on_coming P Q so (Some p) here = so p here
+
+    stays_side : (p : Place) → IsAt S rests holds was coming p (disk_now old dev) → IsAt S rests holds was coming p (disk_now new dev)
+    stays_side Before s = rests_stays was (disk_now old dev) (disk_now new dev) more s
+    stays_side Put s = on_coming (λ p. holds was p (disk_now old dev)) (λ p. holds was p (disk_now new dev)) (λ p here. holds_stays was p (disk_now old dev) (disk_now new dev) more here) coming s
+    stays_side Opened s = on_coming (λ p. rests p (disk_now old dev)) (λ p. rests p (disk_now new dev)) (λ p here. rests_stays p (disk_now old dev) (disk_now new dev) more here) coming s
+    stays_side Unsure s = λ image is. s image (no_more_image (disk_now old dev) (disk_now new dev) image more is)
 
     lost_stays : (b : Bool) → (disk_now new dev).lost ≡ b → (disk_now old dev).lost ≡ true → b ≡ true
     lost_stays true e was = refl
@@ -103,5 +104,5 @@ module _ (S : Setting) (reached : ℕ) (K F : List Entry) (dev : Dev) (old new :
     by_was true is gone le dead lt = gone is dead lt
     by_was false is gone le dead lt = lost_stays (disk_now new dev).lost refl (copy.gone is (omega (arith, le, lt)))
 
-    pub read_copy : (alive' ≡ true → alive ≡ true) → old.now ≤ new.now → IsGone dev alive alive' new → OneCopy S rests holds reached K F place alive' new.now (disk_now new dev)
+    pub read_copy : (alive' ≡ true → alive ≡ true) → old.now ≤ new.now → IsGone dev alive alive' new → OneCopy S rests holds was coming place alive' new.now (disk_now new dev)
     read_copy stays le gone = record { at = λ now. stays_side place (copy.at (stays now)); gone = λ dead. by_was alive refl gone le dead }

@@ -2,6 +2,7 @@
 use Rattle.std.proofs.Common.{◌≡◌, inl, inr, ⊎_elim, ℕ, ◌+◌, Bool, true, false, List, length, Option, Some, refl, ◌∙◌, ap, subst}
 use Rattle.mas_types.specs.declared.ids.Page.{Page}
 use Rattle.mas_types.specs.declared.queues.Queue.{Queue}
+use Rattle.mas_types.specs.declared.journals.Entry.{Entry}
 use Rattle.ckpt_copy.specs.Pages.{bytes_of, level}
 use Rattle.mas_complex.specs.declared.places.Place.{Place}
 use Rattle.mas_complex.specs.declared.places.Place.TheVariants.{Before, Opened}
@@ -17,7 +18,7 @@ stays_true false alive f is = absurd (no alive is (f refl)) where
   no : (x : Bool) → x ≡ true → x ≡ false → ⊥
   no x p q = cc
 
-module _ (reads : List ℕ → Option (List ℕ)) (tells : Type 0) (queue : Queue) (reached : ℕ) where
+module _ (reads : List ℕ → Option (List ℕ)) (tells : Type 0) (queue : Queue) (flying : List Entry) (reached : ℕ) where
   at_before : (l : ℕ) (place : Place) → IsAtLevel l reached place → place ≡ Before → l ≡ reached
   at_before l place at before = ⊎_elim (λ x. x.1) (λ x. absurd (clash place before x.0)) at
 
@@ -36,5 +37,5 @@ module _ (reads : List ℕ → Option (List ℕ)) (tells : Type 0) (queue : Queu
   pub agrees_own : (count room : ℕ) (place : Place) (bytes : List ℕ) (found : List Page) → length found ≡ count → IsAtLevel (level (bytes_of found)) reached place → (tells → reads bytes ≡ Some (bytes_of found)) → Agrees reads tells reached count room place bytes found
   agrees_own count room place bytes found as_many at read = record { as_many = as_many; has = inl (at, read) }
 
-  pub next_own : (alive : Bool) (count : ℕ) (place : Place) (found : List Page) → OneSeen queue tells reached alive count place found → tells → IsNextOr queue reached found
+  pub next_own : (alive : Bool) (count : ℕ) (place : Place) (found : List Page) → OneSeen queue flying tells reached alive count place found → tells → IsNextOr queue flying reached found
   next_own alive count place found seen told other = ⊎_elim (λ x. absurd (other x.1)) (λ x. seen.next told x.0) seen.at

@@ -1,5 +1,5 @@
 -- From the invariant of the shared value to its headline.
-use Rattle.std.proofs.Common.{◌≡◌, inl, inr, ⊎_elim, ℕ, ◌≤◌, ◌<◌, ◌&&◌, cond, Bool, true, false, List, [], ◌∷◌, ◌++◌, filter, All, Contains, Option, Some, None, refl, subst, sym, ◌∙◌, ap, arith}
+use Rattle.std.proofs.Common.{◌≡◌, inl, inr, ⊎_elim, ℕ, ◌+◌, ◌≤◌, ◌<◌, ◌&&◌, cond, Bool, true, false, List, [], ◌∷◌, ◌++◌, filter, All, Contains, Option, Some, None, refl, subst, sym, ◌∙◌, ap, arith}
 use Rattle.std.proofs.lemmas.List.Elements.{All-nil, All-cons}
 use Rattle.mas_types.specs.declared.ids.MemberId.{MemberId}
 use Rattle.mas_types.specs.declared.journals.Batch.{Batch}
@@ -17,15 +17,16 @@ use Rattle.ckpt_copy.specs.Reading.{AllRead}
 use Rattle.ckpt_copy.specs.Moments.{either_way}
 use Rattle.std.proofs.lemmas.Bool.{ne_eqb}
 use Rattle.mas_complex.specs.Journals.{kept, flying, kept_all, entries_in, in_flight, StepIsKept, has_step, EndsInPlace, HasPlace, end_of, with_last, without_last}
-use Rattle.std.specs.Prelude.{IsSome}
+use Rattle.std.specs.Prelude.{IsSome, IfSome}
+use Rattle.ckpt_copy.specs.Pages.{level}
 use Rattle.std.proofs.lemmas.List.{append-nil}
 use Rattle.mas_complex.proofs.BatchEnds.{with_last-append, without_last-append}
 use Rattle.mas_complex.proofs.Batches.{now_kept, now_flying}
-use Rattle.mas_complex.proofs.Present.{crash_of, top_reads}
+use Rattle.mas_complex.proofs.Present.{alike_as, alike_found, top_reads}
 use Rattle.mas_complex.proofs.Moves.{unplace_keeps}
 use Rattle.mas_complex.specs.Meaning.{Closes, run, StandFor}
-use Rattle.mas_complex.specs.Crash.{Setting, setting, Copy, Keeps, IsLeft, SomeLeft, IsFound, IsAfter, EachTells, said, found, lost_if, left_at}
-use Rattle.mas_complex.specs.Headline.{Headline, FoundFor, IsAfterKept, whole}
+use Rattle.mas_complex.specs.Crash.{Setting, setting, Stands, IsNext, Alike, Copy, Keeps, IsFound, IsAfter, EachTells, said, found, lost_if, left_at}
+use Rattle.mas_complex.specs.Headline.{Headline, FoundFor, IsAfterKept, AreAlike, whole}
 
 pub kept_is : (bs : List Batch) (t : ℕ) → kept bs t ≡ entries_of (filter (is_kept_by t) bs)
 kept_is [] t = refl
@@ -75,25 +76,54 @@ module _ (reads : List ℕ → Option (List ℕ)) (base : Queue) (since : ℕ) (
       (ap (λ (l : List Entry). l ++ flying (js ++ in_flight c) t) (kept_is (js ++ in_flight c) t) ∙ ap (λ (l : List Entry). kept_at (record { batches = js ++ in_flight c }) t ++ l) (flying_is (js ++ in_flight c) t)) q x))
       after
 
+  are_alike : (t : ℕ) → Alike S (kept (js ++ in_flight c) t) (flying (js ++ in_flight c) t) (left_at v t Ckpt1) (left_at v t Ckpt2) → AreAlike reads base (record { batches = js ++ in_flight c }) t (left_at v t Ckpt1) (left_at v t Ckpt2)
+  are_alike t alike = of_same (subst (λ (l : List Entry). Alike S (kept_at (record { batches = js ++ in_flight c }) t) l (left_at v t Ckpt1) (left_at v t Ckpt2)) (flying_is (js ++ in_flight c) t)
+      (subst (λ (l : List Entry). Alike S l (flying (js ++ in_flight c) t) (left_at v t Ckpt1) (left_at v t Ckpt2)) (kept_is (js ++ in_flight c) t) alike)) where
+    next_of : (l : ℕ) (was : List ℕ) (K F : List Entry) (n : Option (List ℕ)) → Stands S l K was → IsNext S l K F n → IfSome n (λ pages. (level pages ≡ level was + 1) × StandFor (run base (K ++ F)) pages)
+    next_of l was K F None stands comes = tt
+    next_of l was K F (Some pages) stands comes = (omega (arith, stands.at_level, comes.at_level), comes.queue)
+
+    of_same : Alike S (kept_at (record { batches = js ++ in_flight c }) t) (flying_at (record { batches = js ++ in_flight c }) t) (left_at v t Ckpt1) (left_at v t Ckpt2) → AreAlike reads base (record { batches = js ++ in_flight c }) t (left_at v t Ckpt1) (left_at v t Ckpt2)
+    of_same a = record {
+      was = a.was;
+      coming = a.coming;
+      stands = a.stands.queue;
+      comes = next_of a.reached a.was (kept_at (record { batches = js ++ in_flight c }) t) (flying_at (record { batches = js ++ in_flight c }) t) a.coming a.stands a.comes;
+      none = a.none;
+      first = a.first;
+      second = a.second;
+    }
+
   module _ (keeps : Keeps S js c reached first second v) (most : v.now ≤ top) (lost1 : first.alive ≡ false → v.lost (DiskPart Ckpt1) ≡ true) (lost2 : second.alive ≡ false → v.lost (DiskPart Ckpt2) ≡ true)
       (rests_reads1 : (pages : List ℕ) (d : Disk) → first.rests pages d → AllRead reads pages d) (holds_reads1 : (was next : List ℕ) (d : Disk) → first.holds was next d → AllRead reads was d)
       (rests_reads2 : (pages : List ℕ) (d : Disk) → second.rests pages d → AllRead reads pages d) (holds_reads2 : (was next : List ℕ) (d : Disk) → second.holds was next d → AllRead reads was d) where
-    at_top : v.now ≡ top → (one two : Option (List ℕ)) → IsLeft (left_at v v.now Ckpt1) one → IsLeft (left_at v v.now Ckpt2) two → SomeLeft one two → IsAfter S (js ++ in_flight c) v.now (found S one two)
-    at_top last = crash_of S reached (kept_all js) (entries_in c) (js ++ in_flight c) v.now (now_kept js c v.now v.now keeps.settled keeps.begun (omega arith)) (now_flying js c v.now v.now keeps.settled keeps.begun (omega arith))
-        (left_at v v.now Ckpt1) (left_at v v.now Ckpt2)
-        (top_reads S reached (kept_all js) (entries_in c) first.rests first.holds rests_reads1 holds_reads1 first.place first.alive Ckpt1 v last keeps.first_at lost1)
-        (top_reads S reached (kept_all js) (entries_in c) second.rests second.holds rests_reads2 holds_reads2 second.place second.alive Ckpt2 v last keeps.second_at lost2)
+    at_top : v.now ≡ top → Alike S (kept (js ++ in_flight c) v.now) (flying (js ++ in_flight c) v.now) (left_at v v.now Ckpt1) (left_at v v.now Ckpt2)
+    at_top last = alike_as S (kept_all js) (entries_in c) (kept (js ++ in_flight c) v.now) (flying (js ++ in_flight c) v.now) (left_at v v.now Ckpt1) (left_at v v.now Ckpt2)
+        (now_kept js c v.now v.now keeps.settled keeps.begun (omega arith)) (now_flying js c v.now v.now keeps.settled keeps.begun (omega arith))
+        (record {
+          reached = reached;
+          was = keeps.was;
+          coming = keeps.coming;
+          stands = keeps.stands;
+          comes = keeps.comes;
+          none = keeps.none;
+          first = top_reads S keeps.was first.rests first.holds rests_reads1 holds_reads1 keeps.coming first.place first.alive Ckpt1 v last keeps.first_at lost1;
+          second = top_reads S keeps.was second.rests second.holds rests_reads2 holds_reads2 keeps.coming second.place second.alive Ckpt2 v last keeps.second_at lost2;
+        })
 
-    at_any : (t : ℕ) → since ≤ t → t ≤ v.now → (one two : Option (List ℕ)) → IsLeft (left_at v t Ckpt1) one → IsLeft (left_at v t Ckpt2) two → SomeLeft one two → IsAfter S (js ++ in_flight c) t (found S one two)
-    at_any t from le one two left right some = ⊎_elim
+    at_any : (t : ℕ) → since ≤ t → t ≤ v.now → Alike S (kept (js ++ in_flight c) t) (flying (js ++ in_flight c) t) (left_at v t Ckpt1) (left_at v t Ckpt2)
+    at_any t from le = ⊎_elim
         (λ h. let last : v.now ≡ top = omega (arith, most, le, h) in let e : v.now ≡ t = omega (arith, most, le, h) in
-        subst (λ (m : ℕ). IsLeft (left_at v m Ckpt1) one → IsLeft (left_at v m Ckpt2) two → IsAfter S (js ++ in_flight c) m (found S one two)) e (λ x y. at_top last one two x y some) left right)
-        (λ lt. keeps.crash t from le lt one two (subst (λ (d : Disk). IsLeft d one) (left_below v t Ckpt1 lt) left) (subst (λ (d : Disk). IsLeft d two) (left_below v t Ckpt2 lt) right) some)
+        subst (λ (m : ℕ). Alike S (kept (js ++ in_flight c) m) (flying (js ++ in_flight c) m) (left_at v m Ckpt1) (left_at v m Ckpt2)) e (at_top last))
+        (λ lt. subst (λ (d : Disk). Alike S (kept (js ++ in_flight c) t) (flying (js ++ in_flight c) t) d (left_at v t Ckpt2)) (sym (left_below v t Ckpt1 lt))
+        (subst (λ (d : Disk). Alike S (kept (js ++ in_flight c) t) (flying (js ++ in_flight c) t) (disk_at v t Ckpt1) d) (sym (left_below v t Ckpt2 lt)) (keeps.crash t from le lt)))
         (either_way top t)
 
     pub headline_of : Headline reads base since (record { batches = js ++ in_flight c }) v
     headline_of = record {
-      crash = λ t from le one two left right some. after_kept t (found S one two) (at_any t from le one two left right some);
+      crash = λ t from le one two left right some. after_kept t (found S one two)
+          (alike_found S (kept (js ++ in_flight c) t) (flying (js ++ in_flight c) t) (left_at v t Ckpt1) (left_at v t Ckpt2) (at_any t from le) one two left right some);
+      alike = λ t from le. are_alike t (at_any t from le);
       told = λ t from le by at end telling there.
           step_is (js ++ in_flight c) t by at
           (one_tells Closes (StepIsKept (js ++ in_flight c) t) (said S v t) (whole (closing_line by at end)) (keeps.told t from le) there refl by at (record { end = end; telling = telling; is = refl }));

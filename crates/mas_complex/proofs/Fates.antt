@@ -1,6 +1,7 @@
 -- Copies once the batch in flight has its fate, and lines that are said.
-use Rattle.std.proofs.Common.{◌≡◌, inl, inr, ℕ, ◌+◌, ◌≤◌, ◌<◌, Bool, true, false, List, [], ◌∷◌, ◌++◌, if◌then◌else◌, Option, Some, None, subst, sym, ◌∙◌, ap, arith}
+use Rattle.std.proofs.Common.{◌≡◌, inl, inr, ⊎_elim, ℕ, ◌+◌, ◌≤◌, ◌<◌, ◌||◌, Bool, true, false, List, [], ◌∷◌, ◌++◌, if◌then◌else◌, Option, Some, None, subst, sym, ◌∙◌, ap, arith}
 use Rattle.std.proofs.lemmas.List.{append-nil}
+use Rattle.std.proofs.lemmas.Bool.{or_cases}
 use Rattle.mas_types.specs.declared.ids.Dev.TheVariants.{Ckpt1, Ckpt2}
 use Rattle.spool_disk.specs.declared.plant.Act.{Act}
 use Rattle.spool_disk.specs.declared.plant.Act.TheVariants.{Done, Failed, Halted}
@@ -12,10 +13,10 @@ use Rattle.mas_types.specs.declared.journals.Batch.{Batch}
 use Rattle.mas_types.specs.declared.journals.Entry.{Entry}
 use Rattle.mas_types.specs.declared.journals.Fate.TheVariants.{Kept, Dropped}
 use Rattle.mas_complex.specs.declared.places.Place.{Place}
-use Rattle.mas_complex.specs.declared.places.Place.TheVariants.{Before, Put, Opened, Unsure}
-use Rattle.mas_complex.specs.Journals.{kept_all, in_flight, entries_in, StepIsKept}
+use Rattle.mas_complex.specs.declared.places.Place.TheVariants.{Before, Opened}
+use Rattle.mas_complex.specs.Journals.{kept_all, in_flight, StepIsKept}
 use Rattle.mas_types.specs.Journal.{is_kept, is_flying}
-use Rattle.mas_complex.specs.Crash.{Setting, Stands, ReadsOne, Side, OneCopy, Copy, copy_of, Keeps}
+use Rattle.mas_complex.specs.Crash.{Setting, Stands, IsNext, ReadsOne, OnComing, IsAt, OneCopy, Copy, CopyAt, copy_of, Keeps}
 use Rattle.mas_complex.proofs.Batches.{kept_all_append}
 use Rattle.mas_complex.proofs.Present.{copy_reads}
 use Rattle.mas_complex.proofs.Moves.{Adds, acts_keep, fate_keeps}
@@ -27,68 +28,65 @@ one_kept c fate = ap (λ f. (if is_kept f then c.entries else []) ++ []) fate �
 one_dropped : (c : Batch) → c.fate ≡ Dropped → kept_all (c ∷ []) ≡ []
 one_dropped c fate = ap (λ f. (if is_kept f then c.entries else []) ++ []) fate
 
-module _ (S : Setting) (rests : List ℕ → Disk → Type 0) (holds : List ℕ → List ℕ → Disk → Type 0) (reached : ℕ) (K F L : List Entry) (alive : Bool) (now : ℕ) (d : Disk) where
-  opened_side : (p : Place) → p ≡ Opened → L ≡ K ++ F → Side S rests holds reached K F p d → Side S rests holds (reached + 1) L [] Before d
-  opened_side Opened e same s = record { was = s.here.next; stands = subst (λ (l : List Entry). Stands S (reached + 1) l s.here.next) (sym same) s.here.stands; here = s.here.here }
-  opened_side Before e same s = absurd (cc)
-  opened_side Put e same s = absurd (cc)
-  opened_side Unsure e same s = absurd (cc)
+module _ (S : Setting) (rests : List ℕ → Disk → Type 0) (holds : List ℕ → List ℕ → Disk → Type 0) (was : List ℕ) (coming : Option (List ℕ)) (place : Place) (alive : Bool) (now : ℕ) (d : Disk) where
+  -- an alive copy that has opened its gate has pages in flight
+  none_opened : OneCopy S rests holds was coming place alive now d → alive ≡ true → place ≡ Opened → coming ≡ None → ⊥
+  none_opened copy is opened none =
+      subst (λ (n : Option (List ℕ)). OnComing n (λ p. rests p d)) none (subst (λ (x : Place). IsAt S rests holds was coming x d) opened (copy.at is))
 
-  before_side : (p : Place) → p ≡ Before → L ≡ K → Side S rests holds reached K F p d → Side S rests holds reached L [] Before d
-  before_side Before e same s = record { was = s.was; stands = subst (λ (l : List Entry). Stands S reached l s.was) (sym same) s.stands; here = s.here }
-  before_side Opened e same s = absurd (cc)
-  before_side Put e same s = absurd (cc)
-  before_side Unsure e same s = absurd (cc)
+  pub after_kept : (pages : List ℕ) → coming ≡ Some pages → (alive ≡ true → place ≡ Opened) → OneCopy S rests holds was coming place alive now d → OneCopy S rests holds pages None Before alive now d
+  after_kept pages same opened copy = record {
+    at = λ is. subst (λ (n : Option (List ℕ)). OnComing n (λ p. rests p d)) same (subst (λ (x : Place). IsAt S rests holds was coming x d) (opened is) (copy.at is));
+    gone = copy.gone;
+  }
 
-  pub after_kept : (place : Place) → (alive ≡ true → place ≡ Opened) → L ≡ K ++ F → OneCopy S rests holds reached K F place alive now d → OneCopy S rests holds (reached + 1) L [] Before alive now d
-  after_kept place is same copy = record { at = λ a. opened_side place (is a) same (copy.at a); gone = copy.gone }
+  pub after_dropped : (alive ≡ true → place ≡ Before) → OneCopy S rests holds was coming place alive now d → OneCopy S rests holds was None Before alive now d
+  after_dropped before copy = record { at = λ is. subst (λ (x : Place). IsAt S rests holds was coming x d) (before is) (copy.at is); gone = copy.gone }
 
-  pub after_dropped : (place : Place) → (alive ≡ true → place ≡ Before) → L ≡ K → OneCopy S rests holds reached K F place alive now d → OneCopy S rests holds reached L [] Before alive now d
-  after_dropped place is same copy = record { at = λ a. before_side place (is a) same (copy.at a); gone = copy.gone }
+-- a copy counts as alive, and each that does has opened its gate: so there are pages in flight
+pub opened_some : (S : Setting) (js : List Batch) (c : Option Batch) (reached : ℕ) (first second : Copy) (v : View) → (keeps : Keeps S js c reached first second v) → (first.alive || second.alive) ≡ true
+    → (first.alive ≡ true → first.place ≡ Opened) → (second.alive ≡ true → second.place ≡ Opened) → keeps.coming ≡ None → ⊥
+opened_some S js c reached first second v keeps some one two none = ⊎_elim
+    (λ is. none_opened S first.rests first.holds keeps.was keeps.coming first.place first.alive v.now (disk_now v Ckpt1) keeps.first_at is (one is) none)
+    (λ is. none_opened S second.rests second.holds keeps.was keeps.coming second.place second.alive v.now (disk_now v Ckpt2) keeps.second_at is (two is) none)
+    (or_cases first.alive second.alive some)
 
 module _ (S : Setting) (js : List Batch) (b c : Batch) (reached : ℕ) (first second : Copy) (v : View) (keeps : Keeps S js (Some b) reached first second v)
     (same_first : c.first ≡ b.first) (same_entries : c.entries ≡ b.entries) (last : c.last ≡ v.now)
     (rests_reads1 : (pages : List ℕ) (d : Disk) → first.rests pages d → AllRead S.reads pages d) (holds_reads1 : (was next : List ℕ) (d : Disk) → first.holds was next d → AllRead S.reads was d)
     (rests_reads2 : (pages : List ℕ) (d : Disk) → second.rests pages d → AllRead S.reads pages d) (holds_reads2 : (was next : List ℕ) (d : Disk) → second.holds was next d → AllRead S.reads was d) where
-  pub kept_keeps : c.fate ≡ Kept → (first.alive ≡ true → first.place ≡ Opened) → (second.alive ≡ true → second.place ≡ Opened)
-      → Keeps S (js ++ c ∷ []) None (reached + 1) (copy_of first.rests first.holds first.alive Before) (copy_of second.rests second.holds second.alive Before) v
-  kept_keeps fate one two =
-      let all : kept_all (js ++ c ∷ []) ≡ kept_all js ++ b.entries = kept_all_append js (c ∷ []) ∙ ap (λ (l : List Entry). kept_all js ++ l) (one_kept c fate ∙ same_entries) in
-      let x = after_kept S first.rests first.holds reached (kept_all js) b.entries (kept_all (js ++ c ∷ [])) first.alive v.now (disk_now v Ckpt1) first.place one all keeps.first_at in
-      let y = after_kept S second.rests second.holds reached (kept_all js) b.entries (kept_all (js ++ c ∷ [])) second.alive v.now (disk_now v Ckpt2) second.place two all keeps.second_at in
-      fate_keeps S js b c reached (reached + 1) first second (copy_of first.rests first.holds first.alive Before) (copy_of second.rests second.holds second.alive Before) v keeps (ap is_flying fate) same_first same_entries last
+  -- the kept pages are then these, which each alive copy reads
+  at_rest : (reached' : ℕ) (pages : List ℕ) → is_flying c.fate ≡ false → Stands S reached' (kept_all (js ++ c ∷ [])) pages
+      → OneCopy S first.rests first.holds pages None Before first.alive v.now (disk_now v Ckpt1) → OneCopy S second.rests second.holds pages None Before second.alive v.now (disk_now v Ckpt2)
+      → Keeps S (js ++ c ∷ []) None reached' (copy_of first.rests first.holds first.alive Before) (copy_of second.rests second.holds second.alive Before) v
+  at_rest reached' pages fated stands x y =
+      fate_keeps S js b c reached reached' first second (copy_of first.rests first.holds first.alive Before) (copy_of second.rests second.holds second.alive Before) v keeps fated same_first same_entries last pages stands
       (λ lt. (
-        copy_reads S (reached + 1) (kept_all (js ++ c ∷ [])) [] first.rests first.holds rests_reads1 holds_reads1 Before first.alive v.now (disk_now v Ckpt1) lt x,
-        copy_reads S (reached + 1) (kept_all (js ++ c ∷ [])) [] second.rests second.holds rests_reads2 holds_reads2 Before second.alive v.now (disk_now v Ckpt2) lt y,
+        copy_reads S pages first.rests first.holds rests_reads1 holds_reads1 None Before first.alive v.now (disk_now v Ckpt1) lt x,
+        copy_reads S pages second.rests second.holds rests_reads2 holds_reads2 None Before second.alive v.now (disk_now v Ckpt2) lt y,
       ))
       x y
+
+  pub kept_keeps : c.fate ≡ Kept → (first.alive || second.alive) ≡ true → (first.alive ≡ true → first.place ≡ Opened) → (second.alive ≡ true → second.place ≡ Opened)
+      → Keeps S (js ++ c ∷ []) None (reached + 1) (copy_of first.rests first.holds first.alive Before) (copy_of second.rests second.holds second.alive Before) v
+  kept_keeps fate some one two = by_coming keeps.coming refl keeps.comes where
+    all : kept_all (js ++ c ∷ []) ≡ kept_all js ++ b.entries
+    all = kept_all_append js (c ∷ []) ∙ ap (λ (l : List Entry). kept_all js ++ l) (one_kept c fate ∙ same_entries)
+
+    by_coming : (n : Option (List ℕ)) → keeps.coming ≡ n → IsNext S reached (kept_all js) b.entries n → Keeps S (js ++ c ∷ []) None (reached + 1) (copy_of first.rests first.holds first.alive Before) (copy_of second.rests second.holds second.alive Before) v
+    by_coming None same comes = absurd (opened_some S js (Some b) reached first second v keeps some one two same)
+    by_coming (Some pages) same comes =
+        at_rest (reached + 1) pages (ap is_flying fate) (subst (λ (l : List Entry). Stands S (reached + 1) l pages) (sym all) comes)
+        (after_kept S first.rests first.holds keeps.was keeps.coming first.place first.alive v.now (disk_now v Ckpt1) pages same one keeps.first_at)
+        (after_kept S second.rests second.holds keeps.was keeps.coming second.place second.alive v.now (disk_now v Ckpt2) pages same two keeps.second_at)
 
   pub dropped_keeps : c.fate ≡ Dropped → (first.alive ≡ true → first.place ≡ Before) → (second.alive ≡ true → second.place ≡ Before)
       → Keeps S (js ++ c ∷ []) None reached (copy_of first.rests first.holds first.alive Before) (copy_of second.rests second.holds second.alive Before) v
   dropped_keeps fate one two =
       let all : kept_all (js ++ c ∷ []) ≡ kept_all js = kept_all_append js (c ∷ []) ∙ ap (λ (l : List Entry). kept_all js ++ l) (one_dropped c fate) ∙ append-nil (kept_all js) in
-      let x = after_dropped S first.rests first.holds reached (kept_all js) b.entries (kept_all (js ++ c ∷ [])) first.alive v.now (disk_now v Ckpt1) first.place one all keeps.first_at in
-      let y = after_dropped S second.rests second.holds reached (kept_all js) b.entries (kept_all (js ++ c ∷ [])) second.alive v.now (disk_now v Ckpt2) second.place two all keeps.second_at in
-      fate_keeps S js b c reached reached first second (copy_of first.rests first.holds first.alive Before) (copy_of second.rests second.holds second.alive Before) v keeps (ap is_flying fate) same_first same_entries last
-      (λ lt. (
-        copy_reads S reached (kept_all (js ++ c ∷ [])) [] first.rests first.holds rests_reads1 holds_reads1 Before first.alive v.now (disk_now v Ckpt1) lt x,
-        copy_reads S reached (kept_all (js ++ c ∷ [])) [] second.rests second.holds rests_reads2 holds_reads2 Before second.alive v.now (disk_now v Ckpt2) lt y,
-      ))
-      x y
-
--- pages of the next level that stand for the same queue
-pub risen_keeps : (S : Setting) (js : List Batch) (reached : ℕ) (first second : Copy) (v : View) → Keeps S js None reached first second v → (first.alive ≡ true → first.place ≡ Opened) → (second.alive ≡ true → second.place ≡ Opened)
-    → Keeps S js None (reached + 1) (copy_of first.rests first.holds first.alive Before) (copy_of second.rests second.holds second.alive Before) v
-risen_keeps S js reached first second v keeps one two = record {
-  started = keeps.started;
-  settled = keeps.settled;
-  begun = keeps.begun;
-  crash = keeps.crash;
-  told = keeps.told;
-  grows = keeps.grows;
-  first_at = after_kept S first.rests first.holds reached (kept_all js) [] (kept_all js) first.alive v.now (disk_now v Ckpt1) first.place one (sym (append-nil (kept_all js))) keeps.first_at;
-  second_at = after_kept S second.rests second.holds reached (kept_all js) [] (kept_all js) second.alive v.now (disk_now v Ckpt2) second.place two (sym (append-nil (kept_all js))) keeps.second_at;
-}
+      at_rest reached keeps.was (ap is_flying fate) (subst (λ (l : List Entry). Stands S reached l keeps.was) (sym all) keeps.stands)
+      (after_dropped S first.rests first.holds keeps.was keeps.coming first.place first.alive v.now (disk_now v Ckpt1) one keeps.first_at)
+      (after_dropped S second.rests second.holds keeps.was keeps.coming second.place second.alive v.now (disk_now v Ckpt2) two keeps.second_at)
 
 -- a line is said
 module _ (S : Setting) (js : List Batch) (c : Option Batch) (reached : ℕ) (first second : Copy) (old new : View) (line : List ℕ) (act : Act) where
@@ -118,13 +116,13 @@ module _ (S : Setting) (js : List Batch) (c : Option Batch) (reached : ℕ) (fir
       (rests_reads2 : (pages : List ℕ) (d : Disk) → second.rests pages d → AllRead S.reads pages d) (holds_reads2 : (was next : List ℕ) (d : Disk) → second.holds was next d → AllRead S.reads was d) where
     pub says_keep : Goes old new → new.now ≡ next old.now → Says line old new act → ((m : MemberId) (s : ℕ) → S.closes line m s → StepIsKept (js ++ in_flight c) old.now m s) → Keeps S js c reached first second new
     says_keep goes time says told =
-        acts_keep S js c reached first second first second old new keeps goes
+        acts_keep S js c reached first second first second old new keeps goes keeps.coming keeps.comes keeps.none
         (λ t lt le below. let e = at_end t time lt le in (
-          subst (λ (m : ℕ). ReadsOne S reached (kept_all js) (entries_in c) (disk_at new m Ckpt1)) (sym e) (subst (λ (d : Disk). ReadsOne S reached (kept_all js) (entries_in c) d) (sym (says.disks Ckpt1))
-              (copy_reads S reached (kept_all js) (entries_in c) first.rests first.holds rests_reads1 holds_reads1 first.place first.alive old.now (disk_now old Ckpt1) (omega arith) keeps.first_at)),
-          subst (λ (m : ℕ). ReadsOne S reached (kept_all js) (entries_in c) (disk_at new m Ckpt2)) (sym e) (subst (λ (d : Disk). ReadsOne S reached (kept_all js) (entries_in c) d) (sym (says.disks Ckpt2))
-              (copy_reads S reached (kept_all js) (entries_in c) second.rests second.holds rests_reads2 holds_reads2 second.place second.alive old.now (disk_now old Ckpt2) (omega arith) keeps.second_at)),
+          subst (λ (m : ℕ). ReadsOne S keeps.was keeps.coming (disk_at new m Ckpt1)) (sym e) (subst (λ (d : Disk). ReadsOne S keeps.was keeps.coming d) (sym (says.disks Ckpt1))
+              (copy_reads S keeps.was first.rests first.holds rests_reads1 holds_reads1 keeps.coming first.place first.alive old.now (disk_now old Ckpt1) (omega arith) keeps.first_at)),
+          subst (λ (m : ℕ). ReadsOne S keeps.was keeps.coming (disk_at new m Ckpt2)) (sym e) (subst (λ (d : Disk). ReadsOne S keeps.was keeps.coming d) (sym (says.disks Ckpt2))
+              (copy_reads S keeps.was second.rests second.holds rests_reads2 holds_reads2 keeps.coming second.place second.alive old.now (disk_now old Ckpt2) (omega arith) keeps.second_at)),
         ))
         (adds_line time says told)
-        (moved S first.rests first.holds reached (kept_all js) (entries_in c) first.place first.alive old.now new.now (disk_now old Ckpt1) (disk_now new Ckpt1) goes.later (says.disks Ckpt1) keeps.first_at)
-        (moved S second.rests second.holds reached (kept_all js) (entries_in c) second.place second.alive old.now new.now (disk_now old Ckpt2) (disk_now new Ckpt2) goes.later (says.disks Ckpt2) keeps.second_at)
+        (moved S first.rests first.holds keeps.was keeps.coming first.place first.alive old.now new.now (disk_now old Ckpt1) (disk_now new Ckpt1) goes.later (says.disks Ckpt1) keeps.first_at)
+        (moved S second.rests second.holds keeps.was keeps.coming second.place second.alive old.now new.now (disk_now old Ckpt2) (disk_now new Ckpt2) goes.later (says.disks Ckpt2) keeps.second_at)

@@ -1,5 +1,5 @@
 -- A batch takes its place in the journal.
-use Rattle.std.proofs.Common.{◌≡◌, ℕ, ◌+◌, ◌≤◌, Bool, true, false, List, [], ◌∷◌, ◌++◌, Option, Some, None, refl, subst, sym, ◌∙◌, ap, arith}
+use Rattle.std.proofs.Common.{◌≡◌, ℕ, ◌+◌, ◌≤◌, ◌||◌, Bool, true, false, List, [], ◌∷◌, ◌++◌, Option, Some, None, refl, subst, sym, ◌∙◌, ap, arith}
 use Rattle.mas_types.specs.declared.ids.MemberId.{MemberId}
 use Rattle.mas_types.specs.declared.journals.Batch.{Batch}
 use Rattle.mas_types.specs.declared.journals.Entry.{Entry}
@@ -33,11 +33,11 @@ module _ (S : Setting) (reached : ℕ) (first second : Copy) (v : View)
   without x keeps = unplace_keeps S p.before p.place x reached first second v p.free (subst (λ (l : List Batch). Keeps S l x reached first second v) p.is keeps)
 
   pub kept_placed : (b : Batch) → Keeps S J (Some b) reached first second v → c.first ≡ b.first → c.entries ≡ b.entries → c.last ≡ v.now → c.fate ≡ Kept
-      → (first.alive ≡ true → first.place ≡ Opened) → (second.alive ≡ true → second.place ≡ Opened)
+      → (first.alive || second.alive) ≡ true → (first.alive ≡ true → first.place ≡ Opened) → (second.alive ≡ true → second.place ≡ Opened)
       → Keeps S (with_last c J) None (reached + 1) (copy_of first.rests first.holds first.alive Before) (copy_of second.rests second.holds second.alive Before) v
-  kept_placed b keeps same_first same_entries last fate one two =
+  kept_placed b keeps same_first same_entries last fate some one two =
       subst (λ (l : List Batch). Keeps S l None (reached + 1) (copy_of first.rests first.holds first.alive Before) (copy_of second.rests second.holds second.alive Before) v) (sym with_it)
-      (kept_keeps S p.before b c reached first second v (without (Some b) keeps) same_first same_entries last rests_reads1 holds_reads1 rests_reads2 holds_reads2 fate one two)
+      (kept_keeps S p.before b c reached first second v (without (Some b) keeps) same_first same_entries last rests_reads1 holds_reads1 rests_reads2 holds_reads2 fate some one two)
 
   pub dropped_placed : (b : Batch) → Keeps S J (Some b) reached first second v → c.first ≡ b.first → c.entries ≡ b.entries → c.last ≡ v.now → c.fate ≡ Dropped
       → (first.alive ≡ true → first.place ≡ Before) → (second.alive ≡ true → second.place ≡ Before)
@@ -47,11 +47,10 @@ module _ (S : Setting) (reached : ℕ) (first second : Copy) (v : View)
       (dropped_keeps S p.before b c reached first second v (without (Some b) keeps) same_first same_entries last rests_reads1 holds_reads1 rests_reads2 holds_reads2 fate one two)
 
   pub same_placed : (b : Batch) → Keeps S J None reached first second v → b.fate ≡ Flying → b.first ≡ v.now → IsUntold S v b.entries
-      → (first.alive ≡ true → first.place ≡ Before) → (second.alive ≡ true → second.place ≡ Before)
       → c.fate ≡ Kept → c.first ≡ b.first → c.entries ≡ b.entries → c.last ≡ v.now → S.run S.base (kept_all J ++ b.entries) ≡ S.run S.base (kept_all J)
       → Keeps S (with_last c J) None reached first second v
-  same_placed b keeps flies begins untold one two fate same_first same_entries last same_queue =
+  same_placed b keeps flies begins untold fate same_first same_entries last same_queue =
       let all : kept_all J ≡ kept_all p.before = ap kept_all p.is ∙ placed_all p.place p.free p.before in
       subst (λ (l : List Batch). Keeps S l None reached first second v) (sym with_it)
-      (same_keeps S reached first second v rests_reads1 holds_reads1 rests_reads2 holds_reads2 p.before b c (without None keeps) flies begins untold one two fate same_first same_entries last
+      (same_keeps S reached first second v rests_reads1 holds_reads1 rests_reads2 holds_reads2 p.before b c (without None keeps) flies begins untold fate same_first same_entries last
       (subst (λ (l : List Entry). S.run S.base (l ++ b.entries) ≡ S.run S.base l) all same_queue))

@@ -9,14 +9,14 @@ use Rattle.spool_disk.specs.Acts.{Goes, top}
 use Rattle.ckpt_copy.specs.Moments.{either_way}
 use Rattle.ckpt_copy.specs.Reading.{AllRead}
 use Rattle.mas_complex.specs.declared.places.Place.{Place}
-use Rattle.mas_complex.specs.Crash.{Setting, setting, OneCopy, ReadsOne, IsFound, found, left_at}
+use Rattle.mas_complex.specs.Crash.{Setting, setting, Stands, OneCopy, ReadsOne, Alike, IsFound, found, left_at}
 use Rattle.mas_complex.specs.Headline.{FoundFor, LeavesQueue}
-use Rattle.mas_complex.proofs.Present.{copy_reads, crash_of, top_reads}
+use Rattle.mas_complex.proofs.Present.{copy_reads, alike_found, top_reads}
 use Rattle.mas_complex.proofs.Ending.{left_below}
 
 -- a copy at a moment, as a crash finds it after later acts
-module _ (S : Setting) (reached : ℕ) (rests : List ℕ → Disk → Type 0) (holds : List ℕ → List ℕ → Disk → Type 0) (rests_reads : (pages : List ℕ) (d : Disk) → rests pages d → AllRead S.reads pages d) (holds_reads : (was next : List ℕ) (d : Disk) → holds was next d → AllRead S.reads was d)
-    (place : Place) (alive : Bool) (dev : Dev) (v later : View) (most : v.now ≤ top) (goes : Goes v later) (copy : OneCopy S rests holds reached [] [] place alive v.now (disk_now v dev)) (lost : alive ≡ false → v.lost (DiskPart dev) ≡ true) where
+module _ (S : Setting) (was : List ℕ) (coming : Option (List ℕ)) (rests : List ℕ → Disk → Type 0) (holds : List ℕ → List ℕ → Disk → Type 0) (rests_reads : (pages : List ℕ) (d : Disk) → rests pages d → AllRead S.reads pages d) (holds_reads : (was next : List ℕ) (d : Disk) → holds was next d → AllRead S.reads was d)
+    (place : Place) (alive : Bool) (dev : Dev) (v later : View) (most : v.now ≤ top) (goes : Goes v later) (copy : OneCopy S rests holds was coming place alive v.now (disk_now v dev)) (lost : alive ≡ false → v.lost (DiskPart dev) ≡ true) where
   same_world : disk_at later v.now dev ≡ disk_now v dev
   same_world = ap (λ (w : World). w.disk dev) (goes.past v.now (omega arith))
 
@@ -24,13 +24,13 @@ module _ (S : Setting) (reached : ℕ) (rests : List ℕ → Disk → Type 0) (h
   abbrev again : View
   again = record v { world = later.world; lost = later.lost }
 
-  first_below : v.now < top → ReadsOne S reached [] [] (left_at later v.now dev)
-  first_below lt = subst (λ (d : Disk). ReadsOne S reached [] [] d) (sym (left_below later v.now dev lt ∙ same_world)) (copy_reads S reached [] [] rests holds rests_reads holds_reads place alive v.now (disk_now v dev) lt copy)
+  first_below : v.now < top → ReadsOne S was coming (left_at later v.now dev)
+  first_below lt = subst (λ (d : Disk). ReadsOne S was coming d) (sym (left_below later v.now dev lt ∙ same_world)) (copy_reads S was rests holds rests_reads holds_reads coming place alive v.now (disk_now v dev) lt copy)
 
-  first_top : v.now ≡ top → ReadsOne S reached [] [] (left_at later v.now dev)
-  first_top last = top_reads S reached [] [] rests holds rests_reads holds_reads place alive dev again last (subst (λ (d : Disk). OneCopy S rests holds reached [] [] place alive v.now d) (sym same_world) copy) (λ dead. goes.lost (DiskPart dev) (lost dead))
+  first_top : v.now ≡ top → ReadsOne S was coming (left_at later v.now dev)
+  first_top last = top_reads S was rests holds rests_reads holds_reads coming place alive dev again last (subst (λ (d : Disk). OneCopy S rests holds was coming place alive v.now d) (sym same_world) copy) (λ dead. goes.lost (DiskPart dev) (lost dead))
 
-  pub first_reads : ReadsOne S reached [] [] (left_at later v.now dev)
+  pub first_reads : ReadsOne S was coming (left_at later v.now dev)
   first_reads = ⊎_elim (λ le. first_top (omega (arith, most, le))) (λ lt. first_below lt) (either_way top v.now)
 
 module _ (reads : List ℕ → Option (List ℕ)) (base : Queue) (since : ℕ) where
@@ -38,7 +38,8 @@ module _ (reads : List ℕ → Option (List ℕ)) (base : Queue) (since : ℕ) w
   for_base None after = ⊎_elim (λ h. h) (λ h. h) after
   for_base (Some pages) after = ⊎_elim (λ h. h) (λ h. h) after
 
-  pub leaves_base : (reached : ℕ) (v later : View) → ReadsOne (setting reads base since) reached [] [] (left_at later v.now Ckpt1) → ReadsOne (setting reads base since) reached [] [] (left_at later v.now Ckpt2) → LeavesQueue reads base v.now later
-  leaves_base reached v later one two x y left right some =
+  pub leaves_base : (reached : ℕ) (was : List ℕ) (v later : View) → Stands (setting reads base since) reached [] was → ReadsOne (setting reads base since) was None (left_at later v.now Ckpt1) → ReadsOne (setting reads base since) was None (left_at later v.now Ckpt2) → LeavesQueue reads base v.now later
+  leaves_base reached was v later stands one two x y left right some =
       for_base (found (setting reads base since) x y)
-      (crash_of (setting reads base since) reached [] [] [] v.now refl refl (left_at later v.now Ckpt1) (left_at later v.now Ckpt2) one two x y left right some)
+      (alike_found (setting reads base since) [] [] (left_at later v.now Ckpt1) (left_at later v.now Ckpt2)
+      (record { reached = reached; was = was; coming = None; stands = stands; comes = tt; none = λ _. refl; first = one; second = two }) x y left right some)

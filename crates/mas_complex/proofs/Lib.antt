@@ -18,3 +18,4 @@ pub mod Choosing
 pub mod Recovered
 pub mod First
 pub mod Leaving
+pub mod Others

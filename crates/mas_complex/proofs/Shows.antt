@@ -1,8 +1,7 @@
 -- What a copy holds after a call, as the bytes of its device show it.
-use Rattle.std.proofs.Common.{◌≡◌, ◌≢◌, ℕ, ◌+◌, ◌<◌, Bool, true, List, ◌++◌, Some, Result, Ok, Err, OnOk, subst, sym, ◌∙◌, ap, arith}
+use Rattle.std.proofs.Common.{◌≡◌, ◌≢◌, ℕ, ◌<◌, Bool, true, List, Option, Some, None, Result, Ok, Err, OnOk, subst, sym, ◌∙◌, ap, arith}
 use Rattle.mas_types.specs.declared.ids.Dev.{Dev}
 use Rattle.mas_types.specs.declared.ids.Dev.TheVariants.{Ckpt1, Ckpt2, Spool}
-use Rattle.mas_types.specs.declared.journals.Entry.{Entry}
 use Rattle.spool_disk.specs.View.{View, Disk, disk_now}
 use Rattle.ckpt_copy.specs.Changes.{NoMore}
 use Rattle.ckpt_copy.specs.Pages.{level, Covers}
@@ -12,31 +11,31 @@ use Rattle.duplex_pair.specs.Halves.{SameOrLost}
 use Rattle.duplex_pair.specs.Both.{BothMeanwhile}
 use Rattle.mas_complex.specs.declared.places.Place.{Place}
 use Rattle.mas_complex.specs.declared.places.Place.TheVariants.{Before, Put}
-use Rattle.mas_complex.specs.Crash.{Setting, Stands, Side, OneCopy}
+use Rattle.mas_complex.specs.Crash.{Setting, OnComing, IsAt, OneCopy}
 
 pub on_ok : {T E A B : Type 0} (r : Result T E) → OnOk r A → (A → B) → OnOk r B
 on_ok (Ok x) a f = f a
 on_ok (Err x) a f = tt
 
-module _ (S : Setting) (reached : ℕ) (K F : List Entry) (rests : List ℕ → Disk → Type 0) (holds : List ℕ → List ℕ → Disk → Type 0) (place : Place) (alive : Bool) (now : ℕ) (d d' : Disk)
-    (copy : OneCopy S rests holds reached K F place alive now d) (is : alive ≡ true) where
-  side_at : (p : Place) → place ≡ p → Side S rests holds reached K F p d
-  side_at p e = subst (λ (x : Place). Side S rests holds reached K F x d) e (copy.at is)
+module _ (S : Setting) (rests : List ℕ → Disk → Type 0) (holds : List ℕ → List ℕ → Disk → Type 0) (was : List ℕ) (coming : Option (List ℕ)) (place : Place) (alive : Bool) (now : ℕ) (d d' : Disk)
+    (copy : OneCopy S rests holds was coming place alive now d) (is : alive ≡ true) where
+  side_at : (p : Place) → place ≡ p → IsAt S rests holds was coming p d
+  side_at p e = subst (λ (x : Place). IsAt S rests holds was coming x d) e (copy.at is)
 
-  pub put_shows : place ≡ Before → (n : ℕ) (changed pages : List ℕ) → Stands S (reached + 1) (K ++ F) pages → ((was : List ℕ) → rests was d → Covers n changed was pages)
+  pub put_shows : place ≡ Before → (n : ℕ) (changed pages : List ℕ) → level was < level pages → ((was : List ℕ) → rests was d → Covers n changed was pages)
       → (holds' : List ℕ → List ℕ → Disk → Type 0) → ((was : List ℕ) → rests was d → level was < level pages → Covers n changed was pages → holds' was pages d')
       → (behind : List ℕ → List ℕ) → ((was next : List ℕ) (x : Disk) → holds' was next x → behind x.bytes ≡ next) → behind d'.bytes ≡ pages
-  put_shows before n changed pages stands covered holds' held behind shown =
-      let s : Side S rests holds reached K F Before d = side_at Before before in
-      shown s.was pages d' (held s.was s.here (omega (arith, s.stands.at_level, stands.at_level)) (covered s.was s.here))
+  put_shows before n changed pages higher covered holds' held behind shown =
+      let here : rests was d = side_at Before before in
+      shown was pages d' (held was here higher (covered was here))
 
   pub open_shows : place ≡ Put → (behind : List ℕ → List ℕ) → ((was next : List ℕ) (x : Disk) → holds was next x → behind x.bytes ≡ next)
       → (rests' : List ℕ → Disk → Type 0) → ((was next : List ℕ) → holds was next d → rests' next d') → ((pages : List ℕ) (x : Disk) → rests' pages x → S.reads x.bytes ≡ Some pages)
       → S.reads d'.bytes ≡ Some (behind d.bytes)
-  open_shows put behind shown rests' opened rests_now =
-      let s : Side S rests holds reached K F Put d = side_at Put put in
-      let next : List ℕ = s.here.next in
-      rests_now next d' (opened s.was next s.here.here) ∙ ap Some (sym (shown s.was next d s.here.here))
+  open_shows put behind shown rests' opened rests_now = by_coming coming (side_at Put put) where
+    by_coming : (n : Option (List ℕ)) → OnComing n (λ p. holds was p d) → S.reads d'.bytes ≡ Some (behind d.bytes)
+    by_coming None here = absurd here
+    by_coming (Some pages) here = rests_now pages d' (opened was pages here) ∙ ap Some (sym (shown was pages d here))
 
 ne12 : Ckpt2 ≢ Ckpt1
 ne12 e = absurd (cc)

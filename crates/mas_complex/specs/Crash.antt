@@ -62,9 +62,40 @@ IsFound S entries (Some pages) = S.stand (S.run S.base entries) pages
 abbrev pub IsAfter : Setting → List Batch → ℕ → Option (List ℕ) → Type 0
 IsAfter S J t pages = IsFound S (kept J t) pages ⊎ IsFound S (kept J t ++ flying J t) pages
 
--- each crash at a moment at which a copy is left leaves such a queue
+-- these pages, of an image, are the kept ones or those in flight
+abbrev pub IsOneOf : List ℕ → Option (List ℕ) → Option (List ℕ) → Type 0
+IsOneOf was coming None = ⊥
+IsOneOf was coming (Some pages) = (pages ≡ was) ⊎ (coming ≡ Some pages)
+
+-- each image of a device reads as the kept pages or as those in flight
+abbrev pub ReadsOne : Setting → List ℕ → Option (List ℕ) → Disk → Type 0
+ReadsOne S was coming disk = LeavesOnly disk (λ image. IsOneOf was coming (S.reads image))
+
+-- pages of this level that stand for the queue after these entries
+pub record Stands (S : Setting) (l : ℕ) (entries : List Entry) (pages : List ℕ) : Type 0 where
+  pub at_level : level pages ≡ l
+  pub queue : S.stand (S.run S.base entries) pages
+
+-- the pages in flight, if there are any, have the next level and stand for the queue with the batch
+abbrev pub IsNext : Setting → ℕ → List Entry → List Entry → Option (List ℕ) → Type 0
+IsNext S reached K F None = Unit {0}
+IsNext S reached K F (Some pages) = Stands S (reached + 1) (K ++ F) pages
+
+-- Two devices agree: there are pages of the kept entries, and maybe ones in flight, and each image of each device reads
+-- as one of these. With no entry in flight each reads as the kept pages.
+pub record Alike (S : Setting) (K F : List Entry) (one two : Disk) : Type 0 where
+  pub reached : ℕ
+  pub was : List ℕ
+  pub coming : Option (List ℕ)
+  pub stands : Stands S reached K was
+  pub comes : IsNext S reached K F coming
+  pub none : F ≡ [] → coming ≡ None
+  pub first : ReadsOne S was coming one
+  pub second : ReadsOne S was coming two
+
+-- so do the two copies at a moment
 abbrev pub CrashAt : Setting → List Batch → View → ℕ → Type 0
-CrashAt S J v t = (one two : Option (List ℕ)) → IsLeft (disk_at v t Ckpt1) one → IsLeft (disk_at v t Ckpt2) two → SomeLeft one two → IsAfter S J t (found S one two)
+CrashAt S J v t = Alike S (kept J t) (flying J t) (disk_at v t Ckpt1) (disk_at v t Ckpt2)
 
 -- the whole lines tell only such steps
 abbrev pub EachTells : (List ℕ → MemberId → ℕ → Type 0) → List Line → (MemberId → ℕ → Type 0) → Type 0
@@ -88,41 +119,21 @@ pub record Begins (old new : List Line) : Type 0 where
 abbrev pub IsUntold : Setting → View → List Entry → Type 0
 IsUntold S v entries = EachTells S.closes (said S v v.now) (λ m s. has_step m s entries ≡ false)
 
--- pages of this level that stand for the queue after these entries
-pub record Stands (S : Setting) (l : ℕ) (entries : List Entry) (pages : List ℕ) : Type 0 where
-  pub at_level : level pages ≡ l
-  pub queue : S.stand (S.run S.base entries) pages
-
--- an image reads as pages of the kept entries, or with those in flight
-pub record ReadsAs (S : Setting) (reached : ℕ) (K F : List Entry) (image : List ℕ) : Type 0 where
-  pub pages : List ℕ
-  pub reads : S.reads image ≡ Some pages
-  pub stands : Stands S reached K pages ⊎ Stands S (reached + 1) (K ++ F) pages
-
-abbrev pub ReadsOne : Setting → ℕ → List Entry → List Entry → Disk → Type 0
-ReadsOne S reached K F disk = LeavesOnly disk (ReadsAs S reached K F)
-
--- the next pages of a copy
-pub record Next (S : Setting) (reached : ℕ) (K F : List Entry) (P : List ℕ → Type 0) : Type 0 where
-  pub next : List ℕ
-  pub stands : Stands S (reached + 1) (K ++ F) next
-  pub here : P next
-
-abbrev pub IsAt : Setting → (List ℕ → Disk → Type 0) → (List ℕ → List ℕ → Disk → Type 0) → ℕ → List Entry → List Entry → Place → List ℕ → Disk → Type 0
-IsAt S rests holds reached K F Before was disk = rests was disk
-IsAt S rests holds reached K F Put was disk = Next S reached K F (λ next. holds was next disk)
-IsAt S rests holds reached K F Opened was disk = Next S reached K F (λ next. rests next disk)
-IsAt S rests holds reached K F Unsure was disk = ReadsOne S reached K F disk
+-- there are pages in flight, and P holds of them
+abbrev pub OnComing : Option (List ℕ) → (List ℕ → Type 0) → Type 0
+OnComing None P = ⊥
+OnComing (Some pages) P = P pages
 
 -- an alive copy at its place
-pub record Side (S : Setting) (rests : List ℕ → Disk → Type 0) (holds : List ℕ → List ℕ → Disk → Type 0) (reached : ℕ) (K F : List Entry) (place : Place) (disk : Disk) : Type 0 where
-  pub was : List ℕ
-  pub stands : Stands S reached K was
-  pub here : IsAt S rests holds reached K F place was disk
+abbrev pub IsAt : Setting → (List ℕ → Disk → Type 0) → (List ℕ → List ℕ → Disk → Type 0) → List ℕ → Option (List ℕ) → Place → Disk → Type 0
+IsAt S rests holds was coming Before disk = rests was disk
+IsAt S rests holds was coming Put disk = OnComing coming (λ pages. holds was pages disk)
+IsAt S rests holds was coming Opened disk = OnComing coming (λ pages. rests pages disk)
+IsAt S rests holds was coming Unsure disk = ReadsOne S was coming disk
 
 -- a copy, alive or lost
-pub record OneCopy (S : Setting) (rests : List ℕ → Disk → Type 0) (holds : List ℕ → List ℕ → Disk → Type 0) (reached : ℕ) (K F : List Entry) (place : Place) (alive : Bool) (now : ℕ) (disk : Disk) : Type 0 where
-  pub at : alive ≡ true → Side S rests holds reached K F place disk
+pub record OneCopy (S : Setting) (rests : List ℕ → Disk → Type 0) (holds : List ℕ → List ℕ → Disk → Type 0) (was : List ℕ) (coming : Option (List ℕ)) (place : Place) (alive : Bool) (now : ℕ) (disk : Disk) : Type 0 where
+  pub at : alive ≡ true → IsAt S rests holds was coming place disk
   pub gone : alive ≡ false → now < top → disk.lost ≡ true
 
 -- a call's own names for the two copies
@@ -132,8 +143,8 @@ pub record Copy : Type 1 where
   pub alive : Bool
   pub place : Place
 
-abbrev pub CopyAt : Setting → ℕ → List Entry → List Entry → Copy → ℕ → Disk → Type 0
-CopyAt S reached K F c now disk = OneCopy S c.rests c.holds reached K F c.place c.alive now disk
+abbrev pub CopyAt : Setting → List ℕ → Option (List ℕ) → Copy → ℕ → Disk → Type 0
+CopyAt S was coming c now disk = OneCopy S c.rests c.holds was coming c.place c.alive now disk
 
 abbrev pub copy_of : (List ℕ → Disk → Type 0) → (List ℕ → List ℕ → Disk → Type 0) → Bool → Place → Copy
 copy_of rests holds alive place = record { rests = rests; holds = holds; alive = alive; place = place }
@@ -141,7 +152,8 @@ copy_of rests holds alive place = record { rests = rests; holds = holds; alive =
 abbrev pub setting : (List ℕ → Option (List ℕ)) → Queue → ℕ → Setting
 setting reads base since = record { reads = reads; stand = StandFor; run = run; closes = Closes; base = base; since = since }
 
--- What the shared value keeps of its past, and of its present below the greatest moment.
+-- What the shared value keeps of its past, and of its present below the greatest moment: the pages of the kept entries,
+-- and those in flight, are the same for both copies.
 pub record Keeps (S : Setting) (js : List Batch) (current : Option Batch) (reached : ℕ) (first second : Copy) (v : View) : Type 0 where
   pub started : S.since ≤ v.now
   pub settled : AreSettled js v.now
@@ -149,5 +161,18 @@ pub record Keeps (S : Setting) (js : List Batch) (current : Option Batch) (reach
   pub crash : (t : ℕ) → S.since ≤ t → t ≤ v.now → t < top → CrashAt S (js ++ in_flight current) v t
   pub told : (t : ℕ) → S.since ≤ t → t ≤ v.now → ToldAt S (js ++ in_flight current) v t
   pub grows : (t : ℕ) → S.since ≤ t → t ≤ v.now → Begins (v.world t).console (v.world v.now).console
-  pub first_at : CopyAt S reached (kept_all js) (entries_in current) first v.now (disk_now v Ckpt1)
-  pub second_at : CopyAt S reached (kept_all js) (entries_in current) second v.now (disk_now v Ckpt2)
+  pub was : List ℕ
+  pub coming : Option (List ℕ)
+  pub stands : Stands S reached (kept_all js) was
+  pub comes : IsNext S reached (kept_all js) (entries_in current) coming
+  pub none : entries_in current ≡ [] → coming ≡ None
+  pub first_at : CopyAt S was coming first v.now (disk_now v Ckpt1)
+  pub second_at : CopyAt S was coming second v.now (disk_now v Ckpt2)
+
+-- Both copies, before any batch, as a shared value begins with them: there are pages of this level that stand for its
+-- base, and each copy that counts as alive is at rest with these.
+pub record BeginsWith (S : Setting) (l : ℕ) (first second : Copy) (v : View) : Type 0 where
+  pub pages : List ℕ
+  pub stands : Stands S l [] pages
+  pub first_at : CopyAt S pages None first v.now (disk_now v Ckpt1)
+  pub second_at : CopyAt S pages None second v.now (disk_now v Ckpt2)

@@ -1,5 +1,5 @@
 -- What holds at each moment since a shared value was made, in the words of journal, images and console.
-use Rattle.std.specs.Prelude.{◌≡◌, ◌⊎◌, ℕ, ◌≤◌, true, List, ◌++◌, length, drop, Option, Some, None, All, Contains}
+use Rattle.std.specs.Prelude.{◌≡◌, ◌⊎◌, ℕ, ◌+◌, ◌≤◌, true, List, [], ◌++◌, length, drop, Option, Some, None, All, Contains, IfSome}
 use Rattle.mas_types.specs.declared.ids.Dev.TheVariants.{Ckpt1, Ckpt2}
 use Rattle.mas_types.specs.declared.ids.MemberId.{MemberId}
 use Rattle.mas_types.specs.declared.journals.Journal.{Journal}
@@ -8,11 +8,12 @@ use Rattle.mas_types.specs.declared.queues.Queue.{Queue}
 use Rattle.mas_types.specs.declared.answers.Closing.{Closing}
 use Rattle.mas_types.specs.Journal.{kept_at, flying_at}
 use Rattle.mas_types.specs.Closings.{closing_line}
-use Rattle.spool_disk.specs.View.{View, Line, Throughout}
+use Rattle.spool_disk.specs.View.{View, Disk, Line, Throughout, LeavesOnly}
+use Rattle.ckpt_copy.specs.Pages.{level}
 use Rattle.duplex_pair.specs.Finds.{best}
 use Rattle.mas_complex.specs.Meaning.{run, StandFor, is_telling}
 use Rattle.mas_complex.specs.Journals.{has_step}
-use Rattle.mas_complex.specs.Crash.{IsLeft, SomeLeft, read_left, left_at}
+use Rattle.mas_complex.specs.Crash.{IsLeft, SomeLeft, read_left, left_at, IsOneOf}
 
 -- pages are found, which stand for the queue
 abbrev pub FoundFor : Queue → Option (List ℕ) → Type 0
@@ -29,6 +30,22 @@ abbrev pub IsCrashSafe : (List ℕ → Option (List ℕ)) → Queue → Journal 
 IsCrashSafe reads base J since v = (t : ℕ) → since ≤ t → t ≤ v.now
     → (one two : Option (List ℕ)) → IsLeft (left_at v t Ckpt1) one → IsLeft (left_at v t Ckpt2) two → SomeLeft one two
     → IsAfterKept base J t (best (read_left reads one) (read_left reads two))
+
+-- What the two copies of a moment hold: there are pages that stand for the queue after the kept entries, and maybe ones
+-- of the next level that stand for it with those in flight, and each image of each device reads as one of these. Where no
+-- entry is in flight each image reads as the first.
+pub record AreAlike (reads : List ℕ → Option (List ℕ)) (base : Queue) (J : Journal) (t : ℕ) (one two : Disk) : Type 0 where
+  pub was : List ℕ
+  pub coming : Option (List ℕ)
+  pub stands : StandFor (run base (kept_at J t)) was
+  pub comes : IfSome coming (λ pages. (level pages ≡ level was + 1) × StandFor (run base (kept_at J t ++ flying_at J t)) pages)
+  pub none : flying_at J t ≡ [] → coming ≡ None
+  pub first : LeavesOnly one (λ image. IsOneOf was coming (reads image))
+  pub second : LeavesOnly two (λ image. IsOneOf was coming (reads image))
+
+-- at each moment
+abbrev pub AreAlwaysAlike : (List ℕ → Option (List ℕ)) → Queue → Journal → ℕ → View → Type 0
+AreAlwaysAlike reads base J since v = (t : ℕ) → since ≤ t → t ≤ v.now → AreAlike reads base J t (left_at v t Ckpt1) (left_at v t Ckpt2)
 
 -- at a moment, for each choice of images of which one is left, the pages that a start finds stand for the queue itself
 abbrev pub LeavesQueue : (List ℕ → Option (List ℕ)) → Queue → ℕ → View → Type 0
@@ -52,7 +69,8 @@ AreToldKept J since v = Throughout since v.now (λ t.
     (by : MemberId) (at : ℕ) (end : Closing) → is_telling end ≡ true
     → Contains (added v since t) (whole (closing_line by at end)) → IsStepKept J t by at)
 
--- both
+-- all of it
 pub record Headline (reads : List ℕ → Option (List ℕ)) (base : Queue) (since : ℕ) (J : Journal) (v : View) : Type 0 where
   pub crash : IsCrashSafe reads base J since v
+  pub alike : AreAlwaysAlike reads base J since v
   pub told : AreToldKept J since v

@@ -2,6 +2,7 @@
 use Rattle.std.specs.Prelude.{◌≡◌, ◌≢◌, ◌⊎◌, ℕ, ◌+◌, ◌≤◌, ◌==◌, if◌then◌else◌, Bool, true, false, List, length, Option, Some, None, Result, Ok, Err}
 use Rattle.mas_types.specs.declared.ids.Page.{Page}
 use Rattle.mas_types.specs.declared.journals.Batch.{Batch}
+use Rattle.mas_types.specs.declared.journals.Entry.{Entry}
 use Rattle.mas_types.specs.declared.journals.Fate.TheVariants.{Kept, Dropped}
 use Rattle.mas_types.specs.declared.queues.Queue.{Queue}
 use Rattle.mas_types.specs.Limits.{pages_most}
@@ -23,26 +24,26 @@ IsPlaceSeen (Ok Unread) reached place = place ≡ Unsure
 IsPlaceSeen (Ok (Pages pages)) reached place = IsAtLevel (level (bytes_of pages)) reached place
 IsPlaceSeen (Err why) reached place = place ≡ Unsure
 
--- pages with the batch in flight are those of the level after the one reached
-abbrev pub HasNext : Queue → ℕ → Place → Look → Type 0
-HasNext queue reached place Lost = Unit {0}
-HasNext queue reached place Unread = Unit {0}
-HasNext queue reached place (Pages pages) = place ≡ Opened → (level (bytes_of pages) ≡ reached + 1) × ∥ StandFor queue (bytes_of pages) ∥₁
+-- pages with the batch in flight, which has an entry, are those of the level after the one reached
+abbrev pub HasNext : Queue → List Entry → ℕ → Place → Look → Type 0
+HasNext queue flying reached place Lost = Unit {0}
+HasNext queue flying reached place Unread = Unit {0}
+HasNext queue flying reached place (Pages pages) = place ≡ Opened → (level (bytes_of pages) ≡ reached + 1) × ∥ StandFor queue (bytes_of pages) ∥₁ × (1 ≤ length flying)
 
 -- A copy that was looked at has these pages, and so many: how far the batch has come on it, and what the pages stand for
 -- where they have it.
-pub record OneSeen (queue : Queue) (tells : Type 0) (reached : ℕ) (alive : Bool) (count : ℕ) (place : Place) (pages : List Page) : Type 0 where
+pub record OneSeen (queue : Queue) (flying : List Entry) (tells : Type 0) (reached : ℕ) (alive : Bool) (count : ℕ) (place : Place) (pages : List Page) : Type 0 where
   pub is_alive : alive ≡ true
   pub as_many : length pages ≡ count
   pub few : count ≤ pages_most
   pub some : 1 ≤ count
   pub at : IsAtLevel (level (bytes_of pages)) reached place
-  pub next : tells → HasNext queue reached place (Pages pages)
+  pub next : tells → HasNext queue flying reached place (Pages pages)
 
 -- one that has none counts as lost
-abbrev pub IsOneSeen : Queue → Type 0 → ℕ → Bool → ℕ → Place → Option (List Page) → Type 0
-IsOneSeen queue tells reached alive count place None = alive ≡ false
-IsOneSeen queue tells reached alive count place (Some pages) = OneSeen queue tells reached alive count place pages
+abbrev pub IsOneSeen : Queue → List Entry → Type 0 → ℕ → Bool → ℕ → Place → Option (List Page) → Type 0
+IsOneSeen queue flying tells reached alive count place None = alive ≡ false
+IsOneSeen queue flying tells reached alive count place (Some pages) = OneSeen queue flying tells reached alive count place pages
 
 -- the bytes of a device read as the pages that were seen on it
 abbrev pub ReadsSeen : (List ℕ → Option (List ℕ)) → List ℕ → Option (List Page) → Type 0
@@ -66,16 +67,16 @@ pub record Agrees (reads : List ℕ → Option (List ℕ)) (tells : Type 0) (rea
   pub as_many : length found ≡ count
   pub has : HasFound reads tells reached place bytes found ⊎ IsBehind reached room place found
 
--- the pages with the batch in flight have the next level, and stand for the queue with it
-abbrev pub IsNextOr : Queue → ℕ → List Page → Type 0
-IsNextOr queue reached found = level (bytes_of found) ≢ reached → (level (bytes_of found) ≡ reached + 1) × ∥ StandFor queue (bytes_of found) ∥₁
+-- the pages with the batch in flight, which has an entry, have the next level, and stand for the queue with it
+abbrev pub IsNextOr : Queue → List Entry → ℕ → List Page → Type 0
+IsNextOr queue flying reached found = level (bytes_of found) ≢ reached → (level (bytes_of found) ≡ reached + 1) × ∥ StandFor queue (bytes_of found) ∥₁ × (1 ≤ length flying)
 
 -- the pages found on two copies: one that counts as alive has them, and the other agrees
-pub record Chosen (reads : List ℕ → Option (List ℕ)) (tells : Type 0) (queue : Queue) (reached : ℕ) (alive1 : Bool) (count1 room1 : ℕ) (place1 : Place) (bytes1 : List ℕ) (alive2 : Bool) (count2 room2 : ℕ) (place2 : Place) (bytes2 : List ℕ) (found : List Page) : Type 0 where
+pub record Chosen (reads : List ℕ → Option (List ℕ)) (tells : Type 0) (queue : Queue) (flying : List Entry) (reached : ℕ) (alive1 : Bool) (count1 room1 : ℕ) (place1 : Place) (bytes1 : List ℕ) (alive2 : Bool) (count2 room2 : ℕ) (place2 : Place) (bytes2 : List ℕ) (found : List Page) : Type 0 where
   pub first : alive1 ≡ true → Agrees reads tells reached count1 room1 place1 bytes1 found
   pub second : alive2 ≡ true → Agrees reads tells reached count2 room2 place2 bytes2 found
   pub one : ((alive1 ≡ true) × HasFound reads tells reached place1 bytes1 found) ⊎ ((alive2 ≡ true) × HasFound reads tells reached place2 bytes2 found)
-  pub next : tells → IsNextOr queue reached found
+  pub next : tells → IsNextOr queue flying reached found
   pub some : 1 ≤ length found
   pub few : length found ≤ pages_most
 

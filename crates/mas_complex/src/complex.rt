@@ -18,8 +18,8 @@ ghost use Rattle.duplex_pair.specs.Outcomes.{pair_stopped};
 ghost use Rattle.mas_complex.specs.declared.places.Place.TheVariants.{Before as AtBefore, Put as AtPut, Opened as AtOpened, Unsure as AtUnsure};
 ghost use Rattle.mas_complex.specs.Journals.{coming, kept_all, entries_in, entries_reserved, in_flight, StepIsKept, begun, fated, HasPlace, with_last, end_of, IsKeptAt};
 ghost use Rattle.mas_complex.specs.Meaning.{StandFor, run, Closes};
-ghost use Rattle.mas_complex.specs.Places.{IsPlaceAfter, all_open};
-ghost use Rattle.mas_complex.specs.Crash.{Keeps, setting, copy_of, CopyAt, IsUntold};
+ghost use Rattle.mas_complex.specs.Places.{IsPlaceAfter, HasNoOther, all_open};
+ghost use Rattle.mas_complex.specs.Crash.{Keeps, setting, copy_of, BeginsWith, IsUntold};
 ghost use Rattle.mas_complex.specs.Headline.{Headline, LeavesQueue};
 ghost use Rattle.mas_complex.specs.Elsewhere.{Elsewhere};
 ghost use Rattle.std.specs.Prelude.{min};
@@ -96,15 +96,14 @@ pub struct Complex<P: Plant + Drop, C: Steady + Drop> {
 }
 
 impl<P: Plant + Drop, C: Steady + Drop> Complex<P, C> {
-    /// A shared value of a plant and the two copies on it. Each copy that counts as alive is at rest with pages of this
-    /// level that stand for the base, and the device of one that counts as lost is lost. Nobody holds the lock.
+    /// A shared value of a plant and the two copies on it. Each copy that counts as alive is at rest with the same pages, of
+    /// this level, which stand for the base, and the device of one that counts as lost is lost. Nobody holds the lock.
     pub fn make(alloc: Global, plant: P, pair: Pair<C>, base: Queue, level: u64) -> Complex<P, C>
         requires ready1 { pair.first.alive ≡ true → C.ready pair.first.copy (P.view plant) }
         requires ready2 { pair.second.alive ≡ true → C.ready pair.second.copy (P.view plant) }
         requires lost1 { pair.first.alive ≡ false → (P.view plant).lost (Disk Ckpt1) ≡ true }
         requires lost2 { pair.second.alive ≡ false → (P.view plant).lost (Disk Ckpt2) ≡ true }
-        requires first { P.tells → ∥ CopyAt (setting C.reads base (P.view plant).now) level [] [] (copy_of (C.rests pair.first.copy) (C.holds pair.first.copy) pair.first.alive AtBefore) (P.view plant).now (disk_now (P.view plant) Ckpt1) ∥₁ }
-        requires second { P.tells → ∥ CopyAt (setting C.reads base (P.view plant).now) level [] [] (copy_of (C.rests pair.second.copy) (C.holds pair.second.copy) pair.second.alive AtBefore) (P.view plant).now (disk_now (P.view plant) Ckpt2) ∥₁ }
+        requires begins { P.tells → ∥ BeginsWith (setting C.reads base (P.view plant).now) level (copy_of (C.rests pair.first.copy) (C.holds pair.first.copy) pair.first.alive AtBefore) (copy_of (C.rests pair.second.copy) (C.holds pair.second.copy) pair.second.alive AtBefore) (P.view plant) ∥₁ }
         ensures plant { result.plant ≡ plant }
         ensures pair { result.pair ≡ pair }
         ensures base { result.base ≡ base }
@@ -231,6 +230,8 @@ impl<P: Plant + Drop, C: Steady + Drop> Complex<P, C> {
         requires covered { P.tells → self.old.pair.first.alive ≡ true → (was : List ℕ) → C.reads (disk_now (P.view self.old.plant) Ckpt1).bytes ≡ Some was → Covers (C.count self.old.pair.first.copy) changed.now was (bytes_of pages.now) }
         requires level { P.tells → level (bytes_of pages.now) ≡ self.old.level + 1 }
         requires queue { P.tells → ∥ StandFor (run self.old.base (kept_all self.old.journal.batches ++ entries_in self.old.current)) (bytes_of pages.now) ∥₁ }
+        requires some { P.tells → 1 ≤ length (entries_in self.old.current) }
+        requires same { P.tells → self.old.pair.second.alive ≡ true → HasNoOther self.old.second (C.behind self.old.pair.second.copy (disk_now (P.view self.old.plant) Ckpt2).bytes) (C.reads (disk_now (P.view self.old.plant) Ckpt2).bytes) (bytes_of pages.now) }
         ensures place { IsPlaceAfter result AtPut self.new.first }
         ensures count { C.count self.new.pair.first.copy ≡ C.count self.old.pair.first.copy }
         ensures room { C.room self.new.pair.first.copy ≡ C.room self.old.pair.first.copy }
@@ -317,6 +318,8 @@ impl<P: Plant + Drop, C: Steady + Drop> Complex<P, C> {
         requires covered { P.tells → self.old.pair.second.alive ≡ true → (was : List ℕ) → C.reads (disk_now (P.view self.old.plant) Ckpt2).bytes ≡ Some was → Covers (C.count self.old.pair.second.copy) changed.now was (bytes_of pages.now) }
         requires level { P.tells → level (bytes_of pages.now) ≡ self.old.level + 1 }
         requires queue { P.tells → ∥ StandFor (run self.old.base (kept_all self.old.journal.batches ++ entries_in self.old.current)) (bytes_of pages.now) ∥₁ }
+        requires some { P.tells → 1 ≤ length (entries_in self.old.current) }
+        requires same { P.tells → self.old.pair.first.alive ≡ true → HasNoOther self.old.first (C.behind self.old.pair.first.copy (disk_now (P.view self.old.plant) Ckpt1).bytes) (C.reads (disk_now (P.view self.old.plant) Ckpt1).bytes) (bytes_of pages.now) }
         ensures place { IsPlaceAfter result AtPut self.new.second }
         ensures count { C.count self.new.pair.second.copy ≡ C.count self.old.pair.second.copy }
         ensures room { C.room self.new.pair.second.copy ≡ C.room self.old.pair.second.copy }
@@ -397,6 +400,7 @@ impl<P: Plant + Drop, C: Steady + Drop> Complex<P, C> {
     // The batch in flight is kept: every alive copy has opened it, and has pages of this level.
     pub(crate) fn keep(&mut self, reached: u64)
         requires current { IsSome self.old.current }
+        requires some { SomeAlive self.old.pair.first.alive self.old.pair.second.alive }
         requires first { self.old.pair.first.alive ≡ true → self.old.first ≡ AtOpened }
         requires second { self.old.pair.second.alive ≡ true → self.old.second ≡ AtOpened }
         requires next { P.tells → reached ≡ self.old.level + 1 }
@@ -564,6 +568,8 @@ impl<P: Plant + Drop, C: Steady + Drop> Complex<P, C> {
         requires covered { P.tells → (pick dev self.old.pair.first self.old.pair.second).alive ≡ true → (was : List ℕ) → C.reads (disk_now (P.view self.old.plant) dev).bytes ≡ Some was → Covers (C.count (pick dev self.old.pair.first self.old.pair.second).copy) changed.now was (bytes_of pages.now) }
         requires level { P.tells → level (bytes_of pages.now) ≡ self.old.level + 1 }
         requires queue { P.tells → ∥ StandFor (run self.old.base (kept_all self.old.journal.batches ++ entries_in self.old.current)) (bytes_of pages.now) ∥₁ }
+        requires some { P.tells → 1 ≤ length (entries_in self.old.current) }
+        requires same { P.tells → (other dev self.old.pair.first self.old.pair.second).alive ≡ true → HasNoOther (other dev self.old.first self.old.second) (C.behind (other dev self.old.pair.first self.old.pair.second).copy (disk_now (P.view self.old.plant) (other dev Ckpt1 Ckpt2)).bytes) (C.reads (disk_now (P.view self.old.plant) (other dev Ckpt1 Ckpt2)).bytes) (bytes_of pages.now) }
         ensures base { self.new.base ≡ self.old.base }
         ensures since { self.new.since ≡ self.old.since }
         ensures book { self.new.book ≡ self.old.book }
@@ -619,8 +625,9 @@ impl<P: Plant + Drop, C: Steady + Drop> Complex<P, C> {
     /// Writes the pages of the batch to come, or in flight, behind the closed gate of one copy. The first call for a batch
     /// begins it: it is in flight from the moment before the call on. On a copy that counts as lost nothing is written.
     ///
-    /// The pages stand for the queue with the batch, and have the level after the one of the kept pages. `changed` are the
-    /// numbers of those that differ from what the copy reads. Both copies are to be given the same pages.
+    /// The pages stand for the queue with the batch, which has an entry, and have the level after the one of the kept pages.
+    /// `changed` are the numbers of those that differ from what the copy reads. Both copies are given the same pages: where
+    /// the other one counts as alive, these wait behind its gate if others than the kept ones do.
     pub fn log(
         &mut self,
         by: MemberId,
@@ -639,6 +646,8 @@ impl<P: Plant + Drop, C: Steady + Drop> Complex<P, C> {
         requires second { self.old.current ≡ None → self.old.pair.second.alive ≡ true → self.old.second ≡ AtBefore }
         requires untold { P.tells → self.old.current ≡ None → IsUntold (setting C.reads self.old.base self.old.since) (P.view self.old.plant) (entries_reserved self.old.reserved) }
         requires queue { P.tells → ∥ StandFor (run self.old.base (kept_all self.old.journal.batches ++ coming self.old.current self.old.reserved)) (bytes_of pages.now) ∥₁ }
+        requires some { 1 ≤ length (coming self.old.current self.old.reserved) }
+        requires same { P.tells → (other dev self.old.pair.first self.old.pair.second).alive ≡ true → HasNoOther (other dev self.old.first self.old.second) (C.behind (other dev self.old.pair.first self.old.pair.second).copy (disk_now (P.view self.old.plant) (other dev Ckpt1 Ckpt2)).bytes) (C.reads (disk_now (P.view self.old.plant) (other dev Ckpt1 Ckpt2)).bytes) (bytes_of pages.now) }
         ensures base { self.new.base ≡ self.old.base }
         ensures since { self.new.since ≡ self.old.since }
         ensures book { self.new.book ≡ self.old.book }

@@ -107,8 +107,8 @@ impl<P: Plant + Drop, C: Steady + Drop> Complex<P, C> {
 
     // The pages of greater level, those of CKPT1 on a tie. The other copy is lost where it may not stay beside them.
     fn choose(&mut self, first: List<Page>, second: List<Page>) -> List<Page>
-        requires first { IsOneSeen (run self.old.base (kept_all self.old.journal.batches ++ entries_in self.old.current)) P.tells self.old.level self.old.pair.first.alive (C.count self.old.pair.first.copy) self.old.first (Some first) }
-        requires second { IsOneSeen (run self.old.base (kept_all self.old.journal.batches ++ entries_in self.old.current)) P.tells self.old.level self.old.pair.second.alive (C.count self.old.pair.second.copy) self.old.second (Some second) }
+        requires first { IsOneSeen (run self.old.base (kept_all self.old.journal.batches ++ entries_in self.old.current)) (entries_in self.old.current) P.tells self.old.level self.old.pair.first.alive (C.count self.old.pair.first.copy) self.old.first (Some first) }
+        requires second { IsOneSeen (run self.old.base (kept_all self.old.journal.batches ++ entries_in self.old.current)) (entries_in self.old.current) P.tells self.old.level self.old.pair.second.alive (C.count self.old.pair.second.copy) self.old.second (Some second) }
         requires reads1 { P.tells → ReadsSeen C.reads (disk_now (P.view self.old.plant) Ckpt1).bytes (Some first) }
         requires reads2 { P.tells → ReadsSeen C.reads (disk_now (P.view self.old.plant) Ckpt2).bytes (Some second) }
         ensures base { self.new.base ≡ self.old.base }
@@ -120,7 +120,7 @@ impl<P: Plant + Drop, C: Steady + Drop> Complex<P, C> {
         ensures placed { self.new.placed ≡ self.old.placed }
         ensures level { self.new.level ≡ self.old.level }
         ensures goes { Goes (P.view self.old.plant) (P.view self.new.plant) }
-        ensures chosen { Chosen C.reads P.tells (run self.old.base (kept_all self.old.journal.batches ++ entries_in self.old.current)) self.old.level self.new.pair.first.alive (C.count self.new.pair.first.copy) (C.room self.new.pair.first.copy) self.new.first (disk_now (P.view self.new.plant) Ckpt1).bytes self.new.pair.second.alive (C.count self.new.pair.second.copy) (C.room self.new.pair.second.copy) self.new.second (disk_now (P.view self.new.plant) Ckpt2).bytes result }
+        ensures chosen { Chosen C.reads P.tells (run self.old.base (kept_all self.old.journal.batches ++ entries_in self.old.current)) (entries_in self.old.current) self.old.level self.new.pair.first.alive (C.count self.new.pair.first.copy) (C.room self.new.pair.first.copy) self.new.first (disk_now (P.view self.new.plant) Ckpt1).bytes self.new.pair.second.alive (C.count self.new.pair.second.copy) (C.room self.new.pair.second.copy) self.new.second (disk_now (P.view self.new.plant) Ckpt2).bytes result }
         ensures copy1 { self.new.pair.first.copy ≡ self.old.pair.first.copy }
         ensures copy2 { self.new.pair.second.copy ≡ self.old.pair.second.copy }
         ensures unfit1 { self.new.pair.first.alive ≡ false → can_stay self.old.first (C.room self.old.pair.first.copy) result first ≡ false }
@@ -144,8 +144,8 @@ impl<P: Plant + Drop, C: Steady + Drop> Complex<P, C> {
         first: Option<List<Page>>,
         second: Option<List<Page>>,
     ) -> Option<List<Page>>
-        requires first { IsOneSeen (run self.old.base (kept_all self.old.journal.batches ++ entries_in self.old.current)) P.tells self.old.level self.old.pair.first.alive (C.count self.old.pair.first.copy) self.old.first first }
-        requires second { IsOneSeen (run self.old.base (kept_all self.old.journal.batches ++ entries_in self.old.current)) P.tells self.old.level self.old.pair.second.alive (C.count self.old.pair.second.copy) self.old.second second }
+        requires first { IsOneSeen (run self.old.base (kept_all self.old.journal.batches ++ entries_in self.old.current)) (entries_in self.old.current) P.tells self.old.level self.old.pair.first.alive (C.count self.old.pair.first.copy) self.old.first first }
+        requires second { IsOneSeen (run self.old.base (kept_all self.old.journal.batches ++ entries_in self.old.current)) (entries_in self.old.current) P.tells self.old.level self.old.pair.second.alive (C.count self.old.pair.second.copy) self.old.second second }
         requires reads1 { P.tells → ReadsSeen C.reads (disk_now (P.view self.old.plant) Ckpt1).bytes first }
         requires reads2 { P.tells → ReadsSeen C.reads (disk_now (P.view self.old.plant) Ckpt2).bytes second }
         ensures base { self.new.base ≡ self.old.base }
@@ -158,7 +158,7 @@ impl<P: Plant + Drop, C: Steady + Drop> Complex<P, C> {
         ensures level { self.new.level ≡ self.old.level }
         ensures goes { Goes (P.view self.old.plant) (P.view self.new.plant) }
         ensures none { result ≡ None → IsBothLost self.new.pair.first.alive self.new.pair.second.alive }
-        ensures chosen { IfSome result (λ found. Chosen C.reads P.tells (run self.old.base (kept_all self.old.journal.batches ++ entries_in self.old.current)) self.old.level self.new.pair.first.alive (C.count self.new.pair.first.copy) (C.room self.new.pair.first.copy) self.new.first (disk_now (P.view self.new.plant) Ckpt1).bytes self.new.pair.second.alive (C.count self.new.pair.second.copy) (C.room self.new.pair.second.copy) self.new.second (disk_now (P.view self.new.plant) Ckpt2).bytes found) }
+        ensures chosen { IfSome result (λ found. Chosen C.reads P.tells (run self.old.base (kept_all self.old.journal.batches ++ entries_in self.old.current)) (entries_in self.old.current) self.old.level self.new.pair.first.alive (C.count self.new.pair.first.copy) (C.room self.new.pair.first.copy) self.new.first (disk_now (P.view self.new.plant) Ckpt1).bytes self.new.pair.second.alive (C.count self.new.pair.second.copy) (C.room self.new.pair.second.copy) self.new.second (disk_now (P.view self.new.plant) Ckpt2).bytes found) }
         ensures copy1 { self.new.pair.first.copy ≡ self.old.pair.first.copy }
         ensures copy2 { self.new.pair.second.copy ≡ self.old.pair.second.copy }
         ensures alive1 { self.new.pair.first.alive ≡ true → self.old.pair.first.alive ≡ true }
@@ -182,8 +182,9 @@ impl<P: Plant + Drop, C: Steady + Drop> Complex<P, C> {
         requires as_many { length found.now ≡ C.count (pick dev self.old.pair.first self.old.pair.second).copy }
         requires some { 1 ≤ length found.now }
         requires few { length found.now ≤ pages_most }
-        requires next { P.tells → IsNextOr (run self.old.base (kept_all self.old.journal.batches ++ entries_in self.old.current)) self.old.level found.now }
+        requires next { P.tells → IsNextOr (run self.old.base (kept_all self.old.journal.batches ++ entries_in self.old.current)) (entries_in self.old.current) self.old.level found.now }
         requires level { level (bytes_of found.now) ≡ self.old.level + 1 }
+        requires same { P.tells → (other dev self.old.pair.first self.old.pair.second).alive ≡ true → (other dev self.old.first self.old.second ≡ AtOpened) × (C.reads (disk_now (P.view self.old.plant) (other dev Ckpt1 Ckpt2)).bytes ≡ Some (bytes_of found.now)) }
         ensures base { self.new.base ≡ self.old.base }
         ensures since { self.new.since ≡ self.old.since }
         ensures book { self.new.book ≡ self.old.book }
@@ -210,7 +211,7 @@ impl<P: Plant + Drop, C: Steady + Drop> Complex<P, C> {
 
     // Each copy that counts as alive gets the pages found.
     fn bring(&mut self, by: MemberId, found: &[Page]) -> Result<(), PairNo>
-        requires chosen { Chosen C.reads P.tells (run self.old.base (kept_all self.old.journal.batches ++ entries_in self.old.current)) self.old.level self.old.pair.first.alive (C.count self.old.pair.first.copy) (C.room self.old.pair.first.copy) self.old.first (disk_now (P.view self.old.plant) Ckpt1).bytes self.old.pair.second.alive (C.count self.old.pair.second.copy) (C.room self.old.pair.second.copy) self.old.second (disk_now (P.view self.old.plant) Ckpt2).bytes found.now }
+        requires chosen { Chosen C.reads P.tells (run self.old.base (kept_all self.old.journal.batches ++ entries_in self.old.current)) (entries_in self.old.current) self.old.level self.old.pair.first.alive (C.count self.old.pair.first.copy) (C.room self.old.pair.first.copy) self.old.first (disk_now (P.view self.old.plant) Ckpt1).bytes self.old.pair.second.alive (C.count self.old.pair.second.copy) (C.room self.old.pair.second.copy) self.old.second (disk_now (P.view self.old.plant) Ckpt2).bytes found.now }
         ensures base { self.new.base ≡ self.old.base }
         ensures since { self.new.since ≡ self.old.since }
         ensures book { self.new.book ≡ self.old.book }
@@ -248,6 +249,7 @@ impl<P: Plant + Drop, C: Steady + Drop> Complex<P, C> {
     // The pages with this level are kept, though no batch is in flight.
     fn rise(&mut self, reached: u64)
         requires none { self.old.current ≡ None }
+        requires some { SomeAlive self.old.pair.first.alive self.old.pair.second.alive }
         requires next { P.tells → reached ≡ self.old.level + 1 }
         requires first { self.old.pair.first.alive ≡ true → self.old.first ≡ AtOpened }
         requires second { self.old.pair.second.alive ≡ true → self.old.second ≡ AtOpened }
@@ -270,6 +272,7 @@ impl<P: Plant + Drop, C: Steady + Drop> Complex<P, C> {
 
     // The batch in flight, if there is one, gets its fate by the level of the pages that the copies have.
     fn give_fate(&mut self, reached: u64)
+        requires some { SomeAlive self.old.pair.first.alive self.old.pair.second.alive }
         requires next { P.tells → reached ≢ self.old.level → reached ≡ self.old.level + 1 }
         requires first { self.old.pair.first.alive ≡ true → IsAtLevel reached self.old.level self.old.first }
         requires second { self.old.pair.second.alive ≡ true → IsAtLevel reached self.old.level self.old.second }

@@ -36,7 +36,7 @@ impl<P: Plant + Drop, C: Steady + Drop> Complex<P, C> {
         ensures acted { Acted by.0 Ckpt1 self.old.pair.first.alive self.new.pair.first.alive (look_stopped result) (P.view self.old.plant) (P.view self.new.plant) }
         ensures place { IsPlaceSeen result self.old.level self.new.first }
         ensures seen { IfOk result (λ look. WasSeen C.count C.room C.room_most C.ready C.reads C.rests P.tells Ckpt1 (P.view self.new.plant) self.old.pair.first.copy self.new.pair.first.copy self.new.pair.first.alive look) }
-        ensures next { IfOk result (λ look. P.tells → HasNext (run self.old.base (kept_all self.old.journal.batches ++ entries_in self.old.current)) self.old.level self.new.first look) }
+        ensures next { IfOk result (λ look. P.tells → HasNext (run self.old.base (kept_all self.old.journal.batches ++ entries_in self.old.current)) (entries_in self.old.current) self.old.level self.new.first look) }
         ensures bytes { P.tells → (d : Dev) → (disk_now (P.view self.new.plant) d).bytes ≡ (disk_now (P.view self.old.plant) d).bytes }
     {
         let done = self.pair.look(alloc, &mut self.plant, by, Dev::Ckpt1);
@@ -58,7 +58,7 @@ impl<P: Plant + Drop, C: Steady + Drop> Complex<P, C> {
         ensures acted { Acted by.0 Ckpt2 self.old.pair.second.alive self.new.pair.second.alive (look_stopped result) (P.view self.old.plant) (P.view self.new.plant) }
         ensures place { IsPlaceSeen result self.old.level self.new.second }
         ensures seen { IfOk result (λ look. WasSeen C.count C.room C.room_most C.ready C.reads C.rests P.tells Ckpt2 (P.view self.new.plant) self.old.pair.second.copy self.new.pair.second.copy self.new.pair.second.alive look) }
-        ensures next { IfOk result (λ look. P.tells → HasNext (run self.old.base (kept_all self.old.journal.batches ++ entries_in self.old.current)) self.old.level self.new.second look) }
+        ensures next { IfOk result (λ look. P.tells → HasNext (run self.old.base (kept_all self.old.journal.batches ++ entries_in self.old.current)) (entries_in self.old.current) self.old.level self.new.second look) }
         ensures bytes { P.tells → (d : Dev) → (disk_now (P.view self.new.plant) d).bytes ≡ (disk_now (P.view self.old.plant) d).bytes }
     {
         let done = self.pair.look(alloc, &mut self.plant, by, Dev::Ckpt2);
@@ -83,7 +83,7 @@ impl<P: Plant + Drop, C: Steady + Drop> Complex<P, C> {
         ensures level { self.new.level ≡ self.old.level }
         ensures goes { Goes (P.view self.old.plant) (P.view self.new.plant) }
         ensures halted { IsErrOf result LookNoHalted → Rose ((P.view self.old.plant).stops by.0) ((P.view self.new.plant).stops by.0) }
-        ensures seen { IfOk result (λ pages. IsOneSeen (run self.old.base (kept_all self.old.journal.batches ++ entries_in self.old.current)) P.tells self.old.level self.new.pair.first.alive (C.count self.new.pair.first.copy) self.new.first pages) }
+        ensures seen { IfOk result (λ pages. IsOneSeen (run self.old.base (kept_all self.old.journal.batches ++ entries_in self.old.current)) (entries_in self.old.current) P.tells self.old.level self.new.pair.first.alive (C.count self.new.pair.first.copy) self.new.first pages) }
         ensures reads { IfOk result (λ pages. P.tells → ReadsSeen C.reads (disk_now (P.view self.new.plant) Ckpt1).bytes pages) }
         ensures unseen { IfOk result (λ pages. P.tells → pages ≡ None → self.old.pair.first.alive ≡ true → Rose ((P.view self.old.plant).faults (Disk Ckpt1)) ((P.view self.new.plant).faults (Disk Ckpt1))) }
         ensures was_alive { self.new.pair.first.alive ≡ true → self.old.pair.first.alive ≡ true }
@@ -116,7 +116,7 @@ impl<P: Plant + Drop, C: Steady + Drop> Complex<P, C> {
         ensures level { self.new.level ≡ self.old.level }
         ensures goes { Goes (P.view self.old.plant) (P.view self.new.plant) }
         ensures halted { IsErrOf result LookNoHalted → Rose ((P.view self.old.plant).stops by.0) ((P.view self.new.plant).stops by.0) }
-        ensures seen { IfOk result (λ pages. IsOneSeen (run self.old.base (kept_all self.old.journal.batches ++ entries_in self.old.current)) P.tells self.old.level self.new.pair.second.alive (C.count self.new.pair.second.copy) self.new.second pages) }
+        ensures seen { IfOk result (λ pages. IsOneSeen (run self.old.base (kept_all self.old.journal.batches ++ entries_in self.old.current)) (entries_in self.old.current) P.tells self.old.level self.new.pair.second.alive (C.count self.new.pair.second.copy) self.new.second pages) }
         ensures reads { IfOk result (λ pages. P.tells → ReadsSeen C.reads (disk_now (P.view self.new.plant) Ckpt2).bytes pages) }
         ensures unseen { IfOk result (λ pages. P.tells → pages ≡ None → self.old.pair.second.alive ≡ true → Rose ((P.view self.old.plant).faults (Disk Ckpt2)) ((P.view self.new.plant).faults (Disk Ckpt2))) }
         ensures was_alive { self.new.pair.second.alive ≡ true → self.old.pair.second.alive ≡ true }

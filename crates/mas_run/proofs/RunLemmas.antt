@@ -213,12 +213,9 @@ caused_formed by a b stopped entry new formed both = record {
 
 -- A COPY AS IT WAS FORMED
 
-pub formed_copy : (base : Queue) (now reached : ℕ) (rests : List ℕ → Disk → Type 0) (holds : List ℕ → List ℕ → Disk → Type 0) (alive : Bool) (disk : Disk) (pages : List ℕ) → level pages ≡ reached → StandFor base pages
-    → (alive ≡ true → rests pages disk) → (alive ≡ false → now < top → disk.lost ≡ true) → CopyAt (setting reads base now) reached [] [] (copy_of rests holds alive Before) now disk
-formed_copy base now reached rests holds alive disk pages at_level stand rested gone = record {
-  at = λ is. record { was = pages; stands = record { at_level = at_level; queue = stand }; here = rested is };
-  gone = gone;
-}
+pub formed_copy : (base : Queue) (now : ℕ) (rests : List ℕ → Disk → Type 0) (holds : List ℕ → List ℕ → Disk → Type 0) (alive : Bool) (disk : Disk) (pages : List ℕ)
+    → (alive ≡ true → rests pages disk) → (alive ≡ false → now < top → disk.lost ≡ true) → CopyAt (setting reads base now) pages None (copy_of rests holds alive Before) now disk
+formed_copy base now rests holds alive disk pages rested gone = record { at = rested; gone = gone }
 
 -- WHAT MAY BE ASKED OF THE EMPTY QUEUE
 

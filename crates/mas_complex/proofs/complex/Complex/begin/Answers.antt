@@ -21,4 +21,4 @@ invariant_of-self-clause-kept g c told =
     let e : entries_reserved s.reserved ≡ es = ap entries_reserved (sym c.take.ensures.value ∙ c.in-Some.is) in
     ∥∥₁_map (s.kept told) (λ k. begins_keep S s.journal.batches (record { first = c.now-first.result; last = 2 ^ 64 - 1; by = c.args.by; fate = Flying; entries = es }) s.level first second old
     (subst (λ (x : Option Batch). Keeps S s.journal.batches x s.level first second old) c.requires.none k) refl c.now-first.ensures
-    (subst (λ (l : List Entry). IsUntold S old l) e (c.requires.untold told)) c.requires.first c.requires.second)
+    (subst (λ (l : List Entry). IsUntold S old l) e (c.requires.untold told)))

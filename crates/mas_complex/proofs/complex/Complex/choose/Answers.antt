@@ -15,7 +15,8 @@ returns-then-pages_level-clause-chosen g c =
     let s = c.args.self.now in
     let C = g.C.Copying in
     let n = c.lose_unless.new.self in
-    let queue = run s.base (kept_all s.journal.batches ++ entries_in s.current) in
+    let flying = entries_in s.current in
+    let queue = run s.base (kept_all s.journal.batches ++ flying) in
     let e = c.lose_unless.ensures in
     let v = g.P.Plant.view n.plant in
     let reads_first : g.P.Plant.tells → C.reads (disk_now v Ckpt1).bytes ≡ Some (bytes_of c.args.first) = λ told. ap C.reads (e.bytes told Ckpt1) ∙ c.requires.reads1 told in
@@ -30,10 +31,10 @@ returns-then-pages_level-clause-chosen g c =
           let same = e.stays stay in
           subst (λ h. Agrees C.reads g.P.Plant.tells s.level (C.count h.copy) (C.room h.copy) n.first (disk_now v Ckpt1).bytes c.args.second) (sym same)
           (subst (λ (p : Place). Agrees C.reads g.P.Plant.tells s.level (C.count s.pair.first.copy) (C.room s.pair.first.copy) p (disk_now v Ckpt1).bytes c.args.second) (sym e.first)
-          (agrees_stays C.reads g.P.Plant.tells queue s.level (C.count s.pair.first.copy) (C.room s.pair.first.copy) s.first (disk_now v Ckpt1).bytes c.args.second c.args.first seen.as_many seen.at reads_first (stays_here stay)));
-      second = λ is. agrees_own C.reads g.P.Plant.tells queue s.level (C.count n.pair.second.copy) (C.room n.pair.second.copy) n.second (disk_now v Ckpt2).bytes c.args.second own_many own_at reads_second;
+          (agrees_stays C.reads g.P.Plant.tells queue flying s.level (C.count s.pair.first.copy) (C.room s.pair.first.copy) s.first (disk_now v Ckpt1).bytes c.args.second c.args.first seen.as_many seen.at reads_first (stays_here stay)));
+      second = λ is. agrees_own C.reads g.P.Plant.tells queue flying s.level (C.count n.pair.second.copy) (C.room n.pair.second.copy) n.second (disk_now v Ckpt2).bytes c.args.second own_many own_at reads_second;
       one = inr (ap (λ h. h.alive) e.other ∙ own.is_alive, (own_at, reads_second));
-      next = next_own C.reads g.P.Plant.tells queue s.level s.pair.second.alive (C.count s.pair.second.copy) s.second c.args.second own;
+      next = next_own C.reads g.P.Plant.tells queue flying s.level s.pair.second.alive (C.count s.pair.second.copy) s.second c.args.second own;
       some = omega (arith, own.as_many, own.some);
       few = omega (arith, own.as_many, own.few);
     } where
@@ -45,7 +46,8 @@ returns-clause-chosen g c =
     let s = c.args.self.now in
     let C = g.C.Copying in
     let n = c.lose_unless-2.new.self in
-    let queue = run s.base (kept_all s.journal.batches ++ entries_in s.current) in
+    let flying = entries_in s.current in
+    let queue = run s.base (kept_all s.journal.batches ++ flying) in
     let e = c.lose_unless-2.ensures in
     let v = g.P.Plant.view n.plant in
     let reads_second : g.P.Plant.tells → C.reads (disk_now v Ckpt2).bytes ≡ Some (bytes_of c.args.second) = λ told. ap C.reads (e.bytes told Ckpt2) ∙ c.requires.reads2 told in
@@ -60,10 +62,10 @@ returns-clause-chosen g c =
           let same = e.stays stay in
           subst (λ h. Agrees C.reads g.P.Plant.tells s.level (C.count h.copy) (C.room h.copy) n.second (disk_now v Ckpt2).bytes c.args.first) (sym same)
           (subst (λ (p : Place). Agrees C.reads g.P.Plant.tells s.level (C.count s.pair.second.copy) (C.room s.pair.second.copy) p (disk_now v Ckpt2).bytes c.args.first) (sym e.second)
-          (agrees_stays C.reads g.P.Plant.tells queue s.level (C.count s.pair.second.copy) (C.room s.pair.second.copy) s.second (disk_now v Ckpt2).bytes c.args.first c.args.second seen.as_many seen.at reads_second (stays_here stay)));
-      first = λ is. agrees_own C.reads g.P.Plant.tells queue s.level (C.count n.pair.first.copy) (C.room n.pair.first.copy) n.first (disk_now v Ckpt1).bytes c.args.first own_many own_at reads_first;
+          (agrees_stays C.reads g.P.Plant.tells queue flying s.level (C.count s.pair.second.copy) (C.room s.pair.second.copy) s.second (disk_now v Ckpt2).bytes c.args.first c.args.second seen.as_many seen.at reads_second (stays_here stay)));
+      first = λ is. agrees_own C.reads g.P.Plant.tells queue flying s.level (C.count n.pair.first.copy) (C.room n.pair.first.copy) n.first (disk_now v Ckpt1).bytes c.args.first own_many own_at reads_first;
       one = inl (ap (λ h. h.alive) e.other ∙ own.is_alive, (own_at, reads_first));
-      next = next_own C.reads g.P.Plant.tells queue s.level s.pair.first.alive (C.count s.pair.first.copy) s.first c.args.first own;
+      next = next_own C.reads g.P.Plant.tells queue flying s.level s.pair.first.alive (C.count s.pair.first.copy) s.first c.args.first own;
       some = omega (arith, own.as_many, own.some);
       few = omega (arith, own.as_many, own.few);
     } where

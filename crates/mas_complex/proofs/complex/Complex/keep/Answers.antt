@@ -19,4 +19,4 @@ invariant_of-self-clause-kept g c told =
     ∥∥₁_elim (s.kept told) ∥∥₁_prop (λ k. ∥∥₁_map s.place (λ has. rw (c.set_last.ensures, c.take.ensures.after, c.requires.next told)
     (kept_placed S s.level first second old (λ pages d r. g.met.C.Copying.rests_reads s.pair.first.copy pages d r) (λ was next d r. g.met.C.Copying.holds_reads s.pair.first.copy was next d r) (λ pages d r. g.met.C.Copying.rests_reads s.pair.second.copy pages d r) (λ was next d r. g.met.C.Copying.holds_reads s.pair.second.copy was next d r) s.journal.batches (has_ends s.placed s.journal.batches (s.place_current c.requires.current) has)
     (record { first = b.first; last = c.now-last.result; by = b.by; fate = Kept; entries = b.entries }) b
-    (subst (λ (x : Option Batch). Keeps S s.journal.batches x s.level first second old) was k) refl refl c.now-last.ensures refl c.requires.first c.requires.second)))
+    (subst (λ (x : Option Batch). Keeps S s.journal.batches x s.level first second old) was k) refl refl c.now-last.ensures refl c.requires.some c.requires.first c.requires.second)))

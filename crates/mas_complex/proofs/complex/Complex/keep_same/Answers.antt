@@ -24,5 +24,5 @@ invariant_of-self-clause-kept g c told =
     (record { first = c.now-now.result; last = c.now-now.result; by = c.args.by; fate = Kept; entries = es })
     (record { first = c.now-now.result; last = 0; by = c.args.by; fate = Flying; entries = es })
     (subst (λ (x : Option Batch). Keeps S s.journal.batches x s.level first second old) c.requires.none k) refl c.now-now.ensures
-    (subst (λ (l : List Entry). IsUntold S old l) e (c.requires.untold told)) c.requires.first c.requires.second refl refl refl c.now-now.ensures
+    (subst (λ (l : List Entry). IsUntold S old l) e (c.requires.untold told)) refl refl refl c.now-now.ensures
     (subst (λ (l : List Entry). S.run S.base (kept_all s.journal.batches ++ l) ≡ S.run S.base (kept_all s.journal.batches)) e (c.requires.queue told)))))

@@ -12,9 +12,10 @@ use Rattle.duplex_pair.specs.declared.errors.Look.TheVariants.{Lost, Unread, Pag
 use Rattle.duplex_pair.specs.declared.errors.LookNo.{LookNo}
 use Rattle.duplex_pair.specs.Looks.{WasSeen}
 use Rattle.mas_complex.specs.Meaning.{run}
+use Rattle.ckpt_copy.specs.Pages.{bytes_of}
 use Rattle.mas_complex.specs.Seen.{HasNext}
 use Rattle.mas_complex.proofs.Sides.{no}
-use Rattle.mas_complex.proofs.Looking.{look_side, look_next}
+use Rattle.mas_complex.proofs.Looking.{look_side, look_next, look_stands, some_entries}
 use Rattle.mas_complex.proofs.complex.Complex.look_first.Goals as goal
 
 pub invariant_of-self-clause-kept : goal.invariant_of-self-clause-kept
@@ -29,12 +30,10 @@ invariant_of-self-clause-kept g c told =
     let p = c.look-done.new.self in
     let first' = copy_of (C.rests p.first.copy) (C.holds p.first.copy) p.first.alive c.place_seen-self.result in
     let second' = copy_of (C.rests p.second.copy) (C.holds p.second.copy) p.second.alive s.second in
-    let K = kept_all s.journal.batches in
-    let F = entries_in s.current in
     let e = c.look-done.ensures in
-    ∥∥₁_map (s.kept told) (λ kk. on_first S s.journal.batches s.current s.level first second first' second' old new kk
-    (λ pages d r. g.met.C.Copying.rests_reads s.pair.second.copy pages d r) (λ was next d r. g.met.C.Copying.holds_reads s.pair.second.copy was next d r)
-    (look_side S s.level K F Ckpt1 old new first.rests first.holds first.place first'.place first.alive first'.alive C.count C.room C.room_most C.ready C.rests C.holds s.pair.first.copy p.first.copy kk.first_at e.acted.goes e.acted.alive (λ dead. ap g.P.Plant.view (e.idle dead)) (e.gone told) g.P.Plant.tells told (λ l. g.met.P.Plant.there c.look-done.new.plant told Ckpt1 l) c.look-done.result (e.during told) e.seen c.place_seen-self.ensures (λ pages d r. g.met.C.Copying.rests_reads s.pair.first.copy pages d r) (λ was next d r. g.met.C.Copying.holds_reads s.pair.first.copy was next d r) (λ pages d r. g.met.C.Copying.rests_reads p.first.copy pages d r))
+    ∥∥₁_map (s.kept told) (λ kk. on_first S s.journal.batches s.current s.level first second first' second' old new kk kk.coming kk.comes kk.none
+    (λ pages d r. g.met.C.Copying.rests_reads s.pair.second.copy pages d r) (λ was next d r. g.met.C.Copying.holds_reads s.pair.second.copy was next d r) kk.second_at
+    (look_side S kk.was kk.coming Ckpt1 old new first.rests first.holds first.place first'.place first.alive first'.alive C.count C.room C.room_most C.ready C.rests C.holds s.pair.first.copy p.first.copy kk.first_at e.acted.goes e.acted.alive (λ dead. ap g.P.Plant.view (e.idle dead)) (e.gone told) g.P.Plant.tells told (λ l. g.met.P.Plant.there c.look-done.new.plant told Ckpt1 l) c.look-done.result (e.during told) e.seen s.level (kept_all s.journal.batches) (entries_in s.current) kk.stands kk.comes c.place_seen-self.ensures (λ pages d r. g.met.C.Copying.rests_reads s.pair.first.copy pages d r) (λ was next d r. g.met.C.Copying.holds_reads s.pair.first.copy was next d r) (λ pages d r. g.met.C.Copying.rests_reads p.first.copy pages d r))
     (λ x. rw (e.other) x))
 
 pub invariant_of-self-clause-first_lost : goal.invariant_of-self-clause-first_lost
@@ -68,7 +67,7 @@ invariant_of-self-clause-first_ready g c now =
 pub returns-clause-next : goal.returns-clause-next
 returns-clause-next g c =
     by_result c.look-done.result refl where
-      by_result : (d : Result Look LookNo) → c.look-done.result ≡ d → IfOk d (λ look. g.P.Plant.tells → HasNext (run c.args.self.now.base (kept_all c.args.self.now.journal.batches ++ entries_in c.args.self.now.current)) c.args.self.now.level c.place_seen-self.result look)
+      by_result : (d : Result Look LookNo) → c.look-done.result ≡ d → IfOk d (λ look. g.P.Plant.tells → HasNext (run c.args.self.now.base (kept_all c.args.self.now.journal.batches ++ entries_in c.args.self.now.current)) (entries_in c.args.self.now.current) c.args.self.now.level c.place_seen-self.result look)
       by_result (Ok Lost) is = λ told. tt
       by_result (Ok Unread) is = λ told. tt
       by_result (Err x) is = tt
@@ -83,9 +82,9 @@ returns-clause-next g c =
           let p = c.look-done.new.self in
           let first' = copy_of (C.rests p.first.copy) (C.holds p.first.copy) p.first.alive c.place_seen-self.result in
           let second' = copy_of (C.rests p.second.copy) (C.holds p.second.copy) p.second.alive s.second in
-          let K = kept_all s.journal.batches in
-          let F = entries_in s.current in
-          let e = c.look-done.ensures in (
-            ∥∥₁_elim (s.kept told) (Coded-set coded_ℕ _ _) (λ kk. (look_next S s.level K F Ckpt1 old new first.rests first.holds first.place first'.place first.alive first'.alive C.count C.room C.room_most C.ready C.rests C.holds s.pair.first.copy p.first.copy kk.first_at e.acted.goes e.acted.alive (λ dead. ap g.P.Plant.view (e.idle dead)) (e.gone told) g.P.Plant.tells told (λ l. g.met.P.Plant.there c.look-done.new.plant told Ckpt1 l) c.look-done.result (e.during told) e.seen c.place_seen-self.ensures (λ pages d r. g.met.C.Copying.rests_reads s.pair.first.copy pages d r) (λ was next d r. g.met.C.Copying.holds_reads s.pair.first.copy was next d r) (λ pages d r. g.met.C.Copying.rests_reads p.first.copy pages d r) pages is opened).at_level),
-            ∥∥₁_map (s.kept told) (λ kk. (look_next S s.level K F Ckpt1 old new first.rests first.holds first.place first'.place first.alive first'.alive C.count C.room C.room_most C.ready C.rests C.holds s.pair.first.copy p.first.copy kk.first_at e.acted.goes e.acted.alive (λ dead. ap g.P.Plant.view (e.idle dead)) (e.gone told) g.P.Plant.tells told (λ l. g.met.P.Plant.there c.look-done.new.plant told Ckpt1 l) c.look-done.result (e.during told) e.seen c.place_seen-self.ensures (λ pages d r. g.met.C.Copying.rests_reads s.pair.first.copy pages d r) (λ was next d r. g.met.C.Copying.holds_reads s.pair.first.copy was next d r) (λ pages d r. g.met.C.Copying.rests_reads p.first.copy pages d r) pages is opened).queue),
+          let e = c.look-done.ensures in
+          (
+            ∥∥₁_elim (s.kept told) (Coded-set coded_ℕ _ _) (λ kk. (look_stands S s.journal.batches s.current s.level first second old kk (bytes_of pages) (look_next S kk.was kk.coming Ckpt1 old new first.rests first.holds first.place first'.place first.alive first'.alive C.count C.room C.room_most C.ready C.rests C.holds s.pair.first.copy p.first.copy kk.first_at e.acted.goes e.acted.alive (λ dead. ap g.P.Plant.view (e.idle dead)) (e.gone told) g.P.Plant.tells told (λ l. g.met.P.Plant.there c.look-done.new.plant told Ckpt1 l) c.look-done.result (e.during told) e.seen s.level (kept_all s.journal.batches) (entries_in s.current) kk.stands kk.comes c.place_seen-self.ensures (λ pages d r. g.met.C.Copying.rests_reads s.pair.first.copy pages d r) (λ was next d r. g.met.C.Copying.holds_reads s.pair.first.copy was next d r) (λ pages d r. g.met.C.Copying.rests_reads p.first.copy pages d r) pages is opened)).0.at_level),
+            ∥∥₁_map (s.kept told) (λ kk. (look_stands S s.journal.batches s.current s.level first second old kk (bytes_of pages) (look_next S kk.was kk.coming Ckpt1 old new first.rests first.holds first.place first'.place first.alive first'.alive C.count C.room C.room_most C.ready C.rests C.holds s.pair.first.copy p.first.copy kk.first_at e.acted.goes e.acted.alive (λ dead. ap g.P.Plant.view (e.idle dead)) (e.gone told) g.P.Plant.tells told (λ l. g.met.P.Plant.there c.look-done.new.plant told Ckpt1 l) c.look-done.result (e.during told) e.seen s.level (kept_all s.journal.batches) (entries_in s.current) kk.stands kk.comes c.place_seen-self.ensures (λ pages d r. g.met.C.Copying.rests_reads s.pair.first.copy pages d r) (λ was next d r. g.met.C.Copying.holds_reads s.pair.first.copy was next d r) (λ pages d r. g.met.C.Copying.rests_reads p.first.copy pages d r) pages is opened)).0.queue),
+            some_entries (entries_in s.current) (∥∥₁_map (s.kept told) (λ kk. (look_stands S s.journal.batches s.current s.level first second old kk (bytes_of pages) (look_next S kk.was kk.coming Ckpt1 old new first.rests first.holds first.place first'.place first.alive first'.alive C.count C.room C.room_most C.ready C.rests C.holds s.pair.first.copy p.first.copy kk.first_at e.acted.goes e.acted.alive (λ dead. ap g.P.Plant.view (e.idle dead)) (e.gone told) g.P.Plant.tells told (λ l. g.met.P.Plant.there c.look-done.new.plant told Ckpt1 l) c.look-done.result (e.during told) e.seen s.level (kept_all s.journal.batches) (entries_in s.current) kk.stands kk.comes c.place_seen-self.ensures (λ pages d r. g.met.C.Copying.rests_reads s.pair.first.copy pages d r) (λ was next d r. g.met.C.Copying.holds_reads s.pair.first.copy was next d r) (λ pages d r. g.met.C.Copying.rests_reads p.first.copy pages d r) pages is opened)).1)),
           )

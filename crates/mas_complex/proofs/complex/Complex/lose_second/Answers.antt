@@ -1,7 +1,6 @@
 use Rattle.std.proofs.Common.{refl, subst, ◌≡◌, false}
 use Rattle.std.proofs.Math.Logic.{∥∥₁_map}
 use Rattle.mas_types.specs.declared.ids.Dev.TheVariants.{Ckpt1, Ckpt2}
-use Rattle.mas_complex.specs.Journals.{kept_all, entries_in}
 use Rattle.mas_complex.specs.Crash.{Setting, setting, copy_of}
 use Rattle.spool_disk.specs.View.{disk_now}
 use Rattle.duplex_pair.specs.Halves.{SameOrLost}
@@ -23,12 +22,10 @@ invariant_of-self-clause-kept g c told =
     let p = c.lose.new.self in
     let first' = copy_of (C.rests p.first.copy) (C.holds p.first.copy) p.first.alive s.first in
     let second' = copy_of (C.rests p.second.copy) (C.holds p.second.copy) p.second.alive s.second in
-    let K = kept_all s.journal.batches in
-    let F = entries_in s.current in
     let e = c.lose.ensures in
-    ∥∥₁_map (s.kept told) (λ kk. on_second S s.journal.batches s.current s.level first second first' second' old new kk
-    (λ pages d r. g.met.C.Copying.rests_reads s.pair.first.copy pages d r) (λ was next d r. g.met.C.Copying.holds_reads s.pair.first.copy was next d r)
-    (lose_side S s.level K F Ckpt2 old new second.rests second'.rests second.holds second'.holds second.place second'.place second.alive second'.alive kk.second_at (λ pages d r. g.met.C.Copying.rests_reads s.pair.second.copy pages d r) (λ was next d r. g.met.C.Copying.holds_reads s.pair.second.copy was next d r) (e.during told) e.alive (e.gone told refl e.alive))
+    ∥∥₁_map (s.kept told) (λ kk. on_second S s.journal.batches s.current s.level first second first' second' old new kk kk.coming kk.comes kk.none
+    (λ pages d r. g.met.C.Copying.rests_reads s.pair.first.copy pages d r) (λ was next d r. g.met.C.Copying.holds_reads s.pair.first.copy was next d r) kk.first_at
+    (lose_side S kk.was kk.coming Ckpt2 old new second.rests second'.rests second.holds second'.holds second.place second'.place second.alive second'.alive kk.second_at (λ pages d r. g.met.C.Copying.rests_reads s.pair.second.copy pages d r) (λ was next d r. g.met.C.Copying.holds_reads s.pair.second.copy was next d r) (e.during told) e.alive (e.gone told refl e.alive))
     (λ x. rw (e.other) x))
 
 pub invariant_of-self-clause-first_lost : goal.invariant_of-self-clause-first_lost

@@ -1,4 +1,5 @@
-use Rattle.std.proofs.Math.Logic.{∥∥₁_map, ∥∥₁_elim, ∥∥₁_prop}
+use Rattle.std.proofs.Common.{None}
+use Rattle.std.proofs.Math.Logic.{∥∥₁_map}
 use Rattle.mas_complex.specs.declared.places.Place.TheVariants.{Before}
 use Rattle.mas_complex.specs.Crash.{Setting, setting, copy_of}
 use Rattle.mas_complex.proofs.Making.{make_keeps}
@@ -14,8 +15,8 @@ invariant_of-result-clause-kept g c told =
     let first = copy_of (C.rests s.pair.first.copy) (C.holds s.pair.first.copy) s.pair.first.alive Before in
     let second = copy_of (C.rests s.pair.second.copy) (C.holds s.pair.second.copy) s.pair.second.alive Before in
     let v = g.P.Plant.view s.plant in
-    ∥∥₁_elim (c.requires.first told) ∥∥₁_prop (λ one. ∥∥₁_map (c.requires.second told) (λ two.
-    rw (c.new.ensures) (make_keeps S s.level first second v (λ pages d r. g.met.C.Copying.rests_reads s.pair.first.copy pages d r) (λ was next d r. g.met.C.Copying.holds_reads s.pair.first.copy was next d r) (λ pages d r. g.met.C.Copying.rests_reads s.pair.second.copy pages d r) (λ was next d r. g.met.C.Copying.holds_reads s.pair.second.copy was next d r) c.moment_of-since.ensures.now (rw (c.moment_of-since.ensures.now) one) (rw (c.moment_of-since.ensures.now) two))))
+    ∥∥₁_map (c.requires.begins told) (λ begins.
+    rw (c.new.ensures) (make_keeps S s.level first second v (λ pages d r. g.met.C.Copying.rests_reads s.pair.first.copy pages d r) (λ was next d r. g.met.C.Copying.holds_reads s.pair.first.copy was next d r) (λ pages d r. g.met.C.Copying.rests_reads s.pair.second.copy pages d r) (λ was next d r. g.met.C.Copying.holds_reads s.pair.second.copy was next d r) c.moment_of-since.ensures.now (rw (c.moment_of-since.ensures.now) begins)))
 
 pub returns-clause-fresh : goal.returns-clause-fresh
 returns-clause-fresh g c told =
@@ -25,6 +26,6 @@ returns-clause-fresh g c told =
     let S : Setting = setting C.reads s.base v.now in
     let first = copy_of (C.rests s.pair.first.copy) (C.holds s.pair.first.copy) s.pair.first.alive Before in
     let second = copy_of (C.rests s.pair.second.copy) (C.holds s.pair.second.copy) s.pair.second.alive Before in
-    ∥∥₁_elim (c.requires.first told) ∥∥₁_prop (λ one. ∥∥₁_map (c.requires.second told) (λ two later goes. leaves_base C.reads s.base v.now s.level v later
-    (first_reads S s.level first.rests first.holds (λ pages d r. g.met.C.Copying.rests_reads s.pair.first.copy pages d r) (λ was next d r. g.met.C.Copying.holds_reads s.pair.first.copy was next d r) Before first.alive Ckpt1 v later c.moment_of-since.ensures.most goes one c.requires.lost1)
-    (first_reads S s.level second.rests second.holds (λ pages d r. g.met.C.Copying.rests_reads s.pair.second.copy pages d r) (λ was next d r. g.met.C.Copying.holds_reads s.pair.second.copy was next d r) Before second.alive Ckpt2 v later c.moment_of-since.ensures.most goes two c.requires.lost2)))
+    ∥∥₁_map (c.requires.begins told) (λ begins later goes. leaves_base C.reads s.base v.now s.level begins.pages v later begins.stands
+    (first_reads S begins.pages None first.rests first.holds (λ pages d r. g.met.C.Copying.rests_reads s.pair.first.copy pages d r) (λ was next d r. g.met.C.Copying.holds_reads s.pair.first.copy was next d r) Before first.alive Ckpt1 v later c.moment_of-since.ensures.most goes begins.first_at c.requires.lost1)
+    (first_reads S begins.pages None second.rests second.holds (λ pages d r. g.met.C.Copying.rests_reads s.pair.second.copy pages d r) (λ was next d r. g.met.C.Copying.holds_reads s.pair.second.copy was next d r) Before second.alive Ckpt2 v later c.moment_of-since.ensures.most goes begins.second_at c.requires.lost2))

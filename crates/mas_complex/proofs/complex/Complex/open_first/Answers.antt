@@ -2,7 +2,6 @@ use Rattle.std.proofs.Common.{◌<◌, arith, subst, ◌≡◌, ap, false}
 use Rattle.std.proofs.Math.Logic.{∥∥₁_map, ∥∥₁_elim}
 use Rattle.mas_types.specs.declared.ids.Dev.TheVariants.{Ckpt1, Ckpt2}
 use Rattle.spool_disk.specs.View.{disk_now}
-use Rattle.mas_complex.specs.Journals.{kept_all, entries_in}
 use Rattle.mas_complex.specs.Crash.{Setting, setting, copy_of}
 use Rattle.mas_complex.proofs.Sides.{open_side, on_first}
 use Rattle.mas_complex.proofs.Lost.{still_lost, lost_later}
@@ -26,12 +25,10 @@ invariant_of-self-clause-kept g c told =
     let p = c.open_copy-done.new.self in
     let first' = copy_of (C.rests p.first.copy) (C.holds p.first.copy) p.first.alive c.place_after-self.result in
     let second' = copy_of (C.rests p.second.copy) (C.holds p.second.copy) p.second.alive s.second in
-    let K = kept_all s.journal.batches in
-    let F = entries_in s.current in
     let e = c.open_copy-done.ensures in
-    ∥∥₁_map (s.kept told) (λ kk. on_first S s.journal.batches s.current s.level first second first' second' old new kk
-    (λ pages d r. g.met.C.Copying.rests_reads s.pair.second.copy pages d r) (λ was next d r. g.met.C.Copying.holds_reads s.pair.second.copy was next d r)
-    (open_side S s.level K F Ckpt1 old new first.rests first'.rests first.holds first'.holds first.place first'.place first.alive first'.alive kk.first_at e.acted.goes e.acted.alive (λ dead. ap g.P.Plant.view (e.idle dead)) (e.gone told) g.P.Plant.tells told c.requires.place c.open_copy-done.result (e.during told) e.opened (λ both. (e.both both).0) (λ was next d r. g.met.C.Copying.holds_reads s.pair.first.copy was next d r) c.place_after-self.ensures)
+    ∥∥₁_map (s.kept told) (λ kk. on_first S s.journal.batches s.current s.level first second first' second' old new kk kk.coming kk.comes kk.none
+    (λ pages d r. g.met.C.Copying.rests_reads s.pair.second.copy pages d r) (λ was next d r. g.met.C.Copying.holds_reads s.pair.second.copy was next d r) kk.second_at
+    (open_side S kk.was kk.coming Ckpt1 old new first.rests first'.rests first.holds first'.holds first.place first'.place first.alive first'.alive kk.first_at e.acted.goes e.acted.alive (λ dead. ap g.P.Plant.view (e.idle dead)) (e.gone told) g.P.Plant.tells told c.requires.place c.open_copy-done.result (e.during told) e.opened (λ both. (e.both both).0) c.place_after-self.ensures)
     (λ x. rw (e.other) x))
 
 pub invariant_of-self-clause-first_lost : goal.invariant_of-self-clause-first_lost
@@ -58,10 +55,8 @@ returns-clause-others g c told d ne =
     let p = c.open_copy-done.new.self in
     let first' = copy_of (C.rests p.first.copy) (C.holds p.first.copy) p.first.alive c.place_after-self.result in
     let second' = copy_of (C.rests p.second.copy) (C.holds p.second.copy) p.second.alive s.second in
-    let K = kept_all s.journal.batches in
-    let F = entries_in s.current in
     let e = c.open_copy-done.ensures in
-    ∥∥₁_elim (s.kept told) (Coded-set (coded_list coded_ℕ) _ _) (λ kk. (ap (λ (x : Disk). x.bytes) ((open_side S s.level K F Ckpt1 old new first.rests first'.rests first.holds first'.holds first.place first'.place first.alive first'.alive kk.first_at e.acted.goes e.acted.alive (λ dead. ap g.P.Plant.view (e.idle dead)) (e.gone told) g.P.Plant.tells told c.requires.place c.open_copy-done.result (e.during told) e.opened (λ both. (e.both both).0) (λ was next d r. g.met.C.Copying.holds_reads s.pair.first.copy was next d r) c.place_after-self.ensures).during.others new.now e.acted.goes.later (omega arith) d ne)))
+    ∥∥₁_elim (s.kept told) (Coded-set (coded_list coded_ℕ) _ _) (λ kk. ap (λ (x : Disk). x.bytes) ((open_side S kk.was kk.coming Ckpt1 old new first.rests first'.rests first.holds first'.holds first.place first'.place first.alive first'.alive kk.first_at e.acted.goes e.acted.alive (λ dead. ap g.P.Plant.view (e.idle dead)) (e.gone told) g.P.Plant.tells told c.requires.place c.open_copy-done.result (e.during told) e.opened (λ both. (e.both both).0) c.place_after-self.ensures).during.others new.now e.acted.goes.later (omega arith) d ne))
 
 pub returns-clause-elsewhere : goal.returns-clause-elsewhere
 returns-clause-elsewhere g c told =
@@ -75,10 +70,8 @@ returns-clause-elsewhere g c told =
     let p = c.open_copy-done.new.self in
     let first' = copy_of (C.rests p.first.copy) (C.holds p.first.copy) p.first.alive c.place_after-self.result in
     let second' = copy_of (C.rests p.second.copy) (C.holds p.second.copy) p.second.alive s.second in
-    let K = kept_all s.journal.batches in
-    let F = entries_in s.current in
     let e = c.open_copy-done.ensures in
-    elsewhere_is Ckpt1 old new (∥∥₁_map (s.kept told) (λ kk. elsewhere_of Ckpt1 (λ d. old.now < top → ReadsOne S s.level K F d) old new (open_side S s.level K F Ckpt1 old new first.rests first'.rests first.holds first'.holds first.place first'.place first.alive first'.alive kk.first_at e.acted.goes e.acted.alive (λ dead. ap g.P.Plant.view (e.idle dead)) (e.gone told) g.P.Plant.tells told c.requires.place c.open_copy-done.result (e.during told) e.opened (λ both. (e.both both).0) (λ was next d r. g.met.C.Copying.holds_reads s.pair.first.copy was next d r) c.place_after-self.ensures).during))
+    elsewhere_is Ckpt1 old new (∥∥₁_map (s.kept told) (λ kk. elsewhere_of Ckpt1 (λ d. old.now < top → ReadsOne S kk.was kk.coming d) old new (open_side S kk.was kk.coming Ckpt1 old new first.rests first'.rests first.holds first'.holds first.place first'.place first.alive first'.alive kk.first_at e.acted.goes e.acted.alive (λ dead. ap g.P.Plant.view (e.idle dead)) (e.gone told) g.P.Plant.tells told c.requires.place c.open_copy-done.result (e.during told) e.opened (λ both. (e.both both).0) c.place_after-self.ensures).during))
 
 pub returns-clause-reads : goal.returns-clause-reads
 returns-clause-reads g c =
@@ -92,9 +85,7 @@ returns-clause-reads g c =
     let p = c.open_copy-done.new.self in
     let first' = copy_of (C.rests p.first.copy) (C.holds p.first.copy) p.first.alive c.place_after-self.result in
     let second' = copy_of (C.rests p.second.copy) (C.holds p.second.copy) p.second.alive s.second in
-    let K = kept_all s.journal.batches in
-    let F = entries_in s.current in
     let e = c.open_copy-done.ensures in
     on_ok c.open_copy-done.result e.opened (λ opened told now. ∥∥₁_elim (s.kept told) (Coded-set (coded_option (coded_list coded_ℕ)) _ _) (λ kk.
-    open_shows S s.level K F first.rests first.holds first.place first.alive old.now (disk_now old Ckpt1) (disk_now new Ckpt1) kk.first_at (e.acted.alive now) (c.requires.place (e.acted.alive now)) (C.behind s.pair.first.copy) (λ was next x r. g.met.C.Copying.holds_behind s.pair.first.copy was next x r)
+    open_shows S first.rests first.holds kk.was kk.coming first.place first.alive old.now (disk_now old Ckpt1) (disk_now new Ckpt1) kk.first_at (e.acted.alive now) (c.requires.place (e.acted.alive now)) (C.behind s.pair.first.copy) (λ was next x r. g.met.C.Copying.holds_behind s.pair.first.copy was next x r)
     first'.rests (λ was next r. opened told now was next r) (λ pages x r. g.met.C.Copying.rests_now p.first.copy pages x r)))

@@ -1,11 +1,11 @@
-use Rattle.std.proofs.Common.{◌<◌, arith, subst, ◌≡◌, ap, false}
+use Rattle.std.proofs.Common.{◌<◌, ◌+◌, ◌++◌, Some, arith, subst, ◌≡◌, ap, false}
 use Rattle.std.proofs.Math.Logic.{∥∥₁_map, ∥∥₁_elim, ∥∥₁_prop}
 use Rattle.mas_types.specs.declared.ids.Dev.TheVariants.{Ckpt1, Ckpt2}
 use Rattle.spool_disk.specs.View.{disk_now}
-use Rattle.ckpt_copy.specs.Pages.{bytes_of}
+use Rattle.ckpt_copy.specs.Pages.{bytes_of, level}
 use Rattle.mas_complex.specs.Journals.{kept_all, entries_in}
-use Rattle.mas_complex.specs.Crash.{Setting, setting, copy_of}
-use Rattle.mas_complex.proofs.Sides.{put_side, on_first}
+use Rattle.mas_complex.specs.Crash.{Setting, Stands, setting, copy_of}
+use Rattle.mas_complex.proofs.Sides.{put_side, on_first, other_coming, some_coming, is_higher}
 use Rattle.mas_complex.proofs.Lost.{still_lost, lost_later}
 use Rattle.std.specs.Coded.{Coded-set, coded_list, coded_ℕ}
 use Rattle.spool_disk.specs.View.{Disk}
@@ -27,12 +27,16 @@ invariant_of-self-clause-kept g c told =
     let p = c.put-done.new.self in
     let first' = copy_of (C.rests p.first.copy) (C.holds p.first.copy) p.first.alive c.place_after-self.result in
     let second' = copy_of (C.rests p.second.copy) (C.holds p.second.copy) p.second.alive s.second in
+    let e = c.put-done.ensures in
     let K = kept_all s.journal.batches in
     let F = entries_in s.current in
-    let e = c.put-done.ensures in
-    ∥∥₁_elim (s.kept told) ∥∥₁_prop (λ kk. ∥∥₁_map (c.requires.queue told) (λ q. on_first S s.journal.batches s.current s.level first second first' second' old new kk
+    let pages = bytes_of c.args.pages.now in
+    ∥∥₁_elim (s.kept told) ∥∥₁_prop (λ kk. ∥∥₁_map (c.requires.queue told) (λ q.
+    let stands : Stands S (s.level + 1) (K ++ F) pages = record { at_level = c.requires.level told; queue = q } in
+    on_first S s.journal.batches s.current s.level first second first' second' old new kk (Some pages) stands (some_coming F (Some pages) (c.requires.some told))
     (λ pages d r. g.met.C.Copying.rests_reads s.pair.second.copy pages d r) (λ was next d r. g.met.C.Copying.holds_reads s.pair.second.copy was next d r)
-    (put_side S s.level K F Ckpt1 old new first.rests first'.rests first.holds first'.holds first.place first'.place first.alive first'.alive kk.first_at e.acted.goes e.acted.alive (λ dead. ap g.P.Plant.view (e.idle dead)) (e.gone told) g.P.Plant.tells told c.requires.place c.put-done.result (bytes_of c.args.pages.now) (record { at_level = c.requires.level told; queue = q }) (e.during told) (C.count s.pair.first.copy) c.args.changed.now (λ is was r. c.requires.covered told is was (g.met.C.Copying.rests_now s.pair.first.copy was (disk_now old Ckpt1) r)) e.held (λ both. (e.both both).0) (λ pages d r. g.met.C.Copying.rests_reads s.pair.first.copy pages d r) c.place_after-self.ensures)
+    (other_coming S second.rests second.holds kk.was kk.coming pages second.place second.alive old.now (disk_now old Ckpt2) (C.behind s.pair.second.copy) (λ was next d r. g.met.C.Copying.holds_behind s.pair.second.copy was next d r) (λ was d r. g.met.C.Copying.rests_now s.pair.second.copy was d r) (c.requires.same told) kk.second_at)
+    (put_side S kk.was kk.coming Ckpt1 old new first.rests first'.rests first.holds first'.holds first.place first'.place first.alive first'.alive kk.first_at e.acted.goes e.acted.alive (λ dead. ap g.P.Plant.view (e.idle dead)) (e.gone told) g.P.Plant.tells told c.requires.place c.put-done.result pages (is_higher (level kk.was) (level pages) s.level kk.stands.at_level (c.requires.level told)) (e.during told) (C.count s.pair.first.copy) c.args.changed.now (λ is was r. c.requires.covered told is was (g.met.C.Copying.rests_now s.pair.first.copy was (disk_now old Ckpt1) r)) e.held (λ both. (e.both both).0) c.place_after-self.ensures)
     (λ x. rw (e.other) x)))
 
 pub invariant_of-self-clause-first_lost : goal.invariant_of-self-clause-first_lost
@@ -59,10 +63,11 @@ returns-clause-others g c told d ne =
     let p = c.put-done.new.self in
     let first' = copy_of (C.rests p.first.copy) (C.holds p.first.copy) p.first.alive c.place_after-self.result in
     let second' = copy_of (C.rests p.second.copy) (C.holds p.second.copy) p.second.alive s.second in
+    let e = c.put-done.ensures in
     let K = kept_all s.journal.batches in
     let F = entries_in s.current in
-    let e = c.put-done.ensures in
-    ∥∥₁_elim (s.kept told) (Coded-set (coded_list coded_ℕ) _ _) (λ kk. ∥∥₁_elim (c.requires.queue told) (Coded-set (coded_list coded_ℕ) _ _) (λ q. ap (λ (x : Disk). x.bytes) ((put_side S s.level K F Ckpt1 old new first.rests first'.rests first.holds first'.holds first.place first'.place first.alive first'.alive kk.first_at e.acted.goes e.acted.alive (λ dead. ap g.P.Plant.view (e.idle dead)) (e.gone told) g.P.Plant.tells told c.requires.place c.put-done.result (bytes_of c.args.pages.now) (record { at_level = c.requires.level told; queue = q }) (e.during told) (C.count s.pair.first.copy) c.args.changed.now (λ is was r. c.requires.covered told is was (g.met.C.Copying.rests_now s.pair.first.copy was (disk_now old Ckpt1) r)) e.held (λ both. (e.both both).0) (λ pages d r. g.met.C.Copying.rests_reads s.pair.first.copy pages d r) c.place_after-self.ensures).during.others new.now e.acted.goes.later (omega arith) d ne)))
+    let pages = bytes_of c.args.pages.now in
+    ∥∥₁_elim (s.kept told) (Coded-set (coded_list coded_ℕ) _ _) (λ kk. ap (λ (x : Disk). x.bytes) ((put_side S kk.was kk.coming Ckpt1 old new first.rests first'.rests first.holds first'.holds first.place first'.place first.alive first'.alive kk.first_at e.acted.goes e.acted.alive (λ dead. ap g.P.Plant.view (e.idle dead)) (e.gone told) g.P.Plant.tells told c.requires.place c.put-done.result pages (is_higher (level kk.was) (level pages) s.level kk.stands.at_level (c.requires.level told)) (e.during told) (C.count s.pair.first.copy) c.args.changed.now (λ is was r. c.requires.covered told is was (g.met.C.Copying.rests_now s.pair.first.copy was (disk_now old Ckpt1) r)) e.held (λ both. (e.both both).0) c.place_after-self.ensures).during.others new.now e.acted.goes.later (omega arith) d ne))
 
 pub returns-clause-elsewhere : goal.returns-clause-elsewhere
 returns-clause-elsewhere g c told =
@@ -76,10 +81,11 @@ returns-clause-elsewhere g c told =
     let p = c.put-done.new.self in
     let first' = copy_of (C.rests p.first.copy) (C.holds p.first.copy) p.first.alive c.place_after-self.result in
     let second' = copy_of (C.rests p.second.copy) (C.holds p.second.copy) p.second.alive s.second in
+    let e = c.put-done.ensures in
     let K = kept_all s.journal.batches in
     let F = entries_in s.current in
-    let e = c.put-done.ensures in
-    elsewhere_is Ckpt1 old new (∥∥₁_elim (s.kept told) ∥∥₁_prop (λ kk. ∥∥₁_map (c.requires.queue told) (λ q. elsewhere_of Ckpt1 (λ d. old.now < top → ReadsOne S s.level K F d) old new (put_side S s.level K F Ckpt1 old new first.rests first'.rests first.holds first'.holds first.place first'.place first.alive first'.alive kk.first_at e.acted.goes e.acted.alive (λ dead. ap g.P.Plant.view (e.idle dead)) (e.gone told) g.P.Plant.tells told c.requires.place c.put-done.result (bytes_of c.args.pages.now) (record { at_level = c.requires.level told; queue = q }) (e.during told) (C.count s.pair.first.copy) c.args.changed.now (λ is was r. c.requires.covered told is was (g.met.C.Copying.rests_now s.pair.first.copy was (disk_now old Ckpt1) r)) e.held (λ both. (e.both both).0) (λ pages d r. g.met.C.Copying.rests_reads s.pair.first.copy pages d r) c.place_after-self.ensures).during)))
+    let pages = bytes_of c.args.pages.now in
+    elsewhere_is Ckpt1 old new (∥∥₁_map (s.kept told) (λ kk. elsewhere_of Ckpt1 (λ d. old.now < top → ReadsOne S kk.was (Some pages) d) old new (put_side S kk.was kk.coming Ckpt1 old new first.rests first'.rests first.holds first'.holds first.place first'.place first.alive first'.alive kk.first_at e.acted.goes e.acted.alive (λ dead. ap g.P.Plant.view (e.idle dead)) (e.gone told) g.P.Plant.tells told c.requires.place c.put-done.result pages (is_higher (level kk.was) (level pages) s.level kk.stands.at_level (c.requires.level told)) (e.during told) (C.count s.pair.first.copy) c.args.changed.now (λ is was r. c.requires.covered told is was (g.met.C.Copying.rests_now s.pair.first.copy was (disk_now old Ckpt1) r)) e.held (λ both. (e.both both).0) c.place_after-self.ensures).during))
 
 pub returns-clause-behind : goal.returns-clause-behind
 returns-clause-behind g c =
@@ -93,9 +99,10 @@ returns-clause-behind g c =
     let p = c.put-done.new.self in
     let first' = copy_of (C.rests p.first.copy) (C.holds p.first.copy) p.first.alive c.place_after-self.result in
     let second' = copy_of (C.rests p.second.copy) (C.holds p.second.copy) p.second.alive s.second in
+    let e = c.put-done.ensures in
     let K = kept_all s.journal.batches in
     let F = entries_in s.current in
-    let e = c.put-done.ensures in
-    on_ok c.put-done.result e.held (λ held told now. ∥∥₁_elim (s.kept told) (Coded-set (coded_list coded_ℕ) _ _) (λ kk. ∥∥₁_elim (c.requires.queue told) (Coded-set (coded_list coded_ℕ) _ _) (λ q.
-    put_shows S s.level K F first.rests first.holds first.place first.alive old.now (disk_now old Ckpt1) (disk_now new Ckpt1) kk.first_at (e.acted.alive now) (c.requires.place (e.acted.alive now)) (C.count s.pair.first.copy) c.args.changed.now (bytes_of c.args.pages.now) (record { at_level = c.requires.level told; queue = q })
-    (λ was r. c.requires.covered told (e.acted.alive now) was (g.met.C.Copying.rests_now s.pair.first.copy was (disk_now old Ckpt1) r)) first'.holds (λ was r. held told now was r) (C.behind p.first.copy) (λ was next x r. g.met.C.Copying.holds_behind p.first.copy was next x r))))
+    let pages = bytes_of c.args.pages.now in
+    on_ok c.put-done.result e.held (λ held told now. ∥∥₁_elim (s.kept told) (Coded-set (coded_list coded_ℕ) _ _) (λ kk.
+    put_shows S first.rests first.holds kk.was kk.coming first.place first.alive old.now (disk_now old Ckpt1) (disk_now new Ckpt1) kk.first_at (e.acted.alive now) (c.requires.place (e.acted.alive now)) (C.count s.pair.first.copy) c.args.changed.now pages (is_higher (level kk.was) (level pages) s.level kk.stands.at_level (c.requires.level told))
+    (λ was r. c.requires.covered told (e.acted.alive now) was (g.met.C.Copying.rests_now s.pair.first.copy was (disk_now old Ckpt1) r)) first'.holds (λ was r. held told now was r) (C.behind p.first.copy) (λ was next x r. g.met.C.Copying.holds_behind p.first.copy was next x r)))

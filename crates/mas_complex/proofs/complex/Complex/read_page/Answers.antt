@@ -2,7 +2,6 @@ use Rattle.std.proofs.Common.{arith}
 use Rattle.std.proofs.Math.Logic.{∥∥₁_map}
 use Rattle.mas_types.specs.declared.ids.Dev.TheVariants.{Ckpt1, Ckpt2}
 use Rattle.spool_disk.specs.View.{disk_now}
-use Rattle.mas_complex.specs.Journals.{kept_all, entries_in}
 use Rattle.mas_complex.specs.Crash.{Setting, setting, copy_of}
 use Rattle.ckpt_copy.specs.Changes.{NoMore}
 use Rattle.mas_complex.proofs.Calm.{both_keep, more_reads, read_copy}
@@ -22,16 +21,14 @@ invariant_of-self-clause-kept g c told =
     let p = c.read_page.new.self in
     let first' = copy_of (C.rests p.first.copy) (C.holds p.first.copy) p.first.alive s.first in
     let second' = copy_of (C.rests p.second.copy) (C.holds p.second.copy) p.second.alive s.second in
-    let K = kept_all s.journal.batches in
-    let F = entries_in s.current in
     let e = c.read_page.ensures in
     let m = e.during told in
     ∥∥₁_map (s.kept told) (λ kk.
     both_keep S s.journal.batches s.current s.level first second first' second' old new (NoMore (disk_now old Ckpt1)) (NoMore (disk_now old Ckpt2)) kk m
-    (more_reads S s.level K F Ckpt1 old new first.rests first.holds first.place first.alive first'.alive kk.first_at (λ pages d r. g.met.C.Copying.rests_reads s.pair.first.copy pages d r) (λ was next d r. g.met.C.Copying.holds_reads s.pair.first.copy was next d r))
-    (more_reads S s.level K F Ckpt2 old new second.rests second.holds second.place second.alive second'.alive kk.second_at (λ pages d r. g.met.C.Copying.rests_reads s.pair.second.copy pages d r) (λ was next d r. g.met.C.Copying.holds_reads s.pair.second.copy was next d r))
-    (rw (e.copy1) (read_copy S s.level K F Ckpt1 old new first.rests first.holds first.place first.alive first'.alive kk.first_at (λ pages d d2 more r. g.met.C.Copying.rests_stays s.pair.first.copy pages d d2 more r) (λ was next d d2 more r. g.met.C.Copying.holds_stays s.pair.first.copy was next d d2 more r) (m.first new.now m.goes.later (omega arith)) e.acted.alive1 m.goes.later (e.gone1 told)))
-    (rw (e.copy2) (read_copy S s.level K F Ckpt2 old new second.rests second.holds second.place second.alive second'.alive kk.second_at (λ pages d d2 more r. g.met.C.Copying.rests_stays s.pair.second.copy pages d d2 more r) (λ was next d d2 more r. g.met.C.Copying.holds_stays s.pair.second.copy was next d d2 more r) (m.second new.now m.goes.later (omega arith)) e.acted.alive2 m.goes.later (e.gone2 told))))
+    (more_reads S kk.was kk.coming Ckpt1 old new first.rests first.holds first.place first.alive first'.alive kk.first_at (λ pages d r. g.met.C.Copying.rests_reads s.pair.first.copy pages d r) (λ was next d r. g.met.C.Copying.holds_reads s.pair.first.copy was next d r))
+    (more_reads S kk.was kk.coming Ckpt2 old new second.rests second.holds second.place second.alive second'.alive kk.second_at (λ pages d r. g.met.C.Copying.rests_reads s.pair.second.copy pages d r) (λ was next d r. g.met.C.Copying.holds_reads s.pair.second.copy was next d r))
+    (rw (e.copy1) (read_copy S kk.was kk.coming Ckpt1 old new first.rests first.holds first.place first.alive first'.alive kk.first_at (λ pages d d2 more r. g.met.C.Copying.rests_stays s.pair.first.copy pages d d2 more r) (λ was next d d2 more r. g.met.C.Copying.holds_stays s.pair.first.copy was next d d2 more r) (m.first new.now m.goes.later (omega arith)) e.acted.alive1 m.goes.later (e.gone1 told)))
+    (rw (e.copy2) (read_copy S kk.was kk.coming Ckpt2 old new second.rests second.holds second.place second.alive second'.alive kk.second_at (λ pages d d2 more r. g.met.C.Copying.rests_stays s.pair.second.copy pages d d2 more r) (λ was next d d2 more r. g.met.C.Copying.holds_stays s.pair.second.copy was next d d2 more r) (m.second new.now m.goes.later (omega arith)) e.acted.alive2 m.goes.later (e.gone2 told))))
 
 pub invariant_of-self-clause-first_lost : goal.invariant_of-self-clause-first_lost
 invariant_of-self-clause-first_lost g c dead =

@@ -3,7 +3,6 @@ use Rattle.std.proofs.Math.Logic.{∥∥₁_map}
 use Rattle.mas_types.specs.declared.ids.Dev.TheVariants.{Ckpt1, Ckpt2}
 use Rattle.spool_disk.specs.View.{disk_now}
 use Rattle.ckpt_copy.specs.Pages.{bytes_of}
-use Rattle.mas_complex.specs.Journals.{kept_all, entries_in}
 use Rattle.mas_complex.specs.Crash.{Setting, setting, copy_of}
 use Rattle.ckpt_copy.specs.Reading.{AllRead}
 use Rattle.duplex_pair.specs.Both.{Touched}
@@ -23,19 +22,17 @@ invariant_of-self-clause-kept g c told =
     let p = c.settle-done.new.self in
     let first' = copy_of (C.rests p.first.copy) (C.holds p.first.copy) p.first.alive c.place_after-self.result in
     let second' = copy_of (C.rests p.second.copy) (C.holds p.second.copy) p.second.alive c.place_after-self-2.result in
-    let K = kept_all s.journal.batches in
-    let F = entries_in s.current in
     let e = c.settle-done.ensures in
     let pages = bytes_of c.args.pages.now in
     ∥∥₁_map (s.kept told) (λ kk.
-    let r1 = settle_rests S s.level K F Ckpt1 old new first.rests first'.rests first.holds first'.holds first.place first'.place first.alive first'.alive pages kk.first_at c.requires.first (λ was d r. g.met.C.Copying.rests_now s.pair.first.copy was d r) (c.requires.reads1 told) in
-    let r2 = settle_rests S s.level K F Ckpt2 old new second.rests second'.rests second.holds second'.holds second.place second'.place second.alive second'.alive pages kk.second_at c.requires.second (λ was d r. g.met.C.Copying.rests_now s.pair.second.copy was d r) (c.requires.reads2 told) in
+    let r1 = settle_rests S kk.was kk.coming Ckpt1 old new first.rests first'.rests first.holds first'.holds first.place first'.place first.alive first'.alive pages kk.first_at c.requires.first (λ was d r. g.met.C.Copying.rests_now s.pair.first.copy was d r) (c.requires.reads1 told) in
+    let r2 = settle_rests S kk.was kk.coming Ckpt2 old new second.rests second'.rests second.holds second'.holds second.place second'.place second.alive second'.alive pages kk.second_at c.requires.second (λ was d r. g.met.C.Copying.rests_now s.pair.second.copy was d r) (c.requires.reads2 told) in
     let m = e.during told r1 r2 in
     both_keep S s.journal.batches s.current s.level first second first' second' old new (Touched s.pair.first.alive (AllRead C.reads pages) (disk_now old Ckpt1)) (Touched s.pair.second.alive (AllRead C.reads pages) (disk_now old Ckpt2)) kk m
-    (settle_reads S s.level K F Ckpt1 old new first.rests first'.rests first.holds first'.holds first.place first'.place first.alive first'.alive pages kk.first_at c.requires.first (λ was d r. g.met.C.Copying.rests_now s.pair.first.copy was d r) (c.requires.reads1 told))
-    (settle_reads S s.level K F Ckpt2 old new second.rests second'.rests second.holds second'.holds second.place second'.place second.alive second'.alive pages kk.second_at c.requires.second (λ was d r. g.met.C.Copying.rests_now s.pair.second.copy was d r) (c.requires.reads2 told))
-    (settle_copy S s.level K F Ckpt1 old new first.rests first'.rests first.holds first'.holds first.place first'.place first.alive first'.alive pages kk.first_at c.requires.first (λ was d r. g.met.C.Copying.rests_now s.pair.first.copy was d r) (c.requires.reads1 told) c.settle-done.result e.acted.alive1 m.goes.later (m.first new.now m.goes.later (omega arith)) (e.gone1 told r1 r2) e.settled1 (λ a now. a told r1 r2 now) (λ both. (e.both both).0) c.place_after-self.ensures)
-    (settle_copy S s.level K F Ckpt2 old new second.rests second'.rests second.holds second'.holds second.place second'.place second.alive second'.alive pages kk.second_at c.requires.second (λ was d r. g.met.C.Copying.rests_now s.pair.second.copy was d r) (c.requires.reads2 told) c.settle-done.result e.acted.alive2 m.goes.later (m.second new.now m.goes.later (omega arith)) (e.gone2 told) e.settled2 (λ a now. a told r1 r2 now) (λ both. (e.both both).1) c.place_after-self-2.ensures))
+    (settle_reads S kk.was kk.coming Ckpt1 old new first.rests first'.rests first.holds first'.holds first.place first'.place first.alive first'.alive pages kk.first_at c.requires.first (λ was d r. g.met.C.Copying.rests_now s.pair.first.copy was d r) (c.requires.reads1 told))
+    (settle_reads S kk.was kk.coming Ckpt2 old new second.rests second'.rests second.holds second'.holds second.place second'.place second.alive second'.alive pages kk.second_at c.requires.second (λ was d r. g.met.C.Copying.rests_now s.pair.second.copy was d r) (c.requires.reads2 told))
+    (settle_copy S kk.was kk.coming Ckpt1 old new first.rests first'.rests first.holds first'.holds first.place first'.place first.alive first'.alive pages kk.first_at c.requires.first (λ was d r. g.met.C.Copying.rests_now s.pair.first.copy was d r) (c.requires.reads1 told) c.settle-done.result e.acted.alive1 m.goes.later (m.first new.now m.goes.later (omega arith)) (e.gone1 told r1 r2) e.settled1 (λ a now. a told r1 r2 now) (λ both. (e.both both).0) c.place_after-self.ensures)
+    (settle_copy S kk.was kk.coming Ckpt2 old new second.rests second'.rests second.holds second'.holds second.place second'.place second.alive second'.alive pages kk.second_at c.requires.second (λ was d r. g.met.C.Copying.rests_now s.pair.second.copy was d r) (c.requires.reads2 told) c.settle-done.result e.acted.alive2 m.goes.later (m.second new.now m.goes.later (omega arith)) (e.gone2 told) e.settled2 (λ a now. a told r1 r2 now) (λ both. (e.both both).1) c.place_after-self-2.ensures))
 
 pub invariant_of-self-clause-first_lost : goal.invariant_of-self-clause-first_lost
 invariant_of-self-clause-first_lost g c dead =

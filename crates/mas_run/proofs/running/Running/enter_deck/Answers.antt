@@ -1,4 +1,5 @@
-use Rattle.std.proofs.Common.{◌≡◌, ◌∙◌, ◌+◌, ap, subst, sym, length, true, Err, Some, ℕ, inl, arith}
+use Rattle.std.proofs.Common.{◌≡◌, ◌∙◌, ◌+◌, ◌≤◌, ap, subst, sym, length, true, Err, Some, ℕ, List, inl, arith}
+use Rattle.mas_types.specs.declared.journals.Entry.{Entry}
 use Rattle.mas_types.specs.declared.journals.Journal.{Journal}
 use Rattle.mas_types.specs.declared.queues.Queue.{Queue}
 use Rattle.mas_types.specs.declared.ids.Dev.TheVariants.{Ckpt1, Ckpt2}
@@ -40,6 +41,11 @@ commit-requires-clause-covered2 g c told alive was reads =
     (g.C.Copying.reads (disk_now (g.P.Plant.view c.reserve.new.self.plant) Ckpt2).bytes)
     (ap (λ p. g.C.Copying.count p.second.copy) e.pair ∙ sym (c.requires.rests2.as_many alive0) ∙ sym c.in-Ok.ensures.count) covers
     (ap (λ p. g.C.Copying.reads (disk_now (g.P.Plant.view p) Ckpt2).bytes) e.plant ∙ c.requires.rests2.reads told alive0) reads
+
+pub commit-requires-clause-some : goal.commit-requires-clause-some
+commit-requires-clause-some g c =
+    let are = ap entries_reserved c.in-Ok-reserve.ensures.reserved ∙ c.in-Ok.ensures.entries in
+    subst (λ (es : List Entry). 1 ≤ length es) (sym are) (omega arith)
 
 pub commit-requires-clause-level : goal.commit-requires-clause-level
 commit-requires-clause-level g c told =
