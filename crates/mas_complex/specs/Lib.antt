@@ -9,3 +9,4 @@ pub mod Seen
 pub mod Fits
 pub mod Recovers
 pub mod Locking
+pub mod Changed

@@ -22,6 +22,7 @@ ghost use Rattle.mas_complex.specs.Places.{IsPlaceAfter, HasNoOther, all_open};
 ghost use Rattle.mas_complex.specs.Crash.{Keeps, setting, copy_of, BeginsWith, IsUntold};
 ghost use Rattle.mas_complex.specs.Headline.{Headline, LeavesQueue};
 ghost use Rattle.mas_complex.specs.Elsewhere.{Elsewhere};
+ghost use Rattle.mas_complex.specs.Changed.{NamesOnly};
 ghost use Rattle.std.specs.Prelude.{min};
 ghost use Rattle.mas_types.specs.Limits.{members_most};
 ghost use Rattle.lock_cycle.specs.Books.{new_book};
@@ -626,7 +627,7 @@ impl<P: Plant + Drop, C: Steady + Drop> Complex<P, C> {
     /// begins it: it is in flight from the moment before the call on. On a copy that counts as lost nothing is written.
     ///
     /// The pages stand for the queue with the batch, which has an entry, and have the level after the one of the kept pages.
-    /// `changed` are the numbers of those that differ from what the copy reads. Both copies are given the same pages: where
+    /// `changed` are the numbers of page 0 and of just those that differ from what the copy reads. Both copies are given the same pages: where
     /// the other one counts as alive, these wait behind its gate if others than the kept ones do.
     pub fn log(
         &mut self,
@@ -641,6 +642,7 @@ impl<P: Plant + Drop, C: Steady + Drop> Complex<P, C> {
         requires as_many { (pick dev self.old.pair.first self.old.pair.second).alive ≡ true → length pages.now ≡ C.count (pick dev self.old.pair.first self.old.pair.second).copy }
         requires changed { (pick dev self.old.pair.first self.old.pair.second).alive ≡ true → ArePages (C.count (pick dev self.old.pair.first self.old.pair.second).copy) changed.now }
         requires covered { P.tells → (pick dev self.old.pair.first self.old.pair.second).alive ≡ true → (was : List ℕ) → C.reads (disk_now (P.view self.old.plant) dev).bytes ≡ Some was → Covers (C.count (pick dev self.old.pair.first self.old.pair.second).copy) changed.now was (bytes_of pages.now) }
+        requires exact { P.tells → (pick dev self.old.pair.first self.old.pair.second).alive ≡ true → (was : List ℕ) → C.reads (disk_now (P.view self.old.plant) dev).bytes ≡ Some was → NamesOnly changed.now was (bytes_of pages.now) }
         requires level { P.tells → level (bytes_of pages.now) ≡ self.old.level + 1 }
         requires first { self.old.current ≡ None → self.old.pair.first.alive ≡ true → self.old.first ≡ AtBefore }
         requires second { self.old.current ≡ None → self.old.pair.second.alive ≡ true → self.old.second ≡ AtBefore }

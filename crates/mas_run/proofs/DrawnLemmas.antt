@@ -1,5 +1,5 @@
 -- Pages that are drawn again: their levels, and which of them differ.
-use Rattle.std.proofs.Common.{◌≡◌, ◌⊎◌, inl, inr, ⊎_elim, ℕ, suc, zero, ◌+◌, ◌*◌, ◌<◌, ◌≤◌, ◌^◌, Bool, true, false, not, ◌||◌, if◌then◌else◌, List, [], ◌∷◌, ◌++◌, length, take, drop, get_or, slice_set, slice_index, Some, refl, sym, ◌∙◌, ap, subst, arith, add-one, All, Contains}
+use Rattle.std.proofs.Common.{◌≡◌, ◌≢◌, ◌⊎◌, inl, inr, ⊎_elim, ℕ, suc, zero, ◌+◌, ◌*◌, ◌<◌, ◌≤◌, ◌^◌, Bool, true, false, not, ◌||◌, if◌then◌else◌, List, [], ◌∷◌, ◌++◌, length, take, drop, get_or, slice_set, slice_index, Some, refl, sym, ◌∙◌, ap, subst, arith, add-one, All, Contains}
 use Rattle.std.specs.Prelude.{◌==◌, slice_get}
 use Rattle.std.specs.List.Sorted.{IsStrictlyIncreasing}
 use Rattle.std.specs.Int.{w64, from_be_bytes, to_be_bytes}
@@ -23,6 +23,7 @@ use Rattle.ckpt_pages.specs.Shape.{IsRoute}
 use Rattle.ckpt_pages.specs.Starts.{empty_tables, first_levels}
 use Rattle.ckpt_pages.specs.Laws.{EmptyHasSpelling, AreFirstLevels}
 use Rattle.mas_complex.specs.Meaning.{StandFor}
+use Rattle.mas_complex.specs.Changed.{NamesOnly}
 use Rattle.mas_run.specs.Standing.{queue_of}
 use Rattle.mas_run.specs.Drawn.{AreDrawn, raised}
 
@@ -154,6 +155,42 @@ differing_covers p (x ∷ xs) (y ∷ ys) same (suc q) lt =
     inr
     (differing_covers (p + 1) xs ys (omega arith) q (omega arith))
 
+-- each listed number is 0 or that of a page that isn't as it was
+abbrev IsListed : ℕ → List Page → List Page → ℕ → Type 0
+IsListed p old new n = (p ≤ n) × ((n ≡ 0) ⊎ ((q : ℕ) → p + q ≡ n → page_in new q ≢ page_in old q))
+
+or_differ : (p : ℕ) (x y : Page) → is_listed p x y ≡ true → (p ≡ 0) ⊎ (y.0 ≢ x.0)
+or_differ zero x y is = inl refl
+or_differ (suc p) x y is = inr (λ same. clash (bytes_eq x.0 y.0) ((bytes_eq-Decides x.0 y.0).1 (sym same)) (not_false (suc p == 0) (bytes_eq x.0 y.0) (grind (arith, nat_tests)) is)) where
+  clash : (b : Bool) → b ≡ true → b ≡ false → ⊥
+  clash b e f = cc
+
+  not_false : (a b : Bool) → a ≡ false → (a || not b) ≡ true → b ≡ false
+  not_false true b e f = absurd (cc)
+  not_false false true e f = absurd (cc)
+  not_false false false e f = refl
+
+differing_only : (p : ℕ) (old new : List Page) → All (IsListed p old new) (differing_from p old new)
+differing_only p [] new = All-nil (IsListed p [] new)
+differing_only p (x ∷ xs) [] = All-nil (IsListed p (x ∷ xs) [])
+differing_only p (x ∷ xs) (y ∷ ys) = listed (is_listed p x y) refl (All-weaker (IsListed (p + 1) xs ys) (IsListed p (x ∷ xs) (y ∷ ys)) (λ n is. (omega (arith, is.0), later n is)) (differing_from (p + 1) xs ys) (differing_only (p + 1) xs ys)) where
+  next : (n q : ℕ) → p + 1 ≤ n → ((r : ℕ) → p + 1 + r ≡ n → page_in ys r ≢ page_in xs r) → p + q ≡ n → page_in (y ∷ ys) q ≢ page_in (x ∷ xs) q
+  next n zero above differ at = absurd (omega (arith, at, above))
+  next n (suc q) above differ at = differ q (omega (arith, at))
+
+  later : (n : ℕ) → IsListed (p + 1) xs ys n → (n ≡ 0) ⊎ ((q : ℕ) → p + q ≡ n → page_in (y ∷ ys) q ≢ page_in (x ∷ xs) q)
+  later n is = ⊎_elim inl (λ differ. inr (λ q at. next n q is.0 differ at)) is.1
+
+  here : is_listed p x y ≡ true → IsListed p (x ∷ xs) (y ∷ ys) p
+  here is = (omega arith, ⊎_elim inl (λ differ. inr (own differ)) (or_differ p x y is)) where
+    own : y.0 ≢ x.0 → (q : ℕ) → p + q ≡ p → page_in (y ∷ ys) q ≢ page_in (x ∷ xs) q
+    own differ zero at = differ
+    own differ (suc q) at = absurd (omega (arith, at))
+
+  listed : (b : Bool) → is_listed p x y ≡ b → All (IsListed p (x ∷ xs) (y ∷ ys)) (differing_from (p + 1) xs ys) → All (IsListed p (x ∷ xs) (y ∷ ys)) ((if b then p ∷ [] else []) ++ differing_from (p + 1) xs ys)
+  listed true is rest = All-cons (IsListed p (x ∷ xs) (y ∷ ys)) p (differing_from (p + 1) xs ys) (here is) rest
+  listed false is rest = rest
+
 -- DRAWN AGAIN
 
 other_page : (t : Tables) (levels levels' : List ℕ) (p : ℕ) → (p == 0) ≡ false → page_of t levels p ≡ page_of t levels' p
@@ -212,11 +249,27 @@ covered_again (x ∷ xs) (y ∷ ys) first same sized sized' (suc p) lt =
           → Contains (differing (x ∷ xs) (y ∷ ys)) (suc p) ⊎ (page_in (y ∷ ys) (suc p) ≡ page_in (x ∷ xs) (suc p))
       shown h = let e : 0 + suc p ≡ suc p = omega arith in rw e at h
 
+-- and only such pages are listed
+pub only_again : (old new : List Page) (first : Page) → length old ≡ length new → All (λ page. length page.0 ≡ page_bytes) old → All (λ page. length page.0 ≡ page_bytes) (slice_set new 0 first)
+    → NamesOnly (differing old new) (bytes_of old) (bytes_of (slice_set new 0 first))
+only_again old new first same sized sized' = λ k d lt. named (get_or (differing old new) k d) (differing_only 0 old new k d lt) (differing_within 0 old new k d lt) where
+  same_later : (ys : List Page) (q : ℕ) → page_in (slice_set ys 0 first) (suc q) ≡ page_in ys (suc q)
+  same_later [] q = refl
+  same_later (y ∷ ys) q = refl
+
+  named : (n : ℕ) → IsListed 0 old new n → (0 ≤ n) × (n < 0 + length old) → (n ≡ 0) ⊎ (page_of_bytes n (bytes_of (slice_set new 0 first)) ≢ page_of_bytes n (bytes_of old))
+  named zero is within = inl refl
+  named (suc q) is within = ⊎_elim inl
+      (λ differ. inr (λ e. differ (suc q) (omega arith)
+      (sym (same_later new q) ∙ sym (page_joined (slice_set new 0 first) (suc q) sized' (omega (arith, length-set new 0 first, within.1, same))) ∙ e ∙ page_joined old (suc q) sized (omega (arith, within.1)))))
+      is.1
+
 -- what a redraw leaves
 pub record Redrawn (t : Tables) (at : ℕ) (numbers levels : List ℕ) (old pages : List Page) : Type 0 where
   pub drawn : AreDrawn t at levels pages
   pub numbered : ArePages (length pages) numbers
   pub covered : Covers (length pages) numbers (bytes_of old) (bytes_of pages)
+  pub exact : NamesOnly numbers (bytes_of old) (bytes_of pages)
 
 pub redrawn : (t : Tables) (at : ℕ) (levels : List ℕ) → HasSpelling t → AreLevels t at levels → at + 1 < 2 ^ 63 → (old drawn : List Page) → length old ≡ page_count t.config
     → All (λ page. length page.0 ≡ page_bytes) old → Spell t levels drawn → All (λ page. length page.0 ≡ page_bytes) drawn
@@ -239,6 +292,7 @@ redrawn t at levels spelling leveled more old drawn count sized spelled sized' n
       };
       numbered = rw many (numbers_are_pages t at levels leveled more old drawn count spelled.count some);
       covered = λ p lt. covered_again old drawn first same sized all p (omega (arith, length-set drawn 0 first));
+      exact = only_again old drawn first same sized all;
     })
 
 -- drawn for the first time

@@ -5,6 +5,7 @@ use Rattle.mas_types.specs.declared.journals.Entry.{Entry}
 use Rattle.mas_types.specs.declared.queues.Queue.{Queue}
 use Rattle.ckpt_copy.specs.Pages.{Covers}
 use Rattle.mas_types.specs.declared.journals.Fate.TheVariants.{Kept}
+use Rattle.mas_complex.specs.Changed.{NamesOnly}
 use Rattle.mas_complex.specs.Meaning.{step, run}
 use Rattle.mas_complex.specs.Journals.{with_last, end_of, fated, kept_all}
 use Rattle.mas_complex.proofs.BatchEnds.{with_last-append}
@@ -17,6 +18,12 @@ covers_read count n numbers was before pages read many covers is reads =
     subst (λ (m : ℕ). Covers m numbers was pages) (sym many) (subst (λ (w : List ℕ). Covers n numbers w pages) same covers) where
       some_same : (x y : List ℕ) → Some x ≡ Some y → x ≡ y
       some_same x y e = cc
+
+-- and numbers that name only what differs from those before
+pub names_read : (numbers was before pages : List ℕ) (read : Option (List ℕ)) → NamesOnly numbers before pages → read ≡ Some before → read ≡ Some was → NamesOnly numbers was pages
+names_read numbers was before pages read names is reads = subst (λ (w : List ℕ). NamesOnly numbers w pages) (some_same before was (sym is ∙ reads)) names where
+  some_same : (x y : List ℕ) → Some x ≡ Some y → x ≡ y
+  some_same x y e = cc
 
 -- the journal with one batch more, as it is handed out
 pub kept_out : (front was batches : List Batch) (place b : Batch) (placed : Bool) (current : Option Batch) → was ≡ front ++ place ∷ [] → batches ≡ with_last b was → placed ≡ false → current ≡ None

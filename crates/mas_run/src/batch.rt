@@ -12,6 +12,7 @@ ghost use Rattle.duplex_pair.specs.Both.{PairActed};
 ghost use Rattle.duplex_pair.specs.Outcomes.{pair_stopped};
 ghost use Rattle.mas_complex.specs.declared.places.Place.TheVariants.{Before as AtBefore, Put as AtPut};
 ghost use Rattle.mas_complex.specs.Crash.{IsUntold, setting};
+ghost use Rattle.mas_complex.specs.Changed.{NamesOnly};
 ghost use Rattle.mas_complex.specs.Journals.{begun, entries_reserved, fated, kept_all, with_last};
 ghost use Rattle.mas_complex.specs.Meaning.{StandFor, run};
 ghost use Rattle.mas_run.specs.Stops.{Apart};
@@ -40,7 +41,9 @@ fn log_both<P: Plant + Drop, C: Steady + Drop>(
     requires changed1 { complex.old.pair.first.alive ≡ true → ArePages (C.count complex.old.pair.first.copy) changed.now }
     requires changed2 { complex.old.pair.second.alive ≡ true → ArePages (C.count complex.old.pair.second.copy) changed.now }
     requires covered1 { P.tells → complex.old.pair.first.alive ≡ true → (was : List ℕ) → C.reads (disk_now (P.view complex.old.plant) Ckpt1).bytes ≡ Some was → Covers (C.count complex.old.pair.first.copy) changed.now was (bytes_of pages.now) }
+    requires exact1 { P.tells → complex.old.pair.first.alive ≡ true → (was : List ℕ) → C.reads (disk_now (P.view complex.old.plant) Ckpt1).bytes ≡ Some was → NamesOnly changed.now was (bytes_of pages.now) }
     requires covered2 { P.tells → complex.old.pair.second.alive ≡ true → (was : List ℕ) → C.reads (disk_now (P.view complex.old.plant) Ckpt2).bytes ≡ Some was → Covers (C.count complex.old.pair.second.copy) changed.now was (bytes_of pages.now) }
+    requires exact2 { P.tells → complex.old.pair.second.alive ≡ true → (was : List ℕ) → C.reads (disk_now (P.view complex.old.plant) Ckpt2).bytes ≡ Some was → NamesOnly changed.now was (bytes_of pages.now) }
     requires level { P.tells → level (bytes_of pages.now) ≡ complex.old.level + 1 }
     requires untold { P.tells → IsUntold (setting C.reads complex.old.base complex.old.since) (P.view complex.old.plant) (entries_reserved complex.old.reserved) }
     requires queue { P.tells → ∥ StandFor (run complex.old.base (kept_all complex.old.journal.batches ++ entries_reserved complex.old.reserved)) (bytes_of pages.now) ∥₁ }
@@ -123,7 +126,9 @@ pub(crate) fn commit<P: Plant + Drop, C: Steady + Drop>(
     requires changed1 { complex.old.pair.first.alive ≡ true → ArePages (C.count complex.old.pair.first.copy) changed.now }
     requires changed2 { complex.old.pair.second.alive ≡ true → ArePages (C.count complex.old.pair.second.copy) changed.now }
     requires covered1 { P.tells → complex.old.pair.first.alive ≡ true → (was : List ℕ) → C.reads (disk_now (P.view complex.old.plant) Ckpt1).bytes ≡ Some was → Covers (C.count complex.old.pair.first.copy) changed.now was (bytes_of pages.now) }
+    requires exact1 { P.tells → complex.old.pair.first.alive ≡ true → (was : List ℕ) → C.reads (disk_now (P.view complex.old.plant) Ckpt1).bytes ≡ Some was → NamesOnly changed.now was (bytes_of pages.now) }
     requires covered2 { P.tells → complex.old.pair.second.alive ≡ true → (was : List ℕ) → C.reads (disk_now (P.view complex.old.plant) Ckpt2).bytes ≡ Some was → Covers (C.count complex.old.pair.second.copy) changed.now was (bytes_of pages.now) }
+    requires exact2 { P.tells → complex.old.pair.second.alive ≡ true → (was : List ℕ) → C.reads (disk_now (P.view complex.old.plant) Ckpt2).bytes ≡ Some was → NamesOnly changed.now was (bytes_of pages.now) }
     requires level { P.tells → level (bytes_of pages.now) ≡ complex.old.level + 1 }
     requires small { complex.old.level < top }
     requires untold { P.tells → IsUntold (setting C.reads complex.old.base complex.old.since) (P.view complex.old.plant) (entries_reserved complex.old.reserved) }

@@ -4,6 +4,7 @@ ghost use Rattle.mas_types.specs.declared.ids.Page.{Page};
 ghost use Rattle.mas_types.specs.Fit.{IsConfig};
 ghost use Rattle.mas_types.specs.Limits.{page_bytes};
 ghost use Rattle.ckpt_copy.specs.Pages.{bytes_of, ArePages, Covers};
+ghost use Rattle.mas_complex.specs.Changed.{NamesOnly};
 ghost use Rattle.ckpt_pages.specs.Shape.{page_count as page_count_lem, HasShape, HasSpelling, AreLevels};
 ghost use Rattle.ckpt_pages.specs.Pages.{page_of};
 ghost use Rattle.ckpt_pages.specs.Starts.{empty_tables, first_levels as first_levels_lem};
@@ -87,6 +88,7 @@ pub(crate) fn redraw(alloc: Global, checkpoint: &mut Checkpoint) -> Result<List<
     ensures drawn { OnOk result (AreDrawn checkpoint.new.tables checkpoint.new.level checkpoint.new.levels checkpoint.new.pages) }
     ensures changed { IfOk result (λ numbers. ArePages (length checkpoint.new.pages) numbers) }
     ensures covered { IfOk result (λ numbers. Covers (length checkpoint.new.pages) numbers (bytes_of checkpoint.old.pages) (bytes_of checkpoint.new.pages)) }
+    ensures exact { IfOk result (λ numbers. NamesOnly numbers (bytes_of checkpoint.old.pages) (bytes_of checkpoint.new.pages)) }
 {
     let drawn = encode(alloc, &checkpoint.tables, &checkpoint.levels)?;
     let numbers = changed(alloc, checkpoint.pages.as_slice(), drawn.as_slice())?;

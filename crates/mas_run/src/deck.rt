@@ -8,6 +8,7 @@ ghost use Rattle.ckpt_copy.specs.Pages.{bytes_of, ArePages, Covers};
 ghost use Rattle.ckpt_pages.specs.QueueOf.{used};
 ghost use Rattle.ckpt_pages.specs.Shape.{HasSpelling};
 ghost use Rattle.mas_complex.specs.Meaning.{run};
+ghost use Rattle.mas_complex.specs.Changed.{NamesOnly};
 ghost use Rattle.mas_run.specs.Decks.{deck_entries as deck_entries_lem, deck_line};
 ghost use Rattle.mas_run.specs.Standing.{queue_of};
 ghost use Rattle.mas_run.specs.Entering.{job_entries, full_entries as full_entries_lem, MayEnter, AreBelow};
@@ -111,6 +112,7 @@ pub(crate) fn ready_deck(
     ensures line { IfOk result (λ ready. ready.line ≡ deck_line (queue_of checkpoint.old.tables) by step fields) }
     ensures changed { IfOk result (λ ready. ArePages (length checkpoint.new.pages) ready.changed) }
     ensures covered { IfOk result (λ ready. Covers (length checkpoint.new.pages) ready.changed (bytes_of checkpoint.old.pages) (bytes_of checkpoint.new.pages)) }
+    ensures exact { IfOk result (λ ready. NamesOnly ready.changed (bytes_of checkpoint.old.pages) (bytes_of checkpoint.new.pages)) }
     ensures count { OnOk result (length checkpoint.new.pages ≡ length checkpoint.old.pages) }
     ensures level { OnOk result (checkpoint.new.level ≡ checkpoint.old.level + 1) }
     ensures drawn { OnOk result (AreDrawn checkpoint.new.tables checkpoint.new.level checkpoint.new.levels checkpoint.new.pages) }

@@ -36,3 +36,6 @@ returns-clause-changed c = (all c).numbered
 
 pub returns-clause-covered : goal.returns-clause-covered
 returns-clause-covered c = (all c).covered
+
+pub returns-clause-exact : goal.returns-clause-exact
+returns-clause-exact c = (all c).exact

@@ -6,13 +6,14 @@ use Rattle.mas_types.specs.declared.ids.Dev.TheVariants.{Ckpt1, Ckpt2}
 use Rattle.spool_disk.specs.View.{disk_now}
 use Rattle.ckpt_copy.specs.Pages.{bytes_of, level, Covers}
 use Rattle.mas_complex.specs.Journals.{begun, entries_reserved, kept_all, with_last}
+use Rattle.mas_complex.specs.Changed.{NamesOnly}
 use Rattle.mas_complex.specs.Meaning.{StandFor, run}
 use Rattle.mas_complex.proofs.BatchEnds.{with_last-append}
 use Rattle.mas_run.specs.Decks.{deck_entries, deck_line}
 use Rattle.mas_run.specs.Standing.{queue_of}
 use Rattle.mas_run.proofs.DrawnLemmas.{drawn_stand, drawn_level}
 use Rattle.mas_run.proofs.LineLemmas.{untold_by, told_kept}
-use Rattle.mas_run.proofs.WriteLemmas.{covers_read, queue_written, queue_kept, none_out}
+use Rattle.mas_run.proofs.WriteLemmas.{covers_read, names_read, queue_written, queue_kept, none_out}
 use Rattle.mas_run.proofs.StepLemmas.{deck_unplayed, deck_lost, deck_stopped, deck_done, deck_unsaid, deck_broken}
 use Rattle.mas_run.proofs.running.Running.enter_deck.Goals as goal
 
@@ -41,6 +42,26 @@ commit-requires-clause-covered2 g c told alive was reads =
     (g.C.Copying.reads (disk_now (g.P.Plant.view c.reserve.new.self.plant) Ckpt2).bytes)
     (ap (λ p. g.C.Copying.count p.second.copy) e.pair ∙ sym (c.requires.rests2.as_many alive0) ∙ sym c.in-Ok.ensures.count) covers
     (ap (λ p. g.C.Copying.reads (disk_now (g.P.Plant.view p) Ckpt2).bytes) e.plant ∙ c.requires.rests2.reads told alive0) reads
+
+pub commit-requires-clause-exact1 : goal.commit-requires-clause-exact1
+commit-requires-clause-exact1 g c told alive was reads =
+    let x = c.args.self.now.complex in
+    let k = c.args.self.now.checkpoint in
+    let e = c.reserve.ensures in
+    let alive0 : x.pair.first.alive ≡ true = sym (ap (λ p. p.first.alive) e.pair) ∙ alive in
+    let names : NamesOnly c.as_slice-changed.result.now (bytes_of k.pages) (bytes_of c.as_slice-pages.result.now) = rw (c.as_slice-pages.ensures, c.as_slice-changed.ensures) c.in-Ok.ensures.exact in
+    names_read c.as_slice-changed.result.now was (bytes_of k.pages) (bytes_of c.as_slice-pages.result.now) (g.C.Copying.reads (disk_now (g.P.Plant.view c.reserve.new.self.plant) Ckpt1).bytes)
+    names (ap (λ p. g.C.Copying.reads (disk_now (g.P.Plant.view p) Ckpt1).bytes) e.plant ∙ c.requires.rests1.reads told alive0) reads
+
+pub commit-requires-clause-exact2 : goal.commit-requires-clause-exact2
+commit-requires-clause-exact2 g c told alive was reads =
+    let x = c.args.self.now.complex in
+    let k = c.args.self.now.checkpoint in
+    let e = c.reserve.ensures in
+    let alive0 : x.pair.second.alive ≡ true = sym (ap (λ p. p.second.alive) e.pair) ∙ alive in
+    let names : NamesOnly c.as_slice-changed.result.now (bytes_of k.pages) (bytes_of c.as_slice-pages.result.now) = rw (c.as_slice-pages.ensures, c.as_slice-changed.ensures) c.in-Ok.ensures.exact in
+    names_read c.as_slice-changed.result.now was (bytes_of k.pages) (bytes_of c.as_slice-pages.result.now) (g.C.Copying.reads (disk_now (g.P.Plant.view c.reserve.new.self.plant) Ckpt2).bytes)
+    names (ap (λ p. g.C.Copying.reads (disk_now (g.P.Plant.view p) Ckpt2).bytes) e.plant ∙ c.requires.rests2.reads told alive0) reads
 
 pub commit-requires-clause-some : goal.commit-requires-clause-some
 commit-requires-clause-some g c =
