@@ -19,3 +19,4 @@ pub mod Recovered
 pub mod First
 pub mod Leaving
 pub mod Others
+pub mod Replied

@@ -10,3 +10,4 @@ pub mod Fits
 pub mod Recovers
 pub mod Locking
 pub mod Changed
+pub mod Replies

@@ -23,6 +23,7 @@ ghost use Rattle.mas_complex.specs.Crash.{Keeps, setting, copy_of, BeginsWith, I
 ghost use Rattle.mas_complex.specs.Headline.{Headline, LeavesQueue};
 ghost use Rattle.mas_complex.specs.Elsewhere.{Elsewhere};
 ghost use Rattle.mas_complex.specs.Changed.{NamesOnly};
+ghost use Rattle.mas_complex.specs.Replies.{HaveReplies, AreReplied};
 ghost use Rattle.std.specs.Prelude.{min};
 ghost use Rattle.mas_types.specs.Limits.{members_most};
 ghost use Rattle.lock_cycle.specs.Books.{new_book};
@@ -74,6 +75,9 @@ pub struct Complex<P: Plant + Drop, C: Steady + Drop> {
 
     /// What a crash leaves and the console tells at each moment since then, and where each copy stands now.
     ghost kept: { P.tells → ∥ Keeps (setting C.reads base since) journal.batches current level (copy_of (C.rests pair.first.copy) (C.holds pair.first.copy) pair.first.alive first) (copy_of (C.rests pair.second.copy) (C.holds pair.second.copy) pair.second.alive second) (P.view plant) ∥₁ },
+
+    /// Each entry has the reply that the commands give at its place.
+    ghost replied: { P.tells → ∥ AreReplied base (journal.batches ++ in_flight current) ∥₁ },
 
     /// A copy that counts as alive is ready.
     ghost first_ready: { pair.first.alive ≡ true → C.fits pair.first.copy (P.view plant) ≡ true },
@@ -194,6 +198,7 @@ impl<P: Plant + Drop, C: Steady + Drop> Complex<P, C> {
     // The reserved batch begins.
     fn begin(&mut self, by: MemberId)
         requires none { self.old.current ≡ None }
+        requires replied { P.tells → HaveReplies (run self.old.base (kept_all self.old.journal.batches)) (entries_reserved self.old.reserved) }
         requires first { self.old.pair.first.alive ≡ true → self.old.first ≡ AtBefore }
         requires second { self.old.pair.second.alive ≡ true → self.old.second ≡ AtBefore }
         requires untold { P.tells → IsUntold (setting C.reads self.old.base self.old.since) (P.view self.old.plant) (entries_reserved self.old.reserved) }
@@ -491,10 +496,11 @@ impl<P: Plant + Drop, C: Steady + Drop> Complex<P, C> {
         self.plant.say(by, line)
     }
 
-    /// Keeps the reserved batch without a write: the queue is the same with it.
+    /// Keeps the reserved batch without a write: the queue is the same with it, and its entries have their replies.
     pub fn keep_same(&mut self, by: MemberId)
         requires none { self.old.current ≡ None }
         requires reserved { IsSome self.old.reserved }
+        requires replied { P.tells → HaveReplies (run self.old.base (kept_all self.old.journal.batches)) (entries_reserved self.old.reserved) }
         requires first { self.old.pair.first.alive ≡ true → self.old.first ≡ AtBefore }
         requires second { self.old.pair.second.alive ≡ true → self.old.second ≡ AtBefore }
         requires untold { P.tells → IsUntold (setting C.reads self.old.base self.old.since) (P.view self.old.plant) (entries_reserved self.old.reserved) }
@@ -602,6 +608,7 @@ impl<P: Plant + Drop, C: Steady + Drop> Complex<P, C> {
     fn begin_first(&mut self, by: MemberId)
         requires first { self.old.current ≡ None → self.old.pair.first.alive ≡ true → self.old.first ≡ AtBefore }
         requires second { self.old.current ≡ None → self.old.pair.second.alive ≡ true → self.old.second ≡ AtBefore }
+        requires replied { P.tells → self.old.current ≡ None → HaveReplies (run self.old.base (kept_all self.old.journal.batches)) (entries_reserved self.old.reserved) }
         requires untold { P.tells → self.old.current ≡ None → IsUntold (setting C.reads self.old.base self.old.since) (P.view self.old.plant) (entries_reserved self.old.reserved) }
         ensures plant { self.new.plant ≡ self.old.plant }
         ensures pair { self.new.pair ≡ self.old.pair }
@@ -626,6 +633,7 @@ impl<P: Plant + Drop, C: Steady + Drop> Complex<P, C> {
     /// Writes the pages of the batch to come, or in flight, behind the closed gate of one copy. The first call for a batch
     /// begins it: it is in flight from the moment before the call on. On a copy that counts as lost nothing is written.
     ///
+    /// The entries have the replies that the commands give at their places, after the kept ones.
     /// The pages stand for the queue with the batch, which has an entry, and have the level after the one of the kept pages.
     /// `changed` are the numbers of page 0 and of just those that differ from what the copy reads. Both copies are given the same pages: where
     /// the other one counts as alive, these wait behind its gate if others than the kept ones do.
@@ -649,6 +657,7 @@ impl<P: Plant + Drop, C: Steady + Drop> Complex<P, C> {
         requires untold { P.tells → self.old.current ≡ None → IsUntold (setting C.reads self.old.base self.old.since) (P.view self.old.plant) (entries_reserved self.old.reserved) }
         requires queue { P.tells → ∥ StandFor (run self.old.base (kept_all self.old.journal.batches ++ coming self.old.current self.old.reserved)) (bytes_of pages.now) ∥₁ }
         requires some { 1 ≤ length (coming self.old.current self.old.reserved) }
+        requires replied { P.tells → self.old.current ≡ None → HaveReplies (run self.old.base (kept_all self.old.journal.batches)) (entries_reserved self.old.reserved) }
         requires same { P.tells → (other dev self.old.pair.first self.old.pair.second).alive ≡ true → HasNoOther (other dev self.old.first self.old.second) (C.behind (other dev self.old.pair.first self.old.pair.second).copy (disk_now (P.view self.old.plant) (other dev Ckpt1 Ckpt2)).bytes) (C.reads (disk_now (P.view self.old.plant) (other dev Ckpt1 Ckpt2)).bytes) (bytes_of pages.now) }
         ensures base { self.new.base ≡ self.old.base }
         ensures since { self.new.since ≡ self.old.since }
@@ -810,13 +819,15 @@ impl<P: Plant + Drop, C: Steady + Drop> Complex<P, C> {
         self.pair.read_page(&mut self.plant, by, page, into)
     }
 
-    /// Hands out the plant, the base, the first moment and the journal, of which the headline holds.
+    /// Hands out the plant, the base, the first moment and the journal, of which the headline holds, and whose entries have
+    /// their replies.
     pub fn end(self) -> Ended<P>
         ensures plant { result.plant ≡ self.plant }
         ensures base { result.base ≡ self.base }
         ensures since { result.since ≡ self.since }
         ensures journal { result.journal.batches ≡ end_of self.placed self.current self.journal.batches }
         ensures headline { P.tells → ∥ Headline C.reads result.base result.since result.journal (P.view result.plant) ∥₁ }
+        ensures replied { P.tells → ∥ AreReplied result.base result.journal.batches ∥₁ }
     {
         let Complex {
             plant,

@@ -5,6 +5,10 @@ use Rattle.mas_types.specs.declared.journals.Entry.{Entry}
 use Rattle.mas_types.specs.declared.queues.Queue.{Queue}
 use Rattle.ckpt_copy.specs.Pages.{Covers}
 use Rattle.mas_types.specs.declared.journals.Fate.TheVariants.{Kept}
+use Rattle.mas_types.specs.declared.ids.MemberId.{MemberId}
+use Rattle.mas_types.specs.declared.commands.Command.{Command}
+use Rattle.mas_run.specs.Decks.{entries_of}
+use Rattle.mas_complex.specs.Replies.{HaveReplies}
 use Rattle.mas_complex.specs.Changed.{NamesOnly}
 use Rattle.mas_complex.specs.Meaning.{step, run}
 use Rattle.mas_complex.specs.Journals.{with_last, end_of, fated, kept_all}
@@ -67,3 +71,14 @@ pub queue_same : (base base1 Q : Queue) (ks kept es entries : List Entry) → ba
 queue_same base base1 Q ks kept es entries one is none are same =
     let here : run base1 kept ≡ Q = ap (λ (q : Queue). run q kept) one ∙ ap (run base) none ∙ sym is in
     run_append base1 kept es ∙ ap (λ (q : Queue). run q es) here ∙ ap (run Q) are ∙ same ∙ sym here
+
+-- entries with the replies of a queue have those of the same queue by another name
+pub replied_read : (base base1 Q : Queue) (ks kept es entries : List Entry) → base1 ≡ base → Q ≡ run base ks → kept ≡ ks → es ≡ entries → HaveReplies Q entries → HaveReplies (run base1 kept) es
+replied_read base base1 Q ks kept es entries one is none are have =
+    let here : run base1 kept ≡ Q = ap (λ (q : Queue). run q kept) one ∙ ap (run base) none ∙ sym is in
+    subst (λ (q : Queue). HaveReplies q es) (sym here) (subst (λ (l : List Entry). HaveReplies Q l) (sym are) have)
+
+-- the entries of commands have their replies
+pub have_replies : (Q : Queue) (by : MemberId) (at : ℕ) (cs : List Command) → HaveReplies Q (entries_of Q by at cs)
+have_replies Q by at [] = tt
+have_replies Q by at (c ∷ cs) = (refl, have_replies (step Q by c).0 by at cs)

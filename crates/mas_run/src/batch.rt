@@ -13,6 +13,7 @@ ghost use Rattle.duplex_pair.specs.Outcomes.{pair_stopped};
 ghost use Rattle.mas_complex.specs.declared.places.Place.TheVariants.{Before as AtBefore, Put as AtPut};
 ghost use Rattle.mas_complex.specs.Crash.{IsUntold, setting};
 ghost use Rattle.mas_complex.specs.Changed.{NamesOnly};
+ghost use Rattle.mas_complex.specs.Replies.{HaveReplies};
 ghost use Rattle.mas_complex.specs.Journals.{begun, entries_reserved, fated, kept_all, with_last};
 ghost use Rattle.mas_complex.specs.Meaning.{StandFor, run};
 ghost use Rattle.mas_run.specs.Stops.{Apart};
@@ -32,6 +33,7 @@ fn log_both<P: Plant + Drop, C: Steady + Drop>(
     requires none { complex.old.current ≡ None }
     requires reserved { IsSome complex.old.reserved }
     requires some { 1 ≤ length (entries_reserved complex.old.reserved) }
+    requires replied { P.tells → HaveReplies (run complex.old.base (kept_all complex.old.journal.batches)) (entries_reserved complex.old.reserved) }
     requires first { complex.old.pair.first.alive ≡ true → complex.old.first ≡ AtBefore }
     requires second { complex.old.pair.second.alive ≡ true → complex.old.second ≡ AtBefore }
     requires room1 { complex.old.pair.first.alive ≡ true → 1 ≤ C.room complex.old.pair.first.copy }
@@ -117,6 +119,7 @@ pub(crate) fn commit<P: Plant + Drop, C: Steady + Drop>(
     requires none { complex.old.current ≡ None }
     requires reserved { IsSome complex.old.reserved }
     requires some { 1 ≤ length (entries_reserved complex.old.reserved) }
+    requires replied { P.tells → HaveReplies (run complex.old.base (kept_all complex.old.journal.batches)) (entries_reserved complex.old.reserved) }
     requires first { complex.old.pair.first.alive ≡ true → complex.old.first ≡ AtBefore }
     requires second { complex.old.pair.second.alive ≡ true → complex.old.second ≡ AtBefore }
     requires room1 { complex.old.pair.first.alive ≡ true → 1 ≤ C.room complex.old.pair.first.copy }

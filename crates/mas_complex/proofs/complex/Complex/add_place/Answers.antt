@@ -5,6 +5,8 @@ use Rattle.std.proofs.Common.{◌≤◌}
 use Rattle.mas_complex.proofs.Fating.{is_place}
 use Rattle.mas_complex.proofs.Batches.{placed_all}
 use Rattle.mas_complex.proofs.Moves.{place_keeps}
+use Rattle.mas_complex.specs.Journals.{in_flight}
+use Rattle.mas_complex.proofs.Replied.{placed_replied}
 use Rattle.mas_complex.proofs.complex.Complex.add_place.Goals as goal
 
 pub invariant_of-self-2-clause-kept : goal.invariant_of-self-2-clause-kept
@@ -27,3 +29,9 @@ pub returns-clause-kept : goal.returns-clause-kept
 returns-clause-kept g c =
     let place = is_place c.empty_place-place.result c.now.result (record { 0 = 0 }) c.empty_place-place.ensures in
     rw (c.in_ok-push.ensures.ok) (placed_all c.empty_place-place.result place.0 c.args.self.now.journal.batches)
+
+pub invariant_of-self-2-clause-replied : goal.invariant_of-self-2-clause-replied
+invariant_of-self-2-clause-replied g c told =
+    let s = c.args.self.now in
+    let place = is_place c.empty_place-place.result c.now.result (record { 0 = 0 }) c.empty_place-place.ensures in
+    ∥∥₁_map (s.replied told) (λ are. rw (c.in_ok-push.ensures.ok) (placed_replied s.base s.journal.batches (in_flight s.current) c.empty_place-place.result place.0 are))

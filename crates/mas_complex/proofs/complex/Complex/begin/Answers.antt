@@ -7,6 +7,11 @@ use Rattle.mas_complex.specs.Journals.{entries_reserved}
 use Rattle.mas_complex.specs.Crash.{Keeps, Setting, setting, copy_of}
 use Rattle.mas_complex.specs.Crash.{IsUntold}
 use Rattle.mas_complex.proofs.Moves.{begins_keep}
+use Rattle.std.proofs.Common.{◌++◌}
+use Rattle.mas_complex.specs.Journals.{in_flight, kept_all}
+use Rattle.mas_complex.specs.Meaning.{run}
+use Rattle.mas_complex.specs.Replies.{HaveReplies, AreReplied}
+use Rattle.mas_complex.proofs.Replied.{begun_replied}
 use Rattle.mas_complex.proofs.complex.Complex.begin.Goals as goal
 
 pub invariant_of-self-clause-kept : goal.invariant_of-self-clause-kept
@@ -22,3 +27,12 @@ invariant_of-self-clause-kept g c told =
     ∥∥₁_map (s.kept told) (λ k. begins_keep S s.journal.batches (record { first = c.now-first.result; last = 2 ^ 64 - 1; by = c.args.by; fate = Flying; entries = es }) s.level first second old
     (subst (λ (x : Option Batch). Keeps S s.journal.batches x s.level first second old) c.requires.none k) refl c.now-first.ensures
     (subst (λ (l : List Entry). IsUntold S old l) e (c.requires.untold told)))
+
+pub invariant_of-self-clause-replied : goal.invariant_of-self-clause-replied
+invariant_of-self-clause-replied g c told =
+    let s = c.args.self.now in
+    let es = c.in-Some.entries in
+    let e : entries_reserved s.reserved ≡ es = ap entries_reserved (sym c.take.ensures.value ∙ c.in-Some.is) in
+    ∥∥₁_map (s.replied told) (λ are. begun_replied s.base s.journal.batches (record { first = c.now-first.result; last = 2 ^ 64 - 1; by = c.args.by; fate = Flying; entries = es })
+    (subst (λ (x : Option Batch). AreReplied s.base (s.journal.batches ++ in_flight x)) c.requires.none are)
+    (subst (λ (l : List Entry). HaveReplies (run s.base (kept_all s.journal.batches)) l) e (c.requires.replied told)))

@@ -4,6 +4,10 @@ use Rattle.mas_types.specs.declared.journals.Batch.{Batch}
 use Rattle.mas_types.specs.declared.journals.Fate.TheVariants.{Dropped}
 use Rattle.mas_complex.specs.Crash.{Keeps, Setting, setting, copy_of}
 use Rattle.mas_complex.proofs.Fating.{has_ends, dropped_placed}
+use Rattle.std.proofs.Common.{◌++◌}
+use Rattle.mas_complex.specs.Journals.{in_flight}
+use Rattle.mas_complex.specs.Replies.{AreReplied}
+use Rattle.mas_complex.proofs.Replied.{fated_replied}
 use Rattle.mas_complex.proofs.complex.Complex.drop_batch.Goals as goal
 
 pub invariant_of-self-clause-kept : goal.invariant_of-self-clause-kept
@@ -20,3 +24,12 @@ invariant_of-self-clause-kept g c told =
     (dropped_placed S s.level first second old (λ pages d r. g.met.C.Copying.rests_reads s.pair.first.copy pages d r) (λ was next d r. g.met.C.Copying.holds_reads s.pair.first.copy was next d r) (λ pages d r. g.met.C.Copying.rests_reads s.pair.second.copy pages d r) (λ was next d r. g.met.C.Copying.holds_reads s.pair.second.copy was next d r) s.journal.batches (has_ends s.placed s.journal.batches (s.place_current c.requires.current) has)
     (record { first = b.first; last = c.now-last.result; by = b.by; fate = Dropped; entries = b.entries }) b
     (subst (λ (x : Option Batch). Keeps S s.journal.batches x s.level first second old) was k) refl refl c.now-last.ensures refl c.requires.first c.requires.second)))
+
+pub invariant_of-self-clause-replied : goal.invariant_of-self-clause-replied
+invariant_of-self-clause-replied g c told =
+    let s = c.args.self.now in
+    let b = c.in-Some.batch in
+    let was : s.current ≡ Some b = sym c.take.ensures.value ∙ c.in-Some.is in
+    ∥∥₁_elim (s.replied told) ∥∥₁_prop (λ are. ∥∥₁_map s.place (λ has. rw (c.set_last.ensures, c.take.ensures.after)
+    (fated_replied s.base s.journal.batches b (record { first = b.first; last = c.now-last.result; by = b.by; fate = Dropped; entries = b.entries }) (has_ends s.placed s.journal.batches (s.place_current c.requires.current) has)
+    (subst (λ (x : Option Batch). AreReplied s.base (s.journal.batches ++ in_flight x)) was are) refl)))

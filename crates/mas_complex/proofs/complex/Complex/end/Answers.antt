@@ -4,6 +4,8 @@ use Rattle.mas_types.specs.declared.journals.Batch.{Batch}
 use Rattle.mas_complex.specs.Crash.{copy_of}
 use Rattle.mas_complex.specs.Headline.{Headline}
 use Rattle.mas_complex.proofs.Ending.{ended_headline}
+use Rattle.mas_complex.specs.Replies.{AreReplied}
+use Rattle.mas_complex.proofs.Replied.{ended_replied}
 use Rattle.mas_complex.proofs.complex.Complex.end.Goals as goal
 
 pub returns-clause-headline : goal.returns-clause-headline
@@ -18,3 +20,9 @@ returns-clause-headline g c told =
     (ended_headline C.reads s.base s.since s.level first second v c.moment_of-last.ensures.most s.first_lost s.second_lost
     (λ pages d r. g.met.C.Copying.rests_reads s.pair.first.copy pages d r) (λ was next d r. g.met.C.Copying.holds_reads s.pair.first.copy was next d r) (λ pages d r. g.met.C.Copying.rests_reads s.pair.second.copy pages d r) (λ was next d r. g.met.C.Copying.holds_reads s.pair.second.copy was next d r)
     s.placed s.current s.journal.batches s.place_current has k)))
+
+pub returns-clause-replied : goal.returns-clause-replied
+returns-clause-replied g c told =
+    let s = c.args.self in
+    ∥∥₁_elim (s.replied told) ∥∥₁_prop (λ are. ∥∥₁_map s.place (λ has.
+    subst (λ (l : List Batch). AreReplied s.base l) (sym c.finished-journal.ensures) (ended_replied s.base s.placed s.current s.journal.batches s.place_current has are)))

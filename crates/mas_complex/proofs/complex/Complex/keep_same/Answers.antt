@@ -7,6 +7,10 @@ use Rattle.mas_complex.specs.Journals.{kept_all, entries_reserved}
 use Rattle.mas_complex.specs.Crash.{Keeps, Setting, setting, copy_of}
 use Rattle.mas_complex.specs.Crash.{IsUntold}
 use Rattle.mas_complex.proofs.Fating.{has_ends, same_placed}
+use Rattle.mas_complex.specs.Journals.{in_flight, with_last}
+use Rattle.mas_complex.specs.Meaning.{run}
+use Rattle.mas_complex.specs.Replies.{HaveReplies}
+use Rattle.mas_complex.proofs.Replied.{and_none, with_replied}
 use Rattle.mas_complex.proofs.complex.Complex.keep_same.Goals as goal
 
 pub invariant_of-self-clause-kept : goal.invariant_of-self-clause-kept
@@ -26,3 +30,13 @@ invariant_of-self-clause-kept g c told =
     (subst (λ (x : Option Batch). Keeps S s.journal.batches x s.level first second old) c.requires.none k) refl c.now-now.ensures
     (subst (λ (l : List Entry). IsUntold S old l) e (c.requires.untold told)) refl refl refl c.now-now.ensures
     (subst (λ (l : List Entry). S.run S.base (kept_all s.journal.batches ++ l) ≡ S.run S.base (kept_all s.journal.batches)) e (c.requires.queue told)))))
+
+pub invariant_of-self-clause-replied : goal.invariant_of-self-clause-replied
+invariant_of-self-clause-replied g c told =
+    let s = c.args.self.now in
+    let es = c.in-Some.entries in
+    let e : entries_reserved s.reserved ≡ es = ap entries_reserved (sym c.take.ensures.value ∙ c.in-Some.is) in
+    let b : Batch = record { first = c.now-now.result; last = c.now-now.result; by = c.args.by; fate = Kept; entries = es } in
+    ∥∥₁_elim (s.replied told) ∥∥₁_prop (λ are. ∥∥₁_map s.place (λ has. rw (c.set_last.ensures, c.requires.none)
+    (and_none s.base (with_last b s.journal.batches) (with_replied s.base s.journal.batches (in_flight s.current) b (has_ends s.placed s.journal.batches (s.place_reserved c.requires.reserved) has) are
+    (subst (λ (l : List Entry). HaveReplies (run s.base (kept_all s.journal.batches)) l) e (c.requires.replied told))))))

@@ -29,3 +29,6 @@ returns-clause-fresh g c told =
     ∥∥₁_map (c.requires.begins told) (λ begins later goes. leaves_base C.reads s.base v.now s.level begins.pages v later begins.stands
     (first_reads S begins.pages None first.rests first.holds (λ pages d r. g.met.C.Copying.rests_reads s.pair.first.copy pages d r) (λ was next d r. g.met.C.Copying.holds_reads s.pair.first.copy was next d r) Before first.alive Ckpt1 v later c.moment_of-since.ensures.most goes begins.first_at c.requires.lost1)
     (first_reads S begins.pages None second.rests second.holds (λ pages d r. g.met.C.Copying.rests_reads s.pair.second.copy pages d r) (λ was next d r. g.met.C.Copying.holds_reads s.pair.second.copy was next d r) Before second.alive Ckpt2 v later c.moment_of-since.ensures.most goes begins.second_at c.requires.lost2))
+
+pub invariant_of-result-clause-replied : goal.invariant_of-result-clause-replied
+invariant_of-result-clause-replied g c told = rw (c.new.ensures) ∣ tt ∣₁

@@ -9,11 +9,11 @@ use Rattle.mas_complex.specs.Journals.{begun, entries_reserved, kept_all, with_l
 use Rattle.mas_complex.specs.Changed.{NamesOnly}
 use Rattle.mas_complex.specs.Meaning.{StandFor, run}
 use Rattle.mas_complex.proofs.BatchEnds.{with_last-append}
-use Rattle.mas_run.specs.Decks.{deck_entries, deck_line}
+use Rattle.mas_run.specs.Decks.{deck_commands, deck_entries, deck_line}
 use Rattle.mas_run.specs.Standing.{queue_of}
 use Rattle.mas_run.proofs.DrawnLemmas.{drawn_stand, drawn_level}
 use Rattle.mas_run.proofs.LineLemmas.{untold_by, told_kept}
-use Rattle.mas_run.proofs.WriteLemmas.{covers_read, names_read, queue_written, queue_kept, none_out}
+use Rattle.mas_run.proofs.WriteLemmas.{replied_read, have_replies, covers_read, names_read, queue_written, queue_kept, none_out}
 use Rattle.mas_run.proofs.StepLemmas.{deck_unplayed, deck_lost, deck_stopped, deck_done, deck_unsaid, deck_broken}
 use Rattle.mas_run.proofs.running.Running.enter_deck.Goals as goal
 
@@ -73,6 +73,14 @@ commit-requires-clause-level g c told =
     let n = c.ready_deck.new.checkpoint in
     ap (λ ps. level (bytes_of ps)) c.as_slice-pages.ensures ∙ drawn_level n.tables n.level n.levels n.pages c.in-Ok.ensures.drawn
     ∙ c.in-Ok.ensures.level ∙ ap (λ (l : ℕ). l + 1) (sym (c.reserve.ensures.level ∙ c.requires.between.same_level))
+
+pub commit-requires-clause-replied : goal.commit-requires-clause-replied
+commit-requires-clause-replied g c told =
+    let x = c.args.self.now.complex in
+    let y = c.reserve.new.self in
+    let Q : Queue = queue_of c.args.self.now.checkpoint.tables in
+    replied_read x.base y.base Q (kept_all x.journal.batches) (kept_all y.journal.batches) (entries_reserved y.reserved) (deck_entries Q c.args.by c.args.step c.args.fields)
+    c.reserve.ensures.base c.requires.between.queue c.reserve.ensures.kept (ap entries_reserved c.in-Ok-reserve.ensures.reserved ∙ c.in-Ok.ensures.entries) (have_replies Q c.args.by c.args.step (deck_commands Q c.args.by c.args.fields))
 
 pub commit-requires-clause-untold : goal.commit-requires-clause-untold
 commit-requires-clause-untold g c told =

@@ -6,12 +6,20 @@ use Rattle.spool_disk.specs.View.{disk_now}
 use Rattle.mas_complex.specs.Journals.{begun, entries_reserved, kept_all, with_last}
 use Rattle.mas_complex.specs.Meaning.{run}
 use Rattle.mas_complex.proofs.BatchEnds.{with_last-append}
-use Rattle.mas_run.specs.Decks.{deck_entries, deck_line}
+use Rattle.mas_run.specs.Decks.{deck_commands, deck_entries, deck_line}
 use Rattle.mas_run.specs.Standing.{queue_of}
 use Rattle.mas_run.proofs.LineLemmas.{untold_by, told_kept}
-use Rattle.mas_run.proofs.WriteLemmas.{queue_same, queue_kept, none_out}
+use Rattle.mas_run.proofs.WriteLemmas.{replied_read, have_replies, queue_same, queue_kept, none_out}
 use Rattle.mas_run.proofs.StepLemmas.{acted_none, apart_none, deck_unplayed, deck_done, deck_unsaid, deck_broken}
 use Rattle.mas_run.proofs.running.Running.refuse_deck.Goals as goal
+
+pub keep_same-requires-clause-replied : goal.keep_same-requires-clause-replied
+keep_same-requires-clause-replied g c told =
+    let x = c.args.self.now.complex in
+    let y = c.reserve.new.self in
+    let Q : Queue = queue_of c.args.self.now.checkpoint.tables in
+    replied_read x.base y.base Q (kept_all x.journal.batches) (kept_all y.journal.batches) (entries_reserved y.reserved) (deck_entries Q c.args.by c.args.step c.args.fields)
+    c.reserve.ensures.base c.requires.between.queue c.reserve.ensures.kept (ap entries_reserved c.in-Ok-reserve.ensures.reserved ∙ c.in-Ok.ensures.entries) (have_replies Q c.args.by c.args.step (deck_commands Q c.args.by c.args.fields))
 
 pub keep_same-requires-clause-untold : goal.keep_same-requires-clause-untold
 keep_same-requires-clause-untold g c told =

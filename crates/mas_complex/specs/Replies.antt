@@ -1,0 +1,21 @@
+-- The replies of a history.
+use Rattle.std.specs.Prelude.{◌≡◌, if◌then◌else◌, List, [], ◌∷◌}
+use Rattle.mas_types.specs.declared.queues.Queue.{Queue}
+use Rattle.mas_types.specs.declared.journals.Batch.{Batch}
+use Rattle.mas_types.specs.declared.journals.Entry.{Entry}
+use Rattle.mas_types.specs.Journal.{is_kept}
+use Rattle.mas_complex.specs.Meaning.{step, run}
+
+-- each entry has the reply that its command is given at its place
+abbrev pub HaveReplies : Queue → List Entry → Type 0
+HaveReplies Q [] = Unit {0}
+HaveReplies Q (e ∷ es) = (e.reply ≡ (step Q e.by e.command).1) × HaveReplies (step Q e.by e.command).0 es
+
+-- the queue after a batch, which counts where it is kept
+abbrev pub after_batch : Queue → Batch → Queue
+after_batch Q b = if is_kept b.fate then run Q b.entries else Q
+
+-- so have the entries of each batch, after the kept batches before it
+abbrev pub AreReplied : Queue → List Batch → Type 0
+AreReplied Q [] = Unit {0}
+AreReplied Q (b ∷ bs) = HaveReplies Q b.entries × AreReplied (after_batch Q b) bs
