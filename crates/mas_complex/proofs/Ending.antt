@@ -79,20 +79,20 @@ module _ (reads : List ℕ → Option (List ℕ)) (base : Queue) (since : ℕ) (
   are_alike : (t : ℕ) → Alike S (kept (js ++ in_flight c) t) (flying (js ++ in_flight c) t) (left_at v t Ckpt1) (left_at v t Ckpt2) → AreAlike reads base (record { batches = js ++ in_flight c }) t (left_at v t Ckpt1) (left_at v t Ckpt2)
   are_alike t alike = of_same (subst (λ (l : List Entry). Alike S (kept_at (record { batches = js ++ in_flight c }) t) l (left_at v t Ckpt1) (left_at v t Ckpt2)) (flying_is (js ++ in_flight c) t)
       (subst (λ (l : List Entry). Alike S l (flying (js ++ in_flight c) t) (left_at v t Ckpt1) (left_at v t Ckpt2)) (kept_is (js ++ in_flight c) t) alike)) where
-    next_of : (l : ℕ) (was : List ℕ) (K F : List Entry) (n : Option (List ℕ)) → Stands S l K was → IsNext S l K F n → IfSome n (λ pages. (level pages ≡ level was + 1) × StandFor (run base (K ++ F)) pages)
-    next_of l was K F None stands comes = tt
-    next_of l was K F (Some pages) stands comes = (omega (arith, stands.at_level, comes.at_level), comes.queue)
+        next_of : (l : ℕ) (was : List ℕ) (K F : List Entry) (n : Option (List ℕ)) → Stands S l K was → IsNext S l K F n → IfSome n (λ pages. (level pages ≡ level was + 1) × StandFor (run base (K ++ F)) pages)
+        next_of l was K F None stands comes = tt
+        next_of l was K F (Some pages) stands comes = (omega (arith, stands.at_level, comes.at_level), comes.queue)
 
-    of_same : Alike S (kept_at (record { batches = js ++ in_flight c }) t) (flying_at (record { batches = js ++ in_flight c }) t) (left_at v t Ckpt1) (left_at v t Ckpt2) → AreAlike reads base (record { batches = js ++ in_flight c }) t (left_at v t Ckpt1) (left_at v t Ckpt2)
-    of_same a = record {
-      was = a.was;
-      coming = a.coming;
-      stands = a.stands.queue;
-      comes = next_of a.reached a.was (kept_at (record { batches = js ++ in_flight c }) t) (flying_at (record { batches = js ++ in_flight c }) t) a.coming a.stands a.comes;
-      none = a.none;
-      first = a.first;
-      second = a.second;
-    }
+        of_same : Alike S (kept_at (record { batches = js ++ in_flight c }) t) (flying_at (record { batches = js ++ in_flight c }) t) (left_at v t Ckpt1) (left_at v t Ckpt2) → AreAlike reads base (record { batches = js ++ in_flight c }) t (left_at v t Ckpt1) (left_at v t Ckpt2)
+        of_same a = record {
+          was = a.was;
+          coming = a.coming;
+          stands = a.stands.queue;
+          comes = next_of a.reached a.was (kept_at (record { batches = js ++ in_flight c }) t) (flying_at (record { batches = js ++ in_flight c }) t) a.coming a.stands a.comes;
+          none = a.none;
+          first = a.first;
+          second = a.second;
+        }
 
   module _ (keeps : Keeps S js c reached first second v) (most : v.now ≤ top) (lost1 : first.alive ≡ false → v.lost (DiskPart Ckpt1) ≡ true) (lost2 : second.alive ≡ false → v.lost (DiskPart Ckpt2) ≡ true)
       (rests_reads1 : (pages : List ℕ) (d : Disk) → first.rests pages d → AllRead reads pages d) (holds_reads1 : (was next : List ℕ) (d : Disk) → first.holds was next d → AllRead reads was d)

@@ -1,5 +1,5 @@
 -- Copies once the batch in flight has its fate, and lines that are said.
-use Rattle.std.proofs.Common.{◌≡◌, inl, inr, ⊎_elim, ℕ, ◌+◌, ◌≤◌, ◌<◌, ◌||◌, Bool, true, false, List, [], ◌∷◌, ◌++◌, if◌then◌else◌, Option, Some, None, subst, sym, ◌∙◌, ap, arith}
+use Rattle.std.proofs.Common.{◌≡◌, inl, inr, ⊎_elim, ℕ, ◌+◌, ◌≤◌, ◌<◌, ◌||◌, Bool, true, false, List, [], ◌∷◌, ◌++◌, if◌then◌else◌, Option, Some, None, refl, subst, sym, ◌∙◌, ap, arith}
 use Rattle.std.proofs.lemmas.List.{append-nil}
 use Rattle.std.proofs.lemmas.Bool.{or_cases}
 use Rattle.mas_types.specs.declared.ids.Dev.TheVariants.{Ckpt1, Ckpt2}
@@ -16,7 +16,7 @@ use Rattle.mas_complex.specs.declared.places.Place.{Place}
 use Rattle.mas_complex.specs.declared.places.Place.TheVariants.{Before, Opened}
 use Rattle.mas_complex.specs.Journals.{kept_all, in_flight, StepIsKept}
 use Rattle.mas_types.specs.Journal.{is_kept, is_flying}
-use Rattle.mas_complex.specs.Crash.{Setting, Stands, IsNext, ReadsOne, OnComing, IsAt, OneCopy, Copy, CopyAt, copy_of, Keeps}
+use Rattle.mas_complex.specs.Crash.{Setting, Stands, IsNext, ReadsOne, OnComing, IsAt, OneCopy, Copy, copy_of, Keeps}
 use Rattle.mas_complex.proofs.Batches.{kept_all_append}
 use Rattle.mas_complex.proofs.Present.{copy_reads}
 use Rattle.mas_complex.proofs.Moves.{Adds, acts_keep, fate_keeps}

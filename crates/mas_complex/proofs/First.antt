@@ -9,7 +9,7 @@ use Rattle.spool_disk.specs.Acts.{Goes, top}
 use Rattle.ckpt_copy.specs.Moments.{either_way}
 use Rattle.ckpt_copy.specs.Reading.{AllRead}
 use Rattle.mas_complex.specs.declared.places.Place.{Place}
-use Rattle.mas_complex.specs.Crash.{Setting, setting, Stands, OneCopy, ReadsOne, Alike, IsFound, found, left_at}
+use Rattle.mas_complex.specs.Crash.{Setting, setting, Stands, OneCopy, ReadsOne, IsFound, found, left_at}
 use Rattle.mas_complex.specs.Headline.{FoundFor, LeavesQueue}
 use Rattle.mas_complex.proofs.Present.{copy_reads, alike_found, top_reads}
 use Rattle.mas_complex.proofs.Ending.{left_below}

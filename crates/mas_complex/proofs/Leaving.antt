@@ -1,8 +1,9 @@
 -- Why a copy doesn't count as alive after a recovery.
-use Rattle.std.proofs.Common.{◌≡◌, ◌≢◌, ◌⊎◌, inl, inr, ⊎_elim, ℕ, ◌≤◌, ◌&&◌, ◌==◌, if◌then◌else◌, Bool, true, false, List, Option, Some, None, refl, sym, ◌∙◌, ap, subst}
-use Rattle.std.proofs.lemmas.Bool.{eqb-true, eqb-false, and_cases}
+use Rattle.std.proofs.Common.{◌≡◌, ◌≢◌, ◌⊎◌, inl, inr, ⊎_elim, ℕ, ◌≤◌, arith, ◌&&◌, ◌==◌, if◌then◌else◌, Bool, true, false, List, Option, Some, None, refl, sym, subst}
+use Rattle.std.proofs.lemmas.Bool.{eqb-false, and_cases}
 use Rattle.mas_types.specs.declared.ids.Page.{Page}
 use Rattle.ckpt_copy.specs.Pages.{bytes_of, level}
+use Rattle.spool_disk.specs.Acts.{Rose}
 use Rattle.mas_complex.specs.declared.places.Place.{Place}
 use Rattle.mas_complex.specs.declared.places.Place.TheVariants.{Before, Put, Opened, Unsure}
 use Rattle.mas_complex.specs.Fits.{fits, can_stay, is_before}
@@ -20,8 +21,26 @@ pub unfit_of : (reached room : ℕ) (place : Place) (found other : List Page) �
     → (fits found other room ≡ false) ⊎ ((level (bytes_of other) ≢ level (bytes_of found)) × (level (bytes_of other) ≢ reached))
 unfit_of reached room place found other at unfit = by_level (level (bytes_of other) == level (bytes_of found)) refl unfit where
   by_level : (b : Bool) → (level (bytes_of other) == level (bytes_of found)) ≡ b → (if b then fits found other room else is_before place && fits found other room) ≡ false → (fits found other room ≡ false) ⊎ ((level (bytes_of other) ≢ level (bytes_of found)) × (level (bytes_of other) ≢ reached))
-  by_level true e no = inl no
-  by_level false e no = ⊎_elim
+  by_level true e not = inl not
+  by_level false e not = ⊎_elim
       (λ before. inr (eqb-false (level (bytes_of other)) (level (bytes_of found)) e, λ is. ⊎_elim (λ x. not_before place before x.0) (λ x. x.1 is) at))
       (λ fit. inl fit)
-      (and_cases (is_before place) (fits found other room) no)
+      (and_cases (is_before place) (fits found other room) not)
+
+-- a count that rose stays risen
+pub rose_later : (a b c : ℕ) → Rose a b → b ≤ c → Rose a c
+rose_later a b c rose le = omega (arith, rose, le)
+
+pub rose_earlier : (a b c : ℕ) → a ≤ b → Rose b c → Rose a c
+rose_earlier a b c le rose = omega (arith, rose, le)
+
+-- Why a copy that counted as alive doesn't any more: an act on it failed while it was looked at or brought up, or its pages don't fit.
+pub left_why : (reads : List ℕ → Option (List ℕ)) (bytes : List ℕ) (reached room last : ℕ) (place : Place) (found : List Page) (R : Type 0) (seen : Option (List Page)) (alive : Bool)
+    → (seen ≡ None → R) → (alive ≡ true → R) → ReadsSeen reads bytes seen
+    → ((pages : List Page) → seen ≡ Some pages → IsAtLevel (level (bytes_of pages)) reached place) → ((pages : List Page) → seen ≡ Some pages → alive ≡ false → IsUnfit seen place room found)
+    → (alive ≡ false → last ≡ room) → R ⊎ WasUnfit reads bytes reached last found
+left_why reads bytes reached room last place found R None alive unseen failed read at unfit same = inl (unseen refl)
+left_why reads bytes reached room last place found R (Some other) true unseen failed read at unfit same = inl (failed refl)
+left_why reads bytes reached room last place found R (Some other) false unseen failed read at unfit same =
+    inr (subst (λ (n : ℕ). WasUnfit reads bytes reached n found) (sym (same refl))
+    (record { other = other; read = read; unfit = unfit_of reached room place found other (at other refl) (unfit other refl refl) }))

@@ -99,12 +99,12 @@ pub look_stands : (S : Setting) (js : List Batch) (c : Option Batch) (reached : 
     → Stands S (reached + 1) (kept_all js ++ entries_in c) pages × (1 ≤ length (entries_in c))
 look_stands S js c reached first second v keeps pages same =
     (subst (λ (n : Option (List ℕ)). IsNext S reached (kept_all js) (entries_in c) n) same keeps.comes, some (entries_in c) (λ e. none_some pages (sym (keeps.none e) ∙ same))) where
-  none_some : (p : List ℕ) → None ≡ Some p → ⊥
-  none_some p e = cc
+      none_some : (p : List ℕ) → None ≡ Some p → ⊥
+      none_some p e = cc
 
-  some : (es : List Entry) → (es ≡ [] → ⊥) → 1 ≤ length es
-  some [] not = absurd (not refl)
-  some (e ∷ es) not = omega arith
+      some : (es : List Entry) → (es ≡ [] → ⊥) → 1 ≤ length es
+      some [] not = absurd (not refl)
+      some (e ∷ es) not = omega arith
 
 -- that a batch has an entry needs no choice
 pub some_entries : (es : List Entry) → ∥ 1 ≤ length es ∥₁ → 1 ≤ length es

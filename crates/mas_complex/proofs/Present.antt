@@ -11,7 +11,7 @@ use Rattle.mas_types.specs.declared.journals.Entry.{Entry}
 use Rattle.mas_complex.specs.declared.places.Place.{Place}
 use Rattle.mas_complex.specs.declared.places.Place.TheVariants.{Before, Put, Opened, Unsure}
 use Rattle.duplex_pair.specs.Finds.{best}
-use Rattle.mas_complex.specs.Crash.{Setting, IsLeft, SomeLeft, read_left, found, IsFound, Stands, IsNext, IsOneOf, ReadsOne, Alike, OnComing, IsAt, OneCopy, lost_if, left_at}
+use Rattle.mas_complex.specs.Crash.{Setting, IsLeft, SomeLeft, found, IsFound, Stands, IsNext, IsOneOf, ReadsOne, Alike, OnComing, IsAt, OneCopy, lost_if, left_at}
 
 -- the pages that a start finds of two images are the kept ones, or those in flight
 module _ (was : List ℕ) (coming : Option (List ℕ)) where

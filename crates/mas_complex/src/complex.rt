@@ -548,6 +548,7 @@ impl<P: Plant + Drop, C: Steady + Drop> Complex<P, C> {
         ensures second { self.new.second ≡ self.old.second }
         ensures level { self.new.level ≡ self.old.level }
         ensures dead { (pick dev self.new.pair.first self.new.pair.second).alive ≡ false }
+        ensures copy { (pick dev self.new.pair.first self.new.pair.second).copy ≡ (pick dev self.old.pair.first self.old.pair.second).copy }
         ensures other { other dev self.new.pair.first self.new.pair.second ≡ other dev self.old.pair.first self.old.pair.second }
         ensures loses { Loses (Disk dev) (P.view self.old.plant) (P.view self.new.plant) }
         ensures elsewhere { P.tells → Elsewhere dev (P.view self.old.plant) (P.view self.new.plant) }

@@ -158,6 +158,7 @@ impl<P: Plant + Drop, C: Steady + Drop> Complex<P, C> {
         ensures level { self.new.level ≡ self.old.level }
         ensures goes { Goes (P.view self.old.plant) (P.view self.new.plant) }
         ensures none { result ≡ None → IsBothLost self.new.pair.first.alive self.new.pair.second.alive }
+        ensures neither { result ≡ None → (first ≡ None) × (second ≡ None) }
         ensures chosen { IfSome result (λ found. Chosen C.reads P.tells (run self.old.base (kept_all self.old.journal.batches ++ entries_in self.old.current)) (entries_in self.old.current) self.old.level self.new.pair.first.alive (C.count self.new.pair.first.copy) (C.room self.new.pair.first.copy) self.new.first (disk_now (P.view self.new.plant) Ckpt1).bytes self.new.pair.second.alive (C.count self.new.pair.second.copy) (C.room self.new.pair.second.copy) self.new.second (disk_now (P.view self.new.plant) Ckpt2).bytes found) }
         ensures copy1 { self.new.pair.first.copy ≡ self.old.pair.first.copy }
         ensures copy2 { self.new.pair.second.copy ≡ self.old.pair.second.copy }

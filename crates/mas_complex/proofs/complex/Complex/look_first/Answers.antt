@@ -82,8 +82,7 @@ returns-clause-next g c =
           let p = c.look-done.new.self in
           let first' = copy_of (C.rests p.first.copy) (C.holds p.first.copy) p.first.alive c.place_seen-self.result in
           let second' = copy_of (C.rests p.second.copy) (C.holds p.second.copy) p.second.alive s.second in
-          let e = c.look-done.ensures in
-          (
+          let e = c.look-done.ensures in (
             ∥∥₁_elim (s.kept told) (Coded-set coded_ℕ _ _) (λ kk. (look_stands S s.journal.batches s.current s.level first second old kk (bytes_of pages) (look_next S kk.was kk.coming Ckpt1 old new first.rests first.holds first.place first'.place first.alive first'.alive C.count C.room C.room_most C.ready C.rests C.holds s.pair.first.copy p.first.copy kk.first_at e.acted.goes e.acted.alive (λ dead. ap g.P.Plant.view (e.idle dead)) (e.gone told) g.P.Plant.tells told (λ l. g.met.P.Plant.there c.look-done.new.plant told Ckpt1 l) c.look-done.result (e.during told) e.seen s.level (kept_all s.journal.batches) (entries_in s.current) kk.stands kk.comes c.place_seen-self.ensures (λ pages d r. g.met.C.Copying.rests_reads s.pair.first.copy pages d r) (λ was next d r. g.met.C.Copying.holds_reads s.pair.first.copy was next d r) (λ pages d r. g.met.C.Copying.rests_reads p.first.copy pages d r) pages is opened)).0.at_level),
             ∥∥₁_map (s.kept told) (λ kk. (look_stands S s.journal.batches s.current s.level first second old kk (bytes_of pages) (look_next S kk.was kk.coming Ckpt1 old new first.rests first.holds first.place first'.place first.alive first'.alive C.count C.room C.room_most C.ready C.rests C.holds s.pair.first.copy p.first.copy kk.first_at e.acted.goes e.acted.alive (λ dead. ap g.P.Plant.view (e.idle dead)) (e.gone told) g.P.Plant.tells told (λ l. g.met.P.Plant.there c.look-done.new.plant told Ckpt1 l) c.look-done.result (e.during told) e.seen s.level (kept_all s.journal.batches) (entries_in s.current) kk.stands kk.comes c.place_seen-self.ensures (λ pages d r. g.met.C.Copying.rests_reads s.pair.first.copy pages d r) (λ was next d r. g.met.C.Copying.holds_reads s.pair.first.copy was next d r) (λ pages d r. g.met.C.Copying.rests_reads p.first.copy pages d r) pages is opened)).0.queue),
             some_entries (entries_in s.current) (∥∥₁_map (s.kept told) (λ kk. (look_stands S s.journal.batches s.current s.level first second old kk (bytes_of pages) (look_next S kk.was kk.coming Ckpt1 old new first.rests first.holds first.place first'.place first.alive first'.alive C.count C.room C.room_most C.ready C.rests C.holds s.pair.first.copy p.first.copy kk.first_at e.acted.goes e.acted.alive (λ dead. ap g.P.Plant.view (e.idle dead)) (e.gone told) g.P.Plant.tells told (λ l. g.met.P.Plant.there c.look-done.new.plant told Ckpt1 l) c.look-done.result (e.during told) e.seen s.level (kept_all s.journal.batches) (entries_in s.current) kk.stands kk.comes c.place_seen-self.ensures (λ pages d r. g.met.C.Copying.rests_reads s.pair.first.copy pages d r) (λ was next d r. g.met.C.Copying.holds_reads s.pair.first.copy was next d r) (λ pages d r. g.met.C.Copying.rests_reads p.first.copy pages d r) pages is opened)).1)),

@@ -31,4 +31,4 @@ returns-clause-fresh g c told =
     (first_reads S begins.pages None second.rests second.holds (λ pages d r. g.met.C.Copying.rests_reads s.pair.second.copy pages d r) (λ was next d r. g.met.C.Copying.holds_reads s.pair.second.copy was next d r) Before second.alive Ckpt2 v later c.moment_of-since.ensures.most goes begins.second_at c.requires.lost2))
 
 pub invariant_of-result-clause-replied : goal.invariant_of-result-clause-replied
-invariant_of-result-clause-replied g c told = rw (c.new.ensures) ∣ tt ∣₁
+invariant_of-result-clause-replied g c told = rw (c.new.ensures) (∣ tt ∣₁)

@@ -1,8 +1,18 @@
-use Rattle.std.proofs.Common.{◌≡◌, ◌||◌, true, Some, sym, subst, rules}
+use Rattle.std.proofs.Common.{◌≡◌, ◌||◌, ◌++◌, ◌∙◌, ℕ, List, Option, true, false, Some, None, sym, subst, ap, arith, rules}
 use Rattle.std.proofs.Math.Logic.{∥∥₁_map}
 use Rattle.mas_types.specs.declared.ids.Dev.TheVariants.{Ckpt1, Ckpt2}
 use Rattle.spool_disk.specs.View.{disk_now}
-use Rattle.ckpt_copy.specs.Pages.{bytes_of}
+use Rattle.spool_disk.specs.Acts.{Rose}
+use Rattle.spool_disk.specs.declared.plant.Part.TheVariants.{Disk}
+use Rattle.mas_types.specs.declared.ids.Page.{Page}
+use Rattle.mas_types.specs.declared.queues.Queue.{Queue}
+use Rattle.mas_complex.specs.declared.places.Place.{Place}
+use Rattle.mas_complex.specs.Journals.{kept_all, entries_in}
+use Rattle.mas_complex.specs.Meaning.{run}
+use Rattle.mas_complex.specs.Places.{IsAtLevel}
+use Rattle.mas_complex.specs.Seen.{OneSeen, IsOneSeen, ReadsSeen}
+use Rattle.mas_complex.proofs.Leaving.{left_why, rose_later, rose_earlier}
+use Rattle.ckpt_copy.specs.Pages.{bytes_of, level}
 use Rattle.mas_complex.specs.Crash.{Setting, Copy, setting, copy_of}
 use Rattle.mas_complex.proofs.Recovered.{stands_of}
 use Rattle.mas_complex.proofs.complex.Complex.recover.Goals as goal
@@ -23,3 +33,92 @@ returns-clause-stands g c told =
 
       reads_second : c.give_fate.new.self.pair.second.alive ≡ true → g.C.Copying.reads (disk_now (g.P.Plant.view c.give_fate.new.self.plant) Ckpt2).bytes ≡ Some (bytes_of c.in-Some.found)
       reads_second is = search rules
+
+pub returns-in_default-clause-both_failed1 : goal.returns-in_default-clause-both_failed1
+returns-in_default-clause-both_failed1 g c is told alive =
+    let P = g.P.Plant in
+    let v0 = P.view c.args.self.now.plant in
+    let v1 = P.view c.see_first.new.self.plant in
+    let v2 = P.view c.see_second.new.self.plant in
+    let v3 = P.view c.choose_any.new.self.plant in
+    let later = c.see_second.ensures.goes.faults (Disk Ckpt1) in
+    let last = c.choose_any.ensures.goes.faults (Disk Ckpt1) in
+    rose_later (v0.faults (Disk Ckpt1)) (v1.faults (Disk Ckpt1)) (v3.faults (Disk Ckpt1)) (c.in_ok-first.ensures.unseen told (c.in_default.ensures.neither (search rules)).0 alive) (omega (arith, later, last))
+
+pub returns-in_default-clause-both_failed2 : goal.returns-in_default-clause-both_failed2
+returns-in_default-clause-both_failed2 g c is told alive =
+    let P = g.P.Plant in
+    let v0 = P.view c.args.self.now.plant in
+    let v1 = P.view c.see_first.new.self.plant in
+    let v2 = P.view c.see_second.new.self.plant in
+    let v3 = P.view c.choose_any.new.self.plant in
+    let before = c.see_first.ensures.goes.faults (Disk Ckpt2) in
+    let last = c.choose_any.ensures.goes.faults (Disk Ckpt2) in
+    let alive1 = ap (λ h. h.alive) c.see_first.ensures.pair_second ∙ alive in
+    rose_earlier (v0.faults (Disk Ckpt2)) (v1.faults (Disk Ckpt2)) (v3.faults (Disk Ckpt2)) before
+    (rose_later (v1.faults (Disk Ckpt2)) (v2.faults (Disk Ckpt2)) (v3.faults (Disk Ckpt2)) (c.in_ok-second.ensures.unseen told (c.in_default.ensures.neither (search rules)).1 alive1) last)
+
+pub returns-clause-left1 : goal.returns-clause-left1
+returns-clause-left1 g c told alive dead =
+    let P = g.P.Plant in
+    let C = g.C.Copying in
+    let s = c.args.self.now in
+    let a = c.see_first.new.self in
+    let b = c.see_second.new.self in
+    let d = c.choose_any.new.self in
+    let e = c.bring.new.self in
+    let f = c.give_fate.new.self in
+    let v0 = P.view s.plant in
+    let v1 = P.view a.plant in
+    let v2 = P.view b.plant in
+    let v3 = P.view d.plant in
+    let v4 = P.view e.plant in
+    let v5 = P.view f.plant in
+    let queue : Queue = run s.base (kept_all s.journal.batches ++ entries_in s.current) in
+    let f1 = c.see_first.ensures.goes.faults (Disk Ckpt1) in
+    let f2 = c.see_second.ensures.goes.faults (Disk Ckpt1) in
+    let f3 = c.choose_any.ensures.goes.faults (Disk Ckpt1) in
+    let f4 = c.bring.ensures.goes.faults (Disk Ckpt1) in
+    let f5 : v5.faults (Disk Ckpt1) ≡ v4.faults (Disk Ckpt1) = ap (λ p. (P.view p).faults (Disk Ckpt1)) c.give_fate.ensures.plant in
+    let dead4 : e.pair.first.alive ≡ false = sym (ap (λ p. p.first.alive) c.give_fate.ensures.pair) ∙ dead in
+    let one : (pages : List Page) → c.in_ok-first.first ≡ Some pages → OneSeen queue (entries_in s.current) g.P.Plant.tells s.level a.pair.first.alive (C.count a.pair.first.copy) a.first pages = λ pages is. subst (λ (o : Option (List Page)). IsOneSeen queue (entries_in s.current) g.P.Plant.tells s.level a.pair.first.alive (C.count a.pair.first.copy) a.first o) is c.in_ok-first.ensures.seen in
+    let unseen : c.in_ok-first.first ≡ None → Rose (v0.faults (Disk Ckpt1)) (v5.faults (Disk Ckpt1)) = λ none. rose_later (v0.faults (Disk Ckpt1)) (v1.faults (Disk Ckpt1)) (v5.faults (Disk Ckpt1)) (c.in_ok-first.ensures.unseen told none alive) (omega (arith, f2, f3, f4, f5)) in
+    let failed : d.pair.first.alive ≡ true → Rose (v0.faults (Disk Ckpt1)) (v5.faults (Disk Ckpt1)) = λ is. rose_earlier (v0.faults (Disk Ckpt1)) (v3.faults (Disk Ckpt1)) (v5.faults (Disk Ckpt1)) (omega (arith, f1, f2, f3)) (rose_later (v3.faults (Disk Ckpt1)) (v4.faults (Disk Ckpt1)) (v5.faults (Disk Ckpt1)) (c.bring.ensures.failed1 is dead4) (omega (arith, f5))) in
+    let read : ReadsSeen C.reads (disk_now v0 Ckpt1).bytes c.in_ok-first.first = subst (λ (l : List ℕ). ReadsSeen C.reads l c.in_ok-first.first) (c.see_first.ensures.bytes told Ckpt1) (c.in_ok-first.ensures.reads told) in
+    let at : (pages : List Page) → c.in_ok-first.first ≡ Some pages → IsAtLevel (level (bytes_of pages)) s.level b.first = λ pages is. subst (λ (p : Place). IsAtLevel (level (bytes_of pages)) s.level p) (sym c.see_second.ensures.first) (one pages is).at in
+    left_why C.reads (disk_now v0 Ckpt1).bytes s.level (C.room b.pair.first.copy) (C.room f.pair.first.copy) b.first c.in-Some.found (Rose (v0.faults (Disk Ckpt1)) (v5.faults (Disk Ckpt1))) c.in_ok-first.first d.pair.first.alive unseen failed read at
+    (λ pages is not. c.in-Some.ensures.unfit1 (ap (λ h. h.alive) c.see_second.ensures.pair_first ∙ (one pages is).is_alive) not)
+    (λ not. ap (λ p. C.room p.first.copy) c.give_fate.ensures.pair ∙ ap C.room (c.bring.ensures.room1 dead4 not ∙ c.choose_any.ensures.copy1))
+
+pub returns-clause-left2 : goal.returns-clause-left2
+returns-clause-left2 g c told alive dead =
+    let P = g.P.Plant in
+    let C = g.C.Copying in
+    let s = c.args.self.now in
+    let a = c.see_first.new.self in
+    let b = c.see_second.new.self in
+    let d = c.choose_any.new.self in
+    let e = c.bring.new.self in
+    let f = c.give_fate.new.self in
+    let v0 = P.view s.plant in
+    let v1 = P.view a.plant in
+    let v2 = P.view b.plant in
+    let v3 = P.view d.plant in
+    let v4 = P.view e.plant in
+    let v5 = P.view f.plant in
+    let queue : Queue = run s.base (kept_all s.journal.batches ++ entries_in s.current) in
+    let f1 = c.see_first.ensures.goes.faults (Disk Ckpt2) in
+    let f2 = c.see_second.ensures.goes.faults (Disk Ckpt2) in
+    let f3 = c.choose_any.ensures.goes.faults (Disk Ckpt2) in
+    let f4 = c.bring.ensures.goes.faults (Disk Ckpt2) in
+    let f5 : v5.faults (Disk Ckpt2) ≡ v4.faults (Disk Ckpt2) = ap (λ p. (P.view p).faults (Disk Ckpt2)) c.give_fate.ensures.plant in
+    let dead4 : e.pair.second.alive ≡ false = sym (ap (λ p. p.second.alive) c.give_fate.ensures.pair) ∙ dead in
+    let one : (pages : List Page) → c.in_ok-second.second ≡ Some pages → OneSeen (run a.base (kept_all a.journal.batches ++ entries_in a.current)) (entries_in a.current) g.P.Plant.tells a.level b.pair.second.alive (C.count b.pair.second.copy) b.second pages = λ pages is. subst (λ (o : Option (List Page)). IsOneSeen (run a.base (kept_all a.journal.batches ++ entries_in a.current)) (entries_in a.current) g.P.Plant.tells a.level b.pair.second.alive (C.count b.pair.second.copy) b.second o) is c.in_ok-second.ensures.seen in
+    let alive1 = ap (λ h. h.alive) c.see_first.ensures.pair_second ∙ alive in
+    let unseen : c.in_ok-second.second ≡ None → Rose (v0.faults (Disk Ckpt2)) (v5.faults (Disk Ckpt2)) = λ none. rose_earlier (v0.faults (Disk Ckpt2)) (v1.faults (Disk Ckpt2)) (v5.faults (Disk Ckpt2)) f1 (rose_later (v1.faults (Disk Ckpt2)) (v2.faults (Disk Ckpt2)) (v5.faults (Disk Ckpt2)) (c.in_ok-second.ensures.unseen told none alive1) (omega (arith, f3, f4, f5))) in
+    let failed : d.pair.second.alive ≡ true → Rose (v0.faults (Disk Ckpt2)) (v5.faults (Disk Ckpt2)) = λ is. rose_earlier (v0.faults (Disk Ckpt2)) (v3.faults (Disk Ckpt2)) (v5.faults (Disk Ckpt2)) (omega (arith, f1, f2, f3)) (rose_later (v3.faults (Disk Ckpt2)) (v4.faults (Disk Ckpt2)) (v5.faults (Disk Ckpt2)) (c.bring.ensures.failed2 is dead4) (omega (arith, f5))) in
+    let read : ReadsSeen C.reads (disk_now v0 Ckpt2).bytes c.in_ok-second.second = subst (λ (l : List ℕ). ReadsSeen C.reads l c.in_ok-second.second) (c.see_second.ensures.bytes told Ckpt2 ∙ c.see_first.ensures.bytes told Ckpt2) (c.in_ok-second.ensures.reads told) in
+    let at : (pages : List Page) → c.in_ok-second.second ≡ Some pages → IsAtLevel (level (bytes_of pages)) s.level b.second = λ pages is. subst (λ (n : ℕ). IsAtLevel (level (bytes_of pages)) n b.second) c.see_first.ensures.level (one pages is).at in
+    left_why C.reads (disk_now v0 Ckpt2).bytes s.level (C.room b.pair.second.copy) (C.room f.pair.second.copy) b.second c.in-Some.found (Rose (v0.faults (Disk Ckpt2)) (v5.faults (Disk Ckpt2))) c.in_ok-second.second d.pair.second.alive unseen failed read at
+    (λ pages is not. c.in-Some.ensures.unfit2 ((one pages is).is_alive) not)
+    (λ not. ap (λ p. C.room p.second.copy) c.give_fate.ensures.pair ∙ ap C.room (c.bring.ensures.room2 dead4 not ∙ c.choose_any.ensures.copy2))
