@@ -1,0 +1,6 @@
+pub mod Orders
+pub mod LevelLemmas
+pub mod Seeing
+pub mod Finding
+pub mod Starts
+pub mod Begun

@@ -1,0 +1,31 @@
+-- Lists in ascending number, and what stands in slots.
+use Rattle.std.proofs.Common.{◌≡◌, ℕ, ◌+◌, ◌<◌, nat_le, if◌then◌else◌, List, [], ◌∷◌, ◌++◌, length, take, get_or, Option, Some, None, refl, ap, ◌∙◌}
+use Rattle.std.proofs.lemmas.List.{take_more}
+use Rattle.ckpt_pages.specs.QueueOf.{used, insert_by, in_order}
+use Rattle.track_groups.specs.Places.{insert_by as insert_placed, in_order as in_placed_order}
+
+module _ {X : Type 0} (number : X → ℕ) where
+  same_insert : (x : X) (ys : List X) → insert_placed number x ys ≡ insert_by number x ys
+  same_insert x [] = refl
+  same_insert x (y ∷ ys) = ap (λ (zs : List X). if nat_le (number x) (number y) then x ∷ y ∷ ys else y ∷ zs) (same_insert x ys)
+
+  pub same_order : (xs : List X) → in_placed_order number xs ≡ in_order number xs
+  same_order [] = refl
+  same_order (x ∷ xs) = ap (insert_placed number x) (same_order xs) ∙ same_insert x (in_order number xs)
+
+-- one more slot
+used_last : {X : Type 0} (xs : List (Option X)) (s : Option X) → used (xs ++ s ∷ []) ≡ used xs ++ used (s ∷ [])
+used_last [] s = refl
+used_last (None ∷ xs) s = used_last xs s
+used_last (Some x ∷ xs) s = ap (λ zs. x ∷ zs) (used_last xs s)
+
+used_end : {X : Type 0} (xs : List (Option X)) → used (xs ++ None ∷ []) ≡ used xs
+used_end [] = refl
+used_end (None ∷ xs) = used_end xs
+used_end (Some x ∷ xs) = ap (λ zs. x ∷ zs) (used_end xs)
+
+pub used_with : {X : Type 0} (xs : List (Option X)) (i : ℕ) (x : X) → i < length xs → get_or xs i (Some x) ≡ Some x → used (take (i + 1) xs) ≡ used (take i xs) ++ x ∷ []
+used_with xs i x inside is = rw (take_more xs i (Some x) inside, is) (used_last (take i xs) (Some x))
+
+pub used_without : {X : Type 0} (xs : List (Option X)) (i : ℕ) → i < length xs → get_or xs i None ≡ None → used (take (i + 1) xs) ≡ used (take i xs)
+used_without xs i inside is = rw (take_more xs i None inside, is) (used_end (take i xs))

@@ -1,0 +1,78 @@
+use Rattle.std.proofs.Common.{◌∙◌, ◌≤◌, false, Bool, ℕ, length, Err, refl, sym, ap, subst}
+use Rattle.mas_types.specs.declared.ids.Dev.TheVariants.{Ckpt1, Ckpt2}
+use Rattle.spool_disk.specs.View.{disk_now}
+use Rattle.ckpt_copy.specs.Pages.{bytes_of, level}
+use Rattle.warm_start.specs.Starting.{Starts}
+use Rattle.warm_start.proofs.Begun.{stand_of, rested_copy, found_later, held_all, held_back, lost_both}
+use Rattle.warm_start.proofs.starting.warm.Goals as goal
+
+pub returns-in_default-clause-lost : goal.returns-in_default-clause-lost
+returns-in_default-clause-lost g c = λ why.
+    let old = g.P.Plant.view c.args.plant in
+    let new = g.P.Plant.view c.bring.new.plant in
+    let p = c.bring.new.pair in
+    let both = lost_both c.in_default.field-0 p.first.alive p.second.alive (λ e. c.in_default.ensures.both (ap Err e)) (λ e. c.in_default.ensures.halts (ap Err e)) in
+    subst (λ (a : Bool). Starts a false old new) both.0 (subst (λ (b : Bool). Starts p.first.alive b old new) both.1 (c.bring.ensures.starts old c.in-Ok.ensures.starts))
+
+pub returns-in_default-clause-held : goal.returns-in_default-clause-held
+returns-in_default-clause-held g c = λ told.
+    let view = g.P.Plant.view in
+    held_back g.C.Copying.reads (bytes_of c.in-Ok.ready.start.found.pages) (view c.args.plant) (view c.find.new.plant) (view c.bring.new.plant) (c.find.ensures.during told) (c.bring.ensures.during told)
+
+pub make-complex-requires-clause-first : goal.make-complex-requires-clause-first
+make-complex-requires-clause-first g c told =
+    let C = g.C.Copying in
+    let v = g.P.Plant.view c.bring.new.plant in
+    let n = c.bring.new.pair.first in
+    let F = c.in-Ok.ready.start.found in
+    let chosen = c.in-Ok.ensures.chosen in
+    ∣ rested_copy C.reads c.in-Ok.ready.base v.now c.pages_level-level.result (C.rests n.copy) (C.holds n.copy) n.alive (disk_now v Ckpt1) (bytes_of F.pages)
+    (sym (c.pages_level-level.ensures ∙ ap (λ ps. level (bytes_of ps)) c.as_slice.ensures)) (stand_of c.in-Ok.ready.base F.pages F.tables chosen.usable.0 c.in-Ok.ensures.base)
+    (λ is. c.in-Ok-bring.ensures.rests1 told is) (λ dead lt. c.bring.ensures.gone1 told (c.find.ensures.gone1 told) refl dead lt) ∣₁
+
+pub make-complex-requires-clause-second : goal.make-complex-requires-clause-second
+make-complex-requires-clause-second g c told =
+    let C = g.C.Copying in
+    let v = g.P.Plant.view c.bring.new.plant in
+    let n = c.bring.new.pair.second in
+    let F = c.in-Ok.ready.start.found in
+    let chosen = c.in-Ok.ensures.chosen in
+    ∣ rested_copy C.reads c.in-Ok.ready.base v.now c.pages_level-level.result (C.rests n.copy) (C.holds n.copy) n.alive (disk_now v Ckpt2) (bytes_of F.pages)
+    (sym (c.pages_level-level.ensures ∙ ap (λ ps. level (bytes_of ps)) c.as_slice.ensures)) (stand_of c.in-Ok.ready.base F.pages F.tables chosen.usable.0 c.in-Ok.ensures.base)
+    (λ is. c.in-Ok-bring.ensures.rests2 told is) (λ dead lt. c.bring.ensures.gone2 told (c.find.ensures.gone2 told) refl dead lt) ∣₁
+
+pub returns-clause-fresh : goal.returns-clause-fresh
+returns-clause-fresh g c told =
+    let m = c.make-complex.ensures in
+    rw (m.plant, m.base, m.since) (m.fresh told)
+
+pub returns-clause-started : goal.returns-clause-started
+returns-clause-started g c =
+    let C = g.C.Copying in
+    let view = g.P.Plant.view in
+    let old = view c.args.plant in
+    let mid = view c.find.new.plant in
+    let new = view c.bring.new.plant in
+    let n = c.bring.new.pair in
+    let F = c.in-Ok.ready.start.found in
+    let e = c.in-Ok.ensures in
+    let k = c.in-Ok-bring.ensures in
+    let m = c.make-complex.ensures in
+    let size = c.find.ensures.acted.goes.size in
+    rw (m.plant, m.pair, m.base, m.level) (record {
+      usable = e.chosen.usable;
+      sized = e.chosen.sized;
+      leveled = e.levels;
+      base_is = e.base;
+      at_level = c.pages_level-level.ensures ∙ ap (λ ps. level (bytes_of ps)) c.as_slice.ensures;
+      found = λ told. found_later C.reads old mid new (bytes_of F.pages) (c.bring.ensures.during told).goes (e.chosen.found told);
+      starts = c.bring.ensures.starts old e.starts;
+      some = k.ok;
+      large1 = subst (λ (s : ℕ). C.needs (length F.pages) ≤ s) (size Ckpt1) e.large.0;
+      large2 = subst (λ (s : ℕ). C.needs (length F.pages) ≤ s) (size Ckpt2) e.large.1;
+      as_many1 = c.bring.ensures.as_many1;
+      as_many2 = c.bring.ensures.as_many2;
+      reads1 = λ told is. g.met.C.Copying.rests_now n.first.copy (bytes_of F.pages) (disk_now new Ckpt1) (k.rests1 told is);
+      reads2 = λ told is. g.met.C.Copying.rests_now n.second.copy (bytes_of F.pages) (disk_now new Ckpt2) (k.rests2 told is);
+      held = λ told. held_all C.reads (bytes_of F.pages) old mid new (c.find.ensures.during told) (c.bring.ensures.during told);
+    })

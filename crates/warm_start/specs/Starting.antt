@@ -1,0 +1,172 @@
+-- What a start finds and does.
+use Rattle.std.specs.Prelude.{◌≡◌, ◌≢◌, ◌⊎◌, ℕ, ◌+◌, ◌≤◌, ◌<◌, Bool, true, false, List, length, Option, Some, None}
+use Rattle.mas_types.specs.declared.ids.Dev.{Dev}
+use Rattle.mas_types.specs.declared.ids.Dev.TheVariants.{Ckpt1, Ckpt2, Spool}
+use Rattle.mas_types.specs.declared.ids.Page.{Page}
+use Rattle.mas_types.specs.declared.answers.CopyState.{CopyState}
+use Rattle.mas_types.specs.declared.answers.CopyState.TheVariants as state
+use Rattle.mas_types.specs.declared.queues.Queue.{Queue}
+use Rattle.spool_disk.specs.declared.plant.Part.TheVariants.{Disk as DiskPart}
+use Rattle.spool_disk.specs.View.{View, Disk, IsImage, LeavesOnly, disk_now}
+use Rattle.spool_disk.specs.Acts.{Goes, Rose, next}
+use Rattle.ckpt_copy.specs.Pages.{bytes_of, level}
+use Rattle.ckpt_pages.specs.declared.tables.Tables.{Tables}
+use Rattle.ckpt_pages.specs.QueueOf.{queue_of}
+use Rattle.duplex_pair.specs.Halves.{SomeAlive}
+use Rattle.duplex_pair.specs.Looks.{WasLost}
+use Rattle.mas_complex.specs.Meaning.{no_deck, no_print}
+use Rattle.ckpt_copy.specs.Changes.{NoMore}
+use Rattle.duplex_pair.specs.Both.{BothMeanwhile}
+use Rattle.warm_start.specs.declared.choosing.Start.{Start}
+use Rattle.warm_start.specs.declared.choosing.StartNo.{StartNo}
+use Rattle.warm_start.specs.declared.choosing.StartNo.TheVariants as no_start
+use Rattle.warm_start.specs.Usable.{AreOf, AreUsable, HaveSize}
+use Rattle.warm_start.specs.Levels.{levels_of}
+use Rattle.warm_start.specs.Choosing.{goes}
+use Rattle.warm_start.specs.Judging.{Has, IsUnread}
+
+-- THE RULE: which pages are found
+
+-- what a start saw of a copy: what its bytes read as, or nothing where an act on it failed
+abbrev pub IsSeen : (List ℕ → Option (List ℕ)) → Dev → View → View → Option (List ℕ) → Type 0
+IsSeen reads dev old new None = Rose (old.faults (DiskPart dev)) (new.faults (DiskPart dev)) ⊎ (reads (disk_now old dev).bytes ≡ None)
+IsSeen reads dev old new (Some bytes) = (old.lost (DiskPart dev) ≡ false) × (reads (disk_now old dev).bytes ≡ Some bytes)
+
+-- of two copies that read so, these pages are those that count: usable ones of greatest level, the first copy's on a tie
+abbrev pub IsBest : Option (List ℕ) → Option (List ℕ) → List ℕ → Type 0
+IsBest one two found =
+    ((one ≡ Some found) × ((bytes : List ℕ) → two ≡ Some bytes → AreUsable bytes → level bytes ≤ level found))
+    ⊎ ((two ≡ Some found) × ((bytes : List ℕ) → one ≡ Some bytes → AreUsable bytes → level bytes < level found))
+
+-- the pages that a start finds
+pub record IsFound (reads : List ℕ → Option (List ℕ)) (old new : View) (found : List ℕ) : Type 0 where
+  pub one : Option (List ℕ)
+  pub two : Option (List ℕ)
+  pub seen1 : IsSeen reads Ckpt1 old new one
+  pub seen2 : IsSeen reads Ckpt2 old new two
+  pub usable : AreUsable found
+  pub best : IsBest one two found
+
+-- A COPY BESIDE THE PAGES FOUND
+
+-- it has them, or it is one level behind them and has room for a put
+pub record Fitting {C : Type 0} (count room : C → ℕ) (room_most : ℕ) (ready : C → View → Type 0) (rests : C → List ℕ → Disk → Type 0) (tells : Type 0) (dev : Dev) (v : View) (copy : C) (alive : Bool) (found : ℕ) (pages : List Page) : Type 0 where
+  pub own : List Page
+  pub has : Has count room room_most ready rests tells dev v copy alive found own
+  pub as_many : length pages ≡ length own
+  pub either :
+      ((level (bytes_of own) ≡ level (bytes_of pages)) × (bytes_of own ≡ bytes_of pages))
+      ⊎ ((level (bytes_of pages) ≡ level (bytes_of own) + 1) × (1 ≤ room copy))
+
+-- What stands once a copy was chosen: its pages can be used and are those that count, and each copy that doesn't go has them or
+-- lags behind them.
+pub record Chosen {C : Type 0} (count room : C → ℕ) (room_most : ℕ) (ready : C → View → Type 0) (reads : List ℕ → Option (List ℕ)) (rests : C → List ℕ → Disk → Type 0) (tells : Type 0)
+    (old v : View) (first second : C) (alive1 alive2 : Bool) (found1 found2 : ℕ) (start : Start) : Type 0 where
+  pub usable : AreOf start.found.pages start.found.tables
+  pub sized : HaveSize start.found.pages
+  pub found : tells → IsFound reads old v (bytes_of start.found.pages)
+  pub fits1 : goes Ckpt1 start ≡ false → alive1 ≡ true → Fitting count room room_most ready rests tells Ckpt1 v first alive1 found1 start.found.pages
+  pub fits2 : goes Ckpt2 start ≡ false → alive2 ≡ true → Fitting count room room_most ready rests tells Ckpt2 v second alive2 found2 start.found.pages
+  pub one :
+      ((goes Ckpt1 start ≡ false) × Has count room room_most ready rests tells Ckpt1 v first alive1 found1 start.found.pages)
+      ⊎ ((goes Ckpt2 start ≡ false) × Has count room room_most ready rests tells Ckpt2 v second alive2 found2 start.found.pages)
+
+-- WHAT A START DOES
+
+-- A call that may lose one copy, which counted as alive before and counts so after.
+pub record MayLose (dev : Dev) (was is : Bool) (old new : View) : Type 0 where
+  pub goes : Goes old new
+  pub alive : is ≡ true → was ≡ true
+  pub counted : was ≡ true → is ≡ false → new.loses dev ≡ next (old.loses dev)
+  pub else_counted : (d : Dev) → (d ≢ dev) ⊎ (is ≡ was) → new.loses d ≡ old.loses d
+  pub is_lost : was ≡ true → is ≡ false → new.lost (DiskPart dev) ≡ true
+  pub else_lost : (d : Dev) → (d ≢ dev) ⊎ (is ≡ was) → new.lost (DiskPart d) ≡ old.lost (DiskPart d)
+  pub stops : (m : ℕ) → new.stops m ≡ old.stops m
+
+-- a copy is lost once by a call, at most
+abbrev pub IsOnce : Dev → Bool → View → View → Type 0
+IsOnce dev is old new = (new.loses dev ≡ old.loses dev) ⊎ ((is ≡ false) × (new.loses dev ≡ next (old.loses dev)))
+
+-- why a copy counts as lost: an act on it failed, or the start lost it
+abbrev pub WasTaken : Dev → View → View → Type 0
+WasTaken dev old new = Rose (old.faults (DiskPart dev)) (new.faults (DiskPart dev)) ⊎ Rose (old.loses dev) (new.loses dev)
+
+-- A start after which these copies count as alive. A copy counts so exactly where its device isn't lost.
+pub record Starts (is1 is2 : Bool) (old new : View) : Type 0 where
+  pub goes : Goes old new
+  pub there1 : is1 ≡ true → new.lost (DiskPart Ckpt1) ≡ false
+  pub there2 : is2 ≡ true → new.lost (DiskPart Ckpt2) ≡ false
+  pub lost1 : is1 ≡ false → new.lost (DiskPart Ckpt1) ≡ true
+  pub lost2 : is2 ≡ false → new.lost (DiskPart Ckpt2) ≡ true
+  pub taken1 : is1 ≡ false → WasTaken Ckpt1 old new
+  pub taken2 : is2 ≡ false → WasTaken Ckpt2 old new
+  pub once1 : IsOnce Ckpt1 is1 old new
+  pub once2 : IsOnce Ckpt2 is2 old new
+  pub else_once : (d : Dev) → d ≢ Ckpt1 → d ≢ Ckpt2 → new.loses d ≡ old.loses d
+  pub stops : (m : ℕ) → new.stops m ≡ old.stops m
+
+-- during a start each image of a copy is one of before, or reads as the copy did or as the pages found
+abbrev pub IsHeld : (List ℕ → Option (List ℕ)) → Disk → List ℕ → Disk → Type 0
+IsHeld reads was found disk = LeavesOnly disk (λ image. IsImage was image ⊎ ((reads image ≡ reads was.bytes) ⊎ (reads image ≡ Some found)))
+
+-- WHY A START GIVES NOTHING
+
+-- the state of a copy that can't be used
+abbrev pub IsState : (List ℕ → Option (List ℕ)) → Type 0 → Dev → View → Bool → CopyState → Type 0
+IsState reads tells dev v alive state.Lost = WasLost dev v alive
+IsState reads tells dev v alive state.Unread = IsUnread reads tells dev v alive
+IsState reads tells dev v alive state.Unsound =
+    (alive ≡ true) × (v.lost (DiskPart dev) ≡ false) × (tells → (bytes : List ℕ) × (reads (disk_now v dev).bytes ≡ Some bytes) × (AreUsable bytes → ⊥))
+
+-- not both are lost
+abbrev pub AreNotLost : CopyState → CopyState → Type 0
+AreNotLost state.Lost state.Lost = ⊥
+AreNotLost _ _ = Unit {0}
+
+-- a device of the checkpoint is too small for the pages found, the first such
+abbrev pub IsSmall : ℕ → Dev → ℕ → View → Type 0
+IsSmall needed Ckpt1 size v = (size ≡ v.size Ckpt1) × (size < needed)
+IsSmall needed Ckpt2 size v = (size ≡ v.size Ckpt2) × (size < needed) × (needed ≤ v.size Ckpt1)
+IsSmall needed (Spool n) size v = ⊥
+
+abbrev pub IsSmallAt : ℕ → View → StartNo → Type 0
+IsSmallAt needed v (no_start.DeviceSize dev size) = IsSmall needed dev size v
+IsSmallAt needed v _ = ⊥
+
+-- the cause of each answer, where these copies count as alive then
+abbrev pub IsCauseOf : (List ℕ → Option (List ℕ)) → Type 0 → (ℕ → ℕ) → View → View → Bool → Bool → StartNo → Type 0
+IsCauseOf reads tells needs old new alive1 alive2 (no_start.NotFormatted first second) =
+    IsState reads tells Ckpt1 new alive1 first × IsState reads tells Ckpt2 new alive2 second × AreNotLost first second
+IsCauseOf reads tells needs old new alive1 alive2 no_start.BothLost = (alive1 ≡ false) × (alive2 ≡ false)
+IsCauseOf reads tells needs old new alive1 alive2 (no_start.DeviceSize dev size) =
+    (found : List Page) × (tells → IsFound reads old new (bytes_of found)) × IsSmall (needs (length found)) dev size new
+IsCauseOf reads tells needs old new alive1 alive2 no_start.NoMemory = Unit {0}
+
+-- a start that only looked: no byte of a copy changed
+abbrev pub OnlyLooked : View → View → Type 0
+OnlyLooked old new = BothMeanwhile (NoMore (disk_now old Ckpt1)) (NoMore (disk_now old Ckpt2)) old new
+
+-- during a start that gave nothing an image of a copy is one of before, or reads as the copy did or as usable pages of one copy
+pub record HeldBack (reads : List ℕ → Option (List ℕ)) (old new : View) : Type 0 where
+  pub found : List ℕ
+  pub held : BothMeanwhile (IsHeld reads (disk_now old Ckpt1) found) (IsHeld reads (disk_now old Ckpt2) found) old new
+
+-- A START
+
+-- The copies that count as alive have the pages found, which spell these tables; the base is their queue.
+pub record HasStarted {C : Type 0} (count : C → ℕ) (needs : ℕ → ℕ) (reads : List ℕ → Option (List ℕ)) (tells : Type 0) (base : Queue) (t : Tables) (pages : List Page) (levels : List ℕ) (at : ℕ) (first : C) (alive1 : Bool) (second : C) (alive2 : Bool) (old new : View) : Type 0 where
+  pub usable : AreOf pages t
+  pub sized : HaveSize pages
+  pub leveled : levels ≡ levels_of pages
+  pub base_is : base ≡ queue_of t no_deck no_print
+  pub at_level : at ≡ level (bytes_of pages)
+  pub found : tells → IsFound reads old new (bytes_of pages)
+  pub starts : Starts alive1 alive2 old new
+  pub some : SomeAlive alive1 alive2
+  pub large1 : needs (length pages) ≤ old.size Ckpt1
+  pub large2 : needs (length pages) ≤ old.size Ckpt2
+  pub as_many1 : alive1 ≡ true → length pages ≡ count first
+  pub as_many2 : alive2 ≡ true → length pages ≡ count second
+  pub reads1 : tells → alive1 ≡ true → reads (disk_now new Ckpt1).bytes ≡ Some (bytes_of pages)
+  pub reads2 : tells → alive2 ≡ true → reads (disk_now new Ckpt2).bytes ≡ Some (bytes_of pages)
+  pub held : tells → BothMeanwhile (IsHeld reads (disk_now old Ckpt1) (bytes_of pages)) (IsHeld reads (disk_now old Ckpt2) (bytes_of pages)) old new

@@ -1,0 +1,16 @@
+//! A warm start: what the copies of the checkpoint hold is found, the copy that counts, the queue that it stands for, and what
+//! becomes of the other copy.
+#![tactic(auto)]
+
+mod choosing;
+mod levels;
+mod looking;
+mod queues;
+mod sound_pages;
+mod starting;
+
+pub use choosing::{Good, Judged, Start, StartNo, choose, judge};
+pub use levels::law_of_found_levels;
+pub use queues::{law_of_found_queues, queue_of};
+pub use sound_pages::usable;
+pub use starting::{Started, Unstarted, warm};

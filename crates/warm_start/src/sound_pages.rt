@@ -1,0 +1,59 @@
+//! Pages that a start may begin with.
+ghost use Rattle.std.specs.Prelude.{◌≡◌, true, false, length, IfOk, IfSome, IfNone};
+ghost use Rattle.mas_types.specs.Limits.{page_bytes};
+ghost use Rattle.ckpt_pages.specs.Shape.{HasShape};
+ghost use Rattle.warm_start.specs.Usable.{IsUsable, AreOf, MayStart, HaveSize};
+
+use ckpt_pages::{PageNo, Tables, decode, sound};
+use duplex_pair::pages_level;
+use mas_types::{NoMemory, Page};
+use std::alloc::Global;
+
+/// From here on a level or an order leaves a run no room: no checkpoint of this program comes so far.
+const TOO_HIGH: u64 = 1 << 62;
+
+// A run may start with these pages and the tables that they spell.
+fn may_start(pages: &[Page], tables: &Tables) -> bool
+    requires { HasShape tables.now }
+    ensures may { result ≡ true → MayStart pages.now tables.now }
+    ensures not { result ≡ false → MayStart pages.now tables.now → ⊥ }
+{
+    if pages_level(pages) >= TOO_HIGH || tables.order >= TOO_HIGH {
+        return false;
+    }
+    sound(tables).is_ok()
+}
+
+/// The tables that the pages of a checkpoint spell, where these are sound and a run finds levels and orders enough above
+/// theirs; none exactly where the pages spell no tables, or other ones.
+pub fn usable(alloc: Global, pages: &[Page]) -> Result<Option<Tables>, NoMemory>
+    ensures tables { IfOk result (λ found. IfSome found (AreOf pages.now)) }
+    ensures none { IfOk result (λ found. IfNone found (IsUsable pages.now → ⊥)) }
+{
+    let tables = match decode(alloc, pages) {
+        Ok(tables) => tables,
+        Err(PageNo::BadPage(_)) => return Ok(None),
+        Err(PageNo::NoMemory) => return Err(NoMemory),
+    };
+    if may_start(pages, &tables) {
+        Ok(Some(tables))
+    } else {
+        Ok(None)
+    }
+}
+
+fn bytes_in(page: &Page) -> &[u8]
+    ensures bytes { result.now ≡ page.now.0 }
+    ensures size { length result.now ≡ page_bytes }
+{
+    &page.0
+}
+
+/// Pages have the size of a page each.
+pub(crate) fn law_of_page_sizes(pages: &[Page])
+    ensures { HaveSize pages.now }
+{
+    for page in pages {
+        let _bytes = bytes_in(page);
+    }
+}
