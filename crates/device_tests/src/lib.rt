@@ -5,3 +5,5 @@
 mod copies;
 #[cfg(test)]
 mod plants;
+#[cfg(test)]
+mod printers;
