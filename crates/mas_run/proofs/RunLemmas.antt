@@ -31,9 +31,7 @@ use Rattle.spool_disk.specs.Acts.{Goes, Rose, top}
 use Rattle.ckpt_copy.specs.Areas.{reads}
 use Rattle.duplex_pair.specs.Halves.{SomeAlive, IsBothLost, IsCkpt}
 use Rattle.duplex_pair.specs.Both.{PairActed}
-use Rattle.ckpt_copy.specs.Pages.{level}
 use Rattle.mas_complex.specs.declared.places.Place.TheVariants.{Before}
-use Rattle.mas_complex.specs.Meaning.{StandFor}
 use Rattle.mas_complex.specs.Crash.{setting, CopyAt, copy_of}
 use Rattle.mas_complex.specs.Headline.{Headline, LeavesQueue, AreToldKept, whole}
 use Rattle.mas_run.specs.declared.running.StepNo.{StepNo}

@@ -30,9 +30,9 @@ make-complex-requires-clause-begins g c told =
     let queue : queue_of k.tables ≡ c.in-Ok.base = ap queue_of c.in-Ok.ensures.tables ∙ sym c.in-Ok.ensures.base in
     let stand : StandFor c.in-Ok.base (bytes_of k.pages) = subst (λ (Q : Queue). StandFor Q (bytes_of k.pages)) queue (drawn_stand k.tables k.level k.levels k.pages c.in-Ok.ensures.drawn) in
     let first = formed_copy c.in-Ok.base v.now (λ pages disk. Rests n.first.copy.pages n.first.copy.second n.first.copy.stale pages disk) (λ was next disk. Holds n.first.copy.pages n.first.copy.second n.first.copy.stale was next disk) n.first.alive (disk_now v Ckpt1) (bytes_of k.pages)
-        (λ is. rw c.as_slice.ensures at (f.formed1 told is)) (λ not lt. f.gone1 told c.new-pair.ensures.alive.0 not lt) in
+    (λ is. rw c.as_slice.ensures at (f.formed1 told is)) (λ not lt. f.gone1 told c.new-pair.ensures.alive.0 not lt) in
     let second = formed_copy c.in-Ok.base v.now (λ pages disk. Rests n.second.copy.pages n.second.copy.second n.second.copy.stale pages disk) (λ was next disk. Holds n.second.copy.pages n.second.copy.second n.second.copy.stale was next disk) n.second.alive (disk_now v Ckpt2) (bytes_of k.pages)
-        (λ is. rw c.as_slice.ensures at (f.formed2 told is)) (λ not lt. f.gone2 told c.new-pair.ensures.alive.1 not lt) in
+    (λ is. rw c.as_slice.ensures at (f.formed2 told is)) (λ not lt. f.gone2 told c.new-pair.ensures.alive.1 not lt) in
     ∣ record { pages = bytes_of k.pages; stands = record { at_level = drawn_level k.tables k.level k.levels k.pages c.in-Ok.ensures.drawn; queue = stand }; first_at = first; second_at = second } ∣₁
 
 pub play_asked-requires-clause-fresh : goal.play_asked-requires-clause-fresh
