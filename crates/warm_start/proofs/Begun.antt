@@ -32,12 +32,10 @@ stand_of base pages t is base_is = record {
   stand = record { tables = t; levels = is.levels; fit = is.fit; ages = is.ages; spell = is.spell; is = sym base_is };
 }
 
-pub rested_copy : (reads : List ℕ → Option (List ℕ)) (base : Queue) (now reached : ℕ) (rests : List ℕ → Disk → Type 0) (holds : List ℕ → List ℕ → Disk → Type 0) (alive : Bool) (disk : Disk) (pages : List ℕ) → level pages ≡ reached → StandFor base pages
-    → (alive ≡ true → rests pages disk) → (alive ≡ false → now < top → disk.lost ≡ true) → CopyAt (setting reads base now) reached [] [] (copy_of rests holds alive Before) now disk
-rested_copy reads base now reached rests holds alive disk pages at_level stand rested gone = record {
-  at = λ is. record { was = pages; stands = record { at_level = at_level; queue = stand }; here = rested is };
-  gone = gone;
-}
+-- a copy that rests these pages, or is lost
+pub rested_copy : (reads : List ℕ → Option (List ℕ)) (base : Queue) (now : ℕ) (rests : List ℕ → Disk → Type 0) (holds : List ℕ → List ℕ → Disk → Type 0) (alive : Bool) (disk : Disk) (pages : List ℕ)
+    → (alive ≡ true → rests pages disk) → (alive ≡ false → now < top → disk.lost ≡ true) → CopyAt (setting reads base now) pages None (copy_of rests holds alive Before) now disk
+rested_copy reads base now rests holds alive disk pages rested gone = record { at = rested; gone = gone }
 
 seen_later : (reads : List ℕ → Option (List ℕ)) (dev : Dev) (old mid new : View) → Goes mid new → (seen : Option (List ℕ)) → IsSeen reads dev old mid seen → IsSeen reads dev old new seen
 seen_later reads dev old mid new goes None seen = ⊎_elim (λ r. inl (omega (arith, r, goes.faults (DiskPart dev)))) inr seen

@@ -19,27 +19,21 @@ returns-in_default-clause-held g c = λ told.
     let view = g.P.Plant.view in
     held_back g.C.Copying.reads (bytes_of c.in-Ok.ready.start.found.pages) (view c.args.plant) (view c.find.new.plant) (view c.bring.new.plant) (c.find.ensures.during told) (c.bring.ensures.during told)
 
-pub make-complex-requires-clause-first : goal.make-complex-requires-clause-first
-make-complex-requires-clause-first g c told =
+pub make-complex-requires-clause-begins : goal.make-complex-requires-clause-begins
+make-complex-requires-clause-begins g c told =
     let C = g.C.Copying in
     let v = g.P.Plant.view c.bring.new.plant in
-    let n = c.bring.new.pair.first in
+    let n = c.bring.new.pair in
     let F = c.in-Ok.ready.start.found in
-    let chosen = c.in-Ok.ensures.chosen in
-    ∣ rested_copy C.reads c.in-Ok.ready.base v.now c.pages_level-level.result (C.rests n.copy) (C.holds n.copy) n.alive (disk_now v Ckpt1) (bytes_of F.pages)
-    (sym (c.pages_level-level.ensures ∙ ap (λ ps. level (bytes_of ps)) c.as_slice.ensures)) (stand_of c.in-Ok.ready.base F.pages F.tables chosen.usable.0 c.in-Ok.ensures.base)
-    (λ is. c.in-Ok-bring.ensures.rests1 told is) (λ dead lt. c.bring.ensures.gone1 told (c.find.ensures.gone1 told) refl dead lt) ∣₁
-
-pub make-complex-requires-clause-second : goal.make-complex-requires-clause-second
-make-complex-requires-clause-second g c told =
-    let C = g.C.Copying in
-    let v = g.P.Plant.view c.bring.new.plant in
-    let n = c.bring.new.pair.second in
-    let F = c.in-Ok.ready.start.found in
-    let chosen = c.in-Ok.ensures.chosen in
-    ∣ rested_copy C.reads c.in-Ok.ready.base v.now c.pages_level-level.result (C.rests n.copy) (C.holds n.copy) n.alive (disk_now v Ckpt2) (bytes_of F.pages)
-    (sym (c.pages_level-level.ensures ∙ ap (λ ps. level (bytes_of ps)) c.as_slice.ensures)) (stand_of c.in-Ok.ready.base F.pages F.tables chosen.usable.0 c.in-Ok.ensures.base)
-    (λ is. c.in-Ok-bring.ensures.rests2 told is) (λ dead lt. c.bring.ensures.gone2 told (c.find.ensures.gone2 told) refl dead lt) ∣₁
+    let base = c.in-Ok.ready.base in
+    let pages = bytes_of F.pages in
+    let first = rested_copy C.reads base v.now (C.rests n.first.copy) (C.holds n.first.copy) n.first.alive (disk_now v Ckpt1) pages
+        (λ is. c.in-Ok-bring.ensures.rests1 told is) (λ dead lt. c.bring.ensures.gone1 told (c.find.ensures.gone1 told) refl dead lt) in
+    let second = rested_copy C.reads base v.now (C.rests n.second.copy) (C.holds n.second.copy) n.second.alive (disk_now v Ckpt2) pages
+        (λ is. c.in-Ok-bring.ensures.rests2 told is) (λ dead lt. c.bring.ensures.gone2 told (c.find.ensures.gone2 told) refl dead lt) in
+    let at_level = sym (c.pages_level-level.ensures ∙ ap (λ ps. level (bytes_of ps)) c.as_slice.ensures) in
+    let queue = stand_of base F.pages F.tables c.in-Ok.ensures.chosen.usable.0 c.in-Ok.ensures.base in
+    ∣ record { pages = pages; stands = record { at_level = at_level; queue = queue }; first_at = first; second_at = second } ∣₁
 
 pub returns-clause-fresh : goal.returns-clause-fresh
 returns-clause-fresh g c told =
