@@ -7,3 +7,4 @@ pub mod Forms
 pub mod CutOff
 pub mod Outside
 pub mod Fits
+pub mod NodeLemmas

@@ -5,3 +5,4 @@ pub mod Steps
 pub mod Reading
 pub mod Grammar
 pub mod Laws
+pub mod Nodes

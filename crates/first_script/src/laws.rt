@@ -1,5 +1,6 @@
 //! What is true of all scripts.
 ghost use Rattle.first_script.specs.Laws.{ReadsJobCards, PlaysScripts, RefusesCutOff, RefusesFirst};
+ghost use Rattle.first_script.specs.Nodes.{SaysTheSameElsewhere};
 
 /// A card says a job exactly where it is `//name JOB` or `//name JOB (d),'p',CLASS=c`.
 pub fn law_of_job_cards()
@@ -20,4 +21,9 @@ pub fn law_of_cut_off_decks()
 /// which no script that is played may begin.
 pub fn law_of_first_lines()
     ensures { RefusesFirst }
+{}
+
+/// A script says the same to each node, but that its jobs are at that node and from it.
+pub fn law_of_nodes()
+    ensures { SaysTheSameElsewhere }
 {}

@@ -8,3 +8,6 @@ pub mod LineLemmas
 pub mod PlayLemmas
 pub mod RunLemmas
 pub mod RefusalLemmas
+pub mod ResetLemmas
+pub mod NodeLemmas
+pub mod WarmLemmas

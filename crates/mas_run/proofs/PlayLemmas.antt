@@ -1,8 +1,8 @@
 -- Steps that are played one after another.
 use Rattle.std.proofs.Common.{◌≡◌, ◌⊎◌, inl, inr, ⊎_elim, ℕ, zero, suc, ◌+◌, ◌≤◌, ◌<◌, Bool, false, List, [], ◌∷◌, ◌++◌, length, map, take, drop, get_or, All, if◌then◌else◌, Option, ◌^◌, Result, Ok, Err, refl, sym, ◌∙◌, ap, subst, arith, append_assoc, append-nil}
 use Rattle.std.proofs.Math.Seq.{drop-cons}
-use Rattle.std.proofs.lemmas.List.{take_more, length-take}
-use Rattle.std.proofs.lemmas.List.Elements.{All-nil, All-cons}
+use Rattle.std.proofs.lemmas.List.{take_more, length-take, append_cancel_left}
+use Rattle.std.proofs.lemmas.List.Elements.{All-nil, All-cons, All-append, All-weaker}
 use Rattle.mas_types.specs.declared.ids.Dev.{Dev}
 use Rattle.mas_types.specs.declared.ids.Dev.TheVariants.{Ckpt1, Ckpt2, Spool}
 use Rattle.mas_types.specs.declared.jobs.JobFields.{JobFields}
@@ -32,7 +32,8 @@ use Rattle.mas_run.specs.Plays.{HavePlayed, ArePlayed}
 use Rattle.mas_run.specs.Runs.{IsDeckBatch, AreKept, IsInFlight, IsHistory, HasLost, IsStopped}
 use Rattle.mas_run.specs.Statuses.{Grows}
 use Rattle.mas_run.specs.Steps.{IfDeck, IfLose, step_lines, after_step, queue_after, output_from, output, loses_after_step, loses_after}
-use Rattle.mas_run.specs.Stops.{Course, IsLeft, IsStep, IsLoss, IsStepOf, HasKept, HasFlying}
+use Rattle.mas_complex.proofs.Batches.{kept_all_append}
+use Rattle.mas_run.specs.Stops.{Course, IsLeft, IsStep, IsLoss, IsStepOf, HasKept, HasFlying, Leaves, Tells}
 use Rattle.mas_run.specs.Told.{torn, console_now}
 use Rattle.mas_run.specs.declared.running.StepNo.{StepNo}
 use Rattle.mas_run.specs.declared.running.StepNo.TheVariants as no_step
@@ -459,3 +460,67 @@ step_renamed told s Q Q' at at' front bs bs' a a' b b' v v' result one two three
     subst (λ (x : Queue). IsStepOf told s x at' front bs' a a' b b' v v' result) one
     (subst (λ (n : ℕ). IsStepOf told s Q n front bs' a a' b b' v v' result) two
     (subst (λ (l : List Batch). IsStepOf told s Q at front l a a' b b' v v' result) three step))
+
+-- BEHIND BATCHES THAT STOOD THERE BEFORE
+
+behind_kept : (opening front news : List Batch) (b : Batch) (now : ℕ) → (k : HasKept (opening ++ front) news b now) → news ≡ opening ++ (front ++ fated Kept k.0 b ∷ [])
+behind_kept opening front news b now k = k.3 ∙ append_assoc opening front (fated Kept k.0 b ∷ [])
+
+kept_behind : (opening front more news : List Batch) (b : Batch) (now : ℕ) → news ≡ opening ++ more → HasKept (opening ++ front) news b now → HasKept front more b now
+kept_behind opening front more news b now are k = (k.0, k.1, k.2, append_cancel_left opening more (front ++ fated Kept k.0 b ∷ []) (sym are ∙ behind_kept opening front news b now k))
+
+tells_behind : {T : Type 0} (result : Result T StepNo) (text : List ℕ) (A B : Type 0) (was now : List Line) → (A → B) → Tells result text A was now → Tells result text B was now
+tells_behind (Ok done) text A B was now f t = t
+tells_behind (Err no_step.NoMemory) text A B was now f t = t
+tells_behind (Err no_step.Lost) text A B was now f t = t
+tells_behind (Err no_step.Unsaid) text A B was now f t = t
+tells_behind (Err no_step.Stopped) text A B was now f t = ⊎_elim inl (λ more. inr (⊎_elim (λ all. inl (all.0, f all.1)) inr more)) t
+
+-- a step behind such batches
+pub record IsBehind {T : Type 0} (told : Type 0) (s : Asked) (Q : Queue) (at : ℕ) (opening front news : List Batch) (a a' b b' : Bool) (v v' : View) (result : Result T StepNo) : Type 0 where
+  pub more : List Batch
+  pub are : news ≡ opening ++ more
+  pub step : IsStepOf told s Q at front more a a' b b' v v' result
+
+module _ {T : Type 0} (told : Type 0) (Q : Queue) (at : ℕ) (opening front news : List Batch) (a a' b b' : Bool) (v v' : View) where
+  leaves_behind : (result : Result T StepNo) (b : Batch) → Leaves result (opening ++ front) news b v'.now → (more : List Batch) × (news ≡ opening ++ more) × Leaves result front more b v'.now
+  leaves_behind (Ok done) b l = (front ++ fated Kept l.0 b ∷ [], behind_kept opening front news b v'.now l, (l.0, l.1, l.2, refl))
+  leaves_behind (Err no_step.NoMemory) b l = (front, l, refl)
+  leaves_behind (Err no_step.Lost) b l = (front ++ b ∷ [], l ∙ append_assoc opening front (b ∷ []), refl)
+  leaves_behind (Err no_step.Unsaid) b l = (front ++ fated Kept l.0 b ∷ [], behind_kept opening front news b v'.now l, (l.0, l.1, l.2, refl))
+  leaves_behind (Err no_step.Stopped) b l = ⊎_elim
+      (λ f. (front ++ b ∷ [], f ∙ append_assoc opening front (b ∷ []), inl refl))
+      (λ k. (front ++ fated Kept k.0 b ∷ [], behind_kept opening front news b v'.now k, inr (k.0, k.1, k.2, refl)))
+      l
+
+  pub step_behind : (s : Asked) (result : Result T StepNo) → IsStepOf told s Q at (opening ++ front) news a a' b b' v v' result → IsBehind told s Q at opening front news a a' b b' v v' result
+  step_behind (Deck fields) result step =
+      let l = leaves_behind result (begun v.now sysa (deck_entries Q sysa at fields)) step.journal in record {
+        more = l.0;
+        are = l.1;
+        step = record {
+          course = step.course;
+          loses = step.loses;
+          cause = step.cause;
+          journal = l.2;
+          elsewhere = step.elsewhere;
+          console = λ t. tells_behind result (deck_line Q sysa at fields) (HasKept (opening ++ front) news (begun v.now sysa (deck_entries Q sysa at fields)) v'.now) (HasKept front l.0 (begun v.now sysa (deck_entries Q sysa at fields)) v'.now)
+              (console_now v) (console_now v') (kept_behind opening front l.0 news (begun v.now sysa (deck_entries Q sysa at fields)) v'.now l.1) (step.console t);
+        };
+      }
+  step_behind (Lose dev) result step = record {
+    more = front;
+    are = step.same;
+    step = record { done = step.done; course = step.course; loses = step.loses; same = refl; elsewhere = step.elsewhere; console = step.console };
+  }
+
+-- the queue behind them
+pub queue_behind : (base : Queue) (opening rest batches : List Batch) → batches ≡ opening ++ rest → run base (kept_all batches) ≡ run (run base (kept_all opening)) (kept_all rest)
+queue_behind base opening rest batches are = ap (λ (bs : List Batch). run base (kept_all bs)) are ∙ ap (run base) (kept_all_append opening rest) ∙ run_append base (kept_all opening) (kept_all rest)
+
+pub kept_before : (opening : List Batch) (now later : ℕ) → now ≤ later → AreAllKept opening now → AreAllKept opening later
+kept_before opening now later le all = All-weaker (λ (b : Batch). (b.fate ≡ Kept) × (b.last ≤ now)) (λ (b : Batch). (b.fate ≡ Kept) × (b.last ≤ later)) (λ b k. (k.0, omega (arith, k.1, le))) opening all
+
+pub all_kept_behind : (opening rest batches : List Batch) (now later : ℕ) → now ≤ later → batches ≡ opening ++ rest → AreAllKept opening now → AreAllKept rest later → AreAllKept batches later
+all_kept_behind opening rest batches now later le are one two =
+    subst (λ (bs : List Batch). AreAllKept bs later) (sym are) (All-append (λ (b : Batch). (b.fate ≡ Kept) × (b.last ≤ later)) opening rest (kept_before opening now later le one) two)

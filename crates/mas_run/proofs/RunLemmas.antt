@@ -1,5 +1,5 @@
 -- A run, from what its step leaves.
-use Rattle.std.proofs.Common.{◌≡◌, ◌≢◌, ◌⊎◌, inl, inr, ⊎_elim, ℕ, zero, suc, ◌+◌, ◌<◌, Bool, true, false, List, [], ◌∷◌, ◌++◌, length, map, take, None, Result, Ok, Err, refl, sym, ◌∙◌, ap, subst, arith, replicate, codes, All}
+use Rattle.std.proofs.Common.{◌≡◌, ◌≢◌, ◌⊎◌, inl, inr, ⊎_elim, ℕ, zero, suc, ◌+◌, ◌<◌, ◌≤◌, Bool, true, false, List, [], ◌∷◌, ◌++◌, length, map, take, None, Result, Ok, Err, refl, sym, ◌∙◌, ap, subst, arith, replicate, codes, All}
 use Rattle.std.proofs.Math.Logic.{∥∥₁_map, ∥∥₁_elim}
 use Rattle.std.specs.Coded.{Coded, Coded-set, coded_ℕ, code_by, ×_prop, le_prop}
 use Rattle.std.specs.List.{list_any}
@@ -14,6 +14,7 @@ use Rattle.ckpt_pages.specs.QueueOf.{used}
 use Rattle.ckpt_pages.specs.Starts.{empty_tables}
 use Rattle.first_script.specs.declared.asked.Asked.TheVariants.{Deck, Lose}
 use Rattle.first_script.specs.Steps.{IsFitStep}
+use Rattle.mas_run.specs.Between.{AreAllKept}
 use Rattle.mas_run.specs.Entering.{MayEnter, AreBelow}
 use Rattle.mas_types.specs.declared.ids.Dev.TheVariants.{Ckpt1, Ckpt2, Spool}
 use Rattle.mas_types.specs.declared.ids.Dev.{Dev}
@@ -38,10 +39,14 @@ use Rattle.mas_run.specs.declared.running.StepNo.{StepNo}
 use Rattle.mas_run.specs.declared.running.StepNo.TheVariants as no_step
 use Rattle.mas_run.specs.Decks.{sysa}
 use Rattle.mas_run.specs.Steps.{IfDeck, IfLose, output, loses_after}
-use Rattle.mas_run.specs.Plays.{Ends, IfNotLost, ArePlayed}
+use Rattle.mas_run.specs.Plays.{Ends, IfNotLost, ArePlayed, HasPlay}
 use Rattle.mas_run.specs.Told.{torn, console_now}
 use Rattle.mas_run.specs.Stops.{Course}
-use Rattle.mas_run.specs.Runs.{AreKept, HasLost, IsStopped, IsRun}
+use Rattle.mas_run.specs.Runs.{AreKept, Adds, HasLost, IsStopped, IsRestart, IsReset, IsPlay, HasSteps}
+use Rattle.mas_types.specs.declared.journals.Batch.{Batch}
+use Rattle.mas_complex.specs.Journals.{kept_all, fated}
+use Rattle.mas_complex.specs.Meaning.{StandFor, run}
+use Rattle.std.proofs.lemmas.List.{append-nil}
 use Rattle.mas_run.specs.Statuses.{Grows, IsCaused, IsCausedFrom, status_of}
 use Rattle.mas_run.proofs.CourseLemmas.{left, lost_later, lost_more, has_lost_later}
 
@@ -125,68 +130,162 @@ module _ {T : Type 0} (told : Type 0) (asked : List Asked) (base : Queue) (journ
   console_failed (Err no_step.Unsaid) kept closed A e ends = ends.2
   console_failed (Err no_step.Stopped) kept closed A e ends = absurd (cc)
 
-  pub caused_by_steps : (answer : Result T StepNo) → ArePlayed told base asked journal.batches a a' b b' old new answer → (a' ≡ false → new.lost (DiskPart Ckpt1) ≡ true) → (b' ≡ false → new.lost (DiskPart Ckpt2) ≡ true)
+  pub caused_by_steps : (rest : List Batch) (answer : Result T StepNo) → ArePlayed told base asked rest a a' b b' old new answer → (a' ≡ false → new.lost (DiskPart Ckpt1) ≡ true) → (b' ≡ false → new.lost (DiskPart Ckpt2) ≡ true)
       → IsCausedFrom a b (status_of answer) old new
-  caused_by_steps answer p lost1 lost2 = record {
-    lost = λ e. let both = (none_unkept answer p.kept p.closed (AreKept base 1 (take p.kept asked) old.now new.now journal.batches) e p.ends).1 in (lost1 both.0, lost2 both.1);
-    failed1 = λ e was. p.course.failed1 was (none_unkept answer p.kept p.closed (AreKept base 1 (take p.kept asked) old.now new.now journal.batches) e p.ends).1.0;
-    failed2 = λ e was. p.course.failed2 was (none_unkept answer p.kept p.closed (AreKept base 1 (take p.kept asked) old.now new.now journal.batches) e p.ends).1.1;
-    console = λ e. console_failed answer p.kept p.closed (AreKept base 1 (take p.kept asked) old.now new.now journal.batches) e p.ends;
+  caused_by_steps rest answer p lost1 lost2 = record {
+    lost = λ e. let both = (none_unkept answer p.kept p.closed (AreKept base 1 (take p.kept asked) old.now new.now rest) e p.ends).1 in (lost1 both.0, lost2 both.1);
+    failed1 = λ e was. p.course.failed1 was (none_unkept answer p.kept p.closed (AreKept base 1 (take p.kept asked) old.now new.now rest) e p.ends).1.0;
+    failed2 = λ e was. p.course.failed2 was (none_unkept answer p.kept p.closed (AreKept base 1 (take p.kept asked) old.now new.now rest) e p.ends).1.1;
+    console = λ e. console_failed answer p.kept p.closed (AreKept base 1 (take p.kept asked) old.now new.now rest) e p.ends;
   }
 
-  module _ (is : base ≡ empty_queue default_config []) (fresh : told → ∥ LeavesQueue reads base old.now new ∥₁) (head : told → ∥ Headline reads base old.now journal new ∥₁)
-      (there1 : a ≡ true → old.lost (DiskPart Ckpt1) ≡ false) (there2 : b ≡ true → old.lost (DiskPart Ckpt2) ≡ false) where
-    pub run_of_steps : (answer : Result T StepNo) → ArePlayed told base asked journal.batches a a' b b' old new answer → IsRun told asked (status_of answer) base journal old.now old new
-    run_of_steps answer p = record {
-      queue = is;
-      moment = (omega arith, p.course.goes.later);
-      fresh = fresh;
-      quiet = λ t. ap (λ (w : World). w.console) (p.course.goes.past old.now (omega arith));
+-- what was played, from what its steps leave
+pub play_of_steps : {T : Type 0} (told : Type 0) (asked : List Asked) (base : Queue) (front : List Batch) (journal : Journal) (since : ℕ) (old new : View) (a a' b b' : Bool) → (told → ∥ Headline reads base since journal new ∥₁)
+    → (a ≡ true → old.lost (DiskPart Ckpt1) ≡ false) → (b ≡ true → old.lost (DiskPart Ckpt2) ≡ false) → (answer : Result T StepNo)
+    → HasPlay told (run base (kept_all front)) asked front journal.batches a a' b b' old new answer → IsPlay told asked (status_of answer) base front journal since old new
+play_of_steps {T = T} told asked base front journal since old new a a' b b' head there1 there2 answer has =
+    let p = has.played in
+    let from : Queue = run base (kept_all front) in
+    let A : Type 0 = AreKept from 1 (take p.kept asked) old.now new.now has.rest in record {
+      rest = has.rest;
+      batches = has.batches_are;
       kept = p.kept;
       closed = p.closed;
       few = p.few;
       history = p.history;
-      settled = λ ne. settled answer p.kept p.closed (AreKept base 1 (take p.kept asked) old.now new.now journal.batches) ne p.ends;
-      done = λ e. finished answer p.kept p.closed (AreKept base 1 (take p.kept asked) old.now new.now journal.batches) e p.ends;
-      unsaid = λ e. one_unsaid answer p.kept p.closed (AreKept base 1 (take p.kept asked) old.now new.now journal.batches) e p.ends;
-      unplayed = λ e. none_unplayed answer p.kept p.closed (AreKept base 1 (take p.kept asked) old.now new.now journal.batches) e p.ends;
-      unkept = λ e. (none_unkept answer p.kept p.closed (AreKept base 1 (take p.kept asked) old.now new.now journal.batches) e p.ends).0;
+      settled = λ ne. settled {T = T} told asked from journal old new a a' b b' answer p.kept p.closed A ne p.ends;
+      done = λ e. finished {T = T} told asked from journal old new a a' b b' answer p.kept p.closed A e p.ends;
+      unsaid = λ e. one_unsaid {T = T} told asked from journal old new a a' b b' answer p.kept p.closed A e p.ends;
+      unplayed = λ e. none_unplayed {T = T} told asked from journal old new a a' b b' answer p.kept p.closed A e p.ends;
+      unkept = λ e. (none_unkept {T = T} told asked from journal old new a a' b b' answer p.kept p.closed A e p.ends).0;
       said = p.said;
       loses = p.loses;
       crash = λ t. ∥∥₁_map (head t) (λ h. h.crash);
-      told = λ t. told_of base old.now journal new (head t);
+      told = λ t. told_of base since journal new (head t);
       there = λ ne. left_now old new a a' b b' there1 there2 p.course (not_lost answer (SomeAlive a' b' ⊎ HasLost old new) ne p.left);
     }
 
--- THE RUN AS THE CALL HAS IT, which began before the formatting
+-- THE STEPS OF A RUN
 
-pub run_since : (tells : Type 0) (asked : List Asked) (answer : Status) (base : Queue) (journal : Journal) (since : ℕ) (entry old new : View) → Goes entry old → ((d : Dev) → old.loses d ≡ entry.loses d)
-    → (tells → console_now old ≡ console_now entry) → IsRun tells asked answer base journal since old new → IsRun tells asked answer base journal since entry new
-run_since tells asked answer base journal since entry old new goes same quiet r = record {
-  queue = r.queue;
-  moment = (omega (arith, r.moment.0, goes.later), r.moment.1);
-  fresh = r.fresh;
-  quiet = λ t. r.quiet t ∙ quiet t;
-  kept = r.kept;
-  closed = r.closed;
-  few = r.few;
-  history = r.history;
-  settled = λ ne. ⊎_elim inl (λ s. inr (stopped s)) (r.settled ne);
-  done = λ d. ⊎_elim inl (λ s. inr (stopped s)) (r.done d);
-  unsaid = r.unsaid;
-  unplayed = r.unplayed;
-  unkept = r.unkept;
-  said = λ t. ⊎_elim (λ none. inl (none ∙ ap (λ (ls : List Line). ls ++ map whole (output base (take r.closed asked))) (quiet t)))
-      (λ more. ⊎_elim (λ all. inr (inl (all.0 ∙ ap (λ (ls : List Line). ls ++ map whole (output base (take r.kept asked))) (quiet t), stopped all.1)))
-      (λ part. inr (inr (part.0, part.1 ∙ ap (λ (ls : List Line). (ls ++ map whole (output base (take r.closed asked))) ++ torn part.0 ∷ []) (quiet t), stopped part.2))) more)
-      (r.said t);
-  loses = λ d. r.loses d ∙ ap (loses_after d (take r.kept asked)) (same d);
-  crash = r.crash;
-  told = r.told;
-  there = λ ne. ⊎_elim inl (λ lost. inr (has_lost_later entry old new (λ d. inl (same d)) lost)) (r.there ne);
-} where
-  stopped : IsStopped old new → IsStopped entry new
-  stopped s = omega (arith, goes.stops sysa.0, s)
+-- nothing stands in the journal
+pub none_kept : (now : ℕ) → AreAllKept [] now
+none_kept now = All-nil (λ (b : Batch). (b.fate ≡ Kept) × (b.last ≤ now))
+
+-- a cold run begins with its steps
+pub cold_steps : (tells : Type 0) (asked : List Asked) (answer : Status) (base : Queue) (front : List Batch) (journal : Journal) (since : ℕ) (old new : View) → front ≡ [] → since ≡ old.now → Goes old new
+    → IsPlay tells asked answer base front journal since old new → HasSteps true tells asked answer base journal since old.loses old new
+cold_steps tells asked answer base front journal since old new none is goes p = record {
+  opening = front;
+  rest = p.rest;
+  batches = p.batches;
+  at = old.now;
+  began = (omega (arith, is), goes.later);
+  kept = p.kept;
+  closed = p.closed;
+  few = p.few;
+  opened = (none, sym is);
+  history = p.history;
+  settled = p.settled;
+  done = p.done;
+  unsaid = p.unsaid;
+  unplayed = p.unplayed;
+  unkept = p.unkept;
+  said = p.said;
+  loses = p.loses;
+  crash = p.crash;
+  told = p.told;
+  there = p.there;
+}
+
+-- THE STEPS AS THE CALL HAS THEM, which began before the formatting or the start
+
+module _ (entry old new : View) (goes : Goes entry old) where
+  stopped_since : IsStopped old new → IsStopped entry new
+  stopped_since s = omega (arith, goes.stops sysa.0, s)
+
+  adds_since : (closed kept : List (List ℕ)) → console_now old ≡ console_now entry → Adds closed kept (console_now old) (console_now new) (IsStopped old new) → Adds closed kept (console_now entry) (console_now new) (IsStopped entry new)
+  adds_since closed kept quiet adds = ⊎_elim (λ none. inl (none ∙ ap (λ (ls : List Line). ls ++ map whole closed) quiet))
+      (λ more. ⊎_elim (λ all. inr (inl (all.0 ∙ ap (λ (ls : List Line). ls ++ map whole kept) quiet, stopped_since all.1)))
+      (λ part. inr (inr (part.0, part.1 ∙ ap (λ (ls : List Line). (ls ++ map whole closed) ++ torn part.0 ∷ []) quiet, stopped_since part.2))) more)
+      adds
+
+  pub steps_since : (cold : Bool) (tells : Type 0) (asked : List Asked) (answer : Status) (base : Queue) (journal : Journal) (since : ℕ) (first : Dev → ℕ) → ((d : Dev) → Grows (entry.loses d) (old.loses d)) → (tells → console_now old ≡ console_now entry)
+      → HasSteps cold tells asked answer base journal since first old new → HasSteps cold tells asked answer base journal since first entry new
+  steps_since cold tells asked answer base journal since first grow quiet r = record {
+    opening = r.opening;
+    rest = r.rest;
+    batches = r.batches;
+    at = r.at;
+    began = r.began;
+    kept = r.kept;
+    closed = r.closed;
+    few = r.few;
+    opened = r.opened;
+    history = r.history;
+    settled = λ ne. ⊎_elim inl (λ s. inr (stopped_since s)) (r.settled ne);
+    done = λ d. ⊎_elim inl (λ s. inr (stopped_since s)) (r.done d);
+    unsaid = r.unsaid;
+    unplayed = r.unplayed;
+    unkept = r.unkept;
+    said = λ t. adds_since (output (run base (kept_all r.opening)) (take r.closed asked)) (output (run base (kept_all r.opening)) (take r.kept asked)) (quiet t) (r.said t);
+    loses = r.loses;
+    crash = r.crash;
+    told = r.told;
+    there = λ ne. ⊎_elim inl (λ lost. inr (has_lost_later entry old new grow lost)) (r.there ne);
+  }
+
+  -- what was played after Restart is what is played of a warm run
+  pub warm_steps : (tells : Type 0) (asked : List Asked) (answer : Status) (base : Queue) (b : Batch) (last : ℕ) (front : List Batch) (journal : Journal) (since : ℕ) → front ≡ fated Kept last b ∷ [] → IsRestart since b → b.first ≤ last → last ≤ old.now → since ≤ old.now → Goes old new
+      → ((d : Dev) → old.loses d ≡ entry.loses d) → (tells → console_now old ≡ console_now entry) → IsPlay tells asked answer base front journal since old new → HasSteps false tells asked answer base journal since entry.loses entry new
+  warm_steps tells asked answer base b last front journal since are is order past from on same quiet p = record {
+    opening = front;
+    rest = p.rest;
+    batches = p.batches;
+    at = old.now;
+    began = (from, on.later);
+    kept = p.kept;
+    closed = p.closed;
+    few = p.few;
+    opened = inl (fated Kept last b, are, record { by = is.by; entries = is.entries; began = is.began }, refl, order, past);
+    history = p.history;
+    settled = λ ne. ⊎_elim inl (λ s. inr (stopped_since s)) (p.settled ne);
+    done = λ d. ⊎_elim inl (λ s. inr (stopped_since s)) (p.done d);
+    unsaid = p.unsaid;
+    unplayed = p.unplayed;
+    unkept = p.unkept;
+    said = λ t. adds_since (output (run base (kept_all front)) (take p.closed asked)) (output (run base (kept_all front)) (take p.kept asked)) (quiet t) (p.said t);
+    loses = λ d. p.loses d ∙ ap (loses_after d (take p.kept asked)) (same d);
+    crash = p.crash;
+    told = p.told;
+    there = λ ne. ⊎_elim inl (λ lost. inr (has_lost_later entry old new (λ d. inl (same d)) lost)) (p.there ne);
+  }
+
+-- a warm run in which Restart isn't kept plays no step
+pub reset_alone : (tells : Type 0) (asked : List Asked) (answer : Status) (base : Queue) (opening : List Batch) (journal : Journal) (since : ℕ) (old new : View) → journal.batches ≡ opening → since ≡ old.now → Goes old new → IsReset answer since since opening 0 []
+    → (answer ≢ status.Done) → (answer ≢ status.ConsoleFault) → ((d : Dev) → new.loses d ≡ old.loses d) → (tells → console_now new ≡ console_now old) → (tells → ∥ Headline reads base since journal new ∥₁)
+    → (answer ≢ status.BothLost → (new.lost (DiskPart Ckpt1) ≡ false) ⊎ (new.lost (DiskPart Ckpt2) ≡ false)) → HasSteps false tells asked answer base journal since old.loses old new
+reset_alone tells asked answer base opening journal since old new are is goes reset not_done not_unsaid same quiet head there = record {
+  opening = opening;
+  rest = [];
+  batches = are ∙ sym (append-nil opening);
+  at = since;
+  began = (omega arith, omega (arith, is, goes.later));
+  kept = 0;
+  closed = 0;
+  few = (omega arith, omega arith, omega arith);
+  opened = reset;
+  history = record { front = []; are_kept = refl; rest = inl refl };
+  settled = λ ne. inl refl;
+  done = λ e. absurd (not_done e);
+  unsaid = λ e. absurd (not_unsaid e);
+  unplayed = λ e. refl;
+  unkept = λ e. refl;
+  said = λ t. inl (quiet t ∙ sym (append-nil (console_now old)));
+  loses = same;
+  crash = λ t. ∥∥₁_map (head t) (λ h. h.crash);
+  told = λ t. told_of base since journal new (head t);
+  there = λ ne. inl (there ne);
+}
 
 -- how both copies were lost: in the formatting, or later
 pub caused_since : (by : ℕ) (a b stopped : Bool) (answer : Status) (entry old new : View) → PairActed by true a true b stopped entry old → Goes old new → ((d : Dev) → Grows (old.loses d) (new.loses d)) → IsCausedFrom a b answer old new → IsCaused answer entry new
@@ -248,3 +347,20 @@ copy_of_step (Lose (Spool v)) fit = absurd fit
 
 pub all_copies : (asked : List Asked) → All (IsFitStep default_config.node) asked → All (λ step. IfLose step IsCkpt) asked
 all_copies asked fits = All-weaker (IsFitStep default_config.node) (λ step. IfLose step IsCkpt) copy_of_step asked fits
+
+-- CAUSES, THROUGH RESTART AND THE START
+
+pub grows_through : (v0 v1 v2 : View) (d : Dev) → v1.loses d ≡ v0.loses d → Grows (v1.loses d) (v2.loses d) → Grows (v0.loses d) (v2.loses d)
+grows_through v0 v1 v2 d same grow = ⊎_elim (λ e. inl (e ∙ same)) (λ r. inr (omega (arith, r, same))) grow
+
+by_alive : {A : Type 0} (x : Bool) → (x ≡ true → A) → (x ≡ false → A) → A
+by_alive true f g = f refl
+by_alive false f g = g refl
+
+pub caused_through : (a a' c c' : Bool) (answer : Status) (v0 v1 v2 : View) → Course a a' c c' v0 v1 → Goes v1 v2 → ((d : Dev) → Grows (v1.loses d) (v2.loses d)) → IsCausedFrom a' c' answer v1 v2 → IsCausedFrom a c answer v0 v2
+caused_through a a' c c' answer v0 v1 v2 course goes grow caused = record {
+  lost = caused.lost;
+  failed1 = λ e was. by_alive a' (λ is. lost_later Ckpt1 v0 v1 v2 course.goes (course.grow Ckpt1) (caused.failed1 e is)) (λ not. lost_more Ckpt1 v0 v1 v2 (course.failed1 was not) goes (grow Ckpt1));
+  failed2 = λ e was. by_alive c' (λ is. lost_later Ckpt2 v0 v1 v2 course.goes (course.grow Ckpt2) (caused.failed2 e is)) (λ not. lost_more Ckpt2 v0 v1 v2 (course.failed2 was not) goes (grow Ckpt2));
+  console = λ e. omega (arith, course.goes.faults Console, caused.console e);
+}

@@ -26,6 +26,11 @@ pub record MayEnter (config : Config) (owners : List Owner) (by : MemberId) (fie
   pub groups : list_any (is_members by) owners ≡ false
   pub fit : IsJobFields fields
 
+-- a job of these fields is one of the configuration's node
+pub record AreFieldsFor (config : Config) (fields : JobFields) : Type 0 where
+  pub node : same_name fields.node config.node ≡ true
+  pub fit : IsJobFields fields
+
 -- each job's order is below the next one
 abbrev pub AreBelow : Tables → Type 0
 AreBelow t = All (λ job. job.order < t.order) (used t.jobs)

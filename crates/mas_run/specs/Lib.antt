@@ -9,6 +9,8 @@ pub mod Between
 pub mod Crash
 pub mod Told
 pub mod Runs
+pub mod Unstarted
 pub mod Statuses
 pub mod Stops
+pub mod Resets
 pub mod Plays

@@ -50,3 +50,15 @@ pub record ArePlayed {T : Type 0} (told : Type 0) (base : Queue) (asked : List A
   pub loses : (d : Dev) → new.loses d ≡ loses_after d (take kept asked) (old.loses d)
   pub elsewhere : told → IsOnlyOn old new
   pub said : told → Adds (output base (take closed asked)) (output base (take kept asked)) (console_now old) (console_now new) (IsStopped old new)
+
+-- They were played over a journal that had these batches, and has so many now.
+pub record HasPlay {T : Type 0} (told : Type 0) (base : Queue) (asked : List Asked) (front batches : List Batch) (was1 is1 was2 is2 : Bool) (old new : View) (result : Result T StepNo) : Type 0 where
+  pub rest : List Batch
+  pub batches_are : batches ≡ front ++ rest
+  pub played : ArePlayed told base asked rest was1 is1 was2 is2 old new result
+
+-- And so many of them have been played.
+pub record HavePlay (told : Type 0) (base : Queue) (asked : List Asked) (count : ℕ) (front batches : List Batch) (was1 is1 was2 is2 : Bool) (old new : View) : Type 0 where
+  pub rest : List Batch
+  pub batches_are : batches ≡ front ++ rest
+  pub played : HavePlayed told base asked count rest was1 is1 was2 is2 old new

@@ -12,7 +12,7 @@ use Rattle.first_script.specs.declared.asked.BadLine.{BadLine}
 use Rattle.first_script.specs.Script.{read_as}
 use Rattle.ckpt_copy.specs.Areas.{areas_size}
 use Rattle.ckpt_pages.specs.Shape.{page_count}
-use Rattle.mas_run.specs.Words.{are_words}
+use Rattle.mas_run.specs.Words.{are_cold, are_words}
 
 -- what a script says to the node of the default configuration: the steps that it asks for, or that a line is refused
 abbrev pub said_by : List ℕ → Result (List Asked) BadLine
@@ -35,13 +35,17 @@ refused_devices size1 size2 =
     refused_where (nat_lt size1 bytes_needed) (status.DeviceSize Ckpt1 size1)
     ∷ refused_where (nat_lt size2 bytes_needed) (status.DeviceSize Ckpt2 size2) ∷ []
 
+-- their sizes are known to be too small before a cold run; what a warm run needs stands on the copies
+abbrev pub refused_sizes : Bool → ℕ → ℕ → List (Option Status)
+refused_sizes cold size1 size2 = if cold then refused_devices size1 size2 else []
+
 -- the first that applies to the words, the script and the sizes of CKPT1 and CKPT2
 abbrev pub refusal_before_play : List (List ℕ) → List ℕ → ℕ → ℕ → Option Status
 refusal_before_play words script size1 size2 = first_some (
     refused_where (not (are_words words)) status.Words
     ∷ refused_where (nat_lt script_bytes (length script)) status.TooLong
     ∷ refused_line (said_by script)
-    ∷ refused_devices size1 size2)
+    ∷ refused_sizes (are_cold words) size1 size2)
 
 -- the first device that is too small, with its size
 abbrev pub IsSmall : Dev → ℕ → ℕ → ℕ → Type 0
@@ -49,20 +53,24 @@ IsSmall Ckpt1 size size1 size2 = (size ≡ size1) × (size < bytes_needed)
 IsSmall Ckpt2 size size1 size2 = (size ≡ size2) × (size < bytes_needed) × (bytes_needed ≤ size1)
 IsSmall (Spool n) size size1 size2 = ⊥
 
--- the status says what the words, the script or a device lack
-abbrev pub is_refusal : Status → Bool
-is_refusal status.Done = false
-is_refusal status.SourceFault = false
-is_refusal status.BothLost = false
-is_refusal status.ConsoleFault = false
-is_refusal status.NoMemory = false
-is_refusal _ = true
+-- the status says what the words, the script or a device of a cold run lack
+abbrev pub is_refusal : Bool → Status → Bool
+is_refusal cold status.Done = false
+is_refusal cold status.SourceFault = false
+is_refusal cold status.BothLost = false
+is_refusal cold status.ConsoleFault = false
+is_refusal cold status.NoMemory = false
+is_refusal cold (status.NotFormatted first second) = cold
+is_refusal cold (status.DeviceSize dev size) = cold
+is_refusal cold status.Words = true
+is_refusal cold (status.BadLine line cause) = true
+is_refusal cold status.TooLong = true
 
 -- A refusal is answered, but where the source failed or memory was wanting. Wrong words come before these.
-abbrev pub Answers : Option Status → Status → Type 0
-Answers None answer = is_refusal answer ≡ false
-Answers (Some status.Words) answer = answer ≡ status.Words
-Answers (Some why) answer = (answer ≡ why) ⊎ ((answer ≡ status.SourceFault) ⊎ (answer ≡ status.NoMemory))
+abbrev pub Answers : Bool → Option Status → Status → Type 0
+Answers cold None answer = is_refusal cold answer ≡ false
+Answers cold (Some status.Words) answer = answer ≡ status.Words
+Answers cold (Some why) answer = (answer ≡ why) ⊎ ((answer ≡ status.SourceFault) ⊎ (answer ≡ status.NoMemory))
 
 -- why a script isn't played: what it says, its length, its source, or want of memory
 abbrev pub is_of_script : Status → Bool
@@ -76,3 +84,12 @@ is_of_script _ = false
 pub record IsAsked (script : List ℕ) (asked : List Asked) : Type 0 where
   pub few : length script ≤ script_bytes
   pub says : said_by script ≡ Ok asked
+
+-- how a run ends that nothing hinders: with Done, or for want of memory; a warm one also where it finds no queue, or a device is
+-- too small for what it finds
+abbrev pub IsPlayedOut : Bool → Status → Type 0
+IsPlayedOut cold status.Done = Unit {0}
+IsPlayedOut cold status.NoMemory = Unit {0}
+IsPlayedOut cold (status.NotFormatted first second) = cold ≡ false
+IsPlayedOut cold (status.DeviceSize dev size) = cold ≡ false
+IsPlayedOut cold _ = ⊥

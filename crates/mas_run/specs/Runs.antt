@@ -13,9 +13,19 @@ use Rattle.mas_types.specs.Starts.{default_config, empty_queue, no_queue}
 use Rattle.first_script.specs.declared.asked.Asked.{Asked}
 use Rattle.first_script.specs.declared.asked.Asked.TheVariants.{Deck, Lose}
 use Rattle.spool_disk.specs.declared.plant.Part.TheVariants.{Disk}
-use Rattle.spool_disk.specs.View.{View, Line}
-use Rattle.spool_disk.specs.Acts.{Rose, top}
+use Rattle.spool_disk.specs.View.{View, Line, disk_at, disk_now, Throughout}
+use Rattle.spool_disk.specs.Acts.{Rose, top, next}
 use Rattle.ckpt_copy.specs.Areas.{reads}
+use Rattle.ckpt_copy.specs.Pages.{bytes_of}
+use Rattle.ckpt_pages.specs.declared.tables.Tables.{Tables}
+use Rattle.mas_types.specs.declared.ids.Page.{Page}
+use Rattle.mas_types.specs.Ids.{nobody}
+use Rattle.mas_complex.specs.Journals.{kept_all}
+use Rattle.mas_complex.specs.Meaning.{run}
+use Rattle.warm_start.specs.Usable.{AreOf}
+use Rattle.queue_restart.specs.Restarts.{restart_entries}
+use Rattle.warm_start.specs.Starting.{IsFound, IsHeld}
+use Rattle.mas_run.specs.Standing.{queue_of}
 use Rattle.mas_complex.specs.Headline.{whole, IsCrashSafe, LeavesQueue, AreToldKept}
 use Rattle.mas_run.specs.Decks.{sysa, deck_entries}
 use Rattle.mas_run.specs.Steps.{after_step, queue_after, output, loses_after}
@@ -90,31 +100,118 @@ IsStopped old new = Rose (old.stops sysa.0) (new.stops sysa.0)
 abbrev pub HasLost : View → View → Type 0
 HasLost old new = Rose (old.loses Ckpt1) (new.loses Ckpt1) ⊎ Rose (old.loses Ckpt2) (new.loses Ckpt2)
 
--- A run that has begun, over what was asked of it, on a plant that showed `old` before and `new` after it. What it says
--- of contents is said of a plant that tells.
-pub record IsRun (tells : Type 0) (asked : List Asked) (answer : Status) (base : Queue) (journal : Journal) (since : ℕ) (old new : View) : Type 0 where
-  -- it began with the empty queue, which the copies had then, and nothing was said before
-  pub queue : base ≡ empty_queue default_config []
-  pub moment : (old.now ≤ since) × (since ≤ new.now)
-  pub fresh : tells → ∥ LeavesQueue reads base since new ∥₁
-  pub quiet : tells → (new.world since).console ≡ console_now old
+-- HOW A RUN BEGINS
+
+-- the batch of Restart, which the operator gives before the first step
+pub record IsRestart (since : ℕ) (b : Batch) : Type 0 where
+  pub by : b.by ≡ nobody
+  pub entries : b.entries ≡ restart_entries
+  pub began : since ≤ b.first
+
+-- A warm run begins with Restart, which is kept before its steps begin. Or both copies were lost in it, and it is in flight to
+-- the end, or there was no memory for it: then no step is played.
+abbrev pub IsReset : Status → ℕ → ℕ → List Batch → ℕ → List Batch → Type 0
+IsReset answer since at opening kept rest =
+    ((b : Batch) × (opening ≡ b ∷ []) × IsRestart since b × (b.fate ≡ Kept) × (b.first ≤ b.last) × (b.last ≤ at))
+    ⊎ ((b : Batch) × (opening ≡ b ∷ []) × IsRestart since b × (b.fate ≡ Flying) × (b.last ≡ top) × (answer ≡ status.BothLost) × (kept ≡ 0) × (rest ≡ []))
+    ⊎ ((opening ≡ []) × (answer ≡ status.NoMemory) × (kept ≡ 0) × (rest ≡ []))
+
+-- what stands in the journal before the steps: nothing in a cold run
+abbrev pub IsOpened : Bool → Status → ℕ → ℕ → List Batch → ℕ → List Batch → Type 0
+IsOpened true answer since at opening kept rest = (opening ≡ []) × (at ≡ since)
+IsOpened false answer since at opening kept rest = IsReset answer since at opening kept rest
+
+-- the queue of the pages that a warm run finds
+pub record IsFoundQueue (tells : Type 0) (old new : View) (base : Queue) : Type 0 where
+  pub pages : List Page
+  pub tables : Tables
+  pub are : AreOf pages tables
+  pub is : base ≡ queue_of tables
+  pub found : tells → IsFound reads old new (bytes_of pages)
+
+-- a cold run begins with the empty queue of the default configuration, a warm one with the queue found
+abbrev pub HasBase : Bool → Type 0 → View → View → Queue → Type 0
+HasBase true tells old new base = base ≡ empty_queue default_config []
+HasBase false tells old new base = IsFoundQueue tells old new base
+
+-- before a warm run's first moment an image of a copy is one of the entry, or reads as the copy did or as the pages found
+pub record IsHeldUntil (since : ℕ) (old new : View) : Type 0 where
+  pub found : List ℕ
+  pub first : Throughout old.now since (λ t. IsHeld reads (disk_now old Ckpt1) found (disk_at new t Ckpt1))
+  pub second : Throughout old.now since (λ t. IsHeld reads (disk_now old Ckpt2) found (disk_at new t Ckpt2))
+
+abbrev pub IsKeptUntil : Bool → ℕ → View → View → Type 0
+IsKeptUntil true since old new = Unit {0}
+IsKeptUntil false since old new = IsHeldUntil since old new
+
+-- how often a call lost a device before the steps: a warm start may lose it once
+abbrev pub LosesFirst : Bool → ℕ → ℕ → Type 0
+LosesFirst true was is = is ≡ was
+LosesFirst false was is = (is ≡ was) ⊎ (is ≡ next was)
+
+-- THE STEPS
+
+-- What was played, by a run on a base, whose journal had these batches then, on a plant that showed `old` before and `new`
+-- after it.
+pub record IsPlay (tells : Type 0) (asked : List Asked) (answer : Status) (base : Queue) (front : List Batch) (journal : Journal) (since : ℕ) (old new : View) : Type 0 where
+  pub rest : List Batch
+  pub batches : journal.batches ≡ front ++ rest
+  pub kept : ℕ
+  pub closed : ℕ
+  pub few : (closed ≤ kept) × (kept ≤ closed + 1) × (kept ≤ length asked)
+  pub history : IsHistory (run base (kept_all front)) asked kept old.now new.now rest
+  pub settled : answer ≢ status.BothLost → AreKept (run base (kept_all front)) 1 (take kept asked) old.now new.now rest ⊎ IsStopped old new
+  pub done : answer ≡ status.Done → (closed ≡ length asked) ⊎ IsStopped old new
+  pub unsaid : answer ≡ status.ConsoleFault → kept ≡ closed + 1
+  pub unplayed : answer ≡ status.NoMemory → kept ≡ closed
+  pub unkept : answer ≡ status.BothLost → kept ≡ closed
+  pub said : tells → Adds (output (run base (kept_all front)) (take closed asked)) (output (run base (kept_all front)) (take kept asked)) (console_now old) (console_now new) (IsStopped old new)
+  pub loses : (d : Dev) → new.loses d ≡ loses_after d (take kept asked) (old.loses d)
+  pub crash : tells → ∥ IsCrashSafe reads base journal since new ∥₁
+  pub told : tells → AreToldKept journal since new
+  pub there : answer ≢ status.BothLost → ((new.lost (Disk Ckpt1) ≡ false) ⊎ (new.lost (Disk Ckpt2) ≡ false)) ⊎ HasLost old new
+
+-- The steps of a run, cold or warm, from its first moment on. Before them stands its opening, and each device had been lost so
+-- often by a call.
+pub record HasSteps (cold : Bool) (tells : Type 0) (asked : List Asked) (answer : Status) (base : Queue) (journal : Journal) (since : ℕ) (first : Dev → ℕ) (old new : View) : Type 0 where
+  -- its journal is that of its opening and of the steps that are kept, which began at a moment
+  pub opening : List Batch
+  pub rest : List Batch
+  pub batches : journal.batches ≡ opening ++ rest
+  pub at : ℕ
+  pub began : (since ≤ at) × (at ≤ new.now)
   -- so many of its steps are kept, from the first on, and so many of these are known to be closed
   pub kept : ℕ
   pub closed : ℕ
   pub few : (closed ≤ kept) × (kept ≤ closed + 1) × (kept ≤ length asked)
-  -- its journal is that of the steps that are kept
-  pub history : IsHistory base asked kept since new.now journal.batches
-  pub settled : answer ≢ status.BothLost → AreKept base 1 (take kept asked) since new.now journal.batches ⊎ IsStopped old new
+  pub opened : IsOpened cold answer since at opening kept rest
+  pub history : IsHistory (run base (kept_all opening)) asked kept at new.now rest
+  pub settled : answer ≢ status.BothLost → AreKept (run base (kept_all opening)) 1 (take kept asked) at new.now rest ⊎ IsStopped old new
   pub done : answer ≡ status.Done → (closed ≡ length asked) ⊎ IsStopped old new
   pub unsaid : answer ≡ status.ConsoleFault → kept ≡ closed + 1
   pub unplayed : answer ≡ status.NoMemory → kept ≡ closed
   pub unkept : answer ≡ status.BothLost → kept ≡ closed
   -- its lines are those of the steps that are closed
-  pub said : tells → Adds (output base (take closed asked)) (output base (take kept asked)) (console_now old) (console_now new) (IsStopped old new)
+  pub said : tells → Adds (output (run base (kept_all opening)) (take closed asked)) (output (run base (kept_all opening)) (take kept asked)) (console_now old) (console_now new) (IsStopped old new)
   -- a copy is lost by a call as often as a step that was played says so
-  pub loses : (d : Dev) → new.loses d ≡ loses_after d (take kept asked) (old.loses d)
+  pub loses : (d : Dev) → new.loses d ≡ loses_after d (take kept asked) (first d)
   -- at each moment a crash leaves the queue after what was kept, and what is told is kept; a copy is left but where
   -- both are lost
   pub crash : tells → ∥ IsCrashSafe reads base journal since new ∥₁
   pub told : tells → AreToldKept journal since new
   pub there : answer ≢ status.BothLost → ((new.lost (Disk Ckpt1) ≡ false) ⊎ (new.lost (Disk Ckpt2) ≡ false)) ⊎ HasLost old new
+
+-- A run that has begun, cold or warm, over what was asked of it, on a plant that showed `old` before and `new` after it.
+-- What it says of contents is said of a plant that tells.
+pub record IsRun (cold : Bool) (tells : Type 0) (asked : List Asked) (answer : Status) (base : Queue) (journal : Journal) (since : ℕ) (old new : View) : Type 0 where
+  -- it began with its base, which the copies had then, and nothing was said before
+  pub queue : HasBase cold tells old new base
+  pub moment : (old.now ≤ since) × (since ≤ new.now)
+  pub fresh : tells → ∥ LeavesQueue reads base since new ∥₁
+  pub quiet : tells → (new.world since).console ≡ console_now old
+  pub held : tells → IsKeptUntil cold since old new
+  -- a warm start may have lost a device once
+  pub first : Dev → ℕ
+  pub before : (d : Dev) → LosesFirst cold (old.loses d) (first d)
+  -- and then its steps were played
+  pub steps : HasSteps cold tells asked answer base journal since first old new

@@ -47,6 +47,13 @@ is_of_play status.ConsoleFault = true
 is_of_play status.NoMemory = true
 is_of_play _ = false
 
+-- the status says what the words or the script lack
+abbrev pub is_of_text : Status → Bool
+is_of_text status.Words = true
+is_of_text (status.BadLine line cause) = true
+is_of_text status.TooLong = true
+is_of_text _ = false
+
 -- the same over a part of a run, where these copies counted as alive before it
 pub record IsCausedFrom (one two : Bool) (answer : Status) (old new : View) : Type 0 where
   pub lost : answer ≡ status.BothLost → (new.lost (Disk Ckpt1) ≡ true) × (new.lost (Disk Ckpt2) ≡ true)

@@ -1,30 +1,30 @@
 //! A script that is played from an empty queue.
-ghost use Rattle.std.specs.Prelude.{◌≡◌, ◌⊎◌, ◌≤◌, [], true, false, length, All, IfOk, None, Some};
+ghost use Rattle.std.specs.Prelude.{◌≡◌, ◌⊎◌, ◌+◌, ◌≤◌, ◌<◌, ◌^◌, [], true, false, length, All, IfOk, None, Some};
 ghost use Rattle.mas_types.specs.Starts.{default_config as config_by_default, empty_queue as queue_without_jobs};
 ghost use Rattle.mas_types.specs.Lists.{first_some};
 ghost use Rattle.mas_types.specs.declared.ids.Dev.TheVariants.{Ckpt1, Ckpt2};
 ghost use Rattle.mas_types.specs.declared.ids.Dev.{Dev};
 ghost use Rattle.mas_types.specs.declared.answers.CopyState.{CopyState};
 ghost use Rattle.spool_disk.specs.declared.plant.Part.TheVariants.{Disk};
-ghost use Rattle.spool_disk.specs.View.{View, disk_now};
+ghost use Rattle.spool_disk.specs.View.{disk_now};
 ghost use Rattle.spool_disk.specs.Acts.{Goes};
 ghost use Rattle.ckpt_copy.specs.Areas.{reads};
 ghost use Rattle.ckpt_copy.specs.Pages.{bytes_of};
 ghost use Rattle.ckpt_pages.specs.Starts.{empty_tables};
 ghost use Rattle.duplex_pair.specs.Halves.{SomeAlive, IsCkpt};
 ghost use Rattle.first_script.specs.Steps.{IsFitStep};
-ghost use Rattle.mas_complex.specs.Headline.{Headline, LeavesQueue};
+ghost use Rattle.mas_complex.specs.Headline.{Headline};
 ghost use Rattle.mas_complex.specs.Journals.{end_of};
 ghost use Rattle.mas_run.specs.Refusals.{bytes_needed, refused_devices, Answers};
 ghost use Rattle.mas_run.specs.Standing.{queue_of};
 ghost use Rattle.mas_run.specs.Drawn.{AreDrawn};
 ghost use Rattle.mas_run.specs.Entering.{MayEnter};
-ghost use Rattle.mas_run.specs.Between.{RestsAt, IsBetween};
+ghost use Rattle.mas_run.specs.Between.{RestsAt, IsBetween, AreAllKept};
 ghost use Rattle.mas_run.specs.Decks.{sysa};
 ghost use Rattle.mas_run.specs.Steps.{IfDeck, IfLose};
 ghost use Rattle.mas_run.specs.Told.{console_now};
 ghost use Rattle.mas_run.specs.Crash.{IsOnlyOn};
-ghost use Rattle.mas_run.specs.Runs.{has_begun, Begins, IsUnbegun, IsRun};
+ghost use Rattle.mas_run.specs.Runs.{has_begun, Begins, IsUnbegun, IsPlay, IsRun};
 ghost use Rattle.mas_run.specs.Statuses.{Grows, IsCaused, IsCausedFrom, status_of as status_of_lem, is_of_play};
 
 use crate::checkpoint::{Checkpoint, blank};
@@ -68,8 +68,8 @@ fn no_journal(alloc: Global) -> Journal
     }
 }
 
-// What the answer of the steps means for the run.
-fn status_of(answer: &Result<(), StepNo>) -> Status
+/// What the answer of the steps means for the run.
+pub(crate) fn status_of(answer: &Result<(), StepNo>) -> Status
     ensures { result ≡ status_of_lem answer.now }
 {
     match answer {
@@ -80,8 +80,8 @@ fn status_of(answer: &Result<(), StepNo>) -> Status
     }
 }
 
-// The end of a run that has begun.
-fn ended<P: Plant + Drop>(status: Status, run: Running<P, AreaCopy>) -> Ended<P>
+/// The end of a run that has begun.
+pub(crate) fn ended<P: Plant + Drop>(status: Status, run: Running<P, AreaCopy>) -> Ended<P>
     ensures status { result.status ≡ status }
     ensures base { result.base ≡ run.complex.base }
     ensures since { result.since ≡ run.complex.since }
@@ -104,33 +104,33 @@ fn ended<P: Plant + Drop>(status: Status, run: Running<P, AreaCopy>) -> Ended<P>
 }
 
 // Plays what the script asks for.
-fn play_asked<P: Plant + Drop>(
+pub(crate) fn play_asked<P: Plant + Drop>(
     alloc: Global,
     asked: &[Asked],
     run: Running<P, AreaCopy>,
 ) -> Ended<P>
     requires few { length asked.now ≤ 16777216 }
-    requires base { run.complex.base ≡ queue_without_jobs config_by_default [] }
     requires may { All (λ step. IfDeck step (MayEnter run.checkpoint.tables.config run.checkpoint.tables.owners sysa)) asked.now }
     requires copies { All (λ step. IfLose step IsCkpt) asked.now }
     requires between { IsBetween run.complex.base run.complex.journal.batches run.complex.current run.complex.placed run.complex.level run.checkpoint }
     requires rests1 { RestsAt P.tells run.complex.pair.first.alive run.complex.first (⟦<AreaCopy as Copying>⟧.count run.complex.pair.first.copy) run.checkpoint.pages (reads (disk_now (P.view run.complex.plant) Ckpt1).bytes) }
     requires rests2 { RestsAt P.tells run.complex.pair.second.alive run.complex.second (⟦<AreaCopy as Copying>⟧.count run.complex.pair.second.copy) run.checkpoint.pages (reads (disk_now (P.view run.complex.plant) Ckpt2).bytes) }
-    requires order { run.checkpoint.tables.order ≡ 0 }
-    requires level { run.checkpoint.level ≡ 1 }
-    requires journal { run.complex.journal.batches ≡ [] }
-    requires since { run.complex.since ≡ (P.view run.complex.plant).now }
-    requires fresh { P.tells → ∥ ((later : View) → Goes (P.view run.complex.plant) later → LeavesQueue reads run.complex.base run.complex.since later) ∥₁ }
+    requires order { run.checkpoint.tables.order < 2 ^ 62 + 64 }
+    requires level { run.checkpoint.level < 2 ^ 62 + 64 }
+    requires kept { AreAllKept run.complex.journal.batches (P.view run.complex.plant).now }
+    requires since { run.complex.since ≤ (P.view run.complex.plant).now }
+    requires quiet { P.tells → ((P.view run.complex.plant).world run.complex.since).console ≡ console_now (P.view run.complex.plant) }
     requires some { SomeAlive run.complex.pair.first.alive run.complex.pair.second.alive }
     requires there1 { run.complex.pair.first.alive ≡ true → (P.view run.complex.plant).lost (Disk Ckpt1) ≡ false }
     requires there2 { run.complex.pair.second.alive ≡ true → (P.view run.complex.plant).lost (Disk Ckpt2) ≡ false }
     ensures base { result.base ≡ run.complex.base }
+    ensures since { result.since ≡ run.complex.since }
     ensures kind { is_of_play result.status ≡ true }
     ensures goes { Goes (P.view run.complex.plant) (P.view result.plant) }
     ensures grow { (d : Dev) → Grows ((P.view run.complex.plant).loses d) ((P.view result.plant).loses d) }
     ensures elsewhere { P.tells → IsOnlyOn (P.view run.complex.plant) (P.view result.plant) }
     ensures cause { IsCausedFrom run.complex.pair.first.alive run.complex.pair.second.alive result.status (P.view run.complex.plant) (P.view result.plant) }
-    ensures run { IsRun P.tells asked.now result.status result.base result.journal result.since (P.view run.complex.plant) (P.view result.plant) }
+    ensures play { IsPlay P.tells asked.now result.status result.base run.complex.journal.batches result.journal result.since (P.view run.complex.plant) (P.view result.plant) }
 {
     let mut run = run;
     let answer = run.play_steps(alloc, asked);
@@ -174,10 +174,10 @@ fn refuse_devices<P: Plant>(plant: &P) -> Option<Status>
 }
 
 /// Formats both copies with the empty queue, and plays what the script asks for. A copy that fails is left out.
-pub(crate) fn play_script<P: Plant + Drop>(alloc: Global, asked: &[Asked], plant: P) -> Ended<P>
+pub(crate) fn play_cold<P: Plant + Drop>(alloc: Global, asked: &[Asked], plant: P) -> Ended<P>
     requires few { length asked.now ≤ 16777216 }
     requires fits { All (IsFitStep config_by_default.node) asked.now }
-    ensures refused { Answers (first_some (refused_devices ((P.view plant).size Ckpt1) ((P.view plant).size Ckpt2))) result.status }
+    ensures refused { Answers true (first_some (refused_devices ((P.view plant).size Ckpt1) ((P.view plant).size Ckpt2))) result.status }
     ensures no_source { result.status ≡ Status.SourceFault → ⊥ }
     ensures formatted { (first second : CopyState) → result.status ≡ Status.NotFormatted first second → ⊥ }
     ensures cause { IsCaused result.status (P.view plant) (P.view result.plant) }
@@ -189,7 +189,8 @@ pub(crate) fn play_script<P: Plant + Drop>(alloc: Global, asked: &[Asked], plant
     ensures loses { has_begun result.base ≡ false → (d : Dev) → (P.view result.plant).loses d ≡ (P.view plant).loses d }
     ensures elsewhere { P.tells → IsOnlyOn (P.view plant) (P.view result.plant) }
     ensures room { has_begun result.base ≡ true → (bytes_needed ≤ (P.view plant).size Ckpt1) × (bytes_needed ≤ (P.view plant).size Ckpt2) }
-    ensures run { has_begun result.base ≡ true → IsRun P.tells asked.now result.status result.base result.journal result.since (P.view plant) (P.view result.plant) }
+    ensures config { has_begun result.base ≡ true → result.base.config ≡ config_by_default }
+    ensures run { has_begun result.base ≡ true → IsRun true P.tells asked.now result.status result.base result.journal result.since (P.view plant) (P.view result.plant) }
 {
     if let Some(status) = refuse_devices(&plant) {
         return unbegun(alloc, status, plant);

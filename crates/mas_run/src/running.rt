@@ -48,7 +48,8 @@ impl<P: Plant + Drop, C: Steady + Drop> Running<P, C> {
     ghost use Rattle.mas_run.specs.Entering.{MayEnter};
     ghost use Rattle.mas_run.specs.Between.{RestsAt, IsBetween, AreAllKept};
     ghost use Rattle.mas_run.specs.Stops.{IsStepOf};
-    ghost use Rattle.mas_run.specs.Plays.{ArePlayed};
+    ghost use Rattle.mas_run.specs.Plays.{HasPlay};
+    ghost use Rattle.mas_run.specs.Told.{console_now};
 
     /// Plays a step of SYSA.
     pub(crate) fn play_step(
@@ -96,18 +97,19 @@ impl<P: Plant + Drop, C: Steady + Drop> Running<P, C> {
         requires few { length asked.now ≤ 16777216 }
         requires may { All (λ step. IfDeck step (MayEnter self.old.checkpoint.tables.config self.old.checkpoint.tables.owners sysa)) asked.now }
         requires copies { All (λ step. IfLose step IsCkpt) asked.now }
-        requires journal { self.old.complex.journal.batches ≡ [] }
-        requires since { self.old.complex.since ≡ (P.view self.old.complex.plant).now }
+        requires since { self.old.complex.since ≤ (P.view self.old.complex.plant).now }
+        requires quiet { P.tells → ((P.view self.old.complex.plant).world self.old.complex.since).console ≡ console_now (P.view self.old.complex.plant) }
+        requires kept { AreAllKept self.old.complex.journal.batches (P.view self.old.complex.plant).now }
         requires some { SomeAlive self.old.complex.pair.first.alive self.old.complex.pair.second.alive }
-        requires order { self.old.checkpoint.tables.order < 2 ^ 62 }
-        requires level { self.old.checkpoint.level < 2 ^ 62 }
+        requires order { self.old.checkpoint.tables.order < 2 ^ 62 + 64 }
+        requires level { self.old.checkpoint.level < 2 ^ 62 + 64 }
         requires rooms { (copy : C) → 1 ≤ C.room copy }
         requires between { IsBetween self.old.complex.base self.old.complex.journal.batches self.old.complex.current self.old.complex.placed self.old.complex.level self.old.checkpoint }
         requires rests1 { RestsAt P.tells self.old.complex.pair.first.alive self.old.complex.first (C.count self.old.complex.pair.first.copy) self.old.checkpoint.pages (C.reads (disk_now (P.view self.old.complex.plant) Ckpt1).bytes) }
         requires rests2 { RestsAt P.tells self.old.complex.pair.second.alive self.old.complex.second (C.count self.old.complex.pair.second.copy) self.old.checkpoint.pages (C.reads (disk_now (P.view self.old.complex.plant) Ckpt2).bytes) }
         ensures base { self.new.complex.base ≡ self.old.complex.base }
         ensures since { self.new.complex.since ≡ self.old.complex.since }
-        ensures played { ArePlayed P.tells self.old.complex.base asked.now (end_of self.new.complex.placed self.new.complex.current self.new.complex.journal.batches)
+        ensures played { HasPlay P.tells (run self.old.complex.base (kept_all self.old.complex.journal.batches)) asked.now self.old.complex.journal.batches (end_of self.new.complex.placed self.new.complex.current self.new.complex.journal.batches)
             self.old.complex.pair.first.alive self.new.complex.pair.first.alive self.old.complex.pair.second.alive self.new.complex.pair.second.alive
             (P.view self.old.complex.plant) (P.view self.new.complex.plant) result }
     {

@@ -1,22 +1,31 @@
 //! The top call.
-ghost use Rattle.std.specs.Prelude.{◌≡◌, ◌⊎◌, ◌↔◌, ℕ, ◌≤◌, ◌<◌, map, string_bytes, nat_lt, true, false, [], List, None, Ok, All, length, IfOk, IfErr, OnOk, IsErrOf};
+ghost use Rattle.std.specs.Prelude.{◌≡◌, ◌≢◌, ◌⊎◌, ◌↔◌, ℕ, ◌≤◌, map, string_bytes, true, false, [], List, None, Ok, All, length, IfOk, IfErr, OnOk, IsErrOf};
 ghost use Rattle.mas_types.specs.declared.ids.Dev.{Dev};
 ghost use Rattle.mas_types.specs.declared.ids.Dev.TheVariants.{Ckpt1, Ckpt2};
 ghost use Rattle.mas_types.specs.Starts.{default_config as config_by_default};
 ghost use Rattle.first_script.specs.declared.asked.Asked.{Asked};
 ghost use Rattle.first_script.specs.Steps.{IsFitStep};
 ghost use Rattle.spool_disk.specs.Acts.{Goes, Rose};
-ghost use Rattle.mas_run.specs.Words.{are_words as are_words_lem};
-ghost use Rattle.mas_run.specs.Refusals.{said_by, refusal_before_play, bytes_needed, Answers, IsSmall, is_of_script, IsAsked};
+ghost use Rattle.mas_types.specs.Lists.{first_some};
+ghost use Rattle.ckpt_copy.specs.Areas.{areas_size};
+ghost use Rattle.ckpt_pages.specs.Shape.{page_count};
+ghost use Rattle.first_script.specs.Script.{read_as};
+ghost use Rattle.warm_start.specs.Starting.{OnlyLooked};
+ghost use Rattle.mas_run.specs.Words.{are_cold as are_cold_lem, are_words as are_words_lem};
+ghost use Rattle.first_script.specs.Nodes.{at_node};
+ghost use Rattle.mas_run.specs.Unstarted.{IsNotStarted};
+ghost use Rattle.mas_run.specs.Refusals.{refusal_before_play, refused_sizes, Answers, IsPlayedOut, IsSmall, is_of_script, IsAsked};
 ghost use Rattle.mas_run.specs.Runs.{has_begun, Begins, IsUnbegun, IsRun};
-ghost use Rattle.mas_run.specs.Statuses.{IsCaused, IsStill};
+ghost use Rattle.mas_run.specs.Statuses.{IsCaused, IsStill, is_of_text};
 ghost use Rattle.mas_run.specs.Told.{console_now};
 ghost use Rattle.mas_run.specs.Crash.{IsOnlyOn};
 ghost use Rattle.mas_types.specs.declared.answers.CopyState.{CopyState};
 
 use crate::ended::Ended;
-use crate::play::{play_script, unbegun};
-use crate::words::are_words;
+use crate::found::play_warm;
+use crate::play::{play_cold, unbegun};
+use crate::words::{are_cold, are_warm};
+use first_script::laws::law_of_nodes;
 use first_script::{Asked, BadLine, ScriptNo, SourceNo, read_script, read_source};
 use mas_types::{List, Status, default_config};
 use spool_disk::{Plant, Source};
@@ -30,7 +39,7 @@ fn read_all<S: Source>(alloc: Global, script: &mut S) -> Result<List<Asked>, Sta
     ensures read { S.tells → OnOk result (S.left script.new ≡ []) }
     ensures kind { IfErr result (λ status. is_of_script status ≡ true) }
     ensures refused { S.tells → IfErr result (λ status. (words : List (List ℕ)) (size1 size2 : ℕ) → are_words_lem words ≡ true
-        → Answers (refusal_before_play words (S.left script.old) size1 size2) status) }
+        → Answers (are_cold_lem words) (refusal_before_play words (S.left script.old) size1 size2) status) }
     ensures source { IsErrOf result Status.SourceFault → Rose (S.faults script.old) (S.faults script.new) }
 {
     let bytes = match read_source(alloc, script) {
@@ -46,13 +55,43 @@ fn read_all<S: Source>(alloc: Global, script: &mut S) -> Result<List<Asked>, Sta
     }
 }
 
-/// Plays a script from an empty queue on a plant whose CKPT1 and CKPT2 are formatted for it.
+// Plays what the script asks for, cold or warm.
+fn play<P: Plant + Drop>(alloc: Global, cold: bool, asked: List<Asked>, plant: P) -> Ended<P>
+    requires few { length asked ≤ 16777216 }
+    requires fits { All (IsFitStep config_by_default.node) asked }
+    ensures refused { Answers cold (first_some (refused_sizes cold ((P.view plant).size Ckpt1) ((P.view plant).size Ckpt2))) result.status }
+    ensures no_source { result.status ≡ Status.SourceFault → ⊥ }
+    ensures no_text { is_of_text result.status ≡ false }
+    ensures formatted { cold ≡ true → (first second : CopyState) → result.status ≡ Status.NotFormatted first second → ⊥ }
+    ensures unstarted { cold ≡ false → has_begun result.base ≡ false → IsNotStarted P.tells result.status (P.view plant) (P.view result.plant) }
+    ensures cause { IsCaused result.status (P.view plant) (P.view result.plant) }
+    ensures begun { Begins result.status result.base }
+    ensures unbegun { has_begun result.base ≡ false → IsUnbegun result.base result.journal result.since (P.view result.plant).now }
+    ensures untouched { has_begun result.base ≡ false → (result.status ≡ Status.BothLost) ⊎ ((result.plant ≡ plant) ⊎ ((cold ≡ false) × (P.tells → OnlyLooked (P.view plant) (P.view result.plant)))) }
+    ensures unsaid { P.tells → has_begun result.base ≡ false → console_now (P.view result.plant) ≡ console_now (P.view plant) }
+    ensures goes { Goes (P.view plant) (P.view result.plant) }
+    ensures loses { has_begun result.base ≡ false → (result.status ≢ Status.BothLost) ⊎ (cold ≡ true) → (d : Dev) → (P.view result.plant).loses d ≡ (P.view plant).loses d }
+    ensures elsewhere { P.tells → IsOnlyOn (P.view plant) (P.view result.plant) }
+    ensures room { has_begun result.base ≡ true → (areas_size (page_count result.base.config) ≤ (P.view plant).size Ckpt1) × (areas_size (page_count result.base.config) ≤ (P.view plant).size Ckpt2) }
+    ensures run { has_begun result.base ≡ true → IsRun cold P.tells (at_node result.base.config.node asked) result.status result.base result.journal result.since (P.view plant) (P.view result.plant) }
+{
+    if cold {
+        play_cold(alloc, asked.as_slice(), plant)
+    } else {
+        play_warm(alloc, asked, plant)
+    }
+}
+
+/// Plays a script on a plant: with the words `play --cold` from an empty queue, for which CKPT1 and CKPT2 are formatted, and
+/// with the word `play` from the queue that is found on them.
 ///
-/// The words are `play --cold`. The script is read to its end before anything is played. Its steps are decks of a JOB card at
-/// SYSA, and losses of a copy of the checkpoint. First both copies are formatted with the empty queue of the default
-/// configuration. Then the steps are played one after another: a deck's job is entered in one batch, which is kept once each copy
-/// that is left has it, and the closing line of its step is said then; where no job slot is free the step closes with that
-/// refusal. A copy that fails or is lost is left out, and the run goes on with the other.
+/// The script is read to its end before anything is played. Its steps are decks of a JOB card at SYSA, and losses of a copy of
+/// the checkpoint. A cold run first formats both copies with the empty queue of the default configuration. A warm run looks at
+/// both, takes the usable one of greater level, CKPT1 on a tie, loses the other one where it can't be used or doesn't fit and else
+/// brings it up, and gives Restart as its first batch; its jobs are at the node of the configuration that is found. Then the steps are
+/// played one after another: a deck's job is entered in one batch, which is kept once each copy that is left has it, and the
+/// closing line of its step is said then; where no job slot is free the step closes with that refusal. A copy that fails or is
+/// lost is left out, and the run goes on with the other.
 ///
 /// A stop of the member inside an act ends the run with Done, and no further line is said.
 pub fn calm_top<P: Plant + Drop, S: Source>(
@@ -63,40 +102,45 @@ pub fn calm_top<P: Plant + Drop, S: Source>(
 ) -> Ended<P>
     // What is refused before play, and why else a run ends.
     ensures words { (result.status ≡ Status.Words) ↔ (are_words_lem (map string_bytes words.now) ≡ false) }
-    ensures refused { S.tells → Answers (refusal_before_play (map string_bytes words.now) (S.left script.old) ((P.view plant).size Ckpt1) ((P.view plant).size Ckpt2)) result.status }
-    ensures device { (dev : Dev) (size : ℕ) → result.status ≡ Status.DeviceSize dev size → IsSmall dev size ((P.view plant).size Ckpt1) ((P.view plant).size Ckpt2) }
-    ensures formatted { (first second : CopyState) → result.status ≡ Status.NotFormatted first second → ⊥ }
+    ensures refused { S.tells → Answers (are_cold_lem (map string_bytes words.now)) (refusal_before_play (map string_bytes words.now) (S.left script.old) ((P.view plant).size Ckpt1) ((P.view plant).size Ckpt2)) result.status }
+    ensures device { are_cold_lem (map string_bytes words.now) ≡ true → (dev : Dev) (size : ℕ) → result.status ≡ Status.DeviceSize dev size → IsSmall dev size ((P.view plant).size Ckpt1) ((P.view plant).size Ckpt2) }
+    ensures formatted { are_cold_lem (map string_bytes words.now) ≡ true → (first second : CopyState) → result.status ≡ Status.NotFormatted first second → ⊥ }
+    ensures unstarted { are_cold_lem (map string_bytes words.now) ≡ false → has_begun result.base ≡ false → IsNotStarted P.tells result.status (P.view plant) (P.view result.plant) }
     ensures source { result.status ≡ Status.SourceFault → Rose (S.faults script.old) (S.faults script.new) }
     ensures cause { IsCaused result.status (P.view plant) (P.view result.plant) }
     ensures begun { Begins result.status result.base }
 
-    // A run that has not begun leaves all as it was, but where both copies were lost in the formatting.
+    // A run that has not begun leaves all as it was, but where both copies were lost in the formatting or the start. A warm
+    // one looked at the copies.
     ensures unread { result.status ≡ Status.Words → script.new ≡ script.old }
     ensures unbegun { has_begun result.base ≡ false → IsUnbegun result.base result.journal result.since (P.view result.plant).now }
-    ensures untouched { has_begun result.base ≡ false → (result.status ≡ Status.BothLost) ⊎ (result.plant ≡ plant) }
+    ensures untouched { has_begun result.base ≡ false → (result.status ≡ Status.BothLost) ⊎ ((result.plant ≡ plant) ⊎ ((are_cold_lem (map string_bytes words.now) ≡ false) × (P.tells → OnlyLooked (P.view plant) (P.view result.plant)))) }
     ensures unsaid { P.tells → has_begun result.base ≡ false → console_now (P.view result.plant) ≡ console_now (P.view plant) }
 
-    // Any run acts on CKPT1, CKPT2 and the console alone, and loses no device but by a step that says so.
+    // Any run acts on CKPT1, CKPT2 and the console alone, and loses no device but by a step that says so, or a copy that a
+    // warm start doesn't take.
     ensures goes { Goes (P.view plant) (P.view result.plant) }
-    ensures loses { has_begun result.base ≡ false → (d : Dev) → (P.view result.plant).loses d ≡ (P.view plant).loses d }
+    ensures loses { has_begun result.base ≡ false → (result.status ≢ Status.BothLost) ⊎ (are_cold_lem (map string_bytes words.now) ≡ true) → (d : Dev) → (P.view result.plant).loses d ≡ (P.view plant).loses d }
     ensures elsewhere { P.tells → IsOnlyOn (P.view plant) (P.view result.plant) }
 
     // A run that has begun plays what its script asks for.
-    ensures room { has_begun result.base ≡ true → (bytes_needed ≤ (P.view plant).size Ckpt1) × (bytes_needed ≤ (P.view plant).size Ckpt2) }
+    ensures room { has_begun result.base ≡ true → (areas_size (page_count result.base.config) ≤ (P.view plant).size Ckpt1) × (areas_size (page_count result.base.config) ≤ (P.view plant).size Ckpt2) }
     ensures read { S.tells → has_begun result.base ≡ true → S.left script.new ≡ [] }
-    ensures run { has_begun result.base ≡ true → ((asked : List Asked) × (S.tells → said_by (S.left script.old) ≡ Ok asked)
-        × IsRun P.tells asked result.status result.base result.journal result.since (P.view plant) (P.view result.plant)) }
+    ensures run { has_begun result.base ≡ true → ((asked : List Asked) × (S.tells → read_as result.base.config.node (S.left script.old) ≡ Ok asked)
+        × IsRun (are_cold_lem (map string_bytes words.now)) P.tells asked result.status result.base result.journal result.since (P.view plant) (P.view result.plant)) }
 
-    // What nothing hinders is played to its end.
+    // What nothing hinders is played to its end, where a warm run finds a queue and its devices are large enough for it.
     ensures complete { S.tells → refusal_before_play (map string_bytes words.now) (S.left script.old) ((P.view plant).size Ckpt1) ((P.view plant).size Ckpt2) ≡ None
         → IsStill (S.faults script.old) (S.faults script.new) (P.view plant) (P.view result.plant)
-        → (result.status ≡ Status.Done) ⊎ (result.status ≡ Status.NoMemory) }
+        → IsPlayedOut (are_cold_lem (map string_bytes words.now)) result.status }
 {
-    if !are_words(words) {
+    let cold = are_cold(words);
+    if !cold && !are_warm(words) {
         return unbegun(alloc, Status::Words, plant);
     }
+    law_of_nodes();
     match read_all(alloc, script) {
-        Ok(asked) => play_script(alloc, asked.as_slice(), plant),
+        Ok(asked) => play(alloc, cold, asked, plant),
         Err(status) => unbegun(alloc, status, plant),
     }
 }

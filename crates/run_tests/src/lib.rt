@@ -9,3 +9,5 @@ mod faults;
 mod looking;
 #[cfg(test)]
 mod runs;
+#[cfg(test)]
+mod warm;

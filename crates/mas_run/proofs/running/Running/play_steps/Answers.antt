@@ -1,10 +1,12 @@
-use Rattle.std.proofs.Common.{◌≡◌, ◌∙◌, ◌+◌, ℕ, refl, ap, arith, take}
+use Rattle.std.proofs.Common.{◌≡◌, ◌∙◌, ◌+◌, ◌++◌, [], List, ℕ, refl, sym, ap, arith, take}
+use Rattle.std.proofs.lemmas.List.{append-nil}
 use Rattle.std.proofs.lemmas.Result.{err_from_is_err_and}
 use Rattle.mas_types.specs.declared.queues.Queue.{Queue}
+use Rattle.mas_types.specs.declared.journals.Batch.{Batch}
 use Rattle.spool_disk.specs.View.{World}
 use Rattle.mas_complex.specs.Journals.{kept_all}
 use Rattle.mas_complex.specs.Meaning.{run}
-use Rattle.mas_run.proofs.PlayLemmas.{all_kept, at_itself, may_step, untold_step, step_renamed, played_on, played_out, played_all, played_none}
+use Rattle.mas_run.proofs.PlayLemmas.{all_kept, at_itself, may_step, untold_step, step_renamed, played_on, played_out, played_all, played_none, step_behind, queue_behind, all_kept_behind}
 use Rattle.mas_run.proofs.WriteLemmas.{none_out}
 use Rattle.mas_run.proofs.running.Running.play_steps.Goals as goal
 
@@ -22,7 +24,11 @@ loop-step-init g c =
       owners = refl;
       order = omega arith;
       level = omega arith;
-      played = played_none g.P.Plant.tells x.base c.args.asked.now x.journal.batches x.pair.first.alive x.pair.second.alive (g.P.Plant.view x.plant) c.requires.journal c.requires.some;
+      play = record {
+        rest = [];
+        batches_are = sym (append-nil x.journal.batches);
+        played = played_none g.P.Plant.tells (run x.base (kept_all x.journal.batches)) c.args.asked.now [] x.pair.first.alive x.pair.second.alive (g.P.Plant.view x.plant) refl c.requires.some;
+      };
     }
 
 pub play_step-requires-clause-may : goal.play_step-requires-clause-may
@@ -36,15 +42,18 @@ play_step-requires-clause-untold g c told =
     let v0 = g.P.Plant.view x.plant in
     let v = g.P.Plant.view y.plant in
     let next : c.loop-step.number + 1 ≡ 1 + c.loop-step.step-index = omega (arith, i.number) in
-    let since : y.since ≡ v0.now = i.since ∙ c.requires.since in
-    untold_step g.C.Copying.reads y.base x.base y.since c.args.asked.now c.loop-step.step-index (c.loop-step.number + 1) _ (run y.base (kept_all y.journal.batches)) v0 v next (omega arith) c.loop-step-test.true
-    (ap (λ (t : ℕ). (v.world t).console) since ∙ ap (λ (w : World). w.console) (i.played.course.goes.past v0.now (omega arith))) (i.played.said told)
+    untold_step g.C.Copying.reads y.base (run x.base (kept_all x.journal.batches)) y.since c.args.asked.now c.loop-step.step-index (c.loop-step.number + 1) _ (run y.base (kept_all y.journal.batches)) v0 v next (omega arith) c.loop-step-test.true
+    (ap (λ (t : ℕ). (v.world t).console) i.since ∙ ap (λ (w : World). w.console) (i.play.played.course.goes.past x.since c.requires.since) ∙ c.requires.quiet told) (i.play.played.said told)
 
 pub play_step-requires-clause-kept : goal.play_step-requires-clause-kept
 play_step-requires-clause-kept g c =
     let x = c.args.self.now.complex in
     let y = c.loop-step.self.complex in
-    all_kept x.base 1 (take c.loop-step.step-index c.args.asked.now) (g.P.Plant.view x.plant).now (g.P.Plant.view y.plant).now y.journal.batches c.loop-step.invariant.played.kept
+    let i = c.loop-step.invariant in
+    let v0 = g.P.Plant.view x.plant in
+    let v = g.P.Plant.view y.plant in
+    all_kept_behind x.journal.batches i.play.rest y.journal.batches v0.now v.now i.play.played.course.goes.later i.play.batches_are c.requires.kept
+    (all_kept (run x.base (kept_all x.journal.batches)) 1 (take c.loop-step.step-index c.args.asked.now) v0.now v.now i.play.rest i.play.played.kept)
 
 pub loop-step-preserved : goal.loop-step-preserved
 loop-step-preserved g c =
@@ -57,8 +66,12 @@ loop-step-preserved g c =
     let v0 = P.view x.plant in
     let v = P.view y.plant in
     let w = P.view z.plant in
+    let from : Queue = run x.base (kept_all x.journal.batches) in
     let next : c.loop-step.number + 1 ≡ 1 + c.loop-step.step-index = omega (arith, i.number) in
-    let queue : run y.base (kept_all y.journal.batches) ≡ run x.base (kept_all y.journal.batches) = ap (λ (q : Queue). run q (kept_all y.journal.batches)) i.base in
+    let queue : run y.base (kept_all y.journal.batches) ≡ run from (kept_all i.play.rest) = ap (λ (q : Queue). run q (kept_all y.journal.batches)) i.base ∙ queue_behind x.base x.journal.batches i.play.rest y.journal.batches i.play.batches_are in
+    let out = none_out z.journal.batches z.journal.batches z.placed z.current refl e.between.unplaced e.between.none in
+    let behind = step_behind P.tells (run from (kept_all i.play.rest)) (1 + c.loop-step.step-index) x.journal.batches i.play.rest z.journal.batches y.pair.first.alive z.pair.first.alive y.pair.second.alive z.pair.second.alive v w _ _
+    (rw i.play.batches_are at (step_renamed P.tells _ _ _ _ _ y.journal.batches _ _ _ _ _ _ _ _ _ queue next out e.step)) in
     record {
       number = omega (arith, i.number);
       base = e.base ∙ i.base;
@@ -70,10 +83,13 @@ loop-step-preserved g c =
       owners = e.owners ∙ i.owners;
       order = omega (arith, e.order, i.order);
       level = omega (arith, e.level, i.level);
-      played = played_on P.tells x.base c.args.asked.now c.loop-step.step-index _ c.loop-step-test.true (at_itself c.args.asked.now c.loop-step.step-index _ c.loop-step-test.true) y.journal.batches
-          x.pair.first.alive y.pair.first.alive z.pair.first.alive x.pair.second.alive y.pair.second.alive z.pair.second.alive v0 v w i.played tt z.journal.batches
-          (c.requires.copies c.loop-step.step-index _ c.loop-step-test.true)
-          (step_renamed P.tells _ _ _ _ _ _ _ _ _ _ _ _ _ _ _ queue next (none_out z.journal.batches z.journal.batches z.placed z.current refl e.between.unplaced e.between.none) e.step);
+      play = record {
+        rest = behind.more;
+        batches_are = behind.are;
+        played = played_on P.tells from c.args.asked.now c.loop-step.step-index _ c.loop-step-test.true (at_itself c.args.asked.now c.loop-step.step-index _ c.loop-step-test.true) i.play.rest
+            x.pair.first.alive y.pair.first.alive z.pair.first.alive x.pair.second.alive y.pair.second.alive z.pair.second.alive v0 v w i.play.played tt behind.more
+            (c.requires.copies c.loop-step.step-index _ c.loop-step-test.true) behind.step;
+      };
     }
 
 pub returns-in_err-play_step-clause-played : goal.returns-in_err-play_step-clause-played
@@ -87,13 +103,18 @@ returns-in_err-play_step-clause-played g c =
     let v0 = P.view x.plant in
     let v = P.view y.plant in
     let w = P.view z.plant in
+    let from : Queue = run x.base (kept_all x.journal.batches) in
     let next : c.loop-step.number + 1 ≡ 1 + c.loop-step.step-index = omega (arith, i.number) in
-    let queue : run y.base (kept_all y.journal.batches) ≡ run x.base (kept_all y.journal.batches) = ap (λ (q : Queue). run q (kept_all y.journal.batches)) i.base in
+    let queue : run y.base (kept_all y.journal.batches) ≡ run from (kept_all i.play.rest) = ap (λ (q : Queue). run q (kept_all y.journal.batches)) i.base ∙ queue_behind x.base x.journal.batches i.play.rest y.journal.batches i.play.batches_are in
+    let behind = step_behind P.tells (run from (kept_all i.play.rest)) (1 + c.loop-step.step-index) x.journal.batches i.play.rest _ y.pair.first.alive z.pair.first.alive y.pair.second.alive z.pair.second.alive v w _ _
+    (rw i.play.batches_are at (step_renamed P.tells _ _ _ _ _ y.journal.batches _ _ _ _ _ _ _ _ _ queue next refl e.step)) in
     let p = err_from_is_err_and c.from_residual.result c.from_residual.ensures.1 in
-    rw (p.1, p.2)
-    (played_out P.tells x.base c.args.asked.now c.loop-step.step-index _ c.loop-step-test.true (at_itself c.args.asked.now c.loop-step.step-index _ c.loop-step-test.true) y.journal.batches
-    x.pair.first.alive y.pair.first.alive z.pair.first.alive x.pair.second.alive y.pair.second.alive z.pair.second.alive v0 v w i.played _ _
-    (step_renamed P.tells _ _ _ _ _ _ _ _ _ _ _ _ _ _ _ queue next refl e.step))
+    rw (p.1, p.2) (record {
+      rest = behind.more;
+      batches_are = behind.are;
+      played = played_out P.tells from c.args.asked.now c.loop-step.step-index _ c.loop-step-test.true (at_itself c.args.asked.now c.loop-step.step-index _ c.loop-step-test.true) i.play.rest
+          x.pair.first.alive y.pair.first.alive z.pair.first.alive x.pair.second.alive y.pair.second.alive z.pair.second.alive v0 v w i.play.played _ behind.more behind.step;
+    })
 
 pub returns-clause-played : goal.returns-clause-played
 returns-clause-played g c =
@@ -101,5 +122,9 @@ returns-clause-played g c =
     let x = c.args.self.now.complex in
     let y = c.loop-step.self.complex in
     let i = c.loop-step.invariant in
-    played_all tt P.tells x.base c.args.asked.now c.loop-step.step-index y.journal.batches _ x.pair.first.alive y.pair.first.alive x.pair.second.alive y.pair.second.alive (P.view x.plant) (P.view y.plant) (omega arith)
-    (none_out y.journal.batches y.journal.batches y.placed y.current refl i.between.unplaced i.between.none) i.played
+    let out = none_out y.journal.batches y.journal.batches y.placed y.current refl i.between.unplaced i.between.none in
+    record {
+      rest = i.play.rest;
+      batches_are = out ∙ i.play.batches_are;
+      played = played_all tt P.tells (run x.base (kept_all x.journal.batches)) c.args.asked.now c.loop-step.step-index i.play.rest i.play.rest x.pair.first.alive y.pair.first.alive x.pair.second.alive y.pair.second.alive (P.view x.plant) (P.view y.plant) (omega arith) refl i.play.played;
+    }

@@ -2,7 +2,9 @@ use Rattle.std.proofs.Common.{◌≡◌, ◌+◌, ◌≤◌}
 use Rattle.mas_types.specs.declared.ids.Dev.TheVariants.{Ckpt1, Ckpt2}
 use Rattle.spool_disk.specs.View.{disk_now}
 use Rattle.mas_run.specs.Between.{RestsAt, IsBetween}
-use Rattle.mas_run.specs.Plays.{HavePlayed}
+use Rattle.mas_complex.specs.Journals.{kept_all}
+use Rattle.mas_complex.specs.Meaning.{run}
+use Rattle.mas_run.specs.Plays.{HavePlay}
 use Rattle.mas_run.proofs.running.Running.play_steps.Given as goal
 
 abbrev pub invariant-loop-step : goal.invariant-loop-step
@@ -22,5 +24,5 @@ invariant-loop-step g l =
       owners : l.self.checkpoint.tables.owners ≡ l.fn.self.checkpoint.tables.owners;
       order : l.self.checkpoint.tables.order ≤ l.fn.self.checkpoint.tables.order + l.step-index;
       level : l.self.checkpoint.level ≤ l.fn.self.checkpoint.level + l.step-index;
-      played : HavePlayed P.tells x.base l.asked l.step-index y.journal.batches x.pair.first.alive y.pair.first.alive x.pair.second.alive y.pair.second.alive (P.view x.plant) (P.view y.plant);
+      play : HavePlay P.tells (run x.base (kept_all x.journal.batches)) l.asked l.step-index x.journal.batches y.journal.batches x.pair.first.alive y.pair.first.alive x.pair.second.alive y.pair.second.alive (P.view x.plant) (P.view y.plant);
     }

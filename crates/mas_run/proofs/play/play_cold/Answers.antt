@@ -1,7 +1,9 @@
-use Rattle.std.proofs.Common.{◌≡◌, ◌∙◌, true, false, List, length, sym, ap, subst, arith}
+use Rattle.std.proofs.Common.{◌≡◌, ◌∙◌, ℕ, true, false, List, length, inl, sym, ap, subst, arith}
+use Rattle.std.proofs.Math.Logic.{∥∥₁_map}
 use Rattle.mas_types.specs.declared.ids.Dev.TheVariants.{Ckpt1, Ckpt2}
 use Rattle.mas_types.specs.declared.queues.Queue.{Queue}
-use Rattle.spool_disk.specs.View.{View, disk_now}
+use Rattle.spool_disk.specs.View.{View, World, disk_now}
+use Rattle.spool_disk.specs.Acts.{Goes}
 use Rattle.ckpt_copy.specs.Areas.{reads}
 use Rattle.ckpt_copy.specs.AreaStates.{Rests, Holds}
 use Rattle.ckpt_copy.specs.Images.{area_rests_now}
@@ -14,12 +16,13 @@ use Rattle.mas_complex.specs.Meaning.{StandFor, run}
 use Rattle.mas_run.specs.Standing.{queue_of}
 use Rattle.mas_run.specs.Told.{console_now}
 use Rattle.mas_run.specs.Crash.{IsOnlyOn}
-use Rattle.mas_run.specs.Runs.{IsRun}
+use Rattle.mas_run.specs.Between.{AreAllKept}
+use Rattle.mas_run.specs.Runs.{IsPlay}
 use Rattle.mas_run.specs.Statuses.{IsCausedFrom}
 use Rattle.mas_run.proofs.DrawnLemmas.{drawn_stand, drawn_level}
 use Rattle.mas_run.proofs.CourseLemmas.{only_on}
-use Rattle.mas_run.proofs.RunLemmas.{run_since, caused_since, formed_copy, all_may, all_copies, below_empty}
-use Rattle.mas_run.proofs.play.play_script.Goals as goal
+use Rattle.mas_run.proofs.RunLemmas.{cold_steps, steps_since, none_kept, caused_since, formed_copy, all_may, all_copies, below_empty}
+use Rattle.mas_run.proofs.play.play_cold.Goals as goal
 
 pub make-complex-requires-clause-begins : goal.make-complex-requires-clause-begins
 make-complex-requires-clause-begins g c told =
@@ -35,10 +38,16 @@ make-complex-requires-clause-begins g c told =
     (λ is. rw c.as_slice.ensures at (f.formed2 told is)) (λ not lt. f.gone2 told c.new-pair.ensures.alive.1 not lt) in
     ∣ record { pages = bytes_of k.pages; stands = record { at_level = drawn_level k.tables k.level k.levels k.pages c.in-Ok.ensures.drawn; queue = stand }; first_at = first; second_at = second } ∣₁
 
-pub play_asked-requires-clause-fresh : goal.play_asked-requires-clause-fresh
-play_asked-requires-clause-fresh g c told =
+pub play_asked-requires-clause-kept : goal.play_asked-requires-clause-kept
+play_asked-requires-clause-kept g c =
     let m = c.make-complex.ensures in
-    rw (m.plant, m.base, m.since) (m.fresh told)
+    subst (λ (bs : List Batch). AreAllKept bs (g.P.Plant.view c.make-complex.result.plant).now) (sym m.journal) (none_kept (g.P.Plant.view c.make-complex.result.plant).now)
+
+pub play_asked-requires-clause-quiet : goal.play_asked-requires-clause-quiet
+play_asked-requires-clause-quiet g c told =
+    let m = c.make-complex.ensures in
+    let P = g.P.Plant in
+    ap (λ (t : ℕ). ((P.view c.make-complex.result.plant).world t).console) (m.since ∙ ap (λ p. (P.view p).now) (sym m.plant))
 
 pub play_asked-requires-clause-rests1 : goal.play_asked-requires-clause-rests1
 play_asked-requires-clause-rests1 g c =
@@ -128,9 +137,28 @@ returns-clause-run g c begun =
     let P = g.P.Plant in
     let v0 = P.view c.args.plant in
     let v1 = P.view c.form.new.plant in
+    let x = c.make-complex.result in
     let r = c.play_asked.result in
+    let w = P.view r.plant in
     let f = c.in-Ok-form.ensures in
     let m = c.make-complex.ensures in
+    let e = c.play_asked.ensures in
+    let goes : Goes v1 w = rw m.plant at e.goes in
+    let since : r.since ≡ v1.now = e.since ∙ m.since in
     let quiet : P.tells → console_now v1 ≡ console_now v0 = λ t. (f.during t).console v1.now f.acted.goes.later (omega arith) in
-    run_since P.tells c.args.asked.now r.status r.base r.journal r.since v0 v1 (P.view r.plant) f.acted.goes f.acted.loses quiet
-    (subst (λ (v : View). IsRun P.tells c.args.asked.now r.status r.base r.journal r.since v (P.view r.plant)) (ap P.view m.plant) c.play_asked.ensures.run)
+    let play : IsPlay P.tells c.args.asked.now r.status r.base x.journal.batches r.journal r.since v1 w = subst (λ (v : View). IsPlay P.tells c.args.asked.now r.status r.base x.journal.batches r.journal r.since v w) (ap P.view m.plant) e.play in
+    let base : r.base ≡ c.in-Ok.base = e.base ∙ m.base in
+    record {
+      queue = base ∙ c.in-Ok.ensures.base;
+      moment = (omega (arith, since, f.acted.goes.later), omega (arith, since, goes.later));
+      fresh = λ t. rw (base, since) (∥∥₁_map (m.fresh t) (λ k. k w goes));
+      quiet = λ t. ap (λ (n : ℕ). (w.world n).console) since ∙ ap (λ (u : World). u.console) (goes.past v1.now (omega arith)) ∙ quiet t;
+      held = λ t. tt;
+      first = v1.loses;
+      before = f.acted.loses;
+      steps = steps_since v0 v1 w f.acted.goes true P.tells c.args.asked.now r.status r.base r.journal r.since v1.loses (λ d. inl (f.acted.loses d)) quiet
+          (cold_steps P.tells c.args.asked.now r.status r.base x.journal.batches r.journal r.since v1 w m.journal since goes play);
+    }
+
+pub returns-clause-config : goal.returns-clause-config
+returns-clause-config g c begun = ap (λ (q : Queue). q.config) (c.play_asked.ensures.base ∙ c.make-complex.ensures.base ∙ c.in-Ok.ensures.base)

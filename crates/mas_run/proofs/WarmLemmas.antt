@@ -1,0 +1,193 @@
+-- A warm run: what its start leaves, and why it doesn't begin.
+use Rattle.std.proofs.Common.{◌≡◌, ◌≢◌, ◌⊎◌, inl, inr, ⊎_elim, ℕ, ◌<◌, ◌≤◌, ◌==◌, nat_lt, nat_le, not, ◌&&◌, ◌||◌, Bool, true, false, List, [], ◌∷◌, Option, Some, None, codes, refl, sym, ◌∙◌, ap, subst, arith}
+use Rattle.std.proofs.lemmas.Bool.Decides.{nat_tests}
+use Rattle.mas_types.specs.declared.ids.Dev.{Dev}
+use Rattle.mas_types.specs.declared.ids.Dev.TheVariants.{Ckpt1, Ckpt2, Spool}
+use Rattle.mas_types.specs.declared.ids.Page.{Page}
+use Rattle.mas_types.specs.declared.answers.Status.{Status}
+use Rattle.mas_types.specs.declared.answers.Status.TheVariants as status
+use Rattle.mas_types.specs.declared.queues.Queue.{Queue}
+use Rattle.mas_types.specs.Starts.{no_queue}
+use Rattle.lay_bytes.specs.declared.records.JobRec.{JobRec}
+use Rattle.ckpt_copy.specs.Areas.{reads, areas_size}
+use Rattle.ckpt_copy.specs.Pages.{bytes_of, level}
+use Rattle.ckpt_pages.specs.declared.tables.Tables.{Tables}
+use Rattle.ckpt_pages.specs.Checkpoints.{IsCheckpoint}
+use Rattle.ckpt_pages.specs.Sound.{is_there, is_above, is_wrong_job_slot}
+use Rattle.ckpt_pages.proofs.SlotLists.{all_right, all_used}
+use Rattle.ckpt_pages.proofs.SoundLemmas.{none_wrong}
+use Rattle.lay_bytes.specs.Slots.{IfUsed}
+use Rattle.mas_types.specs.Ids.{same_number, is_somebody}
+use Rattle.mas_types.specs.Owners.{is_deck_of}
+use Rattle.mas_types.specs.Queue.{in_input}
+use Rattle.mas_types.specs.Sound.{may_be_busy}
+use Rattle.std.specs.List.{list_any}
+use Rattle.std.proofs.lemmas.Bool.{or_parts}
+use Rattle.spool_disk.specs.declared.plant.Part.TheVariants.{Disk as DiskPart, Console}
+use Rattle.spool_disk.specs.View.{View, World, Disk, disk_now}
+use Rattle.spool_disk.specs.Acts.{Goes, Rose}
+use Rattle.duplex_pair.specs.Both.{BothMeanwhile}
+use Rattle.warm_start.specs.declared.choosing.StartNo.{StartNo}
+use Rattle.warm_start.specs.declared.choosing.StartNo.TheVariants as no_start
+use Rattle.warm_start.specs.Levels.{levels_of}
+use Rattle.warm_start.specs.Starting.{IsCauseOf, Starts, IsOnce, WasTaken, OnlyLooked, HeldBack, IsHeld}
+use Rattle.warm_start.specs.Usable.{AreOf, HaveSize}
+use Rattle.warm_start.proofs.LevelLemmas.{their_levels}
+use Rattle.mas_run.specs.Drawn.{AreDrawn}
+use Rattle.mas_run.specs.Entering.{AreBelow}
+use Rattle.mas_run.specs.Runs.{has_begun, Begins, LosesFirst, IsHeldUntil}
+use Rattle.mas_run.specs.Standing.{queue_of}
+use Rattle.mas_run.specs.Statuses.{Grows, WasLost, IsCaused, IsCausedFrom, is_of_play, is_of_text}
+use Rattle.mas_run.specs.Unstarted.{status_of_start, StartCauses, IsNotStarted}
+use Rattle.mas_run.proofs.CourseLemmas.{lost_later, lost_more, rose_more}
+use Rattle.mas_run.proofs.DrawnLemmas.{drawn_level}
+
+-- WHAT IS FOUND
+
+-- the pages found are drawn from their tables
+pub found_drawn : (pages : List Page) (t : Tables) (levels : List ℕ) (at : ℕ) → AreOf pages t → HaveSize pages → levels ≡ levels_of pages → at ≡ level (bytes_of pages) → AreDrawn t at levels pages
+found_drawn pages t levels at are sized leveled is =
+    let c : IsCheckpoint pages t = are.0 in
+    let drawn : AreDrawn t c.level c.levels pages = record { spelling = c.fit; leveled = c.ages; spelled = c.spell; sized = sized } in
+    let same : at ≡ c.level = is ∙ drawn_level t c.level c.levels pages drawn in
+    let lists : levels ≡ c.levels = leveled ∙ their_levels pages t c in
+    subst (λ (n : ℕ). AreDrawn t n levels pages) (sym same) (subst (λ (ls : List ℕ). AreDrawn t c.level ls pages) (sym lists) drawn)
+
+below_next : (next n : ℕ) → nat_le next n ≡ false → n < next
+below_next next n h = grind (arith, nat_tests)
+
+-- a job that isn't wrong has an order below the next one
+job_below : (t : Tables) (before : List (Option JobRec)) (slot : Option JobRec) → is_wrong_job_slot t before slot ≡ false → IfUsed (λ j. j.order < t.order) slot
+job_below t before None h = tt
+job_below t before (Some j) h =
+    let number : Bool = is_there (λ (i : JobRec). same_number i.number j.number) before in
+    let order : Bool = is_there (λ (i : JobRec). i.order == j.order) before in
+    let next : Bool = nat_le t.order j.order in
+    let above : Bool = is_above t j.busy in
+    let phase : Bool = is_somebody j.busy && not (may_be_busy j.phase) in
+    let cards : Bool = in_input j.phase && nat_lt 0 j.cards in
+    let group : Bool = nat_lt 0 j.cards && not (list_any (is_deck_of j.number) t.owners) in
+    let g = or_parts (((((number || order) || next) || above) || phase) || cards) group h in
+    let f = or_parts ((((number || order) || next) || above) || phase) cards g.0 in
+    let e = or_parts (((number || order) || next) || above) phase f.0 in
+    let d = or_parts ((number || order) || next) above e.0 in
+    let c = or_parts (number || order) next d.0 in
+    below_next t.order j.order c.1
+
+pub found_below : (pages : List Page) (t : Tables) → AreOf pages t → AreBelow t
+found_below pages t are =
+    all_used (λ j. j.order < t.order) t.jobs (all_right (is_wrong_job_slot t) (IfUsed (λ j. j.order < t.order)) (job_below t) [] 0 t.jobs (none_wrong t are.1.sound).jobs)
+
+-- its queue has members
+pub found_begun : (pages : List Page) (t : Tables) (base : Queue) → AreOf pages t → base ≡ queue_of t → has_begun base ≡ true
+found_begun pages t base are is = ap has_begun is ∙ some t.config.members are.0.fit.shape.config.members.0 where
+  some : (n : ℕ) → 1 ≤ n → nat_lt 0 n ≡ true
+  some n le = grind (arith, nat_tests)
+
+-- THE STATUS OF A RUN THAT DIDN'T BEGIN
+
+pub not_source : (why : StartNo) → status_of_start why ≡ status.SourceFault → ⊥
+not_source (no_start.NotFormatted first second) e = absurd (cc)
+not_source no_start.BothLost e = absurd (cc)
+not_source (no_start.DeviceSize dev size) e = absurd (cc)
+not_source no_start.NoMemory e = absurd (cc)
+
+pub not_text : (why : StartNo) → is_of_text (status_of_start why) ≡ false
+not_text (no_start.NotFormatted first second) = refl
+not_text no_start.BothLost = refl
+not_text (no_start.DeviceSize dev size) = refl
+not_text no_start.NoMemory = refl
+
+pub play_not_text : (answer : Status) → is_of_play answer ≡ true → is_of_text answer ≡ false
+play_not_text status.Done e = refl
+play_not_text status.NoMemory e = refl
+play_not_text status.BothLost e = refl
+play_not_text status.ConsoleFault e = refl
+play_not_text status.SourceFault e = refl
+play_not_text status.Words e = absurd (cc)
+play_not_text (status.BadLine line cause) e = absurd (cc)
+play_not_text status.TooLong e = absurd (cc)
+play_not_text (status.NotFormatted first second) e = refl
+play_not_text (status.DeviceSize dev size) e = refl
+
+pub play_not_source : (answer : Status) → is_of_play answer ≡ true → answer ≡ status.SourceFault → ⊥
+play_not_source answer e is = no (sym (ap is_of_play is) ∙ e) where
+  no : false ≡ true → ⊥
+  no e = absurd (cc)
+
+pub play_begins : (answer : Status) (base : Queue) → is_of_play answer ≡ true → has_begun base ≡ true → Begins answer base
+play_begins status.Done base e begun = begun
+play_begins status.NoMemory base e begun = tt
+play_begins status.BothLost base e begun = tt
+play_begins status.ConsoleFault base e begun = begun
+play_begins status.SourceFault base e begun = absurd (cc)
+play_begins status.Words base e begun = absurd (cc)
+play_begins (status.BadLine line cause) base e begun = absurd (cc)
+play_begins status.TooLong base e begun = absurd (cc)
+play_begins (status.NotFormatted first second) base e begun = absurd (cc)
+play_begins (status.DeviceSize dev size) base e begun = absurd (cc)
+
+pub not_begun : (why : StartNo) (base : Queue) → base ≡ no_queue → Begins (status_of_start why) base
+not_begun (no_start.NotFormatted first second) base is = ap has_begun is
+not_begun no_start.BothLost base is = tt
+not_begun (no_start.DeviceSize dev size) base is = ap has_begun is
+not_begun no_start.NoMemory base is = tt
+
+pub why_not_lost : (why : StartNo) → (why ≡ no_start.BothLost) ⊎ (why ≢ no_start.BothLost)
+why_not_lost (no_start.NotFormatted first second) = inr (λ e. absurd (cc))
+why_not_lost no_start.BothLost = inl refl
+why_not_lost (no_start.DeviceSize dev size) = inr (λ e. absurd (cc))
+why_not_lost no_start.NoMemory = inr (λ e. absurd (cc))
+
+pub not_started : (tells : Type 0) (why : StartNo) (old new : View) → ((alive1 alive2 : Bool) × IsCauseOf reads tells areas_size old new alive1 alive2 why) → (why ≡ no_start.BothLost → Starts false false old new) → IsNotStarted tells (status_of_start why) old new
+not_started tells (no_start.NotFormatted first second) old new cause lost = record { alive1 = cause.0; alive2 = cause.1; cause = cause.2 }
+not_started tells no_start.BothLost old new cause lost = lost refl
+not_started tells (no_start.DeviceSize dev size) old new cause lost = record { alive1 = cause.0; alive2 = cause.1; cause = cause.2 }
+not_started tells no_start.NoMemory old new cause lost = tt
+
+pub start_caused : (why : StartNo) (old new : View) → (why ≡ no_start.BothLost → Starts false false old new) → IsCaused (status_of_start why) old new
+start_caused (no_start.NotFormatted first second) old new lost = record { lost = λ e. absurd (cc); failed1 = λ e. absurd (cc); failed2 = λ e. absurd (cc); console = λ e. absurd (cc) }
+start_caused no_start.BothLost old new lost = let s = lost refl in record { lost = λ e. (s.lost1 refl, s.lost2 refl); failed1 = λ e. s.taken1 refl; failed2 = λ e. s.taken2 refl; console = λ e. absurd (cc) }
+start_caused (no_start.DeviceSize dev size) old new lost = record { lost = λ e. absurd (cc); failed1 = λ e. absurd (cc); failed2 = λ e. absurd (cc); console = λ e. absurd (cc) }
+start_caused no_start.NoMemory old new lost = record { lost = λ e. absurd (cc); failed1 = λ e. absurd (cc); failed2 = λ e. absurd (cc); console = λ e. absurd (cc) }
+
+-- A RUN THAT BEGAN
+
+once_grows : (dev : Dev) (is : Bool) (old new : View) → IsOnce dev is old new → Grows (old.loses dev) (new.loses dev)
+once_grows dev is old new once = ⊎_elim inl (λ x. inr (omega (arith, x.1))) once
+
+once_first : (dev : Dev) (is : Bool) (old new : View) → IsOnce dev is old new → LosesFirst false (old.loses dev) (new.loses dev)
+once_first dev is old new once = ⊎_elim inl (λ x. inr x.1) once
+
+pub starts_grow : (a b : Bool) (old new : View) → Starts a b old new → (d : Dev) → Grows (old.loses d) (new.loses d)
+starts_grow a b old new s Ckpt1 = once_grows Ckpt1 a old new s.once1
+starts_grow a b old new s Ckpt2 = once_grows Ckpt2 b old new s.once2
+starts_grow a b old new s (Spool n) = inl (s.else_once (Spool n) (λ e. absurd (cc)) (λ e. absurd (cc)))
+
+pub starts_first : (a b : Bool) (old new : View) → Starts a b old new → (d : Dev) → LosesFirst false (old.loses d) (new.loses d)
+starts_first a b old new s Ckpt1 = once_first Ckpt1 a old new s.once1
+starts_first a b old new s Ckpt2 = once_first Ckpt2 b old new s.once2
+starts_first a b old new s (Spool n) = inl (s.else_once (Spool n) (λ e. absurd (cc)) (λ e. absurd (cc)))
+
+by_alive : {A : Type 0} (x : Bool) → (x ≡ true → A) → (x ≡ false → A) → A
+by_alive true f g = f refl
+by_alive false f g = g refl
+
+pub start_causes : (a b : Bool) (answer : Status) (v0 v1 v2 : View) → Starts a b v0 v1 → Goes v1 v2 → ((d : Dev) → Grows (v1.loses d) (v2.loses d)) → IsCausedFrom a b answer v1 v2 → IsCaused answer v0 v2
+start_causes a b answer v0 v1 v2 s goes grow caused = record {
+  lost = caused.lost;
+  failed1 = λ e. by_alive a (λ is. lost_later Ckpt1 v0 v1 v2 s.goes (starts_grow a b v0 v1 s Ckpt1) (caused.failed1 e is)) (λ not. lost_more Ckpt1 v0 v1 v2 (s.taken1 not) goes (grow Ckpt1));
+  failed2 = λ e. by_alive b (λ is. lost_later Ckpt2 v0 v1 v2 s.goes (starts_grow a b v0 v1 s Ckpt2) (caused.failed2 e is)) (λ not. lost_more Ckpt2 v0 v1 v2 (s.taken2 not) goes (grow Ckpt2));
+  console = λ e. omega (arith, s.goes.faults Console, caused.console e);
+}
+
+pub no : (base : Queue) → has_begun base ≡ true → has_begun base ≡ false → ⊥
+no base p q = cc
+
+-- what an image was during the start, it was when the run has ended
+pub held_until : (v0 v1 v2 : View) (found : List ℕ) → Goes v1 v2 → BothMeanwhile (IsHeld reads (disk_now v0 Ckpt1) found) (IsHeld reads (disk_now v0 Ckpt2) found) v0 v1 → IsHeldUntil v1.now v0 v2
+held_until v0 v1 v2 found goes held = record {
+  found = found;
+  first = λ t from le. subst (λ (w : World). IsHeld reads (disk_now v0 Ckpt1) found (w.disk Ckpt1)) (sym (goes.past t le)) (held.first t from le);
+  second = λ t from le. subst (λ (w : World). IsHeld reads (disk_now v0 Ckpt2) found (w.disk Ckpt2)) (sym (goes.past t le)) (held.second t from le);
+}

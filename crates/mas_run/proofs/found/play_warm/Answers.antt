@@ -1,0 +1,228 @@
+use Rattle.std.proofs.Common.{◌≡◌, ◌∙◌, ◌≤◌, ◌⊎◌, ℕ, List, codes, length, true, false, inl, inr, ⊎_elim, refl, sym, ap, subst, arith}
+use Rattle.std.proofs.Math.Logic.{∥∥₁_map}
+use Rattle.mas_types.specs.Starts.{default_config}
+use Rattle.mas_types.specs.Fit.{IsName}
+use Rattle.mas_types.specs.declared.ids.Dev.TheVariants.{Ckpt1, Ckpt2}
+use Rattle.mas_types.specs.declared.answers.Status.TheVariants as status
+use Rattle.mas_types.specs.declared.journals.Batch.{Batch}
+use Rattle.mas_types.specs.declared.queues.Queue.{Queue}
+use Rattle.ckpt_copy.specs.Areas.{reads, areas_size}
+use Rattle.ckpt_copy.specs.Moments.{goes_on}
+use Rattle.ckpt_copy.specs.Pages.{bytes_of}
+use Rattle.ckpt_pages.specs.Shape.{page_count}
+use Rattle.spool_disk.specs.View.{World, disk_now}
+use Rattle.spool_disk.specs.Acts.{Goes}
+use Rattle.mas_complex.specs.Journals.{kept_all}
+use Rattle.mas_complex.specs.Meaning.{run}
+use Rattle.warm_start.specs.Starting.{IsHeld}
+use Rattle.warm_start.proofs.Begun.{found_later}
+use Rattle.first_script.specs.Nodes.{at_node}
+use Rattle.mas_run.specs.Told.{console_now}
+use Rattle.mas_run.specs.Runs.{HasSteps}
+use Rattle.mas_run.proofs.CourseLemmas.{only_on}
+use Rattle.mas_run.proofs.NodeLemmas.{steps_for, copies_at, many_at}
+use Rattle.mas_run.proofs.RunLemmas.{steps_since}
+use Rattle.mas_run.proofs.WarmLemmas.{found_drawn, found_below, found_begun, not_source, not_text, play_not_text, play_not_source, play_begins, not_begun, why_not_lost, not_started, start_caused, starts_grow, starts_first, start_causes, held_until, no}
+use Rattle.mas_run.proofs.found.play_warm.Goals as goal
+
+pub returns-in-Err-clause-no_source : goal.returns-in-Err-clause-no_source
+returns-in-Err-clause-no_source g c e = not_source c.in-Err.field-0.why (sym c.status_of_start.ensures ∙ sym c.unbegun.ensures.status ∙ e)
+
+pub returns-in-Err-clause-no_text : goal.returns-in-Err-clause-no_text
+returns-in-Err-clause-no_text g c = rw (c.unbegun.ensures.status, c.status_of_start.ensures) (not_text c.in-Err.field-0.why)
+
+pub returns-in-Err-clause-unstarted : goal.returns-in-Err-clause-unstarted
+returns-in-Err-clause-unstarted g c none = rw (c.unbegun.ensures.status, c.status_of_start.ensures, c.unbegun.ensures.plant)
+    (not_started g.P.Plant.tells c.in-Err.field-0.why (g.P.Plant.view c.args.plant) (g.P.Plant.view c.in-Err.field-0.plant) c.in-Err.ensures.cause c.in-Err.ensures.lost)
+
+pub returns-in-Err-clause-cause : goal.returns-in-Err-clause-cause
+returns-in-Err-clause-cause g c = rw (c.unbegun.ensures.status, c.status_of_start.ensures, c.unbegun.ensures.plant)
+    (start_caused c.in-Err.field-0.why (g.P.Plant.view c.args.plant) (g.P.Plant.view c.in-Err.field-0.plant) c.in-Err.ensures.lost)
+
+pub returns-in-Err-clause-begun : goal.returns-in-Err-clause-begun
+returns-in-Err-clause-begun g c = rw (c.unbegun.ensures.status, c.status_of_start.ensures) (not_begun c.in-Err.field-0.why c.unbegun.result.base c.unbegun.ensures.unbegun.queue)
+
+pub returns-in-Err-clause-untouched : goal.returns-in-Err-clause-untouched
+returns-in-Err-clause-untouched g c none = rw (c.unbegun.ensures.status, c.status_of_start.ensures, c.unbegun.ensures.plant)
+    (⊎_elim (λ e. inl (rw e refl)) (λ ne. inr (c.in-Err.ensures.looked ne).0) (why_not_lost c.in-Err.field-0.why))
+
+pub returns-in-Err-clause-unsaid : goal.returns-in-Err-clause-unsaid
+returns-in-Err-clause-unsaid g c told none = rw c.unbegun.ensures.plant
+    (let h = (c.in-Err.ensures.held told).held in h.console (g.P.Plant.view c.in-Err.field-0.plant).now h.goes.later (omega arith))
+
+pub returns-in-Err-clause-loses : goal.returns-in-Err-clause-loses
+returns-in-Err-clause-loses g c none ne d = rw c.unbegun.ensures.plant
+    (⊎_elim (λ e. absurd (ne (c.unbegun.ensures.status ∙ c.status_of_start.ensures ∙ rw e refl))) (λ other. (c.in-Err.ensures.looked other).1 d) (why_not_lost c.in-Err.field-0.why))
+
+pub returns-in-Err-clause-elsewhere : goal.returns-in-Err-clause-elsewhere
+returns-in-Err-clause-elsewhere g c told = rw c.unbegun.ensures.plant (c.in-Err.ensures.held told).held.others
+
+pub returns-in-Err-clause-goes : goal.returns-in-Err-clause-goes
+returns-in-Err-clause-goes g c = rw c.unbegun.ensures.plant c.in-Err.ensures.goes
+
+pub play_reset-requires-clause-few : goal.play_reset-requires-clause-few
+play_reset-requires-clause-few g c = rw (c.as_slice.ensures, c.moved-asked.ensures, many_at c.in-Ok.found.tables.config.node c.args.asked) c.requires.few
+
+pub play_reset-requires-clause-may : goal.play_reset-requires-clause-may
+play_reset-requires-clause-may g c =
+    let named : IsName default_config.node = (codes "HERE", refl, refl) in
+    let u = c.in-Ok.ensures.started.usable in
+    rw (c.as_slice.ensures, c.moved-asked.ensures, c.running_of.ensures.tables) (steps_for default_config.node c.in-Ok.found.tables.config c.args.asked named u.0.fit.shape.config.node c.requires.fits)
+
+pub play_reset-requires-clause-copies : goal.play_reset-requires-clause-copies
+play_reset-requires-clause-copies g c = rw (c.as_slice.ensures, c.moved-asked.ensures) (copies_at default_config.node c.in-Ok.found.tables.config.node c.args.asked c.requires.fits)
+
+pub play_reset-requires-clause-sound : goal.play_reset-requires-clause-sound
+play_reset-requires-clause-sound g c = rw c.running_of.ensures.tables c.in-Ok.ensures.started.usable.1.sound
+
+pub play_reset-requires-clause-between : goal.play_reset-requires-clause-between
+play_reset-requires-clause-between g c =
+    let w = c.in-Ok.found in
+    let f = c.in-Ok.ensures in
+    let s = f.started in
+    let r = c.running_of.ensures in
+    record {
+      none = rw r.complex f.none.0;
+      unplaced = rw r.complex f.none.1;
+      same_level = rw r.complex (sym r.level);
+      drawn = rw (r.tables, r.level, r.levels, r.pages) (found_drawn w.pages w.tables w.levels w.complex.level s.usable s.sized s.leveled s.at_level);
+      queue = rw (r.tables, r.complex) (sym s.base_is ∙ ap (λ (bs : List Batch). run w.complex.base (kept_all bs)) (sym f.journal));
+      below = rw r.tables (found_below w.pages w.tables s.usable);
+    }
+
+pub play_reset-requires-clause-rests1 : goal.play_reset-requires-clause-rests1
+play_reset-requires-clause-rests1 g c =
+    let f = c.in-Ok.ensures in
+    rw (c.running_of.ensures.complex, c.running_of.ensures.pages) (record { before = f.places.0; as_many = f.started.as_many1; reads = f.started.reads1 })
+
+pub play_reset-requires-clause-rests2 : goal.play_reset-requires-clause-rests2
+play_reset-requires-clause-rests2 g c =
+    let f = c.in-Ok.ensures in
+    rw (c.running_of.ensures.complex, c.running_of.ensures.pages) (record { before = f.places.1; as_many = f.started.as_many2; reads = f.started.reads2 })
+
+pub play_reset-requires-clause-order : goal.play_reset-requires-clause-order
+play_reset-requires-clause-order g c = rw c.running_of.ensures.tables c.in-Ok.ensures.started.usable.1.low_order
+
+pub play_reset-requires-clause-level : goal.play_reset-requires-clause-level
+play_reset-requires-clause-level g c = rw (c.running_of.ensures.level, c.in-Ok.ensures.started.at_level) c.in-Ok.ensures.started.usable.1.low_level
+
+pub play_reset-requires-clause-journal : goal.play_reset-requires-clause-journal
+play_reset-requires-clause-journal g c = rw c.running_of.ensures.complex c.in-Ok.ensures.journal
+
+pub play_reset-requires-clause-since : goal.play_reset-requires-clause-since
+play_reset-requires-clause-since g c = rw c.running_of.ensures.complex c.in-Ok.ensures.since
+
+pub play_reset-requires-clause-some : goal.play_reset-requires-clause-some
+play_reset-requires-clause-some g c = rw c.running_of.ensures.complex c.in-Ok.ensures.started.some
+
+pub play_reset-requires-clause-there1 : goal.play_reset-requires-clause-there1
+play_reset-requires-clause-there1 g c = rw c.running_of.ensures.complex c.in-Ok.ensures.started.starts.there1
+
+pub play_reset-requires-clause-there2 : goal.play_reset-requires-clause-there2
+play_reset-requires-clause-there2 g c = rw c.running_of.ensures.complex c.in-Ok.ensures.started.starts.there2
+
+pub returns-clause-no_source : goal.returns-clause-no_source
+returns-clause-no_source g c e = play_not_source c.play_reset.result.status c.play_reset.ensures.kind e
+
+pub returns-clause-no_text : goal.returns-clause-no_text
+returns-clause-no_text g c = play_not_text c.play_reset.result.status c.play_reset.ensures.kind
+
+pub returns-clause-cause : goal.returns-clause-cause
+returns-clause-cause g c =
+    let P = g.P.Plant in
+    let x = c.in-Ok.found.complex in
+    let z = c.play_reset.result in
+    let d = c.play_reset.ensures in
+    let r = c.running_of.ensures in
+    start_causes x.pair.first.alive x.pair.second.alive z.status (P.view c.args.plant) (P.view x.plant) (P.view z.plant) c.in-Ok.ensures.started.starts (rw r.complex at d.goes) (λ k. rw r.complex at (d.grow k)) (rw r.complex at d.cause)
+
+pub returns-clause-goes : goal.returns-clause-goes
+returns-clause-goes g c =
+    let P = g.P.Plant in
+    let x = c.in-Ok.found.complex in
+    goes_on (P.view c.args.plant) (P.view x.plant) (P.view c.play_reset.result.plant) c.in-Ok.ensures.started.starts.goes (rw c.running_of.ensures.complex at c.play_reset.ensures.goes)
+
+pub returns-clause-elsewhere : goal.returns-clause-elsewhere
+returns-clause-elsewhere g c told =
+    let P = g.P.Plant in
+    let x = c.in-Ok.found.complex in
+    let s = c.in-Ok.ensures.started in
+    let r = c.running_of.ensures in
+    only_on (P.view c.args.plant) (P.view x.plant) (P.view c.play_reset.result.plant) s.starts.goes.later (rw r.complex at c.play_reset.ensures.goes) (s.held told).others (rw r.complex at (c.play_reset.ensures.elsewhere told))
+
+pub returns-clause-begun : goal.returns-clause-begun
+returns-clause-begun g c =
+    let s = c.in-Ok.ensures.started in
+    let base = c.play_reset.ensures.base ∙ ap (λ x. x.base) c.running_of.ensures.complex ∙ s.base_is in
+    play_begins c.play_reset.result.status c.play_reset.result.base c.play_reset.ensures.kind (found_begun c.in-Ok.found.pages c.in-Ok.found.tables c.play_reset.result.base s.usable base)
+
+pub returns-clause-unbegun : goal.returns-clause-unbegun
+returns-clause-unbegun g c none =
+    let s = c.in-Ok.ensures.started in
+    let base = c.play_reset.ensures.base ∙ ap (λ x. x.base) c.running_of.ensures.complex ∙ s.base_is in
+    absurd (no c.play_reset.result.base (found_begun c.in-Ok.found.pages c.in-Ok.found.tables c.play_reset.result.base s.usable base) none)
+
+pub returns-clause-unstarted : goal.returns-clause-unstarted
+returns-clause-unstarted g c none =
+    let s = c.in-Ok.ensures.started in
+    let base = c.play_reset.ensures.base ∙ ap (λ x. x.base) c.running_of.ensures.complex ∙ s.base_is in
+    absurd (no c.play_reset.result.base (found_begun c.in-Ok.found.pages c.in-Ok.found.tables c.play_reset.result.base s.usable base) none)
+
+pub returns-clause-untouched : goal.returns-clause-untouched
+returns-clause-untouched g c none =
+    let s = c.in-Ok.ensures.started in
+    let base = c.play_reset.ensures.base ∙ ap (λ x. x.base) c.running_of.ensures.complex ∙ s.base_is in
+    absurd (no c.play_reset.result.base (found_begun c.in-Ok.found.pages c.in-Ok.found.tables c.play_reset.result.base s.usable base) none)
+
+pub returns-clause-unsaid : goal.returns-clause-unsaid
+returns-clause-unsaid g c told none =
+    let s = c.in-Ok.ensures.started in
+    let base = c.play_reset.ensures.base ∙ ap (λ x. x.base) c.running_of.ensures.complex ∙ s.base_is in
+    absurd (no c.play_reset.result.base (found_begun c.in-Ok.found.pages c.in-Ok.found.tables c.play_reset.result.base s.usable base) none)
+
+pub returns-clause-loses : goal.returns-clause-loses
+returns-clause-loses g c none =
+    let s = c.in-Ok.ensures.started in
+    let base = c.play_reset.ensures.base ∙ ap (λ x. x.base) c.running_of.ensures.complex ∙ s.base_is in
+    absurd (no c.play_reset.result.base (found_begun c.in-Ok.found.pages c.in-Ok.found.tables c.play_reset.result.base s.usable base) none)
+
+pub returns-clause-room : goal.returns-clause-room
+returns-clause-room g c begun =
+    let P = g.P.Plant in
+    let s = c.in-Ok.ensures.started in
+    let t = c.in-Ok.found.tables in
+    let base = c.play_reset.ensures.base ∙ ap (λ x. x.base) c.running_of.ensures.complex ∙ s.base_is in
+    let many : areas_size (length c.in-Ok.found.pages) ≡ areas_size (page_count c.play_reset.result.base.config) = ap areas_size s.usable.0.spell.count ∙ ap (λ (q : Queue). areas_size (page_count q.config)) (sym base) in
+    (subst (λ (n : ℕ). n ≤ (P.view c.args.plant).size Ckpt1) many s.large1, subst (λ (n : ℕ). n ≤ (P.view c.args.plant).size Ckpt2) many s.large2)
+
+pub returns-clause-run : goal.returns-clause-run
+returns-clause-run g c begun =
+    let P = g.P.Plant in
+    let f = c.in-Ok.ensures in
+    let s = f.started in
+    let w = c.in-Ok.found in
+    let x = w.complex in
+    let z = c.play_reset.result in
+    let d = c.play_reset.ensures in
+    let r = c.running_of.ensures in
+    let v0 = P.view c.args.plant in
+    let v1 = P.view x.plant in
+    let v2 = P.view z.plant in
+    let goes : Goes v1 v2 = rw r.complex at d.goes in
+    let base0 : z.base ≡ x.base = d.base ∙ ap (λ y. y.base) r.complex in
+    let base = base0 ∙ s.base_is in
+    let since : z.since ≡ v1.now = d.since ∙ ap (λ y. y.since) r.complex ∙ f.since in
+    let asked = at_node z.base.config.node c.args.asked in
+    let same : c.as_slice.result.now ≡ asked = c.as_slice.ensures ∙ c.moved-asked.ensures ∙ ap (λ (q : Queue). at_node q.config.node c.args.asked) (sym base) in
+    let quiet : P.tells → console_now v1 ≡ console_now v0 = λ t. (s.held t).console v1.now s.starts.goes.later (omega arith) in
+    let steps : HasSteps false P.tells asked z.status z.base z.journal z.since v1.loses v1 v2 = rw (r.complex, same) at d.steps in
+    record {
+      queue = record { pages = w.pages; tables = w.tables; are = s.usable; is = base; found = λ t. found_later reads v0 v1 v2 (bytes_of w.pages) goes (s.found t) };
+      moment = (omega (arith, since, s.starts.goes.later), omega (arith, since, goes.later));
+      fresh = λ t. rw (base0, since) (∥∥₁_map (f.fresh t) (λ k. rw f.since at (k v2 goes)));
+      quiet = λ t. ap (λ (n : ℕ). (v2.world n).console) since ∙ ap (λ (u : World). u.console) (goes.past v1.now (omega arith)) ∙ quiet t;
+      held = λ t. rw since (held_until v0 v1 v2 (bytes_of w.pages) goes (s.held t));
+      first = v1.loses;
+      before = starts_first x.pair.first.alive x.pair.second.alive v0 v1 s.starts;
+      steps = steps_since v0 v1 v2 s.starts.goes false P.tells asked z.status z.base z.journal z.since v1.loses (starts_grow x.pair.first.alive x.pair.second.alive v0 v1 s.starts) quiet steps;
+    }

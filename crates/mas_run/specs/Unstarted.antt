@@ -1,0 +1,31 @@
+-- Why a warm run doesn't begin.
+use Rattle.std.specs.Prelude.{◌≡◌, ◌≢◌, ◌⊎◌, Bool, true, false}
+use Rattle.mas_types.specs.declared.ids.Dev.{Dev}
+use Rattle.mas_types.specs.declared.answers.Status.{Status}
+use Rattle.mas_types.specs.declared.answers.Status.TheVariants as status
+use Rattle.spool_disk.specs.View.{View}
+use Rattle.ckpt_copy.specs.Areas.{reads, areas_size}
+use Rattle.warm_start.specs.declared.choosing.StartNo.{StartNo}
+use Rattle.warm_start.specs.declared.choosing.StartNo.TheVariants as no_start
+use Rattle.warm_start.specs.Starting.{IsCauseOf, Starts}
+
+-- the status of a run whose warm start gave nothing
+abbrev pub status_of_start : StartNo → Status
+status_of_start (no_start.NotFormatted first second) = status.NotFormatted first second
+status_of_start no_start.BothLost = status.BothLost
+status_of_start (no_start.DeviceSize dev size) = status.DeviceSize dev size
+status_of_start no_start.NoMemory = status.NoMemory
+
+-- why a start gave nothing, where the copies counted as alive so
+pub record StartCauses (tells : Type 0) (why : StartNo) (old new : View) : Type 0 where
+  pub alive1 : Bool
+  pub alive2 : Bool
+  pub cause : IsCauseOf reads tells areas_size old new alive1 alive2 why
+
+-- The cause of a warm run's status where it hasn't begun. No copy can be used where it is NotFormatted; both are lost where it
+-- is BothLost.
+abbrev pub IsNotStarted : Type 0 → Status → View → View → Type 0
+IsNotStarted tells (status.NotFormatted first second) old new = StartCauses tells (no_start.NotFormatted first second) old new
+IsNotStarted tells (status.DeviceSize dev size) old new = StartCauses tells (no_start.DeviceSize dev size) old new
+IsNotStarted tells status.BothLost old new = Starts false false old new
+IsNotStarted tells _ old new = Unit {0}

@@ -1,0 +1,177 @@
+//! A script that is played from the queue that is found.
+ghost use Rattle.std.specs.Prelude.{◌≡◌, ◌≢◌, ◌⊎◌, ◌≤◌, ◌<◌, ◌+◌, ◌^◌, [], Bool, true, false, length, All, map, OnOk, None, Some};
+ghost use Rattle.std.specs.List.{list_any};
+ghost use Rattle.mas_types.specs.Starts.{default_config as config_by_default};
+ghost use Rattle.mas_types.specs.Owners.{is_held_by};
+ghost use Rattle.mas_types.specs.Queue.{is_member};
+ghost use Rattle.mas_types.specs.declared.ids.Dev.TheVariants.{Ckpt1, Ckpt2};
+ghost use Rattle.mas_types.specs.declared.ids.Dev.{Dev};
+ghost use Rattle.spool_disk.specs.declared.plant.Part.TheVariants.{Disk};
+ghost use Rattle.spool_disk.specs.View.{View, disk_now};
+ghost use Rattle.spool_disk.specs.Acts.{Goes};
+ghost use Rattle.ckpt_copy.specs.Areas.{reads, areas_size};
+ghost use Rattle.ckpt_pages.specs.Sound.{AreSound};
+ghost use Rattle.ckpt_pages.specs.Shape.{page_count};
+ghost use Rattle.duplex_pair.specs.Halves.{SomeAlive, IsCkpt};
+ghost use Rattle.first_script.specs.Steps.{IsFitStep};
+ghost use Rattle.mas_complex.specs.Headline.{LeavesQueue};
+ghost use Rattle.warm_start.specs.Starting.{HasStarted, OnlyLooked};
+ghost use Rattle.mas_run.specs.Between.{RestsAt, IsBetween};
+ghost use Rattle.mas_run.specs.Decks.{sysa};
+ghost use Rattle.mas_run.specs.Steps.{IfDeck, IfLose};
+ghost use Rattle.mas_run.specs.Entering.{AreFieldsFor};
+ghost use Rattle.first_script.specs.Nodes.{at_node as at_node_lem, step_at};
+ghost use Rattle.mas_run.specs.Told.{console_now};
+ghost use Rattle.mas_run.specs.Crash.{IsOnlyOn};
+ghost use Rattle.mas_run.specs.Runs.{has_begun, Begins, IsUnbegun, HasSteps, IsRun};
+ghost use Rattle.mas_run.specs.Statuses.{Grows, IsCaused, IsCausedFrom, is_of_play, is_of_text};
+ghost use Rattle.mas_run.specs.Unstarted.{status_of_start as status_of_start_lem, IsNotStarted};
+
+use crate::checkpoint::Checkpoint;
+use crate::ended::Ended;
+use crate::play::{ended, play_asked, status_of, unbegun};
+use crate::running::Running;
+use ckpt_copy::{AreaCopy, Copying};
+use duplex_pair::Pair;
+use first_script::Asked;
+use mas_types::{Dev, JobFields, List, Name8, Status};
+use spool_disk::Plant;
+use std::alloc::Global;
+use warm_start::{StartNo, Started, Unstarted, warm};
+
+/// The pages of a copy, until it is looked at.
+const PAGES: u16 = 1;
+
+fn status_of_start(why: StartNo) -> Status
+    ensures { result ≡ status_of_start_lem why }
+{
+    match why {
+        StartNo::NotFormatted { first, second } => Status::NotFormatted { first, second },
+        StartNo::BothLost => Status::BothLost,
+        StartNo::DeviceSize { dev, size } => Status::DeviceSize { dev, size },
+        StartNo::NoMemory => Status::NoMemory,
+    }
+}
+
+// The step at this node.
+fn at_node(step: Asked, node: Name8) -> Asked
+    ensures { result ≡ step_at node step }
+{
+    match step {
+        Asked::Deck(fields) => Asked::Deck(JobFields {
+            node,
+            origin: node,
+            ..fields
+        }),
+        Asked::Lose(dev) => Asked::Lose(dev),
+    }
+}
+
+// What a script asks for, at this node.
+fn move_to(asked: &mut [Asked], node: Name8)
+    ensures { asked.new ≡ at_node_lem node asked.old }
+{
+    for step in asked.iter_mut() {
+        *step = at_node(*step, node);
+    }
+}
+
+fn moved(asked: List<Asked>, node: Name8) -> List<Asked>
+    ensures { result ≡ at_node_lem node asked }
+{
+    let mut asked = asked;
+    move_to(asked.as_mut_slice(), node);
+    asked
+}
+
+// The run of a warm start.
+fn running_of<P: Plant + Drop>(found: Started<P, AreaCopy>) -> Running<P, AreaCopy>
+    ensures complex { result.complex ≡ found.complex }
+    ensures tables { result.checkpoint.tables ≡ found.tables }
+    ensures pages { result.checkpoint.pages ≡ found.pages }
+    ensures levels { result.checkpoint.levels ≡ found.levels }
+    ensures level { result.checkpoint.level ≡ found.complex.level }
+{
+    let Started {
+        complex,
+        tables,
+        pages,
+        levels,
+    } = found;
+    let level = complex.level;
+    Running {
+        complex,
+        checkpoint: Checkpoint {
+            tables,
+            level,
+            levels,
+            pages,
+        },
+    }
+}
+
+// Gives Restart, and then plays what the script asks for.
+fn play_reset<P: Plant + Drop>(
+    alloc: Global,
+    asked: &[Asked],
+    run: Running<P, AreaCopy>,
+) -> Ended<P>
+    requires few { length asked.now ≤ 16777216 }
+    requires may { All (λ step. IfDeck step (AreFieldsFor run.checkpoint.tables.config)) asked.now }
+    requires copies { All (λ step. IfLose step IsCkpt) asked.now }
+    requires sound { AreSound run.checkpoint.tables }
+    requires between { IsBetween run.complex.base run.complex.journal.batches run.complex.current run.complex.placed run.complex.level run.checkpoint }
+    requires rests1 { RestsAt P.tells run.complex.pair.first.alive run.complex.first (⟦<AreaCopy as Copying>⟧.count run.complex.pair.first.copy) run.checkpoint.pages (reads (disk_now (P.view run.complex.plant) Ckpt1).bytes) }
+    requires rests2 { RestsAt P.tells run.complex.pair.second.alive run.complex.second (⟦<AreaCopy as Copying>⟧.count run.complex.pair.second.copy) run.checkpoint.pages (reads (disk_now (P.view run.complex.plant) Ckpt2).bytes) }
+    requires order { run.checkpoint.tables.order < 2 ^ 62 }
+    requires level { run.checkpoint.level < 2 ^ 62 }
+    requires journal { run.complex.journal.batches ≡ [] }
+    requires since { run.complex.since ≡ (P.view run.complex.plant).now }
+    requires some { SomeAlive run.complex.pair.first.alive run.complex.pair.second.alive }
+    requires there1 { run.complex.pair.first.alive ≡ true → (P.view run.complex.plant).lost (Disk Ckpt1) ≡ false }
+    requires there2 { run.complex.pair.second.alive ≡ true → (P.view run.complex.plant).lost (Disk Ckpt2) ≡ false }
+    ensures base { result.base ≡ run.complex.base }
+    ensures since { result.since ≡ run.complex.since }
+    ensures kind { is_of_play result.status ≡ true }
+    ensures goes { Goes (P.view run.complex.plant) (P.view result.plant) }
+    ensures grow { (d : Dev) → Grows ((P.view run.complex.plant).loses d) ((P.view result.plant).loses d) }
+    ensures elsewhere { P.tells → IsOnlyOn (P.view run.complex.plant) (P.view result.plant) }
+    ensures cause { IsCausedFrom run.complex.pair.first.alive run.complex.pair.second.alive result.status (P.view run.complex.plant) (P.view result.plant) }
+    ensures steps { HasSteps false P.tells asked.now result.status result.base result.journal result.since (P.view run.complex.plant).loses (P.view run.complex.plant) (P.view result.plant) }
+{
+    let mut run = run;
+    match run.restart(alloc) {
+        Ok(()) => play_asked(alloc, asked, run),
+        Err(why) => ended(status_of(&Err(why)), run),
+    }
+}
+
+/// Begins with the queue that the copies are found with, gives Restart, and plays what the script asks for.
+pub(crate) fn play_warm<P: Plant + Drop>(alloc: Global, asked: List<Asked>, plant: P) -> Ended<P>
+    requires few { length asked ≤ 16777216 }
+    requires fits { All (IsFitStep config_by_default.node) asked }
+    ensures no_source { result.status ≡ Status.SourceFault → ⊥ }
+    ensures no_text { is_of_text result.status ≡ false }
+    ensures unstarted { has_begun result.base ≡ false → IsNotStarted P.tells result.status (P.view plant) (P.view result.plant) }
+    ensures cause { IsCaused result.status (P.view plant) (P.view result.plant) }
+    ensures begun { Begins result.status result.base }
+    ensures unbegun { has_begun result.base ≡ false → IsUnbegun result.base result.journal result.since (P.view result.plant).now }
+    ensures untouched { has_begun result.base ≡ false → (result.status ≡ Status.BothLost) ⊎ (P.tells → OnlyLooked (P.view plant) (P.view result.plant)) }
+    ensures unsaid { P.tells → has_begun result.base ≡ false → console_now (P.view result.plant) ≡ console_now (P.view plant) }
+    ensures goes { Goes (P.view plant) (P.view result.plant) }
+    ensures loses { has_begun result.base ≡ false → result.status ≢ Status.BothLost → (d : Dev) → (P.view result.plant).loses d ≡ (P.view plant).loses d }
+    ensures elsewhere { P.tells → IsOnlyOn (P.view plant) (P.view result.plant) }
+    ensures room { has_begun result.base ≡ true → (areas_size (page_count result.base.config) ≤ (P.view plant).size Ckpt1) × (areas_size (page_count result.base.config) ≤ (P.view plant).size Ckpt2) }
+    ensures run { has_begun result.base ≡ true → IsRun false P.tells (at_node_lem result.base.config.node asked) result.status result.base result.journal result.since (P.view plant) (P.view result.plant) }
+{
+    let pair = Pair::new(
+        AreaCopy::new(Dev::Ckpt1, PAGES),
+        AreaCopy::new(Dev::Ckpt2, PAGES),
+    );
+    let found = match warm(alloc, plant, pair) {
+        Ok(found) => found,
+        Err(Unstarted { plant, why }) => return unbegun(alloc, status_of_start(why), plant),
+    };
+    let asked = moved(asked, found.tables.config.node);
+    play_reset(alloc, asked.as_slice(), running_of(found))
+}

@@ -1,0 +1,225 @@
+// A warm start of what a cold run left.
+use crate::looking::{
+    DECK, FORMED, KEPT, OPEN, OPERATOR, Reading, block, failing,
+    halting, plant, play, reads_as, source, words,
+};
+use mas_run::{Ended, calm_top};
+use mas_types::{Command, CopyState, Dev, Fate, MemberId, Phase, Status};
+use spool_disk::{Act, Choice, MemPlant, Part, Plant};
+use std::alloc::Global;
+use std::process::Abort;
+use std::test::Fail;
+
+const THREE: &[u8] =
+    b"SYSA DECK\n//A JOB\n++END\nSYSA DECK\n//B JOB\n++END\nSYSA DECK\n//C JOB\n++END\n";
+
+const CHOICES: [Choice; 3] = [Choice::Old, Choice::New, Choice::Ones];
+
+/// The first page of the area that a copy reads after one deck.
+const FOUND: u64 = 37 * 4096;
+
+// A warm run of a script.
+fn start(alloc: Global, script: &[u8], plant: MemPlant) -> Result<Ended<MemPlant>, Fail> {
+    let words = words(alloc, &["play"])?;
+    let mut source = source(alloc, script, None)?;
+    Ok(calm_top(alloc, &words, &mut source, plant))
+}
+
+// What a cold run of one deck leaves.
+fn left_by_one_deck(alloc: Global) -> Result<MemPlant, Fail> {
+    let ended = play(alloc, DECK, plant(alloc)?)?;
+    Ok(ended.plant.crash_at(alloc, KEPT + 1, Choice::New)?)
+}
+
+// A byte is written and synced by another hand.
+fn write(rt: &impl Abort, plant: &mut MemPlant, dev: Dev, at: u64, byte: u8) {
+    assert_eq!(rt; plant.write(OPERATOR, dev, at, &[byte]), Act::Done);
+    assert_eq!(rt; plant.sync(OPERATOR, dev), Act::Done);
+}
+
+// Restart stands first in the journal, by the operator, and is kept.
+fn is_reset(rt: &impl Abort, ended: &Ended<MemPlant>) {
+    let batches = ended.journal.batches.as_slice();
+    assert!(rt; !batches.is_empty());
+    let first = &batches[0];
+    assert_eq!(rt; first.by, OPERATOR);
+    assert_eq!(rt; first.fate, Fate::Kept);
+    let entries = first.entries.as_slice();
+    assert_eq!(rt; entries.len(), 1);
+    assert_eq!(rt; entries[0].step, 0);
+    assert!(rt; matches!(entries[0].command, Command::Restart));
+}
+
+// The base has so many jobs, numbered from 1 on, which all wait for their conversion.
+fn has_jobs(rt: &impl Abort, ended: &Ended<MemPlant>, count: usize) {
+    let jobs = ended.base.jobs.as_slice();
+    assert_eq!(rt; jobs.len(), count);
+    let mut number = 0;
+    for job in jobs {
+        number += 1;
+        assert_eq!(rt; job.number.0, number);
+        assert_eq!(rt; job.phase, Phase::Convert);
+        assert_eq!(rt; job.busy, MemberId(0));
+    }
+}
+
+#[test]
+fn keeps_the_queue(rt: HostRuntime) -> Result<(), Fail> {
+    let alloc = rt.alloc();
+    let mut ended = start(alloc, b"", left_by_one_deck(alloc)?)?;
+    assert_eq!(rt; ended.status, Status::Done);
+    has_jobs(&rt, &ended, 1);
+    is_reset(&rt, &ended);
+    assert_eq!(rt; ended.journal.batches.len(), 1);
+    assert_eq!(rt; ended.plant.console_lines(alloc)?.len(), 0);
+    assert_eq!(rt; reads_as(&rt, &mut ended.plant, Dev::Ckpt1), Reading::OneJob);
+    assert_eq!(rt; reads_as(&rt, &mut ended.plant, Dev::Ckpt2), Reading::OneJob);
+    Ok(())
+}
+
+#[test]
+fn goes_on_with_the_queue(rt: HostRuntime) -> Result<(), Fail> {
+    let alloc = rt.alloc();
+    let ended = start(alloc, DECK, left_by_one_deck(alloc)?)?;
+    assert_eq!(rt; ended.status, Status::Done);
+    assert_eq!(rt; ended.journal.batches.len(), 2);
+    let lines = ended.plant.console_lines(alloc)?;
+    assert_eq!(rt; lines.len(), 1);
+    assert_eq!(rt; lines.line(0), b"SYSA 00001 OK JOB00002".as_slice());
+    Ok(())
+}
+
+// Both VALID bytes are closed, or a byte in each header that has to be zero isn't.
+#[test]
+fn finds_no_queue(rt: HostRuntime) -> Result<(), Fail> {
+    let alloc = rt.alloc();
+    let mut closed = left_by_one_deck(alloc)?;
+    write(&rt, &mut closed, Dev::Ckpt1, 0, 0);
+    write(&rt, &mut closed, Dev::Ckpt2, 0, 0);
+    let unread = Status::NotFormatted {
+        first: CopyState::Unread,
+        second: CopyState::Unread,
+    };
+    assert_eq!(rt; start(alloc, DECK, closed)?.status, unread);
+    let mut faulty = left_by_one_deck(alloc)?;
+    write(&rt, &mut faulty, Dev::Ckpt1, FOUND + 48, 1);
+    write(&rt, &mut faulty, Dev::Ckpt2, FOUND + 48, 1);
+    let unsound = Status::NotFormatted {
+        first: CopyState::Unsound,
+        second: CopyState::Unsound,
+    };
+    assert_eq!(rt; start(alloc, DECK, faulty)?.status, unsound);
+    let mut lost = left_by_one_deck(alloc)?;
+    lost.lose(Dev::Ckpt1);
+    write(&rt, &mut lost, Dev::Ckpt2, 0, 0);
+    let one_lost = Status::NotFormatted {
+        first: CopyState::Lost,
+        second: CopyState::Unread,
+    };
+    assert_eq!(rt; start(alloc, DECK, lost)?.status, one_lost);
+    Ok(())
+}
+
+// One copy can't be used: it is lost, and the other counts.
+fn goes_on_with_one(rt: &impl Abort, alloc: Global, at: u64, byte: u8) -> Result<(), Fail> {
+    for dev in [Dev::Ckpt1, Dev::Ckpt2] {
+        let mut plant = left_by_one_deck(alloc)?;
+        write(rt, &mut plant, dev, at, byte);
+        let ended = start(alloc, b"", plant)?;
+        assert_eq!(rt; ended.status, Status::Done);
+        has_jobs(rt, &ended, 1);
+        assert!(rt; ended.plant.lost(Part::Disk(dev)));
+    }
+    Ok(())
+}
+
+#[test]
+fn loses_a_copy_that_is_not_usable(rt: HostRuntime) -> Result<(), Fail> {
+    goes_on_with_one(&rt, rt.alloc(), 0, 0)?;
+    goes_on_with_one(&rt, rt.alloc(), FOUND + 48, 1)?;
+    // A byte that the other copy doesn't have.
+    goes_on_with_one(&rt, rt.alloc(), FOUND + 3 * 4096 + 3, 5)
+}
+
+// A stop after the gate of CKPT1 was synced: the job is in Convert, and both copies read equal pages.
+#[test]
+fn brings_up_the_copy_that_lags(rt: HostRuntime) -> Result<(), Fail> {
+    let alloc = rt.alloc();
+    let stopped = play(alloc, DECK, halting(alloc, KEPT - OPEN)?)?;
+    let now = stopped.plant.now();
+    let mut ended = start(alloc, b"", stopped.plant.crash_at(alloc, now, Choice::New)?)?;
+    assert_eq!(rt; ended.status, Status::Done);
+    has_jobs(&rt, &ended, 1);
+    assert!(rt; !ended.plant.lost(Part::Disk(Dev::Ckpt1)));
+    assert!(rt; !ended.plant.lost(Part::Disk(Dev::Ckpt2)));
+    for page in 1..37 {
+        let first = block(&rt, &mut ended.plant, Dev::Ckpt1, page);
+        let second = block(&rt, &mut ended.plant, Dev::Ckpt2, page);
+        assert!(rt; first == second, "page {page}");
+    }
+    Ok(())
+}
+
+// How many batches of a run were kept at a moment, and whether one was in flight then.
+fn kept_at(run: &Ended<MemPlant>, t: u64) -> (usize, bool) {
+    let mut kept = 0;
+    let mut flying = false;
+    for batch in run.journal.batches.as_slice() {
+        if batch.last <= t {
+            if kept < 3 {
+                kept += 1;
+            }
+        } else if batch.first <= t {
+            flying = true;
+        }
+    }
+    (kept, flying)
+}
+
+// The queue that a warm start finds after a crash is that after the kept decks, or with the one in flight.
+fn starts_after(
+    rt: &impl Abort,
+    alloc: Global,
+    run: &Ended<MemPlant>,
+    t: u64,
+    choice: Choice,
+) -> Result<(), Fail> {
+    assert!(rt; t <= run.plant.now());
+    let ended = start(alloc, b"", run.plant.crash_at(alloc, t, choice)?)?;
+    assert_eq!(rt; ended.status, Status::Done, "moment {t}");
+    let (kept, flying) = kept_at(run, t);
+    let found = ended.base.jobs.len();
+    assert!(rt; found == kept || flying && kept <= 3 && found == kept + 1, "moment {t}");
+    has_jobs(rt, &ended, found);
+    is_reset(rt, &ended);
+    Ok(())
+}
+
+fn starts_after_each_moment(
+    rt: &impl Abort,
+    alloc: Global,
+    plant: MemPlant,
+) -> Result<(), Fail> {
+    let run = play(alloc, THREE, plant)?;
+    assert_eq!(rt; run.status, Status::Done);
+    for t in run.since..=run.plant.now() {
+        for choice in CHOICES {
+            starts_after(rt, alloc, &run, t, choice)?;
+        }
+    }
+    Ok(())
+}
+
+#[test]
+fn starts_after_a_crash_at_each_moment(rt: HostRuntime) -> Result<(), Fail> {
+    starts_after_each_moment(&rt, rt.alloc(), plant(rt.alloc())?)
+}
+
+// Either copy is lost before, between and after.
+#[test]
+fn starts_with_either_copy_lost(rt: HostRuntime) -> Result<(), Fail> {
+    for act in [0, FORMED - 1, FORMED, KEPT - 1] {
+        starts_after_each_moment(&rt, rt.alloc(), failing(rt.alloc(), act)?)?;
+    }
+    Ok(())
+}
