@@ -8,6 +8,7 @@ ghost use Rattle.mas_types.specs.Queue.{is_member};
 ghost use Rattle.spool_disk.specs.View.{disk_now};
 ghost use Rattle.ckpt_copy.specs.Pages.{bytes_of, ArePages, Covers};
 ghost use Rattle.ckpt_pages.specs.Sound.{AreSound};
+ghost use Rattle.mas_complex.specs.Changed.{NamesOnly};
 ghost use Rattle.mas_complex.specs.Journals.{begun, end_of, kept_all};
 ghost use Rattle.mas_complex.specs.Meaning.{run};
 ghost use Rattle.queue_restart.specs.Restarts.{restart_entries as restart_entries_lem};
@@ -58,6 +59,7 @@ fn ready_restart(alloc: Global, checkpoint: &mut Checkpoint) -> Result<ReadyRest
     ensures entries { IfOk result (λ ready. ready.entries ≡ restart_entries_lem) }
     ensures changed { IfOk result (λ ready. ArePages (length checkpoint.new.pages) ready.changed) }
     ensures covered { IfOk result (λ ready. Covers (length checkpoint.new.pages) ready.changed (bytes_of checkpoint.old.pages) (bytes_of checkpoint.new.pages)) }
+    ensures exact { IfOk result (λ ready. NamesOnly ready.changed (bytes_of checkpoint.old.pages) (bytes_of checkpoint.new.pages)) }
     ensures count { OnOk result (length checkpoint.new.pages ≡ length checkpoint.old.pages) }
     ensures level { OnOk result (checkpoint.new.level ≡ checkpoint.old.level + 1) }
     ensures drawn { OnOk result (AreDrawn checkpoint.new.tables checkpoint.new.level checkpoint.new.levels checkpoint.new.pages) }

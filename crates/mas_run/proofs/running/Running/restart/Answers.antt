@@ -1,4 +1,4 @@
-use Rattle.std.proofs.Common.{◌≡◌, ◌∙◌, ◌+◌, ap, subst, sym, length, true, Err, Some, ℕ, List, [], inl, refl, arith}
+use Rattle.std.proofs.Common.{◌≡◌, ◌∙◌, ◌+◌, ◌≤◌, ap, subst, sym, length, true, Err, Some, ℕ, List, [], inl, refl, arith}
 use Rattle.mas_types.specs.declared.ids.MemberId.{MemberId}
 use Rattle.mas_types.specs.declared.journals.Batch.{Batch}
 use Rattle.mas_types.specs.declared.journals.Entry.{Entry}
@@ -8,6 +8,7 @@ use Rattle.mas_types.specs.declared.ids.Dev.TheVariants.{Ckpt1, Ckpt2}
 use Rattle.mas_types.specs.Ids.{nobody}
 use Rattle.spool_disk.specs.View.{disk_now}
 use Rattle.ckpt_copy.specs.Pages.{bytes_of, level, Covers}
+use Rattle.mas_complex.specs.Changed.{NamesOnly}
 use Rattle.mas_complex.specs.Journals.{begun, entries_reserved, kept_all, with_last}
 use Rattle.mas_complex.specs.Meaning.{StandFor, run}
 use Rattle.mas_complex.proofs.BatchEnds.{with_last-append}
@@ -15,7 +16,7 @@ use Rattle.queue_restart.specs.Restarts.{restart_entries}
 use Rattle.mas_run.specs.Standing.{queue_of}
 use Rattle.mas_run.proofs.DrawnLemmas.{drawn_stand, drawn_level}
 use Rattle.mas_run.proofs.LineLemmas.{untold_by}
-use Rattle.mas_run.proofs.WriteLemmas.{covers_read, queue_written, queue_kept}
+use Rattle.mas_run.proofs.WriteLemmas.{replied_read, covers_read, names_read, queue_written, queue_kept}
 use Rattle.mas_run.proofs.ResetLemmas.{none_untold, reset_none, reset_lost, reset_done}
 use Rattle.mas_run.proofs.running.Running.restart.Goals as goal
 
@@ -44,6 +45,39 @@ commit-requires-clause-covered2 g c told alive was reads =
     (g.C.Copying.reads (disk_now (g.P.Plant.view c.reserve.new.self.plant) Ckpt2).bytes)
     (ap (λ p. g.C.Copying.count p.second.copy) e.pair ∙ sym (c.requires.rests2.as_many alive0) ∙ sym c.in-Ok.ensures.count) covers
     (ap (λ p. g.C.Copying.reads (disk_now (g.P.Plant.view p) Ckpt2).bytes) e.plant ∙ c.requires.rests2.reads told alive0) reads
+
+pub commit-requires-clause-exact1 : goal.commit-requires-clause-exact1
+commit-requires-clause-exact1 g c told alive was reads =
+    let x = c.args.self.now.complex in
+    let k = c.args.self.now.checkpoint in
+    let e = c.reserve.ensures in
+    let alive0 : x.pair.first.alive ≡ true = sym (ap (λ p. p.first.alive) e.pair) ∙ alive in
+    let names : NamesOnly c.as_slice-changed.result.now (bytes_of k.pages) (bytes_of c.as_slice-pages.result.now) = rw (c.as_slice-pages.ensures, c.as_slice-changed.ensures) c.in-Ok.ensures.exact in
+    names_read c.as_slice-changed.result.now was (bytes_of k.pages) (bytes_of c.as_slice-pages.result.now) (g.C.Copying.reads (disk_now (g.P.Plant.view c.reserve.new.self.plant) Ckpt1).bytes)
+    names (ap (λ p. g.C.Copying.reads (disk_now (g.P.Plant.view p) Ckpt1).bytes) e.plant ∙ c.requires.rests1.reads told alive0) reads
+
+pub commit-requires-clause-exact2 : goal.commit-requires-clause-exact2
+commit-requires-clause-exact2 g c told alive was reads =
+    let x = c.args.self.now.complex in
+    let k = c.args.self.now.checkpoint in
+    let e = c.reserve.ensures in
+    let alive0 : x.pair.second.alive ≡ true = sym (ap (λ p. p.second.alive) e.pair) ∙ alive in
+    let names : NamesOnly c.as_slice-changed.result.now (bytes_of k.pages) (bytes_of c.as_slice-pages.result.now) = rw (c.as_slice-pages.ensures, c.as_slice-changed.ensures) c.in-Ok.ensures.exact in
+    names_read c.as_slice-changed.result.now was (bytes_of k.pages) (bytes_of c.as_slice-pages.result.now) (g.C.Copying.reads (disk_now (g.P.Plant.view c.reserve.new.self.plant) Ckpt2).bytes)
+    names (ap (λ p. g.C.Copying.reads (disk_now (g.P.Plant.view p) Ckpt2).bytes) e.plant ∙ c.requires.rests2.reads told alive0) reads
+
+pub commit-requires-clause-some : goal.commit-requires-clause-some
+commit-requires-clause-some g c =
+    let are = ap entries_reserved c.in-Ok-reserve.ensures.reserved ∙ c.in-Ok.ensures.entries in
+    subst (λ (es : List Entry). 1 ≤ length es) (sym are) (omega arith)
+
+pub commit-requires-clause-replied : goal.commit-requires-clause-replied
+commit-requires-clause-replied g c told =
+    let x = c.args.self.now.complex in
+    let y = c.reserve.new.self in
+    let Q : Queue = queue_of c.args.self.now.checkpoint.tables in
+    replied_read x.base y.base Q (kept_all x.journal.batches) (kept_all y.journal.batches) (entries_reserved y.reserved) restart_entries
+    c.reserve.ensures.base c.requires.between.queue c.reserve.ensures.kept (ap entries_reserved c.in-Ok-reserve.ensures.reserved ∙ c.in-Ok.ensures.entries) (refl, tt)
 
 pub commit-requires-clause-level : goal.commit-requires-clause-level
 commit-requires-clause-level g c told =
