@@ -1,0 +1,68 @@
+// What is done with an open file.
+ghost use Rattle.std.specs.Prelude.{◌≡◌, ◌≤◌, length, IfOk};
+
+use std::fs::OpenFile;
+use std::io::{self, ErrorKind, Read, Seek, SeekFrom, Write};
+
+// Reads until the bytes are full or the file ends, and answers how many came.
+fn read_full<F: Read>(file: &mut F, into: &mut [u8]) -> io::Result<usize>
+    ensures { IfOk result (λ n. n ≤ length into.new) }
+{
+    let mut filled = 0;
+    for _ in 0..u64::MAX {
+        if filled == into.len() {
+            break;
+        }
+        match file.read(&mut into[filled..]) {
+            Ok(0) => break,
+            Ok(n) => filled += n,
+            Err(error) if error.kind() == ErrorKind::Interrupted => {}
+            Err(error) => return Err(error),
+        }
+    }
+    Ok(filled)
+}
+
+// The bytes of a file from a place on. Behind its end are zeros.
+pub(crate) fn read_at<F: Read + Seek>(file: &mut F, at: u64, into: &mut [u8]) -> io::Result<()> {
+    file.seek(SeekFrom::Start(at))?;
+    let filled = read_full(file, into)?;
+    into[filled..].fill(0);
+    Ok(())
+}
+
+pub(crate) fn write_at<F: Write + Seek>(file: &mut F, at: u64, bytes: &[u8]) -> io::Result<()> {
+    file.seek(SeekFrom::Start(at))?;
+    file.write_all(bytes)
+}
+
+// Adds bytes at the end of a file.
+pub(crate) fn append<F: Write + Seek>(file: &mut F, bytes: &[u8]) -> io::Result<()> {
+    file.seek(SeekFrom::End(0))?;
+    file.write_all(bytes)
+}
+
+// Adds a line at the end of a file.
+pub(crate) fn append_line<F: Write + Seek>(file: &mut F, line: &[u8]) -> io::Result<()> {
+    append(file, line)?;
+    file.write_all(b"\n")
+}
+
+// The next bytes of a file, as many as one read gives.
+pub(crate) fn read_next<F: Read>(file: &mut F, into: &mut [u8]) -> io::Result<usize>
+    ensures { IfOk result (λ n. n ≤ length into.new) }
+{
+    for _ in 0..u64::MAX {
+        match file.read(into) {
+            Err(error) if error.kind() == ErrorKind::Interrupted => {}
+            answer => return answer,
+        }
+    }
+    Err(io::Error::from(ErrorKind::Interrupted))
+}
+
+// Leaves a file of no bytes, which reads as zeros, on the disk.
+pub(crate) fn empty<F: OpenFile>(file: &F) -> io::Result<()> {
+    file.set_len(0)?;
+    file.sync_all()
+}

@@ -1,0 +1,200 @@
+//! A plant over the files of a folder.
+ghost use Rattle.std.specs.Prelude.{◌≡◌, ◌<◌, ◌≤◌, ℕ, length, IfOk, false};
+ghost use Rattle.spool_disk.specs.Acts.{Acts, FitsInto, act_of, top};
+ghost use Rattle.plant_files.specs.FileView.{size_of, tally_view};
+
+use crate::folder::{EACH_MOST, Folder, open_folder};
+use crate::tally::Tally;
+use mas_types::{Dev, MemberId, NoMemory};
+use spool_disk::{Act, Fuse, PLACES, Part, Plant, Took, place_number};
+use std::alloc::{AllocError, Global};
+use std::fs::OpenFile;
+use std::io::{self, Read, Seek, Write};
+use std::rt::Files;
+
+/// The bytes of each device that has a file.
+pub const DEVICE_SIZE: u64 = 16_777_216;
+
+/// Devices, printers and lines as files of a folder, and standard output as the console. What the files of a system hold
+/// can't be known, so this plant tells nothing of it. No act of it halts, and arming a stop is only counted.
+#[derive(Drop)]
+pub struct FilePlant<R: Files + Print + Drop> {
+    rt: R,
+    folder: Folder<R::File>,
+    tally: Tally,
+}
+
+fn note_lost<F: Read + Write + Seek + OpenFile + Drop>(
+    lost: &mut [bool],
+    folder: &Folder<F>,
+    part: Part,
+)
+    requires { length lost.old ≡ 1032 }
+{
+    lost[place_number(part)] = !folder.has(part);
+}
+
+// By their places, the parts that are lost since they have no file.
+fn lost_parts<F: Read + Write + Seek + OpenFile + Drop>(
+    alloc: Global,
+    folder: &Folder<F>,
+) -> Result<Vec<bool>, AllocError>
+    ensures { IfOk result (λ lost. length lost.items ≡ 1032) }
+{
+    let mut lost = vec![in alloc; true; PLACES]?;
+    note_lost(&mut lost, folder, Part::Console);
+    note_lost(&mut lost, folder, Part::Disk(Dev::Ckpt1));
+    note_lost(&mut lost, folder, Part::Disk(Dev::Ckpt2));
+    for number in 1..=EACH_MOST {
+        note_lost(&mut lost, folder, Part::Disk(Dev::Spool(number)));
+        note_lost(&mut lost, folder, Part::Printer(MemberId(number)));
+        note_lost(&mut lost, folder, Part::Wire(number));
+    }
+    Ok(lost)
+}
+
+// Writes a line with its end to standard output.
+fn write_line<R: Print>(rt: &R, line: &[u8]) -> io::Result<()> {
+    let mut out = io::writer(rt);
+    out.write_all(line)?;
+    out.write_all(b"\n")?;
+    out.flush()
+}
+
+impl<R: Files + Print + Drop> FilePlant<R> {
+    ghost use Rattle.plant_files.specs.FileView.{IsFresh};
+
+    /// A plant over a folder's files CKPT1, CKPT2, SPOOL1 to SPOOL8, PRT1 to PRT8, LINE1.IN to LINE8.IN and LINE1.OUT to
+    /// LINE8.OUT. The folder and files that are missing are made. A part is lost whose file can't be opened, or beside
+    /// which stands a file of its name and `.LOST`. NoMemory comes where the names of the files find none.
+    pub fn open(rt: R, alloc: Global, folder: &str) -> Result<FilePlant<R>, NoMemory>
+        ensures { IfOk result (λ p. IsFresh (tally_view p.tally)) }
+    {
+        let folder = open_folder(&rt, alloc, folder)?;
+        let lost = lost_parts(alloc, &folder)?;
+        Ok(FilePlant {
+            rt,
+            folder,
+            tally: Tally::new(alloc, &lost)?,
+        })
+    }
+}
+
+// Ends a `take` that failed, and one that gave so many bytes.
+fn failed_take(tally: &mut Tally, part: Part) -> Took
+    ensures acts { (by : ℕ) → Acts by part (tally_view tally.old) (tally_view tally.new) (act_of result) }
+    ensures fits { (room : ℕ) → FitsInto room result }
+{
+    let _ = tally.end_act(part, false);
+    Took::Failed
+}
+
+fn finished_take(tally: &mut Tally, part: Part, n: usize) -> Took
+    requires { ((tally_view tally.old).now < top) × ((tally_view tally.old).lost part ≡ false) }
+    ensures acts { (by : ℕ) → Acts by part (tally_view tally.old) (tally_view tally.new) (act_of result) }
+    ensures fits { (room : ℕ) → n ≤ room → FitsInto room result }
+{
+    let _ = tally.end_act(part, true);
+    Took::Bytes(n)
+}
+
+impl<R: Files + Print + Drop> Plant for FilePlant<R> {
+    ghost tells = { ⊥ };
+
+    ghost view = { λ p. tally_view p.tally };
+
+    ghost sized = { λ p told t le d. absurd told };
+
+    ghost there = { λ p told d whole. absurd told };
+
+    fn now(&self) -> u64 {
+        self.tally.moment
+    }
+
+    fn size(&self, dev: Dev) -> u64 {
+        match dev {
+            Dev::Ckpt1 | Dev::Ckpt2 => DEVICE_SIZE,
+            Dev::Spool(number) if 1 <= number && number <= EACH_MOST => DEVICE_SIZE,
+            Dev::Spool(_) => 0,
+        }
+    }
+
+    fn lost(&self, part: Part) -> bool {
+        self.tally.lost(part)
+    }
+
+    fn read(&mut self, _by: MemberId, dev: Dev, at: u64, into: &mut [u8]) -> Act {
+        let part = Part::Disk(dev);
+        if !self.tally.may_act(part) {
+            return self.tally.end_act(part, false);
+        }
+        let done = self.folder.read(dev, at, into).is_ok();
+        self.tally.end_act(part, done)
+    }
+
+    fn write(&mut self, _by: MemberId, dev: Dev, at: u64, bytes: &[u8]) -> Act {
+        let part = Part::Disk(dev);
+        if !self.tally.may_act(part) {
+            return self.tally.end_act(part, false);
+        }
+        let done = self.folder.write(dev, at, bytes).is_ok();
+        self.tally.end_act(part, done)
+    }
+
+    fn sync(&mut self, _by: MemberId, dev: Dev) -> Act {
+        let part = Part::Disk(dev);
+        if !self.tally.may_act(part) {
+            return self.tally.end_act(part, false);
+        }
+        let done = self.folder.sync(dev).is_ok();
+        self.tally.end_act(part, done)
+    }
+
+    fn say(&mut self, _by: MemberId, line: &[u8]) -> Act {
+        let part = Part::Console;
+        if !self.tally.may_act(part) {
+            return self.tally.end_act(part, false);
+        }
+        let done = write_line(&self.rt, line).is_ok();
+        self.tally.end_act(part, done)
+    }
+
+    fn print(&mut self, by: MemberId, line: &[u8]) -> Act {
+        let part = Part::Printer(by);
+        if !self.tally.may_act(part) {
+            return self.tally.end_act(part, false);
+        }
+        let done = self.folder.print(by, line).is_ok();
+        self.tally.end_act(part, done)
+    }
+
+    fn give(&mut self, _by: MemberId, wire: u8, bytes: &[u8]) -> Act {
+        let part = Part::Wire(wire);
+        if !self.tally.may_act(part) {
+            return self.tally.end_act(part, false);
+        }
+        let done = self.folder.give(wire, bytes).is_ok();
+        self.tally.end_act(part, done)
+    }
+
+    fn take(&mut self, _by: MemberId, wire: u8, into: &mut [u8]) -> Took {
+        let part = Part::Wire(wire);
+        if !self.tally.may_act(part) {
+            return failed_take(&mut self.tally, part);
+        }
+        match self.folder.take(wire, into) {
+            Ok(n) => finished_take(&mut self.tally, part, n),
+            Err(_) => failed_take(&mut self.tally, part),
+        }
+    }
+
+    fn arm(&mut self, member: MemberId, _fuse: Fuse, _n: u32) {
+        self.tally.arm(member);
+    }
+
+    fn lose(&mut self, dev: Dev) {
+        // Where no mark can be put, the device is lost in this run alone.
+        let _ = self.folder.mark_lost(&self.rt, dev);
+        self.tally.lose(dev);
+    }
+}

@@ -1,0 +1,31 @@
+use Rattle.std.proofs.Common.{arith, sym, subst, ap, ◌∙◌, ◌+◌, ◌≤◌, ℕ, List}
+use Rattle.spool_disk.specs.declared.plant.Part.TheVariants.{Printer}
+use Rattle.spool_disk.specs.Acts.{Acts, Prints, top}
+use Rattle.plant_fuse.specs.Torn.{Halved}
+use Rattle.plant_fuse.specs.Closing.{halved_by}
+use Rattle.plant_fuse.specs.FuseViews.{fused_view}
+use Rattle.plant_fuse.proofs.Passing.{closed_acts, passed_acts, past_same, past_halved}
+use Rattle.plant_fuse.proofs.Content.{print_closed, prints_passed}
+use Rattle.plant_fuse.proofs.fused.FusedPlant.print.Goals as goal
+
+pub returns-then-fire-clause-acts : goal.returns-then-fire-clause-acts
+returns-then-fire-clause-acts g c =
+    let is = c.note_half.ensures ∙ ap (λ (n : ℕ). halved_by c.print-passed.result ((c.args.by.0 + 1), n) c.args.self.now.halved.items) c.now-moment.ensures in
+    subst (λ (hs : List Halved). Acts c.args.by.0 (Printer c.args.by) (fused_view (g.P.Plant.view c.args.self.now.inner) c.args.self.now.halved.items c.args.self.now.stops.counts c.args.self.now.arms.counts) (fused_view (g.P.Plant.view c.print-passed.new.self) hs c.close.new.stops.counts c.args.self.now.arms.counts) c.close.result) (sym is)
+    (closed_acts c.args.by.0 (Printer c.args.by) (g.P.Plant.view c.args.self.now.inner) (g.P.Plant.view c.print-passed.new.self) c.args.self.now.halved.items (halved_by c.print-passed.result ((c.args.by.0 + 1), (g.P.Plant.view c.args.self.now.inner).now) c.args.self.now.halved.items) c.args.self.now.stops.counts c.args.self.now.arms.counts (past_halved (g.P.Plant.view c.args.self.now.inner) (g.P.Plant.view c.print-passed.new.self) c.print-passed.ensures.acts.goes c.args.self.now.halved.items (c.args.by.0 + 1) c.print-passed.result) c.close.new.stops.counts c.print-passed.result c.close.result
+    (c.fire.ensures.member c.if-fire.true) (c.args.self.now.stops.fits c.args.by.0) (omega (arith, c.close.ensures.few, c.args.self.now.stops.many)) c.print-passed.ensures.acts c.close.ensures.closes)
+
+pub returns-then-fire-clause-content : goal.returns-then-fire-clause-content
+returns-then-fire-clause-content g c told =
+    let is = c.note_half.ensures ∙ ap (λ (n : ℕ). halved_by c.print-passed.result ((c.args.by.0 + 1), n) c.args.self.now.halved.items) c.now-moment.ensures in
+    let small : (g.P.Plant.view c.args.self.now.inner).now ≤ top = omega (arith, c.now-moment.type_inv, c.now-moment.ensures) in
+    subst (λ (hs : List Halved). Prints c.args.by.0 c.args.line.now (fused_view (g.P.Plant.view c.args.self.now.inner) c.args.self.now.halved.items c.args.self.now.stops.counts c.args.self.now.arms.counts) (fused_view (g.P.Plant.view c.print-passed.new.self) hs c.close.new.stops.counts c.args.self.now.arms.counts) c.close.result) (sym is)
+    (print_closed (g.P.Plant.view c.args.self.now.inner) (g.P.Plant.view c.print-passed.new.self) c.args.self.now.halved.items c.args.self.now.stops.counts c.args.self.now.arms.counts c.close.new.stops.counts c.args.self.now.arms.counts c.print-passed.ensures.acts.goes (c.args.self.now.within told) c.args.by.0 (Printer c.args.by) c.args.by.0 c.args.line.now c.half.result.now c.print-passed.result c.close.result c.print-passed.ensures.acts small (c.print-passed.ensures.content told) c.close.ensures.closes)
+
+pub returns-else-fire-clause-acts : goal.returns-else-fire-clause-acts
+returns-else-fire-clause-acts g c =
+    passed_acts c.args.by.0 (Printer c.args.by) (g.P.Plant.view c.args.self.now.inner) (g.P.Plant.view c.print.new.self) c.args.self.now.halved.items c.args.self.now.halved.items c.args.self.now.stops.counts c.args.self.now.arms.counts (past_same (g.P.Plant.view c.args.self.now.inner) (g.P.Plant.view c.print.new.self) c.print.ensures.acts.goes c.args.self.now.halved.items) c.print.result c.print.ensures.acts
+
+pub returns-else-fire-clause-content : goal.returns-else-fire-clause-content
+returns-else-fire-clause-content g c told =
+    prints_passed (g.P.Plant.view c.args.self.now.inner) (g.P.Plant.view c.print.new.self) c.args.self.now.halved.items c.args.self.now.stops.counts c.args.self.now.arms.counts c.args.self.now.stops.counts c.args.self.now.arms.counts c.print.ensures.acts.goes (c.args.self.now.within told) c.args.by.0 c.args.line.now c.print.result (c.print.ensures.content told)

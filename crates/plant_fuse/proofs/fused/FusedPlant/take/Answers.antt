@@ -1,0 +1,30 @@
+use Rattle.std.proofs.Common.{arith, sym, subst}
+use Rattle.spool_disk.specs.declared.plant.Act.{Act}
+use Rattle.spool_disk.specs.declared.plant.Part.TheVariants.{Wire}
+use Rattle.spool_disk.specs.Acts.{Acts, act_of}
+use Rattle.plant_fuse.specs.Closing.{Closes}
+use Rattle.plant_fuse.specs.FuseViews.{fused_view}
+use Rattle.plant_fuse.proofs.Passing.{closed_acts, passed_acts, past_same}
+use Rattle.plant_fuse.proofs.Content.{take_closed, takes_passed}
+use Rattle.plant_fuse.proofs.fused.FusedPlant.take.Goals as goal
+
+pub returns-then-fire-clause-acts : goal.returns-then-fire-clause-acts
+returns-then-fire-clause-acts g c =
+    let closes = subst (λ (p : Act). Closes c.args.by.0 p c.args.self.now.stops.counts c.close.new.stops.counts c.close.result) c.act_taken-passed.ensures c.close.ensures.closes in
+    subst (λ (r : Act). Acts c.args.by.0 (Wire c.args.wire) (fused_view (g.P.Plant.view c.args.self.now.inner) c.args.self.now.halved.items c.args.self.now.stops.counts c.args.self.now.arms.counts) (fused_view (g.P.Plant.view c.take.new.self) c.args.self.now.halved.items c.close.new.stops.counts c.args.self.now.arms.counts) r) (sym c.took_nothing.ensures)
+    (closed_acts c.args.by.0 (Wire c.args.wire) (g.P.Plant.view c.args.self.now.inner) (g.P.Plant.view c.take.new.self) c.args.self.now.halved.items c.args.self.now.halved.items c.args.self.now.stops.counts c.args.self.now.arms.counts (past_same (g.P.Plant.view c.args.self.now.inner) (g.P.Plant.view c.take.new.self) c.take.ensures.acts.goes c.args.self.now.halved.items) c.close.new.stops.counts (act_of c.take.result) c.close.result
+    (c.fire.ensures.member c.if-fire.true) (c.args.self.now.stops.fits c.args.by.0) (omega (arith, c.close.ensures.few, c.args.self.now.stops.many)) c.take.ensures.acts closes)
+
+pub returns-then-fire-clause-content : goal.returns-then-fire-clause-content
+returns-then-fire-clause-content g c told =
+    let closes = subst (λ (p : Act). Closes c.args.by.0 p c.args.self.now.stops.counts c.close.new.stops.counts c.close.result) c.act_taken-passed.ensures c.close.ensures.closes in
+    take_closed (g.P.Plant.view c.args.self.now.inner) (g.P.Plant.view c.take.new.self) c.args.self.now.halved.items c.args.self.now.stops.counts c.args.self.now.arms.counts c.close.new.stops.counts c.args.self.now.arms.counts c.take.ensures.acts.goes (c.args.self.now.within told) c.args.by.0 c.args.wire c.args.by.0 _ c.args.into.now c.take.result c.took_nothing.result c.close.result
+    c.take.ensures.fits (c.take.ensures.content told) closes c.took_nothing.ensures
+
+pub returns-else-fire-clause-acts : goal.returns-else-fire-clause-acts
+returns-else-fire-clause-acts g c =
+    passed_acts c.args.by.0 (Wire c.args.wire) (g.P.Plant.view c.args.self.now.inner) (g.P.Plant.view c.take-else-fire.new.self) c.args.self.now.halved.items c.args.self.now.halved.items c.args.self.now.stops.counts c.args.self.now.arms.counts (past_same (g.P.Plant.view c.args.self.now.inner) (g.P.Plant.view c.take-else-fire.new.self) c.take-else-fire.ensures.acts.goes c.args.self.now.halved.items) (act_of c.take-else-fire.result) c.take-else-fire.ensures.acts
+
+pub returns-else-fire-clause-content : goal.returns-else-fire-clause-content
+returns-else-fire-clause-content g c told =
+    takes_passed (g.P.Plant.view c.args.self.now.inner) (g.P.Plant.view c.take-else-fire.new.self) c.args.self.now.halved.items c.args.self.now.stops.counts c.args.self.now.arms.counts c.args.self.now.stops.counts c.args.self.now.arms.counts c.take-else-fire.ensures.acts.goes (c.args.self.now.within told) c.args.wire c.args.by.0 c.take-else-fire.new.into c.take-else-fire.result (c.take-else-fire.ensures.content told)

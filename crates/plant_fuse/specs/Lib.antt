@@ -1,0 +1,4 @@
+pub mod Counted
+pub mod Torn
+pub mod Closing
+pub mod FuseViews

@@ -1,0 +1,200 @@
+//! A plant over any plant, which halts the acts whose stop was armed.
+ghost use Rattle.std.specs.Prelude.{◌≡◌, ◌≢◌, ◌≤◌, ◌<◌, ◌/◌, length, take, slice_index};
+ghost use Rattle.spool_disk.specs.Acts.{act_of, top};
+ghost use Rattle.spool_disk.specs.declared.plant.Act.TheVariants.{Done};
+ghost use Rattle.spool_disk.specs.FuseView.{armed_of};
+ghost use Rattle.spool_disk.specs.Fuses.{none_armed};
+ghost use Rattle.plant_fuse.specs.FuseViews.{fused_view, AreWithin};
+ghost use Rattle.plant_fuse.specs.Closing.{Closes, halved_by};
+
+use crate::tally::Tally;
+use http_server::Log;
+use mas_types::{Dev, MemberId};
+use spool_disk::{Act, Fuse, Fuses, Part, Plant, Took};
+
+/// A plant over an inner plant, which keeps armed stops to itself and passes every other call on, but for the acts that it
+/// halts: of a halted write, line or gift it passes on the first half of the bytes, of a halted read or sync a read of no
+/// bytes, and of a halted `take` one into no bytes. Where the inner plant answers Failed or Halted to what was passed on,
+/// that is the answer. A line of which the half was passed on counts as torn.
+#[derive(Drop)]
+pub struct Fused<P: Plant + Drop> {
+    pub inner: P,
+    /// The stops that are armed.
+    pub fuses: Fuses,
+    /// The stops of each member that this plant made.
+    pub stops: Tally,
+    /// The calls that armed a stop of each member.
+    pub arms: Tally,
+    /// The acts that passed on the half of a line: the place, which is 0 for the console and else the member's number and
+    /// one more, and the moment of the act. They take no memory.
+    pub halved: Log<u64, u64>,
+    ghost within: { P.tells → AreWithin (P.view inner) halved.items },
+}
+
+// The first half of some bytes.
+fn half(bytes: &[u8]) -> &[u8]
+    ensures { result.now ≡ take (length bytes.now / 2) bytes.now }
+{
+    &bytes[..bytes.len() / 2]
+}
+
+// Ends an act that halts, of which what was passed on was answered so.
+fn close(stops: &mut Tally, by: MemberId, passed: Act) -> Act
+    ensures closes { Closes by.0 passed stops.old.counts stops.new.counts result }
+    ensures few { by.0 < 256 }
+{
+    match passed {
+        Act::Done => {
+            stops.count(by);
+            Act::Halted
+        }
+        Act::Failed => Act::Failed,
+        Act::Halted => Act::Halted,
+    }
+}
+
+// Notes an act at a moment that passed on the half of a line, where it didn't fail.
+fn note_half(halved: &mut Log<u64, u64>, place: u64, moment: u64, passed: Act)
+    ensures { halved.new.items ≡ halved_by passed (place, moment) halved.old.items }
+{
+    match passed {
+        Act::Failed => {}
+        Act::Done | Act::Halted => *halved = halved.and(&place, &moment),
+    }
+}
+
+fn act_taken(passed: Took) -> Act
+    ensures { result ≡ act_of passed }
+{
+    match passed {
+        Took::Bytes(_) => Act::Done,
+        Took::Failed => Act::Failed,
+        Took::Halted => Act::Halted,
+    }
+}
+
+fn took_nothing(act: Act) -> Took
+    requires { act ≢ Done }
+    ensures { act_of result ≡ act }
+{
+    match act {
+        Act::Failed => Took::Failed,
+        _ => Took::Halted,
+    }
+}
+
+impl<P: Plant + Drop> Fused<P> {
+    ghost use Rattle.plant_fuse.specs.FuseViews.{ShowsInner};
+
+    /// Nothing is armed, and no line was halved.
+    pub fn new(inner: P) -> Fused<P>
+        ensures view { ShowsInner (P.view inner) (fused_view (P.view result.inner) result.halved.items result.stops.counts result.arms.counts) }
+        ensures none { armed_of result.fuses ≡ none_armed }
+    {
+        Fused {
+            inner,
+            fuses: Fuses::new(),
+            stops: Tally::new(),
+            arms: Tally::new(),
+            halved: Log::new(),
+        }
+    }
+}
+
+impl<P: Plant + Drop> Plant for Fused<P> {
+    ghost tells = { P.tells };
+
+    ghost view = { λ f. fused_view (P.view f.inner) f.halved.items f.stops.counts f.arms.counts };
+
+    ghost sized = { λ f told t le d. P.sized f.inner told t le d };
+
+    ghost there = { λ f told d whole. P.there f.inner told d whole };
+
+    fn now(&self) -> u64 {
+        self.inner.now()
+    }
+
+    fn size(&self, dev: Dev) -> u64 {
+        self.inner.size(dev)
+    }
+
+    fn lost(&self, part: Part) -> bool {
+        self.inner.lost(part)
+    }
+
+    fn read(&mut self, by: MemberId, dev: Dev, at: u64, into: &mut [u8]) -> Act {
+        if self.fuses.fire(by, false) {
+            let passed = self.inner.read(by, dev, 0, &mut []);
+            close(&mut self.stops, by, passed)
+        } else {
+            self.inner.read(by, dev, at, into)
+        }
+    }
+
+    fn write(&mut self, by: MemberId, dev: Dev, at: u64, bytes: &[u8]) -> Act {
+        if self.fuses.fire(by, false) {
+            let passed = self.inner.write(by, dev, at, half(bytes));
+            close(&mut self.stops, by, passed)
+        } else {
+            self.inner.write(by, dev, at, bytes)
+        }
+    }
+
+    fn sync(&mut self, by: MemberId, dev: Dev) -> Act {
+        if self.fuses.fire(by, false) {
+            let passed = self.inner.read(by, dev, 0, &mut []);
+            close(&mut self.stops, by, passed)
+        } else {
+            self.inner.sync(by, dev)
+        }
+    }
+
+    fn say(&mut self, by: MemberId, line: &[u8]) -> Act {
+        if self.fuses.fire(by, false) {
+            let moment = self.inner.now();
+            let passed = self.inner.say(by, half(line));
+            note_half(&mut self.halved, 0, moment, passed);
+            close(&mut self.stops, by, passed)
+        } else {
+            self.inner.say(by, line)
+        }
+    }
+
+    fn print(&mut self, by: MemberId, line: &[u8]) -> Act {
+        if self.fuses.fire(by, true) {
+            let moment = self.inner.now();
+            let passed = self.inner.print(by, half(line));
+            note_half(&mut self.halved, by.0 as u64 + 1, moment, passed);
+            close(&mut self.stops, by, passed)
+        } else {
+            self.inner.print(by, line)
+        }
+    }
+
+    fn give(&mut self, by: MemberId, wire: u8, bytes: &[u8]) -> Act {
+        if self.fuses.fire(by, false) {
+            let passed = self.inner.give(by, wire, half(bytes));
+            close(&mut self.stops, by, passed)
+        } else {
+            self.inner.give(by, wire, bytes)
+        }
+    }
+
+    fn take(&mut self, by: MemberId, wire: u8, into: &mut [u8]) -> Took {
+        if self.fuses.fire(by, false) {
+            let passed = act_taken(self.inner.take(by, wire, &mut []));
+            took_nothing(close(&mut self.stops, by, passed))
+        } else {
+            self.inner.take(by, wire, into)
+        }
+    }
+
+    fn arm(&mut self, member: MemberId, fuse: Fuse, n: u32) {
+        self.arms.count(member);
+        self.fuses.arm(member, fuse, n);
+    }
+
+    fn lose(&mut self, dev: Dev) {
+        self.inner.lose(dev);
+    }
+}

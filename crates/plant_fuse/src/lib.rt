@@ -1,0 +1,8 @@
+//! Members that stop inside an act: a plant over any plant, which halts the acts whose stop was armed.
+#![tactic(auto)]
+
+mod fused;
+mod tally;
+
+pub use fused::Fused;
+pub use tally::Tally;
