@@ -1,5 +1,5 @@
 //! A plant over any plant, which halts the acts whose stop was armed.
-ghost use Rattle.std.specs.Prelude.{◌≡◌, ◌≢◌, ◌≤◌, ◌<◌, ◌/◌, length, take, slice_index};
+ghost use Rattle.std.specs.Prelude.{◌≡◌, ◌≢◌, ◌+◌, ◌≤◌, ◌<◌, ◌/◌, length, take, slice_index, true, false};
 ghost use Rattle.spool_disk.specs.Acts.{act_of, top};
 ghost use Rattle.spool_disk.specs.declared.plant.Act.TheVariants.{Done};
 ghost use Rattle.spool_disk.specs.FuseView.{armed_of};
@@ -102,6 +102,11 @@ impl<P: Plant + Drop> Fused<P> {
 }
 
 impl<P: Plant + Drop> Plant for Fused<P> {
+    ghost use Rattle.spool_disk.specs.Acts.{Acts, Reads, Writes, Syncs, Says, Prints, GivesOn, Takes, FitsInto, Arms};
+    ghost use Rattle.spool_disk.specs.Fuses.{burnt, to_halt, with_fuse};
+    ghost use Rattle.spool_disk.specs.declared.plant.Act.{Act};
+    ghost use Rattle.spool_disk.specs.declared.plant.Part.TheVariants.{Disk, Console, Printer, Wire};
+
     ghost tells = { P.tells };
 
     ghost view = { λ f. fused_view (P.view f.inner) f.halved.items f.stops.counts f.arms.counts };
@@ -122,7 +127,14 @@ impl<P: Plant + Drop> Plant for Fused<P> {
         self.inner.lost(part)
     }
 
-    fn read(&mut self, by: MemberId, dev: Dev, at: u64, into: &mut [u8]) -> Act {
+    fn read(&mut self, by: MemberId, dev: Dev, at: u64, into: &mut [u8]) -> Act
+        requires { at + length into.old ≤ (P.view self.old.inner).size dev }
+        ensures acts { Acts by.0 (Disk dev) (fused_view (P.view self.old.inner) self.old.halved.items self.old.stops.counts self.old.arms.counts) (fused_view (P.view self.new.inner) self.new.halved.items self.new.stops.counts self.new.arms.counts) result }
+        ensures content { P.tells → Reads dev at (fused_view (P.view self.old.inner) self.old.halved.items self.old.stops.counts self.old.arms.counts) (fused_view (P.view self.new.inner) self.new.halved.items self.new.stops.counts self.new.arms.counts) into.new result }
+        ensures armed { armed_of self.new.fuses ≡ burnt (armed_of self.old.fuses) by.0 false }
+        ensures halts { to_halt (armed_of self.old.fuses) by.0 false ≡ true → result ≢ Done }
+        ensures passes { to_halt (armed_of self.old.fuses) by.0 false ≡ false → self.new.stops.counts ≡ self.old.stops.counts }
+    {
         if self.fuses.fire(by, false) {
             let passed = self.inner.read(by, dev, 0, &mut []);
             close(&mut self.stops, by, passed)
@@ -131,7 +143,15 @@ impl<P: Plant + Drop> Plant for Fused<P> {
         }
     }
 
-    fn write(&mut self, by: MemberId, dev: Dev, at: u64, bytes: &[u8]) -> Act {
+    fn write(&mut self, by: MemberId, dev: Dev, at: u64, bytes: &[u8]) -> Act
+        requires { at + length bytes.now ≤ (P.view self.old.inner).size dev }
+        ensures acts { Acts by.0 (Disk dev) (fused_view (P.view self.old.inner) self.old.halved.items self.old.stops.counts self.old.arms.counts) (fused_view (P.view self.new.inner) self.new.halved.items self.new.stops.counts self.new.arms.counts) result }
+        ensures content { P.tells → Writes dev at bytes.now (fused_view (P.view self.old.inner) self.old.halved.items self.old.stops.counts self.old.arms.counts) (fused_view (P.view self.new.inner) self.new.halved.items self.new.stops.counts self.new.arms.counts) result }
+        ensures armed { armed_of self.new.fuses ≡ burnt (armed_of self.old.fuses) by.0 false }
+        ensures halts { to_halt (armed_of self.old.fuses) by.0 false ≡ true → result ≢ Done }
+        ensures passes { to_halt (armed_of self.old.fuses) by.0 false ≡ false → self.new.stops.counts ≡ self.old.stops.counts }
+        ensures half { P.tells → to_halt (armed_of self.old.fuses) by.0 false ≡ true → (r : Act) × Writes dev at (take (length bytes.now / 2) bytes.now) (P.view self.old.inner) (P.view self.new.inner) r }
+    {
         if self.fuses.fire(by, false) {
             let passed = self.inner.write(by, dev, at, half(bytes));
             close(&mut self.stops, by, passed)
@@ -140,7 +160,13 @@ impl<P: Plant + Drop> Plant for Fused<P> {
         }
     }
 
-    fn sync(&mut self, by: MemberId, dev: Dev) -> Act {
+    fn sync(&mut self, by: MemberId, dev: Dev) -> Act
+        ensures acts { Acts by.0 (Disk dev) (fused_view (P.view self.old.inner) self.old.halved.items self.old.stops.counts self.old.arms.counts) (fused_view (P.view self.new.inner) self.new.halved.items self.new.stops.counts self.new.arms.counts) result }
+        ensures content { P.tells → Syncs dev (fused_view (P.view self.old.inner) self.old.halved.items self.old.stops.counts self.old.arms.counts) (fused_view (P.view self.new.inner) self.new.halved.items self.new.stops.counts self.new.arms.counts) result }
+        ensures armed { armed_of self.new.fuses ≡ burnt (armed_of self.old.fuses) by.0 false }
+        ensures halts { to_halt (armed_of self.old.fuses) by.0 false ≡ true → result ≢ Done }
+        ensures passes { to_halt (armed_of self.old.fuses) by.0 false ≡ false → self.new.stops.counts ≡ self.old.stops.counts }
+    {
         if self.fuses.fire(by, false) {
             let passed = self.inner.read(by, dev, 0, &mut []);
             close(&mut self.stops, by, passed)
@@ -149,7 +175,14 @@ impl<P: Plant + Drop> Plant for Fused<P> {
         }
     }
 
-    fn say(&mut self, by: MemberId, line: &[u8]) -> Act {
+    fn say(&mut self, by: MemberId, line: &[u8]) -> Act
+        ensures acts { Acts by.0 Console (fused_view (P.view self.old.inner) self.old.halved.items self.old.stops.counts self.old.arms.counts) (fused_view (P.view self.new.inner) self.new.halved.items self.new.stops.counts self.new.arms.counts) result }
+        ensures content { P.tells → Says line.now (fused_view (P.view self.old.inner) self.old.halved.items self.old.stops.counts self.old.arms.counts) (fused_view (P.view self.new.inner) self.new.halved.items self.new.stops.counts self.new.arms.counts) result }
+        ensures armed { armed_of self.new.fuses ≡ burnt (armed_of self.old.fuses) by.0 false }
+        ensures halts { to_halt (armed_of self.old.fuses) by.0 false ≡ true → result ≢ Done }
+        ensures passes { to_halt (armed_of self.old.fuses) by.0 false ≡ false → self.new.stops.counts ≡ self.old.stops.counts }
+        ensures half { P.tells → to_halt (armed_of self.old.fuses) by.0 false ≡ true → (r : Act) × Says (take (length line.now / 2) line.now) (P.view self.old.inner) (P.view self.new.inner) r }
+    {
         if self.fuses.fire(by, false) {
             let moment = self.inner.now();
             let passed = self.inner.say(by, half(line));
@@ -160,7 +193,14 @@ impl<P: Plant + Drop> Plant for Fused<P> {
         }
     }
 
-    fn print(&mut self, by: MemberId, line: &[u8]) -> Act {
+    fn print(&mut self, by: MemberId, line: &[u8]) -> Act
+        ensures acts { Acts by.0 (Printer by) (fused_view (P.view self.old.inner) self.old.halved.items self.old.stops.counts self.old.arms.counts) (fused_view (P.view self.new.inner) self.new.halved.items self.new.stops.counts self.new.arms.counts) result }
+        ensures content { P.tells → Prints by.0 line.now (fused_view (P.view self.old.inner) self.old.halved.items self.old.stops.counts self.old.arms.counts) (fused_view (P.view self.new.inner) self.new.halved.items self.new.stops.counts self.new.arms.counts) result }
+        ensures armed { armed_of self.new.fuses ≡ burnt (armed_of self.old.fuses) by.0 true }
+        ensures halts { to_halt (armed_of self.old.fuses) by.0 true ≡ true → result ≢ Done }
+        ensures passes { to_halt (armed_of self.old.fuses) by.0 true ≡ false → self.new.stops.counts ≡ self.old.stops.counts }
+        ensures half { P.tells → to_halt (armed_of self.old.fuses) by.0 true ≡ true → (r : Act) × Prints by.0 (take (length line.now / 2) line.now) (P.view self.old.inner) (P.view self.new.inner) r }
+    {
         if self.fuses.fire(by, true) {
             let moment = self.inner.now();
             let passed = self.inner.print(by, half(line));
@@ -171,7 +211,14 @@ impl<P: Plant + Drop> Plant for Fused<P> {
         }
     }
 
-    fn give(&mut self, by: MemberId, wire: u8, bytes: &[u8]) -> Act {
+    fn give(&mut self, by: MemberId, wire: u8, bytes: &[u8]) -> Act
+        ensures acts { Acts by.0 (Wire wire) (fused_view (P.view self.old.inner) self.old.halved.items self.old.stops.counts self.old.arms.counts) (fused_view (P.view self.new.inner) self.new.halved.items self.new.stops.counts self.new.arms.counts) result }
+        ensures content { P.tells → GivesOn wire by.0 bytes.now (fused_view (P.view self.old.inner) self.old.halved.items self.old.stops.counts self.old.arms.counts) (fused_view (P.view self.new.inner) self.new.halved.items self.new.stops.counts self.new.arms.counts) result }
+        ensures armed { armed_of self.new.fuses ≡ burnt (armed_of self.old.fuses) by.0 false }
+        ensures halts { to_halt (armed_of self.old.fuses) by.0 false ≡ true → result ≢ Done }
+        ensures passes { to_halt (armed_of self.old.fuses) by.0 false ≡ false → self.new.stops.counts ≡ self.old.stops.counts }
+        ensures half { P.tells → to_halt (armed_of self.old.fuses) by.0 false ≡ true → (r : Act) × GivesOn wire by.0 (take (length bytes.now / 2) bytes.now) (P.view self.old.inner) (P.view self.new.inner) r }
+    {
         if self.fuses.fire(by, false) {
             let passed = self.inner.give(by, wire, half(bytes));
             close(&mut self.stops, by, passed)
@@ -180,7 +227,14 @@ impl<P: Plant + Drop> Plant for Fused<P> {
         }
     }
 
-    fn take(&mut self, by: MemberId, wire: u8, into: &mut [u8]) -> Took {
+    fn take(&mut self, by: MemberId, wire: u8, into: &mut [u8]) -> Took
+        ensures acts { Acts by.0 (Wire wire) (fused_view (P.view self.old.inner) self.old.halved.items self.old.stops.counts self.old.arms.counts) (fused_view (P.view self.new.inner) self.new.halved.items self.new.stops.counts self.new.arms.counts) (act_of result) }
+        ensures fits { FitsInto (length into.old) result }
+        ensures content { P.tells → Takes wire by.0 (fused_view (P.view self.old.inner) self.old.halved.items self.old.stops.counts self.old.arms.counts) (fused_view (P.view self.new.inner) self.new.halved.items self.new.stops.counts self.new.arms.counts) into.new result }
+        ensures armed { armed_of self.new.fuses ≡ burnt (armed_of self.old.fuses) by.0 false }
+        ensures halts { to_halt (armed_of self.old.fuses) by.0 false ≡ true → (act_of result) ≢ Done }
+        ensures passes { to_halt (armed_of self.old.fuses) by.0 false ≡ false → self.new.stops.counts ≡ self.old.stops.counts }
+    {
         if self.fuses.fire(by, false) {
             let passed = act_taken(self.inner.take(by, wire, &mut []));
             took_nothing(close(&mut self.stops, by, passed))
@@ -189,7 +243,11 @@ impl<P: Plant + Drop> Plant for Fused<P> {
         }
     }
 
-    fn arm(&mut self, member: MemberId, fuse: Fuse, n: u32) {
+    fn arm(&mut self, member: MemberId, fuse: Fuse, n: u32)
+        ensures arms { Arms member.0 (fused_view (P.view self.old.inner) self.old.halved.items self.old.stops.counts self.old.arms.counts) (fused_view (P.view self.new.inner) self.new.halved.items self.new.stops.counts self.new.arms.counts) }
+        ensures armed { armed_of self.new.fuses ≡ with_fuse (armed_of self.old.fuses) member.0 fuse n }
+        ensures inner { P.view self.new.inner ≡ P.view self.old.inner }
+    {
         self.arms.count(member);
         self.fuses.arm(member, fuse, n);
     }

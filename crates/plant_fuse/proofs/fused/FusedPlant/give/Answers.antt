@@ -1,4 +1,5 @@
-use Rattle.std.proofs.Common.{arith, length, ◌/◌}
+use Rattle.spool_disk.specs.Acts.{GivesOn}
+use Rattle.std.proofs.Common.{arith, length, ◌/◌, subst, List, ℕ}
 use Rattle.spool_disk.specs.declared.plant.Part.TheVariants.{Wire}
 use Rattle.plant_fuse.proofs.Passing.{closed_acts, passed_acts, past_same}
 use Rattle.plant_fuse.proofs.Content.{give_closed, gives_passed}
@@ -20,3 +21,7 @@ returns-else-fire-clause-acts g c =
 pub returns-else-fire-clause-content : goal.returns-else-fire-clause-content
 returns-else-fire-clause-content g c told =
     gives_passed (g.P.Plant.view c.args.self.now.inner) (g.P.Plant.view c.give.new.self) c.args.self.now.halved.items c.args.self.now.stops.counts c.args.self.now.arms.counts c.args.self.now.stops.counts c.args.self.now.arms.counts (c.give.ensures.acts).goes (c.args.self.now.within told) c.args.wire c.args.by.0 c.args.bytes.now c.give.result (c.give.ensures.content told)
+
+pub returns-then-fire-clause-half : goal.returns-then-fire-clause-half
+returns-then-fire-clause-half g c told halts =
+    (c.give-passed.result, subst (λ (l : List ℕ). GivesOn c.args.wire c.args.by.0 l (g.P.Plant.view c.args.self.now.inner) (g.P.Plant.view c.give-passed.new.self) c.give-passed.result) c.half.ensures (c.give-passed.ensures.content told))

@@ -29,3 +29,7 @@ returns-else-fire-clause-acts g c =
 pub returns-else-fire-clause-content : goal.returns-else-fire-clause-content
 returns-else-fire-clause-content g c told =
     prints_passed (g.P.Plant.view c.args.self.now.inner) (g.P.Plant.view c.print.new.self) c.args.self.now.halved.items c.args.self.now.stops.counts c.args.self.now.arms.counts c.args.self.now.stops.counts c.args.self.now.arms.counts c.print.ensures.acts.goes (c.args.self.now.within told) c.args.by.0 c.args.line.now c.print.result (c.print.ensures.content told)
+
+pub returns-then-fire-clause-half : goal.returns-then-fire-clause-half
+returns-then-fire-clause-half g c told halts =
+    (c.print-passed.result, subst (λ (l : List ℕ). Prints c.args.by.0 l (g.P.Plant.view c.args.self.now.inner) (g.P.Plant.view c.print-passed.new.self) c.print-passed.result) c.half.ensures (c.print-passed.ensures.content told))

@@ -29,3 +29,7 @@ returns-else-fire-clause-acts g c =
 pub returns-else-fire-clause-content : goal.returns-else-fire-clause-content
 returns-else-fire-clause-content g c told =
     says_passed (g.P.Plant.view c.args.self.now.inner) (g.P.Plant.view c.say.new.self) c.args.self.now.halved.items c.args.self.now.stops.counts c.args.self.now.arms.counts c.args.self.now.stops.counts c.args.self.now.arms.counts c.say.ensures.acts.goes (c.args.self.now.within told) c.args.line.now c.say.result (c.say.ensures.content told)
+
+pub returns-then-fire-clause-half : goal.returns-then-fire-clause-half
+returns-then-fire-clause-half g c told halts =
+    (c.say-passed.result, subst (λ (l : List ℕ). Says l (g.P.Plant.view c.args.self.now.inner) (g.P.Plant.view c.say-passed.new.self) c.say-passed.result) c.half.ensures (c.say-passed.ensures.content told))

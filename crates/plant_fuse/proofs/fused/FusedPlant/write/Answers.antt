@@ -1,4 +1,5 @@
-use Rattle.std.proofs.Common.{arith, length, ◌/◌}
+use Rattle.spool_disk.specs.Acts.{Writes}
+use Rattle.std.proofs.Common.{arith, length, ◌/◌, subst, List, ℕ}
 use Rattle.spool_disk.specs.declared.plant.Part.TheVariants.{Disk}
 use Rattle.plant_fuse.proofs.Passing.{closed_acts, passed_acts, past_same}
 use Rattle.plant_fuse.proofs.Content.{write_closed, writes_passed}
@@ -20,3 +21,7 @@ returns-else-fire-clause-acts g c =
 pub returns-else-fire-clause-content : goal.returns-else-fire-clause-content
 returns-else-fire-clause-content g c told =
     writes_passed (g.P.Plant.view c.args.self.now.inner) (g.P.Plant.view c.write.new.self) c.args.self.now.halved.items c.args.self.now.stops.counts c.args.self.now.arms.counts c.args.self.now.stops.counts c.args.self.now.arms.counts (c.write.ensures.acts).goes (c.args.self.now.within told) c.args.dev c.args.at c.args.bytes.now c.write.result (c.write.ensures.content told)
+
+pub returns-then-fire-clause-half : goal.returns-then-fire-clause-half
+returns-then-fire-clause-half g c told halts =
+    (c.write-passed.result, subst (λ (l : List ℕ). Writes c.args.dev c.args.at l (g.P.Plant.view c.args.self.now.inner) (g.P.Plant.view c.write-passed.new.self) c.write-passed.result) c.half.ensures (c.write-passed.ensures.content told))
