@@ -13,6 +13,11 @@ use Rattle.mas_types.specs.declared.commands.Reply.{Reply}
 use Rattle.mas_types.specs.declared.queues.Owner.{Owner}
 use Rattle.mas_types.specs.declared.queues.Owner.TheVariants as owner
 use Rattle.mas_types.specs.declared.queues.Queue.{Queue}
+use Rattle.mas_types.specs.declared.queues.Config.{Config}
+use Rattle.mas_types.specs.declared.queues.Setting.{Setting}
+use Rattle.mas_types.specs.declared.queues.Route.{Route}
+use Rattle.mas_types.specs.declared.queues.LineCount.{LineCount}
+use Rattle.mas_types.specs.declared.ids.JobNo.{JobNo}
 use Rattle.mas_types.specs.Ids.{nobody}
 use Rattle.mas_types.specs.Lists.{change}
 use Rattle.mas_types.specs.Owners.{freed, is_held_by}
@@ -187,8 +192,16 @@ output_ordered r is lt = record { class = is.class; busy = is.busy; job = is.job
 
 -- RESTART
 
+abbrev queue_with : Config → List Job → List Output → List Owner → List Setting → List Route → List LineCount → JobNo → Queue
+queue_with config jobs outputs owners members routes lines last = record { config = config; jobs = jobs; outputs = outputs; owners = owners; members = members; routes = routes; lines = lines; last = last }
+
+made : (a a' : Config) (b b' : List Job) (c c' : List Output) (d d' : List Owner) (e e' : List Setting) (f f' : List Route) (g g' : List LineCount) (h h' : JobNo) → a ≡ a' → b ≡ b' → c ≡ c' → d ≡ d' → e ≡ e' → f ≡ f' → g ≡ g' → h ≡ h'
+    → queue_with a b c d e f g h ≡ queue_with a' b' c' d' e' f' g' h'
+made a a' b b' c c' d d' e e' f f' g g' h h' one two three four five six seven eight = cc
+
 queue_is : (Q R : Queue) → Q.config ≡ R.config → Q.jobs ≡ R.jobs → Q.outputs ≡ R.outputs → Q.owners ≡ R.owners → Q.members ≡ R.members → Q.routes ≡ R.routes → Q.lines ≡ R.lines → Q.last ≡ R.last → Q ≡ R
-queue_is Q R a b c d e f g h = cc
+queue_is Q R a b c d e f g h =
+    made Q.config R.config Q.jobs R.jobs Q.outputs R.outputs Q.owners R.owners Q.members R.members Q.routes R.routes Q.lines R.lines Q.last R.last a b c d e f g h
 
 module _ (old new : Tables) (order : new.order ≤ old.order + 32) (small : old.order + 32 < 2 ^ 63) (spelling : HasSpelling old) (fits : AreFit new) (stands : StandForTheirQueue) (r : Reply) (plays : Plays old new restart_row r) where
   abbrev Before : Queue
