@@ -1,5 +1,5 @@
 -- A script says the same at each node, but for the node itself.
-use Rattle.std.proofs.Common.{◌≡◌, ℕ, ◌+◌, Bool, true, false, List, [], ◌∷◌, map, Option, Some, None, Result, Ok, Err, refl, sym, ◌∙◌, ap}
+use Rattle.std.proofs.Common.{◌≡◌, ℕ, ◌+◌, Bool, true, false, List, [], ◌∷◌, Some, None, Ok, Err, refl, sym, ◌∙◌, ap}
 use Rattle.std.specs.List.{list_any}
 use Rattle.mas_types.specs.declared.ids.Dev.TheVariants.{Ckpt1, Ckpt2}
 use Rattle.mas_types.specs.declared.ids.Name8.{Name8}
@@ -64,4 +64,3 @@ module _ (own node : Name8) where
 -- a script says the same at each node
 pub says_elsewhere : SaysTheSameElsewhere
 says_elsewhere own node script = said_moved own node place.Outside 1 (lines_of script)
-

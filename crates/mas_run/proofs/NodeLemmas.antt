@@ -1,5 +1,5 @@
 -- What a script asks for at a node.
-use Rattle.std.proofs.Common.{◌≡◌, ℕ, ◌+◌, ◌≤◌, ◌==◌, nat_le, not, ◌&&◌, Bool, true, false, if◌then◌else◌, arith, List, [], ◌∷◌, length, map, All, Option, Some, None, Result, Ok, Err, codes, refl, sym, ◌∙◌, ap, subst}
+use Rattle.std.proofs.Common.{◌≡◌, ℕ, ◌≤◌, ◌==◌, nat_le, not, ◌&&◌, false, arith, List, [], ◌∷◌, length, All, refl, sym, ◌∙◌, ap}
 use Rattle.std.specs.List.{list_any}
 use Rattle.std.proofs.lemmas.Slice.Eq.{bytes_eq-Decides}
 use Rattle.std.proofs.lemmas.List.{length-map}
@@ -7,14 +7,12 @@ use Rattle.std.proofs.lemmas.List.Elements.{All-nil, All-cons, All-head, All-tai
 use Rattle.std.proofs.lemmas.Bool.{or_parts}
 use Rattle.std.proofs.lemmas.Bool.Decides.{nat_tests}
 use Rattle.mas_types.specs.declared.ids.Dev.TheVariants.{Ckpt1, Ckpt2, Spool}
-use Rattle.mas_types.specs.declared.ids.MemberId.{MemberId}
 use Rattle.mas_types.specs.declared.ids.Name8.{Name8}
 use Rattle.mas_types.specs.declared.jobs.JobFields.{JobFields}
 use Rattle.mas_types.specs.declared.queues.Config.{Config}
 use Rattle.mas_types.specs.declared.queues.Owner.{Owner}
 use Rattle.mas_types.specs.declared.queues.Owner.TheVariants as owner
-use Rattle.mas_types.specs.Fit.{IsName, IsConfig, IsJobFields}
-use Rattle.mas_types.specs.Ids.{same_name}
+use Rattle.mas_types.specs.Fit.{IsName, IsConfig}
 use Rattle.mas_types.specs.Owners.{is_held_by, is_members}
 use Rattle.mas_types.specs.Queue.{is_member}
 use Rattle.first_script.specs.declared.asked.Asked.{Asked}

@@ -1,5 +1,5 @@
 -- What is refused before play, and what is answered.
-use Rattle.std.proofs.Common.{◌≡◌, ◌⊎◌, inl, inr, ⊎_elim, ℕ, nat_lt, if◌then◌else◌, Bool, true, false, List, [], ◌∷◌, length, Result, Ok, Err, refl, ap, arith}
+use Rattle.std.proofs.Common.{◌≡◌, ◌⊎◌, inr, ⊎_elim, ℕ, nat_lt, if◌then◌else◌, Bool, true, false, List, [], ◌∷◌, length, Result, Ok, Err, refl, ap, arith}
 use Rattle.std.proofs.lemmas.Bool.Decides.{nat_tests}
 use Rattle.first_script.specs.declared.asked.Asked.{Asked}
 use Rattle.mas_types.specs.declared.answers.Status.{Status}
@@ -9,7 +9,7 @@ use Rattle.mas_types.specs.Limits.{script_bytes}
 use Rattle.mas_run.specs.Words.{are_cold, are_words}
 use Rattle.mas_types.specs.declared.ids.Dev.TheVariants.{Ckpt1, Ckpt2}
 use Rattle.first_script.specs.declared.asked.BadLine.{BadLine}
-use Rattle.mas_run.specs.Refusals.{said_by, bytes_needed, refused_where, refused_line, refusal_before_play, refused_sizes, refused_devices, Answers, is_refusal, IsAsked, IsPlayedOut}
+use Rattle.mas_run.specs.Refusals.{said_by, bytes_needed, refused_where, refused_line, refusal_before_play, refused_sizes, Answers, is_refusal, IsAsked, IsPlayedOut}
 use Rattle.spool_disk.specs.View.{View}
 use Rattle.spool_disk.specs.Acts.{Rose}
 use Rattle.mas_run.specs.Statuses.{IsCaused, IsStill, is_of_text}

@@ -25,8 +25,8 @@ use Rattle.mas_types.specs.declared.journals.Fate.TheVariants.{Kept, Dropped, Fl
 use Rattle.mas_types.specs.declared.queues.Queue.{Queue}
 use Rattle.mas_types.specs.declared.answers.Status.{Status}
 use Rattle.mas_types.specs.declared.answers.Status.TheVariants as status
-use Rattle.mas_types.specs.Starts.{default_config, empty_queue}
-use Rattle.spool_disk.specs.View.{View, World, Line, Disk}
+use Rattle.mas_types.specs.Starts.{default_config}
+use Rattle.spool_disk.specs.View.{View, Line, Disk}
 use Rattle.spool_disk.specs.declared.plant.Part.TheVariants.{Disk as DiskPart, Console}
 use Rattle.spool_disk.specs.Acts.{Goes, Rose, top}
 use Rattle.ckpt_copy.specs.Areas.{reads}
@@ -34,7 +34,7 @@ use Rattle.duplex_pair.specs.Halves.{SomeAlive, IsBothLost, IsCkpt}
 use Rattle.duplex_pair.specs.Both.{PairActed}
 use Rattle.mas_complex.specs.declared.places.Place.TheVariants.{Before}
 use Rattle.mas_complex.specs.Crash.{setting, CopyAt, copy_of}
-use Rattle.mas_complex.specs.Headline.{Headline, LeavesQueue, AreToldKept, whole}
+use Rattle.mas_complex.specs.Headline.{Headline, AreToldKept, whole}
 use Rattle.mas_run.specs.declared.running.StepNo.{StepNo}
 use Rattle.mas_run.specs.declared.running.StepNo.TheVariants as no_step
 use Rattle.mas_run.specs.Decks.{sysa}

@@ -1,5 +1,5 @@
 -- A warm run: what its start leaves, and why it doesn't begin.
-use Rattle.std.proofs.Common.{◌≡◌, ◌≢◌, ◌⊎◌, inl, inr, ⊎_elim, ℕ, ◌<◌, ◌≤◌, ◌==◌, nat_lt, nat_le, not, ◌&&◌, ◌||◌, Bool, true, false, List, [], ◌∷◌, Option, Some, None, codes, refl, sym, ◌∙◌, ap, subst, arith}
+use Rattle.std.proofs.Common.{◌≡◌, ◌≢◌, ◌⊎◌, inl, inr, ⊎_elim, ℕ, ◌<◌, ◌≤◌, ◌==◌, nat_lt, nat_le, not, ◌&&◌, ◌||◌, Bool, true, false, List, [], Option, Some, None, refl, sym, ◌∙◌, ap, subst, arith}
 use Rattle.std.proofs.lemmas.Bool.Decides.{nat_tests}
 use Rattle.mas_types.specs.declared.ids.Dev.{Dev}
 use Rattle.mas_types.specs.declared.ids.Dev.TheVariants.{Ckpt1, Ckpt2, Spool}
@@ -23,23 +23,23 @@ use Rattle.mas_types.specs.Queue.{in_input}
 use Rattle.mas_types.specs.Sound.{may_be_busy}
 use Rattle.std.specs.List.{list_any}
 use Rattle.std.proofs.lemmas.Bool.{or_parts}
-use Rattle.spool_disk.specs.declared.plant.Part.TheVariants.{Disk as DiskPart, Console}
-use Rattle.spool_disk.specs.View.{View, World, Disk, disk_now}
-use Rattle.spool_disk.specs.Acts.{Goes, Rose}
+use Rattle.spool_disk.specs.declared.plant.Part.TheVariants.{Console}
+use Rattle.spool_disk.specs.View.{View, World, disk_now}
+use Rattle.spool_disk.specs.Acts.{Goes}
 use Rattle.duplex_pair.specs.Both.{BothMeanwhile}
 use Rattle.warm_start.specs.declared.choosing.StartNo.{StartNo}
 use Rattle.warm_start.specs.declared.choosing.StartNo.TheVariants as no_start
 use Rattle.warm_start.specs.Levels.{levels_of}
-use Rattle.warm_start.specs.Starting.{IsCauseOf, Starts, IsOnce, WasTaken, OnlyLooked, HeldBack, IsHeld}
+use Rattle.warm_start.specs.Starting.{IsCauseOf, Starts, IsOnce, IsHeld}
 use Rattle.warm_start.specs.Usable.{AreOf, HaveSize}
 use Rattle.warm_start.proofs.LevelLemmas.{their_levels}
 use Rattle.mas_run.specs.Drawn.{AreDrawn}
 use Rattle.mas_run.specs.Entering.{AreBelow}
 use Rattle.mas_run.specs.Runs.{has_begun, Begins, LosesFirst, IsHeldUntil}
 use Rattle.mas_run.specs.Standing.{queue_of}
-use Rattle.mas_run.specs.Statuses.{Grows, WasLost, IsCaused, IsCausedFrom, is_of_play, is_of_text}
-use Rattle.mas_run.specs.Unstarted.{status_of_start, StartCauses, IsNotStarted}
-use Rattle.mas_run.proofs.CourseLemmas.{lost_later, lost_more, rose_more}
+use Rattle.mas_run.specs.Statuses.{Grows, IsCaused, IsCausedFrom, is_of_play, is_of_text}
+use Rattle.mas_run.specs.Unstarted.{status_of_start, IsNotStarted}
+use Rattle.mas_run.proofs.CourseLemmas.{lost_later, lost_more}
 use Rattle.mas_run.proofs.DrawnLemmas.{drawn_level}
 
 -- WHAT IS FOUND

@@ -1,8 +1,7 @@
 -- What Restart on tables leaves.
-use Rattle.std.proofs.Common.{◌≡◌, ◌⊎◌, ℕ, ◌+◌, ◌<◌, ◌≤◌, ◌^◌, ◌==◌, nat_le, not, ◌&&◌, ◌||◌, if◌then◌else◌, Bool, true, false, List, [], ◌∷◌, length, map, Option, Some, None, All, replicate, refl, sym, ◌∙◌, ap, subst, arith}
+use Rattle.std.proofs.Common.{◌≡◌, ℕ, ◌+◌, ◌<◌, ◌≤◌, ◌^◌, nat_le, if◌then◌else◌, Bool, true, false, List, [], ◌∷◌, map, Option, Some, None, All, replicate, refl, sym, ◌∙◌, ap, subst, arith}
 use Rattle.std.specs.List.{list_any}
 use Rattle.std.proofs.lemmas.List.{length-replicate}
-use Rattle.std.proofs.lemmas.Bool.Decides.{nat_tests}
 use Rattle.std.proofs.lemmas.List.Elements.{All-nil, All-cons, All-head, All-tail, All-weaker}
 use Rattle.mas_types.specs.declared.ids.MemberId.{MemberId}
 use Rattle.mas_types.specs.declared.jobs.Text.{Text}
@@ -18,7 +17,6 @@ use Rattle.mas_types.specs.declared.queues.Setting.{Setting}
 use Rattle.mas_types.specs.declared.queues.Route.{Route}
 use Rattle.mas_types.specs.declared.queues.LineCount.{LineCount}
 use Rattle.mas_types.specs.declared.ids.JobNo.{JobNo}
-use Rattle.mas_types.specs.Ids.{nobody}
 use Rattle.mas_types.specs.Lists.{change}
 use Rattle.mas_types.specs.Owners.{freed, is_held_by}
 use Rattle.mas_types.specs.Queue.{is_member, line_count}
@@ -29,7 +27,7 @@ use Rattle.lay_bytes.specs.declared.records.OutRec.{OutRec}
 use Rattle.lay_bytes.specs.Slots.{IsJobRec, IsOutRec, IsOwner, IfUsed}
 use Rattle.ckpt_pages.specs.declared.tables.Tables.{Tables}
 use Rattle.ckpt_pages.specs.QueueOf.{used, insert_by, in_order, job_with, output_with, queue_of}
-use Rattle.ckpt_pages.specs.Shape.{HasShape, HasSpelling, IsRoute, IsLineCount}
+use Rattle.ckpt_pages.specs.Shape.{HasSpelling, IsRoute, IsLineCount}
 use Rattle.mas_complex.specs.Meaning.{run, no_deck, no_print}
 use Rattle.slot_order.specs.Listed.{listed}
 use Rattle.slot_order.proofs.Rising.{All-in_order}

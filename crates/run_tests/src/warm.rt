@@ -1,7 +1,7 @@
 // A warm start of what a cold run left.
 use crate::looking::{
-    DECK, FORMED, KEPT, OPEN, OPERATOR, Reading, block, failing,
-    halting, plant, play, reads_as, source, words,
+    DECK, FORMED, KEPT, OPEN, OPERATOR, Reading, block, failing, halting, plant, play, reads_as,
+    source, words,
 };
 use mas_run::{Ended, calm_top};
 use mas_types::{Command, CopyState, Dev, Fate, MemberId, Phase, Status};
@@ -72,8 +72,14 @@ fn keeps_the_queue(rt: HostRuntime) -> Result<(), Fail> {
     is_reset(&rt, &ended);
     assert_eq!(rt; ended.journal.batches.len(), 1);
     assert_eq!(rt; ended.plant.console_lines(alloc)?.len(), 0);
-    assert_eq!(rt; reads_as(&rt, &mut ended.plant, Dev::Ckpt1), Reading::OneJob);
-    assert_eq!(rt; reads_as(&rt, &mut ended.plant, Dev::Ckpt2), Reading::OneJob);
+    assert_eq!(rt;
+        reads_as(&rt, &mut ended.plant, Dev::Ckpt1),
+        Reading::OneJob
+    );
+    assert_eq!(rt;
+        reads_as(&rt, &mut ended.plant, Dev::Ckpt2),
+        Reading::OneJob
+    );
     Ok(())
 }
 
@@ -189,17 +195,16 @@ fn starts_after(
     assert_eq!(rt; ended.status, Status::Done, "moment {t}");
     let (kept, flying) = kept_at(run, t);
     let found = ended.base.jobs.len();
-    assert!(rt; found == kept || flying && kept <= 3 && found == kept + 1, "moment {t}");
+    assert!(rt;
+        found == kept || flying && kept <= 3 && found == kept + 1,
+        "moment {t}"
+    );
     has_jobs(rt, &ended, found);
     is_reset(rt, &ended);
     Ok(())
 }
 
-fn starts_after_each_moment(
-    rt: &impl Abort,
-    alloc: Global,
-    plant: MemPlant,
-) -> Result<(), Fail> {
+fn starts_after_each_moment(rt: &impl Abort, alloc: Global, plant: MemPlant) -> Result<(), Fail> {
     let run = play(alloc, THREE, plant)?;
     assert_eq!(rt; run.status, Status::Done);
     for t in run.since..=run.plant.now() {

@@ -1,4 +1,4 @@
-use Rattle.std.proofs.Common.{◌≡◌, ◌<◌, ◌∙◌, length, get_or, set, arith, ap}
+use Rattle.std.proofs.Common.{◌<◌, ◌∙◌, length, set, arith, ap}
 use Rattle.std.proofs.lemmas.List.Edits.{map_over_more}
 use Rattle.first_script.specs.declared.asked.Asked.{Asked}
 use Rattle.first_script.specs.Nodes.{step_at}

@@ -1,16 +1,11 @@
-use Rattle.std.proofs.Common.{◌≡◌, ◌∙◌, ◌≤◌, ℕ, List, Ok, Err, true, false, inl, refl, sym, ap, subst, arith}
-use Rattle.mas_types.specs.declared.ids.Dev.TheVariants.{Ckpt1, Ckpt2}
-use Rattle.mas_types.specs.declared.journals.Batch.{Batch}
+use Rattle.std.proofs.Common.{◌≡◌, ◌∙◌, ℕ, inl, refl, sym, ap, arith}
 use Rattle.mas_types.specs.Ids.{nobody}
-use Rattle.spool_disk.specs.View.{World, disk_now}
-use Rattle.spool_disk.specs.Acts.{Goes}
+use Rattle.spool_disk.specs.View.{World}
 use Rattle.ckpt_copy.specs.Areas.{reads}
 use Rattle.ckpt_copy.specs.Moments.{goes_on}
 use Rattle.mas_complex.specs.Headline.{Headline}
 use Rattle.mas_complex.specs.Journals.{begun}
 use Rattle.queue_restart.specs.Restarts.{restart_entries}
-use Rattle.mas_run.specs.Told.{console_now}
-use Rattle.mas_run.specs.Runs.{IsPlay}
 use Rattle.mas_run.proofs.CourseLemmas.{only_on}
 use Rattle.mas_run.proofs.NodeLemmas.{none_left, all_enter}
 use Rattle.mas_run.proofs.ResetLemmas.{reset_ended, reset_caused, one_kept_now}

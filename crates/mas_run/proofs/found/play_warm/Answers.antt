@@ -1,20 +1,18 @@
-use Rattle.std.proofs.Common.{◌≡◌, ◌∙◌, ◌≤◌, ◌⊎◌, ℕ, List, codes, length, true, false, inl, inr, ⊎_elim, refl, sym, ap, subst, arith}
+use Rattle.std.proofs.Common.{◌≡◌, ◌∙◌, ◌≤◌, ℕ, List, codes, length, false, inl, inr, ⊎_elim, refl, sym, ap, subst, arith}
 use Rattle.std.proofs.Math.Logic.{∥∥₁_map}
 use Rattle.mas_types.specs.Starts.{default_config}
 use Rattle.mas_types.specs.Fit.{IsName}
 use Rattle.mas_types.specs.declared.ids.Dev.TheVariants.{Ckpt1, Ckpt2}
-use Rattle.mas_types.specs.declared.answers.Status.TheVariants as status
 use Rattle.mas_types.specs.declared.journals.Batch.{Batch}
 use Rattle.mas_types.specs.declared.queues.Queue.{Queue}
 use Rattle.ckpt_copy.specs.Areas.{reads, areas_size}
 use Rattle.ckpt_copy.specs.Moments.{goes_on}
 use Rattle.ckpt_copy.specs.Pages.{bytes_of}
 use Rattle.ckpt_pages.specs.Shape.{page_count}
-use Rattle.spool_disk.specs.View.{World, disk_now}
+use Rattle.spool_disk.specs.View.{World}
 use Rattle.spool_disk.specs.Acts.{Goes}
 use Rattle.mas_complex.specs.Journals.{kept_all}
 use Rattle.mas_complex.specs.Meaning.{run}
-use Rattle.warm_start.specs.Starting.{IsHeld}
 use Rattle.warm_start.proofs.Begun.{found_later}
 use Rattle.first_script.specs.Nodes.{at_node}
 use Rattle.mas_run.specs.Told.{console_now}

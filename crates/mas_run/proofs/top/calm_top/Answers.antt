@@ -1,4 +1,4 @@
-use Rattle.std.proofs.Common.{◌≡◌, ◌∙◌, List, ℕ, true, false, map, Option, Ok, refl, sym, ap, subst, rules}
+use Rattle.std.proofs.Common.{◌≡◌, ◌∙◌, List, ℕ, true, false, map, Option, ap, subst, rules}
 use Rattle.std.specs.Prelude.{string_bytes}
 use Rattle.mas_types.specs.Starts.{default_config}
 use Rattle.mas_types.specs.declared.answers.Status.{Status}

@@ -1,11 +1,6 @@
-use Rattle.std.proofs.Common.{◌≡◌, ◌∙◌, ◌⊎◌, inl, inr, ⊎_elim, true, false, List, refl, sym, ap, subst}
+use Rattle.std.proofs.Common.{◌≡◌, ◌∙◌, inl, inr, ⊎_elim, sym, ap}
 use Rattle.mas_types.specs.Starts.{default_config}
-use Rattle.mas_types.specs.Lists.{first_some}
-use Rattle.mas_types.specs.declared.ids.Dev.TheVariants.{Ckpt1, Ckpt2}
-use Rattle.first_script.specs.declared.asked.Asked.{Asked}
 use Rattle.first_script.specs.Nodes.{at_node}
-use Rattle.mas_run.specs.Refusals.{refused_sizes, Answers}
-use Rattle.mas_run.specs.Runs.{IsRun}
 use Rattle.mas_run.proofs.NodeLemmas.{steps_same}
 use Rattle.mas_run.proofs.RefusalLemmas.{warm_free}
 use Rattle.mas_run.proofs.top.play.Goals as goal

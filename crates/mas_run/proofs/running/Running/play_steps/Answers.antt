@@ -1,8 +1,7 @@
-use Rattle.std.proofs.Common.{◌≡◌, ◌∙◌, ◌+◌, ◌++◌, [], List, ℕ, refl, sym, ap, arith, take}
+use Rattle.std.proofs.Common.{◌≡◌, ◌∙◌, ◌+◌, [], ℕ, refl, sym, ap, arith, take}
 use Rattle.std.proofs.lemmas.List.{append-nil}
 use Rattle.std.proofs.lemmas.Result.{err_from_is_err_and}
 use Rattle.mas_types.specs.declared.queues.Queue.{Queue}
-use Rattle.mas_types.specs.declared.journals.Batch.{Batch}
 use Rattle.spool_disk.specs.View.{World}
 use Rattle.mas_complex.specs.Journals.{kept_all}
 use Rattle.mas_complex.specs.Meaning.{run}

@@ -1,6 +1,4 @@
-use Rattle.std.proofs.Common.{◌≡◌, ◌∙◌, ◌+◌, ◌≤◌, ap, subst, sym, length, true, Err, Some, ℕ, List, [], inl, refl, arith}
-use Rattle.mas_types.specs.declared.ids.MemberId.{MemberId}
-use Rattle.mas_types.specs.declared.journals.Batch.{Batch}
+use Rattle.std.proofs.Common.{◌≡◌, ◌∙◌, ◌+◌, ◌≤◌, ap, subst, sym, length, true, Some, ℕ, List, refl, arith}
 use Rattle.mas_types.specs.declared.journals.Entry.{Entry}
 use Rattle.mas_types.specs.declared.journals.Journal.{Journal}
 use Rattle.mas_types.specs.declared.queues.Queue.{Queue}
@@ -10,12 +8,11 @@ use Rattle.spool_disk.specs.View.{disk_now}
 use Rattle.ckpt_copy.specs.Pages.{bytes_of, level, Covers}
 use Rattle.mas_complex.specs.Changed.{NamesOnly}
 use Rattle.mas_complex.specs.Journals.{begun, entries_reserved, kept_all, with_last}
-use Rattle.mas_complex.specs.Meaning.{StandFor, run}
+use Rattle.mas_complex.specs.Meaning.{StandFor}
 use Rattle.mas_complex.proofs.BatchEnds.{with_last-append}
 use Rattle.queue_restart.specs.Restarts.{restart_entries}
 use Rattle.mas_run.specs.Standing.{queue_of}
 use Rattle.mas_run.proofs.DrawnLemmas.{drawn_stand, drawn_level}
-use Rattle.mas_run.proofs.LineLemmas.{untold_by}
 use Rattle.mas_run.proofs.WriteLemmas.{replied_read, covers_read, names_read, queue_written, queue_kept}
 use Rattle.mas_run.proofs.ResetLemmas.{none_untold, reset_none, reset_lost, reset_done}
 use Rattle.mas_run.proofs.running.Running.restart.Goals as goal
