@@ -28,9 +28,9 @@ make-complex-requires-clause-begins g c told =
     let base = c.in-Ok.ready.base in
     let pages = bytes_of F.pages in
     let first = rested_copy C.reads base v.now (C.rests n.first.copy) (C.holds n.first.copy) n.first.alive (disk_now v Ckpt1) pages
-        (λ is. c.in-Ok-bring.ensures.rests1 told is) (λ dead lt. c.bring.ensures.gone1 told (c.find.ensures.gone1 told) refl dead lt) in
+    (λ is. c.in-Ok-bring.ensures.rests1 told is) (λ dead lt. c.bring.ensures.gone1 told (c.find.ensures.gone1 told) refl dead lt) in
     let second = rested_copy C.reads base v.now (C.rests n.second.copy) (C.holds n.second.copy) n.second.alive (disk_now v Ckpt2) pages
-        (λ is. c.in-Ok-bring.ensures.rests2 told is) (λ dead lt. c.bring.ensures.gone2 told (c.find.ensures.gone2 told) refl dead lt) in
+    (λ is. c.in-Ok-bring.ensures.rests2 told is) (λ dead lt. c.bring.ensures.gone2 told (c.find.ensures.gone2 told) refl dead lt) in
     let at_level = sym (c.pages_level-level.ensures ∙ ap (λ ps. level (bytes_of ps)) c.as_slice.ensures) in
     let queue = stand_of base F.pages F.tables c.in-Ok.ensures.chosen.usable.0 c.in-Ok.ensures.base in
     ∣ record { pages = pages; stands = record { at_level = at_level; queue = queue }; first_at = first; second_at = second } ∣₁
