@@ -1,16 +1,15 @@
-//! `mas`: plays a script of standard input on devices in memory, and writes the console to standard output.
+//! `mas`: plays a script of standard input on the devices of the current folder. Standard output is the console.
 #![tactic(auto)]
 
-mod devices;
-mod source;
-
-use devices::plant;
-use mas_run::{calm_top, code};
-use mas_types::{Lines, NoMemory, Status, status_line};
-use source::ReaderSource;
+use mas_run::{are_words, calm_top, code};
+use mas_types::{NoMemory, Status, status_line};
+use plant_files::{FilePlant, StdSource};
 use std::env;
-use std::io::{self, BufWriter, Write};
+use std::io::{self, Write};
 use std::process::ExitCode;
+
+/// The folder of the devices.
+const FOLDER: &str = ".";
 
 // The words after the program's name.
 fn words_of(rt: &HostRuntime) -> Result<Vec<String>, NoMemory> {
@@ -26,26 +25,15 @@ fn words_of(rt: &HostRuntime) -> Result<Vec<String>, NoMemory> {
     Ok(words)
 }
 
-// Writes lines to standard output, each with its end.
-fn write_lines(rt: &HostRuntime, lines: &Lines) -> io::Result<()> {
-    let mut out = BufWriter::new(rt.alloc(), io::writer(rt))?;
-    for at in 0..lines.len() {
-        out.write_all(lines.line(at))?;
-        out.write_all(b"\n")?;
-    }
-    out.flush()
-}
-
-// Plays the script, and shows what stands on the console then. A console that can't be written to has failed.
+// Plays the script. Where the words are refused, no file is touched.
 fn play(rt: &HostRuntime) -> Result<Status, NoMemory> {
     let words = words_of(rt)?;
-    let mut script = ReaderSource::new(rt.reader());
-    let ended = calm_top(rt.alloc(), &words, &mut script, plant(rt.alloc())?);
-    let lines = ended.plant.console_lines(rt.alloc())?;
-    match write_lines(rt, &lines) {
-        Ok(()) => Ok(ended.status),
-        Err(_) => Ok(Status::ConsoleFault),
+    if !are_words(&words) {
+        return Ok(Status::Words);
     }
+    let mut script = StdSource::new(*rt);
+    let plant = FilePlant::open(*rt, rt.alloc(), FOLDER)?;
+    Ok(calm_top(rt.alloc(), &words, &mut script, plant).status)
 }
 
 // Writes the line of a status to standard error.

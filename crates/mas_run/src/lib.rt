@@ -16,3 +16,4 @@ mod words;
 
 pub use ended::{Ended, code};
 pub use top::calm_top;
+pub use words::are_words;
