@@ -1,7 +1,7 @@
 // A warm start of what a cold run left.
 use crate::looking::{
-    DECK, FORMED, KEPT, OPEN, OPERATOR, Reading, block, failing, halting, plant, play, reads_as,
-    source, words,
+    CLOSING, DECK, FORM, FORMED, KEPT, OPEN, OPERATOR, Reading, block, failing, halting, plant,
+    play, reads_as, source, words,
 };
 use mas_run::{Ended, calm_top};
 use mas_types::{Command, CopyState, Dev, Fate, MemberId, Phase, Status};
@@ -17,6 +17,9 @@ const CHOICES: [Choice; 3] = [Choice::Old, Choice::New, Choice::Ones];
 
 /// The first page of the area that a copy reads after one deck.
 const FOUND: u64 = 37 * 4096;
+
+/// Where in a job slot its priority stands.
+const PRIORITY: u64 = 2;
 
 // A warm run of a script.
 fn start(alloc: Global, script: &[u8], plant: MemPlant) -> Result<Ended<MemPlant>, Fail> {
@@ -71,7 +74,7 @@ fn keeps_the_queue(rt: HostRuntime) -> Result<(), Fail> {
     has_jobs(&rt, &ended, 1);
     is_reset(&rt, &ended);
     assert_eq!(rt; ended.journal.batches.len(), 1);
-    assert_eq!(rt; ended.plant.console_lines(alloc)?.len(), 0);
+    assert_eq!(rt; ended.plant.console_lines(alloc)?.len(), 1);
     assert_eq!(rt;
         reads_as(&rt, &mut ended.plant, Dev::Ckpt1),
         Reading::OneJob
@@ -90,8 +93,9 @@ fn goes_on_with_the_queue(rt: HostRuntime) -> Result<(), Fail> {
     assert_eq!(rt; ended.status, Status::Done);
     assert_eq!(rt; ended.journal.batches.len(), 2);
     let lines = ended.plant.console_lines(alloc)?;
-    assert_eq!(rt; lines.len(), 1);
-    assert_eq!(rt; lines.line(0), b"SYSA 00001 OK JOB00002".as_slice());
+    assert_eq!(rt; lines.len(), 2);
+    assert_eq!(rt; lines.line(0), CLOSING);
+    assert_eq!(rt; lines.line(1), b"SYSA 00001 OK JOB00002".as_slice());
     Ok(())
 }
 
@@ -142,9 +146,26 @@ fn goes_on_with_one(rt: &impl Abort, alloc: Global, at: u64, byte: u8) -> Result
 #[test]
 fn loses_a_copy_that_is_not_usable(rt: HostRuntime) -> Result<(), Fail> {
     goes_on_with_one(&rt, rt.alloc(), 0, 0)?;
-    goes_on_with_one(&rt, rt.alloc(), FOUND + 48, 1)?;
-    // A byte that the other copy doesn't have.
-    goes_on_with_one(&rt, rt.alloc(), FOUND + 3 * 4096 + 3, 5)
+    goes_on_with_one(&rt, rt.alloc(), FOUND + 48, 1)
+}
+
+// The job has another priority on one copy: CKPT1 counts, whichever it is, and the other doesn't fit.
+#[test]
+fn loses_ckpt2_where_pages_of_a_level_differ(rt: HostRuntime) -> Result<(), Fail> {
+    let alloc = rt.alloc();
+    for dev in [Dev::Ckpt1, Dev::Ckpt2] {
+        let mut plant = left_by_one_deck(alloc)?;
+        write(&rt, &mut plant, dev, FOUND + 3 * 4096 + PRIORITY, 9);
+        let ended = start(alloc, b"", plant)?;
+        assert_eq!(rt; ended.status, Status::Done);
+        has_jobs(&rt, &ended, 1);
+        let job = &ended.base.jobs.as_slice()[0];
+        let wanted = if dev == Dev::Ckpt1 { 9 } else { 5 };
+        assert_eq!(rt; job.fields.prio.0, wanted);
+        assert!(rt; !ended.plant.lost(Part::Disk(Dev::Ckpt1)));
+        assert!(rt; ended.plant.lost(Part::Disk(Dev::Ckpt2)));
+    }
+    Ok(())
 }
 
 // A stop after the gate of CKPT1 was synced: the job is in Convert, and both copies read equal pages.
@@ -204,27 +225,53 @@ fn starts_after(
     Ok(())
 }
 
-fn starts_after_each_moment(rt: &impl Abort, alloc: Global, plant: MemPlant) -> Result<(), Fail> {
+// A crash at every so many moments of a run.
+fn starts_after_moments(
+    rt: &impl Abort,
+    alloc: Global,
+    plant: MemPlant,
+    every: u64,
+) -> Result<(), Fail> {
     let run = play(alloc, THREE, plant)?;
     assert_eq!(rt; run.status, Status::Done);
     for t in run.since..=run.plant.now() {
-        for choice in CHOICES {
-            starts_after(rt, alloc, &run, t, choice)?;
+        if t % every == 0 {
+            for choice in CHOICES {
+                starts_after(rt, alloc, &run, t, choice)?;
+            }
         }
     }
     Ok(())
 }
 
 #[test]
-fn starts_after_a_crash_at_each_moment(rt: HostRuntime) -> Result<(), Fail> {
-    starts_after_each_moment(&rt, rt.alloc(), plant(rt.alloc())?)
+fn starts_after_a_crash(rt: HostRuntime) -> Result<(), Fail> {
+    starts_after_moments(&rt, rt.alloc(), plant(rt.alloc())?, 60)
 }
 
-// Either copy is lost before, between and after.
 #[test]
-fn starts_with_either_copy_lost(rt: HostRuntime) -> Result<(), Fail> {
-    for act in [0, FORMED - 1, FORMED, KEPT - 1] {
-        starts_after_each_moment(&rt, rt.alloc(), failing(rt.alloc(), act)?)?;
+fn starts_after_a_crash_amid_gates(rt: HostRuntime) -> Result<(), Fail> {
+    let alloc = rt.alloc();
+    let run = play(alloc, DECK, plant(alloc)?)?;
+    for t in KEPT - 2 * OPEN..=KEPT {
+        for choice in CHOICES {
+            starts_after(&rt, alloc, &run, t, choice)?;
+        }
     }
     Ok(())
+}
+
+// Either copy is lost in the formatting.
+#[test]
+fn starts_with_one_copy(rt: HostRuntime) -> Result<(), Fail> {
+    for act in [0, FORM] {
+        starts_after_moments(&rt, rt.alloc(), failing(rt.alloc(), act)?, 60)?;
+    }
+    Ok(())
+}
+
+// CKPT1 is lost in the first batch.
+#[test]
+fn starts_after_a_loss(rt: HostRuntime) -> Result<(), Fail> {
+    starts_after_moments(&rt, rt.alloc(), failing(rt.alloc(), FORMED)?, 50)
 }
