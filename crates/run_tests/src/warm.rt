@@ -1,4 +1,6 @@
 // A warm start of what a cold run left.
+ghost use Rattle.std.specs.Prelude.{◌≤◌};
+
 use crate::looking::{
     CLOSING, DECK, FORM, FORMED, KEPT, OPEN, OPERATOR, Reading, block, failing, halting, plant,
     play, reads_as, source, words,
@@ -31,12 +33,16 @@ fn start(alloc: Global, script: &[u8], plant: MemPlant) -> Result<Ended<MemPlant
 // What a cold run of one deck leaves.
 fn left_by_one_deck(alloc: Global) -> Result<MemPlant, Fail> {
     let ended = play(alloc, DECK, plant(alloc)?)?;
-    Ok(ended.plant.crash_at(alloc, KEPT + 1, Choice::New)?)
+    let moment = (KEPT + 1).min(ended.plant.now());
+    Ok(ended.plant.crash_at(alloc, moment, Choice::New)?)
 }
 
 // A byte is written and synced by another hand.
 fn write(rt: &impl Abort, plant: &mut MemPlant, dev: Dev, at: u64, byte: u8) {
-    assert_eq!(rt; plant.write(OPERATOR, dev, at, &[byte]), Act::Done);
+    let bytes = [byte];
+    let room = plant.size(dev);
+    assert!(rt; at <= room && bytes.len() as u64 <= room - at);
+    assert_eq!(rt; plant.write(OPERATOR, dev, at, &bytes), Act::Done);
     assert_eq!(rt; plant.sync(OPERATOR, dev), Act::Done);
 }
 
@@ -57,10 +63,8 @@ fn is_reset(rt: &impl Abort, ended: &Ended<MemPlant>) {
 fn has_jobs(rt: &impl Abort, ended: &Ended<MemPlant>, count: usize) {
     let jobs = ended.base.jobs.as_slice();
     assert_eq!(rt; jobs.len(), count);
-    let mut number = 0;
-    for job in jobs {
-        number += 1;
-        assert_eq!(rt; job.number.0, number);
+    for (at, job) in jobs.iter().enumerate() {
+        assert_eq!(rt; job.number.0 as usize, at.saturating_add(1));
         assert_eq!(rt; job.phase, Phase::Convert);
         assert_eq!(rt; job.busy, MemberId(0));
     }
@@ -159,9 +163,10 @@ fn loses_ckpt2_where_pages_of_a_level_differ(rt: HostRuntime) -> Result<(), Fail
         let ended = start(alloc, b"", plant)?;
         assert_eq!(rt; ended.status, Status::Done);
         has_jobs(&rt, &ended, 1);
-        let job = &ended.base.jobs.as_slice()[0];
+        let jobs = ended.base.jobs.as_slice();
+        assert!(rt; !jobs.is_empty());
         let wanted = if dev == Dev::Ckpt1 { 9 } else { 5 };
-        assert_eq!(rt; job.fields.prio.0, wanted);
+        assert_eq!(rt; jobs[0].fields.prio.0, wanted);
         assert!(rt; !ended.plant.lost(Part::Disk(Dev::Ckpt1)));
         assert!(rt; ended.plant.lost(Part::Disk(Dev::Ckpt2)));
     }
@@ -231,7 +236,9 @@ fn starts_after_moments(
     alloc: Global,
     plant: MemPlant,
     every: u64,
-) -> Result<(), Fail> {
+) -> Result<(), Fail>
+    requires { 1 ≤ every }
+{
     let run = play(alloc, THREE, plant)?;
     assert_eq!(rt; run.status, Status::Done);
     for t in run.since..=run.plant.now() {
