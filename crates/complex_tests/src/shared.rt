@@ -1,0 +1,73 @@
+// A shared value over two copies of six pages, and a batch of one command that is written to them.
+ghost use Rattle.std.specs.Prelude.{◌≡◌, length, IfOk, true, false, All};
+ghost use Rattle.lock_cycle.specs.Books.{IsMember, is_stopped};
+
+use crate::quiet::Quiet;
+use ckpt_copy::AreaCopy;
+use mas_complex::Complex;
+use mas_types::{Command, Entry, List, MemberId, NoMemory, Page, Reply};
+use spool_disk::{MemPlant, Sizes};
+use std::alloc::Global;
+use std::test::Fail;
+
+pub(crate) const OPERATOR: MemberId = MemberId(0);
+
+// The member that is stopped.
+pub(crate) const FIRST: MemberId = MemberId(1);
+
+// The member that takes over.
+pub(crate) const SECOND: MemberId = MemberId(2);
+
+// Room for two areas of six pages on each device.
+pub(crate) const SIZES: Sizes = Sizes {
+    ckpt: 4096 * 13,
+    volumes: 0,
+    volume: 0,
+};
+
+// Six pages: page 0 has the level.
+pub(crate) fn pages(alloc: Global, level: u8) -> Result<List<Page>, NoMemory>
+    ensures { IfOk result (λ pages. length pages ≡ 6) }
+{
+    let mut pages = List::new(alloc);
+    let mut first = Page([0; 4096]);
+    first.0[15] = level;
+    pages.push(first)?;
+    pages.push(Page([1; 4096]))?;
+    pages.push(Page([2; 4096]))?;
+    pages.push(Page([3; 4096]))?;
+    pages.push(Page([4; 4096]))?;
+    pages.push(Page([5; 4096]))?;
+    Ok(pages)
+}
+
+// A batch of one command of a member.
+pub(crate) fn batch(alloc: Global, by: MemberId) -> Result<List<Entry>, NoMemory>
+    ensures one { IfOk result (λ entries. length entries ≡ 1) }
+    ensures own { IfOk result (λ entries. All (λ e. e.by ≡ by) entries) }
+{
+    let mut entries = List::new(alloc);
+    entries.push(Entry {
+        by,
+        step: 1,
+        command: Command::TakeConvert,
+        reply: Reply::Plain,
+    })?;
+    Ok(entries)
+}
+
+// Whether the member holds and isn't stopped.
+pub(crate) fn may_act(complex: &Complex<Quiet, AreaCopy>, by: MemberId) -> bool
+    requires { IsMember complex.now.book by }
+    ensures holds { result ≡ true → complex.now.book.holder ≡ by }
+    ensures up { result ≡ true → is_stopped complex.now.book by ≡ false }
+{
+    complex.holder() == by && !complex.stopped(by)
+}
+
+// A plant in memory on which the act of this number halts.
+pub(crate) fn halting(alloc: Global, act: u64) -> Result<Quiet, Fail> {
+    let mut plant = MemPlant::new(alloc, SIZES, 400, 800_000)?;
+    plant.halt_at(act, 10);
+    Ok(Quiet { plant })
+}

@@ -1,0 +1,125 @@
+// A batch that is written to both copies.
+ghost use Rattle.std.specs.Prelude.{◌≡◌, ◌+◌, ◌≤◌, ◌<◌, length, IfOk, IfSome, OnOk, true, false, None, IsSome};
+ghost use Rattle.mas_types.specs.declared.ids.Dev.TheVariants.{Ckpt1, Ckpt2};
+ghost use Rattle.spool_disk.specs.Acts.{top};
+ghost use Rattle.ckpt_copy.specs.Areas.{areas_size};
+ghost use Rattle.mas_complex.specs.declared.places.Place.TheVariants.{Before as AtBefore, Put as AtPut};
+ghost use Rattle.mas_complex.specs.Journals.{entries_reserved};
+ghost use Rattle.lock_cycle.specs.Books.{is_stopped};
+
+use crate::quiet::Quiet;
+use crate::shared::OPERATOR;
+use ckpt_copy::{AreaCopy, Copying};
+use duplex_pair::{Pair, PairNo};
+use mas_complex::Complex;
+use mas_types::{Dev, List, MemberId, NoMemory, Page, default_config, empty_queue};
+use spool_disk::Plant;
+use std::alloc::Global;
+
+// A shared value over two copies that were formed with these pages; none where one couldn't be.
+pub(crate) fn formed(
+    alloc: Global,
+    plant: Quiet,
+    pages: &[Page],
+) -> Result<Option<Complex<Quiet, AreaCopy>>, NoMemory>
+    requires six { length pages.now ≡ 6 }
+    requires size1 { areas_size 6 ≤ (⟦<Quiet as Plant>⟧.view plant).size Ckpt1 }
+    requires size2 { areas_size 6 ≤ (⟦<Quiet as Plant>⟧.view plant).size Ckpt2 }
+    ensures none { IfOk result (λ some. IfSome some (λ c. c.current ≡ None)) }
+    ensures first { IfOk result (λ some. IfSome some (λ c. c.first ≡ AtBefore)) }
+    ensures second { IfOk result (λ some. IfSome some (λ c. c.second ≡ AtBefore)) }
+    ensures level { IfOk result (λ some. IfSome some (λ c. c.level ≡ 2)) }
+    ensures count1 { IfOk result (λ some. IfSome some (λ c. c.pair.first.alive ≡ true → ⟦<AreaCopy as Copying>⟧.count c.pair.first.copy ≡ 6)) }
+    ensures count2 { IfOk result (λ some. IfSome some (λ c. c.pair.second.alive ≡ true → ⟦<AreaCopy as Copying>⟧.count c.pair.second.copy ≡ 6)) }
+    ensures members { IfOk result (λ some. IfSome some (λ c. length c.book.members ≡ 2)) }
+{
+    let base = empty_queue(alloc, &default_config(), &List::new(alloc))?;
+    let mut plant = plant;
+    let mut pair = Pair::new(AreaCopy::new(Dev::Ckpt1, 6), AreaCopy::new(Dev::Ckpt2, 6));
+    let Ok(()) = pair.form(&mut plant, OPERATOR, pages) else {
+        return Ok(None);
+    };
+    Ok(Some(Complex::make(alloc, plant, pair, base, 2)))
+}
+
+// The reserved batch is put on both copies.
+fn log_both(
+    complex: &mut Complex<Quiet, AreaCopy>,
+    by: MemberId,
+    pages: &[Page],
+) -> Result<(), PairNo>
+    requires holds { complex.old.book.holder ≡ by }
+    requires up { is_stopped complex.old.book by ≡ false }
+    requires none { complex.old.current ≡ None }
+    requires some { 1 ≤ length (entries_reserved complex.old.reserved) }
+    requires reserved { IsSome complex.old.reserved }
+    requires first { complex.old.first ≡ AtBefore }
+    requires second { complex.old.second ≡ AtBefore }
+    requires six { length pages.now ≡ 6 }
+    requires count1 { complex.old.pair.first.alive ≡ true → ⟦<AreaCopy as Copying>⟧.count complex.old.pair.first.copy ≡ 6 }
+    requires count2 { complex.old.pair.second.alive ≡ true → ⟦<AreaCopy as Copying>⟧.count complex.old.pair.second.copy ≡ 6 }
+    ensures book { complex.new.book ≡ complex.old.book }
+    ensures count1 { ⟦<AreaCopy as Copying>⟧.count complex.new.pair.first.copy ≡ ⟦<AreaCopy as Copying>⟧.count complex.old.pair.first.copy }
+    ensures count2 { ⟦<AreaCopy as Copying>⟧.count complex.new.pair.second.copy ≡ ⟦<AreaCopy as Copying>⟧.count complex.old.pair.second.copy }
+    ensures alive1 { complex.new.pair.first.alive ≡ true → complex.old.pair.first.alive ≡ true }
+    ensures alive2 { complex.new.pair.second.alive ≡ true → complex.old.pair.second.alive ≡ true }
+    ensures level { complex.new.level ≡ complex.old.level }
+    ensures current { IsSome complex.new.current }
+    ensures first { OnOk result (complex.new.first ≡ AtPut) }
+    ensures second { OnOk result (complex.new.second ≡ AtPut) }
+{
+    complex.log(by, Dev::Ckpt1, pages, &[0])?;
+    complex.log(by, Dev::Ckpt2, pages, &[0])
+}
+
+// The gates of both copies are opened, as far as they can be.
+fn open_both(complex: &mut Complex<Quiet, AreaCopy>, by: MemberId) -> Result<(), PairNo>
+    requires holds { complex.old.book.holder ≡ by }
+    requires up { is_stopped complex.old.book by ≡ false }
+    requires current { IsSome complex.old.current }
+    requires first { complex.old.first ≡ AtPut }
+    requires second { complex.old.second ≡ AtPut }
+    requires level { complex.old.level < top }
+    ensures book { complex.new.book ≡ complex.old.book }
+    ensures count1 { ⟦<AreaCopy as Copying>⟧.count complex.new.pair.first.copy ≡ ⟦<AreaCopy as Copying>⟧.count complex.old.pair.first.copy }
+    ensures count2 { ⟦<AreaCopy as Copying>⟧.count complex.new.pair.second.copy ≡ ⟦<AreaCopy as Copying>⟧.count complex.old.pair.second.copy }
+    ensures alive1 { complex.new.pair.first.alive ≡ true → complex.old.pair.first.alive ≡ true }
+    ensures alive2 { complex.new.pair.second.alive ≡ true → complex.old.pair.second.alive ≡ true }
+    ensures none { OnOk result (complex.new.current ≡ None) }
+    ensures places { OnOk result ((complex.new.first ≡ AtBefore) × (complex.new.second ≡ AtBefore)) }
+{
+    complex.open_copy(by, Dev::Ckpt1)?;
+    if !complex.pair.second.alive {
+        return Ok(());
+    }
+    complex.open_copy(by, Dev::Ckpt2)
+}
+
+// The batch of a member is written, as far as the plant lets it.
+pub(crate) fn write(
+    complex: &mut Complex<Quiet, AreaCopy>,
+    by: MemberId,
+    pages: &[Page],
+) -> Result<(), PairNo>
+    requires holds { complex.old.book.holder ≡ by }
+    requires up { is_stopped complex.old.book by ≡ false }
+    requires none { complex.old.current ≡ None }
+    requires some { 1 ≤ length (entries_reserved complex.old.reserved) }
+    requires reserved { IsSome complex.old.reserved }
+    requires first { complex.old.first ≡ AtBefore }
+    requires second { complex.old.second ≡ AtBefore }
+    requires level { complex.old.level < top }
+    requires six { length pages.now ≡ 6 }
+    requires count1 { complex.old.pair.first.alive ≡ true → ⟦<AreaCopy as Copying>⟧.count complex.old.pair.first.copy ≡ 6 }
+    requires count2 { complex.old.pair.second.alive ≡ true → ⟦<AreaCopy as Copying>⟧.count complex.old.pair.second.copy ≡ 6 }
+    ensures book { complex.new.book ≡ complex.old.book }
+    ensures count1 { ⟦<AreaCopy as Copying>⟧.count complex.new.pair.first.copy ≡ ⟦<AreaCopy as Copying>⟧.count complex.old.pair.first.copy }
+    ensures count2 { ⟦<AreaCopy as Copying>⟧.count complex.new.pair.second.copy ≡ ⟦<AreaCopy as Copying>⟧.count complex.old.pair.second.copy }
+    ensures alive1 { complex.new.pair.first.alive ≡ true → complex.old.pair.first.alive ≡ true }
+    ensures alive2 { complex.new.pair.second.alive ≡ true → complex.old.pair.second.alive ≡ true }
+    ensures none { OnOk result (complex.new.current ≡ None) }
+    ensures places { OnOk result ((complex.new.first ≡ AtBefore) × (complex.new.second ≡ AtBefore)) }
+{
+    log_both(complex, by, pages)?;
+    open_both(complex, by)
+}
