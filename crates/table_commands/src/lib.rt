@@ -1,0 +1,6 @@
+//! Commands on the tables of a checkpoint that pages can spell.
+#![tactic(auto)]
+
+mod giving;
+
+pub use giving::{give, is_plain};
