@@ -1,6 +1,6 @@
 //! The shared value.
 ghost use Rattle.std.specs.Prelude.{◌≡◌, ◌≢◌, ◌⊎◌, ◌+◌, ◌≤◌, ◌<◌, ◌++◌, [], ◌∷◌, ℕ, List, Option, Some, None, length, true, false, OnOk, OnErr, IfOk, IsErrOf, IsSome};
-ghost use Rattle.std.specs.Prelude.{Bool};
+ghost use Rattle.std.specs.Prelude.{Bool, All};
 ghost use Rattle.mas_types.specs.declared.ids.MemberId.{MemberId};
 ghost use Rattle.mas_types.specs.declared.ids.Dev.{Dev};
 ghost use Rattle.mas_types.specs.declared.journals.Batch.{Batch};
@@ -24,9 +24,7 @@ ghost use Rattle.mas_complex.specs.Headline.{Headline, LeavesQueue};
 ghost use Rattle.mas_complex.specs.Elsewhere.{Elsewhere};
 ghost use Rattle.mas_complex.specs.Changed.{NamesOnly};
 ghost use Rattle.mas_complex.specs.Replies.{HaveReplies, AreReplied};
-ghost use Rattle.std.specs.Prelude.{min};
-ghost use Rattle.mas_types.specs.Limits.{members_most};
-ghost use Rattle.lock_cycle.specs.Books.{new_book};
+ghost use Rattle.mas_complex.specs.Locking.{book_of, MayAct, IsUp, IsOwn};
 
 use crate::journal_end::{empty_place, finished, set_last};
 use crate::places::{Place, place_after};
@@ -113,7 +111,7 @@ impl<P: Plant + Drop, C: Steady + Drop> Complex<P, C> {
         ensures pair { result.pair ≡ pair }
         ensures base { result.base ≡ base }
         ensures since { result.since ≡ (P.view plant).now }
-        ensures book { result.book ≡ new_book (min base.config.members members_most) base.config.hold base.config.dormancy }
+        ensures book { result.book ≡ book_of base.config }
         ensures journal { result.journal.batches ≡ [] }
         ensures placed { result.placed ≡ false }
         ensures current { result.current ≡ None }
@@ -166,12 +164,15 @@ impl<P: Plant + Drop, C: Steady + Drop> Complex<P, C> {
         Ok(())
     }
 
-    /// The batch to come gets its place in the journal. Nothing may be in flight. A batch that was reserved before and
-    /// hasn't begun is given up.
+    /// The batch to come gets its place in the journal. It has an entry, each is of the member that holds the lock, or of the
+    /// operator where nobody does, and nothing may be in flight. A batch that was reserved before and hasn't begun is given
+    /// up.
     ///
     /// NoMemory comes where the place can't be had; the value is as it was.
     pub fn reserve(&mut self, alloc: Global, entries: List<Entry>) -> Result<(), NoMemory>
         requires none { self.old.current ≡ None }
+        requires some { 1 ≤ length entries }
+        requires own { All (λ e. e.by ≡ self.old.book.holder) entries }
         ensures plant { self.new.plant ≡ self.old.plant }
         ensures pair { self.new.pair ≡ self.old.pair }
         ensures base { self.new.base ≡ self.old.base }
@@ -214,6 +215,7 @@ impl<P: Plant + Drop, C: Steady + Drop> Complex<P, C> {
         ensures level { self.new.level ≡ self.old.level }
         ensures coming { entries_in self.new.current ≡ entries_reserved self.old.reserved }
         ensures begun { (entries : List Entry) → self.old.reserved ≡ Some entries → self.new.current ≡ Some (begun (P.view self.old.plant).now by entries) }
+        ensures unreserved { self.new.reserved ≡ None }
     {
         let first = self.plant.now();
         if let Some(entries) = self.reserved.take() {
@@ -475,8 +477,10 @@ impl<P: Plant + Drop, C: Steady + Drop> Complex<P, C> {
         }
     }
 
-    /// Says a line on the console. One that tells a step may be said once each entry of the step is kept.
+    /// Says a line on the console, of a member that isn't stopped. One that tells a step may be said once each entry of the
+    /// step is kept.
     pub fn say(&mut self, by: MemberId, line: &[u8]) -> Act
+        requires up { IsUp self.old.book by }
         requires told { P.tells → (m : MemberId) (s : ℕ) → Closes line.now m s → StepIsKept (self.old.journal.batches ++ in_flight self.old.current) (P.view self.old.plant).now m s }
         ensures pair { self.new.pair ≡ self.old.pair }
         ensures base { self.new.base ≡ self.old.base }
@@ -496,8 +500,11 @@ impl<P: Plant + Drop, C: Steady + Drop> Complex<P, C> {
         self.plant.say(by, line)
     }
 
-    /// Keeps the reserved batch without a write: the queue is the same with it, and its entries have their replies.
+    /// Keeps the reserved batch without a write: the queue is the same with it, and its entries, each of the member that
+    /// acts, have their replies.
     pub fn keep_same(&mut self, by: MemberId)
+        requires may { MayAct self.old.book by }
+        requires own { All (λ e. e.by ≡ by) (entries_reserved self.old.reserved) }
         requires none { self.old.current ≡ None }
         requires reserved { IsSome self.old.reserved }
         requires replied { P.tells → HaveReplies (run self.old.base (kept_all self.old.journal.batches)) (entries_reserved self.old.reserved) }
@@ -624,6 +631,7 @@ impl<P: Plant + Drop, C: Steady + Drop> Complex<P, C> {
         ensures coming { entries_in self.new.current ≡ coming self.old.current self.old.reserved }
         ensures begun { self.old.current ≡ None → (entries : List Entry) → self.old.reserved ≡ Some entries → self.new.current ≡ Some (begun (P.view self.old.plant).now by entries) }
         ensures stays { IsSome self.old.current → self.new.current ≡ self.old.current }
+        ensures unreserved { self.new.reserved ≡ None }
     {
         if self.current.is_some() {
             return;
@@ -633,6 +641,7 @@ impl<P: Plant + Drop, C: Steady + Drop> Complex<P, C> {
 
     /// Writes the pages of the batch to come, or in flight, behind the closed gate of one copy. The first call for a batch
     /// begins it: it is in flight from the moment before the call on. On a copy that counts as lost nothing is written.
+    /// The member holds the lock, or is the operator while nobody does, and isn't stopped; the batch is its own.
     ///
     /// The entries have the replies that the commands give at their places, after the kept ones.
     /// The pages stand for the queue with the batch, which has an entry, and have the level after the one of the kept pages.
@@ -645,6 +654,9 @@ impl<P: Plant + Drop, C: Steady + Drop> Complex<P, C> {
         pages: &[Page],
         changed: &[u16],
     ) -> Result<(), PairNo>
+        requires may { MayAct self.old.book by }
+        requires own { self.old.current ≡ None → All (λ e. e.by ≡ by) (entries_reserved self.old.reserved) }
+        requires own_flying { IsOwn self.old.current by }
         requires ckpt { IsCkpt dev }
         requires place { (pick dev self.old.pair.first self.old.pair.second).alive ≡ true → pick dev self.old.first self.old.second ≡ AtBefore }
         requires room { (pick dev self.old.pair.first self.old.pair.second).alive ≡ true → 1 ≤ C.room (pick dev self.old.pair.first self.old.pair.second).copy }
@@ -669,6 +681,7 @@ impl<P: Plant + Drop, C: Steady + Drop> Complex<P, C> {
         ensures coming { entries_in self.new.current ≡ coming self.old.current self.old.reserved }
         ensures begun { self.old.current ≡ None → (entries : List Entry) → self.old.reserved ≡ Some entries → self.new.current ≡ Some (begun (P.view self.old.plant).now by entries) }
         ensures stays { IsSome self.old.current → self.new.current ≡ self.old.current }
+        ensures unreserved { self.new.reserved ≡ None }
         ensures place { IsPlaceAfter result AtPut (pick dev self.new.first self.new.second) }
         ensures other_place { other dev self.new.first self.new.second ≡ other dev self.old.first self.old.second }
         ensures other { other dev self.new.pair.first self.new.pair.second ≡ other dev self.old.pair.first self.old.pair.second }
@@ -725,8 +738,11 @@ impl<P: Plant + Drop, C: Steady + Drop> Complex<P, C> {
     }
 
     /// Opens the gate before the pages that one copy was given. The batch is kept by the call after which each copy that counts
-    /// as alive has opened its gate: from then on no copy is as before it.
+    /// as alive has opened its gate: from then on no copy is as before it. The batch is one of the member that holds the lock, or
+    /// of the operator while nobody does, and that isn't stopped.
     pub fn open_copy(&mut self, by: MemberId, dev: Dev) -> Result<(), PairNo>
+        requires may { MayAct self.old.book by }
+        requires own_flying { IsOwn self.old.current by }
         requires ckpt { IsCkpt dev }
         requires place { (pick dev self.old.pair.first self.old.pair.second).alive ≡ true → pick dev self.old.first self.old.second ≡ AtPut }
         requires room { (pick dev self.old.pair.first self.old.pair.second).alive ≡ true → 1 ≤ C.room (pick dev self.old.pair.first self.old.pair.second).copy }
@@ -759,9 +775,10 @@ impl<P: Plant + Drop, C: Steady + Drop> Complex<P, C> {
         Ok(())
     }
 
-    /// Makes room for puts again on each copy that counts as alive. Nothing may be in flight, and the pages are those that
-    /// these copies read.
+    /// Makes room for puts again on each copy that counts as alive. The member holds the lock and isn't stopped, nothing may be
+    /// in flight, and the pages are those that these copies read.
     pub fn settle(&mut self, by: MemberId, pages: &[Page]) -> Result<(), PairNo>
+        requires may { MayAct self.old.book by }
         requires none { self.old.current ≡ None }
         requires first { self.old.pair.first.alive ≡ true → self.old.first ≡ AtBefore }
         requires second { self.old.pair.second.alive ≡ true → self.old.second ≡ AtBefore }
@@ -793,8 +810,10 @@ impl<P: Plant + Drop, C: Steady + Drop> Complex<P, C> {
         done
     }
 
-    /// Reads a page of the checkpoint, from CKPT1 while its copy counts as alive, else from CKPT2.
+    /// Reads a page of the checkpoint for the member that holds the lock and isn't stopped, from CKPT1 while its copy counts as
+    /// alive, else from CKPT2.
     pub fn read_page(&mut self, by: MemberId, page: u16, into: &mut Page) -> Result<(), PairNo>
+        requires may { MayAct self.old.book by }
         requires page1 { self.old.pair.first.alive ≡ true → page < C.count self.old.pair.first.copy }
         requires page2 { self.old.pair.second.alive ≡ true → page < C.count self.old.pair.second.copy }
         ensures base { self.new.base ≡ self.old.base }
@@ -860,7 +879,7 @@ fn moment_of<P: Plant>(plant: &P) -> u64
 
 // The book of a complex of this configuration, in which nobody holds.
 fn new_book_of(config: &Config) -> LockBook
-    ensures { result ≡ new_book (min config.now.members members_most) config.now.hold config.now.dormancy }
+    ensures { result ≡ book_of config.now }
 {
     LockBook::new(
         config.members.min(MEMBERS_MOST),

@@ -3,7 +3,7 @@ ghost use Rattle.std.specs.Prelude.{◌≡◌, true, false, min, length, Some, N
 ghost use Rattle.lock_cycle.specs.Books.{IsMember, is_stopped, is_holder, left_of, try_refusal, after_try, free_refusal, after_free, after_stop, seize_refusal, after_seize, after_spend};
 ghost use Rattle.spool_disk.specs.Acts.{top};
 ghost use Rattle.mas_complex.specs.Journals.{kept_all};
-ghost use Rattle.mas_complex.specs.Locking.{reserved_after_stop, is_of_member};
+ghost use Rattle.mas_complex.specs.Locking.{IsOperatorAway, reserved_after_stop, is_of_member};
 
 use crate::complex::Complex;
 use crate::steady::Steady;
@@ -44,9 +44,11 @@ impl<P: Plant + Drop, C: Steady + Drop> Complex<P, C> {
 
     /// A try of the member at the lock of the checkpoint, as its book says. An `inner` try is one in the middle of a step.
     /// Down comes exactly where the member is stopped, Busy exactly where it isn't and another one holds, Dormant exactly
-    /// where it isn't stopped, nobody holds and it leaves the lock to others. The member holds after Ok.
+    /// where it isn't stopped, nobody holds and it leaves the lock to others. The member holds after Ok. The operator may have
+    /// nothing reserved or in flight.
     pub fn try_lock(&mut self, by: MemberId, inner: bool) -> Result<(), LockNo>
-        requires { IsMember self.old.book by }
+        requires member { IsMember self.old.book by }
+        requires away { IsOperatorAway self.old.book self.old.reserved self.old.current }
         ensures plant { self.new.plant ≡ self.old.plant }
         ensures pair { self.new.pair ≡ self.old.pair }
         ensures base { self.new.base ≡ self.old.base }
@@ -65,11 +67,13 @@ impl<P: Plant + Drop, C: Steady + Drop> Complex<P, C> {
         self.book.try_lock(by, inner)
     }
 
-    /// The member gives the lock up, and a batch that is reserved and hasn't begun. Where it holds nothing may be in flight.
+    /// The member gives the lock up, and a batch that is reserved and hasn't begun. Where it holds nothing may be in flight, and
+    /// it isn't stopped.
     /// NotHolder comes exactly where it doesn't hold, and nothing is changed then.
     pub fn free(&mut self, by: MemberId, inner: bool) -> Result<(), NotHolder>
         requires member { IsMember self.old.book by }
         requires none { is_holder self.old.book by ≡ true → self.old.current ≡ None }
+        requires up { is_holder self.old.book by ≡ true → is_stopped self.old.book by ≡ false }
         ensures plant { self.new.plant ≡ self.old.plant }
         ensures pair { self.new.pair ≡ self.old.pair }
         ensures base { self.new.base ≡ self.old.base }

@@ -19,6 +19,7 @@ ghost use Rattle.mas_complex.specs.Places.{IsAtLevel};
 ghost use Rattle.mas_complex.specs.Seen.{IsOneSeen, ReadsSeen, Stays, HasFound, Chosen, IsNextOr, IsFatedBy, IsUnfit, WasUnfit};
 ghost use Rattle.mas_complex.specs.Recovers.{recover_no, recover_no_seen};
 ghost use Rattle.mas_complex.specs.Fits.{can_stay};
+ghost use Rattle.mas_complex.specs.Locking.{MayAct, IsOfOther};
 
 use crate::complex::Complex;
 use crate::fitting::fits;
@@ -298,14 +299,17 @@ impl<P: Plant + Drop, C: Steady + Drop> Complex<P, C> {
         }
     }
 
-    /// Finds out what became of a batch in flight: syncs and reads both copies, brings the one that lags up to the other, and
-    /// hands back the pages that both then have. The batch is kept where the pages have it, and else it is dropped; one that
-    /// is reserved and hasn't begun is given up. The pages are those of greatest level, those of CKPT1 on a tie. A copy that
-    /// can't be read, or whose pages don't fit them, is lost.
+    /// Finds out what became of a batch in flight, which is of another member than the one that holds the lock and isn't
+    /// stopped: syncs and reads both copies, brings the one that lags up to the other, and hands back the pages that both then
+    /// have. The batch is kept where the pages have it, and else it is dropped; one that is reserved and hasn't begun is given
+    /// up. The pages are those of greatest level, those of CKPT1 on a tie. A copy that can't be read, or whose pages don't fit
+    /// them, is lost.
     ///
     /// BothLost comes only where both copies count as lost at the end of the call, Halted only where the member was stopped
     /// in it. After an error a batch in flight still is.
     pub fn recover(&mut self, alloc: Global, by: MemberId) -> Result<List<Page>, RecoverNo>
+        requires may { MayAct self.old.book by }
+        requires others { IsOfOther self.old.current by }
         ensures base { self.new.base ≡ self.old.base }
         ensures since { self.new.since ≡ self.old.since }
         ensures book { self.new.book ≡ self.old.book }
