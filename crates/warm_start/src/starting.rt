@@ -13,6 +13,7 @@ ghost use Rattle.duplex_pair.specs.declared.errors.PairNo.TheVariants.{BothLost 
 ghost use Rattle.duplex_pair.specs.Halves.{IsCkpt, pick, other, IsGone, SameOrLost, SomeAlive, IsBothLost};
 ghost use Rattle.duplex_pair.specs.Both.{PairActed, BothMeanwhile};
 ghost use Rattle.mas_complex.specs.declared.places.Place.TheVariants.{Before as AtBefore};
+ghost use Rattle.mas_complex.specs.Locking.{book_of};
 ghost use Rattle.mas_complex.specs.Headline.{LeavesQueue};
 ghost use Rattle.mas_complex.specs.Meaning.{no_deck, no_print};
 ghost use Rattle.warm_start.specs.Levels.{levels_of as levels_given};
@@ -191,7 +192,8 @@ fn bring<P: Plant, C: Steady + Drop>(
 ///
 /// The operator looks at both copies. The one that counts is the usable one of greater level, CKPT1 on a tie: its pages spell
 /// tables without a fault. The other one is lost by a call where it can't be used or doesn't fit, and else it gets the pages of
-/// the one that counts, if it lags one level behind. The shared value then begins with the queue that these stand for.
+/// the one that counts, if it lags one level behind. The shared value then begins with the queue that these stand for, and nobody
+/// holds its lock.
 ///
 /// NotFormatted comes where no copy can be used while one isn't lost, with the state of each; DeviceSize where a device is
 /// too small for the pages found, the first such; BothLost only where both copies count as lost at the end. After an error
@@ -209,6 +211,8 @@ pub fn warm<P: Plant + Drop, C: Steady + Drop>(
     ensures journal { IfOk result (λ w. w.complex.journal.batches ≡ []) }
     ensures places { IfOk result (λ w. (w.complex.first ≡ AtBefore) × (w.complex.second ≡ AtBefore)) }
     ensures none { IfOk result (λ w. (w.complex.current ≡ None) × (w.complex.placed ≡ false)) }
+    ensures unreserved { IfOk result (λ w. w.complex.reserved ≡ None) }
+    ensures book { IfOk result (λ w. w.complex.book ≡ book_of w.complex.base.config) }
     ensures cause { IfErr result (λ u. (alive1 alive2 : Bool) × IsCauseOf C.reads P.tells C.needs (P.view plant) (P.view u.plant) alive1 alive2 u.why) }
     ensures looked { IfErr result (λ u. u.why ≢ StartNo.BothLost → (P.tells → OnlyLooked (P.view plant) (P.view u.plant)) × ((d : Dev) → (P.view u.plant).loses d ≡ (P.view plant).loses d)) }
     ensures lost { IfErr result (λ u. u.why ≡ StartNo.BothLost → Starts false false (P.view plant) (P.view u.plant)) }
