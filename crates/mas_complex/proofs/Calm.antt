@@ -1,7 +1,7 @@
 -- Calls that act on both copies and leave the journal: a settle, and the read of a page.
 use Rattle.std.proofs.Common.{◌≡◌, ℕ, ◌≤◌, ◌<◌, Bool, true, false, List, ◌++◌, Option, Some, None, Result, Ok, Err, OnOk, IsErrOf, refl, subst, sym, ◌∙◌, ap, arith}
 use Rattle.mas_types.specs.declared.ids.Dev.{Dev}
-use Rattle.mas_types.specs.declared.ids.Dev.TheVariants.{Ckpt1, Ckpt2}
+use Rattle.mas_types.specs.declared.ids.Dev.TheVariants.{Ckpt1, Ckpt2, Spool}
 use Rattle.mas_types.specs.declared.journals.Batch.{Batch}
 use Rattle.spool_disk.specs.View.{View, Disk, disk_at, disk_now}
 use Rattle.spool_disk.specs.Acts.{top}
@@ -15,7 +15,8 @@ use Rattle.duplex_pair.specs.Both.{BothMeanwhile, Touched}
 use Rattle.mas_complex.specs.declared.places.Place.{Place}
 use Rattle.mas_complex.specs.declared.places.Place.TheVariants.{Before, Put, Opened, Unsure}
 use Rattle.mas_complex.specs.Places.{IsPlaceAfter}
-use Rattle.mas_complex.specs.Journals.{in_flight}
+use Rattle.mas_complex.specs.Journals.{in_flight, kept_all, entries_in}
+use Rattle.mas_complex.proofs.Texting.{stays_same}
 use Rattle.mas_complex.specs.Crash.{Setting, ReadsOne, OnComing, IsAt, OneCopy, Copy, CopyAt, Keeps}
 use Rattle.mas_complex.proofs.Present.{all_read, lost_reads, copy_reads}
 use Rattle.mas_complex.proofs.Moves.{acts_keep}
@@ -32,7 +33,8 @@ module _ (S : Setting) (js : List Batch) (c : Option Batch) (reached : ℕ) (fir
   both_keep keeps m one two x y =
       acts_keep S js c reached first second first' second' old new keeps m.goes keeps.coming keeps.comes keeps.none
       (λ t lt le below. (one (omega arith) (disk_at new t Ckpt1) (m.first t (omega arith) le), two (omega arith) (disk_at new t Ckpt2) (m.second t (omega arith) le)))
-      (calm S (js ++ in_flight c) old new m.console m.goes.later) x y
+      (calm S (js ++ in_flight c) old new m.console m.goes.later)
+      (stays_same S (kept_all js) (entries_in c) old new (λ t lt le n. m.others t (omega arith) le (Spool n) (λ e. absurd (cc)) (λ e. absurd (cc)))) x y
 
 -- a copy before any batch reads the kept pages, at a settle
 module _ (S : Setting) (kept : List ℕ) (coming : Option (List ℕ)) (dev : Dev) (old new : View) (rests rests' : List ℕ → Disk → Type 0) (holds holds' : List ℕ → List ℕ → Disk → Type 0) (place place' : Place) (alive alive' : Bool) (pages : List ℕ)

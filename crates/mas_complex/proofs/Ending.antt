@@ -1,5 +1,5 @@
 -- From the invariant of the shared value to its headline.
-use Rattle.std.proofs.Common.{◌≡◌, inl, inr, ⊎_elim, ℕ, ◌+◌, ◌≤◌, ◌<◌, ◌&&◌, cond, Bool, true, false, List, [], ◌∷◌, ◌++◌, filter, All, Contains, Option, Some, None, refl, subst, sym, ◌∙◌, ap, arith}
+use Rattle.std.proofs.Common.{◌≡◌, inl, inr, ⊎_elim, ℕ, ◌+◌, ◌≤◌, ◌<◌, ◌==◌, ◌&&◌, cond, Bool, true, false, List, [], ◌∷◌, ◌++◌, filter, All, Contains, Option, Some, None, refl, subst, sym, ◌∙◌, ap, arith}
 use Rattle.std.proofs.lemmas.List.Elements.{All-nil, All-cons}
 use Rattle.mas_types.specs.declared.ids.MemberId.{MemberId}
 use Rattle.mas_types.specs.declared.journals.Batch.{Batch}
@@ -15,7 +15,10 @@ use Rattle.spool_disk.specs.View.{View, Line, Disk, disk_at}
 use Rattle.spool_disk.specs.Acts.{top}
 use Rattle.ckpt_copy.specs.Reading.{AllRead}
 use Rattle.ckpt_copy.specs.Moments.{either_way}
-use Rattle.std.proofs.lemmas.Bool.{ne_eqb}
+use Rattle.std.proofs.lemmas.Bool.{ne_eqb, true≢false}
+use Rattle.spool_volumes.specs.Laws.{IsLeftOf}
+use Rattle.mas_complex.specs.Texts.{spools_at, lost_now, GivesTexts}
+use Rattle.mas_complex.proofs.Spooled.{gives_texts}
 use Rattle.mas_complex.specs.Journals.{kept, flying, kept_all, entries_in, in_flight, StepIsKept, has_step, EndsInPlace, HasPlace, end_of, with_last, without_last}
 use Rattle.std.specs.Prelude.{IsSome, IfSome}
 use Rattle.ckpt_copy.specs.Pages.{level}
@@ -25,7 +28,7 @@ use Rattle.mas_complex.proofs.Batches.{now_kept, now_flying}
 use Rattle.mas_complex.proofs.Present.{alike_as, alike_found, top_reads}
 use Rattle.mas_complex.proofs.Moves.{unplace_keeps}
 use Rattle.mas_complex.specs.Meaning.{Closes, run, StandFor}
-use Rattle.mas_complex.specs.Crash.{Setting, setting, Stands, IsNext, Alike, Copy, Keeps, IsFound, IsAfter, EachTells, said, found, lost_if, left_at}
+use Rattle.mas_complex.specs.Crash.{Setting, setting, Stands, IsNext, Alike, Copy, Keeps, IsFound, IsAfter, EachTells, said, found, lost_if, left_at, IsLeft}
 use Rattle.mas_complex.specs.Headline.{Headline, FoundFor, IsAfterKept, AreAlike, whole}
 
 pub kept_is : (bs : List Batch) (t : ℕ) → kept bs t ≡ entries_of (filter (is_kept_by t) bs)
@@ -60,6 +63,14 @@ module _ (closes : List ℕ → MemberId → ℕ → Type 0) (P : MemberId → �
 -- a moment below the greatest is as the world shows it
 pub left_below : (v : View) (t : ℕ) (dev : Dev) → t < top → left_at v t dev ≡ disk_at v t dev
 left_below v t dev lt = ap (λ (b : Bool). lost_if (b && v.lost (DiskPart dev)) (disk_at v t dev)) (ne_eqb t top (λ e. absurd (omega (arith, e, lt))))
+
+-- an image is left of a volume that isn't lost now
+image_left : (last lost : Bool) (disk : Disk) (image : Option (List ℕ)) → lost ≡ false → (disk.lost ≡ true → lost ≡ true) → IsLeft (lost_if (last && lost) disk) image → IsLeftOf disk false image
+image_left last true disk image there sunk left = absurd (true≢false there)
+image_left true false disk None there sunk left = absurd (true≢false (sym (sunk left)))
+image_left true false disk (Some image) there sunk left = left
+image_left false false disk None there sunk left = absurd (true≢false (sym (sunk left)))
+image_left false false disk (Some image) there sunk left = left
 
 module _ (reads : List ℕ → Option (List ℕ)) (base : Queue) (since : ℕ) (js : List Batch) (c : Option Batch) (reached : ℕ) (first second : Copy) (v : View) where
   abbrev S : Setting
@@ -124,6 +135,15 @@ module _ (reads : List ℕ → Option (List ℕ)) (base : Queue) (since : ℕ) (
       crash = λ t from le one two left right some. after_kept t (found S one two)
           (alike_found S (kept (js ++ in_flight c) t) (flying (js ++ in_flight c) t) (left_at v t Ckpt1) (left_at v t Ckpt2) (at_any t from le) one two left right some);
       alike = λ t from le. are_alike t (at_any t from le);
+      texts = λ began t from le volumes left.
+          let at = keeps.texts (lost_now v) (λ n lost. lost) began t from le in
+          let images = λ (n : ℕ) (there : lost_now v n ≡ false). image_left (t == top) (lost_now v n) (spools_at v t n) (volumes n) there (keeps.sunk t from le n) (left n) in (
+            subst (λ (l : List Entry). GivesTexts (lost_now v) volumes base.config.groups (run base l)) (kept_is (js ++ in_flight c) t)
+                (gives_texts (lost_now v) volumes (spools_at v t) base.config.groups images (run base (kept (js ++ in_flight c) t)) at.after_kept),
+            subst (λ (l : List Entry). GivesTexts (lost_now v) volumes base.config.groups (run base l))
+                (ap (λ (l : List Entry). l ++ flying (js ++ in_flight c) t) (kept_is (js ++ in_flight c) t) ∙ ap (λ (l : List Entry). kept_at (record { batches = js ++ in_flight c }) t ++ l) (flying_is (js ++ in_flight c) t))
+                (gives_texts (lost_now v) volumes (spools_at v t) base.config.groups images (run base (kept (js ++ in_flight c) t ++ flying (js ++ in_flight c) t)) at.after_coming),
+          );
       told = λ t from le by at end telling there.
           step_is (js ++ in_flight c) t by at
           (one_tells Closes (StepIsKept (js ++ in_flight c) t) (said S v t) (whole (closing_line by at end)) (keeps.told t from le) there refl by at (record { end = end; telling = telling; is = refl }));

@@ -2,7 +2,7 @@
 use Rattle.std.proofs.Common.{◌≡◌, inl, inr, ⊎_elim, ℕ, ◌+◌, ◌≤◌, ◌<◌, ◌||◌, Bool, true, false, List, [], ◌∷◌, ◌++◌, if◌then◌else◌, Option, Some, None, refl, subst, sym, ◌∙◌, ap, arith}
 use Rattle.std.proofs.lemmas.List.{append-nil}
 use Rattle.std.proofs.lemmas.Bool.{or_cases}
-use Rattle.mas_types.specs.declared.ids.Dev.TheVariants.{Ckpt1, Ckpt2}
+use Rattle.mas_types.specs.declared.ids.Dev.TheVariants.{Ckpt1, Ckpt2, Spool}
 use Rattle.spool_disk.specs.declared.plant.Act.{Act}
 use Rattle.spool_disk.specs.declared.plant.Act.TheVariants.{Done, Failed, Halted}
 use Rattle.spool_disk.specs.View.{View, Disk, disk_at, disk_now}
@@ -14,7 +14,8 @@ use Rattle.mas_types.specs.declared.journals.Entry.{Entry}
 use Rattle.mas_types.specs.declared.journals.Fate.TheVariants.{Kept, Dropped}
 use Rattle.mas_complex.specs.declared.places.Place.{Place}
 use Rattle.mas_complex.specs.declared.places.Place.TheVariants.{Before, Opened}
-use Rattle.mas_complex.specs.Journals.{kept_all, in_flight, StepIsKept}
+use Rattle.mas_complex.specs.Journals.{kept_all, in_flight, entries_in, StepIsKept}
+use Rattle.mas_complex.proofs.Texting.{stays_same}
 use Rattle.mas_types.specs.Journal.{is_kept, is_flying}
 use Rattle.mas_complex.specs.Crash.{Setting, Stands, IsNext, ReadsOne, OnComing, IsAt, OneCopy, Copy, copy_of, Keeps}
 use Rattle.mas_complex.proofs.Batches.{kept_all_append}
@@ -124,5 +125,6 @@ module _ (S : Setting) (js : List Batch) (c : Option Batch) (reached : ℕ) (fir
               (copy_reads S keeps.was second.rests second.holds rests_reads2 holds_reads2 keeps.coming second.place second.alive old.now (disk_now old Ckpt2) (omega arith) keeps.second_at)),
         ))
         (adds_line time says told)
+        (stays_same S (kept_all js) (entries_in c) old new (λ t lt le n. subst (λ (m : ℕ). disk_at new m (Spool n) ≡ disk_now old (Spool n)) (sym (at_end t time lt le)) (says.disks (Spool n))))
         (moved S first.rests first.holds keeps.was keeps.coming first.place first.alive old.now new.now (disk_now old Ckpt1) (disk_now new Ckpt1) goes.later (says.disks Ckpt1) keeps.first_at)
         (moved S second.rests second.holds keeps.was keeps.coming second.place second.alive old.now new.now (disk_now old Ckpt2) (disk_now new Ckpt2) goes.later (says.disks Ckpt2) keeps.second_at)

@@ -20,3 +20,7 @@ pub mod First
 pub mod Leaving
 pub mod Others
 pub mod Replied
+pub mod Spooled
+pub mod Texting
+pub mod SpoolActs
+pub mod Quotients

@@ -1,7 +1,8 @@
 -- How the shared value begins and ends, and a batch that changes no page.
-use Rattle.std.proofs.Common.{◌≡◌, ℕ, List, [], ◌∷◌, ◌++◌, length, drop, Option, None, refl, subst, sym, ◌∙◌, ap, arith}
+use Rattle.std.proofs.lemmas.Bool.{true≢false}
+use Rattle.std.proofs.Common.{◌≡◌, ℕ, Bool, true, false, List, [], ◌∷◌, ◌++◌, length, drop, Option, None, refl, subst, sym, ◌∙◌, ap, arith}
 use Rattle.std.proofs.lemmas.List.{append-nil}
-use Rattle.mas_types.specs.declared.ids.Dev.TheVariants.{Ckpt1, Ckpt2}
+use Rattle.mas_types.specs.declared.ids.Dev.TheVariants.{Ckpt1, Ckpt2, Spool}
 use Rattle.spool_disk.specs.View.{View, Disk, Line, disk_at, disk_now}
 use Rattle.ckpt_copy.specs.Reading.{AllRead}
 use Rattle.mas_types.specs.declared.ids.MemberId.{MemberId}
@@ -16,6 +17,13 @@ use Rattle.mas_complex.proofs.Batches.{kept_all_append}
 use Rattle.mas_complex.proofs.Present.{copy_reads}
 use Rattle.mas_complex.proofs.Moves.{begins_keep, fate_keeps}
 use Rattle.mas_complex.proofs.Fates.{one_kept}
+use Rattle.mas_complex.specs.Texts.{lost_now}
+use Rattle.mas_complex.proofs.Texting.{make_texts}
+
+-- what is shown as lost is lost
+pub unlost : (lost shown : Bool) → (lost ≡ false → shown ≡ false) → shown ≡ true → lost ≡ true
+unlost true shown there is = refl
+unlost false shown there is = absurd (true≢false (sym is ∙ there refl))
 
 none_said : (closes : List ℕ → MemberId → ℕ → Type 0) (lines : List Line) (P : MemberId → ℕ → Type 0) → EachTells closes (drop (length lines) lines) P
 none_said closes [] P = tt
@@ -24,8 +32,8 @@ none_said closes (line ∷ lines) P = none_said closes lines P
 module _ (S : Setting) (reached : ℕ) (first second : Copy) (v : View)
     (rests_reads1 : (pages : List ℕ) (d : Disk) → first.rests pages d → AllRead S.reads pages d) (holds_reads1 : (was next : List ℕ) (d : Disk) → first.holds was next d → AllRead S.reads was d)
     (rests_reads2 : (pages : List ℕ) (d : Disk) → second.rests pages d → AllRead S.reads pages d) (holds_reads2 : (was next : List ℕ) (d : Disk) → second.holds was next d → AllRead S.reads was d) where
-  pub make_keeps : S.since ≡ v.now → BeginsWith S reached first second v → Keeps S [] None reached first second v
-  make_keeps since begins = record {
+  pub make_keeps : S.since ≡ v.now → ((n : ℕ) → (disk_now v (Spool n)).lost ≡ true → lost_now v n ≡ true) → BeginsWith S reached first second v → Keeps S [] None reached first second v
+  make_keeps since sunk begins = record {
     started = omega (arith, since);
     settled = tt;
     begun = tt;
@@ -44,6 +52,8 @@ module _ (S : Setting) (reached : ℕ) (first second : Copy) (v : View)
         subst (λ (m : ℕ). EachTells S.closes (drop (length (v.world S.since).console) (v.world m).console) (StepIsKept [] t)) e (none_said S.closes (v.world S.since).console (StepIsKept [] t));
     grows = λ t from le. let e : v.now ≡ t = omega (arith, since) in
         record { more = []; is = ap (λ (m : ℕ). (v.world m).console) e ∙ sym (append-nil (v.world t).console) };
+    texts = make_texts S v since;
+    sunk = λ t from le n lost. let e : t ≡ v.now = omega (arith, since) in sunk n (subst (λ (m : ℕ). (disk_at v m (Spool n)).lost ≡ true) e lost);
     was = begins.pages;
     coming = None;
     stands = begins.stands;

@@ -1,5 +1,5 @@
 -- How the shared value goes on: over acts, and over a batch that begins or gets its fate.
-use Rattle.std.proofs.Common.{◌≡◌, ⊎_elim, ℕ, ◌≤◌, ◌<◌, false, refl, List, [], ◌∷◌, ◌++◌, length, drop, Option, Some, None, subst, sym, ◌∙◌, ap, arith, append_assoc}
+use Rattle.std.proofs.Common.{◌≡◌, ⊎_elim, ℕ, ◌≤◌, ◌<◌, Bool, false, refl, List, [], ◌∷◌, ◌++◌, length, drop, Option, Some, None, subst, sym, ◌∙◌, ap, arith, append_assoc}
 use Rattle.std.proofs.lemmas.List.{append-nil}
 use Rattle.mas_types.specs.declared.ids.Dev.TheVariants.{Ckpt1, Ckpt2}
 use Rattle.spool_disk.specs.View.{View, World, Line, disk_at, disk_now}
@@ -14,6 +14,8 @@ use Rattle.mas_types.specs.Journal.{is_flying}
 use Rattle.mas_complex.specs.Crash.{Setting, Stands, IsNext, Alike, CrashAt, EachTells, said, ToldAt, ReadsOne, Copy, CopyAt, Keeps}
 use Rattle.mas_complex.proofs.Batches.{now_kept, now_flying, settled_later, settled_push, begun_later, begins_kept, begins_flying, fated_kept, fated_flying, step_later, step_push, step_fate, placed_kept, placed_flying, placed_all, placed_step, unplaced_step, placed_settled, unplaced_settled}
 use Rattle.mas_complex.proofs.Present.{alike_as, alike_none}
+use Rattle.mas_complex.specs.Texts.{FoundTexts}
+use Rattle.mas_complex.proofs.Texting.{Stays, acts_texts, acts_sunk, begins_texts, fated_texts, same_texts, found_place, found_unplace}
 use Rattle.mas_complex.proofs.Lines.{each_map, each_both, each_more, each_less}
 
 abbrev console_at : View → ℕ → List Line
@@ -45,9 +47,10 @@ module _ (S : Setting) (js : List Batch) (c : Option Batch) (reached : ℕ) (fir
       → (coming : Option (List ℕ)) → IsNext S reached (kept_all js) (entries_in c) coming → (entries_in c ≡ [] → coming ≡ None)
       → ((t : ℕ) → old.now < t → t ≤ new.now → t < top → ReadsOne S keeps.was coming (disk_at new t Ckpt1) × ReadsOne S keeps.was coming (disk_at new t Ckpt2))
       → Adds S (js ++ in_flight c) old new
+      → Stays S (kept_all js) (entries_in c) old new
       → CopyAt S keeps.was coming first' new.now (disk_now new Ckpt1) → CopyAt S keeps.was coming second' new.now (disk_now new Ckpt2)
       → Keeps S js c reached first' second' new
-  acts_keep keeps goes coming comes none reads adds one two = record {
+  acts_keep keeps goes coming comes none reads adds stays one two = record {
     started = omega (arith, keeps.started, goes.later);
     settled = settled_later js old.now new.now keeps.settled goes.later;
     begun = begun_later c old.now new.now keeps.begun goes.later;
@@ -68,6 +71,8 @@ module _ (S : Setting) (js : List Batch) (c : Option Batch) (reached : ℕ) (fir
         })
         (λ h. record { more = []; is = sym (adds.same t h le) ∙ sym (append-nil (console_at new t)) })
         (either_way t old.now);
+    texts = acts_texts S js c old new keeps.settled keeps.begun keeps.started goes stays keeps.texts;
+    sunk = acts_sunk S js c old new keeps.settled keeps.begun keeps.started goes stays keeps.sunk;
     was = keeps.was;
     coming = coming;
     stands = keeps.stands;
@@ -112,6 +117,8 @@ module _ (S : Setting) (js : List Batch) (b : Batch) (reached : ℕ) (first seco
     crash = λ t from le lt. begins_after t keeps.settled fate begun le (keeps.crash t from le lt);
     told = λ t from le. begins_told t keeps untold from le;
     grows = keeps.grows;
+    texts = begins_texts S js b v keeps.settled fate begun keeps.texts;
+    sunk = keeps.sunk;
     was = keeps.was;
     coming = None;
     stands = keeps.stands;
@@ -156,6 +163,8 @@ module _ (S : Setting) (js : List Batch) (b c : Batch) (reached reached' : ℕ) 
         (either_way c.last t);
     told = λ t from le. each_map S.closes (said S v t) (StepIsKept (js ++ b ∷ []) t) (StepIsKept ((js ++ c ∷ []) ++ []) t) (λ m s. step_fate js b c t m s keeps.begun.0 same_entries) (keeps.told t from le);
     grows = keeps.grows;
+    texts = fated_texts S js b c v keeps.settled keeps.begun fated same_first same_entries last keeps.texts;
+    sunk = keeps.sunk;
     was = was;
     coming = None;
     stands = stands;
@@ -170,8 +179,9 @@ module _ (S : Setting) (js : List Batch) (b c : Batch) (reached reached' : ℕ) 
 -- another journal that says the same of each moment
 module _ (S : Setting) (js ks : List Batch) (c : Option Batch) (reached : ℕ) (first second : Copy) (v : View) where
   pub same_keep : Keeps S js c reached first second v → AreSettled ks v.now → ((t : ℕ) → kept (ks ++ in_flight c) t ≡ kept (js ++ in_flight c) t) → ((t : ℕ) → flying (ks ++ in_flight c) t ≡ flying (js ++ in_flight c) t)
-      → ((t : ℕ) (m : MemberId) (s : ℕ) → StepIsKept (js ++ in_flight c) t m s → StepIsKept (ks ++ in_flight c) t m s) → kept_all ks ≡ kept_all js → Keeps S ks c reached first second v
-  same_keep keeps settled same_kept same_flying same_step same_all = record {
+      → ((t : ℕ) (m : MemberId) (s : ℕ) → StepIsKept (js ++ in_flight c) t m s → StepIsKept (ks ++ in_flight c) t m s) → kept_all ks ≡ kept_all js
+      → ((gone : ℕ → Bool) → FoundTexts gone (S.run S.base) S.base.config.groups v [] (ks ++ in_flight c) → FoundTexts gone (S.run S.base) S.base.config.groups v [] (js ++ in_flight c)) → Keeps S ks c reached first second v
+  same_keep keeps settled same_kept same_flying same_step same_all found = record {
     started = keeps.started;
     settled = settled;
     begun = keeps.begun;
@@ -180,6 +190,8 @@ module _ (S : Setting) (js ks : List Batch) (c : Option Batch) (reached : ℕ) (
         (same_kept t) (same_flying t) (keeps.crash t from le lt);
     told = λ t from le. each_map S.closes (said S v t) (StepIsKept (js ++ in_flight c) t) (StepIsKept (ks ++ in_flight c) t) (λ m s. same_step t m s) (keeps.told t from le);
     grows = keeps.grows;
+    texts = same_texts S (js ++ in_flight c) (ks ++ in_flight c) v found same_kept same_flying keeps.texts;
+    sunk = keeps.sunk;
     was = keeps.was;
     coming = keeps.coming;
     stands = subst (λ (l : List Entry). Stands S reached l keeps.was) (sym same_all) keeps.stands;
@@ -193,8 +205,8 @@ module _ (S : Setting) (js ks : List Batch) (c : Option Batch) (reached : ℕ) (
 module _ (S : Setting) (js : List Batch) (b : Batch) (c : Option Batch) (reached : ℕ) (first second : Copy) (v : View) (place : IsPlace b) where
   pub place_keeps : b.first ≤ b.last → b.last ≤ v.now → Keeps S js c reached first second v → Keeps S (js ++ b ∷ []) c reached first second v
   place_keeps ends past keeps = same_keep S js (js ++ b ∷ []) c reached first second v keeps (placed_settled b place js v.now keeps.settled ends past) (placed_kept b place js (in_flight c)) (placed_flying b place js (in_flight c))
-      (placed_step b place js (in_flight c)) (placed_all b place js)
+      (placed_step b place js (in_flight c)) (placed_all b place js) (found_unplace S b place js (in_flight c) v)
 
   pub unplace_keeps : Keeps S (js ++ b ∷ []) c reached first second v → Keeps S js c reached first second v
   unplace_keeps keeps = same_keep S (js ++ b ∷ []) js c reached first second v keeps (unplaced_settled js b v.now keeps.settled) (λ t. sym (placed_kept b place js (in_flight c) t)) (λ t. sym (placed_flying b place js (in_flight c) t))
-      (unplaced_step b place js (in_flight c)) (sym (placed_all b place js))
+      (unplaced_step b place js (in_flight c)) (sym (placed_all b place js)) (found_place S b place js (in_flight c) v)

@@ -2,7 +2,7 @@
 use Rattle.std.proofs.Common.{◌≡◌, ℕ, ◌+◌, ◌≤◌, ◌<◌, Bool, true, false, List, [], ◌++◌, length, Option, Some, None, Result, Ok, Err, OnOk, IsErrOf, refl, subst, sym, ◌∙◌, ap, arith}
 use Rattle.std.proofs.lemmas.List.{append-nil}
 use Rattle.mas_types.specs.declared.ids.Dev.{Dev}
-use Rattle.mas_types.specs.declared.ids.Dev.TheVariants.{Ckpt1, Ckpt2}
+use Rattle.mas_types.specs.declared.ids.Dev.TheVariants.{Ckpt1, Ckpt2, Spool}
 use Rattle.spool_disk.specs.View.{View, Disk, Avoids, IsImage, disk_now, slice}
 use Rattle.spool_disk.specs.Acts.{Goes, top}
 use Rattle.ckpt_copy.specs.Reading.{AllRead, EachReads}
@@ -21,6 +21,7 @@ use Rattle.mas_complex.specs.Journals.{kept_all, in_flight, entries_in}
 use Rattle.mas_complex.specs.Crash.{Setting, IsNext, ReadsOne, OnComing, IsAt, OneCopy, Copy, CopyAt, Keeps}
 use Rattle.mas_complex.specs.Places.{IsPlaceAfter, HasNoOther}
 use Rattle.mas_complex.proofs.Present.{all_read, each_reads, lost_reads, copy_reads}
+use Rattle.mas_complex.proofs.Texting.{stays_same}
 use Rattle.mas_complex.proofs.Moves.{Adds, acts_keep}
 
 same_view : (dev : Dev) (P : Disk → Type 0) (old new : View) → new ≡ old → P (disk_now old dev) → Meanwhile dev P old new
@@ -190,6 +191,7 @@ module _ (S : Setting) (js : List Batch) (c : Option Batch) (reached : ℕ) (fir
             (copy_reads S keeps.was second.rests second.holds rests_reads holds_reads coming second.place second.alive old.now (disk_now old Ckpt2) (omega arith) there),
       ))
       (calm S (js ++ in_flight c) old new m.console m.goes.later)
+      (stays_same S (kept_all js) (entries_in c) old new (λ t lt le n. m.others t (omega arith) le (Spool n) (λ e. absurd (cc))))
       went.after
       (to_second (moved S second.rests second.holds keeps.was coming second.place second.alive old.now new.now (disk_now old Ckpt2) (disk_now new Ckpt2) m.goes.later
       (m.others new.now m.goes.later (omega arith) Ckpt2 (λ e. absurd (cc))) there))
@@ -207,6 +209,7 @@ module _ (S : Setting) (js : List Batch) (c : Option Batch) (reached : ℕ) (fir
         m.here t (omega arith) le (omega arith),
       ))
       (calm S (js ++ in_flight c) old new m.console m.goes.later)
+      (stays_same S (kept_all js) (entries_in c) old new (λ t lt le n. m.others t (omega arith) le (Spool n) (λ e. absurd (cc))))
       (to_first (moved S first.rests first.holds keeps.was coming first.place first.alive old.now new.now (disk_now old Ckpt1) (disk_now new Ckpt1) m.goes.later
       (m.others new.now m.goes.later (omega arith) Ckpt1 (λ e. absurd (cc))) there))
       went.after

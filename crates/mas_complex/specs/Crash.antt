@@ -14,6 +14,7 @@ use Rattle.mas_types.specs.declared.ids.MemberId.{MemberId}
 use Rattle.mas_types.specs.declared.queues.Queue.{Queue}
 use Rattle.duplex_pair.specs.Finds.{best}
 use Rattle.mas_complex.specs.Meaning.{StandFor, run, Closes}
+use Rattle.mas_complex.specs.Texts.{spools_at, lost_now, HasTexts, BeganWithTexts, AreGone}
 use Rattle.mas_complex.specs.Journals.{kept, flying, kept_all, in_flight, entries_in, StepIsKept, has_step, AreSettled, IsBegun}
 
 -- what pages, entries and lines mean, and where the value began
@@ -152,6 +153,21 @@ copy_of rests holds alive place = record { rests = rests; holds = holds; alive =
 abbrev pub setting : (List ℕ → Option (List ℕ)) → Queue → ℕ → Setting
 setting reads base since = record { reads = reads; stand = StandFor; run = run; closes = Closes; base = base; since = since }
 
+-- The texts that stand on the spool volumes at a moment: those of the queue after the kept entries, and those of the
+-- queue with the entries in flight.
+pub record TextsAt (S : Setting) (gone : ℕ → Bool) (J : List Batch) (v : View) (t : ℕ) : Type 0 where
+  pub after_kept : HasTexts gone (spools_at v t) S.base.config.groups (S.run S.base (kept J t))
+  pub after_coming : HasTexts gone (spools_at v t) S.base.config.groups (S.run S.base (kept J t ++ flying J t))
+
+-- so at each moment, where the texts of the base stood at first, and those of each batch's queue as it began
+abbrev pub KeepsTexts : Setting → List Batch → View → Type 0
+KeepsTexts S J v = (gone : ℕ → Bool) → AreGone gone v → BeganWithTexts gone (S.run S.base) S.base.config.groups S.since v J
+    → (t : ℕ) → S.since ≤ t → t ≤ v.now → TextsAt S gone J v t
+
+-- a volume that the world shows as lost is lost now
+abbrev pub AreSunk : Setting → View → Type 0
+AreSunk S v = (t : ℕ) → S.since ≤ t → t ≤ v.now → (n : ℕ) → (spools_at v t n).lost ≡ true → lost_now v n ≡ true
+
 -- What the shared value keeps of its past, and of its present below the greatest moment: the pages of the kept entries,
 -- and those in flight, are the same for both copies.
 pub record Keeps (S : Setting) (js : List Batch) (current : Option Batch) (reached : ℕ) (first second : Copy) (v : View) : Type 0 where
@@ -161,6 +177,8 @@ pub record Keeps (S : Setting) (js : List Batch) (current : Option Batch) (reach
   pub crash : (t : ℕ) → S.since ≤ t → t ≤ v.now → t < top → CrashAt S (js ++ in_flight current) v t
   pub told : (t : ℕ) → S.since ≤ t → t ≤ v.now → ToldAt S (js ++ in_flight current) v t
   pub grows : (t : ℕ) → S.since ≤ t → t ≤ v.now → Begins (v.world t).console (v.world v.now).console
+  pub texts : KeepsTexts S (js ++ in_flight current) v
+  pub sunk : AreSunk S v
   pub was : List ℕ
   pub coming : Option (List ℕ)
   pub stands : Stands S reached (kept_all js) was

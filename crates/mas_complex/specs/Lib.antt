@@ -1,6 +1,9 @@
 pub mod Journals
 pub mod Meaning
 pub mod Places
+pub mod Spool
+pub mod Texts
+pub mod TextExamples
 pub mod Crash
 pub mod Headline
 pub mod Steady

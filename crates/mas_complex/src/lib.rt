@@ -11,10 +11,12 @@ mod locking;
 mod places;
 mod recover;
 mod seeing;
+mod spool;
 mod steady;
 
 pub use complex::{Complex, Ended};
 pub use fitting::fits;
 pub use places::Place;
 pub use recover::RecoverNo;
+pub use spool::examples_of_texts;
 pub use steady::Steady;

@@ -2,9 +2,11 @@ use Rattle.std.proofs.Common.{None}
 use Rattle.std.proofs.Math.Logic.{∥∥₁_map}
 use Rattle.mas_complex.specs.declared.places.Place.TheVariants.{Before}
 use Rattle.mas_complex.specs.Crash.{Setting, setting, copy_of}
-use Rattle.mas_complex.proofs.Making.{make_keeps}
+use Rattle.spool_disk.specs.declared.plant.Part.TheVariants.{Disk as DiskPart}
+use Rattle.spool_disk.specs.View.{disk_now}
+use Rattle.mas_complex.proofs.Making.{make_keeps, unlost}
 use Rattle.mas_complex.proofs.First.{first_reads, leaves_base}
-use Rattle.mas_types.specs.declared.ids.Dev.TheVariants.{Ckpt1, Ckpt2}
+use Rattle.mas_types.specs.declared.ids.Dev.TheVariants.{Ckpt1, Ckpt2, Spool}
 use Rattle.mas_complex.proofs.complex.Complex.make.Goals as goal
 
 pub invariant_of-result-clause-kept : goal.invariant_of-result-clause-kept
@@ -16,7 +18,8 @@ invariant_of-result-clause-kept g c told =
     let second = copy_of (C.rests s.pair.second.copy) (C.holds s.pair.second.copy) s.pair.second.alive Before in
     let v = g.P.Plant.view s.plant in
     ∥∥₁_map (c.requires.begins told) (λ begins.
-    rw (c.new.ensures) (make_keeps S s.level first second v (λ pages d r. g.met.C.Copying.rests_reads s.pair.first.copy pages d r) (λ was next d r. g.met.C.Copying.holds_reads s.pair.first.copy was next d r) (λ pages d r. g.met.C.Copying.rests_reads s.pair.second.copy pages d r) (λ was next d r. g.met.C.Copying.holds_reads s.pair.second.copy was next d r) c.moment_of-since.ensures.now (rw (c.moment_of-since.ensures.now) begins)))
+    rw (c.new.ensures) (make_keeps S s.level first second v (λ pages d r. g.met.C.Copying.rests_reads s.pair.first.copy pages d r) (λ was next d r. g.met.C.Copying.holds_reads s.pair.first.copy was next d r) (λ pages d r. g.met.C.Copying.rests_reads s.pair.second.copy pages d r) (λ was next d r. g.met.C.Copying.holds_reads s.pair.second.copy was next d r) c.moment_of-since.ensures.now
+    (λ n lost. unlost (v.lost (DiskPart (Spool n))) (disk_now v (Spool n)).lost (g.met.P.Plant.there s.plant told (Spool n)) lost) (rw (c.moment_of-since.ensures.now) begins)))
 
 pub returns-clause-fresh : goal.returns-clause-fresh
 returns-clause-fresh g c told =

@@ -1,0 +1,83 @@
+-- The texts of a queue's decks and outputs on the spool volumes, and what a crash leaves of them.
+use Rattle.std.specs.Prelude.{◌≡◌, ◌≢◌, ◌⊎◌, ℕ, ◌+◌, ◌≤◌, Bool, true, false, List, [], ◌∷◌, ◌++◌, length, Option, Some, All, if◌then◌else◌}
+use Rattle.std.specs.List.{list_any}
+use Rattle.mas_types.specs.declared.ids.GroupNo.{GroupNo}
+use Rattle.mas_types.specs.declared.ids.Dev.TheVariants.{Spool}
+use Rattle.mas_types.specs.declared.jobs.Text.{Text}
+use Rattle.mas_types.specs.declared.queues.Thing.{Thing}
+use Rattle.mas_types.specs.declared.queues.Thing.TheVariants.{Deck, Output}
+use Rattle.mas_types.specs.declared.queues.Queue.{Queue}
+use Rattle.mas_types.specs.declared.journals.Batch.{Batch}
+use Rattle.mas_types.specs.declared.journals.Entry.{Entry}
+use Rattle.mas_types.specs.Journal.{is_kept}
+use Rattle.mas_types.specs.Limits.{page_bytes}
+use Rattle.mas_types.specs.Queue.{line_count}
+use Rattle.spool_disk.specs.declared.plant.Part.TheVariants.{Disk as DiskPart}
+use Rattle.spool_disk.specs.View.{View, Disk, Avoids, disk_at}
+use Rattle.track_groups.specs.Places.{groups_of}
+use Rattle.spool_volumes.specs.Volumes.{Volumes, volume_of, start_of}
+use Rattle.spool_volumes.specs.Texts.{records_on, text_of}
+
+-- the spool volumes at a moment, by their numbers
+abbrev pub Spools : Type 0
+Spools = ℕ → Disk
+
+abbrev pub spools_at : View → ℕ → Spools
+spools_at v t n = disk_at v t (Spool n)
+
+-- what the volumes hold, whether or not it is synced
+abbrev pub bytes_on : Spools → Volumes
+bytes_on disks n = Some (disks n).bytes
+
+-- the volumes that are lost now
+abbrev pub lost_now : View → ℕ → Bool
+lost_now v n = v.lost (DiskPart (Spool n))
+
+-- one of the groups lies on such a volume, where each volume has so many groups
+abbrev pub lies_on : (ℕ → Bool) → ℕ → List GroupNo → Bool
+lies_on gone per groups = list_any (λ g. gone (volume_of per g)) groups
+
+-- no byte of the group's page is unsynced
+abbrev pub IsSynced : Spools → ℕ → GroupNo → Type 0
+IsSynced disks per g = Avoids (disks (volume_of per g)).unsynced (record { from = start_of per g; len = page_bytes })
+
+-- A text stands in its groups, in the order of their places: it is what the volumes give, with as many lines as are
+-- counted, and all of it is synced.
+pub record IsThere (disks : Spools) (per : ℕ) (text : Text) (groups : List GroupNo) : Type 0 where
+  pub is : text_of (records_on (bytes_on disks) per) (line_count text) groups ≡ text
+  pub synced : All (IsSynced disks per) groups
+
+-- unless one of the groups lies on a volume that is gone
+abbrev pub IsThereUnless : (ℕ → Bool) → Spools → ℕ → Text → List GroupNo → Type 0
+IsThereUnless gone disks per text groups = lies_on gone per groups ≡ false → IsThere disks per text groups
+
+-- a queue's texts so stand in the groups that the queue gives them
+pub record HasTexts (gone : ℕ → Bool) (disks : Spools) (per : ℕ) (Q : Queue) : Type 0 where
+  pub decks : All (λ j. IsThereUnless gone disks per j.text (groups_of (Deck j.number) Q.owners)) Q.jobs
+  pub outputs : All (λ o. IsThereUnless gone disks per o.text (groups_of (Output o.job o.index) Q.owners)) Q.outputs
+
+-- a text is read from what is left of the volumes, unless one of its groups lies on a volume that is gone
+abbrev pub IsReadUnless : (ℕ → Bool) → Volumes → ℕ → Text → List GroupNo → Type 0
+IsReadUnless gone volumes per text groups = lies_on gone per groups ≡ false → text_of (records_on volumes per) (line_count text) groups ≡ text
+
+-- so are a queue's texts
+pub record GivesTexts (gone : ℕ → Bool) (volumes : Volumes) (per : ℕ) (Q : Queue) : Type 0 where
+  pub decks : All (λ j. IsReadUnless gone volumes per j.text (groups_of (Deck j.number) Q.owners)) Q.jobs
+  pub outputs : All (λ o. IsReadUnless gone volumes per o.text (groups_of (Output o.job o.index) Q.owners)) Q.outputs
+
+-- Each batch that has an entry found the texts of the queue with it standing, at the moment at which it began: this queue
+-- is what the entries give that were kept before it, with its own.
+abbrev pub FoundTexts : (ℕ → Bool) → (List Entry → Queue) → ℕ → View → List Entry → List Batch → Type 0
+FoundTexts gone run per v before [] = Unit {0}
+FoundTexts gone run per v before (b ∷ bs) =
+    (b.entries ≢ [] → HasTexts gone (spools_at v b.first) per (run (before ++ b.entries)))
+    × FoundTexts gone run per v (before ++ (if is_kept b.fate then b.entries else [])) bs
+
+-- so did the batches of a journal, and the base's texts stood at the first moment
+pub record BeganWithTexts (gone : ℕ → Bool) (run : List Entry → Queue) (per since : ℕ) (v : View) (batches : List Batch) : Type 0 where
+  pub base : HasTexts gone (spools_at v since) per (run [])
+  pub each : FoundTexts gone run per v [] batches
+
+-- volumes that are lost count as gone
+abbrev pub AreGone : (ℕ → Bool) → View → Type 0
+AreGone gone v = (n : ℕ) → lost_now v n ≡ true → gone n ≡ true

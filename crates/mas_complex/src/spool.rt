@@ -1,0 +1,185 @@
+//! Acts on the spool volumes.
+ghost use Rattle.std.specs.Prelude.{◌≡◌, ◌≤◌, ◌<◌, ◌*◌, ◌++◌, length, false};
+ghost use Rattle.mas_types.specs.Limits.{page_bytes};
+ghost use Rattle.mas_types.specs.declared.ids.Dev.TheVariants.{Spool};
+ghost use Rattle.spool_disk.specs.View.{View};
+ghost use Rattle.spool_disk.specs.Acts.{Acts, Syncs};
+ghost use Rattle.spool_disk.specs.declared.plant.Part.TheVariants.{Disk};
+ghost use Rattle.mas_complex.specs.Journals.{kept_all, entries_in};
+ghost use Rattle.mas_complex.specs.Locking.{IsUp};
+ghost use Rattle.mas_complex.specs.Meaning.{run};
+ghost use Rattle.mas_complex.specs.Spool.{IsGroupOf, IsVolumeOf, IsHeldBy, device_of, is_within, ReadsGroup, WritesGroup};
+ghost use Rattle.mas_complex.specs.TextExamples.{WorkedTexts};
+ghost use Rattle.spool_volumes.specs.Volumes.{volume_of, start_of};
+
+use crate::complex::Complex;
+use crate::steady::Steady;
+use mas_types::limits::PAGE_BYTES;
+use mas_types::{Dev, GroupNo, MemberId, Page};
+use spool_disk::{Act, Plant};
+use track_groups::law_of_places;
+
+/// Worked examples of texts on the volumes.
+pub fn examples_of_texts()
+    ensures { WorkedTexts }
+{}
+
+// The device on which a group lies, where there are so many volumes with so many groups each.
+fn device(volumes: u8, per: u32, group: GroupNo) -> Dev
+    requires some { 1 ≤ per }
+    requires placed { volume_of per group ≤ volumes }
+    ensures { result ≡ device_of per group }
+{
+    prove!((group.0 / per) as u64 + 1 <= volumes as u64);
+    Dev::Spool((group.0 / per) as u8 + 1)
+}
+
+// Where the group's page begins on its volume.
+fn start(per: u32, group: GroupNo) -> u64
+    requires { 1 ≤ per }
+    ensures { result ≡ start_of per group }
+{
+    PAGE_BYTES as u64 * (group.0 % per) as u64
+}
+
+// The page of a group is read, or no byte from a volume that is too small for it.
+fn read_group<P: Plant>(
+    plant: &mut P,
+    by: MemberId,
+    volumes: u8,
+    per: u32,
+    group: GroupNo,
+    into: &mut Page,
+) -> Act
+    requires some { 1 ≤ per }
+    requires placed { group.0 < volumes * per }
+    ensures acts { Acts by.0 (Disk (device_of per group)) (P.view plant.old) (P.view plant.new) result }
+    ensures content { P.tells → ReadsGroup per group (P.view plant.old) (P.view plant.new) into.new result }
+    ensures nowhere { is_within (P.view plant.old) per group ≡ false → into.new ≡ into.old }
+{
+    let dev = device(volumes, per, group);
+    let at = start(per, group);
+    if at + PAGE_BYTES as u64 <= plant.size(dev) {
+        plant.read(by, dev, at, &mut into.0)
+    } else {
+        plant.read(by, dev, 0, &mut [])
+    }
+}
+
+// The page of a group is written, or no byte to a volume that is too small for it.
+fn write_group<P: Plant>(
+    plant: &mut P,
+    by: MemberId,
+    volumes: u8,
+    per: u32,
+    group: GroupNo,
+    bytes: &Page,
+) -> Act
+    requires some { 1 ≤ per }
+    requires placed { group.0 < volumes * per }
+    ensures acts { Acts by.0 (Disk (device_of per group)) (P.view plant.old) (P.view plant.new) result }
+    ensures content { P.tells → WritesGroup per group (P.view plant.old) (P.view plant.new) bytes.now result }
+    ensures whole { length bytes.now.0 ≡ page_bytes }
+{
+    let dev = device(volumes, per, group);
+    let at = start(per, group);
+    if at + PAGE_BYTES as u64 <= plant.size(dev) {
+        plant.write(by, dev, at, &bytes.0)
+    } else {
+        plant.write(by, dev, 0, &[])
+    }
+}
+
+impl<P: Plant + Drop, C: Steady + Drop> Complex<P, C> {
+    /// Reads the page of a group of the configuration, for a member that isn't stopped. It needs no lock. Where the page
+    /// doesn't lie within its volume, the act is one of no bytes at the volume's start, and `into` is as it was.
+    ///
+    /// Failed comes only where the volume's faults rose, and it is lost then; Halted only where the member was stopped in it.
+    pub fn spool_read(&mut self, by: MemberId, group: GroupNo, into: &mut Page) -> Act
+        requires up { IsUp self.old.book by }
+        requires group { IsGroupOf self.old.base.config group }
+        ensures pair { self.new.pair ≡ self.old.pair }
+        ensures base { self.new.base ≡ self.old.base }
+        ensures since { self.new.since ≡ self.old.since }
+        ensures book { self.new.book ≡ self.old.book }
+        ensures journal { self.new.journal ≡ self.old.journal }
+        ensures current { self.new.current ≡ self.old.current }
+        ensures reserved { self.new.reserved ≡ self.old.reserved }
+        ensures placed { self.new.placed ≡ self.old.placed }
+        ensures first { self.new.first ≡ self.old.first }
+        ensures second { self.new.second ≡ self.old.second }
+        ensures level { self.new.level ≡ self.old.level }
+        ensures acts { Acts by.0 (Disk (device_of self.old.base.config.groups group)) (P.view self.old.plant) (P.view self.new.plant) result }
+        ensures content { P.tells → ReadsGroup self.old.base.config.groups group (P.view self.old.plant) (P.view self.new.plant) into.new result }
+        ensures nowhere { is_within (P.view self.old.plant) self.old.base.config.groups group ≡ false → into.new ≡ into.old }
+    {
+        read_group(
+            &mut self.plant,
+            by,
+            self.base.config.volumes,
+            self.base.config.groups as u32,
+            group,
+            into,
+        )
+    }
+
+    /// Writes the page of a group of the configuration, for a member that isn't stopped. It needs no lock. The group is the
+    /// member's, in the queue after the kept entries and in the one with those in flight, so no text of a deck or an output
+    /// stands in it. The page is unsynced until the volume is synced. Where it doesn't lie within its volume, the act is one
+    /// of no bytes at the volume's start.
+    ///
+    /// Failed comes only where the volume's faults rose, and it is lost then; Halted only where the member was stopped in it.
+    pub fn spool_write(&mut self, by: MemberId, group: GroupNo, bytes: &Page) -> Act
+        requires up { IsUp self.old.book by }
+        requires group { IsGroupOf self.old.base.config group }
+        requires kept { P.tells → IsHeldBy by group (run self.old.base (kept_all self.old.journal.batches)) }
+        requires flying { P.tells → IsHeldBy by group (run self.old.base (kept_all self.old.journal.batches ++ entries_in self.old.current)) }
+        ensures pair { self.new.pair ≡ self.old.pair }
+        ensures base { self.new.base ≡ self.old.base }
+        ensures since { self.new.since ≡ self.old.since }
+        ensures book { self.new.book ≡ self.old.book }
+        ensures journal { self.new.journal ≡ self.old.journal }
+        ensures current { self.new.current ≡ self.old.current }
+        ensures reserved { self.new.reserved ≡ self.old.reserved }
+        ensures placed { self.new.placed ≡ self.old.placed }
+        ensures first { self.new.first ≡ self.old.first }
+        ensures second { self.new.second ≡ self.old.second }
+        ensures level { self.new.level ≡ self.old.level }
+        ensures acts { Acts by.0 (Disk (device_of self.old.base.config.groups group)) (P.view self.old.plant) (P.view self.new.plant) result }
+        ensures content { P.tells → WritesGroup self.old.base.config.groups group (P.view self.old.plant) (P.view self.new.plant) bytes.now result }
+    {
+        law_of_places();
+        write_group(
+            &mut self.plant,
+            by,
+            self.base.config.volumes,
+            self.base.config.groups as u32,
+            group,
+            bytes,
+        )
+    }
+
+    /// Syncs a spool volume of the configuration, or the one of the stream, for a member that isn't stopped. Nothing on it
+    /// is unsynced once that is done.
+    ///
+    /// Failed comes only where the volume's faults rose, and it is lost then; Halted only where the member was stopped in it.
+    pub fn spool_sync(&mut self, by: MemberId, volume: u8) -> Act
+        requires up { IsUp self.old.book by }
+        requires volume { IsVolumeOf self.old.base.config volume }
+        ensures pair { self.new.pair ≡ self.old.pair }
+        ensures base { self.new.base ≡ self.old.base }
+        ensures since { self.new.since ≡ self.old.since }
+        ensures book { self.new.book ≡ self.old.book }
+        ensures journal { self.new.journal ≡ self.old.journal }
+        ensures current { self.new.current ≡ self.old.current }
+        ensures reserved { self.new.reserved ≡ self.old.reserved }
+        ensures placed { self.new.placed ≡ self.old.placed }
+        ensures first { self.new.first ≡ self.old.first }
+        ensures second { self.new.second ≡ self.old.second }
+        ensures level { self.new.level ≡ self.old.level }
+        ensures acts { Acts by.0 (Disk (Spool volume)) (P.view self.old.plant) (P.view self.new.plant) result }
+        ensures content { P.tells → Syncs (Spool volume) (P.view self.old.plant) (P.view self.new.plant) result }
+    {
+        self.plant.sync(by, Dev::Spool(volume))
+    }
+}
