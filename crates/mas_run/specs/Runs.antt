@@ -24,7 +24,7 @@ use Rattle.mas_complex.specs.Journals.{kept_all}
 use Rattle.mas_complex.specs.Meaning.{run}
 use Rattle.warm_start.specs.Usable.{AreOf}
 use Rattle.queue_restart.specs.Restarts.{restart_entries}
-use Rattle.warm_start.specs.Starting.{IsFound, IsHeld}
+use Rattle.warm_start.specs.Starting.{IsFound, IsUnfit, IsHeld}
 use Rattle.mas_run.specs.Standing.{queue_of}
 use Rattle.mas_complex.specs.Headline.{whole, IsCrashSafe, LeavesQueue, AreToldKept}
 use Rattle.mas_run.specs.Decks.{sysa, deck_entries}
@@ -121,18 +121,21 @@ abbrev pub IsOpened : Bool → Status → ℕ → ℕ → List Batch → ℕ →
 IsOpened true answer since at opening kept rest = (opening ≡ []) × (at ≡ since)
 IsOpened false answer since at opening kept rest = IsReset answer since at opening kept rest
 
--- the queue of the pages that a warm run finds
-pub record IsFoundQueue (tells : Type 0) (old new : View) (base : Queue) : Type 0 where
+-- The queue of the pages that a warm run finds. A copy had been lost by a call before the steps only where it may not stay beside
+-- these pages.
+pub record IsFoundQueue (tells : Type 0) (old new : View) (first : Dev → ℕ) (base : Queue) : Type 0 where
   pub pages : List Page
   pub tables : Tables
   pub are : AreOf pages tables
   pub is : base ≡ queue_of tables
   pub found : tells → IsFound reads old new (bytes_of pages)
+  pub kept1 : tells → (first Ckpt1 ≡ old.loses Ckpt1) ⊎ IsUnfit reads Ckpt1 old new pages
+  pub kept2 : tells → (first Ckpt2 ≡ old.loses Ckpt2) ⊎ IsUnfit reads Ckpt2 old new pages
 
 -- a cold run begins with the empty queue of the default configuration, a warm one with the queue found
-abbrev pub HasBase : Bool → Type 0 → View → View → Queue → Type 0
-HasBase true tells old new base = base ≡ empty_queue default_config []
-HasBase false tells old new base = IsFoundQueue tells old new base
+abbrev pub HasBase : Bool → Type 0 → View → View → (Dev → ℕ) → Queue → Type 0
+HasBase true tells old new first base = base ≡ empty_queue default_config []
+HasBase false tells old new first base = IsFoundQueue tells old new first base
 
 -- before a warm run's first moment an image of a copy is one of the entry, or reads as the copy did or as the pages found
 pub record IsHeldUntil (since : ℕ) (old new : View) : Type 0 where
@@ -204,14 +207,14 @@ pub record HasSteps (cold : Bool) (tells : Type 0) (asked : List Asked) (answer 
 -- A run that has begun, cold or warm, over what was asked of it, on a plant that showed `old` before and `new` after it.
 -- What it says of contents is said of a plant that tells.
 pub record IsRun (cold : Bool) (tells : Type 0) (asked : List Asked) (answer : Status) (base : Queue) (journal : Journal) (since : ℕ) (old new : View) : Type 0 where
+  -- before its first moment a device had been lost so often by a call: a warm start may have lost it once
+  pub first : Dev → ℕ
+  pub before : (d : Dev) → LosesFirst cold (old.loses d) (first d)
   -- it began with its base, which the copies had then, and nothing was said before
-  pub queue : HasBase cold tells old new base
+  pub queue : HasBase cold tells old new first base
   pub moment : (old.now ≤ since) × (since ≤ new.now)
   pub fresh : tells → ∥ LeavesQueue reads base since new ∥₁
   pub quiet : tells → (new.world since).console ≡ console_now old
   pub held : tells → IsKeptUntil cold since old new
-  -- a warm start may have lost a device once
-  pub first : Dev → ℕ
-  pub before : (d : Dev) → LosesFirst cold (old.loses d) (first d)
   -- and then its steps were played
   pub steps : HasSteps cold tells asked answer base journal since first old new

@@ -1,5 +1,5 @@
 -- A start that found its pages.
-use Rattle.std.proofs.Common.{◌≡◌, inl, inr, ⊎_elim, ℕ, ◌<◌, Bool, true, false, List, [], Option, Some, None, refl, sym, arith}
+use Rattle.std.proofs.Common.{◌≡◌, ◌⊎◌, inl, inr, ⊎_elim, ℕ, ◌<◌, Bool, true, false, List, [], Option, Some, None, refl, sym, ◌∙◌, arith}
 use Rattle.mas_types.specs.declared.ids.Dev.{Dev}
 use Rattle.mas_types.specs.declared.ids.Dev.TheVariants.{Ckpt1, Ckpt2}
 use Rattle.mas_types.specs.declared.ids.Page.{Page}
@@ -20,7 +20,7 @@ use Rattle.duplex_pair.proofs.Composing.{both_then}
 use Rattle.mas_complex.specs.declared.places.Place.TheVariants.{Before}
 use Rattle.mas_complex.specs.Crash.{setting, CopyAt, copy_of}
 use Rattle.mas_complex.specs.Meaning.{StandFor, no_deck, no_print}
-use Rattle.warm_start.specs.Starting.{IsSeen, IsFound, IsHeld, OnlyLooked, HeldBack}
+use Rattle.warm_start.specs.Starting.{IsSeen, IsFound, IsUnfit, IsHeld, OnlyLooked, HeldBack}
 use Rattle.warm_start.proofs.Starts.{less_more, less_held, held_since, both_weaker, first_now, second_now}
 
 -- the pages stand for the base
@@ -51,6 +51,19 @@ found_later reads old mid new found goes x = record {
   usable = x.usable;
   best = x.best;
 }
+
+-- what may not stay still may not
+pub unfit_later : (reads : List ℕ → Option (List ℕ)) (dev : Dev) (old mid new : View) (found : List Page) → Goes mid new → IsUnfit reads dev old mid found → IsUnfit reads dev old new found
+unfit_later reads dev old mid new found goes x = record { seen = x.seen; is = seen_later reads dev old mid new goes x.seen x.is; room = x.room; unfit = x.unfit }
+
+pub kept_later : (reads : List ℕ → Option (List ℕ)) (dev : Dev) (old mid new : View) (found : List Page) (times : ℕ) → Goes mid new → (times ≡ old.loses dev) ⊎ IsUnfit reads dev old mid found → (times ≡ old.loses dev) ⊎ IsUnfit reads dev old new found
+kept_later reads dev old mid new found times goes kept = ⊎_elim inl (λ x. inr (unfit_later reads dev old mid new found goes x)) kept
+
+-- a copy that doesn't go isn't lost by a call, and one that goes may not stay
+pub kept : (reads : List ℕ → Option (List ℕ)) (dev : Dev) (old mid new : View) (found : List Page) (to_go : Bool) → Goes mid new → mid.loses dev ≡ old.loses dev → (to_go ≡ false → new.loses dev ≡ mid.loses dev)
+    → (to_go ≡ true → IsUnfit reads dev old mid found) → (new.loses dev ≡ old.loses dev) ⊎ IsUnfit reads dev old new found
+kept reads dev old mid new found true goes looked stays unfit = inr (unfit_later reads dev old mid new found goes (unfit refl))
+kept reads dev old mid new found false goes looked stays unfit = inl (stays refl ∙ looked)
 
 -- images, from the looks on
 pub held_looked : (reads : List ℕ → Option (List ℕ)) (found : List ℕ) (old new : View) → OnlyLooked old new → BothMeanwhile (IsHeld reads (disk_now old Ckpt1) found) (IsHeld reads (disk_now old Ckpt2) found) old new

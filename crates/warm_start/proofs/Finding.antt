@@ -20,7 +20,7 @@ use Rattle.warm_start.specs.Usable.{AreOf, HaveSize, AreUsable}
 use Rattle.warm_start.specs.Choosing.{is_lower, started, neither, chosen}
 use Rattle.warm_start.specs.Judging.{Has}
 use Rattle.warm_start.specs.Starting.{IsFound, Fitting, Chosen, IsCauseOf, IsSmall, IsSmallAt, IsState}
-use Rattle.warm_start.proofs.Seeing.{Judges, Seeing, state_of}
+use Rattle.warm_start.proofs.Seeing.{Judges, Seeing, state_of, same_pages}
 
 some_is : (x y : List ℕ) → Some x ≡ Some y → x ≡ y
 some_is x y e = cc
@@ -28,6 +28,15 @@ some_is x y e = cc
 not_false : (b : Bool) → not b ≡ false → b ≡ true
 not_false true e = refl
 not_false false e = absurd (cc)
+
+not_true : (b : Bool) → not b ≡ true → b ≡ false
+not_true true e = absurd (cc)
+not_true false e = refl
+
+-- whatever pages were seen, they are those that don't fit
+unfit_of : (found own pages : List Page) (room : ℕ) (seen : Option (List ℕ)) → seen ≡ Some (bytes_of own) → HaveSize own → not (fits found own room) ≡ true → seen ≡ Some (bytes_of pages) → HaveSize pages → fits found pages room ≡ false
+unfit_of found own pages room seen is sized not_fit e size =
+    subst (λ (ps : List Page). fits found ps room ≡ false) (same_pages own pages sized size (some_is (bytes_of own) (bytes_of pages) (sym is ∙ e))) (not_true (fits found own room) not_fit)
 
 -- pages that fit are equal, or lag one level behind
 pub fits_either : (found other : List Page) (room : ℕ) → fits found other room ≡ true
@@ -111,6 +120,8 @@ module _ {C : Type 0} (count room : C → ℕ) (room_most : ℕ) (ready : C → 
           };
           fits1 = λ stays alive. beside1 two.pages one.pages j1.0 (not_false (fits two.pages one.pages (room first)) stays);
           fits2 = λ stays alive. own2 two.pages j2.0;
+          unfit1 = λ told to_go. let x = s1 told in record { seen = x.seen; is = x.is; room = room first; unfit = λ own e sized usable. unfit_of two.pages one.pages own (room first) x.seen x.as_judged j1.0.sized to_go e sized };
+          unfit2 = λ told to_go. absurd (cc);
           one = inr (refl, j2.0);
         }
     found_both one two j1 j2 s1 s2 false e =
@@ -127,6 +138,8 @@ module _ {C : Type 0} (count room : C → ℕ) (room_most : ℕ) (ready : C → 
           };
           fits1 = λ stays alive. own1 one.pages j1.0;
           fits2 = λ stays alive. beside2 one.pages two.pages j2.0 (not_false (fits one.pages two.pages (room second)) stays);
+          unfit1 = λ told to_go. absurd (cc);
+          unfit2 = λ told to_go. let y = s2 told in record { seen = y.seen; is = y.is; room = room second; unfit = λ own e sized usable. unfit_of one.pages two.pages own (room second) y.seen y.as_judged j2.0.sized to_go e sized };
           one = inl (refl, j1.0);
         }
 
@@ -150,6 +163,8 @@ module _ {C : Type 0} (count room : C → ℕ) (room_most : ℕ) (ready : C → 
       };
       fits1 = λ stays alive. own1 one.pages j1.0;
       fits2 = λ stays alive. absurd (cc);
+      unfit1 = λ told to_go. absurd (cc);
+      unfit2 = λ told to_go. let y = s2 told in record { seen = y.seen; is = y.is; room = 0; unfit = λ own e sized usable. absurd (y.as_judged (bytes_of own) e (record { pages = own; sized = sized; joined = refl; usable = usable })) };
       one = inl (refl, j1.0);
     }
     chosen_found (Bad why) (Good two) j1 j2 s1 s2 = record {
@@ -165,6 +180,8 @@ module _ {C : Type 0} (count room : C → ℕ) (room_most : ℕ) (ready : C → 
       };
       fits1 = λ stays alive. absurd (cc);
       fits2 = λ stays alive. own2 two.pages j2.0;
+      unfit1 = λ told to_go. let x = s1 told in record { seen = x.seen; is = x.is; room = 0; unfit = λ own e sized usable. absurd (x.as_judged (bytes_of own) e (record { pages = own; sized = sized; joined = refl; usable = usable })) };
+      unfit2 = λ told to_go. absurd (cc);
       one = inr (refl, j2.0);
     }
     chosen_found (Bad first) (Bad second) j1 j2 s1 s2 = tt

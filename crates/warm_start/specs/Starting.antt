@@ -20,7 +20,8 @@ use Rattle.duplex_pair.specs.Both.{BothMeanwhile}
 use Rattle.warm_start.specs.declared.choosing.Start.{Start}
 use Rattle.warm_start.specs.declared.choosing.StartNo.{StartNo}
 use Rattle.warm_start.specs.declared.choosing.StartNo.TheVariants as no_start
-use Rattle.warm_start.specs.Usable.{AreOf, AreUsable, HaveSize}
+use Rattle.mas_complex.specs.Fits.{fits}
+use Rattle.warm_start.specs.Usable.{AreOf, IsUsable, AreUsable, HaveSize}
 use Rattle.warm_start.specs.Levels.{levels_of}
 use Rattle.warm_start.specs.Choosing.{goes}
 use Rattle.warm_start.specs.Judging.{Has, IsUnread}
@@ -58,6 +59,14 @@ pub record Fitting {C : Type 0} (count room : C → ℕ) (room_most : ℕ) (read
       ((level (bytes_of own) ≡ level (bytes_of pages)) × (bytes_of own ≡ bytes_of pages))
       ⊎ ((level (bytes_of pages) ≡ level (bytes_of own) + 1) × (1 ≤ room copy))
 
+-- A copy that may not stay beside the pages found: an act on it failed, or it reads as none, or as pages that can't be used or
+-- that don't fit with so much room.
+pub record IsUnfit (reads : List ℕ → Option (List ℕ)) (dev : Dev) (old new : View) (found : List Page) : Type 0 where
+  pub seen : Option (List ℕ)
+  pub is : IsSeen reads dev old new seen
+  pub room : ℕ
+  pub unfit : (own : List Page) → seen ≡ Some (bytes_of own) → HaveSize own → IsUsable own → fits found own room ≡ false
+
 -- What stands once a copy was chosen: its pages can be used and are those that count, and each copy that doesn't go has them or
 -- lags behind them.
 pub record Chosen {C : Type 0} (count room : C → ℕ) (room_most : ℕ) (ready : C → View → Type 0) (reads : List ℕ → Option (List ℕ)) (rests : C → List ℕ → Disk → Type 0) (tells : Type 0)
@@ -67,6 +76,8 @@ pub record Chosen {C : Type 0} (count room : C → ℕ) (room_most : ℕ) (ready
   pub found : tells → IsFound reads old v (bytes_of start.found.pages)
   pub fits1 : goes Ckpt1 start ≡ false → alive1 ≡ true → Fitting count room room_most ready rests tells Ckpt1 v first alive1 found1 start.found.pages
   pub fits2 : goes Ckpt2 start ≡ false → alive2 ≡ true → Fitting count room room_most ready rests tells Ckpt2 v second alive2 found2 start.found.pages
+  pub unfit1 : tells → goes Ckpt1 start ≡ true → IsUnfit reads Ckpt1 old v start.found.pages
+  pub unfit2 : tells → goes Ckpt2 start ≡ true → IsUnfit reads Ckpt2 old v start.found.pages
   pub one :
       ((goes Ckpt1 start ≡ false) × Has count room room_most ready rests tells Ckpt1 v first alive1 found1 start.found.pages)
       ⊎ ((goes Ckpt2 start ≡ false) × Has count room room_most ready rests tells Ckpt2 v second alive2 found2 start.found.pages)
@@ -170,3 +181,5 @@ pub record HasStarted {C : Type 0} (count : C → ℕ) (needs : ℕ → ℕ) (re
   pub reads1 : tells → alive1 ≡ true → reads (disk_now new Ckpt1).bytes ≡ Some (bytes_of pages)
   pub reads2 : tells → alive2 ≡ true → reads (disk_now new Ckpt2).bytes ≡ Some (bytes_of pages)
   pub held : tells → BothMeanwhile (IsHeld reads (disk_now old Ckpt1) (bytes_of pages)) (IsHeld reads (disk_now old Ckpt2) (bytes_of pages)) old new
+  pub kept1 : tells → (new.loses Ckpt1 ≡ old.loses Ckpt1) ⊎ IsUnfit reads Ckpt1 old new pages
+  pub kept2 : tells → (new.loses Ckpt2 ≡ old.loses Ckpt2) ⊎ IsUnfit reads Ckpt2 old new pages

@@ -154,6 +154,8 @@ fn lose_unfit<P: Plant, C: Steady + Drop>(plant: &mut P, pair: &mut Pair<C>, sta
     ensures during { P.tells → BothMeanwhile (SameOrLost (disk_now (P.view plant.old) Ckpt1)) (SameOrLost (disk_now (P.view plant.old) Ckpt2)) (P.view plant.old) (P.view plant.new) }
     ensures fits1 { pair.new.first.alive ≡ true → Fitting C.count C.room C.room_most C.ready C.rests P.tells Ckpt1 (P.view plant.new) pair.new.first.copy pair.new.first.alive pair.new.first.found start.now.found.pages }
     ensures fits2 { pair.new.second.alive ≡ true → Fitting C.count C.room C.room_most C.ready C.rests P.tells Ckpt2 (P.view plant.new) pair.new.second.copy pair.new.second.alive pair.new.second.found start.now.found.pages }
+    ensures kept1 { goes_lem Ckpt1 start.now ≡ false → (P.view plant.new).loses Ckpt1 ≡ (P.view plant.old).loses Ckpt1 }
+    ensures kept2 { goes_lem Ckpt2 start.now ≡ false → (P.view plant.new).loses Ckpt2 ≡ (P.view plant.old).loses Ckpt2 }
     ensures one { ((pair.new.first.alive ≡ true) × (pair.new.first.found ≡ level (bytes_of start.now.found.pages))) ⊎ ((pair.new.second.alive ≡ true) × (pair.new.second.found ≡ level (bytes_of start.now.found.pages))) }
 {
     lose_where(plant, pair, Dev::Ckpt1, is_to_go(start, Dev::Ckpt1));
@@ -180,6 +182,8 @@ fn bring<P: Plant, C: Steady + Drop>(
     ensures as_many2 { pair.new.second.alive ≡ true → length start.now.found.pages ≡ C.count pair.new.second.copy }
     ensures rests1 { OnOk result (P.tells → pair.new.first.alive ≡ true → C.rests pair.new.first.copy (bytes_of start.now.found.pages) (disk_now (P.view plant.new) Ckpt1)) }
     ensures rests2 { OnOk result (P.tells → pair.new.second.alive ≡ true → C.rests pair.new.second.copy (bytes_of start.now.found.pages) (disk_now (P.view plant.new) Ckpt2)) }
+    ensures kept1 { goes_lem Ckpt1 start.now ≡ false → (P.view plant.new).loses Ckpt1 ≡ (P.view plant.old).loses Ckpt1 }
+    ensures kept2 { goes_lem Ckpt2 start.now ≡ false → (P.view plant.new).loses Ckpt2 ≡ (P.view plant.old).loses Ckpt2 }
     ensures both { IsErrOf result PairNoBothLost → IsBothLost pair.new.first.alive pair.new.second.alive }
     ensures halts { IsErrOf result PairNoHalted → ⊥ }
     ensures ok { OnOk result (SomeAlive pair.new.first.alive pair.new.second.alive) }

@@ -13,7 +13,7 @@ use Rattle.spool_disk.specs.View.{World}
 use Rattle.spool_disk.specs.Acts.{Goes}
 use Rattle.mas_complex.specs.Journals.{kept_all}
 use Rattle.mas_complex.specs.Meaning.{run}
-use Rattle.warm_start.proofs.Begun.{found_later}
+use Rattle.warm_start.proofs.Begun.{found_later, kept_later}
 use Rattle.first_script.specs.Nodes.{at_node}
 use Rattle.mas_run.specs.Told.{console_now}
 use Rattle.mas_run.specs.Runs.{HasSteps}
@@ -215,12 +215,20 @@ returns-clause-run g c begun =
     let quiet : P.tells → console_now v1 ≡ console_now v0 = λ t. (s.held t).console v1.now s.starts.goes.later (omega arith) in
     let steps : HasSteps false P.tells asked z.status z.base z.journal z.since v1.loses v1 v2 = rw (r.complex, same) at d.steps in
     record {
-      queue = record { pages = w.pages; tables = w.tables; are = s.usable; is = base; found = λ t. found_later reads v0 v1 v2 (bytes_of w.pages) goes (s.found t) };
+      first = v1.loses;
+      before = starts_first x.pair.first.alive x.pair.second.alive v0 v1 s.starts;
+      queue = record {
+        pages = w.pages;
+        tables = w.tables;
+        are = s.usable;
+        is = base;
+        found = λ t. found_later reads v0 v1 v2 (bytes_of w.pages) goes (s.found t);
+        kept1 = λ t. kept_later reads Ckpt1 v0 v1 v2 w.pages (v1.loses Ckpt1) goes (s.kept1 t);
+        kept2 = λ t. kept_later reads Ckpt2 v0 v1 v2 w.pages (v1.loses Ckpt2) goes (s.kept2 t);
+      };
       moment = (omega (arith, since, s.starts.goes.later), omega (arith, since, goes.later));
       fresh = λ t. rw (base0, since) (∥∥₁_map (f.fresh t) (λ k. rw f.since at (k v2 goes)));
       quiet = λ t. ap (λ (n : ℕ). (v2.world n).console) since ∙ ap (λ (u : World). u.console) (goes.past v1.now (omega arith)) ∙ quiet t;
       held = λ t. rw since (held_until v0 v1 v2 (bytes_of w.pages) goes (s.held t));
-      first = v1.loses;
-      before = starts_first x.pair.first.alive x.pair.second.alive v0 v1 s.starts;
       steps = steps_since v0 v1 v2 s.starts.goes false P.tells asked z.status z.base z.journal z.since v1.loses (starts_grow x.pair.first.alive x.pair.second.alive v0 v1 s.starts) quiet steps;
     }

@@ -149,13 +149,13 @@ returns-clause-run g c begun =
     let play : IsPlay P.tells c.args.asked.now r.status r.base x.journal.batches r.journal r.since v1 w = subst (λ (v : View). IsPlay P.tells c.args.asked.now r.status r.base x.journal.batches r.journal r.since v w) (ap P.view m.plant) e.play in
     let base : r.base ≡ c.in-Ok.base = e.base ∙ m.base in
     record {
+      first = v1.loses;
+      before = f.acted.loses;
       queue = base ∙ c.in-Ok.ensures.base;
       moment = (omega (arith, since, f.acted.goes.later), omega (arith, since, goes.later));
       fresh = λ t. rw (base, since) (∥∥₁_map (m.fresh t) (λ k. k w goes));
       quiet = λ t. ap (λ (n : ℕ). (w.world n).console) since ∙ ap (λ (u : World). u.console) (goes.past v1.now (omega arith)) ∙ quiet t;
       held = λ t. tt;
-      first = v1.loses;
-      before = f.acted.loses;
       steps = steps_since v0 v1 w f.acted.goes true P.tells c.args.asked.now r.status r.base r.journal r.since v1.loses (λ d. inl (f.acted.loses d)) quiet
           (cold_steps P.tells c.args.asked.now r.status r.base x.journal.batches r.journal r.since v1 w m.journal since goes play);
     }

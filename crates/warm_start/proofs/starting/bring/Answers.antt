@@ -1,4 +1,4 @@
-use Rattle.std.proofs.Common.{List, ℕ, arith}
+use Rattle.std.proofs.Common.{List, ℕ, ◌∙◌, arith}
 use Rattle.mas_types.specs.declared.ids.Dev.TheVariants.{Ckpt1, Ckpt2}
 use Rattle.spool_disk.specs.View.{disk_now}
 use Rattle.ckpt_copy.specs.Pages.{bytes_of}
@@ -113,3 +113,9 @@ returns-clause-rests2 g c =
     rw c.as_slice.ensures at (mended told is one two
     (λ a. rw c.as_slice.ensures (own_lags C.count C.room C.room_most C.ready C.rests g.P.Plant.tells Ckpt1 mid p.first.copy p.first.alive p.first.found F told p.first.alive c.lose_unfit.ensures.fits1 a))
     (λ a. rw c.as_slice.ensures (own_lags C.count C.room C.room_most C.ready C.rests g.P.Plant.tells Ckpt2 mid p.second.copy p.second.alive p.second.found F told p.second.alive c.lose_unfit.ensures.fits2 a))))
+
+pub returns-clause-kept1 : goal.returns-clause-kept1
+returns-clause-kept1 g c = λ stays. c.mend.ensures.acted.loses Ckpt1 ∙ c.lose_unfit.ensures.kept1 stays
+
+pub returns-clause-kept2 : goal.returns-clause-kept2
+returns-clause-kept2 g c = λ stays. c.mend.ensures.acted.loses Ckpt2 ∙ c.lose_unfit.ensures.kept2 stays

@@ -110,3 +110,17 @@ returns-clause-one g c =
       c.lose_where-2.ensures.found ∙ ap (λ h. h.found) c.lose_where.ensures.other ∙ x.1.at,
     ))
     c.requires.one
+
+pub returns-clause-kept1 : goal.returns-clause-kept1
+returns-clause-kept1 g c = λ stays.
+    let a = c.args.pair.now in
+    let b = c.lose_where.new.pair in
+    let same : b.first.alive ≡ a.first.alive = alive_stays a.first.alive c.is_to_go.result b.first.alive c.lose_where.ensures.alive (c.is_to_go.ensures ∙ stays) in
+    c.lose_where-2.ensures.lost.else_counted Ckpt1 (inl ne12) ∙ c.lose_where.ensures.lost.else_counted Ckpt1 (inr same)
+
+pub returns-clause-kept2 : goal.returns-clause-kept2
+returns-clause-kept2 g c = λ stays.
+    let b = c.lose_where.new.pair in
+    let d = c.lose_where-2.new.pair in
+    let same : d.second.alive ≡ b.second.alive = alive_stays b.second.alive c.is_to_go-2.result d.second.alive c.lose_where-2.ensures.alive (c.is_to_go-2.ensures ∙ stays) in
+    c.lose_where-2.ensures.lost.else_counted Ckpt2 (inr same) ∙ c.lose_where.ensures.lost.else_counted Ckpt2 (inl ne21)

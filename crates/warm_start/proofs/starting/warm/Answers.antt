@@ -2,8 +2,9 @@ use Rattle.std.proofs.Common.{◌∙◌, ◌≤◌, false, Bool, ℕ, length, Er
 use Rattle.mas_types.specs.declared.ids.Dev.TheVariants.{Ckpt1, Ckpt2}
 use Rattle.spool_disk.specs.View.{disk_now}
 use Rattle.ckpt_copy.specs.Pages.{bytes_of, level}
+use Rattle.warm_start.specs.Choosing.{goes}
 use Rattle.warm_start.specs.Starting.{Starts}
-use Rattle.warm_start.proofs.Begun.{stand_of, rested_copy, found_later, held_all, held_back, lost_both}
+use Rattle.warm_start.proofs.Begun.{stand_of, rested_copy, found_later, kept, held_all, held_back, lost_both}
 use Rattle.warm_start.proofs.starting.warm.Goals as goal
 
 pub returns-in_default-clause-lost : goal.returns-in_default-clause-lost
@@ -68,5 +69,7 @@ returns-clause-started g c =
       as_many2 = c.bring.ensures.as_many2;
       reads1 = λ told is. g.met.C.Copying.rests_now n.first.copy (bytes_of F.pages) (disk_now new Ckpt1) (k.rests1 told is);
       reads2 = λ told is. g.met.C.Copying.rests_now n.second.copy (bytes_of F.pages) (disk_now new Ckpt2) (k.rests2 told is);
+      kept1 = λ told. kept C.reads Ckpt1 old mid new F.pages (goes Ckpt1 c.in-Ok.ready.start) (c.bring.ensures.during told).goes (c.find.ensures.acted.loses Ckpt1) c.bring.ensures.kept1 (e.chosen.unfit1 told);
+      kept2 = λ told. kept C.reads Ckpt2 old mid new F.pages (goes Ckpt2 c.in-Ok.ready.start) (c.bring.ensures.during told).goes (c.find.ensures.acted.loses Ckpt2) c.bring.ensures.kept2 (e.chosen.unfit2 told);
       held = λ told. held_all C.reads (bytes_of F.pages) old mid new (c.find.ensures.during told) (c.bring.ensures.during told);
     })
