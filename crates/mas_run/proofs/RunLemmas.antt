@@ -209,9 +209,9 @@ module _ (entry old new : View) (goes : Goes entry old) where
       (λ part. inr (inr (part.0, part.1 ∙ ap (λ (ls : List Line). (ls ++ map whole closed) ++ torn part.0 ∷ []) quiet, stopped_since part.2))) more)
       adds
 
-  pub steps_since : (cold : Bool) (tells : Type 0) (asked : List Asked) (answer : Status) (base : Queue) (journal : Journal) (since : ℕ) (first : Dev → ℕ) → ((d : Dev) → Grows (entry.loses d) (old.loses d)) → (tells → console_now old ≡ console_now entry)
+  pub steps_since : (cold : Bool) (tells : Type 0) (asked : List Asked) (answer : Status) (base : Queue) (journal : Journal) (since : ℕ) (first : Dev → ℕ) → (tells → console_now old ≡ console_now entry)
       → HasSteps cold tells asked answer base journal since first old new → HasSteps cold tells asked answer base journal since first entry new
-  steps_since cold tells asked answer base journal since first grow quiet r = record {
+  steps_since cold tells asked answer base journal since first quiet r = record {
     opening = r.opening;
     rest = r.rest;
     batches = r.batches;
@@ -231,7 +231,7 @@ module _ (entry old new : View) (goes : Goes entry old) where
     loses = r.loses;
     crash = r.crash;
     told = r.told;
-    there = λ ne. ⊎_elim inl (λ lost. inr (has_lost_later entry old new grow lost)) (r.there ne);
+    there = r.there;
   }
 
   -- what was played after Restart is what is played of a warm run

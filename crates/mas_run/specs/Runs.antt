@@ -96,9 +96,12 @@ Adds closed kept was now stopped =
 abbrev pub IsStopped : View → View → Type 0
 IsStopped old new = Rose (old.stops sysa.0) (new.stops sysa.0)
 
--- a line of the script lost a copy
+-- a line of the script lost a copy, where each device had been lost so often by a call before
+abbrev pub HasLostSince : (Dev → ℕ) → View → Type 0
+HasLostSince first new = Rose (first Ckpt1) (new.loses Ckpt1) ⊎ Rose (first Ckpt2) (new.loses Ckpt2)
+
 abbrev pub HasLost : View → View → Type 0
-HasLost old new = Rose (old.loses Ckpt1) (new.loses Ckpt1) ⊎ Rose (old.loses Ckpt2) (new.loses Ckpt2)
+HasLost old new = HasLostSince old.loses new
 
 -- HOW A RUN BEGINS
 
@@ -202,7 +205,7 @@ pub record HasSteps (cold : Bool) (tells : Type 0) (asked : List Asked) (answer 
   -- both are lost
   pub crash : tells → ∥ IsCrashSafe reads base journal since new ∥₁
   pub told : tells → AreToldKept journal since new
-  pub there : answer ≢ status.BothLost → ((new.lost (Disk Ckpt1) ≡ false) ⊎ (new.lost (Disk Ckpt2) ≡ false)) ⊎ HasLost old new
+  pub there : answer ≢ status.BothLost → ((new.lost (Disk Ckpt1) ≡ false) ⊎ (new.lost (Disk Ckpt2) ≡ false)) ⊎ HasLostSince first new
 
 -- A run that has begun, cold or warm, over what was asked of it, on a plant that showed `old` before and `new` after it.
 -- What it says of contents is said of a plant that tells.

@@ -230,5 +230,5 @@ returns-clause-run g c begun =
       fresh = λ t. rw (base0, since) (∥∥₁_map (f.fresh t) (λ k. rw f.since at (k v2 goes)));
       quiet = λ t. ap (λ (n : ℕ). (v2.world n).console) since ∙ ap (λ (u : World). u.console) (goes.past v1.now (omega arith)) ∙ quiet t;
       held = λ t. rw since (held_until v0 v1 v2 (bytes_of w.pages) goes (s.held t));
-      steps = steps_since v0 v1 v2 s.starts.goes false P.tells asked z.status z.base z.journal z.since v1.loses (starts_grow x.pair.first.alive x.pair.second.alive v0 v1 s.starts) quiet steps;
+      steps = steps_since v0 v1 v2 s.starts.goes false P.tells asked z.status z.base z.journal z.since v1.loses quiet steps;
     }

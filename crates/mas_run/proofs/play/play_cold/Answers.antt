@@ -156,7 +156,7 @@ returns-clause-run g c begun =
       fresh = λ t. rw (base, since) (∥∥₁_map (m.fresh t) (λ k. k w goes));
       quiet = λ t. ap (λ (n : ℕ). (w.world n).console) since ∙ ap (λ (u : World). u.console) (goes.past v1.now (omega arith)) ∙ quiet t;
       held = λ t. tt;
-      steps = steps_since v0 v1 w f.acted.goes true P.tells c.args.asked.now r.status r.base r.journal r.since v1.loses (λ d. inl (f.acted.loses d)) quiet
+      steps = steps_since v0 v1 w f.acted.goes true P.tells c.args.asked.now r.status r.base r.journal r.since v1.loses quiet
           (cold_steps P.tells c.args.asked.now r.status r.base x.journal.batches r.journal r.since v1 w m.journal since goes play);
     }
 
