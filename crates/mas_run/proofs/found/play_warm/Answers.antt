@@ -20,7 +20,7 @@ use Rattle.mas_run.specs.Runs.{HasSteps}
 use Rattle.mas_run.proofs.CourseLemmas.{only_on}
 use Rattle.mas_run.proofs.NodeLemmas.{steps_for, copies_at, many_at}
 use Rattle.mas_run.proofs.RunLemmas.{steps_since}
-use Rattle.mas_run.proofs.WarmLemmas.{found_drawn, found_below, found_begun, not_source, not_text, play_not_text, play_not_source, play_begins, not_begun, why_not_lost, not_started, start_caused, starts_grow, starts_first, start_causes, held_until, no}
+use Rattle.mas_run.proofs.WarmLemmas.{found_drawn, found_below, found_begun, not_source, not_text, play_not_text, play_not_source, play_begins, not_begun, why_not_lost, not_started, start_caused, starts_first, start_causes, held_until, no}
 use Rattle.mas_run.proofs.found.play_warm.Goals as goal
 
 pub returns-in-Err-clause-no_source : goal.returns-in-Err-clause-no_source
