@@ -161,6 +161,7 @@ play_of_steps {T = T} told asked base front journal since old new a a' b b' head
       said = p.said;
       loses = p.loses;
       crash = λ t. ∥∥₁_map (head t) (λ h. h.crash);
+      alike = λ t. ∥∥₁_map (head t) (λ h. h.alike);
       told = λ t. told_of base since journal new (head t);
       there = λ ne. left_now old new a a' b b' there1 there2 p.course (not_lost answer (SomeAlive a' b' ⊎ HasLost old new) ne p.left);
     }
@@ -193,6 +194,7 @@ cold_steps tells asked answer base front journal since old new none is goes p = 
   said = p.said;
   loses = p.loses;
   crash = p.crash;
+  alike = p.alike;
   told = p.told;
   there = p.there;
 }
@@ -230,6 +232,7 @@ module _ (entry old new : View) (goes : Goes entry old) where
     said = λ t. adds_since (output (run base (kept_all r.opening)) (take r.closed asked)) (output (run base (kept_all r.opening)) (take r.kept asked)) (quiet t) (r.said t);
     loses = r.loses;
     crash = r.crash;
+    alike = r.alike;
     told = r.told;
     there = r.there;
   }
@@ -256,6 +259,7 @@ module _ (entry old new : View) (goes : Goes entry old) where
     said = λ t. adds_since (output (run base (kept_all front)) (take p.closed asked)) (output (run base (kept_all front)) (take p.kept asked)) (quiet t) (p.said t);
     loses = λ d. p.loses d ∙ ap (loses_after d (take p.kept asked)) (same d);
     crash = p.crash;
+    alike = p.alike;
     told = p.told;
     there = λ ne. ⊎_elim inl (λ lost. inr (has_lost_later entry old new (λ d. inl (same d)) lost)) (p.there ne);
   }
@@ -283,6 +287,7 @@ reset_alone tells asked answer base opening journal since old new are is goes re
   said = λ t. inl (quiet t ∙ sym (append-nil (console_now old)));
   loses = same;
   crash = λ t. ∥∥₁_map (head t) (λ h. h.crash);
+  alike = λ t. ∥∥₁_map (head t) (λ h. h.alike);
   told = λ t. told_of base since journal new (head t);
   there = λ ne. inl (there ne);
 }

@@ -26,7 +26,7 @@ use Rattle.warm_start.specs.Usable.{AreOf}
 use Rattle.queue_restart.specs.Restarts.{restart_entries}
 use Rattle.warm_start.specs.Starting.{IsFound, IsUnfit, IsHeld}
 use Rattle.mas_run.specs.Standing.{queue_of}
-use Rattle.mas_complex.specs.Headline.{whole, IsCrashSafe, LeavesQueue, AreToldKept}
+use Rattle.mas_complex.specs.Headline.{whole, IsCrashSafe, AreAlwaysAlike, LeavesQueue, AreToldKept}
 use Rattle.mas_run.specs.Decks.{sysa, deck_entries}
 use Rattle.mas_run.specs.Steps.{after_step, queue_after, output, loses_after}
 use Rattle.mas_run.specs.Told.{torn, console_now}
@@ -174,6 +174,7 @@ pub record IsPlay (tells : Type 0) (asked : List Asked) (answer : Status) (base 
   pub said : tells → Adds (output (run base (kept_all front)) (take closed asked)) (output (run base (kept_all front)) (take kept asked)) (console_now old) (console_now new) (IsStopped old new)
   pub loses : (d : Dev) → new.loses d ≡ loses_after d (take kept asked) (old.loses d)
   pub crash : tells → ∥ IsCrashSafe reads base journal since new ∥₁
+  pub alike : tells → ∥ AreAlwaysAlike reads base journal since new ∥₁
   pub told : tells → AreToldKept journal since new
   pub there : answer ≢ status.BothLost → ((new.lost (Disk Ckpt1) ≡ false) ⊎ (new.lost (Disk Ckpt2) ≡ false)) ⊎ HasLost old new
 
@@ -201,9 +202,10 @@ pub record HasSteps (cold : Bool) (tells : Type 0) (asked : List Asked) (answer 
   pub said : tells → Adds (output (run base (kept_all opening)) (take closed asked)) (output (run base (kept_all opening)) (take kept asked)) (console_now old) (console_now new) (IsStopped old new)
   -- a copy is lost by a call as often as a step that was played says so
   pub loses : (d : Dev) → new.loses d ≡ loses_after d (take kept asked) (first d)
-  -- at each moment a crash leaves the queue after what was kept, and what is told is kept; a copy is left but where
-  -- both are lost
+  -- at each moment a crash leaves the queue after what was kept, both copies read the same pages or those on either side of
+  -- the batch in flight, and what is told is kept; a copy is left but where both are lost
   pub crash : tells → ∥ IsCrashSafe reads base journal since new ∥₁
+  pub alike : tells → ∥ AreAlwaysAlike reads base journal since new ∥₁
   pub told : tells → AreToldKept journal since new
   pub there : answer ≢ status.BothLost → ((new.lost (Disk Ckpt1) ≡ false) ⊎ (new.lost (Disk Ckpt2) ≡ false)) ⊎ HasLostSince first new
 
