@@ -2,12 +2,14 @@
 use Rattle.std.proofs.Common.{◌≡◌, ◌⊎◌, inl, inr, ℕ, ◌+◌, ◌<◌, ◌≤◌, nat_le, ◌==◌, ◌&&◌, not, if◌then◌else◌, Bool, true, false, List, length, Option, Some, Ok, IfOk, IfErr, refl, sym, ◌∙◌, subst, arith}
 use Rattle.std.proofs.lemmas.Bool.{and_parts}
 use Rattle.std.proofs.lemmas.Bool.Decides.{nat_tests}
+use Rattle.mas_types.specs.declared.ids.Dev.{Dev}
 use Rattle.mas_types.specs.declared.ids.Dev.TheVariants.{Ckpt1, Ckpt2}
 use Rattle.mas_types.specs.declared.ids.Page.{Page}
 use Rattle.mas_types.specs.declared.answers.CopyState.{CopyState}
 use Rattle.mas_types.specs.declared.answers.CopyState.TheVariants as state
 use Rattle.spool_disk.specs.View.{View, Disk}
 use Rattle.ckpt_copy.specs.Pages.{bytes_of, level}
+use Rattle.duplex_pair.specs.Both.{PairActed}
 use Rattle.mas_complex.specs.Fits.{fits, differ_at, first_page}
 use Rattle.mas_complex.proofs.Fitted.{fits_many, fits_same}
 use Rattle.warm_start.specs.declared.choosing.Good.{Good as GoodPages}
@@ -17,8 +19,9 @@ use Rattle.warm_start.specs.declared.choosing.Start.{Start}
 use Rattle.warm_start.specs.declared.choosing.StartNo.{StartNo}
 use Rattle.warm_start.specs.declared.choosing.StartNo.TheVariants as no_start
 use Rattle.warm_start.specs.Usable.{AreOf, HaveSize, AreUsable}
-use Rattle.warm_start.specs.Choosing.{is_lower, started, neither, chosen}
+use Rattle.warm_start.specs.Choosing.{IsFew, HasFew, is_lower, started, neither, chosen}
 use Rattle.warm_start.specs.Judging.{Has}
+use Rattle.warm_start.specs.Inspecting.{HasState, FindsNone}
 use Rattle.warm_start.specs.Starting.{IsFound, Fitting, Chosen, IsCauseOf, IsSmall, IsSmallAt, IsState}
 use Rattle.warm_start.proofs.Seeing.{Judges, Seeing, state_of, same_pages}
 
@@ -58,6 +61,17 @@ fits_either found other room is = by_level (level (bytes_of other) == level (byt
 no_error : (b : Bool) (x y : Start) (P : StartNo → Type 0) → IfErr (if b then Ok x else Ok y) P
 no_error true x y P = tt
 no_error false x y P = tt
+
+few_if : (b : Bool) (one two : GoodPages) (x y : ℕ) → IsFew one → IsFew two → IfOk {E = StartNo} (if b then Ok (started Ckpt2 two one x) else Ok (started Ckpt1 one two y)) (λ start. IsFew start.found)
+few_if true one two x y few1 few2 = few2
+few_if false one two x y few1 few2 = few1
+
+-- the pages of a choice are few
+pub chosen_few : (one two : Judged) (x y : ℕ) → HasFew one → HasFew two → IfOk (chosen one x two y) (λ start. IsFew start.found)
+chosen_few (Good one) (Good two) x y few1 few2 = few_if (is_lower one two) one two x y few1 few2
+chosen_few (Good one) (Bad why) x y few1 few2 = few1
+chosen_few (Bad why) (Good two) x y few1 few2 = few2
+chosen_few (Bad first) (Bad second) x y few1 few2 = tt
 
 module _ {C : Type 0} (count room : C → ℕ) (room_most : ℕ) (ready : C → View → Type 0) (reads : List ℕ → Option (List ℕ)) (rests : C → List ℕ → Disk → Type 0) (tells : Type 0)
     (old v : View) (first second : C) (alive1 alive2 : Bool) (found1 found2 : ℕ) where
@@ -102,6 +116,12 @@ module _ {C : Type 0} (count room : C → ℕ) (room_most : ℕ) (ready : C → 
 
   are_usable : (good : GoodPages) → HaveSize good.pages → AreOf good.pages good.tables → AreUsable (bytes_of good.pages)
   are_usable good sized are = record { pages = good.pages; sized = sized; joined = refl; usable = (good.tables, are) }
+
+  -- the state of a copy in the words of a look
+  has_state : (dev : Dev) (alive : Bool) (why : CopyState) → IsState reads tells dev v alive why → HasState reads tells dev v why
+  has_state dev alive state.Lost s = s.lost
+  has_state dev alive state.Unread s = (s.there, λ told. (s.none told).now)
+  has_state dev alive state.Unsound s = (s.1, s.2)
 
   module _ (rests_now1 : (pages : List ℕ) (d : Disk) → rests first pages d → reads d.bytes ≡ Some pages) (rests_now2 : (pages : List ℕ) (d : Disk) → rests second pages d → reads d.bytes ≡ Some pages) where
     found_both : (one two : GoodPages) → J1 (Good one) → J2 (Good two) → (tells → S1 (Good one)) → (tells → S2 (Good two)) → (b : Bool) → is_lower one two ≡ b
@@ -208,6 +228,29 @@ module _ {C : Type 0} (count room : C → ℕ) (room_most : ℕ) (ready : C → 
       by_states state.Unsound state.Lost s t = (s, t, tt)
       by_states state.Unsound state.Unread s t = (s, t, tt)
       by_states state.Unsound state.Unsound s t = (s, t, tt)
+
+    -- and why there is no queue then
+    pub chosen_nothing : (needs : ℕ → ℕ) (one two : Judged) → J1 one → J2 two → PairActed 0 true alive1 true alive2 false old v → IfErr (chosen one (room first) two (room second)) (FindsNone reads tells needs old v)
+    chosen_nothing needs (Good one) (Good two) j1 j2 acted = no_error (is_lower one two) (started Ckpt2 two one (room first)) (started Ckpt1 one two (room second)) (FindsNone reads tells needs old v)
+    chosen_nothing needs (Good one) (Bad why) j1 j2 acted = tt
+    chosen_nothing needs (Bad why) (Good two) j1 j2 acted = tt
+    chosen_nothing needs (Bad a) (Bad b) j1 j2 acted = by_states a b (state1 a j1) (state2 b j2) where
+      state1 : (why : CopyState) → J1 (Bad why) → IsState reads tells Ckpt1 v alive1 why
+      state1 why j = state_of count room room_most ready reads rests tells Ckpt1 v first alive1 found1 rests_now1 why j
+
+      state2 : (why : CopyState) → J2 (Bad why) → IsState reads tells Ckpt2 v alive2 why
+      state2 why j = state_of count room room_most ready reads rests tells Ckpt2 v second alive2 found2 rests_now2 why j
+
+      by_states : (x y : CopyState) → IsState reads tells Ckpt1 v alive1 x → IsState reads tells Ckpt2 v alive2 y → FindsNone reads tells needs old v (neither x y)
+      by_states state.Lost state.Lost s t = ((s.lost, acted.failed1 refl s.is_dead), (t.lost, acted.failed2 refl t.is_dead))
+      by_states state.Lost state.Unread s t = (s.lost, has_state Ckpt2 alive2 state.Unread t, tt)
+      by_states state.Lost state.Unsound s t = (s.lost, has_state Ckpt2 alive2 state.Unsound t, tt)
+      by_states state.Unread state.Lost s t = (has_state Ckpt1 alive1 state.Unread s, t.lost, tt)
+      by_states state.Unread state.Unread s t = (has_state Ckpt1 alive1 state.Unread s, has_state Ckpt2 alive2 state.Unread t, tt)
+      by_states state.Unread state.Unsound s t = (has_state Ckpt1 alive1 state.Unread s, has_state Ckpt2 alive2 state.Unsound t, tt)
+      by_states state.Unsound state.Lost s t = (has_state Ckpt1 alive1 state.Unsound s, t.lost, tt)
+      by_states state.Unsound state.Unread s t = (has_state Ckpt1 alive1 state.Unsound s, has_state Ckpt2 alive2 state.Unread t, tt)
+      by_states state.Unsound state.Unsound s t = (has_state Ckpt1 alive1 state.Unsound s, has_state Ckpt2 alive2 state.Unsound t, tt)
 
 -- a device that is too small for the pages found
 pub small_cause : (reads : List ℕ → Option (List ℕ)) (tells : Type 0) (needs : ℕ → ℕ) (old v : View) (alive1 alive2 : Bool) (pages : List Page) (needed : ℕ) → needed ≡ needs (length pages) → (tells → IsFound reads old v (bytes_of pages))

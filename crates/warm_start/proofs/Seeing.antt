@@ -1,5 +1,5 @@
 -- What was seen of a copy, and how it was judged.
-use Rattle.std.proofs.Common.{◌≡◌, inl, inr, ℕ, Bool, true, false, List, [], ◌∷◌, ◌++◌, length, take, drop, Option, Some, None, Result, Ok, Err, IfOk, refl, sym, ◌∙◌, ap, subst, arith}
+use Rattle.std.proofs.Common.{◌≡◌, inl, inr, ℕ, Bool, true, false, List, [], ◌∷◌, ◌++◌, length, take, drop, Option, Some, None, refl, sym, ◌∙◌, ap, subst, arith}
 use Rattle.std.proofs.lemmas.List.{take-append-le, take_all, drop_at, length-append}
 use Rattle.std.proofs.lemmas.List.Elements.{All-head, All-tail}
 use Rattle.mas_types.specs.declared.ids.Dev.{Dev}
@@ -22,12 +22,8 @@ use Rattle.warm_start.specs.declared.choosing.Judged.{Judged}
 use Rattle.warm_start.specs.declared.choosing.Judged.TheVariants.{Good, Bad}
 use Rattle.warm_start.specs.Usable.{AreOf, IsUsable, HaveSize, AreUsable}
 use Rattle.warm_start.specs.Choosing.{IsJudged}
-use Rattle.warm_start.specs.Judging.{HasSizes, Has, WasJudged}
+use Rattle.warm_start.specs.Judging.{HasSizes, Has, WasLooked, WasJudged}
 use Rattle.warm_start.specs.Starting.{IsSeen, IsState}
-
-pub if_ok : {A E : Type 0} (P Q : A → Type 0) (r : Result A E) → ((x : A) → P x → Q x) → IfOk r P → IfOk r Q
-if_ok P Q (Ok x) f h = f x h
-if_ok P Q (Err e) f h = tt
 
 -- the operator is never stopped
 pub acted_by_operator : (dev : Dev) (was is stopped : Bool) (old new : View) → Acted 0 dev was is stopped old new → was ≡ true → Acted 0 dev true is false old new
@@ -62,23 +58,36 @@ same_pages (x ∷ xs) (y ∷ ys) sx sy e =
 pub unusable_bytes : (own : List Page) → HaveSize own → (IsUsable own → ⊥) → AreUsable (bytes_of own) → ⊥
 unusable_bytes own sized not are = not (subst IsUsable (same_pages are.pages own are.sized sized are.joined) are.usable)
 
+-- what a look shows
+abbrev pub shown : Look → Option (List ℕ)
+shown Lost = None
+shown Unread = None
+shown (Pages pages) = Some (bytes_of pages)
+
 -- ONE COPY
 
 module _ {C : Type 0} (count room : C → ℕ) (room_most : ℕ) (ready : C → View → Type 0) (reads : List ℕ → Option (List ℕ)) (rests : C → List ℕ → Disk → Type 0) (tells : Type 0) where
   abbrev pub Judges : Dev → View → C → Bool → ℕ → Judged → Type 0
   Judges dev v copy alive found j = WasJudged count room room_most ready reads rests tells dev v copy alive found j
 
-  pub judged_seen : (dev : Dev) (v : View) (was copy : C) (alive : Bool) (found : ℕ) (look : Look) (j : Judged) → WasSeen count room room_most ready reads rests tells dev v was copy alive look
-      → IsLevelFound look found → HasSizes look → IsJudged look j → Judges dev v copy alive found j
-  judged_seen dev v was copy alive found Lost j seen at sized is = subst (λ (k : Judged). Judges dev v copy alive found k) (sym is) seen
-  judged_seen dev v was copy alive found Unread j seen at sized is =
-      subst (λ (k : Judged). Judges dev v copy alive found k) (sym is) (record { is_alive = seen.is_alive; there = seen.there; none = seen.none })
-  judged_seen dev v was copy alive found (Pages pages) (Good good) seen at sized is = (
-    subst (λ (ps : List Page). Has count room room_most ready rests tells dev v copy alive found ps) (sym is.0) (record { was = seen; at = at; sized = sized }),
+  abbrev pub Looked : Dev → View → C → Bool → ℕ → Look → Type 0
+  Looked dev v copy alive found look = WasLooked count room room_most ready reads rests tells dev v copy alive found look
+
+  pub looked_seen : (dev : Dev) (v : View) (was copy : C) (alive : Bool) (found : ℕ) (look : Look) → WasSeen count room room_most ready reads rests tells dev v was copy alive look
+      → IsLevelFound look found → HasSizes look → Looked dev v copy alive found look
+  looked_seen dev v was copy alive found Lost seen at sized = seen
+  looked_seen dev v was copy alive found Unread seen at sized = record { is_alive = seen.is_alive; there = seen.there; none = seen.none }
+  looked_seen dev v was copy alive found (Pages pages) seen at sized = record { was = seen; at = at; sized = sized }
+
+  pub judged_looked : (dev : Dev) (v : View) (copy : C) (alive : Bool) (found : ℕ) (look : Look) (j : Judged) → Looked dev v copy alive found look → IsJudged look j → Judges dev v copy alive found j
+  judged_looked dev v copy alive found Lost j looked is = subst (λ (k : Judged). Judges dev v copy alive found k) (sym is) looked
+  judged_looked dev v copy alive found Unread j looked is = subst (λ (k : Judged). Judges dev v copy alive found k) (sym is) looked
+  judged_looked dev v copy alive found (Pages pages) (Good good) looked is = (
+    subst (λ (ps : List Page). Has count room room_most ready rests tells dev v copy alive found ps) (sym is.0) looked,
     subst (λ (ps : List Page). AreOf ps good.tables) (sym is.0) is.1,
   )
-  judged_seen dev v was copy alive found (Pages pages) (Bad why) seen at sized is =
-      subst (λ (w : CopyState). Judges dev v copy alive found (Bad w)) (sym is.0) (record { pages = pages; has = record { was = seen; at = at; sized = sized }; unusable = is.1 })
+  judged_looked dev v copy alive found (Pages pages) (Bad why) looked is =
+      subst (λ (w : CopyState). Judges dev v copy alive found (Bad w)) (sym is.0) (record { pages = pages; has = looked; unusable = is.1 })
 
   module _ (dev : Dev) (v w : View) (one : C) (alive : Bool) (found : ℕ) (lost : w.lost (DiskPart dev) ≡ v.lost (DiskPart dev)) (stays : ready one v → ready one w) (disk : tells → disk_now w dev ≡ disk_now v dev) where
     pub has_later : (pages : List Page) → Has count room room_most ready rests tells dev v one alive found pages → Has count room room_most ready rests tells dev w one alive found pages
@@ -96,11 +105,10 @@ module _ {C : Type 0} (count room : C → ℕ) (room_most : ℕ) (ready : C → 
       sized = has.sized;
     }
 
-    pub judged_later : (j : Judged) → Judges dev v one alive found j → Judges dev w one alive found j
-    judged_later (Good good) is = (has_later good.pages is.0, is.1)
-    judged_later (Bad state.Lost) is = record { is_dead = is.is_dead; lost = lost ∙ is.lost }
-    judged_later (Bad state.Unread) is = record { is_alive = is.is_alive; there = lost ∙ is.there; none = λ told. subst (λ (d : Disk). IsNone reads d) (sym (disk told)) (is.none told) }
-    judged_later (Bad state.Unsound) is = record { pages = is.pages; has = has_later is.pages is.has; unusable = is.unusable }
+    pub looked_later : (look : Look) → Looked dev v one alive found look → Looked dev w one alive found look
+    looked_later Lost is = record { is_dead = is.is_dead; lost = lost ∙ is.lost }
+    looked_later Unread is = record { is_alive = is.is_alive; there = lost ∙ is.there; none = λ told. subst (λ (d : Disk). IsNone reads d) (sym (disk told)) (is.none told) }
+    looked_later (Pages pages) is = has_later pages is
 
   -- WHAT WAS SEEN
 
@@ -127,6 +135,11 @@ module _ {C : Type 0} (count room : C → ℕ) (room_most : ℕ) (ready : C → 
       false_later (old.lost (DiskPart dev)) (v.lost (DiskPart dev)) (goes.lost (DiskPart dev)) has.was.there,
       ap reads (sym bytes) ∙ rests_now (bytes_of pages) (disk_now v dev) (has.was.found told),
     )
+
+    pub is_seen : (look : Look) → Looked dev v one alive found look → IsSeen reads dev old v (shown look)
+    is_seen Lost is = inl (rose is.is_dead)
+    is_seen Unread is = inr (ap reads (sym bytes) ∙ (is.none told).now)
+    is_seen (Pages pages) is = has_read pages is
 
     pub seeing : (j : Judged) → Judges dev v one alive found j → Seeing dev old v j
     seeing (Good good) is = record { seen = Some (bytes_of good.pages); is = has_read good.pages is.0; as_judged = refl }

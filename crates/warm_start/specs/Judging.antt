@@ -38,6 +38,12 @@ pub record IsUnsound {C : Type 0} (count room : C → ℕ) (room_most : ℕ) (re
   pub has : Has count room room_most ready rests tells dev v copy alive found pages
   pub unusable : IsUsable pages → ⊥
 
+-- a copy that was looked at so is as this says
+abbrev pub WasLooked : {C : Type 0} → (C → ℕ) → (C → ℕ) → ℕ → (C → View → Type 0) → (List ℕ → Option (List ℕ)) → (C → List ℕ → Disk → Type 0) → Type 0 → Dev → View → C → Bool → ℕ → Look → Type 0
+WasLooked count room room_most ready reads rests tells dev v copy alive found look.Lost = WasLost dev v alive
+WasLooked count room room_most ready reads rests tells dev v copy alive found look.Unread = IsUnread reads tells dev v alive
+WasLooked count room room_most ready reads rests tells dev v copy alive found (look.Pages pages) = Has count room room_most ready rests tells dev v copy alive found pages
+
 -- a copy that was judged so is as this says
 abbrev pub WasJudged : {C : Type 0} → (C → ℕ) → (C → ℕ) → ℕ → (C → View → Type 0) → (List ℕ → Option (List ℕ)) → (C → List ℕ → Disk → Type 0) → Type 0 → Dev → View → C → Bool → ℕ → Judged → Type 0
 WasJudged count room room_most ready reads rests tells dev v copy alive found (Good good) =

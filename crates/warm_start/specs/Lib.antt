@@ -3,3 +3,4 @@ pub mod Levels
 pub mod Choosing
 pub mod Judging
 pub mod Starting
+pub mod Inspecting

@@ -1,8 +1,9 @@
 //! A warm start: what the copies of the checkpoint hold is found, the copy that counts, the queue that it stands for, and what
-//! becomes of the other copy.
+//! becomes of the other copy. Or these are only looked at.
 #![tactic(auto)]
 
 mod choosing;
+mod inspecting;
 mod levels;
 mod looking;
 mod queues;
@@ -10,6 +11,7 @@ mod sound_pages;
 mod starting;
 
 pub use choosing::{Good, Judged, Start, StartNo, choose, judge};
+pub use inspecting::{found, law_of_looks, looked};
 pub use levels::law_of_found_levels;
 pub use queues::{law_of_found_queues, queue_of};
 pub use sound_pages::usable;

@@ -8,7 +8,7 @@ ghost use Rattle.ckpt_copy.specs.Meanwhile.{Meanwhile};
 ghost use Rattle.duplex_pair.specs.Halves.{IsCkpt, pick, other, Acted, IsGone};
 ghost use Rattle.duplex_pair.specs.Both.{PairActed, BothMeanwhile};
 ghost use Rattle.warm_start.specs.Choosing.{HasFew};
-ghost use Rattle.warm_start.specs.Judging.{WasJudged, HasSizes};
+ghost use Rattle.warm_start.specs.Judging.{WasLooked, WasJudged, HasSizes};
 
 use crate::choosing::{Judged, judge};
 use crate::sound_pages::law_of_page_sizes;
@@ -29,27 +29,46 @@ fn sized(look: &Look)
     }
 }
 
-// Looks at one copy, and judges it.
-fn judge_copy<P: Plant, C: Steady + Drop>(
+// Looks at one copy.
+fn look_at<P: Plant, C: Steady + Drop>(
     alloc: Global,
     plant: &mut P,
     pair: &mut Pair<C>,
     dev: Dev,
-) -> Result<Judged, NoMemory>
+) -> Result<Look, NoMemory>
     requires ckpt { IsCkpt dev }
     requires alive { (pick dev pair.old.first pair.old.second).alive ≡ true }
     ensures other { other dev pair.new.first pair.new.second ≡ other dev pair.old.first pair.old.second }
     ensures acted { Acted 0 dev true (pick dev pair.new.first pair.new.second).alive false (P.view plant.old) (P.view plant.new) }
     ensures gone { P.tells → IsGone dev true (pick dev pair.new.first pair.new.second).alive (P.view plant.new) }
     ensures during { P.tells → Meanwhile dev (NoMore (disk_now (P.view plant.old) dev)) (P.view plant.old) (P.view plant.new) }
-    ensures judged { IfOk result (WasJudged C.count C.room C.room_most C.ready C.reads C.rests P.tells dev (P.view plant.new) (pick dev pair.new.first pair.new.second).copy (pick dev pair.new.first pair.new.second).alive (pick dev pair.new.first pair.new.second).found) }
-    ensures few { IfOk result HasFew }
+    ensures seen { IfOk result (WasLooked C.count C.room C.room_most C.ready C.reads C.rests P.tells dev (P.view plant.new) (pick dev pair.new.first pair.new.second).copy (pick dev pair.new.first pair.new.second).alive (pick dev pair.new.first pair.new.second).found) }
 {
     let Ok(look) = pair.look(alloc, plant, OPERATOR, dev) else {
         return Err(NoMemory);
     };
     sized(&look);
-    judge(alloc, look)
+    Ok(look)
+}
+
+/// Looks at both copies. Nothing is written, and none is lost by a call.
+pub(crate) fn look_at_both<P: Plant, C: Steady + Drop>(
+    alloc: Global,
+    plant: &mut P,
+    pair: &mut Pair<C>,
+) -> Result<(Look, Look), NoMemory>
+    requires alive1 { pair.old.first.alive ≡ true }
+    requires alive2 { pair.old.second.alive ≡ true }
+    ensures acted { PairActed 0 true pair.new.first.alive true pair.new.second.alive false (P.view plant.old) (P.view plant.new) }
+    ensures gone1 { P.tells → IsGone Ckpt1 true pair.new.first.alive (P.view plant.new) }
+    ensures gone2 { P.tells → IsGone Ckpt2 true pair.new.second.alive (P.view plant.new) }
+    ensures during { P.tells → BothMeanwhile (NoMore (disk_now (P.view plant.old) Ckpt1)) (NoMore (disk_now (P.view plant.old) Ckpt2)) (P.view plant.old) (P.view plant.new) }
+    ensures first { IfOk result (λ both. WasLooked C.count C.room C.room_most C.ready C.reads C.rests P.tells Ckpt1 (P.view plant.new) pair.new.first.copy pair.new.first.alive pair.new.first.found both.0) }
+    ensures second { IfOk result (λ both. WasLooked C.count C.room C.room_most C.ready C.reads C.rests P.tells Ckpt2 (P.view plant.new) pair.new.second.copy pair.new.second.alive pair.new.second.found both.1) }
+{
+    let first = look_at(alloc, plant, pair, Dev::Ckpt1)?;
+    let second = look_at(alloc, plant, pair, Dev::Ckpt2)?;
+    Ok((first, second))
 }
 
 /// Looks at both copies, and judges each.
@@ -69,7 +88,8 @@ pub(crate) fn judge_both<P: Plant, C: Steady + Drop>(
     ensures few1 { IfOk result (λ both. HasFew both.0) }
     ensures few2 { IfOk result (λ both. HasFew both.1) }
 {
-    let first = judge_copy(alloc, plant, pair, Dev::Ckpt1)?;
-    let second = judge_copy(alloc, plant, pair, Dev::Ckpt2)?;
-    Ok((first, second))
+    let (first, second) = look_at_both(alloc, plant, pair)?;
+    let first_judged = judge(alloc, first)?;
+    let second_judged = judge(alloc, second)?;
+    Ok((first_judged, second_judged))
 }

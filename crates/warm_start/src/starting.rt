@@ -17,8 +17,9 @@ ghost use Rattle.mas_complex.specs.Locking.{book_of};
 ghost use Rattle.mas_complex.specs.Headline.{LeavesQueue};
 ghost use Rattle.mas_complex.specs.Meaning.{no_deck, no_print};
 ghost use Rattle.warm_start.specs.Levels.{levels_of as levels_given};
-ghost use Rattle.warm_start.specs.Choosing.{goes as goes_lem};
+ghost use Rattle.warm_start.specs.Choosing.{IsFew, goes as goes_lem};
 ghost use Rattle.warm_start.specs.Judging.{Has};
+ghost use Rattle.warm_start.specs.Inspecting.{FindsNone};
 ghost use Rattle.warm_start.specs.Starting.{Chosen, Fitting, MayLose, Starts, IsHeld, IsCauseOf, IsSmallAt, OnlyLooked, HasStarted, HeldBack};
 
 use crate::choosing::{Good, Start, StartNo, choose, is_to_go};
@@ -73,13 +74,39 @@ fn refuse_if_small<P: Plant>(plant: &P, dev: Dev, needed: u64) -> Result<(), Sta
     }
 }
 
-// Refuses the first device that is too small.
-fn refuse_small<P: Plant>(plant: &P, needed: u64) -> Result<(), StartNo>
+/// Refuses the first device that is too small.
+pub(crate) fn refuse_small<P: Plant>(plant: &P, needed: u64) -> Result<(), StartNo>
     ensures small { IfErr result (IsSmallAt needed (P.view plant.now)) }
     ensures large { OnOk result ((needed ≤ (P.view plant.now).size Ckpt1) × (needed ≤ (P.view plant.now).size Ckpt2)) }
 {
     refuse_if_small(plant, Dev::Ckpt1, needed)?;
     refuse_if_small(plant, Dev::Ckpt2, needed)
+}
+
+/// Which copy counts, and whether the other one stays. Nothing is written.
+pub(crate) fn choose_copy<P: Plant, C: Steady + Drop>(
+    alloc: Global,
+    plant: &mut P,
+    pair: &mut Pair<C>,
+) -> Result<Start, StartNo>
+    requires alive1 { pair.old.first.alive ≡ true }
+    requires alive2 { pair.old.second.alive ≡ true }
+    ensures acted { PairActed 0 true pair.new.first.alive true pair.new.second.alive false (P.view plant.old) (P.view plant.new) }
+    ensures gone1 { P.tells → IsGone Ckpt1 true pair.new.first.alive (P.view plant.new) }
+    ensures gone2 { P.tells → IsGone Ckpt2 true pair.new.second.alive (P.view plant.new) }
+    ensures during { P.tells → OnlyLooked (P.view plant.old) (P.view plant.new) }
+    ensures starts { OnOk result (Starts pair.new.first.alive pair.new.second.alive (P.view plant.old) (P.view plant.new)) }
+    ensures cause { IfErr result (IsCauseOf C.reads P.tells C.needs (P.view plant.old) (P.view plant.new) pair.new.first.alive pair.new.second.alive) }
+    ensures none { IfErr result (FindsNone C.reads P.tells C.needs (P.view plant.old) (P.view plant.new)) }
+    ensures few { IfOk result (λ start. IsFew start.found) }
+    ensures chosen { IfOk result (Chosen C.count C.room C.room_most C.ready C.reads C.rests P.tells (P.view plant.old) (P.view plant.new) pair.new.first.copy pair.new.second.copy pair.new.first.alive pair.new.second.alive pair.new.first.found pair.new.second.found) }
+{
+    let Ok((first, second)) = judge_both(alloc, plant, pair) else {
+        return Err(StartNo::NoMemory);
+    };
+    let first_room = pair.first.copy.room();
+    let second_room = pair.second.copy.room();
+    choose(first, first_room, second, second_room)
 }
 
 // Which copy counts, and the memory that the start takes. Nothing is written.
@@ -101,12 +128,7 @@ fn find<P: Plant, C: Steady + Drop>(
     ensures base { IfOk result (λ ready. ready.base ≡ queue_of_lem ready.start.found.tables no_deck no_print) }
     ensures chosen { IfOk result (λ ready. Chosen C.count C.room C.room_most C.ready C.reads C.rests P.tells (P.view plant.old) (P.view plant.new) pair.new.first.copy pair.new.second.copy pair.new.first.alive pair.new.second.alive pair.new.first.found pair.new.second.found ready.start) }
 {
-    let Ok((first, second)) = judge_both(alloc, plant, pair) else {
-        return Err(StartNo::NoMemory);
-    };
-    let first_room = pair.first.copy.room();
-    let second_room = pair.second.copy.room();
-    let start = choose(first, first_room, second, second_room)?;
+    let start = choose_copy(alloc, plant, pair)?;
     refuse_small(plant, C::size_for(start.found.pages.len() as u16))?;
     let Ok(levels) = levels_of(alloc, start.found.pages.as_slice()) else {
         return Err(StartNo::NoMemory);
