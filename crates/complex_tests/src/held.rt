@@ -31,6 +31,7 @@ fn whole(
     pages: &[Page],
 ) -> Result<Option<(u16, u8, MemberId)>, Fail>
     requires none { complex.old.current ≡ None }
+    requires unreserved { complex.old.reserved ≡ None }
     requires first { complex.old.first ≡ AtBefore }
     requires second { complex.old.second ≡ AtBefore }
     requires level { complex.old.level < top }
@@ -51,6 +52,9 @@ fn whole(
     let mut page = Page([0; 4096]);
     complex.read_page(FIRST, 0, &mut page)?;
     spend(complex, FIRST, 4);
+    if !may_act(complex, FIRST) {
+        return Ok(None);
+    }
     let left = complex.hold_left(FIRST);
     let Ok(()) = complex.free(FIRST, false) else {
         return Ok(None);

@@ -1,8 +1,8 @@
 // What a recovery makes of a batch whose member is stopped at an act.
-ghost use Rattle.std.specs.Prelude.{◌≡◌, ◌≢◌, ◌<◌, length, true, None, Some};
+ghost use Rattle.std.specs.Prelude.{◌≡◌, ◌<◌, length, true, None};
 ghost use Rattle.spool_disk.specs.Acts.{top};
 ghost use Rattle.mas_complex.specs.declared.places.Place.TheVariants.{Before as AtBefore};
-ghost use Rattle.mas_types.specs.declared.journals.Batch.{Batch as BatchOf};
+ghost use Rattle.mas_complex.specs.Locking.{IsOfOther};
 
 use crate::quiet::Quiet;
 use crate::shared::{FIRST, SECOND, batch, halting, may_act, pages};
@@ -30,7 +30,7 @@ const WRITTEN: u64 = 42;
 
 // The batch in flight is of another member, or there is none.
 fn is_of_other(current: &Option<Batch>, by: MemberId) -> bool
-    ensures { result ≡ true → (batch : BatchOf) → current.now ≡ Some batch → batch.by ≢ by }
+    ensures { result ≡ true → IsOfOther current.now by }
 {
     match current {
         Some(batch) => batch.by != by,
@@ -82,6 +82,7 @@ fn recovered_on(
     lost: Option<Dev>,
 ) -> Result<Option<(u64, u64)>, Fail>
     requires none { complex.old.current ≡ None }
+    requires unreserved { complex.old.reserved ≡ None }
     requires first { complex.old.first ≡ AtBefore }
     requires second { complex.old.second ≡ AtBefore }
     requires level { complex.old.level < top }

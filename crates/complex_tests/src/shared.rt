@@ -1,6 +1,7 @@
 // A shared value over two copies of six pages, and a batch of one command that is written to them.
-ghost use Rattle.std.specs.Prelude.{◌≡◌, length, IfOk, true, false, All};
-ghost use Rattle.lock_cycle.specs.Books.{IsMember, is_stopped};
+ghost use Rattle.std.specs.Prelude.{◌≡◌, length, IfOk, true, All};
+ghost use Rattle.lock_cycle.specs.Books.{IsMember};
+ghost use Rattle.mas_complex.specs.Locking.{MayAct};
 
 use crate::quiet::Quiet;
 use ckpt_copy::AreaCopy;
@@ -59,8 +60,7 @@ pub(crate) fn batch(alloc: Global, by: MemberId) -> Result<List<Entry>, NoMemory
 // Whether the member holds and isn't stopped.
 pub(crate) fn may_act(complex: &Complex<Quiet, AreaCopy>, by: MemberId) -> bool
     requires { IsMember complex.now.book by }
-    ensures holds { result ≡ true → complex.now.book.holder ≡ by }
-    ensures up { result ≡ true → is_stopped complex.now.book by ≡ false }
+    ensures { result ≡ true → MayAct complex.now.book by }
 {
     complex.holder() == by && !complex.stopped(by)
 }

@@ -1,11 +1,11 @@
 // A batch that is written to both copies.
-ghost use Rattle.std.specs.Prelude.{◌≡◌, ◌+◌, ◌≤◌, ◌<◌, length, IfOk, IfSome, OnOk, true, false, None, IsSome};
+ghost use Rattle.std.specs.Prelude.{◌≡◌, ◌+◌, ◌≤◌, ◌<◌, length, IfOk, IfSome, OnOk, true, false, None, IsSome, All};
 ghost use Rattle.mas_types.specs.declared.ids.Dev.TheVariants.{Ckpt1, Ckpt2};
 ghost use Rattle.spool_disk.specs.Acts.{top};
 ghost use Rattle.ckpt_copy.specs.Areas.{areas_size};
 ghost use Rattle.mas_complex.specs.declared.places.Place.TheVariants.{Before as AtBefore, Put as AtPut};
 ghost use Rattle.mas_complex.specs.Journals.{entries_reserved};
-ghost use Rattle.lock_cycle.specs.Books.{is_stopped};
+ghost use Rattle.mas_complex.specs.Locking.{MayAct, IsOwn};
 
 use crate::quiet::Quiet;
 use crate::shared::OPERATOR;
@@ -26,6 +26,7 @@ pub(crate) fn formed(
     requires size1 { areas_size 6 ≤ (⟦<Quiet as Plant>⟧.view plant).size Ckpt1 }
     requires size2 { areas_size 6 ≤ (⟦<Quiet as Plant>⟧.view plant).size Ckpt2 }
     ensures none { IfOk result (λ some. IfSome some (λ c. c.current ≡ None)) }
+    ensures unreserved { IfOk result (λ some. IfSome some (λ c. c.reserved ≡ None)) }
     ensures first { IfOk result (λ some. IfSome some (λ c. c.first ≡ AtBefore)) }
     ensures second { IfOk result (λ some. IfSome some (λ c. c.second ≡ AtBefore)) }
     ensures level { IfOk result (λ some. IfSome some (λ c. c.level ≡ 2)) }
@@ -48,8 +49,8 @@ fn log_both(
     by: MemberId,
     pages: &[Page],
 ) -> Result<(), PairNo>
-    requires holds { complex.old.book.holder ≡ by }
-    requires up { is_stopped complex.old.book by ≡ false }
+    requires may { MayAct complex.old.book by }
+    requires own { All (λ e. e.by ≡ by) (entries_reserved complex.old.reserved) }
     requires none { complex.old.current ≡ None }
     requires some { 1 ≤ length (entries_reserved complex.old.reserved) }
     requires reserved { IsSome complex.old.reserved }
@@ -65,6 +66,7 @@ fn log_both(
     ensures alive2 { complex.new.pair.second.alive ≡ true → complex.old.pair.second.alive ≡ true }
     ensures level { complex.new.level ≡ complex.old.level }
     ensures current { IsSome complex.new.current }
+    ensures own { OnOk result (IsOwn complex.new.current by) }
     ensures first { OnOk result (complex.new.first ≡ AtPut) }
     ensures second { OnOk result (complex.new.second ≡ AtPut) }
 {
@@ -74,8 +76,8 @@ fn log_both(
 
 // The gates of both copies are opened, as far as they can be.
 fn open_both(complex: &mut Complex<Quiet, AreaCopy>, by: MemberId) -> Result<(), PairNo>
-    requires holds { complex.old.book.holder ≡ by }
-    requires up { is_stopped complex.old.book by ≡ false }
+    requires may { MayAct complex.old.book by }
+    requires own { IsOwn complex.old.current by }
     requires current { IsSome complex.old.current }
     requires first { complex.old.first ≡ AtPut }
     requires second { complex.old.second ≡ AtPut }
@@ -101,8 +103,8 @@ pub(crate) fn write(
     by: MemberId,
     pages: &[Page],
 ) -> Result<(), PairNo>
-    requires holds { complex.old.book.holder ≡ by }
-    requires up { is_stopped complex.old.book by ≡ false }
+    requires may { MayAct complex.old.book by }
+    requires own { All (λ e. e.by ≡ by) (entries_reserved complex.old.reserved) }
     requires none { complex.old.current ≡ None }
     requires some { 1 ≤ length (entries_reserved complex.old.reserved) }
     requires reserved { IsSome complex.old.reserved }
