@@ -11,3 +11,5 @@ pub mod RefusalLemmas
 pub mod ResetLemmas
 pub mod NodeLemmas
 pub mod WarmLemmas
+pub mod LockLemmas
+pub mod TurnLemmas

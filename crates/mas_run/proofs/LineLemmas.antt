@@ -15,8 +15,6 @@ use Rattle.mas_types.specs.declared.journals.Fate.TheVariants.{Kept}
 use Rattle.mas_types.specs.declared.queues.Queue.{Queue}
 use Rattle.mas_types.specs.Closings.{closing_line, closing_text}
 use Rattle.mas_types.specs.Numerals.{in_digits, value_after, value_of}
-use Rattle.first_script.specs.declared.asked.Asked.{Asked}
-use Rattle.first_script.specs.declared.asked.Asked.TheVariants.{Deck, Lose}
 use Rattle.slot_order.proofs.Cases.{test_cases}
 use Rattle.spool_disk.specs.View.{View, Line}
 use Rattle.mas_complex.specs.Crash.{EachTells, IsUntold, setting}
@@ -27,6 +25,7 @@ use Rattle.mas_run.specs.Between.{AreAllKept}
 use Rattle.mas_complex.specs.Meaning.{step, Closes}
 use Rattle.mas_types.specs.declared.answers.Closing.TheVariants as closing
 use Rattle.mas_run.specs.Decks.{sysa, entries_of, last_reply, deck_entries}
+use Rattle.mas_run.specs.Turns.{Turn, Granted, Denied, Loss, closing_of}
 use Rattle.mas_run.specs.Steps.{after_step, output_from}
 use Rattle.mas_run.specs.Told.{console_now}
 
@@ -119,15 +118,17 @@ untold_line Q cs a k x m s less small closes = test_cases (has_step m s (entries
     (λ none. none)
 
 -- nor do all the lines of earlier steps
-each_untold : (Q : Queue) (cs : List Command) (k : ℕ) → k < 2 ^ 64 → (R : Queue) (at : ℕ) (steps : List Asked) → at + length steps ≤ k
+each_untold : (Q : Queue) (cs : List Command) (k : ℕ) → k < 2 ^ 64 → (R : Queue) (at : ℕ) (steps : List Turn) → at + length steps ≤ k
     → EachTells Closes (map whole (output_from R at steps)) (λ m s. has_step m s (entries_of Q sysa k cs) ≡ false)
 each_untold Q cs k small R at [] le = tt
-each_untold Q cs k small R at (Lose dev ∷ steps) le = each_untold Q cs k small (after_step R at (Lose dev)) (at + 1) steps (omega arith)
-each_untold Q cs k small R at (Deck fields ∷ steps) le =
-    ((λ is m s closes. untold_line Q cs at k (closing.Reply (last_reply (deck_entries R sysa at fields))) m s (omega arith) small closes), each_untold Q cs k small (after_step R at (Deck fields)) (at + 1) steps (omega arith))
+each_untold Q cs k small R at (Denied why ∷ steps) le =
+    ((λ is m s closes. untold_line Q cs at k (closing_of why) m s (omega arith) small closes), each_untold Q cs k small (after_step R at (Denied why)) (at + 1) steps (omega arith))
+each_untold Q cs k small R at (Loss dev ∷ steps) le = each_untold Q cs k small (after_step R at (Loss dev)) (at + 1) steps (omega arith)
+each_untold Q cs k small R at (Granted fields ∷ steps) le =
+    ((λ is m s closes. untold_line Q cs at k (closing.Reply (last_reply (deck_entries R sysa at fields))) m s (omega arith) small closes), each_untold Q cs k small (after_step R at (Granted fields)) (at + 1) steps (omega arith))
 
 -- A step is untold where the console has the lines of earlier ones alone.
-pub step_untold : (reads : List ℕ → Option (List ℕ)) (base Q R : Queue) (cs : List Command) (since at k : ℕ) (steps : List Asked) (v : View) (was : List Line) → k < 2 ^ 64 → at + length steps ≤ k
+pub step_untold : (reads : List ℕ → Option (List ℕ)) (base Q R : Queue) (cs : List Command) (since at k : ℕ) (steps : List Turn) (v : View) (was : List Line) → k < 2 ^ 64 → at + length steps ≤ k
     → (v.world since).console ≡ was → console_now v ≡ was ++ map whole (output_from R at steps) → IsUntold (setting reads base since) v (entries_of Q sysa k cs)
 step_untold reads base Q R cs since at k steps v was small le first now =
     let added : drop (length (v.world since).console) (v.world v.now).console ≡ map whole (output_from R at steps) =
@@ -144,7 +145,7 @@ untold_by reads base base' since since' v v' es es' one two three four untold =
     (subst (λ (l : List Entry). IsUntold (setting reads base since) v l) (sym four) untold)))
 
 -- a step is kept where all batches are
-all_step_kept : (batches : List Batch) (t : ℕ) (m : MemberId) (s : ℕ) → AreAllKept batches t → StepIsKept batches t m s
+pub all_step_kept : (batches : List Batch) (t : ℕ) (m : MemberId) (s : ℕ) → AreAllKept batches t → StepIsKept batches t m s
 all_step_kept [] t m s all = tt
 all_step_kept (b ∷ batches) t m s all =
     let here : (b.fate ≡ Kept) × (b.last ≤ t) = All-head (λ (b : Batch). (b.fate ≡ Kept) × (b.last ≤ t)) b batches all in

@@ -1,5 +1,5 @@
 -- Steps that are played one after another.
-use Rattle.std.proofs.Common.{◌≡◌, ◌⊎◌, inl, inr, ⊎_elim, ℕ, zero, suc, ◌+◌, ◌≤◌, ◌<◌, Bool, false, List, [], ◌∷◌, ◌++◌, length, map, take, drop, get_or, All, if◌then◌else◌, Option, ◌^◌, Result, Ok, Err, refl, sym, ◌∙◌, ap, subst, arith, append_assoc, append-nil}
+use Rattle.std.proofs.Common.{◌≡◌, ◌⊎◌, inl, inr, ⊎_elim, ℕ, zero, suc, ◌+◌, ◌≤◌, ◌<◌, Bool, false, List, [], ◌∷◌, ◌++◌, length, map, take, drop, get_or, All, if◌then◌else◌, Option, Some, None, ◌^◌, Result, Ok, Err, refl, sym, ◌∙◌, ap, subst, arith, append_assoc, append-nil}
 use Rattle.std.proofs.Math.Seq.{drop-cons}
 use Rattle.std.proofs.lemmas.List.{take_more, length-take, append_cancel_left}
 use Rattle.std.proofs.lemmas.List.Elements.{All-nil, All-cons, All-append, All-weaker}
@@ -16,6 +16,9 @@ use Rattle.mas_types.specs.declared.queues.Queue.{Queue}
 use Rattle.mas_types.specs.Journal.{is_kept}
 use Rattle.first_script.specs.declared.asked.Asked.{Asked}
 use Rattle.first_script.specs.declared.asked.Asked.TheVariants.{Deck, Lose}
+use Rattle.lock_cycle.specs.declared.answers.LockNo.{LockNo}
+use Rattle.lock_cycle.specs.Books.{Book, try_refusal}
+use Rattle.mas_run.specs.Turns.{Turn, Granted, Denied, Loss, denied_line, deck_turn, turn_at}
 use Rattle.spool_disk.specs.View.{View, Line}
 use Rattle.spool_disk.specs.Acts.{Loses, next}
 use Rattle.spool_disk.specs.declared.plant.Part.TheVariants.{Disk, Console}
@@ -33,7 +36,7 @@ use Rattle.mas_run.specs.Runs.{IsDeckBatch, AreKept, IsInFlight, IsHistory, HasL
 use Rattle.mas_run.specs.Statuses.{Grows}
 use Rattle.mas_run.specs.Steps.{IfDeck, IfLose, step_lines, after_step, queue_after, output_from, output, loses_after_step, loses_after}
 use Rattle.mas_complex.proofs.Batches.{kept_all_append}
-use Rattle.mas_run.specs.Stops.{Course, IsLeft, IsStep, IsLoss, IsStepOf, HasKept, HasFlying, Leaves, Tells}
+use Rattle.mas_run.specs.Stops.{Course, IsLeft, IsStep, IsDenial, IsLoss, IsStepOf, HasKept, HasFlying, Leaves, Tells}
 use Rattle.mas_run.specs.Told.{torn, console_now}
 use Rattle.mas_run.specs.declared.running.StepNo.{StepNo}
 use Rattle.mas_run.specs.declared.running.StepNo.TheVariants as no_step
@@ -43,21 +46,21 @@ use Rattle.mas_run.proofs.WriteLemmas.{run_append}
 
 -- ONE STEP MORE
 
-module _ (s : Asked) where
-  pub queue_more : (Q : Queue) (at : ℕ) (xs : List Asked) → queue_after Q at (xs ++ s ∷ []) ≡ after_step (queue_after Q at xs) (at + length xs) s
+module _ (s : Turn) where
+  pub queue_more : (Q : Queue) (at : ℕ) (xs : List Turn) → queue_after Q at (xs ++ s ∷ []) ≡ after_step (queue_after Q at xs) (at + length xs) s
   queue_more Q at [] = let e : at + 0 ≡ at = omega arith in ap (λ (n : ℕ). after_step Q n s) (sym e)
   queue_more Q at (x ∷ xs) =
       let e : at + 1 + length xs ≡ at + length (x ∷ xs) = omega arith in
       queue_more (after_step Q at x) (at + 1) xs ∙ ap (λ (n : ℕ). after_step (queue_after (after_step Q at x) (at + 1) xs) n s) e
 
-  pub output_more : (Q : Queue) (at : ℕ) (xs : List Asked) → output_from Q at (xs ++ s ∷ []) ≡ output_from Q at xs ++ step_lines (queue_after Q at xs) (at + length xs) s
+  pub output_more : (Q : Queue) (at : ℕ) (xs : List Turn) → output_from Q at (xs ++ s ∷ []) ≡ output_from Q at xs ++ step_lines (queue_after Q at xs) (at + length xs) s
   output_more Q at [] = let e : at + 0 ≡ at = omega arith in append-nil (step_lines Q at s) ∙ ap (λ (n : ℕ). step_lines Q n s) (sym e)
   output_more Q at (x ∷ xs) =
       let e : at + 1 + length xs ≡ at + length (x ∷ xs) = omega arith in
       ap (λ (l : List (List ℕ)). step_lines Q at x ++ l) (output_more (after_step Q at x) (at + 1) xs ∙ ap (λ (n : ℕ). output_from (after_step Q at x) (at + 1) xs ++ step_lines (queue_after (after_step Q at x) (at + 1) xs) n s) e)
       ∙ sym (append_assoc (step_lines Q at x) (output_from (after_step Q at x) (at + 1) xs) (step_lines (queue_after (after_step Q at x) (at + 1) xs) (at + length (x ∷ xs)) s))
 
-  pub loses_more : (d : Dev) (xs : List Asked) (n : ℕ) → loses_after d (xs ++ s ∷ []) n ≡ loses_after_step d s (loses_after d xs n)
+  pub loses_more : (d : Dev) (xs : List Turn) (n : ℕ) → loses_after d (xs ++ s ∷ []) n ≡ loses_after_step d s (loses_after d xs n)
   loses_more d [] n = refl
   loses_more d (x ∷ xs) n = loses_more d xs (loses_after_step d x n)
 
@@ -66,24 +69,37 @@ module _ (s : Asked) where
 batch_later : (Q : Queue) (at : ℕ) (fields : JobFields) (from now later : ℕ) (b : Batch) → now ≤ later → IsDeckBatch Q at fields from now b → IsDeckBatch Q at fields from later b
 batch_later Q at fields from now later b le is = record { by = is.by; entries = is.entries; began = (is.began.0, omega (arith, is.began.1, le)) }
 
-pub kept_later : (Q : Queue) (at : ℕ) (steps : List Asked) (from now later : ℕ) (bs : List Batch) → now ≤ later → AreKept Q at steps from now bs → AreKept Q at steps from later bs
+pub kept_later : (Q : Queue) (at : ℕ) (steps : List Turn) (from now later : ℕ) (bs : List Batch) → now ≤ later → AreKept Q at steps from now bs → AreKept Q at steps from later bs
 kept_later Q at [] from now later bs le are = are
-kept_later Q at (Lose dev ∷ steps) from now later bs le are = kept_later (after_step Q at (Lose dev)) (at + 1) steps from now later bs le are
-kept_later Q at (Deck fields ∷ steps) from now later [] le are = absurd are
-kept_later Q at (Deck fields ∷ steps) from now later (b ∷ bs) le are = (
+kept_later Q at (Denied why ∷ steps) from now later bs le are = kept_later (after_step Q at (Denied why)) (at + 1) steps from now later bs le are
+kept_later Q at (Loss dev ∷ steps) from now later bs le are = kept_later (after_step Q at (Loss dev)) (at + 1) steps from now later bs le are
+kept_later Q at (Granted fields ∷ steps) from now later [] le are = absurd are
+kept_later Q at (Granted fields ∷ steps) from now later (b ∷ bs) le are = (
   batch_later Q at fields from now later b le are.0,
   are.1,
   are.2,
   omega (arith, are.3, le),
-  kept_later (after_step Q at (Deck fields)) (at + 1) steps b.last now later bs le are.4,
+  kept_later (after_step Q at (Granted fields)) (at + 1) steps b.last now later bs le are.4,
 )
 
-pub kept_with_loss : (Q : Queue) (at : ℕ) (steps : List Asked) (dev : Dev) (from now : ℕ) (bs : List Batch) → AreKept Q at steps from now bs → AreKept Q at (steps ++ Lose dev ∷ []) from now bs
-kept_with_loss Q at [] dev from now bs are = are
-kept_with_loss Q at (Lose d ∷ steps) dev from now bs are = kept_with_loss (after_step Q at (Lose d)) (at + 1) steps dev from now bs are
-kept_with_loss Q at (Deck fields ∷ steps) dev from now [] are = absurd are
-kept_with_loss Q at (Deck fields ∷ steps) dev from now (b ∷ bs) are =
-    (are.0, are.1, are.2, are.3, kept_with_loss (after_step Q at (Deck fields)) (at + 1) steps dev b.last now bs are.4)
+-- a step that adds no batch
+abbrev IsIdle : Turn → Type 0
+IsIdle (Granted fields) = ⊥
+IsIdle (Denied why) = Unit {0}
+IsIdle (Loss dev) = Unit {0}
+
+idle_kept : (x : Turn) (Q : Queue) (at from now : ℕ) (bs : List Batch) → IsIdle x → bs ≡ [] → AreKept Q at (x ∷ []) from now bs
+idle_kept (Granted fields) Q at from now bs idle are = absurd idle
+idle_kept (Denied why) Q at from now bs idle are = are
+idle_kept (Loss dev) Q at from now bs idle are = are
+
+pub kept_with_idle : (x : Turn) (Q : Queue) (at : ℕ) (steps : List Turn) (from now : ℕ) (bs : List Batch) → IsIdle x → AreKept Q at steps from now bs → AreKept Q at (steps ++ x ∷ []) from now bs
+kept_with_idle x Q at [] from now bs idle are = idle_kept x Q at from now bs idle are
+kept_with_idle x Q at (Denied why ∷ steps) from now bs idle are = kept_with_idle x (after_step Q at (Denied why)) (at + 1) steps from now bs idle are
+kept_with_idle x Q at (Loss d ∷ steps) from now bs idle are = kept_with_idle x (after_step Q at (Loss d)) (at + 1) steps from now bs idle are
+kept_with_idle x Q at (Granted fields ∷ steps) from now [] idle are = absurd are
+kept_with_idle x Q at (Granted fields ∷ steps) from now (b ∷ bs) idle are =
+    (are.0, are.1, are.2, are.3, kept_with_idle x (after_step Q at (Granted fields)) (at + 1) steps b.last now bs idle are.4)
 
 -- a batch that began behind these, and is kept
 pub record IsNext (Q : Queue) (at : ℕ) (fields : JobFields) (now later : ℕ) (b : Batch) : Type 0 where
@@ -94,44 +110,50 @@ pub record IsNext (Q : Queue) (at : ℕ) (fields : JobFields) (now later : ℕ) 
   pub ends : b.first ≤ b.last
   pub past : b.last ≤ later
 
-pub kept_with_deck : (Q : Queue) (at : ℕ) (steps : List Asked) (fields : JobFields) (from now later : ℕ) (bs : List Batch) (b : Batch) → from ≤ now → now ≤ later → AreKept Q at steps from now bs
-    → IsNext (queue_after Q at steps) (at + length steps) fields now later b → AreKept Q at (steps ++ Deck fields ∷ []) from later (bs ++ b ∷ [])
+pub kept_with_deck : (Q : Queue) (at : ℕ) (steps : List Turn) (fields : JobFields) (from now later : ℕ) (bs : List Batch) (b : Batch) → from ≤ now → now ≤ later → AreKept Q at steps from now bs
+    → IsNext (queue_after Q at steps) (at + length steps) fields now later b → AreKept Q at (steps ++ Granted fields ∷ []) from later (bs ++ b ∷ [])
 kept_with_deck Q at [] fields from now later bs b first le are is =
     let e : at + 0 ≡ at = omega arith in
     let entries : b.entries ≡ deck_entries Q sysa at fields = is.entries ∙ ap (λ (n : ℕ). deck_entries Q sysa n fields) e in
-    subst (λ (l : List Batch). AreKept Q at (Deck fields ∷ []) from later (l ++ b ∷ [])) (sym are)
+    subst (λ (l : List Batch). AreKept Q at (Granted fields ∷ []) from later (l ++ b ∷ [])) (sym are)
     (record { by = is.by; entries = entries; began = (omega (arith, is.began), omega (arith, is.ends, is.past)) }, is.fate, is.ends, is.past, refl)
-kept_with_deck Q at (Lose d ∷ steps) fields from now later bs b first le are is =
-    let e : at + length (Lose d ∷ steps) ≡ at + 1 + length steps = omega arith in
-    kept_with_deck (after_step Q at (Lose d)) (at + 1) steps fields from now later bs b first le are
-    (subst (λ (n : ℕ). IsNext (queue_after (after_step Q at (Lose d)) (at + 1) steps) n fields now later b) e is)
-kept_with_deck Q at (Deck f ∷ steps) fields from now later [] b first le are is = absurd are
-kept_with_deck Q at (Deck f ∷ steps) fields from now later (a ∷ bs) b first le are is =
-    let e : at + length (Deck f ∷ steps) ≡ at + 1 + length steps = omega arith in (
+kept_with_deck Q at (Denied why ∷ steps) fields from now later bs b first le are is =
+    let e : at + length (Denied why ∷ steps) ≡ at + 1 + length steps = omega arith in
+    kept_with_deck (after_step Q at (Denied why)) (at + 1) steps fields from now later bs b first le are
+    (subst (λ (n : ℕ). IsNext (queue_after (after_step Q at (Denied why)) (at + 1) steps) n fields now later b) e is)
+kept_with_deck Q at (Loss d ∷ steps) fields from now later bs b first le are is =
+    let e : at + length (Loss d ∷ steps) ≡ at + 1 + length steps = omega arith in
+    kept_with_deck (after_step Q at (Loss d)) (at + 1) steps fields from now later bs b first le are
+    (subst (λ (n : ℕ). IsNext (queue_after (after_step Q at (Loss d)) (at + 1) steps) n fields now later b) e is)
+kept_with_deck Q at (Granted f ∷ steps) fields from now later [] b first le are is = absurd are
+kept_with_deck Q at (Granted f ∷ steps) fields from now later (a ∷ bs) b first le are is =
+    let e : at + length (Granted f ∷ steps) ≡ at + 1 + length steps = omega arith in (
       batch_later Q at f from now later a le are.0,
       are.1,
       are.2,
       omega (arith, are.3, le),
-      kept_with_deck (after_step Q at (Deck f)) (at + 1) steps fields a.last now later bs b are.3 le are.4
-          (subst (λ (n : ℕ). IsNext (queue_after (after_step Q at (Deck f)) (at + 1) steps) n fields now later b) e is),
+      kept_with_deck (after_step Q at (Granted f)) (at + 1) steps fields a.last now later bs b are.3 le are.4
+          (subst (λ (n : ℕ). IsNext (queue_after (after_step Q at (Granted f)) (at + 1) steps) n fields now later b) e is),
     )
 
 -- the queue after them
-pub kept_run : (Q : Queue) (at : ℕ) (steps : List Asked) (from now : ℕ) (bs : List Batch) → AreKept Q at steps from now bs → run Q (kept_all bs) ≡ queue_after Q at steps
+pub kept_run : (Q : Queue) (at : ℕ) (steps : List Turn) (from now : ℕ) (bs : List Batch) → AreKept Q at steps from now bs → run Q (kept_all bs) ≡ queue_after Q at steps
 kept_run Q at [] from now bs are = ap (λ (l : List Batch). run Q (kept_all l)) are
-kept_run Q at (Lose d ∷ steps) from now bs are = kept_run (after_step Q at (Lose d)) (at + 1) steps from now bs are
-kept_run Q at (Deck fields ∷ steps) from now [] are = absurd are
-kept_run Q at (Deck fields ∷ steps) from now (b ∷ bs) are =
+kept_run Q at (Denied why ∷ steps) from now bs are = kept_run (after_step Q at (Denied why)) (at + 1) steps from now bs are
+kept_run Q at (Loss d ∷ steps) from now bs are = kept_run (after_step Q at (Loss d)) (at + 1) steps from now bs are
+kept_run Q at (Granted fields ∷ steps) from now [] are = absurd are
+kept_run Q at (Granted fields ∷ steps) from now (b ∷ bs) are =
     ap (λ (f : Fate). run Q ((if is_kept f then b.entries else []) ++ kept_all bs)) are.1
     ∙ ap (λ (es : List Entry). run Q (es ++ kept_all bs)) are.0.entries ∙ run_append Q (deck_entries Q sysa at fields) (kept_all bs)
-    ∙ kept_run (after_step Q at (Deck fields)) (at + 1) steps b.last now bs are.4
+    ∙ kept_run (after_step Q at (Granted fields)) (at + 1) steps b.last now bs are.4
 
-pub all_kept : (Q : Queue) (at : ℕ) (steps : List Asked) (from now : ℕ) (bs : List Batch) → AreKept Q at steps from now bs → AreAllKept bs now
+pub all_kept : (Q : Queue) (at : ℕ) (steps : List Turn) (from now : ℕ) (bs : List Batch) → AreKept Q at steps from now bs → AreAllKept bs now
 all_kept Q at [] from now bs are = subst (λ (l : List Batch). AreAllKept l now) (sym are) (All-nil (λ (b : Batch). (b.fate ≡ Kept) × (b.last ≤ now)))
-all_kept Q at (Lose d ∷ steps) from now bs are = all_kept (after_step Q at (Lose d)) (at + 1) steps from now bs are
-all_kept Q at (Deck fields ∷ steps) from now [] are = absurd are
-all_kept Q at (Deck fields ∷ steps) from now (b ∷ bs) are =
-    All-cons (λ (b : Batch). (b.fate ≡ Kept) × (b.last ≤ now)) b bs (are.1, are.3) (all_kept (after_step Q at (Deck fields)) (at + 1) steps b.last now bs are.4)
+all_kept Q at (Denied why ∷ steps) from now bs are = all_kept (after_step Q at (Denied why)) (at + 1) steps from now bs are
+all_kept Q at (Loss d ∷ steps) from now bs are = all_kept (after_step Q at (Loss d)) (at + 1) steps from now bs are
+all_kept Q at (Granted fields ∷ steps) from now [] are = absurd are
+all_kept Q at (Granted fields ∷ steps) from now (b ∷ bs) are =
+    All-cons (λ (b : Batch). (b.fate ≡ Kept) × (b.last ≤ now)) b bs (are.1, are.3) (all_kept (after_step Q at (Granted fields)) (at + 1) steps b.last now bs are.4)
 
 -- the fate of the last batch
 abbrev last_fate : List Batch → Fate
@@ -154,7 +176,7 @@ no_alive : (a b : Bool) → a ≡ false → b ≡ false → SomeAlive a b → �
 no_alive a b p q some = absurd (let both : SomeAlive false false = subst (λ (x : Bool). SomeAlive x false) p (subst (λ (y : Bool). SomeAlive a y) q some) in cc)
 
 -- a step changes the counts of lost devices as its line says
-loss_counts : (dev d : Dev) (old new : View) → IsCkpt dev → Loses (Disk dev) old new → new.loses d ≡ loses_after_step d (Lose dev) (old.loses d)
+loss_counts : (dev d : Dev) (old new : View) → IsCkpt dev → Loses (Disk dev) old new → new.loses d ≡ loses_after_step d (Loss dev) (old.loses d)
 loss_counts Ckpt1 Ckpt1 old new is loses = loses.counted Ckpt1 refl
 loss_counts Ckpt1 Ckpt2 old new is loses = loses.else_counted Ckpt2 (λ e. absurd (cc))
 loss_counts Ckpt1 (Spool n) old new is loses = loses.else_counted (Spool n) (λ e. absurd (cc))
@@ -168,25 +190,43 @@ loss_lost Ckpt1 old new is loses = inl (omega (arith, loses.counted Ckpt1 refl))
 loss_lost Ckpt2 old new is loses = inr (omega (arith, loses.counted Ckpt2 refl))
 loss_lost (Spool v) old new is loses = absurd is
 
-deck_counts : (d : Dev) (fields : JobFields) (n : ℕ) → loses_after_step d (Deck fields) n ≡ n
+deck_counts : (d : Dev) (fields : JobFields) (n : ℕ) → loses_after_step d (Granted fields) n ≡ n
 deck_counts Ckpt1 fields n = refl
 deck_counts Ckpt2 fields n = refl
 deck_counts (Spool v) fields n = refl
+
+denied_counts : (d : Dev) (why : LockNo) (n : ℕ) → loses_after_step d (Denied why) n ≡ n
+denied_counts Ckpt1 why n = refl
+denied_counts Ckpt2 why n = refl
+denied_counts (Spool v) why n = refl
 
 map_append : (xs ys : List (List ℕ)) → map whole (xs ++ ys) ≡ map whole xs ++ map whole ys
 map_append [] ys = refl
 map_append (x ∷ xs) ys = ap (λ (ls : List Line). whole x ∷ ls) (map_append xs ys)
 
-module _ (told : Type 0) (base : Queue) (asked : List Asked) (i : ℕ) (s : Asked) (lt : i < length asked) (here : s ≡ get_or asked i s) (batches : List Batch) (a0 a a' b0 b b' : Bool) (v0 v v' : View)
+-- what is said of a loss alone
+abbrev IfLoss : Turn → (Dev → Type 0) → Type 0
+IfLoss (Granted fields) P = Unit {0}
+IfLoss (Denied why) P = Unit {0}
+IfLoss (Loss dev) P = P dev
+
+pub loss_of : (b : Book) (s : Asked) (P : Dev → Type 0) → IfLose s P → IfLoss (turn_at b s) P
+loss_of b (Deck fields) P is = of_try (try_refusal b sysa false) where
+  of_try : (why : Option LockNo) → IfLoss (deck_turn why fields) P
+  of_try None = tt
+  of_try (Some why) = tt
+loss_of b (Lose dev) P is = is
+
+module _ (told : Type 0) (base : Queue) (asked : List Turn) (i : ℕ) (s : Turn) (lt : i < length asked) (here : s ≡ get_or asked i s) (batches : List Batch) (a0 a a' b0 b b' : Bool) (v0 v v' : View)
     (played : HavePlayed told base asked i batches a0 a b0 b v0 v) where
-  abbrev front : List Asked
+  abbrev front : List Turn
   front = take i asked
 
   abbrev Q : Queue
   Q = run base (kept_all batches)
 
   more : take (i + 1) asked ≡ take i asked ++ s ∷ []
-  more = take_more asked i s lt ∙ ap (λ (x : Asked). take i asked ++ x ∷ []) (sym here)
+  more = take_more asked i s lt ∙ ap (λ (x : Turn). take i asked ++ x ∷ []) (sym here)
 
   long : length (take i asked) ≡ i
   long = omega (arith, length-take i asked)
@@ -209,7 +249,7 @@ module _ (told : Type 0) (base : Queue) (asked : List Asked) (i : ℕ) (s : Aske
 
   loses_now : ((d : Dev) → v'.loses d ≡ loses_after_step d s (v.loses d)) → (d : Dev) → v'.loses d ≡ loses_after d (take (i + 1) asked) (v0.loses d)
   loses_now step d =
-      step d ∙ ap (loses_after_step d s) (played.loses d) ∙ sym (loses_more s d (take i asked) (v0.loses d)) ∙ ap (λ (xs : List Asked). loses_after d xs (v0.loses d)) (sym more)
+      step d ∙ ap (loses_after_step d s) (played.loses d) ∙ sym (loses_more s d (take i asked) (v0.loses d)) ∙ ap (λ (xs : List Turn). loses_after d xs (v0.loses d)) (sym more)
 
   elsewhere_now : Course a a' b b' v v' → (told → IsOnlyOn v v') → told → IsOnlyOn v0 v'
   elsewhere_now course step t = only_on v0 v v' played.course.goes.later course.goes (played.elsewhere t) (step t)
@@ -219,22 +259,22 @@ module _ (told : Type 0) (base : Queue) (asked : List Asked) (i : ℕ) (s : Aske
 
   -- A LOSS
 
-  module _ (dev : Dev) (is : s ≡ Lose dev) (ckpt : IsCkpt dev) where
+  module _ (dev : Dev) (is : s ≡ Loss dev) (ckpt : IsCkpt dev) where
     pub played_loss : {T : Type 0} (result : Result T StepNo) (bs : List Batch) → IsLoss told dev batches bs a a' b b' v v' result → HavePlayed told base asked (i + 1) bs a0 a' b0 b' v0 v'
     played_loss result bs step = record {
       course = course_now step.course;
       left = inr (has_lost_later v0 v v' played.course.grow (loss_lost dev v v' ckpt step.loses));
       kept = subst (λ (l : List Batch). AreKept base 1 (take (i + 1) asked) v0.now v'.now l) (sym step.same)
-          (subst (λ (xs : List Asked). AreKept base 1 xs v0.now v'.now batches) (sym (more ∙ ap (λ (x : Asked). take i asked ++ x ∷ []) is))
-          (kept_with_loss base 1 (take i asked) dev v0.now v'.now batches (kept_later base 1 (take i asked) v0.now v.now v'.now batches step.course.goes.later played.kept)));
-      loses = loses_now (λ d. loss_counts dev d v v' ckpt step.loses ∙ ap (λ (x : Asked). loses_after_step d x (v.loses d)) (sym is));
+          (subst (λ (xs : List Turn). AreKept base 1 xs v0.now v'.now batches) (sym (more ∙ ap (λ (x : Turn). take i asked ++ x ∷ []) is))
+          (kept_with_idle (Loss dev) base 1 (take i asked) v0.now v'.now batches tt (kept_later base 1 (take i asked) v0.now v.now v'.now batches step.course.goes.later played.kept)));
+      loses = loses_now (λ d. loss_counts dev d v v' ckpt step.loses ∙ ap (λ (x : Turn). loses_after_step d x (v.loses d)) (sym is));
       elsewhere = elsewhere_now step.course step.elsewhere;
-      said = λ t. said_more [] (ap (λ (x : Asked). step_lines (run base (kept_all batches)) (1 + i) x) (sym is)) (played.said t) (step.console t ∙ sym (append-nil (console_now v)));
+      said = λ t. said_more [] (ap (λ (x : Turn). step_lines (run base (kept_all batches)) (1 + i) x) (sym is)) (played.said t) (step.console t ∙ sym (append-nil (console_now v)));
     }
 
   -- A DECK
 
-  module _ (fields : JobFields) (is : s ≡ Deck fields) where
+  module _ (fields : JobFields) (is : s ≡ Granted fields) where
     abbrev batch : Batch
     batch = begun v.now sysa (deck_entries (run base (kept_all batches)) sysa (1 + i) fields)
 
@@ -247,15 +287,15 @@ module _ (told : Type 0) (base : Queue) (asked : List Asked) (i : ℕ) (s : Aske
     kept_deck : (bs : List Batch) → HasKept batches bs (begun v.now sysa (deck_entries (run base (kept_all batches)) sysa (1 + i) fields)) v'.now → v.now ≤ v'.now → AreKept base 1 (take (i + 1) asked) v0.now v'.now bs
     kept_deck bs k le =
         subst (λ (l : List Batch). AreKept base 1 (take (i + 1) asked) v0.now v'.now l) (sym k.3)
-        (subst (λ (xs : List Asked). AreKept base 1 xs v0.now v'.now (batches ++ fated Kept k.0 (begun v.now sysa (deck_entries (run base (kept_all batches)) sysa (1 + i) fields)) ∷ [])) (sym (more ∙ ap (λ (x : Asked). take i asked ++ x ∷ []) is))
+        (subst (λ (xs : List Turn). AreKept base 1 xs v0.now v'.now (batches ++ fated Kept k.0 (begun v.now sysa (deck_entries (run base (kept_all batches)) sysa (1 + i) fields)) ∷ [])) (sym (more ∙ ap (λ (x : Turn). take i asked ++ x ∷ []) is))
         (kept_with_deck base 1 (take i asked) fields v0.now v.now v'.now batches (fated Kept k.0 (begun v.now sysa (deck_entries (run base (kept_all batches)) sysa (1 + i) fields))) played.course.goes.later le played.kept
         (record { by = refl; entries = entries_are; began = omega arith; fate = refl; ends = k.1; past = k.2 })))
 
     deck_grow : {T : Type 0} (result : Result T StepNo) (bs : List Batch) → IsStep told sysa.0 line batch batches bs a a' b b' v v' result → (d : Dev) → v'.loses d ≡ loses_after_step d s (v.loses d)
-    deck_grow result bs step d = step.loses d ∙ sym (deck_counts d fields (v.loses d)) ∙ ap (λ (x : Asked). loses_after_step d x (v.loses d)) (sym is)
+    deck_grow result bs step d = step.loses d ∙ sym (deck_counts d fields (v.loses d)) ∙ ap (λ (x : Turn). loses_after_step d x (v.loses d)) (sym is)
 
     lines_are : line ∷ [] ≡ step_lines (run base (kept_all batches)) (1 + i) s
-    lines_are = ap (λ (x : Asked). step_lines (run base (kept_all batches)) (1 + i) x) (sym is)
+    lines_are = ap (λ (x : Turn). step_lines (run base (kept_all batches)) (1 + i) x) (sym is)
 
     pub played_deck : {T : Type 0} (done : T) (bs : List Batch) → IsStep told sysa.0 line batch batches bs a a' b b' v v' (Ok done) → HavePlayed told base asked (i + 1) bs a0 a' b0 b' v0 v'
     played_deck done bs step = record {
@@ -301,8 +341,8 @@ module _ (told : Type 0) (base : Queue) (asked : List Asked) (i : ℕ) (s : Aske
       rest = inr (
         begun v.now sysa (deck_entries (run base (kept_all batches)) sysa (1 + i) fields),
         flying,
-        subst (λ (xs : List Asked). IsInFlight (queue_after base 1 (take i asked)) (1 + i) xs v0.now v'.now (begun v.now sysa (deck_entries (run base (kept_all batches)) sysa (1 + i) fields)))
-            (sym (drop-cons asked i s lt ∙ ap (λ (x : Asked). x ∷ drop (suc i) asked) (sym here ∙ is)))
+        subst (λ (xs : List Turn). IsInFlight (queue_after base 1 (take i asked)) (1 + i) xs v0.now v'.now (begun v.now sysa (deck_entries (run base (kept_all batches)) sysa (1 + i) fields)))
+            (sym (drop-cons asked i s lt ∙ ap (λ (x : Turn). x ∷ drop (suc i) asked) (sym here ∙ is)))
             (record { by = refl; entries = ap (λ (R : Queue). deck_entries R sysa (1 + i) fields) queue_is; began = (played.course.goes.later, le) }, refl, refl),
       );
     }
@@ -385,25 +425,107 @@ module _ (told : Type 0) (base : Queue) (asked : List Asked) (i : ℕ) (s : Aske
             (step.console t);
       }
 
-  -- THE STEP THAT IS ASKED FOR
+  -- A DECK WHOSE MEMBER DOESN'T GET THE LOCK
 
-  pub played_on : {T : Type 0} (done : T) (bs : List Batch) → IfLose s IsCkpt → IsStepOf told s (run base (kept_all batches)) (1 + i) batches bs a a' b b' v v' (Ok done) → HavePlayed told base asked (i + 1) bs a0 a' b0 b' v0 v'
+  module _ (why : LockNo) (is : s ≡ Denied why) where
+    abbrev said_line : List ℕ
+    said_line = denied_line sysa (1 + i) why
+
+    lines_denied : said_line ∷ [] ≡ step_lines (run base (kept_all batches)) (1 + i) s
+    lines_denied = ap (λ (x : Turn). step_lines (run base (kept_all batches)) (1 + i) x) (sym is)
+
+    kept_denied : (bs : List Batch) → bs ≡ batches → v.now ≤ v'.now → AreKept base 1 (take (i + 1) asked) v0.now v'.now bs
+    kept_denied bs same le =
+        subst (λ (l : List Batch). AreKept base 1 (take (i + 1) asked) v0.now v'.now l) (sym same)
+        (subst (λ (xs : List Turn). AreKept base 1 xs v0.now v'.now batches) (sym (more ∙ ap (λ (x : Turn). take i asked ++ x ∷ []) is))
+        (kept_with_idle (Denied why) base 1 (take i asked) v0.now v'.now batches tt (kept_later base 1 (take i asked) v0.now v.now v'.now batches le played.kept)))
+
+    denied_grow : ((d : Dev) → v'.loses d ≡ v.loses d) → (d : Dev) → v'.loses d ≡ loses_after_step d s (v.loses d)
+    denied_grow loses d = loses d ∙ sym (denied_counts d why (v.loses d)) ∙ ap (λ (x : Turn). loses_after_step d x (v.loses d)) (sym is)
+
+    pub played_denied : {T : Type 0} (done : T) (bs : List Batch) → IsDenial told sysa.0 said_line batches bs a a' b b' v v' (Ok done) → HavePlayed told base asked (i + 1) bs a0 a' b0 b' v0 v'
+    played_denied done bs step = record {
+      course = course_now step.course;
+      left = left_then a a' b b' v0 v v' played.left step.cause step.course.grow;
+      kept = kept_denied bs step.same step.course.goes.later;
+      loses = loses_now (denied_grow step.loses);
+      elsewhere = elsewhere_now step.course step.elsewhere;
+      said = λ t. said_more (said_line ∷ []) lines_denied (played.said t) (step.console t);
+    }
+
+    pub denied_unplayed : {T : Type 0} (bs : List Batch) → IsDenial {T = T} told sysa.0 said_line batches bs a a' b b' v v' (Err no_step.NoMemory) → ArePlayed {T = T} told base asked bs a0 a' b0 b' v0 v' (Err no_step.NoMemory)
+    denied_unplayed bs step =
+        let kept : AreKept base 1 (take i asked) v0.now v'.now bs = subst (AreKept base 1 (take i asked) v0.now v'.now) (sym step.same) (kept_later base 1 (take i asked) v0.now v.now v'.now batches step.course.goes.later played.kept) in
+        record {
+          kept = i;
+          closed = i;
+          few = (omega arith, omega arith, omega arith);
+          course = course_now step.course;
+          left = left_then a a' b b' v0 v v' played.left step.cause step.course.grow;
+          history = record { front = bs; are_kept = kept; rest = inl refl };
+          ends = (refl, kept);
+          loses = λ d. step.loses d ∙ played.loses d;
+          elsewhere = elsewhere_now step.course step.elsewhere;
+          said = λ t. inl (step.console t ∙ played.said t);
+        }
+
+    pub denied_unsaid : {T : Type 0} (bs : List Batch) → IsDenial {T = T} told sysa.0 said_line batches bs a a' b b' v v' (Err no_step.Unsaid) → ArePlayed {T = T} told base asked bs a0 a' b0 b' v0 v' (Err no_step.Unsaid)
+    denied_unsaid bs step = record {
+      kept = i + 1;
+      closed = i;
+      few = (omega arith, omega arith, omega arith);
+      course = course_now step.course;
+      left = left_then a a' b b' v0 v v' played.left step.cause.0 step.course.grow;
+      history = record { front = bs; are_kept = kept_denied bs step.same step.course.goes.later; rest = inl refl };
+      ends = (refl, kept_denied bs step.same step.course.goes.later, rose_later (v0.faults Console) (v.faults Console) (v'.faults Console) (played.course.goes.faults Console) step.cause.1);
+      loses = loses_now (denied_grow step.loses);
+      elsewhere = elsewhere_now step.course step.elsewhere;
+      said = λ t. inl (step.console t ∙ played.said t);
+    }
+
+    pub denied_stopped : {T : Type 0} (bs : List Batch) → IsDenial {T = T} told sysa.0 said_line batches bs a a' b b' v v' (Err no_step.Stopped) → ArePlayed {T = T} told base asked bs a0 a' b0 b' v0 v' (Err no_step.Stopped)
+    denied_stopped bs step =
+        let stopped : IsStopped v0 v' = rose_later (v0.stops sysa.0) (v.stops sysa.0) (v'.stops sysa.0) (played.course.goes.stops sysa.0) step.cause.1 in
+        record {
+          kept = i + 1;
+          closed = i;
+          few = (omega arith, omega arith, omega arith);
+          course = course_now step.course;
+          left = left_then a a' b b' v0 v v' played.left step.cause.0 step.course.grow;
+          history = record { front = bs; are_kept = kept_denied bs step.same step.course.goes.later; rest = inl refl };
+          ends = stopped;
+          loses = loses_now (denied_grow step.loses);
+          elsewhere = elsewhere_now step.course step.elsewhere;
+          said = λ t. ⊎_elim (λ none. inl (none ∙ played.said t))
+              (λ more. ⊎_elim (λ all. inr (inl (said_more (said_line ∷ []) lines_denied (played.said t) all.0, stopped)))
+              (λ part. inr (inr (part.0, part.1 ∙ ap (λ (ls : List Line). ls ++ torn part.0 ∷ []) (played.said t), stopped))) more)
+              (step.console t);
+        }
+
+  -- THE STEP AS IT COMES TO BE PLAYED
+
+  pub played_on : {T : Type 0} (done : T) (bs : List Batch) → IfLoss s IsCkpt → IsStepOf told s (run base (kept_all batches)) (1 + i) batches bs a a' b b' v v' (Ok done) → HavePlayed told base asked (i + 1) bs a0 a' b0 b' v0 v'
   played_on {T = T} done bs ckpt step = by_kind s refl ckpt step where
-    by_kind : (x : Asked) → s ≡ x → IfLose x IsCkpt → IsStepOf told x (run base (kept_all batches)) (1 + i) batches bs a a' b b' v v' (Ok done) → HavePlayed told base asked (i + 1) bs a0 a' b0 b' v0 v'
-    by_kind (Deck fields) is ckpt step = played_deck fields is done bs step
-    by_kind (Lose dev) is ckpt step = played_loss dev is ckpt (Ok done) bs step
+    by_kind : (x : Turn) → s ≡ x → IfLoss x IsCkpt → IsStepOf told x (run base (kept_all batches)) (1 + i) batches bs a a' b b' v v' (Ok done) → HavePlayed told base asked (i + 1) bs a0 a' b0 b' v0 v'
+    by_kind (Granted fields) is ckpt step = played_deck fields is done bs step
+    by_kind (Denied why) is ckpt step = played_denied why is done bs step
+    by_kind (Loss dev) is ckpt step = played_loss dev is ckpt (Ok done) bs step
 
   pub played_out : {T : Type 0} (why : StepNo) (bs : List Batch) → IsStepOf {T = T} told s (run base (kept_all batches)) (1 + i) batches bs a a' b b' v v' (Err why) → ArePlayed {T = T} told base asked bs a0 a' b0 b' v0 v' (Err why)
   played_out {T = T} why bs step = by_kind s refl why step where
-    by_kind : (x : Asked) → s ≡ x → (why : StepNo) → IsStepOf {T = T} told x (run base (kept_all batches)) (1 + i) batches bs a a' b b' v v' (Err why) → ArePlayed {T = T} told base asked bs a0 a' b0 b' v0 v' (Err why)
-    by_kind (Deck fields) is no_step.NoMemory step = played_unplayed fields is bs step
-    by_kind (Deck fields) is no_step.Lost step = played_lost fields is bs step
-    by_kind (Deck fields) is no_step.Unsaid step = played_unsaid fields is bs step
-    by_kind (Deck fields) is no_step.Stopped step = played_stopped fields is bs step
-    by_kind (Lose dev) is why step = absurd (step.done why refl)
+    by_kind : (x : Turn) → s ≡ x → (why : StepNo) → IsStepOf {T = T} told x (run base (kept_all batches)) (1 + i) batches bs a a' b b' v v' (Err why) → ArePlayed {T = T} told base asked bs a0 a' b0 b' v0 v' (Err why)
+    by_kind (Granted fields) is no_step.NoMemory step = played_unplayed fields is bs step
+    by_kind (Granted fields) is no_step.Lost step = played_lost fields is bs step
+    by_kind (Granted fields) is no_step.Unsaid step = played_unsaid fields is bs step
+    by_kind (Granted fields) is no_step.Stopped step = played_stopped fields is bs step
+    by_kind (Denied why) is no_step.NoMemory step = denied_unplayed why is bs step
+    by_kind (Denied why) is no_step.Lost step = absurd (step.not_lost refl)
+    by_kind (Denied why) is no_step.Unsaid step = denied_unsaid why is bs step
+    by_kind (Denied why) is no_step.Stopped step = denied_stopped why is bs step
+    by_kind (Loss dev) is why step = absurd (step.done why refl)
 
 -- all steps have been played
-pub played_all : {T : Type 0} (done : T) (told : Type 0) (base : Queue) (asked : List Asked) (n : ℕ) (batches bs : List Batch) (a0 a b0 b : Bool) (v0 v : View) → n ≡ length asked → bs ≡ batches
+pub played_all : {T : Type 0} (done : T) (told : Type 0) (base : Queue) (asked : List Turn) (n : ℕ) (batches bs : List Batch) (a0 a b0 b : Bool) (v0 v : View) → n ≡ length asked → bs ≡ batches
     → HavePlayed told base asked n batches a0 a b0 b v0 v → ArePlayed told base asked bs a0 a b0 b v0 v (Ok done)
 played_all done told base asked n batches bs a0 a b0 b v0 v all same played =
     let kept : AreKept base 1 (take n asked) v0.now v.now bs = subst (AreKept base 1 (take n asked) v0.now v.now) (sym same) played.kept in
@@ -421,7 +543,7 @@ played_all done told base asked n batches bs a0 a b0 b v0 v all same played =
     }
 
 -- no step has been played
-pub played_none : (told : Type 0) (base : Queue) (asked : List Asked) (batches : List Batch) (a b : Bool) (v : View) → batches ≡ [] → SomeAlive a b → HavePlayed told base asked 0 batches a a b b v v
+pub played_none : (told : Type 0) (base : Queue) (asked : List Turn) (batches : List Batch) (a b : Bool) (v : View) → batches ≡ [] → SomeAlive a b → HavePlayed told base asked 0 batches a a b b v v
 played_none told base asked batches a b v none some = record {
   course = course_none a b v;
   left = inl some;
@@ -433,28 +555,19 @@ played_none told base asked batches a b v none some = record {
 
 -- THE STEPS OF A SCRIPT, AS THEY ARE TAKEN
 
-pub at_itself : (asked : List Asked) (i : ℕ) (d : Asked) → i < length asked → get_or asked i d ≡ get_or asked i (get_or asked i d)
-at_itself [] i d lt = absurd (omega arith)
-at_itself (x ∷ asked) zero d lt = refl
-at_itself (x ∷ asked) (suc i) d lt = at_other asked i d (get_or asked i d) (omega arith) where
-  at_other : (xs : List Asked) (k : ℕ) (a b : Asked) → k < length xs → get_or xs k a ≡ get_or xs k b
-  at_other [] k a b lt = absurd (omega arith)
-  at_other (y ∷ xs) zero a b lt = refl
-  at_other (y ∷ xs) (suc k) a b lt = at_other xs k a b (omega arith)
-
 pub may_step : (asked : List Asked) (i : ℕ) (d : Asked) (config0 config : Config) (owners0 owners : List Owner) → config ≡ config0 → owners ≡ owners0
     → All (λ step. IfDeck step (MayEnter config0 owners0 sysa)) asked → i < length asked → IfDeck (get_or asked i d) (MayEnter config owners sysa)
 may_step asked i d config0 config owners0 owners one two all lt =
     subst (λ (c : Config). IfDeck (get_or asked i d) (MayEnter c owners sysa)) (sym one)
     (subst (λ (o : List Owner). IfDeck (get_or asked i d) (MayEnter config0 o sysa)) (sym two) (all i d lt))
 
-pub untold_step : (reads : List ℕ → Option (List ℕ)) (base first : Queue) (since : ℕ) (asked : List Asked) (i k : ℕ) (s : Asked) (Q : Queue) (v0 v : View) → k ≡ 1 + i → k < 2 ^ 64 → i < length asked
+pub untold_step : (reads : List ℕ → Option (List ℕ)) (base first : Queue) (since : ℕ) (asked : List Turn) (i k : ℕ) (s : Asked) (Q : Queue) (v0 v : View) → k ≡ 1 + i → k < 2 ^ 64 → i < length asked
     → (v.world since).console ≡ console_now v0 → console_now v ≡ console_now v0 ++ map whole (output first (take i asked)) → IfDeck s (λ fields. IsUntold (setting reads base since) v (deck_entries Q sysa k fields))
 untold_step reads base first since asked i k (Deck fields) Q v0 v is small lt before now =
     step_untold reads base Q first (deck_commands Q sysa fields) since 1 k (take i asked) v (console_now v0) small (omega (arith, length-take i asked, is)) before now
 untold_step reads base first since asked i k (Lose dev) Q v0 v is small lt before now = tt
 
-pub step_renamed : {T : Type 0} (told : Type 0) (s : Asked) (Q Q' : Queue) (at at' : ℕ) (front bs bs' : List Batch) (a a' b b' : Bool) (v v' : View) (result : Result T StepNo) → Q ≡ Q' → at ≡ at' → bs ≡ bs'
+pub step_renamed : {T : Type 0} (told : Type 0) (s : Turn) (Q Q' : Queue) (at at' : ℕ) (front bs bs' : List Batch) (a a' b b' : Bool) (v v' : View) (result : Result T StepNo) → Q ≡ Q' → at ≡ at' → bs ≡ bs'
     → IsStepOf told s Q at front bs a a' b b' v v' result → IsStepOf told s Q' at' front bs' a a' b b' v v' result
 step_renamed told s Q Q' at at' front bs bs' a a' b b' v v' result one two three step =
     subst (λ (x : Queue). IsStepOf told s x at' front bs' a a' b b' v v' result) one
@@ -477,7 +590,7 @@ tells_behind (Err no_step.Unsaid) text A B was now f t = t
 tells_behind (Err no_step.Stopped) text A B was now f t = ⊎_elim inl (λ more. inr (⊎_elim (λ all. inl (all.0, f all.1)) inr more)) t
 
 -- a step behind such batches
-pub record IsBehind {T : Type 0} (told : Type 0) (s : Asked) (Q : Queue) (at : ℕ) (opening front news : List Batch) (a a' b b' : Bool) (v v' : View) (result : Result T StepNo) : Type 0 where
+pub record IsBehind {T : Type 0} (told : Type 0) (s : Turn) (Q : Queue) (at : ℕ) (opening front news : List Batch) (a a' b b' : Bool) (v v' : View) (result : Result T StepNo) : Type 0 where
   pub more : List Batch
   pub are : news ≡ opening ++ more
   pub step : IsStepOf told s Q at front more a a' b b' v v' result
@@ -493,8 +606,8 @@ module _ {T : Type 0} (told : Type 0) (Q : Queue) (at : ℕ) (opening front news
       (λ k. (front ++ fated Kept k.0 b ∷ [], behind_kept opening front news b v'.now k, inr (k.0, k.1, k.2, refl)))
       l
 
-  pub step_behind : (s : Asked) (result : Result T StepNo) → IsStepOf told s Q at (opening ++ front) news a a' b b' v v' result → IsBehind told s Q at opening front news a a' b b' v v' result
-  step_behind (Deck fields) result step =
+  pub step_behind : (s : Turn) (result : Result T StepNo) → IsStepOf told s Q at (opening ++ front) news a a' b b' v v' result → IsBehind told s Q at opening front news a a' b b' v v' result
+  step_behind (Granted fields) result step =
       let l = leaves_behind result (begun v.now sysa (deck_entries Q sysa at fields)) step.journal in record {
         more = l.0;
         are = l.1;
@@ -508,7 +621,12 @@ module _ {T : Type 0} (told : Type 0) (Q : Queue) (at : ℕ) (opening front news
               (console_now v) (console_now v') (kept_behind opening front l.0 news (begun v.now sysa (deck_entries Q sysa at fields)) v'.now l.1) (step.console t);
         };
       }
-  step_behind (Lose dev) result step = record {
+  step_behind (Denied why) result step = record {
+    more = front;
+    are = step.same;
+    step = record { not_lost = step.not_lost; course = step.course; loses = step.loses; cause = step.cause; same = refl; elsewhere = step.elsewhere; console = step.console };
+  }
+  step_behind (Loss dev) result step = record {
     more = front;
     are = step.same;
     step = record { done = step.done; course = step.course; loses = step.loses; same = refl; elsewhere = step.elsewhere; console = step.console };

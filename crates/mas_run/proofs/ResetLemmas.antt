@@ -1,5 +1,5 @@
 -- Restart as the first batch, by how it ended.
-use Rattle.std.proofs.Common.{◌≡◌, inl, inr, ℕ, ◌++◌, ◌≤◌, Bool, true, false, List, [], ◌∷◌, length, drop, Option, Some, None, Ok, Err, IsErrOf, refl, sym, subst, ◌∙◌, ap, arith}
+use Rattle.std.proofs.Common.{◌≡◌, inl, inr, ℕ, ◌++◌, ◌≤◌, Bool, true, false, List, [], ◌∷◌, length, drop, Option, Some, None, Ok, Err, IsErrOf, All, refl, sym, subst, ◌∙◌, ap, arith}
 use Rattle.mas_types.specs.declared.ids.MemberId.{MemberId}
 use Rattle.mas_types.specs.declared.journals.Batch.{Batch}
 use Rattle.mas_types.specs.declared.journals.Entry.{Entry}
@@ -24,7 +24,7 @@ use Rattle.mas_run.specs.Runs.{HasSteps}
 use Rattle.mas_run.specs.Statuses.{IsCausedFrom, status_of}
 use Rattle.mas_run.proofs.RunLemmas.{reset_alone}
 use Rattle.std.proofs.lemmas.List.Elements.{All-nil, All-cons}
-use Rattle.first_script.specs.declared.asked.Asked.{Asked}
+use Rattle.mas_run.specs.Turns.{Turn}
 use Rattle.mas_types.specs.declared.ids.Dev.TheVariants.{Ckpt1, Ckpt2}
 use Rattle.mas_types.specs.declared.answers.Status.TheVariants as status
 use Rattle.mas_types.specs.declared.journals.Journal.{Journal}
@@ -107,9 +107,13 @@ pub reset_done : {T : Type 0} (done : T) (told : Type 0) (front was : List Batch
 reset_done done told front was place es entries empty one are a a1 c c1 v0 vr same_a same_c same a' c' v1 batches placed current acted apart some is unplaced idle =
     done_at told front was place es entries empty one are a a1 c c1 v0 vr same_a same_c same a' c' v1 batches placed current done acted apart some is unplaced idle
 
+-- the entry of Restart is the operator's
+pub restart_own : All (λ (e : Entry). e.by ≡ nobody) restart_entries
+restart_own = All-cons (λ (e : Entry). e.by ≡ nobody) _ [] refl (All-nil (λ (e : Entry). e.by ≡ nobody))
+
 -- A WARM RUN AFTER RESTART
 
-reset_left : (tells : Type 0) (asked : List Asked) (base : Queue) (journal : Journal) (since : ℕ) (old new : View) (a a' c c' : Bool) → since ≡ old.now → SomeAlive a c → (a ≡ true → old.lost (DiskPart Ckpt1) ≡ false) → (c ≡ true → old.lost (DiskPart Ckpt2) ≡ false)
+reset_left : (tells : Type 0) (asked : List Turn) (base : Queue) (journal : Journal) (since : ℕ) (old new : View) (a a' c c' : Bool) → since ≡ old.now → SomeAlive a c → (a ≡ true → old.lost (DiskPart Ckpt1) ≡ false) → (c ≡ true → old.lost (DiskPart Ckpt2) ≡ false)
     → (tells → ∥ Headline reads base since journal new ∥₁) → {T : Type 0} (why : StepNo) → HasReset {T = T} tells (begun old.now nobody restart_entries) journal.batches a a' c c' old new (Err why)
     → HasSteps false tells asked (status_of {T = T} (Err why)) base journal since old.loses old new
 reset_left tells asked base journal since old new a a' c c' is some there1 there2 head no_step.NoMemory r =
@@ -124,7 +128,7 @@ reset_left tells asked base journal since old new a a' c c' is some there1 there
 reset_left tells asked base journal since old new a a' c c' is some there1 there2 head no_step.Unsaid r = absurd r.ends
 reset_left tells asked base journal since old new a a' c c' is some there1 there2 head no_step.Stopped r = absurd r.ends
 
-pub reset_ended : {T : Type 0} (tells : Type 0) (asked : List Asked) (base : Queue) (journal : Journal) (since : ℕ) (old new : View) (a a' c c' : Bool) (why : StepNo) → since ≡ old.now → SomeAlive a c → (a ≡ true → old.lost (DiskPart Ckpt1) ≡ false) → (c ≡ true → old.lost (DiskPart Ckpt2) ≡ false)
+pub reset_ended : {T : Type 0} (tells : Type 0) (asked : List Turn) (base : Queue) (journal : Journal) (since : ℕ) (old new : View) (a a' c c' : Bool) (why : StepNo) → since ≡ old.now → SomeAlive a c → (a ≡ true → old.lost (DiskPart Ckpt1) ≡ false) → (c ≡ true → old.lost (DiskPart Ckpt2) ≡ false)
     → (tells → ∥ Headline reads base since journal new ∥₁) → HasReset {T = T} tells (begun old.now nobody restart_entries) journal.batches a a' c c' old new (Err why)
     → HasSteps false tells asked (status_of {T = T} (Err why)) base journal since old.loses old new
 reset_ended {T = T} tells asked base journal since old new a a' c c' why is some there1 there2 head r = reset_left tells asked base journal since old new a a' c c' is some there1 there2 head {T = T} why r

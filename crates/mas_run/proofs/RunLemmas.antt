@@ -38,6 +38,7 @@ use Rattle.mas_complex.specs.Headline.{Headline, AreToldKept, whole}
 use Rattle.mas_run.specs.declared.running.StepNo.{StepNo}
 use Rattle.mas_run.specs.declared.running.StepNo.TheVariants as no_step
 use Rattle.mas_run.specs.Decks.{sysa}
+use Rattle.mas_run.specs.Turns.{Turn}
 use Rattle.mas_run.specs.Steps.{IfDeck, IfLose, output, loses_after}
 use Rattle.mas_run.specs.Plays.{Ends, IfNotLost, ArePlayed, HasPlay}
 use Rattle.mas_run.specs.Told.{torn, console_now}
@@ -87,7 +88,7 @@ left_now : (old new : View) (a a' b b' : Bool) → (a ≡ true → old.lost (Dis
 left_now old new a a' b b' there1 there2 course some =
     ⊎_elim (λ alive. inl (left a' b' alive (λ is. course.there1 is (there1 (course.alive1 is))) (λ is. course.there2 is (there2 (course.alive2 is))))) inr some
 
-module _ {T : Type 0} (told : Type 0) (asked : List Asked) (base : Queue) (journal : Journal) (old new : View) (a a' b b' : Bool) where
+module _ {T : Type 0} (told : Type 0) (asked : List Turn) (base : Queue) (journal : Journal) (old new : View) (a a' b b' : Bool) where
   settled : (answer : Result T StepNo) (kept closed : ℕ) (A : Type 0) → status_of answer ≢ status.BothLost → Ends answer kept closed (length asked) A a' b' old new → A ⊎ IsStopped old new
   settled (Ok done) kept closed A ne ends = inl ends.2
   settled (Err no_step.NoMemory) kept closed A ne ends = inl ends.1
@@ -140,7 +141,7 @@ module _ {T : Type 0} (told : Type 0) (asked : List Asked) (base : Queue) (journ
   }
 
 -- what was played, from what its steps leave
-pub play_of_steps : {T : Type 0} (told : Type 0) (asked : List Asked) (base : Queue) (front : List Batch) (journal : Journal) (since : ℕ) (old new : View) (a a' b b' : Bool) → (told → ∥ Headline reads base since journal new ∥₁)
+pub play_of_steps : {T : Type 0} (told : Type 0) (asked : List Turn) (base : Queue) (front : List Batch) (journal : Journal) (since : ℕ) (old new : View) (a a' b b' : Bool) → (told → ∥ Headline reads base since journal new ∥₁)
     → (a ≡ true → old.lost (DiskPart Ckpt1) ≡ false) → (b ≡ true → old.lost (DiskPart Ckpt2) ≡ false) → (answer : Result T StepNo)
     → HasPlay told (run base (kept_all front)) asked front journal.batches a a' b b' old new answer → IsPlay told asked (status_of answer) base front journal since old new
 play_of_steps {T = T} told asked base front journal since old new a a' b b' head there1 there2 answer has =
@@ -173,7 +174,7 @@ pub none_kept : (now : ℕ) → AreAllKept [] now
 none_kept now = All-nil (λ (b : Batch). (b.fate ≡ Kept) × (b.last ≤ now))
 
 -- a cold run begins with its steps
-pub cold_steps : (tells : Type 0) (asked : List Asked) (answer : Status) (base : Queue) (front : List Batch) (journal : Journal) (since : ℕ) (old new : View) → front ≡ [] → since ≡ old.now → Goes old new
+pub cold_steps : (tells : Type 0) (asked : List Turn) (answer : Status) (base : Queue) (front : List Batch) (journal : Journal) (since : ℕ) (old new : View) → front ≡ [] → since ≡ old.now → Goes old new
     → IsPlay tells asked answer base front journal since old new → HasSteps true tells asked answer base journal since old.loses old new
 cold_steps tells asked answer base front journal since old new none is goes p = record {
   opening = front;
@@ -211,7 +212,7 @@ module _ (entry old new : View) (goes : Goes entry old) where
       (λ part. inr (inr (part.0, part.1 ∙ ap (λ (ls : List Line). (ls ++ map whole closed) ++ torn part.0 ∷ []) quiet, stopped_since part.2))) more)
       adds
 
-  pub steps_since : (cold : Bool) (tells : Type 0) (asked : List Asked) (answer : Status) (base : Queue) (journal : Journal) (since : ℕ) (first : Dev → ℕ) → (tells → console_now old ≡ console_now entry)
+  pub steps_since : (cold : Bool) (tells : Type 0) (asked : List Turn) (answer : Status) (base : Queue) (journal : Journal) (since : ℕ) (first : Dev → ℕ) → (tells → console_now old ≡ console_now entry)
       → HasSteps cold tells asked answer base journal since first old new → HasSteps cold tells asked answer base journal since first entry new
   steps_since cold tells asked answer base journal since first quiet r = record {
     opening = r.opening;
@@ -238,7 +239,7 @@ module _ (entry old new : View) (goes : Goes entry old) where
   }
 
   -- what was played after Restart is what is played of a warm run
-  pub warm_steps : (tells : Type 0) (asked : List Asked) (answer : Status) (base : Queue) (b : Batch) (last : ℕ) (front : List Batch) (journal : Journal) (since : ℕ) → front ≡ fated Kept last b ∷ [] → IsRestart since b → b.first ≤ last → last ≤ old.now → since ≤ old.now → Goes old new
+  pub warm_steps : (tells : Type 0) (asked : List Turn) (answer : Status) (base : Queue) (b : Batch) (last : ℕ) (front : List Batch) (journal : Journal) (since : ℕ) → front ≡ fated Kept last b ∷ [] → IsRestart since b → b.first ≤ last → last ≤ old.now → since ≤ old.now → Goes old new
       → ((d : Dev) → old.loses d ≡ entry.loses d) → (tells → console_now old ≡ console_now entry) → IsPlay tells asked answer base front journal since old new → HasSteps false tells asked answer base journal since entry.loses entry new
   warm_steps tells asked answer base b last front journal since are is order past from on same quiet p = record {
     opening = front;
@@ -265,7 +266,7 @@ module _ (entry old new : View) (goes : Goes entry old) where
   }
 
 -- a warm run in which Restart isn't kept plays no step
-pub reset_alone : (tells : Type 0) (asked : List Asked) (answer : Status) (base : Queue) (opening : List Batch) (journal : Journal) (since : ℕ) (old new : View) → journal.batches ≡ opening → since ≡ old.now → Goes old new → IsReset answer since since opening 0 []
+pub reset_alone : (tells : Type 0) (asked : List Turn) (answer : Status) (base : Queue) (opening : List Batch) (journal : Journal) (since : ℕ) (old new : View) → journal.batches ≡ opening → since ≡ old.now → Goes old new → IsReset answer since since opening 0 []
     → (answer ≢ status.Done) → (answer ≢ status.ConsoleFault) → ((d : Dev) → new.loses d ≡ old.loses d) → (tells → console_now new ≡ console_now old) → (tells → ∥ Headline reads base since journal new ∥₁)
     → (answer ≢ status.BothLost → (new.lost (DiskPart Ckpt1) ≡ false) ⊎ (new.lost (DiskPart Ckpt2) ≡ false)) → HasSteps false tells asked answer base journal since old.loses old new
 reset_alone tells asked answer base opening journal since old new are is goes reset not_done not_unsaid same quiet head there = record {

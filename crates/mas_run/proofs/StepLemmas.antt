@@ -17,7 +17,7 @@ use Rattle.mas_complex.specs.Headline.{whole}
 use Rattle.mas_run.specs.Told.{torn, console_now}
 use Rattle.mas_run.specs.Crash.{IsOnlyOn}
 use Rattle.mas_run.specs.declared.running.StepNo.TheVariants as no_step
-use Rattle.mas_run.specs.Stops.{Apart, Course, IsStep, IsLeft, HasKept}
+use Rattle.mas_run.specs.Stops.{Apart, Course, IsStep, IsDenial, IsLeft, HasKept}
 use Rattle.mas_run.proofs.WriteLemmas.{kept_out, flying_out}
 use Rattle.mas_run.proofs.CourseLemmas.{no, course_of, course_none, course_said, only_on, only_none, only_said, rose_later}
 
@@ -130,6 +130,57 @@ module _ (T : Type 0) (told : Type 0) (by : MemberId) (line : List ℕ) (entries
             (λ all. inr (inl (all ∙ ap (λ (ls : List Line). ls ++ whole line ∷ []) same, has_kept Halted act)))
             more)
             said
+
+-- A STEP WHOSE MEMBER DOESN'T GET THE LOCK: nothing is done but its line
+
+module _ (T : Type 0) (told : Type 0) (by : MemberId) (line : List ℕ) (front batches : List Batch) (same : batches ≡ front) (a b : Bool) (v0 : View) where
+  pub denied_unplayed : IsDenial {T = T} told by.0 line front batches a a b b v0 v0 (Err no_step.NoMemory)
+  denied_unplayed = record {
+    not_lost = λ e. absurd (cc);
+    course = course_none a b v0;
+    loses = λ d. refl;
+    cause = inr (refl, refl);
+    same = same;
+    elsewhere = λ t. only_none v0;
+    console = λ t. refl;
+  }
+
+  module _ (v1 : View) (text : List ℕ) (spelled : text ≡ line) where
+    says_it : (said : Act) → (told → Says text v0 v1 said) → told → Says line v0 v1 said
+    says_it said says t = subst (λ (l : List ℕ). Says l v0 v1 said) spelled (says t)
+
+    pub denied_done : (done : T) → Acts by.0 Console v0 v1 Done → (told → Says text v0 v1 Done) → IsDenial told by.0 line front batches a a b b v0 v1 (Ok done)
+    denied_done done act says = record {
+      not_lost = λ e. absurd (cc);
+      course = course_said by.0 a a b b v0 v0 v1 Done (course_none a b v0) act;
+      loses = act.loses;
+      cause = inr (refl, refl);
+      same = same;
+      elsewhere = λ t. only_said by.0 line v0 v1 Done act (says_it Done says t);
+      console = λ t. (says_it Done says t).console;
+    }
+
+    pub denied_unsaid : Acts by.0 Console v0 v1 Failed → (told → Says text v0 v1 Failed) → IsDenial {T = T} told by.0 line front batches a a b b v0 v1 (Err no_step.Unsaid)
+    denied_unsaid act says = record {
+      not_lost = λ e. absurd (cc);
+      course = course_said by.0 a a b b v0 v0 v1 Failed (course_none a b v0) act;
+      loses = act.loses;
+      cause = (inr (refl, refl), act.failed refl);
+      same = same;
+      elsewhere = λ t. only_said by.0 line v0 v1 Failed act (says_it Failed says t);
+      console = λ t. (says_it Failed says t).console;
+    }
+
+    pub denied_broken : Acts by.0 Console v0 v1 Halted → (told → Says text v0 v1 Halted) → IsDenial {T = T} told by.0 line front batches a a b b v0 v1 (Err no_step.Stopped)
+    denied_broken act says = record {
+      not_lost = λ e. absurd (cc);
+      course = course_said by.0 a a b b v0 v0 v1 Halted (course_none a b v0) act;
+      loses = act.loses;
+      cause = (inr (refl, refl), act.halted refl);
+      same = same;
+      elsewhere = λ t. only_said by.0 line v0 v1 Halted act (says_it Halted says t);
+      console = λ t. ⊎_elim inl (λ more. ⊎_elim (λ part. inr (inr part)) (λ all. inr (inl (all, tt))) more) (says_it Halted says t).console;
+    }
 
 -- THE STEP AS IT IS CALLED: the place of its batch was reserved first
 

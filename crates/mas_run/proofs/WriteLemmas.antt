@@ -1,5 +1,6 @@
 -- A batch that is written to both copies.
-use Rattle.std.proofs.Common.{◌≡◌, ℕ, ◌++◌, Bool, false, List, [], ◌∷◌, Option, Some, None, refl, sym, ◌∙◌, ap, subst, append-nil}
+use Rattle.std.proofs.lemmas.List.Elements.{All-nil, All-cons}
+use Rattle.std.proofs.Common.{◌≡◌, ℕ, All, ◌++◌, Bool, false, List, [], ◌∷◌, Option, Some, None, refl, sym, ◌∙◌, ap, subst, append-nil}
 use Rattle.mas_types.specs.declared.journals.Batch.{Batch}
 use Rattle.mas_types.specs.declared.journals.Entry.{Entry}
 use Rattle.mas_types.specs.declared.queues.Queue.{Queue}
@@ -82,3 +83,11 @@ replied_read base base1 Q ks kept es entries one is none are have =
 pub have_replies : (Q : Queue) (by : MemberId) (at : ℕ) (cs : List Command) → HaveReplies Q (entries_of Q by at cs)
 have_replies Q by at [] = tt
 have_replies Q by at (c ∷ cs) = (refl, have_replies (step Q by c).0 by at cs)
+
+-- they are all the member's
+pub all_by : (Q : Queue) (by : MemberId) (at : ℕ) (cs : List Command) → All (λ e. e.by ≡ by) (entries_of Q by at cs)
+all_by Q by at [] = All-nil (λ (e : Entry). e.by ≡ by)
+all_by Q by at (c ∷ cs) = All-cons (λ (e : Entry). e.by ≡ by) (record { by = by; step = at; command = c; reply = (step Q by c).1 }) (entries_of (step Q by c).0 by at cs) refl (all_by (step Q by c).0 by at cs)
+
+pub own_entries : (by holder : MemberId) (es entries : List Entry) → holder ≡ by → es ≡ entries → All (λ e. e.by ≡ by) entries → All (λ e. e.by ≡ holder) es
+own_entries by holder es entries holds are own = subst (λ (l : List Entry). All (λ e. e.by ≡ holder) l) (sym are) (subst (λ (m : MemberId). All (λ (e : Entry). e.by ≡ m) entries) (sym holds) own)

@@ -1,6 +1,8 @@
 pub mod Words
 pub mod Refusals
 pub mod Decks
+pub mod Turns
+pub mod Locked
 pub mod Steps
 pub mod Standing
 pub mod Entering

@@ -3,7 +3,6 @@ use Rattle.std.specs.Prelude.{◌≡◌, ◌⊎◌, ℕ, ◌+◌, ◌≤◌, Boo
 use Rattle.mas_types.specs.declared.ids.Dev.{Dev}
 use Rattle.mas_types.specs.declared.journals.Batch.{Batch}
 use Rattle.mas_types.specs.declared.queues.Queue.{Queue}
-use Rattle.first_script.specs.declared.asked.Asked.{Asked}
 use Rattle.spool_disk.specs.declared.plant.Part.TheVariants.{Console}
 use Rattle.spool_disk.specs.View.{View}
 use Rattle.spool_disk.specs.Acts.{Rose}
@@ -13,12 +12,13 @@ use Rattle.mas_run.specs.declared.running.StepNo.{StepNo}
 use Rattle.mas_run.specs.declared.running.StepNo.TheVariants as no_step
 use Rattle.mas_run.specs.Crash.{IsOnlyOn}
 use Rattle.mas_run.specs.Runs.{AreKept, IsHistory, Adds, IsStopped, HasLost}
+use Rattle.mas_run.specs.Turns.{Turn}
 use Rattle.mas_run.specs.Steps.{output, loses_after}
 use Rattle.mas_run.specs.Stops.{Course}
 use Rattle.mas_run.specs.Told.{console_now}
 
 -- So many steps have been played, from the first on, since the plant showed `old`.
-pub record HavePlayed (told : Type 0) (base : Queue) (asked : List Asked) (played : ℕ) (batches : List Batch) (was1 is1 was2 is2 : Bool) (old new : View) : Type 0 where
+pub record HavePlayed (told : Type 0) (base : Queue) (asked : List Turn) (played : ℕ) (batches : List Batch) (was1 is1 was2 is2 : Bool) (old new : View) : Type 0 where
   pub course : Course was1 is1 was2 is2 old new
   pub left : SomeAlive is1 is2 ⊎ HasLost old new
   pub kept : AreKept base 1 (take played asked) old.now new.now batches
@@ -39,7 +39,7 @@ IfNotLost (Err no_step.Lost) P = Unit {0}
 IfNotLost _ P = P
 
 -- The steps were played up to the end, or to one that ends the run.
-pub record ArePlayed {T : Type 0} (told : Type 0) (base : Queue) (asked : List Asked) (batches : List Batch) (was1 is1 was2 is2 : Bool) (old new : View) (result : Result T StepNo) : Type 0 where
+pub record ArePlayed {T : Type 0} (told : Type 0) (base : Queue) (asked : List Turn) (batches : List Batch) (was1 is1 was2 is2 : Bool) (old new : View) (result : Result T StepNo) : Type 0 where
   pub kept : ℕ
   pub closed : ℕ
   pub few : (closed ≤ kept) × (kept ≤ closed + 1) × (kept ≤ length asked)
@@ -52,13 +52,13 @@ pub record ArePlayed {T : Type 0} (told : Type 0) (base : Queue) (asked : List A
   pub said : told → Adds (output base (take closed asked)) (output base (take kept asked)) (console_now old) (console_now new) (IsStopped old new)
 
 -- They were played over a journal that had these batches, and has so many now.
-pub record HasPlay {T : Type 0} (told : Type 0) (base : Queue) (asked : List Asked) (front batches : List Batch) (was1 is1 was2 is2 : Bool) (old new : View) (result : Result T StepNo) : Type 0 where
+pub record HasPlay {T : Type 0} (told : Type 0) (base : Queue) (asked : List Turn) (front batches : List Batch) (was1 is1 was2 is2 : Bool) (old new : View) (result : Result T StepNo) : Type 0 where
   pub rest : List Batch
   pub batches_are : batches ≡ front ++ rest
   pub played : ArePlayed told base asked rest was1 is1 was2 is2 old new result
 
 -- And so many of them have been played.
-pub record HavePlay (told : Type 0) (base : Queue) (asked : List Asked) (count : ℕ) (front batches : List Batch) (was1 is1 was2 is2 : Bool) (old new : View) : Type 0 where
+pub record HavePlay (told : Type 0) (base : Queue) (asked : List Turn) (count : ℕ) (front batches : List Batch) (was1 is1 was2 is2 : Bool) (old new : View) : Type 0 where
   pub rest : List Batch
   pub batches_are : batches ≡ front ++ rest
   pub played : HavePlayed told base asked count rest was1 is1 was2 is2 old new

@@ -11,7 +11,6 @@ use Rattle.mas_types.specs.declared.answers.Status.TheVariants as status
 use Rattle.mas_types.specs.declared.queues.Queue.{Queue}
 use Rattle.mas_types.specs.Starts.{default_config, empty_queue, no_queue}
 use Rattle.first_script.specs.declared.asked.Asked.{Asked}
-use Rattle.first_script.specs.declared.asked.Asked.TheVariants.{Deck, Lose}
 use Rattle.spool_disk.specs.declared.plant.Part.TheVariants.{Disk}
 use Rattle.spool_disk.specs.View.{View, Line, disk_at, disk_now, Throughout}
 use Rattle.spool_disk.specs.Acts.{Rose, top, next}
@@ -28,6 +27,7 @@ use Rattle.warm_start.specs.Starting.{IsFound, IsUnfit, IsHeld}
 use Rattle.mas_run.specs.Standing.{queue_of}
 use Rattle.mas_complex.specs.Headline.{whole, IsCrashSafe, AreAlwaysAlike, LeavesQueue, AreToldKept}
 use Rattle.mas_run.specs.Decks.{sysa, deck_entries}
+use Rattle.mas_run.specs.Turns.{Turn, Granted, Denied, Loss, turns_of}
 use Rattle.mas_run.specs.Steps.{after_step, queue_after, output, loses_after}
 use Rattle.mas_run.specs.Told.{torn, console_now}
 
@@ -57,23 +57,26 @@ pub record IsDeckBatch (Q : Queue) (at : ℕ) (fields : JobFields) (from now : �
   pub entries : b.entries ≡ deck_entries Q sysa at fields
   pub began : (from ≤ b.first) × (b.first ≤ now)
 
--- The batches of steps, of which the first has this number: each deck has one, and it was kept before the next began.
-abbrev pub AreKept : Queue → ℕ → List Asked → ℕ → ℕ → List Batch → Type 0
+-- The batches of steps, of which the first has this number: each deck whose member gets the lock has one, and it was kept before
+-- the next began.
+abbrev pub AreKept : Queue → ℕ → List Turn → ℕ → ℕ → List Batch → Type 0
 AreKept Q at [] from now batches = batches ≡ []
-AreKept Q at (Lose dev ∷ steps) from now batches = AreKept (after_step Q at (Lose dev)) (at + 1) steps from now batches
-AreKept Q at (Deck fields ∷ steps) from now [] = ⊥
-AreKept Q at (Deck fields ∷ steps) from now (b ∷ batches) =
+AreKept Q at (Denied why ∷ steps) from now batches = AreKept (after_step Q at (Denied why)) (at + 1) steps from now batches
+AreKept Q at (Loss dev ∷ steps) from now batches = AreKept (after_step Q at (Loss dev)) (at + 1) steps from now batches
+AreKept Q at (Granted fields ∷ steps) from now [] = ⊥
+AreKept Q at (Granted fields ∷ steps) from now (b ∷ batches) =
     IsDeckBatch Q at fields from now b × (b.fate ≡ Kept) × (b.first ≤ b.last) × (b.last ≤ now)
-    × AreKept (after_step Q at (Deck fields)) (at + 1) steps b.last now batches
+    × AreKept (after_step Q at (Granted fields)) (at + 1) steps b.last now batches
 
 -- the batch of the next step, which is a deck's, in flight to the end
-abbrev pub IsInFlight : Queue → ℕ → List Asked → ℕ → ℕ → Batch → Type 0
+abbrev pub IsInFlight : Queue → ℕ → List Turn → ℕ → ℕ → Batch → Type 0
 IsInFlight Q at [] from now b = ⊥
-IsInFlight Q at (Lose dev ∷ steps) from now b = ⊥
-IsInFlight Q at (Deck fields ∷ steps) from now b = IsDeckBatch Q at fields from now b × (b.fate ≡ Flying) × (b.last ≡ top)
+IsInFlight Q at (Denied why ∷ steps) from now b = ⊥
+IsInFlight Q at (Loss dev ∷ steps) from now b = ⊥
+IsInFlight Q at (Granted fields ∷ steps) from now b = IsDeckBatch Q at fields from now b × (b.fate ≡ Flying) × (b.last ≡ top)
 
 -- so many steps are kept, from the first on, and behind their batches stands at most the one that is in flight
-pub record IsHistory (base : Queue) (asked : List Asked) (kept : ℕ) (since now : ℕ) (batches : List Batch) : Type 0 where
+pub record IsHistory (base : Queue) (asked : List Turn) (kept : ℕ) (since now : ℕ) (batches : List Batch) : Type 0 where
   pub front : List Batch
   pub are_kept : AreKept base 1 (take kept asked) since now front
   pub rest :
@@ -159,7 +162,7 @@ LosesFirst false was is = (is ≡ was) ⊎ (is ≡ next was)
 
 -- What was played, by a run on a base, whose journal had these batches then, on a plant that showed `old` before and `new`
 -- after it.
-pub record IsPlay (tells : Type 0) (asked : List Asked) (answer : Status) (base : Queue) (front : List Batch) (journal : Journal) (since : ℕ) (old new : View) : Type 0 where
+pub record IsPlay (tells : Type 0) (asked : List Turn) (answer : Status) (base : Queue) (front : List Batch) (journal : Journal) (since : ℕ) (old new : View) : Type 0 where
   pub rest : List Batch
   pub batches : journal.batches ≡ front ++ rest
   pub kept : ℕ
@@ -180,7 +183,7 @@ pub record IsPlay (tells : Type 0) (asked : List Asked) (answer : Status) (base 
 
 -- The steps of a run, cold or warm, from its first moment on. Before them stands its opening, and each device had been lost so
 -- often by a call.
-pub record HasSteps (cold : Bool) (tells : Type 0) (asked : List Asked) (answer : Status) (base : Queue) (journal : Journal) (since : ℕ) (first : Dev → ℕ) (old new : View) : Type 0 where
+pub record HasSteps (cold : Bool) (tells : Type 0) (asked : List Turn) (answer : Status) (base : Queue) (journal : Journal) (since : ℕ) (first : Dev → ℕ) (old new : View) : Type 0 where
   -- its journal is that of its opening and of the steps that are kept, which began at a moment
   pub opening : List Batch
   pub rest : List Batch
@@ -221,5 +224,5 @@ pub record IsRun (cold : Bool) (tells : Type 0) (asked : List Asked) (answer : S
   pub fresh : tells → ∥ LeavesQueue reads base since new ∥₁
   pub quiet : tells → (new.world since).console ≡ console_now old
   pub held : tells → IsKeptUntil cold since old new
-  -- and then its steps were played
-  pub steps : HasSteps cold tells asked answer base journal since first old new
+  -- and then its steps were played, each deck where the book of the lock gives it to the member
+  pub steps : HasSteps cold tells (turns_of base.config asked) answer base journal since first old new

@@ -5,8 +5,6 @@ use Rattle.mas_types.specs.declared.ids.Dev.TheVariants.{Ckpt1, Ckpt2}
 use Rattle.mas_types.specs.declared.journals.Batch.{Batch}
 use Rattle.mas_types.specs.declared.journals.Fate.TheVariants.{Kept}
 use Rattle.mas_types.specs.declared.queues.Queue.{Queue}
-use Rattle.first_script.specs.declared.asked.Asked.{Asked}
-use Rattle.first_script.specs.declared.asked.Asked.TheVariants.{Deck, Lose}
 use Rattle.spool_disk.specs.declared.plant.Part.TheVariants.{Disk, Console}
 use Rattle.spool_disk.specs.View.{View, Line}
 use Rattle.spool_disk.specs.Acts.{Goes, Rose, Loses}
@@ -17,6 +15,7 @@ use Rattle.mas_run.specs.declared.running.StepNo.{StepNo}
 use Rattle.mas_run.specs.declared.running.StepNo.TheVariants as no_step
 use Rattle.mas_run.specs.Crash.{IsOnlyOn}
 use Rattle.mas_run.specs.Decks.{sysa, deck_entries, deck_line}
+use Rattle.mas_run.specs.Turns.{Turn, Granted, Denied, Loss, denied_line}
 use Rattle.mas_run.specs.Statuses.{WasLost, Grows}
 use Rattle.mas_run.specs.Told.{torn, console_now}
 
@@ -83,6 +82,16 @@ pub record IsStep {T : Type 0} (told : Type 0) (by : ℕ) (line : List ℕ) (b :
   pub elsewhere : told → IsOnlyOn old new
   pub console : told → Tells result line (HasKept front batches b new.now) (console_now old) (console_now new)
 
+-- A deck's step whose member doesn't get the lock, and which closes with this line: nothing is added to the journal.
+pub record IsDenial {T : Type 0} (told : Type 0) (by : ℕ) (line : List ℕ) (front batches : List Batch) (was1 is1 was2 is2 : Bool) (old new : View) (result : Result T StepNo) : Type 0 where
+  pub not_lost : result ≡ Err no_step.Lost → ⊥
+  pub course : Course was1 is1 was2 is2 old new
+  pub loses : (d : Dev) → new.loses d ≡ old.loses d
+  pub cause : Causes result by was1 is1 was2 is2 old new
+  pub same : batches ≡ front
+  pub elsewhere : told → IsOnlyOn old new
+  pub console : told → Tells result line (Unit {0}) (console_now old) (console_now new)
+
 -- A step that loses a copy.
 pub record IsLoss {T : Type 0} (told : Type 0) (dev : Dev) (front batches : List Batch) (was1 is1 was2 is2 : Bool) (old new : View) (result : Result T StepNo) : Type 0 where
   pub done : (why : StepNo) → result ≡ Err why → ⊥
@@ -92,8 +101,10 @@ pub record IsLoss {T : Type 0} (told : Type 0) (dev : Dev) (front batches : List
   pub elsewhere : told → IsOnlyOn old new
   pub console : told → console_now new ≡ console_now old
 
--- the step that is asked for, of this number, at a queue
-abbrev pub IsStepOf : {T : Type 0} → Type 0 → Asked → Queue → ℕ → List Batch → List Batch → Bool → Bool → Bool → Bool → View → View → Result T StepNo → Type 0
-IsStepOf told (Deck fields) Q at front batches was1 is1 was2 is2 old new result =
+-- the step of this number, as it comes to be played, at a queue
+abbrev pub IsStepOf : {T : Type 0} → Type 0 → Turn → Queue → ℕ → List Batch → List Batch → Bool → Bool → Bool → Bool → View → View → Result T StepNo → Type 0
+IsStepOf told (Granted fields) Q at front batches was1 is1 was2 is2 old new result =
     IsStep told sysa.0 (deck_line Q sysa at fields) (begun old.now sysa (deck_entries Q sysa at fields)) front batches was1 is1 was2 is2 old new result
-IsStepOf told (Lose dev) Q at front batches was1 is1 was2 is2 old new result = IsLoss told dev front batches was1 is1 was2 is2 old new result
+IsStepOf told (Denied why) Q at front batches was1 is1 was2 is2 old new result =
+    IsDenial told sysa.0 (denied_line sysa at why) front batches was1 is1 was2 is2 old new result
+IsStepOf told (Loss dev) Q at front batches was1 is1 was2 is2 old new result = IsLoss told dev front batches was1 is1 was2 is2 old new result

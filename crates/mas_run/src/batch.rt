@@ -1,5 +1,5 @@
 //! A batch, written to both copies and kept.
-ghost use Rattle.std.specs.Prelude.{◌≡◌, ◌+◌, ◌≤◌, ◌<◌, ◌++◌, ℕ, List, None, Some, Option, length, true, false, OnOk, OnErr, IsErrOf, IsSome};
+ghost use Rattle.std.specs.Prelude.{◌≡◌, ◌+◌, ◌≤◌, ◌<◌, ◌++◌, ℕ, List, None, Some, Option, All, length, true, false, OnOk, OnErr, IsErrOf, IsSome};
 ghost use Rattle.mas_types.specs.declared.ids.Dev.TheVariants.{Ckpt1, Ckpt2};
 ghost use Rattle.mas_types.specs.declared.journals.Batch.{Batch};
 ghost use Rattle.mas_types.specs.declared.journals.Fate.TheVariants.{Kept};
@@ -14,6 +14,7 @@ ghost use Rattle.mas_complex.specs.declared.places.Place.TheVariants.{Before as 
 ghost use Rattle.mas_complex.specs.Crash.{IsUntold, setting};
 ghost use Rattle.mas_complex.specs.Changed.{NamesOnly};
 ghost use Rattle.mas_complex.specs.Replies.{HaveReplies};
+ghost use Rattle.mas_complex.specs.Locking.{MayAct, IsOwn};
 ghost use Rattle.mas_complex.specs.Journals.{begun, entries_reserved, fated, kept_all, with_last};
 ghost use Rattle.mas_complex.specs.Meaning.{StandFor, run};
 ghost use Rattle.mas_run.specs.Stops.{Apart};
@@ -30,6 +31,8 @@ fn log_both<P: Plant + Drop, C: Steady + Drop>(
     pages: &[Page],
     changed: &[u16],
 ) -> Result<(), PairNo>
+    requires may { MayAct complex.old.book by }
+    requires own { All (λ e. e.by ≡ by) (entries_reserved complex.old.reserved) }
     requires none { complex.old.current ≡ None }
     requires reserved { IsSome complex.old.reserved }
     requires some { 1 ≤ length (entries_reserved complex.old.reserved) }
@@ -50,6 +53,8 @@ fn log_both<P: Plant + Drop, C: Steady + Drop>(
     requires untold { P.tells → IsUntold (setting C.reads complex.old.base complex.old.since) (P.view complex.old.plant) (entries_reserved complex.old.reserved) }
     requires queue { P.tells → ∥ StandFor (run complex.old.base (kept_all complex.old.journal.batches ++ entries_reserved complex.old.reserved)) (bytes_of pages.now) ∥₁ }
     ensures base { complex.new.base ≡ complex.old.base }
+    ensures book { complex.new.book ≡ complex.old.book }
+    ensures unreserved { complex.new.reserved ≡ None }
     ensures since { complex.new.since ≡ complex.old.since }
     ensures journal { complex.new.journal ≡ complex.old.journal }
     ensures placed { complex.new.placed ≡ complex.old.placed }
@@ -77,6 +82,8 @@ fn open_both<P: Plant + Drop, C: Steady + Drop>(
     complex: &mut Complex<P, C>,
     by: MemberId,
 ) -> Result<(), PairNo>
+    requires may { MayAct complex.old.book by }
+    requires own { IsOwn complex.old.current by }
     requires current { IsSome complex.old.current }
     requires first { complex.old.pair.first.alive ≡ true → complex.old.first ≡ AtPut }
     requires second { complex.old.pair.second.alive ≡ true → complex.old.second ≡ AtPut }
@@ -84,6 +91,8 @@ fn open_both<P: Plant + Drop, C: Steady + Drop>(
     requires room2 { complex.old.pair.second.alive ≡ true → 1 ≤ C.room complex.old.pair.second.copy }
     requires level { complex.old.level < top }
     ensures base { complex.new.base ≡ complex.old.base }
+    ensures book { complex.new.book ≡ complex.old.book }
+    ensures reserved { complex.new.reserved ≡ complex.old.reserved }
     ensures since { complex.new.since ≡ complex.old.since }
     ensures kept { OnOk result ((b : Batch) → complex.old.current ≡ Some b → complex.new.journal.batches ≡ with_last (fated Kept (P.view complex.new.plant).now b) complex.old.journal.batches) }
     ensures unplaced { OnOk result (complex.new.placed ≡ false) }
@@ -116,6 +125,8 @@ pub(crate) fn commit<P: Plant + Drop, C: Steady + Drop>(
     pages: &[Page],
     changed: &[u16],
 ) -> Result<(), PairNo>
+    requires may { MayAct complex.old.book by }
+    requires own { All (λ e. e.by ≡ by) (entries_reserved complex.old.reserved) }
     requires none { complex.old.current ≡ None }
     requires reserved { IsSome complex.old.reserved }
     requires some { 1 ≤ length (entries_reserved complex.old.reserved) }
@@ -137,6 +148,8 @@ pub(crate) fn commit<P: Plant + Drop, C: Steady + Drop>(
     requires untold { P.tells → IsUntold (setting C.reads complex.old.base complex.old.since) (P.view complex.old.plant) (entries_reserved complex.old.reserved) }
     requires queue { P.tells → ∥ StandFor (run complex.old.base (kept_all complex.old.journal.batches ++ entries_reserved complex.old.reserved)) (bytes_of pages.now) ∥₁ }
     ensures base { complex.new.base ≡ complex.old.base }
+    ensures book { complex.new.book ≡ complex.old.book }
+    ensures unreserved { complex.new.reserved ≡ None }
     ensures since { complex.new.since ≡ complex.old.since }
     ensures kept { OnOk result (complex.new.journal.batches ≡ with_last (fated Kept (P.view complex.new.plant).now (begun (P.view complex.old.plant).now by (entries_reserved complex.old.reserved))) complex.old.journal.batches) }
     ensures unplaced { OnOk result (complex.new.placed ≡ false) }

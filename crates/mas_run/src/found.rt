@@ -18,6 +18,8 @@ ghost use Rattle.mas_complex.specs.Headline.{LeavesQueue};
 ghost use Rattle.warm_start.specs.Starting.{HasStarted, OnlyLooked};
 ghost use Rattle.mas_run.specs.Between.{RestsAt, IsBetween};
 ghost use Rattle.mas_run.specs.Decks.{sysa};
+ghost use Rattle.mas_run.specs.Locked.{IsOpenTo};
+ghost use Rattle.mas_run.specs.Turns.{turns_from};
 ghost use Rattle.mas_run.specs.Steps.{IfDeck, IfLose};
 ghost use Rattle.mas_run.specs.Entering.{AreFieldsFor};
 ghost use Rattle.first_script.specs.Nodes.{at_node as at_node_lem, step_at};
@@ -116,6 +118,7 @@ fn play_reset<P: Plant + Drop>(
     asked: &[Asked],
     run: Running<P, AreaCopy>,
 ) -> Ended<P>
+    requires lock { IsOpenTo run.complex.book run.complex.reserved sysa }
     requires few { length asked.now ≤ 16777216 }
     requires may { All (λ step. IfDeck step (AreFieldsFor run.checkpoint.tables.config)) asked.now }
     requires copies { All (λ step. IfLose step IsCkpt) asked.now }
@@ -137,7 +140,7 @@ fn play_reset<P: Plant + Drop>(
     ensures grow { (d : Dev) → Grows ((P.view run.complex.plant).loses d) ((P.view result.plant).loses d) }
     ensures elsewhere { P.tells → IsOnlyOn (P.view run.complex.plant) (P.view result.plant) }
     ensures cause { IsCausedFrom run.complex.pair.first.alive run.complex.pair.second.alive result.status (P.view run.complex.plant) (P.view result.plant) }
-    ensures steps { HasSteps false P.tells asked.now result.status result.base result.journal result.since (P.view run.complex.plant).loses (P.view run.complex.plant) (P.view result.plant) }
+    ensures steps { HasSteps false P.tells (turns_from run.complex.book asked.now) result.status result.base result.journal result.since (P.view run.complex.plant).loses (P.view run.complex.plant) (P.view result.plant) }
 {
     let mut run = run;
     match run.restart(alloc) {

@@ -7,6 +7,7 @@ mod deck;
 mod deck_steps;
 mod ended;
 mod found;
+mod laws;
 mod play;
 mod queue;
 mod reset;
@@ -15,5 +16,6 @@ mod top;
 mod words;
 
 pub use ended::{Ended, code};
+pub use laws::law_of_awake_runs;
 pub use top::calm_top;
 pub use words::are_words;

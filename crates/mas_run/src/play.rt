@@ -21,6 +21,8 @@ ghost use Rattle.mas_run.specs.Drawn.{AreDrawn};
 ghost use Rattle.mas_run.specs.Entering.{MayEnter};
 ghost use Rattle.mas_run.specs.Between.{RestsAt, IsBetween, AreAllKept};
 ghost use Rattle.mas_run.specs.Decks.{sysa};
+ghost use Rattle.mas_run.specs.Locked.{IsOpenTo};
+ghost use Rattle.mas_run.specs.Turns.{turns_from};
 ghost use Rattle.mas_run.specs.Steps.{IfDeck, IfLose};
 ghost use Rattle.mas_run.specs.Told.{console_now};
 ghost use Rattle.mas_run.specs.Crash.{IsOnlyOn};
@@ -109,6 +111,7 @@ pub(crate) fn play_asked<P: Plant + Drop>(
     asked: &[Asked],
     run: Running<P, AreaCopy>,
 ) -> Ended<P>
+    requires lock { IsOpenTo run.complex.book run.complex.reserved sysa }
     requires few { length asked.now ≤ 16777216 }
     requires may { All (λ step. IfDeck step (MayEnter run.checkpoint.tables.config run.checkpoint.tables.owners sysa)) asked.now }
     requires copies { All (λ step. IfLose step IsCkpt) asked.now }
@@ -130,7 +133,7 @@ pub(crate) fn play_asked<P: Plant + Drop>(
     ensures grow { (d : Dev) → Grows ((P.view run.complex.plant).loses d) ((P.view result.plant).loses d) }
     ensures elsewhere { P.tells → IsOnlyOn (P.view run.complex.plant) (P.view result.plant) }
     ensures cause { IsCausedFrom run.complex.pair.first.alive run.complex.pair.second.alive result.status (P.view run.complex.plant) (P.view result.plant) }
-    ensures play { IsPlay P.tells asked.now result.status result.base run.complex.journal.batches result.journal result.since (P.view run.complex.plant) (P.view result.plant) }
+    ensures play { IsPlay P.tells (turns_from run.complex.book asked.now) result.status result.base run.complex.journal.batches result.journal result.since (P.view run.complex.plant) (P.view result.plant) }
 {
     let mut run = run;
     let answer = run.play_steps(alloc, asked);

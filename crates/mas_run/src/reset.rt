@@ -1,5 +1,5 @@
 //! Restart of all members, as the first batch of a warm run.
-ghost use Rattle.std.specs.Prelude.{◌≡◌, ◌+◌, ◌≤◌, ◌<◌, ◌^◌, [], true, false, length, IfOk, OnOk};
+ghost use Rattle.std.specs.Prelude.{◌≡◌, ◌+◌, ◌≤◌, ◌<◌, ◌^◌, [], true, false, None, length, IfOk, OnOk};
 ghost use Rattle.std.specs.List.{list_any};
 ghost use Rattle.mas_types.specs.declared.ids.Dev.TheVariants.{Ckpt1, Ckpt2};
 ghost use Rattle.mas_types.specs.Ids.{nobody};
@@ -79,10 +79,11 @@ impl<P: Plant + Drop, C: Steady + Drop> Running<P, C> {
     ghost use Rattle.mas_run.specs.Between.{RestsAt, IsBetween};
     ghost use Rattle.mas_run.specs.Resets.{HasReset};
 
-    /// Gives Restart as the first batch, which is kept once each copy that is left has it. All memory is taken before the first
-    /// write.
+    /// Gives Restart as the first batch, by the operator, while nobody holds the lock. It is kept once each copy that is left has
+    /// it. All memory is taken before the first write.
     pub(crate) fn restart(&mut self, alloc: Global) -> Result<(), StepNo>
         requires sound { AreSound self.old.checkpoint.tables }
+        requires free { self.old.complex.book.holder ≡ nobody }
         requires journal { self.old.complex.journal.batches ≡ [] }
         requires since { self.old.complex.since ≡ (P.view self.old.complex.plant).now }
         requires between { IsBetween self.old.complex.base self.old.complex.journal.batches self.old.complex.current self.old.complex.placed self.old.complex.level self.old.checkpoint }
@@ -94,6 +95,8 @@ impl<P: Plant + Drop, C: Steady + Drop> Running<P, C> {
         requires room2 { self.old.complex.pair.second.alive ≡ true → 1 ≤ C.room self.old.complex.pair.second.copy }
         ensures base { self.new.complex.base ≡ self.old.complex.base }
         ensures since { self.new.complex.since ≡ self.old.complex.since }
+        ensures book { self.new.complex.book ≡ self.old.complex.book }
+        ensures unreserved { OnOk result (self.new.complex.reserved ≡ None) }
         ensures reset { HasReset P.tells (begun (P.view self.old.complex.plant).now nobody restart_entries_lem)
             (end_of self.new.complex.placed self.new.complex.current self.new.complex.journal.batches)
             self.old.complex.pair.first.alive self.new.complex.pair.first.alive self.old.complex.pair.second.alive self.new.complex.pair.second.alive

@@ -49,6 +49,8 @@ impl<P: Plant + Drop, C: Steady + Drop> Running<P, C> {
     ghost use Rattle.mas_run.specs.Between.{RestsAt, IsBetween, AreAllKept};
     ghost use Rattle.mas_run.specs.Stops.{IsStepOf};
     ghost use Rattle.mas_run.specs.Plays.{HasPlay};
+    ghost use Rattle.mas_run.specs.Locked.{IsOpenTo};
+    ghost use Rattle.mas_run.specs.Turns.{turn_at, book_after, turns_from};
     ghost use Rattle.mas_run.specs.Told.{console_now};
 
     /// Plays a step of SYSA.
@@ -58,6 +60,7 @@ impl<P: Plant + Drop, C: Steady + Drop> Running<P, C> {
         step: u32,
         asked: &Asked,
     ) -> Result<(), StepNo>
+        requires lock { IsOpenTo self.old.complex.book self.old.complex.reserved sysa }
         requires may { IfDeck asked.now (MayEnter self.old.checkpoint.tables.config self.old.checkpoint.tables.owners sysa) }
         requires untold { P.tells → IfDeck asked.now (λ fields. IsUntold (setting C.reads self.old.complex.base self.old.complex.since) (P.view self.old.complex.plant) (deck_entries (run self.old.complex.base (kept_all self.old.complex.journal.batches)) sysa step fields)) }
         requires copy { IfLose asked.now IsCkpt }
@@ -71,7 +74,7 @@ impl<P: Plant + Drop, C: Steady + Drop> Running<P, C> {
         requires room2 { self.old.complex.pair.second.alive ≡ true → 1 ≤ C.room self.old.complex.pair.second.copy }
         ensures base { self.new.complex.base ≡ self.old.complex.base }
         ensures since { self.new.complex.since ≡ self.old.complex.since }
-        ensures step { IsStepOf P.tells asked.now (run self.old.complex.base (kept_all self.old.complex.journal.batches)) step
+        ensures step { IsStepOf P.tells (turn_at self.old.complex.book asked.now) (run self.old.complex.base (kept_all self.old.complex.journal.batches)) step
             self.old.complex.journal.batches (end_of self.new.complex.placed self.new.complex.current self.new.complex.journal.batches)
             self.old.complex.pair.first.alive self.new.complex.pair.first.alive self.old.complex.pair.second.alive self.new.complex.pair.second.alive
             (P.view self.old.complex.plant) (P.view self.new.complex.plant) result }
@@ -82,6 +85,8 @@ impl<P: Plant + Drop, C: Steady + Drop> Running<P, C> {
         ensures owners { OnOk result (self.new.checkpoint.tables.owners ≡ self.old.checkpoint.tables.owners) }
         ensures order { OnOk result (self.new.checkpoint.tables.order ≤ self.old.checkpoint.tables.order + 1) }
         ensures level { OnOk result (self.new.checkpoint.level ≤ self.old.checkpoint.level + 1) }
+        ensures lock { OnOk result (IsOpenTo self.new.complex.book self.new.complex.reserved sysa) }
+        ensures book { OnOk result (self.new.complex.book ≡ book_after self.old.complex.book asked.now) }
     {
         match asked {
             Asked::Deck(fields) => self.play_deck(alloc, SYSA, step, *fields),
@@ -94,6 +99,7 @@ impl<P: Plant + Drop, C: Steady + Drop> Running<P, C> {
 
     /// Plays the steps of SYSA one after another, up to one that ends the run. Each copy has room for a batch at all times.
     pub(crate) fn play_steps(&mut self, alloc: Global, asked: &[Asked]) -> Result<(), StepNo>
+        requires lock { IsOpenTo self.old.complex.book self.old.complex.reserved sysa }
         requires few { length asked.now ≤ 16777216 }
         requires may { All (λ step. IfDeck step (MayEnter self.old.checkpoint.tables.config self.old.checkpoint.tables.owners sysa)) asked.now }
         requires copies { All (λ step. IfLose step IsCkpt) asked.now }
@@ -109,7 +115,7 @@ impl<P: Plant + Drop, C: Steady + Drop> Running<P, C> {
         requires rests2 { RestsAt P.tells self.old.complex.pair.second.alive self.old.complex.second (C.count self.old.complex.pair.second.copy) self.old.checkpoint.pages (C.reads (disk_now (P.view self.old.complex.plant) Ckpt2).bytes) }
         ensures base { self.new.complex.base ≡ self.old.complex.base }
         ensures since { self.new.complex.since ≡ self.old.complex.since }
-        ensures played { HasPlay P.tells (run self.old.complex.base (kept_all self.old.complex.journal.batches)) asked.now self.old.complex.journal.batches (end_of self.new.complex.placed self.new.complex.current self.new.complex.journal.batches)
+        ensures played { HasPlay P.tells (run self.old.complex.base (kept_all self.old.complex.journal.batches)) (turns_from self.old.complex.book asked.now) self.old.complex.journal.batches (end_of self.new.complex.placed self.new.complex.current self.new.complex.journal.batches)
             self.old.complex.pair.first.alive self.new.complex.pair.first.alive self.old.complex.pair.second.alive self.new.complex.pair.second.alive
             (P.view self.old.complex.plant) (P.view self.new.complex.plant) result }
     {

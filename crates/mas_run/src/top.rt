@@ -90,8 +90,9 @@ fn play<P: Plant + Drop>(alloc: Global, cold: bool, asked: List<Asked>, plant: P
 /// both, takes the usable one of greater level, CKPT1 on a tie, loses the other one where it can't be used or doesn't fit and else
 /// brings it up, and gives Restart as its first batch; its jobs are at the node of the configuration that is found. Then the steps are
 /// played one after another: a deck's job is entered in one batch, which is kept once each copy that is left has it, and the
-/// closing line of its step is said then; where no job slot is free the step closes with that refusal. A copy that fails or is
-/// lost is left out, and the run goes on with the other.
+/// closing line of its step is said then; where no job slot is free the step closes with that refusal. A deck's step takes the lock
+/// of the checkpoint and gives it up at its end. Where the configuration that is found has a dormancy, a step that comes too early
+/// closes with DORMANT and changes nothing. A copy that fails or is lost is left out, and the run goes on with the other.
 ///
 /// A stop of the member inside an act ends the run with Done, and no further line is said.
 pub fn calm_top<P: Plant + Drop, S: Source>(

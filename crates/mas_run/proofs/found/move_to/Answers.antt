@@ -2,7 +2,7 @@ use Rattle.std.proofs.Common.{◌<◌, ◌∙◌, length, set, arith, ap}
 use Rattle.std.proofs.lemmas.List.Edits.{map_over_more}
 use Rattle.first_script.specs.declared.asked.Asked.{Asked}
 use Rattle.first_script.specs.Nodes.{step_at}
-use Rattle.mas_run.proofs.PlayLemmas.{at_itself}
+use Rattle.mas_run.proofs.TurnLemmas.{at_itself}
 use Rattle.mas_run.proofs.found.move_to.Goals as goal
 
 pub loop-step-preserved : goal.loop-step-preserved

@@ -1,4 +1,4 @@
-use Rattle.std.proofs.Common.{◌≡◌, ◌∙◌, ℕ, inl, refl, sym, ap, arith}
+use Rattle.std.proofs.Common.{◌≡◌, ◌∙◌, ℕ, inl, refl, sym, ap, subst, arith}
 use Rattle.mas_types.specs.Ids.{nobody}
 use Rattle.spool_disk.specs.View.{World}
 use Rattle.ckpt_copy.specs.Areas.{reads}
@@ -6,6 +6,11 @@ use Rattle.ckpt_copy.specs.Moments.{goes_on}
 use Rattle.mas_complex.specs.Headline.{Headline}
 use Rattle.mas_complex.specs.Journals.{begun}
 use Rattle.queue_restart.specs.Restarts.{restart_entries}
+use Rattle.lock_cycle.specs.Books.{Book}
+use Rattle.mas_run.specs.Decks.{sysa}
+use Rattle.mas_run.specs.Locked.{IsOpenTo}
+use Rattle.mas_run.specs.Runs.{IsPlay}
+use Rattle.mas_run.specs.Turns.{turns_from}
 use Rattle.mas_run.proofs.CourseLemmas.{only_on}
 use Rattle.mas_run.proofs.NodeLemmas.{none_left, all_enter}
 use Rattle.mas_run.proofs.ResetLemmas.{reset_ended, reset_caused, one_kept_now}
@@ -25,7 +30,7 @@ returns-in-Err-clause-steps g c =
     let J = c.ended.result.journal in
     let head : P.tells → ∥ Headline reads x.base x.since J w ∥₁ = λ t. rw (e.base, e.since, e.plant, k.base, k.since) at (e.headline t) in
     rw (e.status, c.status_of.ensures, e.base, e.since, e.plant, k.base, k.since)
-    (reset_ended {T = Unit {0}} P.tells c.args.asked.now x.base J x.since v w x.pair.first.alive y.pair.first.alive x.pair.second.alive y.pair.second.alive c.in-Err.why c.requires.since c.requires.some c.requires.there1 c.requires.there2 head
+    (reset_ended {T = Unit {0}} P.tells (turns_from x.book c.args.asked.now) x.base J x.since v w x.pair.first.alive y.pair.first.alive x.pair.second.alive y.pair.second.alive c.in-Err.why c.requires.since c.requires.some c.requires.there1 c.requires.there2 head
     (rw e.journal k.reset))
 
 pub returns-in-Err-clause-cause : goal.returns-in-Err-clause-cause
@@ -36,6 +41,16 @@ returns-in-Err-clause-cause g c =
     let e = c.ended.ensures in
     rw (e.status, c.status_of.ensures, e.plant)
     (reset_caused {T = Unit {0}} P.tells (begun (P.view x.plant).now nobody restart_entries) _ x.pair.first.alive y.pair.first.alive x.pair.second.alive y.pair.second.alive (P.view x.plant) (P.view y.plant) c.in-Err.why c.in-Err.ensures.reset y.first_lost y.second_lost)
+
+pub restart-requires-clause-free : goal.restart-requires-clause-free
+restart-requires-clause-free g c = c.requires.lock.holder
+
+pub play_asked-requires-clause-lock : goal.play_asked-requires-clause-lock
+play_asked-requires-clause-lock g c =
+    let x = c.args.run.complex in
+    let k = c.in-Ok.ensures in
+    let open_to : IsOpenTo c.restart.new.self.complex.book x.reserved sysa = subst (λ (b : Book). IsOpenTo b x.reserved sysa) (sym k.book) c.requires.lock in
+    record { member = open_to.member; holder = open_to.holder; up = open_to.up; none = k.unreserved }
 
 pub play_asked-requires-clause-may : goal.play_asked-requires-clause-may
 play_asked-requires-clause-may g c =
@@ -76,8 +91,10 @@ returns-in-Ok-clause-steps g c =
     let r = k.reset.ends.0 in
     let out = none_out y.journal.batches y.journal.batches y.placed y.current refl k.between.unplaced k.between.none in
     let since : z.since ≡ v.now = d.since ∙ k.since ∙ c.requires.since in
-    warm_steps v w (P.view z.plant) k.reset.course.goes P.tells c.args.asked.now z.status z.base (begun v.now nobody restart_entries) r.0 y.journal.batches z.journal z.since (sym out ∙ r.3)
-    (record { by = refl; entries = refl; began = omega (arith, since) }) r.1 r.2 (omega (arith, since, k.reset.course.goes.later)) d.goes k.reset.loses (λ t. (k.reset.apart t).console) d.play
+    let play : IsPlay P.tells (turns_from x.book c.args.asked.now) z.status z.base y.journal.batches z.journal z.since w (P.view z.plant) =
+    subst (λ (b : Book). IsPlay P.tells (turns_from b c.args.asked.now) z.status z.base y.journal.batches z.journal z.since w (P.view z.plant)) k.book d.play in
+    warm_steps v w (P.view z.plant) k.reset.course.goes P.tells (turns_from x.book c.args.asked.now) z.status z.base (begun v.now nobody restart_entries) r.0 y.journal.batches z.journal z.since (sym out ∙ r.3)
+    (record { by = refl; entries = refl; began = omega (arith, since) }) r.1 r.2 (omega (arith, since, k.reset.course.goes.later)) d.goes k.reset.loses (λ t. (k.reset.apart t).console) play
 
 pub returns-in-Ok-clause-goes : goal.returns-in-Ok-clause-goes
 returns-in-Ok-clause-goes g c =

@@ -1,7 +1,8 @@
-use Rattle.std.proofs.Common.{◌≡◌, ◌∙◌, ◌≤◌, ℕ, List, codes, length, false, inl, inr, ⊎_elim, refl, sym, ap, subst, arith}
+use Rattle.std.proofs.Common.{◌≡◌, ◌∙◌, ◌≤◌, min, ℕ, List, codes, length, false, inl, inr, ⊎_elim, refl, sym, ap, subst, arith}
 use Rattle.std.proofs.Math.Logic.{∥∥₁_map}
 use Rattle.mas_types.specs.Starts.{default_config}
 use Rattle.mas_types.specs.Fit.{IsName}
+use Rattle.mas_types.specs.Limits.{members_most}
 use Rattle.mas_types.specs.declared.ids.Dev.TheVariants.{Ckpt1, Ckpt2}
 use Rattle.mas_types.specs.declared.journals.Batch.{Batch}
 use Rattle.mas_types.specs.declared.queues.Queue.{Queue}
@@ -12,10 +13,14 @@ use Rattle.ckpt_pages.specs.Shape.{page_count}
 use Rattle.spool_disk.specs.View.{World}
 use Rattle.spool_disk.specs.Acts.{Goes}
 use Rattle.mas_complex.specs.Journals.{kept_all}
+use Rattle.mas_complex.specs.Locking.{book_of}
 use Rattle.mas_complex.specs.Meaning.{run}
 use Rattle.warm_start.proofs.Begun.{found_later, kept_later}
 use Rattle.first_script.specs.Nodes.{at_node}
+use Rattle.mas_run.specs.Decks.{sysa}
 use Rattle.mas_run.specs.Told.{console_now}
+use Rattle.mas_run.specs.Turns.{turns_of}
+use Rattle.mas_run.proofs.LockLemmas.{begins_open}
 use Rattle.mas_run.specs.Runs.{HasSteps}
 use Rattle.mas_run.proofs.CourseLemmas.{only_on}
 use Rattle.mas_run.proofs.NodeLemmas.{steps_for, copies_at, many_at}
@@ -57,6 +62,14 @@ returns-in-Err-clause-elsewhere g c told = rw c.unbegun.ensures.plant (c.in-Err.
 
 pub returns-in-Err-clause-goes : goal.returns-in-Err-clause-goes
 returns-in-Err-clause-goes g c = rw c.unbegun.ensures.plant c.in-Err.ensures.goes
+
+pub play_reset-requires-clause-lock : goal.play_reset-requires-clause-lock
+play_reset-requires-clause-lock g c =
+    let f = c.in-Ok.ensures in
+    let x = c.in-Ok.found.complex in
+    let s = f.started in
+    let some : 1 ≤ min x.base.config.members members_most = omega (arith, ap (λ (q : Queue). q.config.members) s.base_is, s.usable.0.fit.shape.config.members.0) in
+    rw (c.running_of.ensures.complex, f.book, f.unreserved) (begins_open (min x.base.config.members members_most) x.base.config.hold x.base.config.dormancy sysa (omega arith) some)
 
 pub play_reset-requires-clause-few : goal.play_reset-requires-clause-few
 play_reset-requires-clause-few g c = rw (c.as_slice.ensures, c.moved-asked.ensures, many_at c.in-Ok.found.tables.config.node c.args.asked) c.requires.few
@@ -213,7 +226,9 @@ returns-clause-run g c begun =
     let asked = at_node z.base.config.node c.args.asked in
     let same : c.as_slice.result.now ≡ asked = c.as_slice.ensures ∙ c.moved-asked.ensures ∙ ap (λ (q : Queue). at_node q.config.node c.args.asked) (sym base) in
     let quiet : P.tells → console_now v1 ≡ console_now v0 = λ t. (s.held t).console v1.now s.starts.goes.later (omega arith) in
-    let steps : HasSteps false P.tells asked z.status z.base z.journal z.since v1.loses v1 v2 = rw (r.complex, same) at d.steps in
+    let book : x.book ≡ book_of z.base.config = f.book ∙ ap (λ (q : Queue). book_of q.config) (sym base0) in
+    let turns = turns_of z.base.config asked in
+    let steps : HasSteps false P.tells turns z.status z.base z.journal z.since v1.loses v1 v2 = rw (r.complex, same, book) at d.steps in
     record {
       first = v1.loses;
       before = starts_first x.pair.first.alive x.pair.second.alive v0 v1 s.starts;
@@ -230,5 +245,5 @@ returns-clause-run g c begun =
       fresh = λ t. rw (base0, since) (∥∥₁_map (f.fresh t) (λ k. rw f.since at (k v2 goes)));
       quiet = λ t. ap (λ (n : ℕ). (v2.world n).console) since ∙ ap (λ (u : World). u.console) (goes.past v1.now (omega arith)) ∙ quiet t;
       held = λ t. rw since (held_until v0 v1 v2 (bytes_of w.pages) goes (s.held t));
-      steps = steps_since v0 v1 v2 s.starts.goes false P.tells asked z.status z.base z.journal z.since v1.loses quiet steps;
+      steps = steps_since v0 v1 v2 s.starts.goes false P.tells turns z.status z.base z.journal z.since v1.loses quiet steps;
     }

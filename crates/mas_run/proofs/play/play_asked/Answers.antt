@@ -6,6 +6,7 @@ use Rattle.mas_complex.specs.Headline.{Headline}
 use Rattle.mas_complex.specs.Journals.{kept_all}
 use Rattle.mas_complex.specs.Meaning.{run}
 use Rattle.mas_run.specs.Plays.{HasPlay}
+use Rattle.mas_run.specs.Turns.{turns_from}
 use Rattle.mas_run.proofs.RunLemmas.{play_of_steps, caused_by_steps}
 use Rattle.mas_run.proofs.play.play_asked.Goals as goal
 
@@ -19,7 +20,7 @@ returns-clause-play g c =
     let e = c.ended.ensures in
     let d = c.play_steps-answer.ensures in
     let J = c.ended.result.journal in
-    let asked = c.args.asked.now in
+    let asked = turns_from x.book c.args.asked.now in
     let head : P.tells → ∥ Headline reads x.base x.since J w ∥₁ = λ t. rw (e.base, e.since, e.plant, d.base, d.since) at (e.headline t) in
     let has : HasPlay P.tells (run x.base (kept_all x.journal.batches)) asked x.journal.batches J.batches x.pair.first.alive y.pair.first.alive x.pair.second.alive y.pair.second.alive v w c.play_steps-answer.result =
     subst (λ (bs : List Batch). HasPlay P.tells (run x.base (kept_all x.journal.batches)) asked x.journal.batches bs x.pair.first.alive y.pair.first.alive x.pair.second.alive y.pair.second.alive v w c.play_steps-answer.result) (sym e.journal) d.played in
@@ -36,7 +37,7 @@ returns-clause-cause g c =
     let e = c.ended.ensures in
     let d = c.play_steps-answer.ensures.played in
     let from : Queue = run x.base (kept_all x.journal.batches) in
-    rw (e.status, c.status_of.ensures, e.plant) (caused_by_steps P.tells c.args.asked.now from c.ended.result.journal v w x.pair.first.alive y.pair.first.alive x.pair.second.alive y.pair.second.alive d.rest c.play_steps-answer.result d.played y.first_lost y.second_lost)
+    rw (e.status, c.status_of.ensures, e.plant) (caused_by_steps P.tells (turns_from x.book c.args.asked.now) from c.ended.result.journal v w x.pair.first.alive y.pair.first.alive x.pair.second.alive y.pair.second.alive d.rest c.play_steps-answer.result d.played y.first_lost y.second_lost)
 
 pub returns-clause-elsewhere : goal.returns-clause-elsewhere
 returns-clause-elsewhere g c told = rw c.ended.ensures.plant (c.play_steps-answer.ensures.played.played.elsewhere told)

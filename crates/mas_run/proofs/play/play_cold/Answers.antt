@@ -11,7 +11,9 @@ use Rattle.ckpt_copy.specs.Moments.{goes_on}
 use Rattle.ckpt_copy.specs.Pages.{bytes_of}
 use Rattle.duplex_pair.specs.Both.{PairActed}
 use Rattle.mas_types.specs.declared.journals.Batch.{Batch}
+use Rattle.lock_cycle.specs.Books.{Book}
 use Rattle.mas_complex.specs.Journals.{kept_all}
+use Rattle.mas_complex.specs.Locking.{book_of}
 use Rattle.mas_complex.specs.Meaning.{StandFor, run}
 use Rattle.mas_run.specs.Standing.{queue_of}
 use Rattle.mas_run.specs.Told.{console_now}
@@ -19,6 +21,9 @@ use Rattle.mas_run.specs.Crash.{IsOnlyOn}
 use Rattle.mas_run.specs.Between.{AreAllKept}
 use Rattle.mas_run.specs.Runs.{IsPlay}
 use Rattle.mas_run.specs.Statuses.{IsCausedFrom}
+use Rattle.mas_run.specs.Decks.{sysa}
+use Rattle.mas_run.specs.Turns.{turns_from, turns_of}
+use Rattle.mas_run.proofs.LockLemmas.{begins_open}
 use Rattle.mas_run.proofs.DrawnLemmas.{drawn_stand, drawn_level}
 use Rattle.mas_run.proofs.CourseLemmas.{only_on}
 use Rattle.mas_run.proofs.RunLemmas.{cold_steps, steps_since, none_kept, caused_since, formed_copy, all_may, all_copies, below_empty}
@@ -37,6 +42,11 @@ make-complex-requires-clause-begins g c told =
     let second = formed_copy c.in-Ok.base v.now (λ pages disk. Rests n.second.copy.pages n.second.copy.second n.second.copy.stale pages disk) (λ was next disk. Holds n.second.copy.pages n.second.copy.second n.second.copy.stale was next disk) n.second.alive (disk_now v Ckpt2) (bytes_of k.pages)
     (λ is. rw c.as_slice.ensures at (f.formed2 told is)) (λ not lt. f.gone2 told c.new-pair.ensures.alive.1 not lt) in
     ∣ record { pages = bytes_of k.pages; stands = record { at_level = drawn_level k.tables k.level k.levels k.pages c.in-Ok.ensures.drawn; queue = stand }; first_at = first; second_at = second } ∣₁
+
+pub play_asked-requires-clause-lock : goal.play_asked-requires-clause-lock
+play_asked-requires-clause-lock g c =
+    let m = c.make-complex.ensures in
+    rw (m.book, m.reserved, c.in-Ok.ensures.base) (begins_open 2 64 0 sysa (omega arith) (omega arith))
 
 pub play_asked-requires-clause-kept : goal.play_asked-requires-clause-kept
 play_asked-requires-clause-kept g c =
@@ -146,8 +156,12 @@ returns-clause-run g c begun =
     let goes : Goes v1 w = rw m.plant at e.goes in
     let since : r.since ≡ v1.now = e.since ∙ m.since in
     let quiet : P.tells → console_now v1 ≡ console_now v0 = λ t. (f.during t).console v1.now f.acted.goes.later (omega arith) in
-    let play : IsPlay P.tells c.args.asked.now r.status r.base x.journal.batches r.journal r.since v1 w = subst (λ (v : View). IsPlay P.tells c.args.asked.now r.status r.base x.journal.batches r.journal r.since v w) (ap P.view m.plant) e.play in
     let base : r.base ≡ c.in-Ok.base = e.base ∙ m.base in
+    let book : x.book ≡ book_of r.base.config = m.book ∙ ap (λ (q : Queue). book_of q.config) (sym base) in
+    let turns = turns_of r.base.config c.args.asked.now in
+    let play : IsPlay P.tells turns r.status r.base x.journal.batches r.journal r.since v1 w =
+    subst (λ (b : Book). IsPlay P.tells (turns_from b c.args.asked.now) r.status r.base x.journal.batches r.journal r.since v1 w) book
+    (subst (λ (v : View). IsPlay P.tells (turns_from x.book c.args.asked.now) r.status r.base x.journal.batches r.journal r.since v w) (ap P.view m.plant) e.play) in
     record {
       first = v1.loses;
       before = f.acted.loses;
@@ -156,8 +170,8 @@ returns-clause-run g c begun =
       fresh = λ t. rw (base, since) (∥∥₁_map (m.fresh t) (λ k. k w goes));
       quiet = λ t. ap (λ (n : ℕ). (w.world n).console) since ∙ ap (λ (u : World). u.console) (goes.past v1.now (omega arith)) ∙ quiet t;
       held = λ t. tt;
-      steps = steps_since v0 v1 w f.acted.goes true P.tells c.args.asked.now r.status r.base r.journal r.since v1.loses quiet
-          (cold_steps P.tells c.args.asked.now r.status r.base x.journal.batches r.journal r.since v1 w m.journal since goes play);
+      steps = steps_since v0 v1 w f.acted.goes true P.tells turns r.status r.base r.journal r.since v1.loses quiet
+          (cold_steps P.tells turns r.status r.base x.journal.batches r.journal r.since v1 w m.journal since goes play);
     }
 
 pub returns-clause-config : goal.returns-clause-config

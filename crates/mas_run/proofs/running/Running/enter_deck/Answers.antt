@@ -1,4 +1,4 @@
-use Rattle.std.proofs.Common.{◌≡◌, ◌∙◌, ◌+◌, ◌≤◌, ap, subst, sym, length, true, Err, Some, ℕ, List, inl, arith}
+use Rattle.std.proofs.Common.{◌≡◌, ◌∙◌, ◌+◌, ◌≤◌, ap, subst, sym, length, true, Err, Some, ℕ, List, inl, refl, arith}
 use Rattle.mas_types.specs.declared.journals.Entry.{Entry}
 use Rattle.mas_types.specs.declared.journals.Journal.{Journal}
 use Rattle.mas_types.specs.declared.queues.Queue.{Queue}
@@ -13,9 +13,22 @@ use Rattle.mas_run.specs.Decks.{deck_commands, deck_entries, deck_line}
 use Rattle.mas_run.specs.Standing.{queue_of}
 use Rattle.mas_run.proofs.DrawnLemmas.{drawn_stand, drawn_level}
 use Rattle.mas_run.proofs.LineLemmas.{untold_by, told_kept}
-use Rattle.mas_run.proofs.WriteLemmas.{replied_read, have_replies, covers_read, names_read, queue_written, queue_kept, none_out}
+use Rattle.mas_run.proofs.WriteLemmas.{own_entries, all_by, replied_read, have_replies, covers_read, names_read, queue_written, queue_kept, none_out}
 use Rattle.mas_run.proofs.StepLemmas.{deck_unplayed, deck_lost, deck_stopped, deck_done, deck_unsaid, deck_broken}
 use Rattle.mas_run.proofs.running.Running.enter_deck.Goals as goal
+
+pub reserve-requires-clause-some : goal.reserve-requires-clause-some
+reserve-requires-clause-some g c = subst (λ (es : List Entry). 1 ≤ length es) (sym c.in-Ok.ensures.entries) (omega arith)
+
+pub reserve-requires-clause-own : goal.reserve-requires-clause-own
+reserve-requires-clause-own g c =
+    let Q : Queue = queue_of c.args.self.now.checkpoint.tables in
+    own_entries c.args.by _ _ _ c.requires.lock.holds c.in-Ok.ensures.entries (all_by Q c.args.by c.args.step (deck_commands Q c.args.by c.args.fields))
+
+pub commit-requires-clause-own : goal.commit-requires-clause-own
+commit-requires-clause-own g c =
+    let Q : Queue = queue_of c.args.self.now.checkpoint.tables in
+    own_entries c.args.by c.args.by _ _ refl (ap entries_reserved c.in-Ok-reserve.ensures.reserved ∙ c.in-Ok.ensures.entries) (all_by Q c.args.by c.args.step (deck_commands Q c.args.by c.args.fields))
 
 pub commit-requires-clause-covered1 : goal.commit-requires-clause-covered1
 commit-requires-clause-covered1 g c told alive was reads =
@@ -105,6 +118,7 @@ commit-requires-clause-queue g c told =
 
 pub say-requires : goal.say-requires
 say-requires g c = record {
+  up = rw (c.commit.ensures.book, c.reserve.ensures.book) c.requires.lock.up;
   told = λ t m s closes.
       let P = g.P.Plant in
       let x = c.args.self.now.complex in

@@ -5,7 +5,10 @@ use Rattle.mas_types.specs.declared.queues.Queue.{Queue}
 use Rattle.spool_disk.specs.View.{World}
 use Rattle.mas_complex.specs.Journals.{kept_all}
 use Rattle.mas_complex.specs.Meaning.{run}
-use Rattle.mas_run.proofs.PlayLemmas.{all_kept, at_itself, may_step, untold_step, step_renamed, played_on, played_out, played_all, played_none, step_behind, queue_behind, all_kept_behind}
+use Rattle.duplex_pair.specs.Halves.{IsCkpt}
+use Rattle.mas_run.specs.Turns.{turns_from}
+use Rattle.mas_run.proofs.PlayLemmas.{all_kept, loss_of, may_step, untold_step, step_renamed, played_on, played_out, played_all, played_none, step_behind, queue_behind, all_kept_behind}
+use Rattle.mas_run.proofs.TurnLemmas.{turns_length, at_itself, turn_is, book_then}
 use Rattle.mas_run.proofs.WriteLemmas.{none_out}
 use Rattle.mas_run.proofs.running.Running.play_steps.Goals as goal
 
@@ -16,6 +19,8 @@ loop-step-init g c =
       number = refl;
       base = refl;
       since = refl;
+      lock = c.requires.lock;
+      book = refl;
       between = c.requires.between;
       rests1 = c.requires.rests1;
       rests2 = c.requires.rests2;
@@ -26,7 +31,7 @@ loop-step-init g c =
       play = record {
         rest = [];
         batches_are = sym (append-nil x.journal.batches);
-        played = played_none g.P.Plant.tells (run x.base (kept_all x.journal.batches)) c.args.asked.now [] x.pair.first.alive x.pair.second.alive (g.P.Plant.view x.plant) refl c.requires.some;
+        played = played_none g.P.Plant.tells (run x.base (kept_all x.journal.batches)) (turns_from x.book c.args.asked.now) [] x.pair.first.alive x.pair.second.alive (g.P.Plant.view x.plant) refl c.requires.some;
       };
     }
 
@@ -41,7 +46,7 @@ play_step-requires-clause-untold g c told =
     let v0 = g.P.Plant.view x.plant in
     let v = g.P.Plant.view y.plant in
     let next : c.loop-step.number + 1 ≡ 1 + c.loop-step.step-index = omega (arith, i.number) in
-    untold_step g.C.Copying.reads y.base (run x.base (kept_all x.journal.batches)) y.since c.args.asked.now c.loop-step.step-index (c.loop-step.number + 1) _ (run y.base (kept_all y.journal.batches)) v0 v next (omega arith) c.loop-step-test.true
+    untold_step g.C.Copying.reads y.base (run x.base (kept_all x.journal.batches)) y.since (turns_from x.book c.args.asked.now) c.loop-step.step-index (c.loop-step.number + 1) _ (run y.base (kept_all y.journal.batches)) v0 v next (omega arith) (omega (arith, turns_length x.book c.args.asked.now, c.loop-step-test.true))
     (ap (λ (t : ℕ). (v.world t).console) i.since ∙ ap (λ (w : World). w.console) (i.play.played.course.goes.past x.since c.requires.since) ∙ c.requires.quiet told) (i.play.played.said told)
 
 pub play_step-requires-clause-kept : goal.play_step-requires-clause-kept
@@ -52,7 +57,7 @@ play_step-requires-clause-kept g c =
     let v0 = g.P.Plant.view x.plant in
     let v = g.P.Plant.view y.plant in
     all_kept_behind x.journal.batches i.play.rest y.journal.batches v0.now v.now i.play.played.course.goes.later i.play.batches_are c.requires.kept
-    (all_kept (run x.base (kept_all x.journal.batches)) 1 (take c.loop-step.step-index c.args.asked.now) v0.now v.now i.play.rest i.play.played.kept)
+    (all_kept (run x.base (kept_all x.journal.batches)) 1 (take c.loop-step.step-index (turns_from x.book c.args.asked.now)) v0.now v.now i.play.rest i.play.played.kept)
 
 pub loop-step-preserved : goal.loop-step-preserved
 loop-step-preserved g c =
@@ -75,6 +80,8 @@ loop-step-preserved g c =
       number = omega (arith, i.number);
       base = e.base ∙ i.base;
       since = e.since ∙ i.since;
+      lock = e.lock;
+      book = book_then x.book y.book z.book c.args.asked.now c.loop-step.step-index _ i.book (at_itself c.args.asked.now c.loop-step.step-index _ c.loop-step-test.true) c.loop-step-test.true e.book;
       between = e.between;
       rests1 = e.rests1;
       rests2 = e.rests2;
@@ -85,9 +92,10 @@ loop-step-preserved g c =
       play = record {
         rest = behind.more;
         batches_are = behind.are;
-        played = played_on P.tells from c.args.asked.now c.loop-step.step-index _ c.loop-step-test.true (at_itself c.args.asked.now c.loop-step.step-index _ c.loop-step-test.true) i.play.rest
+        played = played_on P.tells from (turns_from x.book c.args.asked.now) c.loop-step.step-index _ (omega (arith, turns_length x.book c.args.asked.now, c.loop-step-test.true))
+            (turn_is x.book y.book c.args.asked.now c.loop-step.step-index _ i.book (at_itself c.args.asked.now c.loop-step.step-index _ c.loop-step-test.true) c.loop-step-test.true) i.play.rest
             x.pair.first.alive y.pair.first.alive z.pair.first.alive x.pair.second.alive y.pair.second.alive z.pair.second.alive v0 v w i.play.played tt behind.more
-            (c.requires.copies c.loop-step.step-index _ c.loop-step-test.true) behind.step;
+            (loss_of y.book _ IsCkpt (c.requires.copies c.loop-step.step-index _ c.loop-step-test.true)) behind.step;
       };
     }
 
@@ -111,7 +119,8 @@ returns-in_err-play_step-clause-played g c =
     rw (p.1, p.2) (record {
       rest = behind.more;
       batches_are = behind.are;
-      played = played_out P.tells from c.args.asked.now c.loop-step.step-index _ c.loop-step-test.true (at_itself c.args.asked.now c.loop-step.step-index _ c.loop-step-test.true) i.play.rest
+      played = played_out P.tells from (turns_from x.book c.args.asked.now) c.loop-step.step-index _ (omega (arith, turns_length x.book c.args.asked.now, c.loop-step-test.true))
+          (turn_is x.book y.book c.args.asked.now c.loop-step.step-index _ i.book (at_itself c.args.asked.now c.loop-step.step-index _ c.loop-step-test.true) c.loop-step-test.true) i.play.rest
           x.pair.first.alive y.pair.first.alive z.pair.first.alive x.pair.second.alive y.pair.second.alive z.pair.second.alive v0 v w i.play.played _ behind.more behind.step;
     })
 
@@ -125,5 +134,5 @@ returns-clause-played g c =
     record {
       rest = i.play.rest;
       batches_are = out ∙ i.play.batches_are;
-      played = played_all tt P.tells (run x.base (kept_all x.journal.batches)) c.args.asked.now c.loop-step.step-index i.play.rest i.play.rest x.pair.first.alive y.pair.first.alive x.pair.second.alive y.pair.second.alive (P.view x.plant) (P.view y.plant) (omega arith) refl i.play.played;
+      played = played_all tt P.tells (run x.base (kept_all x.journal.batches)) (turns_from x.book c.args.asked.now) c.loop-step.step-index i.play.rest i.play.rest x.pair.first.alive y.pair.first.alive x.pair.second.alive y.pair.second.alive (P.view x.plant) (P.view y.plant) (omega (arith, turns_length x.book c.args.asked.now)) refl i.play.played;
     }

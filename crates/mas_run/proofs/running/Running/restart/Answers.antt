@@ -13,9 +13,21 @@ use Rattle.mas_complex.proofs.BatchEnds.{with_last-append}
 use Rattle.queue_restart.specs.Restarts.{restart_entries}
 use Rattle.mas_run.specs.Standing.{queue_of}
 use Rattle.mas_run.proofs.DrawnLemmas.{drawn_stand, drawn_level}
-use Rattle.mas_run.proofs.WriteLemmas.{replied_read, covers_read, names_read, queue_written, queue_kept}
-use Rattle.mas_run.proofs.ResetLemmas.{none_untold, reset_none, reset_lost, reset_done}
+use Rattle.mas_run.proofs.WriteLemmas.{own_entries, replied_read, covers_read, names_read, queue_written, queue_kept}
+use Rattle.mas_run.proofs.ResetLemmas.{restart_own, none_untold, reset_none, reset_lost, reset_done}
 use Rattle.mas_run.proofs.running.Running.restart.Goals as goal
+
+pub reserve-requires-clause-some : goal.reserve-requires-clause-some
+reserve-requires-clause-some g c = subst (λ (es : List Entry). 1 ≤ length es) (sym c.in-Ok.ensures.entries) (omega arith)
+
+pub reserve-requires-clause-own : goal.reserve-requires-clause-own
+reserve-requires-clause-own g c = own_entries nobody _ _ restart_entries c.requires.free c.in-Ok.ensures.entries restart_own
+
+pub commit-requires-clause-may : goal.commit-requires-clause-may
+commit-requires-clause-may g c = rw c.reserve.ensures.book (record { holds = c.requires.free; up = λ some. absurd (omega arith) })
+
+pub commit-requires-clause-own : goal.commit-requires-clause-own
+commit-requires-clause-own g c = own_entries nobody nobody _ restart_entries refl (ap entries_reserved c.in-Ok-reserve.ensures.reserved ∙ c.in-Ok.ensures.entries) restart_own
 
 pub commit-requires-clause-covered1 : goal.commit-requires-clause-covered1
 commit-requires-clause-covered1 g c told alive was reads =
