@@ -1,8 +1,9 @@
 // A crash at each moment of a run, with both copies, with one, and of the loss of one.
 use crate::looking::{
     DECK, FORM, FORMED, KEPT, ONE_FORMED, ONE_KEPT, OPEN, PUT, Reading, acted_on, failing, finds,
-    has_closed, other, plant, play, reads_as,
+    has_closed, other, reads_as,
 };
+use crate::playing::{plant, play};
 use mas_types::Dev;
 use spool_disk::{Choice, MemPlant, Part, Plant};
 use std::alloc::Global;

@@ -1,8 +1,9 @@
 // An act that fails, two that do, and one that halts: each act of a run.
 use crate::looking::{
     DECK, FORMED, KEPT, ONE_FORMED, ONE_KEPT, OPEN, Reading, acted_on, failing, failing_twice,
-    fate, finds, halting, has_closed, is_amid_pages, other, play, reads_as,
+    fate, finds, halting, has_closed, is_amid_pages, other, reads_as,
 };
+use crate::playing::play;
 use mas_types::{Dev, Fate, Status};
 use spool_disk::{Part, Plant};
 use std::alloc::Global;

@@ -7,6 +7,7 @@ mod crashes;
 mod faults;
 #[cfg(test)]
 mod looking;
+pub mod playing;
 #[cfg(test)]
 mod runs;
 #[cfg(test)]

@@ -2,23 +2,13 @@
 // from the formats.
 ghost use Rattle.std.specs.Prelude.{◌≤◌};
 
-use mas_run::{Ended, calm_top};
-use mas_types::{Dev, Fate, List, MemberId};
-use spool_disk::{Act, MemPlant, MemSource, Part, Plant, Sizes};
+use crate::playing::{ACTS, BYTES, SIZES};
+use mas_run::Ended;
+use mas_types::{Dev, Fate, MemberId};
+use spool_disk::{Act, MemPlant, Part, Plant};
 use std::alloc::Global;
 use std::process::Abort;
 use std::test::Fail;
-
-pub const SIZES: Sizes = Sizes {
-    ckpt: 299_008,
-    volumes: 1,
-    volume: 4_096,
-};
-
-/// Room enough for the acts of a run and of those who look at what it leaves.
-pub const ACTS: usize = 400;
-
-pub const BYTES: usize = 1_300_000;
 
 pub const OPERATOR: MemberId = MemberId(0);
 
@@ -46,26 +36,6 @@ pub const ONE_FORMED: u64 = FORM + 1;
 
 pub const ONE_KEPT: u64 = ONE_FORMED + PUT + OPEN;
 
-pub fn plant(alloc: Global) -> Result<MemPlant, Fail> {
-    Ok(MemPlant::new(alloc, SIZES, ACTS, BYTES)?)
-}
-
-pub fn source(alloc: Global, bytes: &[u8], fail_at: Option<u64>) -> Result<MemSource, Fail> {
-    let mut list = List::new(alloc);
-    for byte in bytes {
-        list.push(*byte)?;
-    }
-    Ok(MemSource::new(list, fail_at))
-}
-
-pub fn words(alloc: Global, texts: &[&str]) -> Result<Vec<String>, Fail> {
-    let mut words = Vec::new(alloc);
-    for text in texts {
-        words.push(String::from_str(alloc, text)?)?;
-    }
-    Ok(words)
-}
-
 // A plant whose act of this number fails.
 pub fn failing(alloc: Global, act: u64) -> Result<MemPlant, Fail> {
     let mut plant = MemPlant::new(alloc, SIZES, ACTS, BYTES)?;
@@ -86,13 +56,6 @@ pub fn halting(alloc: Global, act: u64) -> Result<MemPlant, Fail> {
     let mut plant = MemPlant::new(alloc, SIZES, ACTS, BYTES)?;
     plant.halt_at(act, 10);
     Ok(plant)
-}
-
-// A cold run of a script.
-pub fn play(alloc: Global, script: &[u8], plant: MemPlant) -> Result<Ended<MemPlant>, Fail> {
-    let words = words(alloc, &["play", "--cold"])?;
-    let mut source = source(alloc, script, None)?;
-    Ok(calm_top(alloc, &words, &mut source, plant))
 }
 
 // The whole lines on the console are the closing line, or none.

@@ -1,7 +1,6 @@
 // One deck played, no deck, and what is refused before anything is played.
-use crate::looking::{
-    DECK, FORMED, KEPT, Reading, SIZES, block, has_closed, plant, play, reads_as, source, words,
-};
+use crate::looking::{DECK, FORMED, KEPT, Reading, block, has_closed, reads_as};
+use crate::playing::{SIZES, plant, play, source, words};
 use mas_run::calm_top;
 use mas_types::{Dev, Status};
 use spool_disk::{MemPlant, Plant, Sizes};

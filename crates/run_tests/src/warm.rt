@@ -1,34 +1,18 @@
 // A warm start of what a cold run left.
-ghost use Rattle.std.specs.Prelude.{◌≤◌};
-
-use crate::looking::{
-    CLOSING, DECK, FORM, FORMED, KEPT, OPEN, OPERATOR, Reading, block, failing, halting, plant,
-    play, reads_as, source, words,
-};
-use mas_run::{Ended, calm_top};
+use crate::looking::{CLOSING, DECK, KEPT, OPERATOR, Reading, reads_as};
+use crate::playing::{plant, play, start};
+use mas_run::Ended;
 use mas_types::{Command, CopyState, Dev, Fate, MemberId, Phase, Status};
 use spool_disk::{Act, Choice, MemPlant, Part, Plant};
 use std::alloc::Global;
 use std::process::Abort;
 use std::test::Fail;
 
-const THREE: &[u8] =
-    b"SYSA DECK\n//A JOB\n++END\nSYSA DECK\n//B JOB\n++END\nSYSA DECK\n//C JOB\n++END\n";
-
-const CHOICES: [Choice; 3] = [Choice::Old, Choice::New, Choice::Ones];
-
 /// The first page of the area that a copy reads after one deck.
 const FOUND: u64 = 37 * 4096;
 
 /// Where in a job slot its priority stands.
 const PRIORITY: u64 = 2;
-
-// A warm run of a script.
-fn start(alloc: Global, script: &[u8], plant: MemPlant) -> Result<Ended<MemPlant>, Fail> {
-    let words = words(alloc, &["play"])?;
-    let mut source = source(alloc, script, None)?;
-    Ok(calm_top(alloc, &words, &mut source, plant))
-}
 
 // What a cold run of one deck leaves.
 fn left_by_one_deck(alloc: Global) -> Result<MemPlant, Fail> {
@@ -103,18 +87,10 @@ fn goes_on_with_the_queue(rt: HostRuntime) -> Result<(), Fail> {
     Ok(())
 }
 
-// Both VALID bytes are closed, or a byte in each header that has to be zero isn't.
+// A byte in each header that has to be zero isn't, or one copy is lost and VALID is closed on the other.
 #[test]
 fn finds_no_queue(rt: HostRuntime) -> Result<(), Fail> {
     let alloc = rt.alloc();
-    let mut closed = left_by_one_deck(alloc)?;
-    write(&rt, &mut closed, Dev::Ckpt1, 0, 0);
-    write(&rt, &mut closed, Dev::Ckpt2, 0, 0);
-    let unread = Status::NotFormatted {
-        first: CopyState::Unread,
-        second: CopyState::Unread,
-    };
-    assert_eq!(rt; start(alloc, DECK, closed)?.status, unread);
     let mut faulty = left_by_one_deck(alloc)?;
     write(&rt, &mut faulty, Dev::Ckpt1, FOUND + 48, 1);
     write(&rt, &mut faulty, Dev::Ckpt2, FOUND + 48, 1);
@@ -135,22 +111,18 @@ fn finds_no_queue(rt: HostRuntime) -> Result<(), Fail> {
 }
 
 // One copy can't be used: it is lost, and the other counts.
-fn goes_on_with_one(rt: &impl Abort, alloc: Global, at: u64, byte: u8) -> Result<(), Fail> {
+#[test]
+fn loses_a_copy_that_is_not_usable(rt: HostRuntime) -> Result<(), Fail> {
+    let alloc = rt.alloc();
     for dev in [Dev::Ckpt1, Dev::Ckpt2] {
         let mut plant = left_by_one_deck(alloc)?;
-        write(rt, &mut plant, dev, at, byte);
+        write(&rt, &mut plant, dev, FOUND + 48, 1);
         let ended = start(alloc, b"", plant)?;
         assert_eq!(rt; ended.status, Status::Done);
-        has_jobs(rt, &ended, 1);
+        has_jobs(&rt, &ended, 1);
         assert!(rt; ended.plant.lost(Part::Disk(dev)));
     }
     Ok(())
-}
-
-#[test]
-fn loses_a_copy_that_is_not_usable(rt: HostRuntime) -> Result<(), Fail> {
-    goes_on_with_one(&rt, rt.alloc(), 0, 0)?;
-    goes_on_with_one(&rt, rt.alloc(), FOUND + 48, 1)
 }
 
 // The job has another priority on one copy: CKPT1 counts, whichever it is, and the other doesn't fit.
@@ -171,114 +143,4 @@ fn loses_ckpt2_where_pages_of_a_level_differ(rt: HostRuntime) -> Result<(), Fail
         assert!(rt; ended.plant.lost(Part::Disk(Dev::Ckpt2)));
     }
     Ok(())
-}
-
-// A stop after the gate of CKPT1 was synced: the job is in Convert, and both copies read equal pages.
-#[test]
-fn brings_up_the_copy_that_lags(rt: HostRuntime) -> Result<(), Fail> {
-    let alloc = rt.alloc();
-    let stopped = play(alloc, DECK, halting(alloc, KEPT - OPEN)?)?;
-    let now = stopped.plant.now();
-    let mut ended = start(alloc, b"", stopped.plant.crash_at(alloc, now, Choice::New)?)?;
-    assert_eq!(rt; ended.status, Status::Done);
-    has_jobs(&rt, &ended, 1);
-    assert!(rt; !ended.plant.lost(Part::Disk(Dev::Ckpt1)));
-    assert!(rt; !ended.plant.lost(Part::Disk(Dev::Ckpt2)));
-    for page in 1..37 {
-        let first = block(&rt, &mut ended.plant, Dev::Ckpt1, page);
-        let second = block(&rt, &mut ended.plant, Dev::Ckpt2, page);
-        assert!(rt; first == second, "page {page}");
-    }
-    Ok(())
-}
-
-// How many batches of a run were kept at a moment, and whether one was in flight then.
-fn kept_at(run: &Ended<MemPlant>, t: u64) -> (usize, bool) {
-    let mut kept = 0;
-    let mut flying = false;
-    for batch in run.journal.batches.as_slice() {
-        if batch.last <= t {
-            if kept < 3 {
-                kept += 1;
-            }
-        } else if batch.first <= t {
-            flying = true;
-        }
-    }
-    (kept, flying)
-}
-
-// The queue that a warm start finds after a crash is that after the kept decks, or with the one in flight.
-fn starts_after(
-    rt: &impl Abort,
-    alloc: Global,
-    run: &Ended<MemPlant>,
-    t: u64,
-    choice: Choice,
-) -> Result<(), Fail> {
-    assert!(rt; t <= run.plant.now());
-    let ended = start(alloc, b"", run.plant.crash_at(alloc, t, choice)?)?;
-    assert_eq!(rt; ended.status, Status::Done, "moment {t}");
-    let (kept, flying) = kept_at(run, t);
-    let found = ended.base.jobs.len();
-    assert!(rt;
-        found == kept || flying && kept <= 3 && found == kept + 1,
-        "moment {t}"
-    );
-    has_jobs(rt, &ended, found);
-    is_reset(rt, &ended);
-    Ok(())
-}
-
-// A crash at every so many moments of a run.
-fn starts_after_moments(
-    rt: &impl Abort,
-    alloc: Global,
-    plant: MemPlant,
-    every: u64,
-) -> Result<(), Fail>
-    requires { 1 ≤ every }
-{
-    let run = play(alloc, THREE, plant)?;
-    assert_eq!(rt; run.status, Status::Done);
-    for t in run.since..=run.plant.now() {
-        if t % every == 0 {
-            for choice in CHOICES {
-                starts_after(rt, alloc, &run, t, choice)?;
-            }
-        }
-    }
-    Ok(())
-}
-
-#[test]
-fn starts_after_a_crash(rt: HostRuntime) -> Result<(), Fail> {
-    starts_after_moments(&rt, rt.alloc(), plant(rt.alloc())?, 60)
-}
-
-#[test]
-fn starts_after_a_crash_amid_gates(rt: HostRuntime) -> Result<(), Fail> {
-    let alloc = rt.alloc();
-    let run = play(alloc, DECK, plant(alloc)?)?;
-    for t in KEPT - 2 * OPEN..=KEPT {
-        for choice in CHOICES {
-            starts_after(&rt, alloc, &run, t, choice)?;
-        }
-    }
-    Ok(())
-}
-
-// Either copy is lost in the formatting.
-#[test]
-fn starts_with_one_copy(rt: HostRuntime) -> Result<(), Fail> {
-    for act in [0, FORM] {
-        starts_after_moments(&rt, rt.alloc(), failing(rt.alloc(), act)?, 60)?;
-    }
-    Ok(())
-}
-
-// CKPT1 is lost in the first batch.
-#[test]
-fn starts_after_a_loss(rt: HostRuntime) -> Result<(), Fail> {
-    starts_after_moments(&rt, rt.alloc(), failing(rt.alloc(), FORMED)?, 50)
 }
