@@ -1,12 +1,12 @@
 -- What the bytes of a copy's pages stand for, what entries do, and what closing lines tell.
 --
--- As long as texts aren't spooled, every text is empty and a deck takes no track groups. So Enter isn't refused for want
+-- As long as texts aren't spooled, a text with lines is gone, and a deck takes no track groups. So Enter isn't refused for want
 -- of groups here, where the table of commands refuses it with Nothing; every other command and refusal is the table's.
-use Rattle.std.specs.Prelude.{◌≡◌, ℕ, Bool, true, false, List, [], ◌∷◌}
+use Rattle.std.specs.Prelude.{◌≡◌, ℕ, ◌==◌, Bool, true, false, if◌then◌else◌, List, [], ◌∷◌}
 use Rattle.mas_types.specs.declared.ids.MemberId.{MemberId}
 use Rattle.mas_types.specs.declared.ids.Page.{Page}
 use Rattle.mas_types.specs.declared.jobs.Text.{Text}
-use Rattle.mas_types.specs.declared.jobs.Text.TheVariants.{Whole}
+use Rattle.mas_types.specs.declared.jobs.Text.TheVariants.{Whole, Gone}
 use Rattle.mas_types.specs.declared.queues.Queue.{Queue}
 use Rattle.mas_types.specs.declared.journals.Entry.{Entry}
 use Rattle.mas_types.specs.declared.commands.Command.{Command}
@@ -38,11 +38,15 @@ abbrev pub replies : Queue → List Entry → List Reply
 replies Q [] = []
 replies Q (e ∷ es) = (step Q e.by e.command).1 ∷ replies (step Q e.by e.command).0 es
 
+-- a text of so many lines: one without lines is there, any other is gone
+abbrev pub unspooled : ℕ → Text
+unspooled lines = if lines == 0 then Whole [] else Gone (record { 0 = 0 }) lines
+
 abbrev pub no_deck : JobRec → Text
-no_deck job = Whole []
+no_deck job = unspooled job.cards
 
 abbrev pub no_print : OutRec → Text
-no_print output = Whole []
+no_print output = unspooled output.lines
 
 -- The bytes are the pages of a checkpoint, which stands for the queue. This is the one place where the queue of pages
 -- is compared with a queue.

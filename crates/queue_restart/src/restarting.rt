@@ -6,8 +6,9 @@ ghost use Rattle.queue_restart.specs.Restarts.{AreRestarted};
 
 use ckpt_pages::Tables;
 use mas_types::{Command, MemberId, NoMemory};
-use queue_effect::{apply, law_of_fit_tables, law_of_standing};
+use queue_effect::law_of_fit_tables;
 use std::alloc::Global;
+use table_commands::give;
 
 /// The operator, who gives Restart.
 const OPERATOR: MemberId = MemberId(0);
@@ -22,8 +23,7 @@ pub fn restart(alloc: Global, tables: &mut Tables) -> Result<(), NoMemory>
     ensures err { OnErr result (tables.new ≡ tables.old) }
 {
     law_of_fit_tables();
-    law_of_standing();
-    match apply(alloc, tables, OPERATOR, &Command::Restart) {
+    match give(alloc, tables, OPERATOR, &Command::Restart) {
         Ok(_reply) => Ok(()),
         Err(NoMemory) => Err(NoMemory),
     }

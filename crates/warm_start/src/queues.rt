@@ -3,12 +3,12 @@ ghost use Rattle.std.specs.Prelude.{◌≡◌, List, Option, IfOk, map};
 ghost use Rattle.lay_bytes.specs.declared.records.JobRec.{JobRec as JobRecLem};
 ghost use Rattle.lay_bytes.specs.declared.records.OutRec.{OutRec as OutRecLem};
 ghost use Rattle.ckpt_pages.specs.QueueOf.{used, in_order, job_with, output_with, queue_of as queue_of_lem};
-ghost use Rattle.mas_complex.specs.Meaning.{no_deck, no_print};
+ghost use Rattle.mas_complex.specs.Meaning.{no_deck, no_print, unspooled};
 ghost use Rattle.warm_start.specs.Usable.{StandForTheirQueue};
 
 use ckpt_pages::Tables;
 use lay_bytes::{JobRec, OutRec};
-use mas_types::{Copied, Job, Lines, List, NoMemory, Output, Queue, Text};
+use mas_types::{Copied, GroupNo, Job, Lines, List, NoMemory, Output, Queue, Text};
 use std::alloc::{AllocError, Global};
 
 // What stands in the slots that aren't free.
@@ -43,7 +43,18 @@ fn outputs_in_order(alloc: Global, slots: &[Option<OutRec>]) -> Result<Vec<OutRe
     Ok(records)
 }
 
-// The jobs of the slots, each without a text.
+// A text of so many lines, which is gone where it has any.
+fn text_of(alloc: Global, lines: u16) -> Text
+    ensures { result ≡ unspooled lines }
+{
+    if lines == 0 {
+        Text::Whole(Lines::new(alloc))
+    } else {
+        Text::Gone(GroupNo(0), lines)
+    }
+}
+
+// The jobs of the slots, whose texts are gone.
 fn jobs_of(alloc: Global, slots: &[Option<JobRec>]) -> Result<List<Job>, NoMemory>
     ensures { IfOk result (λ jobs. jobs ≡ map (job_with no_deck) (in_order (λ r. r.order) (used slots.now))) }
 {
@@ -56,13 +67,13 @@ fn jobs_of(alloc: Global, slots: &[Option<JobRec>]) -> Result<List<Job>, NoMemor
             phase: record.phase,
             cancelled: record.cancelled,
             busy: record.busy,
-            text: Text::Whole(Lines::new(alloc)),
+            text: text_of(alloc, record.cards),
         })?;
     }
     Ok(jobs)
 }
 
-// The outputs of the slots, each without a text.
+// The outputs of the slots, whose texts are gone.
 fn outputs_of(alloc: Global, slots: &[Option<OutRec>]) -> Result<List<Output>, NoMemory>
     ensures { IfOk result (λ outputs. outputs ≡ map (output_with no_print) (in_order (λ r. r.order) (used slots.now))) }
 {
@@ -79,13 +90,14 @@ fn outputs_of(alloc: Global, slots: &[Option<OutRec>]) -> Result<List<Output>, N
             held: record.held,
             busy: record.busy,
             mark: record.mark,
-            text: Text::Whole(Lines::new(alloc)),
+            text: text_of(alloc, record.lines),
         })?;
     }
     Ok(outputs)
 }
 
-/// The queue of tables: jobs and outputs by ascending order, each without a text, and all else as the tables have it.
+/// The queue of tables: jobs and outputs by ascending order, whose texts are gone where they have lines, and all else as the
+/// tables have it.
 pub fn queue_of(alloc: Global, tables: &Tables) -> Result<Queue, NoMemory>
     ensures { IfOk result (λ queue. queue ≡ queue_of_lem tables.now no_deck no_print) }
 {

@@ -1,0 +1,216 @@
+-- Calls on the copies, one after another.
+use Rattle.std.proofs.Common.{◌≡◌, ◌≢◌, ◌⊎◌, inl, inr, ⊎_elim, ℕ, ◌≤◌, ◌||◌, Bool, true, false, List, refl, sym, ◌∙◌, ap, subst, arith}
+use Rattle.mas_types.specs.declared.ids.Dev.{Dev}
+use Rattle.mas_types.specs.declared.ids.Dev.TheVariants.{Ckpt1, Ckpt2, Spool}
+use Rattle.spool_disk.specs.declared.plant.Part.TheVariants.{Disk as DiskPart, Console}
+use Rattle.spool_disk.specs.declared.plant.Act.{Act}
+use Rattle.spool_disk.specs.View.{View, World, disk_at}
+use Rattle.spool_disk.specs.Acts.{Goes, Acts, Says, Loses, Rose, next}
+use Rattle.ckpt_copy.specs.Moments.{either_way, goes_on, goes_none}
+use Rattle.duplex_pair.specs.Halves.{Acted, IsCkpt}
+use Rattle.duplex_pair.specs.Both.{PairActed}
+use Rattle.duplex_pair.proofs.Composing.{acted_first, acted_second}
+use Rattle.mas_complex.specs.Elsewhere.{Elsewhere}
+use Rattle.member_node.specs.Calls.{Apart, Course, Grows, IsOnlyOn, WasLost}
+
+-- WHICH COPIES COUNT AS ALIVE
+
+pub no : (b : Bool) → b ≡ true → b ≡ false → ⊥
+no b p q = cc
+
+pub first_acted : (by : ℕ) (old new : View) (a a' b b' stopped : Bool) → b' ≡ b → Acted by Ckpt1 a a' stopped old new → PairActed by a a' b b' stopped old new
+first_acted by old new a a' b b' stopped same acted =
+    subst (λ (x : Bool). PairActed by a a' b x stopped old new) (sym same) (acted_first by old new a a' b stopped Ckpt1 refl acted)
+
+pub second_acted : (by : ℕ) (old new : View) (a a' b b' stopped : Bool) → a' ≡ a → Acted by Ckpt2 b b' stopped old new → PairActed by a a' b b' stopped old new
+second_acted by old new a a' b b' stopped same acted =
+    subst (λ (x : Bool). PairActed by a x b b' stopped old new) (sym same) (acted_second by old new b b' a stopped Ckpt2 refl acted)
+
+same_alive : (was is : Bool) → (is ≡ true → was ≡ true) → is ≡ true → is ≡ was
+same_alive was is so now = now ∙ sym (so now)
+
+disks_apart : DiskPart Ckpt1 ≢ DiskPart Ckpt2
+disks_apart e = absurd (cc)
+
+disks_apart_too : DiskPart Ckpt2 ≢ DiskPart Ckpt1
+disks_apart_too e = absurd (cc)
+
+pub course_of : (by : ℕ) (a a' b b' stopped : Bool) (old new : View) → PairActed by a a' b b' stopped old new → Course a a' b b' old new
+course_of by a a' b b' stopped old new acted = record {
+  goes = acted.goes;
+  failed1 = λ was not. inl (acted.failed1 was not);
+  failed2 = λ was not. inl (acted.failed2 was not);
+  there1 = λ is there. acted.else_lost (DiskPart Ckpt1) (inr (same_alive a a' acted.alive1 is)) (inl disks_apart) ∙ there;
+  there2 = λ is there. acted.else_lost (DiskPart Ckpt2) (inl disks_apart_too) (inr (same_alive b b' acted.alive2 is)) ∙ there;
+  alive1 = acted.alive1;
+  alive2 = acted.alive2;
+  grow = λ d. inl (acted.loses d);
+}
+
+pub course_none : (a b : Bool) (v : View) → Course a a b b v v
+course_none a b v = record {
+  goes = goes_none v;
+  failed1 = λ is not. absurd (no a is not);
+  failed2 = λ is not. absurd (no b is not);
+  there1 = λ is there. there;
+  there2 = λ is there. there;
+  alive1 = λ is. is;
+  alive2 = λ is. is;
+  grow = λ d. inl refl;
+}
+
+-- COUNTS THAT ROSE
+
+pub rose_later : (x y z : ℕ) → x ≤ y → Rose y z → Rose x z
+rose_later x y z le rose = omega (arith, le, rose)
+
+pub rose_more : (x y z : ℕ) → Rose x y → y ≤ z → Rose x z
+rose_more x y z rose le = omega (arith, le, rose)
+
+pub rose_grow : (x y z : ℕ) → Rose x y → Grows y z → Rose x z
+rose_grow x y z rose grow = ⊎_elim (λ same. omega (arith, rose, same)) (λ more. omega (arith, rose, more)) grow
+
+pub grow_rose : (x y z : ℕ) → Grows x y → Rose y z → Rose x z
+grow_rose x y z grow rose = ⊎_elim (λ same. omega (arith, rose, same)) (λ more. omega (arith, rose, more)) grow
+
+grow_grow : (x y z : ℕ) → Grows x y → Grows y z → Grows x z
+grow_grow x y z one two = ⊎_elim (λ same. ⊎_elim (λ still. inl (still ∙ same)) (λ rose. inr (grow_rose x y z one rose)) two) (λ rose. inr (rose_grow x y z rose two)) one
+
+pub lost_more : (d : Dev) (v0 v1 v2 : View) → WasLost d v0 v1 → Goes v1 v2 → Grows (v1.loses d) (v2.loses d) → WasLost d v0 v2
+lost_more d v0 v1 v2 lost goes grow = ⊎_elim
+    (λ rose. inl (rose_more (v0.faults (DiskPart d)) (v1.faults (DiskPart d)) (v2.faults (DiskPart d)) rose (goes.faults (DiskPart d))))
+    (λ rose. inr (rose_grow (v0.loses d) (v1.loses d) (v2.loses d) rose grow))
+    lost
+
+pub lost_later : (d : Dev) (v0 v1 v2 : View) → Goes v0 v1 → Grows (v0.loses d) (v1.loses d) → WasLost d v1 v2 → WasLost d v0 v2
+lost_later d v0 v1 v2 goes grow lost = ⊎_elim
+    (λ rose. inl (rose_later (v0.faults (DiskPart d)) (v1.faults (DiskPart d)) (v2.faults (DiskPart d)) (goes.faults (DiskPart d)) rose))
+    (λ rose. inr (grow_rose (v0.loses d) (v1.loses d) (v2.loses d) grow rose))
+    lost
+
+-- ONE CALL AFTER ANOTHER
+
+either_alive : {A : Type 0} (x : Bool) → (x ≡ true → A) → (x ≡ false → A) → A
+either_alive true f g = f refl
+either_alive false f g = g refl
+
+pub course_then : (a a' a'' b b' b'' : Bool) (v0 v1 v2 : View) → Course a a' b b' v0 v1 → Course a' a'' b' b'' v1 v2 → Course a a'' b b'' v0 v2
+course_then a a' a'' b b' b'' v0 v1 v2 x y = record {
+  goes = goes_on v0 v1 v2 x.goes y.goes;
+  failed1 = λ was not. either_alive a'
+      (λ is. lost_later Ckpt1 v0 v1 v2 x.goes (x.grow Ckpt1) (y.failed1 is not))
+      (λ gone. lost_more Ckpt1 v0 v1 v2 (x.failed1 was gone) y.goes (y.grow Ckpt1));
+  failed2 = λ was not. either_alive b'
+      (λ is. lost_later Ckpt2 v0 v1 v2 x.goes (x.grow Ckpt2) (y.failed2 is not))
+      (λ gone. lost_more Ckpt2 v0 v1 v2 (x.failed2 was gone) y.goes (y.grow Ckpt2));
+  there1 = λ is there. y.there1 is (x.there1 (y.alive1 is) there);
+  there2 = λ is there. y.there2 is (x.there2 (y.alive2 is) there);
+  alive1 = λ is. x.alive1 (y.alive1 is);
+  alive2 = λ is. x.alive2 (y.alive2 is);
+  grow = λ d. grow_grow (v0.loses d) (v1.loses d) (v2.loses d) (x.grow d) (y.grow d);
+}
+
+disk_not_console : (d : Dev) → DiskPart d ≢ Console
+disk_not_console d e = absurd (cc)
+
+-- a line that is said
+course_line : (by : ℕ) (a b : Bool) (v1 v2 : View) (said : Act) → Acts by Console v1 v2 said → Course a a b b v1 v2
+course_line by a b v1 v2 said act = record {
+  goes = act.goes;
+  failed1 = λ is not. absurd (no a is not);
+  failed2 = λ is not. absurd (no b is not);
+  there1 = λ is there. act.else_lost (DiskPart Ckpt1) (inl (disk_not_console Ckpt1)) ∙ there;
+  there2 = λ is there. act.else_lost (DiskPart Ckpt2) (inl (disk_not_console Ckpt2)) ∙ there;
+  alive1 = λ is. is;
+  alive2 = λ is. is;
+  grow = λ d. inl (act.loses d);
+}
+
+-- and a line was said then
+pub course_said : (by : ℕ) (a a' b b' : Bool) (v0 v1 v2 : View) (said : Act) → Course a a' b b' v0 v1 → Acts by Console v1 v2 said → Course a a' b b' v0 v2
+course_said by a a' b b' v0 v1 v2 said course act = course_then a a' a' b b' b' v0 v1 v2 course (course_line by a' b' v1 v2 said act)
+
+-- A COPY THAT IS LOST BY A CALL
+
+risen : (m n : ℕ) → n ≡ next m → Rose m n
+risen m n is = omega (arith, is)
+
+first_part : DiskPart Ckpt2 ≢ DiskPart Ckpt1
+first_part e = absurd (cc)
+
+second_part : DiskPart Ckpt1 ≢ DiskPart Ckpt2
+second_part e = absurd (cc)
+
+spool_part : (n : ℕ) (d : Dev) → IsCkpt d → DiskPart (Spool n) ≢ DiskPart d
+spool_part n Ckpt1 is e = absurd (cc)
+spool_part n Ckpt2 is e = absurd (cc)
+spool_part n (Spool v) is e = absurd is
+
+pub course_first : (a a' b b' : Bool) (old new : View) → Loses (DiskPart Ckpt1) old new → a' ≡ false → b' ≡ b → Course a a' b b' old new
+course_first a a' b b' old new loses dead same = record {
+  goes = loses.goes;
+  failed1 = λ was not. inr (risen (old.loses Ckpt1) (new.loses Ckpt1) (loses.counted Ckpt1 refl));
+  failed2 = λ was not. absurd (no b was (sym same ∙ not));
+  there1 = λ is there. absurd (no a' is dead);
+  there2 = λ is there. loses.else_lost (DiskPart Ckpt2) first_part ∙ there;
+  alive1 = λ is. absurd (no a' is dead);
+  alive2 = λ is. sym same ∙ is;
+  grow = grows;
+} where
+  grows : (d : Dev) → Grows (old.loses d) (new.loses d)
+  grows Ckpt1 = inr (risen (old.loses Ckpt1) (new.loses Ckpt1) (loses.counted Ckpt1 refl))
+  grows Ckpt2 = inl (loses.else_counted Ckpt2 first_part)
+  grows (Spool n) = inl (loses.else_counted (Spool n) (spool_part n Ckpt1 tt))
+
+pub course_second : (a a' b b' : Bool) (old new : View) → Loses (DiskPart Ckpt2) old new → b' ≡ false → a' ≡ a → Course a a' b b' old new
+course_second a a' b b' old new loses dead same = record {
+  goes = loses.goes;
+  failed1 = λ was not. absurd (no a was (sym same ∙ not));
+  failed2 = λ was not. inr (risen (old.loses Ckpt2) (new.loses Ckpt2) (loses.counted Ckpt2 refl));
+  there1 = λ is there. loses.else_lost (DiskPart Ckpt1) second_part ∙ there;
+  there2 = λ is there. absurd (no b' is dead);
+  alive1 = λ is. sym same ∙ is;
+  alive2 = λ is. absurd (no b' is dead);
+  grow = grows;
+} where
+  grows : (d : Dev) → Grows (old.loses d) (new.loses d)
+  grows Ckpt1 = inl (loses.else_counted Ckpt1 second_part)
+  grows Ckpt2 = inr (risen (old.loses Ckpt2) (new.loses Ckpt2) (loses.counted Ckpt2 refl))
+  grows (Spool n) = inl (loses.else_counted (Spool n) (spool_part n Ckpt2 tt))
+
+-- one of two copies that are left
+pub left : {A B : Type 0} (x y : Bool) → (x || y) ≡ true → (x ≡ true → A) → (y ≡ true → B) → A ⊎ B
+left true y some f g = inl (f refl)
+left false true some f g = inr (g refl)
+left false false some f g = absurd (cc)
+
+-- WHAT STAYS AS IT WAS
+
+pub apart_first : (old new : View) → old.now ≤ new.now → Elsewhere Ckpt1 old new → Apart old new
+apart_first old new later e = record { others = λ t from le d one two. e.others t from le d one; console = e.console new.now later (omega arith) }
+
+pub apart_second : (old new : View) → old.now ≤ new.now → Elsewhere Ckpt2 old new → Apart old new
+apart_second old new later e = record { others = λ t from le d one two. e.others t from le d two; console = e.console new.now later (omega arith) }
+
+-- two calls one after the other that act on the copies alone
+pub only_on : (entry old new : View) → entry.now ≤ old.now → Goes old new → IsOnlyOn entry old → IsOnlyOn old new → IsOnlyOn entry new
+only_on entry old new later goes before after t from le d one two = ⊎_elim
+    (λ early. ap (λ (w : World). w.disk d) (goes.past t early) ∙ before t from early d one two)
+    (λ late. after t (omega arith) le d one two ∙ before old.now later (omega arith) d one two)
+    (either_way t old.now)
+
+pub only_none : (v : View) → IsOnlyOn v v
+only_none v t from le d one two = let now : t ≡ v.now = omega arith in ap (λ (n : ℕ). disk_at v n d) now
+
+pub apart_then : (old mid new : View) → old.now ≤ mid.now → Goes mid new → Apart old mid → Apart mid new → Apart old new
+apart_then old mid new later goes x y = record { others = only_on old mid new later goes x.others y.others; console = y.console ∙ x.console }
+
+-- a moment after one act is that before it or the one that it made
+after_act : (v1 v2 : View) (t : ℕ) → v2.now ≡ next v1.now → v1.now ≤ t → t ≤ v2.now → (t ≡ v1.now) ⊎ (t ≡ v2.now)
+after_act v1 v2 t time from le = ⊎_elim (λ h. inl (omega arith)) (λ h. inr (omega (arith, time))) (either_way t v1.now)
+
+pub only_said : (by : ℕ) (line : List ℕ) (v1 v2 : View) (said : Act) → Acts by Console v1 v2 said → Says line v1 v2 said → IsOnlyOn v1 v2
+only_said by line v1 v2 said act says t from le d one two = ⊎_elim
+    (λ e. ap (λ (n : ℕ). disk_at v2 n d) e ∙ ap (λ (w : World). w.disk d) (act.goes.past v1.now (omega arith)))
+    (λ e. ap (λ (n : ℕ). disk_at v2 n d) e ∙ says.disks d)
+    (after_act v1 v2 t act.time from le)

@@ -1,0 +1,138 @@
+-- An entry that a batch gets, and what a plain command is in the shared value.
+use Rattle.std.proofs.Common.{◌≡◌, ℕ, suc, zero, ◌+◌, ◌-◌, ◌==◌, Bool, true, false, List, [], ◌∷◌, ◌++◌, length, slice_get, slice_set, Some, refl, sym, ◌∙◌, ap, subst, arith, All, append-nil}
+use Rattle.std.specs.List.{remove}
+use Rattle.std.proofs.lemmas.List.Edits.{remove-append_right}
+use Rattle.std.proofs.lemmas.Bool.{eqb-true}
+use Rattle.mas_types.specs.declared.ids.MemberId.{MemberId}
+use Rattle.mas_types.specs.declared.ids.JobNo.{JobNo}
+use Rattle.mas_types.specs.declared.ids.OutNo.{OutNo}
+use Rattle.mas_types.specs.declared.ids.Page.{Page}
+use Rattle.mas_types.specs.Limits.{page_bytes}
+use Rattle.mas_types.specs.Queue.{line_count}
+use Rattle.mas_types.specs.declared.commands.Command.{Command}
+use Rattle.mas_types.specs.declared.commands.Command.TheVariants as command
+use Rattle.mas_types.specs.declared.journals.Entry.{Entry}
+use Rattle.mas_types.specs.declared.queues.Queue.{Queue}
+use Rattle.mas_types.specs.Step as table
+use Rattle.ckpt_pages.specs.declared.tables.Tables.{Tables}
+use Rattle.ckpt_pages.specs.Shape.{HasSpelling, AreLevels, page_count}
+use Rattle.ckpt_pages.specs.StandsFor.{StandsFor}
+use Rattle.queue_effect.specs.Standing.{AreFit}
+use Rattle.mas_complex.specs.Meaning.{step, run, unspooled, no_deck, no_print}
+use Rattle.mas_complex.specs.Replies.{HaveReplies}
+use Rattle.table_commands.specs.Stored.{AreTexts, is_plain}
+use Rattle.member_node.specs.declared.checkpoint.Checkpoint.{Checkpoint}
+use Rattle.member_node.specs.Batches.{HasDone, last_reply}
+use Rattle.member_node.specs.Drawn.{AreDrawn}
+use Rattle.member_node.specs.Standing.{queue_of}
+use Rattle.member_node.proofs.WriteLemmas.{run_append}
+
+-- the last item written anew
+pub set_last : {X : Type 0} (xs : List X) (p e : X) (n : ℕ) → n ≡ length xs → slice_set (xs ++ p ∷ []) n e ≡ xs ++ e ∷ []
+set_last [] p e zero is = refl
+set_last [] p e (suc n) is = absurd (omega (arith, is))
+set_last (x ∷ xs) p e zero is = absurd (omega (arith, is))
+set_last (x ∷ xs) p e (suc n) is = let rest = set_last xs p e n (omega (arith, is)) in ap (λ (l : List _). x ∷ l) rest
+
+-- a place that is added and then written
+pub given_entry : (batch more done : List Entry) (place e : Entry) (at : ℕ) → more ≡ batch ++ place ∷ [] → at ≡ length batch → done ≡ slice_set more at e → done ≡ batch ++ e ∷ []
+given_entry batch more done place e at one two three = three ∙ ap (λ (l : List Entry). slice_set l at e) one ∙ set_last batch place e at two
+
+-- and one that is taken away
+pub taken_entry : (batch more done : List Entry) (place : Entry) (at : ℕ) → more ≡ batch ++ place ∷ [] → at ≡ length batch → done ≡ remove more at → done ≡ batch
+taken_entry batch more done place at one two three =
+    let here : at - length batch ≡ 0 = omega (arith, two) in
+    three ∙ ap (λ (l : List Entry). remove l at) one ∙ remove-append_right batch (place ∷ []) (length batch) at refl (omega (arith, two))
+    ∙ ap (λ (n : ℕ). batch ++ remove (place ∷ []) n) here ∙ append-nil batch
+
+-- the reply to the last entry
+pub last_is : (es : List Entry) (e : Entry) (n : ℕ) → n + 1 ≡ length es → slice_get es n ≡ Some e → last_reply es ≡ e.reply
+last_is [] e n many here = absurd (omega (arith, many))
+last_is (x ∷ []) e zero many here = let same : x ≡ e = cc in ap (λ (y : Entry). y.reply) same
+last_is (x ∷ []) e (suc n) many here = absurd (omega (arith, many))
+last_is (x ∷ y ∷ es) e zero many here = absurd (omega (arith, many))
+last_is (x ∷ y ∷ es) e (suc n) many here = last_is (y ∷ es) e n (omega (arith, many)) here
+
+-- THE COMMANDS DONE
+
+replies_append : (Q : Queue) (es fs : List Entry) → HaveReplies Q es → HaveReplies (run Q es) fs → HaveReplies Q (es ++ fs)
+replies_append Q [] fs one two = two
+replies_append Q (e ∷ es) fs one two = (one.0, replies_append (step Q e.by e.command).0 es fs one.1 two)
+
+leveled_too : (t u : Tables) (at : ℕ) (levels : List ℕ) → u.config ≡ t.config → AreLevels t at levels → AreLevels u at levels
+leveled_too t u at levels same is = record { count = is.count ∙ ap page_count (sym same); first = is.first; each = is.each; most = is.most }
+
+-- one command more
+pub more_done : (Q : Queue) (entries : List Entry) (k n : Checkpoint) (e : Entry) → HasDone Q entries k → n.pages ≡ k.pages → n.level ≡ k.level → n.levels ≡ k.levels → n.tables.config ≡ k.tables.config
+    → HasSpelling n.tables → AreFit n.tables → e.reply ≡ (step (queue_of k.tables) e.by e.command).1 → queue_of n.tables ≡ (step (queue_of k.tables) e.by e.command).0 → HasDone Q (entries ++ e ∷ []) n
+more_done Q entries k n e done pages level levels config spelling fit reply queue =
+    let at : queue_of k.tables ≡ run Q entries = done.queue in
+    record {
+      pages = subst (λ (ps : List Page). StandsFor ps n.level no_deck no_print Q) (sym pages) (subst (λ (l : ℕ). StandsFor k.pages l no_deck no_print Q) (sym level) done.pages);
+      leveled = leveled_too k.tables n.tables n.level n.levels config (subst (λ (l : ℕ). AreLevels k.tables l n.levels) (sym level) (subst (AreLevels k.tables k.level) (sym levels) done.leveled));
+      as_many = ap length pages ∙ done.as_many ∙ ap page_count (sym config);
+      sized = subst (All (λ page. length page.0 ≡ page_bytes)) (sym pages) done.sized;
+      spelling = spelling;
+      fit = fit;
+      queue = queue ∙ ap (λ (R : Queue). (step R e.by e.command).0) at ∙ sym (run_append Q entries (e ∷ []));
+      replied = replies_append Q entries (e ∷ []) done.replied (reply ∙ ap (λ (R : Queue). (step R e.by e.command).1) at, tt);
+    }
+
+-- nothing was done yet
+pub nothing_done : (k : Checkpoint) → AreDrawn k.tables k.level k.levels k.pages → AreFit k.tables → HasDone (queue_of k.tables) [] k
+nothing_done k drawn fit = record {
+  pages = record { tables = k.tables; levels = k.levels; fit = drawn.spelling; ages = drawn.leveled; spell = drawn.spelled; is = refl };
+  leveled = drawn.leveled;
+  as_many = drawn.spelled.count;
+  sized = drawn.sized;
+  spelling = drawn.spelling;
+  fit = fit;
+  queue = refl;
+  replied = tt;
+}
+
+-- TEXTS THAT AREN'T SPOOLED
+
+by_test : {A : Type 0} (b : Bool) → (b ≡ true → A) → (b ≡ false → A) → A
+by_test true f g = f refl
+by_test false f g = g refl
+
+unspooled_lines : (n : ℕ) → line_count (unspooled n) ≡ n
+unspooled_lines n = by_test (n == 0) (λ e. rw e (sym (eqb-true n 0 e))) (λ e. rw e refl)
+
+pub unspooled_texts : AreTexts (λ (n : JobNo). unspooled) (λ (n : JobNo) (i : OutNo). unspooled)
+unspooled_texts = record { cards = λ n count. unspooled_lines count; lines = λ n i count. unspooled_lines count; empty = λ n. refl }
+
+-- a plain command is the table's
+pub plain_step : (Q : Queue) (m : MemberId) (c : Command) → is_plain c ≡ true → step Q m c ≡ table.step Q m c
+plain_step Q m (command.Begin fields) plain = refl
+plain_step Q m (command.Take want) plain = refl
+plain_step Q m (command.Drop job) plain = refl
+plain_step Q m (command.Enter job text) plain = absurd (cc)
+plain_step Q m command.TakeConvert plain = refl
+plain_step Q m (command.Converted job) plain = refl
+plain_step Q m command.TakeExec plain = refl
+plain_step Q m (command.Ended job specs) plain = refl
+plain_step Q m command.Gather plain = refl
+plain_step Q m command.Pick plain = refl
+plain_step Q m (command.Mark job index at) plain = refl
+plain_step Q m (command.Done job index) plain = refl
+plain_step Q m command.Purge plain = refl
+plain_step Q m (command.Hold job) plain = refl
+plain_step Q m (command.Release job) plain = refl
+plain_step Q m (command.Cancel job) plain = refl
+plain_step Q m (command.SetPrio job prio) plain = refl
+plain_step Q m (command.SetClass job class) plain = refl
+plain_step Q m (command.Out job) plain = refl
+plain_step Q m (command.CancelOut job index) plain = refl
+plain_step Q m (command.SetOut job index class) plain = refl
+plain_step Q m (command.Show what) plain = refl
+plain_step Q m (command.SetInit classes) plain = refl
+plain_step Q m (command.SetPrt classes forms lines) plain = refl
+plain_step Q m (command.Back lines) plain = refl
+plain_step Q m (command.Forward lines) plain = refl
+plain_step Q m (command.Reset of_member) plain = refl
+plain_step Q m command.Restart plain = refl
+plain_step Q m (command.Load line) plain = refl
+plain_step Q m (command.Sent line number) plain = refl
+plain_step Q m (command.Got line number job text) plain = refl

@@ -1,0 +1,40 @@
+use Rattle.mas_types.specs.declared.ids.Dev.TheVariants.{Ckpt1, Ckpt2}
+use Rattle.spool_disk.specs.View.{disk_now}
+use Rattle.mas_complex.specs.Journals.{kept_all}
+use Rattle.mas_complex.specs.Meaning.{run}
+use Rattle.ckpt_pages.proofs.DecodingLemmas.{one_queue}
+use Rattle.member_node.proofs.ReadyLemmas.{ready_copy, ready_count, ready_draft, ready_level}
+use Rattle.member_node.proofs.member.Member.ready.Goals as goal
+
+pub returns-clause-level : goal.returns-clause-level
+returns-clause-level g c =
+    let k = c.args.self.now.checkpoint in
+    let n = c.redraw.new.checkpoint in
+    ready_level c.in_ok-draft.draft k.level n.level k.pages n.pages c.in_ok-draft.ensures.draft
+
+pub returns-clause-draft : goal.returns-clause-draft
+returns-clause-draft g c =
+    let x = c.args.complex.now in
+    let e = c.in_ok-draft.ensures in
+    ready_draft one_queue c.in_ok-draft.draft g.P.Plant.tells (run x.base (kept_all x.journal.batches)) c.args.self.now.batch c.args.self.now.checkpoint c.redraw.new.checkpoint x.level
+    c.requires.done c.requires.level c.requires.small e.tables e.drawn e.draft
+
+pub returns-clause-draft1 : goal.returns-clause-draft1
+returns-clause-draft1 g c =
+    let x = c.args.complex.now in
+    let k = c.args.self.now.checkpoint in
+    let n = c.redraw.new.checkpoint in
+    let e = c.in_ok-draft.ensures in
+    let C = g.C.Copying in
+    ready_copy c.in_ok-draft.draft g.P.Plant.tells x.pair.first.alive x.first (C.count x.pair.first.copy) (C.room x.pair.first.copy) k.level n.level k.pages n.pages (C.reads (disk_now (g.P.Plant.view x.plant) Ckpt1).bytes)
+    c.requires.rests1 c.requires.room1 (ready_count (run x.base (kept_all x.journal.batches)) c.args.self.now.batch k n c.requires.done e.tables e.drawn) e.draft
+
+pub returns-clause-draft2 : goal.returns-clause-draft2
+returns-clause-draft2 g c =
+    let x = c.args.complex.now in
+    let k = c.args.self.now.checkpoint in
+    let n = c.redraw.new.checkpoint in
+    let e = c.in_ok-draft.ensures in
+    let C = g.C.Copying in
+    ready_copy c.in_ok-draft.draft g.P.Plant.tells x.pair.second.alive x.second (C.count x.pair.second.copy) (C.room x.pair.second.copy) k.level n.level k.pages n.pages (C.reads (disk_now (g.P.Plant.view x.plant) Ckpt2).bytes)
+    c.requires.rests2 c.requires.room2 (ready_count (run x.base (kept_all x.journal.batches)) c.args.self.now.batch k n c.requires.done e.tables e.drawn) e.draft

@@ -1,0 +1,59 @@
+use Rattle.std.proofs.Common.{◌∙◌, ◌++◌, ap, sym, subst, Err}
+use Rattle.mas_types.specs.declared.journals.Journal.{Journal}
+use Rattle.mas_types.specs.declared.queues.Queue.{Queue}
+use Rattle.ckpt_copy.specs.Pages.{bytes_of}
+use Rattle.mas_complex.specs.Journals.{entries_reserved, kept_all}
+use Rattle.mas_complex.specs.Meaning.{StandFor, run}
+use Rattle.member_node.proofs.StepLemmas.{reserved_is, write_done, write_lost, write_same, write_stopped}
+use Rattle.member_node.proofs.WriteLemmas.{run_append}
+use Rattle.member_node.proofs.member.Member.write.Goals as goal
+
+pub keep_same-requires-clause-queue : goal.keep_same-requires-clause-queue
+keep_same-requires-clause-queue g c told =
+    let x = c.args.complex.now in
+    run_append x.base (kept_all x.journal.batches) (entries_reserved x.reserved) ∙ (rw c.in-Same.is at c.requires.draft)
+
+pub commit-requires-clause-queue : goal.commit-requires-clause-queue
+commit-requires-clause-queue g c told =
+    let x = c.args.complex.now in
+    let draft = rw c.in-Changed.is at c.requires.draft in
+    let stand : StandFor (run x.base (kept_all x.journal.batches ++ entries_reserved x.reserved)) (bytes_of c.as_slice-pages.result.now) =
+    rw c.as_slice-pages.ensures (subst (λ (Q : Queue). StandFor Q (bytes_of c.args.self.now.checkpoint.pages)) (sym (run_append x.base (kept_all x.journal.batches) (entries_reserved x.reserved))) draft.2) in
+    ∣ stand ∣₁
+
+pub returns-in-Same-clause-write : goal.returns-in-Same-clause-write
+returns-in-Same-clause-write g c front place one =
+    let P = g.P.Plant in
+    let x = c.args.complex.now in
+    let z = c.keep_same.new.self in
+    let k = c.keep_same.ensures in
+    let step = write_same (Unit {0}) P.tells c.args.self.now.id (entries_reserved x.reserved) front x.journal.batches z.journal.batches place one z.placed z.current x.pair.first.alive x.pair.second.alive (P.view x.plant)
+    (k.fated (entries_reserved x.reserved) (reserved_is x.reserved c.requires.reserved)) k.unplaced (k.current ∙ c.requires.none) tt in
+    rw (k.pair, k.plant) step
+
+pub returns-in-Ok-clause-write : goal.returns-in-Ok-clause-write
+returns-in-Ok-clause-write g c front place one =
+    let P = g.P.Plant in
+    let x = c.args.complex.now in
+    let z = c.commit.new.complex in
+    let k = c.in-Ok.ensures in
+    write_done (Unit {0}) P.tells c.args.self.now.id (entries_reserved x.reserved) front x.journal.batches z.journal.batches place one z.placed z.current x.pair.first.alive x.pair.second.alive (P.view x.plant)
+    z.pair.first.alive z.pair.second.alive (P.view z.plant) k.apart k.acted k.ok k.kept k.unplaced k.none tt
+
+pub returns-in-Err-BothLost-clause-write : goal.returns-in-Err-BothLost-clause-write
+returns-in-Err-BothLost-clause-write g c front place one =
+    let P = g.P.Plant in
+    let x = c.args.complex.now in
+    let z = c.commit.new.complex in
+    let k = c.in-Err-BothLost.ensures in
+    write_lost (Unit {0}) P.tells c.args.self.now.id (entries_reserved x.reserved) front x.journal.batches z.journal.batches place one z.placed z.current x.pair.first.alive x.pair.second.alive (P.view x.plant)
+    z.pair.first.alive z.pair.second.alive (P.view z.plant) k.apart (rw c.in-Err-BothLost.field-0-is at k.acted) (k.both (ap Err c.in-Err-BothLost.field-0-is)) (ap (λ (j : Journal). j.batches) k.journal) k.flying
+
+pub returns-in-Err-Halted-clause-write : goal.returns-in-Err-Halted-clause-write
+returns-in-Err-Halted-clause-write g c front place one =
+    let P = g.P.Plant in
+    let x = c.args.complex.now in
+    let z = c.commit.new.complex in
+    let k = c.in-Err-Halted.ensures in
+    write_stopped (Unit {0}) P.tells c.args.self.now.id (entries_reserved x.reserved) front x.journal.batches z.journal.batches place one z.placed z.current x.pair.first.alive x.pair.second.alive (P.view x.plant)
+    z.pair.first.alive z.pair.second.alive (P.view z.plant) k.apart (rw c.in-Err-Halted.field-0-is at k.acted) (ap (λ (j : Journal). j.batches) k.journal) k.flying

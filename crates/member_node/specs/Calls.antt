@@ -1,0 +1,45 @@
+-- What calls on the copies leave as it was, and which copies are lost in them.
+use Rattle.std.specs.Prelude.{◌≡◌, ◌≢◌, ◌⊎◌, ℕ, Bool, true, false, List}
+use Rattle.mas_types.specs.declared.ids.Dev.{Dev}
+use Rattle.mas_types.specs.declared.ids.Dev.TheVariants.{Ckpt1, Ckpt2}
+use Rattle.spool_disk.specs.declared.plant.Part.TheVariants.{Disk}
+use Rattle.spool_disk.specs.View.{View, Line, disk_at, disk_now, Throughout}
+use Rattle.spool_disk.specs.Acts.{Goes, Rose}
+use Rattle.duplex_pair.specs.Halves.{SomeAlive}
+
+-- what stands on the console now
+abbrev pub console_now : View → List Line
+console_now v = (v.world v.now).console
+
+-- at each moment from one to the other every device but CKPT1 and CKPT2 is as it was
+abbrev pub IsOnlyOn : View → View → Type 0
+IsOnlyOn old new = Throughout old.now new.now (λ t. (d : Dev) → d ≢ Ckpt1 → d ≢ Ckpt2 → disk_at new t d ≡ disk_now old d)
+
+-- what calls leave as it was: at each moment the other devices, and at the end the console
+pub record Apart (old new : View) : Type 0 where
+  pub others : IsOnlyOn old new
+  pub console : console_now new ≡ console_now old
+
+-- a device was lost: its faults rose, or the calls that lose it did
+abbrev pub WasLost : Dev → View → View → Type 0
+WasLost d old new = Rose (old.faults (Disk d)) (new.faults (Disk d)) ⊎ Rose (old.loses d) (new.loses d)
+
+-- a count of calls that lose a device, later: the same, or it rose
+abbrev pub Grows : ℕ → ℕ → Type 0
+Grows old new = (new ≡ old) ⊎ Rose old new
+
+-- one copy counts as alive, or both are as they were
+abbrev pub IsLeft : Bool → Bool → Bool → Bool → Type 0
+IsLeft was1 is1 was2 is2 = SomeAlive is1 is2 ⊎ ((is1 ≡ was1) × (is2 ≡ was2))
+
+-- Acts of a run on its copies, of which these counted as alive before and count so after. A copy is lost exactly where
+-- its device failed or was lost by a call, and one that counts as alive isn't lost if it wasn't before.
+pub record Course (was1 is1 was2 is2 : Bool) (old new : View) : Type 0 where
+  pub goes : Goes old new
+  pub failed1 : was1 ≡ true → is1 ≡ false → WasLost Ckpt1 old new
+  pub failed2 : was2 ≡ true → is2 ≡ false → WasLost Ckpt2 old new
+  pub there1 : is1 ≡ true → old.lost (Disk Ckpt1) ≡ false → new.lost (Disk Ckpt1) ≡ false
+  pub there2 : is2 ≡ true → old.lost (Disk Ckpt2) ≡ false → new.lost (Disk Ckpt2) ≡ false
+  pub alive1 : is1 ≡ true → was1 ≡ true
+  pub alive2 : is2 ≡ true → was2 ≡ true
+  pub grow : (d : Dev) → Grows (old.loses d) (new.loses d)

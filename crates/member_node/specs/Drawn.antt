@@ -1,0 +1,19 @@
+-- Pages that are drawn from tables.
+use Rattle.std.specs.Prelude.{◌≡◌, ℕ, List, [], ◌∷◌, length, All, slice_set}
+use Rattle.mas_types.specs.declared.ids.Page.{Page}
+use Rattle.mas_types.specs.Limits.{page_bytes}
+use Rattle.ckpt_pages.specs.declared.tables.Tables.{Tables}
+use Rattle.ckpt_pages.specs.Shape.{HasSpelling, AreLevels}
+use Rattle.ckpt_pages.specs.Pages.{Spell}
+
+-- the pages spell the tables, and were drawn at this level
+pub record AreDrawn (t : Tables) (level : ℕ) (levels : List ℕ) (pages : List Page) : Type 0 where
+  pub spelling : HasSpelling t
+  pub leveled : AreLevels t level levels
+  pub spelled : Spell t levels pages
+  pub sized : All (λ page. length page.0 ≡ page_bytes) pages
+
+-- the levels, where each of these pages has the new one
+abbrev pub raised : List ℕ → ℕ → List ℕ → List ℕ
+raised [] level levels = levels
+raised (page ∷ pages) level levels = raised pages level (slice_set levels page level)

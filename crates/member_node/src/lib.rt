@@ -1,0 +1,12 @@
+//! A member with its own checkpoint: commands that it does on its tables, and the batch in which they are written to both copies.
+#![tactic(auto)]
+
+mod batch;
+mod checkpoint;
+mod lines;
+mod member;
+mod writing;
+
+pub use checkpoint::{Checkpoint, Draft, blank, redraw};
+pub use lines::reply_lines;
+pub use member::{Member, NodeNo};

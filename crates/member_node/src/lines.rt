@@ -1,0 +1,33 @@
+//! The lines that a reply gives.
+ghost use Rattle.std.specs.Prelude.{◌≡◌, ◌≤◌, IfOk};
+ghost use Rattle.mas_types.specs.Closings.{IsReplyNamed};
+ghost use Rattle.mas_types.specs.Limits.{members_most};
+ghost use Rattle.member_node.specs.Lines.{details_of, reply_lines as reply_lines_lem};
+
+use cmd_report::{closing, details};
+use mas_types::{Closing, Copied, Lines, MemberId, NoMemory, Reply};
+use std::alloc::Global;
+
+// The lines of a display.
+fn detail_lines(alloc: Global, by: MemberId, step: u32, reply: &Reply) -> Result<Lines, NoMemory>
+    requires { by.0 ≤ members_most }
+    ensures { IfOk result (λ lines. lines ≡ details_of by step reply.now) }
+{
+    match reply {
+        Reply::Shown(shown) => details(alloc, by, step, shown),
+        _ => Ok(Lines::new(alloc)),
+    }
+}
+
+/// The lines of a step that closes with this reply: those of a display, and behind them the closing line.
+pub fn reply_lines(alloc: Global, by: MemberId, step: u32, reply: &Reply) -> Result<Lines, NoMemory>
+    requires by { by.0 ≤ members_most }
+    requires named { IsReplyNamed reply.now }
+    ensures { IfOk result (λ lines. lines ≡ reply_lines_lem by step reply.now) }
+{
+    let mut lines = detail_lines(alloc, by, step, reply)?;
+    let end = Closing::Reply(reply.copy(alloc)?);
+    let line = closing(alloc, by, step, &end)?;
+    lines.push(line.as_slice())?;
+    Ok(lines)
+}

@@ -1,0 +1,134 @@
+//! A member: its checkpoint, and the commands that it has done on it.
+ghost use Rattle.std.specs.Prelude.{◌≡◌, ◌+◌, ◌≤◌, ◌<◌, ◌^◌, ◌++◌, [], ◌∷◌, true, All, length, slice_set, IfOk, OnOk, OnErr};
+ghost use Rattle.mas_types.specs.declared.queues.Queue.{Queue};
+ghost use Rattle.mas_types.specs.Closings.{IsReplyNamed};
+ghost use Rattle.mas_types.specs.Fit.{IsFit};
+ghost use Rattle.ckpt_pages.specs.Shape.{HasSpelling};
+ghost use Rattle.mas_complex.specs.Meaning.{step as step_of};
+ghost use Rattle.queue_effect.specs.Standing.{AreFit, IfRefused};
+ghost use Rattle.table_commands.specs.Stored.{IsGiver, is_plain};
+
+use crate::checkpoint::Checkpoint;
+use mas_types::{Command, Entry, List, MemberId, NoMemory, Reply};
+use std::alloc::Global;
+use table_commands::give;
+use thiserror::Error;
+
+/// Why a member's call wasn't done.
+#[derive(Clone, Copy, Debug, PartialEq, Eq, Error)]
+pub enum NodeNo {
+    /// Both copies are lost.
+    #[error("both copies are lost")]
+    BothLost,
+    /// The member was stopped: its count of stops rose in this call.
+    #[error("the member was stopped")]
+    Halted,
+    /// The console failed: its count of faults rose in this call.
+    #[error("the console failed")]
+    ConsoleFault,
+    /// There was no memory.
+    #[error("no memory")]
+    NoMemory,
+}
+
+/// A member with its own checkpoint.
+#[derive(Drop)]
+pub struct Member {
+    pub id: MemberId,
+    /// Its tables, after the commands of its batch, and the pages as they were before them.
+    pub checkpoint: Checkpoint,
+    /// The commands that it has done and not written yet.
+    pub batch: List<Entry>,
+}
+
+// The place of an entry to come.
+fn place(by: MemberId, step: u32) -> Entry {
+    Entry {
+        by,
+        step,
+        command: Command::Gather,
+        reply: Reply::Plain,
+    }
+}
+
+// Writes an entry anew.
+fn put_entry(batch: &mut List<Entry>, at: usize, entry: Entry)
+    requires { at < length batch.old }
+    ensures { batch.new ≡ slice_set batch.old at entry }
+{
+    batch.as_mut_slice()[at] = entry;
+}
+
+impl Member {
+    ghost use Rattle.member_node.specs.Batches.{HasDone, last_reply as last_of};
+    ghost use Rattle.member_node.specs.Standing.{queue_of};
+
+    /// A member with this checkpoint, which has done nothing.
+    pub fn new(alloc: Global, id: MemberId, checkpoint: Checkpoint) -> Member
+        ensures id { result.id ≡ id }
+        ensures checkpoint { result.checkpoint ≡ checkpoint }
+        ensures batch { result.batch ≡ [] }
+    {
+        Member {
+            id,
+            checkpoint,
+            batch: List::new(alloc),
+        }
+    }
+
+    /// Does a command on its tables, one that brings no text and is of no line to another node: the batch has one entry more, the
+    /// command with the reply that it has at the queue of the tables, and the tables' queue is the one that it leaves.
+    ///
+    /// NoMemory leaves the member as it was.
+    pub fn do_command(&mut self, alloc: Global, step: u32, command: Command) -> Result<(), NoMemory>
+        requires plain { is_plain command ≡ true }
+        requires command { IsFit command }
+        requires giver { IsGiver self.old.id command }
+        requires spelling { HasSpelling self.old.checkpoint.tables }
+        requires fit { AreFit self.old.checkpoint.tables }
+        requires order { self.old.checkpoint.tables.order + 32 < 2 ^ 63 }
+        ensures id { self.new.id ≡ self.old.id }
+        ensures level { self.new.checkpoint.level ≡ self.old.checkpoint.level }
+        ensures levels { self.new.checkpoint.levels ≡ self.old.checkpoint.levels }
+        ensures pages { self.new.checkpoint.pages ≡ self.old.checkpoint.pages }
+        ensures entry { OnOk result (self.new.batch ≡ self.old.batch ++ record { by = self.old.id; step = step; command = command; reply = (step_of (queue_of self.old.checkpoint.tables) self.old.id command).1 } ∷ []) }
+        ensures effect { OnOk result (queue_of self.new.checkpoint.tables ≡ (step_of (queue_of self.old.checkpoint.tables) self.old.id command).0) }
+        ensures named { OnOk result (IsReplyNamed (step_of (queue_of self.old.checkpoint.tables) self.old.id command).1) }
+        ensures refused { OnOk result (IfRefused (step_of (queue_of self.old.checkpoint.tables) self.old.id command).1 (self.new.checkpoint.tables ≡ self.old.checkpoint.tables)) }
+        ensures own { OnOk result (All (λ e. e.by ≡ self.old.id) self.old.batch → All (λ e. e.by ≡ self.old.id) self.new.batch) }
+        ensures done { OnOk result ((Q : Queue) → HasDone Q self.old.batch self.old.checkpoint → HasDone Q self.new.batch self.new.checkpoint) }
+        ensures err { OnErr result (self.new ≡ self.old) }
+        ensures spelling { HasSpelling self.new.checkpoint.tables }
+        ensures fit { AreFit self.new.checkpoint.tables }
+        ensures order { self.new.checkpoint.tables.order ≤ self.old.checkpoint.tables.order + 32 }
+        ensures config { self.new.checkpoint.tables.config ≡ self.old.checkpoint.tables.config }
+    {
+        let at = self.batch.len();
+        self.batch.push(place(self.id, step))?;
+        match give(alloc, &mut self.checkpoint.tables, self.id, &command) {
+            Ok(reply) => {
+                let by = self.id;
+                let entry = Entry {
+                    by,
+                    step,
+                    command,
+                    reply,
+                };
+                put_entry(&mut self.batch, at, entry);
+                Ok(())
+            }
+            Err(NoMemory) => {
+                self.batch.remove(at);
+                Err(NoMemory)
+            }
+        }
+    }
+
+    /// The reply to the last command of its batch.
+    pub fn last_reply(&self) -> &Reply
+        requires { 1 ≤ length self.now.batch }
+        ensures { result.now ≡ last_of self.now.batch }
+    {
+        &self.batch.item(self.batch.len() - 1).reply
+    }
+}

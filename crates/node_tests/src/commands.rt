@@ -1,0 +1,114 @@
+//! Commands on a blank checkpoint, and the lines of their replies.
+ghost use Rattle.std.specs.Prelude.{◌≡◌, ◌≤◌, IfOk};
+ghost use Rattle.mas_types.specs.Limits.{members_most};
+ghost use Rattle.ckpt_pages.specs.Shape.{HasSpelling};
+ghost use Rattle.queue_effect.specs.Standing.{AreFit};
+
+use ckpt_pages::sound;
+use mas_types::{
+    Class, Command, JobFields, JobNo, MemberId, Name8, NoMemory, Prio, Refusal, Reply, What,
+    default_config,
+};
+use member_node::{Member, blank, reply_lines};
+use queue_effect::law_of_fit_tables;
+use queue_laws::fitness::is_fit;
+use std::alloc::Global;
+use std::test::Fail;
+use table_commands::is_plain;
+
+const ONE: JobNo = JobNo(1);
+
+// The first member of the default configuration, with no jobs.
+fn first_member(alloc: Global) -> Result<Member, NoMemory>
+    ensures id { IfOk result (λ member. member.id.0 ≡ 1) }
+    ensures fit { IfOk result (λ member. AreFit member.checkpoint.tables) }
+    ensures spelling { IfOk result (λ member. HasSpelling member.checkpoint.tables) }
+{
+    let checkpoint = blank(alloc, &default_config())?;
+    law_of_fit_tables();
+    let Ok(()) = sound(&checkpoint.tables) else {
+        return Err(NoMemory);
+    };
+    Ok(Member::new(alloc, MemberId(1), checkpoint))
+}
+
+// Does a command, and says whether it was one that the member may do.
+fn did(alloc: Global, member: &mut Member, step: u32, command: Command) -> bool
+    requires id { member.old.id.0 ≡ 1 }
+    requires fit { AreFit member.old.checkpoint.tables }
+    requires spelling { HasSpelling member.old.checkpoint.tables }
+    ensures id { member.new.id.0 ≡ 1 }
+    ensures fit { AreFit member.new.checkpoint.tables }
+    ensures spelling { HasSpelling member.new.checkpoint.tables }
+{
+    if member.checkpoint.tables.order > 1_000_000
+        || !is_fit(&command)
+        || !is_plain(&command)
+        || matches!(command, Command::Restart)
+    {
+        return false;
+    }
+    member.do_command(alloc, step, command).is_ok()
+}
+
+fn fields() -> JobFields {
+    JobFields {
+        name: Name8(*b"A       "),
+        class: Class(b'A'),
+        msgclass: Class(b'A'),
+        prio: Prio(5),
+        held: false,
+        scan: false,
+        restart: true,
+        dest: Name8(*b"LOCAL   "),
+        node: default_config().node,
+        origin: default_config().node,
+    }
+}
+
+// The job numbers of the batch's replies, 0 for another one.
+fn numbers(member: &Member) -> [u32; 4] {
+    let mut numbers = [0; 4];
+    for (entry, number) in member.batch.as_slice().iter().zip(numbers.iter_mut()) {
+        *number = match entry.reply {
+            Reply::Job(job) => job.0,
+            _ => 0,
+        };
+    }
+    numbers
+}
+
+#[test]
+fn commands_stand_in_the_batch(rt: HostRuntime) -> Result<(), Fail> {
+    let alloc = rt.alloc();
+    let mut member = first_member(alloc)?;
+    assert!(rt; did(alloc, &mut member, 1, Command::Begin { fields: fields() }));
+    assert!(rt; did(alloc, &mut member, 2, Command::Hold { job: ONE }));
+    assert!(rt; did(alloc, &mut member, 3, Command::Hold { job: JobNo(2) }));
+    assert!(rt; did(alloc, &mut member, 4, Command::Release { job: ONE }));
+    assert_eq!(rt; member.batch.len(), 4);
+    assert_eq!(rt; numbers(&member), [1, 1, 0, 1]);
+    Ok(())
+}
+
+#[test]
+fn a_refused_command_stands_in_the_batch(rt: HostRuntime) -> Result<(), Fail> {
+    let alloc = rt.alloc();
+    let mut member = first_member(alloc)?;
+    assert!(rt; did(alloc, &mut member, 1, Command::Hold { job: ONE }));
+    assert!(rt; matches!(member.batch.item(0).reply, Reply::No(Refusal::NoJob)));
+    Ok(())
+}
+
+#[test]
+fn a_display_has_its_lines_before_the_closing_line(rt: HostRuntime) -> Result<(), Fail> {
+    let alloc = rt.alloc();
+    let mut member = first_member(alloc)?;
+    assert!(rt; did(alloc, &mut member, 1, Command::Begin { fields: fields() }));
+    assert!(rt; did(alloc, &mut member, 2, Command::Show { what: What::Queue }));
+    let lines = reply_lines(alloc, MemberId(1), 2, member.last_reply())?;
+    assert_eq!(rt; lines.len(), 2);
+    assert_eq!(rt; lines.line(0), b"SYSA 00002 - JOB00001 A A 05 INPUT SYSA -");
+    assert_eq!(rt; lines.line(1), b"SYSA 00002 OK 1");
+    Ok(())
+}
