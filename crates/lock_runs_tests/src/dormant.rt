@@ -26,7 +26,12 @@ const THREE: &[u8] =
 /// The lower byte of DORMANCY in the first page of a copy that was formatted, behind its first block.
 const DORMANCY: u64 = 4_096 + 29;
 
-fn play(alloc: Global, words: &[&str], script: &[u8], plant: MemPlant) -> Result<Ended<MemPlant>, Fail> {
+fn play(
+    alloc: Global,
+    words: &[&str],
+    script: &[u8],
+    plant: MemPlant,
+) -> Result<Ended<MemPlant>, Fail> {
     let mut list = Vec::new(alloc);
     for word in words {
         list.push(String::from_str(alloc, word)?)?;

@@ -46,7 +46,7 @@ use Rattle.mas_run.specs.Stops.{Course}
 use Rattle.mas_run.specs.Runs.{AreKept, Adds, HasLost, IsStopped, IsRestart, IsReset, IsPlay, HasSteps}
 use Rattle.mas_types.specs.declared.journals.Batch.{Batch}
 use Rattle.mas_complex.specs.Journals.{kept_all, fated}
-use Rattle.mas_complex.specs.Meaning.{StandFor, run}
+use Rattle.mas_complex.specs.Meaning.{run}
 use Rattle.std.proofs.lemmas.List.{append-nil}
 use Rattle.mas_run.specs.Statuses.{Grows, IsCaused, IsCausedFrom, status_of}
 use Rattle.mas_run.proofs.CourseLemmas.{left, lost_later, lost_more, has_lost_later}

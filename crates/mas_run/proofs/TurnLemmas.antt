@@ -1,6 +1,5 @@
 -- A script's steps at the book of the lock, one after another.
-use Rattle.std.proofs.Common.{◌≡◌, ◌+◌, ◌<◌, ◌≤◌, ℕ, zero, suc, false, min, List, [], ◌∷◌, length, get_or, map, Option, Some, None, refl, sym, ◌∙◌, ap, subst, arith}
-use Rattle.mas_types.specs.declared.queues.Config.{Config}
+use Rattle.std.proofs.Common.{◌≡◌, ◌+◌, ◌<◌, ℕ, zero, suc, false, min, List, [], ◌∷◌, length, get_or, map, Option, Some, None, refl, sym, ◌∙◌, ap, subst, arith}
 use Rattle.mas_types.specs.Limits.{members_most}
 use Rattle.lock_cycle.specs.declared.answers.LockNo.{LockNo}
 use Rattle.lock_cycle.specs.Books.{Book, new_book, try_refusal, wakes}

@@ -1,4 +1,4 @@
-use Rattle.std.proofs.Common.{◌≡◌, ◌∙◌, ap, length, None, Some, false, refl, sym, subst, arith}
+use Rattle.std.proofs.Common.{◌≡◌, ◌∙◌, ap, None, refl, sym, arith}
 use Rattle.std.proofs.lemmas.Result.{err_from_is_err_and}
 use Rattle.mas_types.specs.declared.journals.Journal.{Journal}
 use Rattle.mas_types.specs.declared.queues.Queue.{Queue}
@@ -6,11 +6,7 @@ use Rattle.mas_complex.specs.Journals.{end_of, kept_all}
 use Rattle.mas_complex.specs.Meaning.{run}
 use Rattle.mas_run.specs.Decks.{deck_entries}
 use Rattle.mas_run.proofs.LineLemmas.{untold_by}
-use Rattle.lock_cycle.specs.declared.answers.LockNo.{LockNo}
-use Rattle.lock_cycle.specs.declared.answers.NotHolder.{NotHolder}
-use Rattle.lock_cycle.specs.Books.{Book, try_refusal, after_free, free_refusal}
-use Rattle.mas_complex.specs.Locking.{MayAct, IsUp}
-use Rattle.mas_run.specs.Locked.{IsOpenTo}
+use Rattle.lock_cycle.specs.Books.{free_refusal}
 use Rattle.mas_run.specs.Turns.{denied_line}
 use Rattle.mas_run.proofs.LockLemmas.{refused_named, refused_up, refused_again, refused_frees, may_act, many, may_free, opens_again, step_as, denial_as, on_any, one_answer, no_answer, is_free}
 use Rattle.mas_run.proofs.running.Running.play_deck.Goals as goal
