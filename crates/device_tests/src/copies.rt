@@ -1,11 +1,11 @@
 // A copy on a plant in memory. The bytes that are wanted are told from outside, by the format.
-ghost use Rattle.std.specs.Prelude.{◌≡◌, ◌+◌, ◌≤◌, ◌<◌, length, IfOk};
+ghost use Rattle.std.specs.Prelude.{◌≡◌, ◌+◌, ◌≤◌, ◌<◌, length};
 ghost use Rattle.mas_types.specs.declared.ids.Dev.TheVariants.{Ckpt1};
 ghost use Rattle.spool_disk.specs.Acts.{Goes};
 ghost use Rattle.ckpt_copy.specs.Areas.{areas_size};
 
 use ckpt_copy::{AreaCopy, CopyNo, Copying, FindNo};
-use mas_types::{Dev, List, MemberId, NoMemory, Page};
+use mas_types::{Dev, MemberId, Page};
 use spool_disk::{MemPlant, Part, Plant, Sizes};
 use std::alloc::Global;
 use std::test::Fail;
@@ -22,19 +22,17 @@ const SIZES: Sizes = Sizes {
 };
 
 // Six pages: page 0 has the level, every other its number in each byte.
-fn pages(alloc: Global, level: u8) -> Result<List<Page>, NoMemory>
-    ensures { IfOk result (λ pages. length pages ≡ 6) }
-{
-    let mut pages = List::new(alloc);
+fn pages(level: u8) -> [Page; 6] {
     let mut first = Page([0; 4096]);
     first.0[15] = level;
-    pages.push(first)?;
-    pages.push(Page([1; 4096]))?;
-    pages.push(Page([2; 4096]))?;
-    pages.push(Page([3; 4096]))?;
-    pages.push(Page([4; 4096]))?;
-    pages.push(Page([5; 4096]))?;
-    Ok(pages)
+    [
+        first,
+        Page([1; 4096]),
+        Page([2; 4096]),
+        Page([3; 4096]),
+        Page([4; 4096]),
+        Page([5; 4096]),
+    ]
 }
 
 // The bytes that stand there on a device.
@@ -83,9 +81,7 @@ fn the_format_of_a_copy(rt: HostRuntime) -> Result<(), Fail> {
     let mut plant = MemPlant::new(alloc, SIZES, 200, 200_000)?;
     assert!(rt; found(alloc, &mut plant, Dev::Ckpt1) == Err(FindNo::NotValid));
     assert!(rt; plant.size(Dev::Ckpt1) >= AreaCopy::size_for(6));
-    let first = pages(alloc, 1)?;
-    let second = pages(alloc, 2)?;
-    let blocks = blocks(&mut plant, first.as_slice(), second.as_slice())?;
+    let blocks = blocks(&mut plant, &pages(1), &pages(2))?;
     let wanted = [
         [0xA5, 1, 0, 6, 0, 0, 0, 0, 0xA5, 0],
         [5; 10],
@@ -94,8 +90,8 @@ fn the_format_of_a_copy(rt: HostRuntime) -> Result<(), Fail> {
         [0xA5, 1, 0, 6, 0, 0, 0, 0, 0xA5, 0xA5],
         [0xA5, 1, 0, 6, 0, 0, 0, 0, 0, 0xA5],
     ];
-    assert_eq!(rt; blocks, wanted);
-    assert_eq!(rt; found(alloc, &mut plant, Dev::Ckpt1)?, (6, 2, 4));
+    assert!(rt; blocks == wanted);
+    assert!(rt; found(alloc, &mut plant, Dev::Ckpt1)? == (6, 2, 4));
     Ok(())
 }
 
@@ -107,11 +103,9 @@ fn a_copy_says_why_not(rt: HostRuntime) -> Result<(), Fail> {
     plant.halt_at(14, 3);
     plant.fail_at(24);
     assert!(rt; plant.size(Dev::Ckpt1) >= AreaCopy::size_for(6));
-    let first = pages(alloc, 1)?;
-    let second = pages(alloc, 2)?;
-    let halted = blocks(&mut plant, first.as_slice(), second.as_slice());
+    let halted = blocks(&mut plant, &pages(1), &pages(2));
     assert!(rt; halted == Err(CopyNo::Halted));
-    assert_eq!(rt; found(alloc, &mut plant, Dev::Ckpt1)?, (6, 1, 4));
+    assert!(rt; found(alloc, &mut plant, Dev::Ckpt1)? == (6, 1, 4));
     assert!(rt; !plant.lost(Part::Disk(Dev::Ckpt1)));
     assert!(rt; found(alloc, &mut plant, Dev::Ckpt1) == Err(FindNo::Failed));
     assert!(rt; plant.lost(Part::Disk(Dev::Ckpt1)));

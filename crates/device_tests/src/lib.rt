@@ -2,8 +2,12 @@
 #![tactic(auto)]
 
 #[cfg(test)]
+mod acts;
+#[cfg(test)]
 mod copies;
 #[cfg(test)]
 mod plants;
 #[cfg(test)]
 mod printers;
+#[cfg(test)]
+mod sources;
