@@ -1,144 +1,177 @@
-// A crash at each moment of a run, with both copies, with one, and of the loss of one.
-use crate::looking::{
-    DECK, FORM, FORMED, KEPT, ONE_FORMED, ONE_KEPT, OPEN, PUT, Reading, acted_on, failing, finds,
-    has_closed, other, reads_as,
-};
-use crate::playing::{plant, play};
-use mas_types::Dev;
+// A crash at each moment of a run of three decks, and the warm start after it.
+use crate::pages::{PAGES, page};
+use crate::playing::{DECK, FORM, FORMED, KEPT, OPEN, PUT, plant, play, start};
+use crate::starts::found;
+use mas_run::Ended;
+use mas_types::{Batch, Dev, Status};
 use spool_disk::{Choice, MemPlant, Part, Plant};
 use std::alloc::Global;
 use std::process::Abort;
 use std::test::Fail;
 
-/// An act of CKPT1 and one of CKPT2 that is its first.
-const FIRST_ACTS: [u64; 2] = [0, FORM];
-
 const CHOICES: [Choice; 3] = [Choice::Old, Choice::New, Choice::Ones];
 
-// A copy reads as nothing until it is formatted, as the empty queue until its gate is written, and as that with the job
-// once its gate is synced.
-fn is_as_wanted(queue: Reading, t: u64, formed: u64, opened: u64) -> bool {
-    let may_be_none = t < formed;
-    let may_be_empty = t.saturating_add(1) >= formed && t < opened;
-    let may_have_job = t.saturating_add(1) >= opened;
-    match queue {
-        Reading::Nothing => may_be_none,
-        Reading::Empty => may_be_empty,
-        Reading::OneJob => may_have_job,
+const COPIES: [Dev; 2] = [Dev::Ckpt1, Dev::Ckpt2];
+
+const THREE: &[u8] =
+    b"SYSA DECK\n//A JOB\n++END\nSYSA DECK\n//B JOB\n++END\nSYSA DECK\n//C JOB\n++END\n";
+
+/// Acts of the first deck: amid the pages that it puts on CKPT1 and on CKPT2, and the gates that it opens there.
+const FAILING: [u64; 4] = [FORMED + 20, FORMED + PUT + 20, KEPT - 2 * OPEN, KEPT - OPEN];
+
+/// Scripts of three decks that lose a copy between or behind them.
+const LOSING: [&[u8]; 6] = [
+    b"SYSA DECK\n//A JOB\n++END\nLOSE CKPT1\nSYSA DECK\n//B JOB\n++END\nSYSA DECK\n//C JOB\n++END\n",
+    b"SYSA DECK\n//A JOB\n++END\nLOSE CKPT2\nSYSA DECK\n//B JOB\n++END\nSYSA DECK\n//C JOB\n++END\n",
+    b"SYSA DECK\n//A JOB\n++END\nSYSA DECK\n//B JOB\n++END\nLOSE CKPT1\nSYSA DECK\n//C JOB\n++END\n",
+    b"SYSA DECK\n//A JOB\n++END\nSYSA DECK\n//B JOB\n++END\nLOSE CKPT2\nSYSA DECK\n//C JOB\n++END\n",
+    b"SYSA DECK\n//A JOB\n++END\nSYSA DECK\n//B JOB\n++END\nSYSA DECK\n//C JOB\n++END\nLOSE CKPT1\n",
+    b"SYSA DECK\n//A JOB\n++END\nSYSA DECK\n//B JOB\n++END\nSYSA DECK\n//C JOB\n++END\nLOSE CKPT2\n",
+];
+
+// How many batches were kept at a moment, and how many had begun.
+fn kept_and_begun(batches: &[Batch], t: u64) -> (usize, usize) {
+    let mut kept: usize = 0;
+    let mut begun: usize = 0;
+    for batch in batches {
+        if batch.last <= t {
+            kept = kept.saturating_add(1);
+        }
+        if batch.first <= t {
+            begun = begun.saturating_add(1);
+        }
     }
+    (kept, begun)
 }
 
-// What a crash at a moment leaves of a run.
-fn crashed(
+// A warm start of what a crash at a moment leaves, of which a copy may then be lost. It finds the queue after the kept decks,
+// or with the one in flight, and each deck whose line stands.
+fn starts_after(
     rt: &impl Abort,
     alloc: Global,
-    run: &MemPlant,
+    run: &Ended<MemPlant>,
     t: u64,
     choice: Choice,
-) -> Result<MemPlant, Fail> {
-    assert!(rt; t <= run.now());
-    Ok(run.crash_at(alloc, t, choice)?)
-}
-
-fn crashes_with_both(
-    rt: &impl Abort,
-    alloc: Global,
-    run: &MemPlant,
-    t: u64,
-    choice: Choice,
+    lost: Option<Dev>,
 ) -> Result<(), Fail> {
-    let mut left = crashed(rt, alloc, run, t, choice)?;
-    assert_eq!(rt; has_closed(rt, alloc, &left)?, t > KEPT, "moment {t}");
-    let first = reads_as(rt, &mut left, Dev::Ckpt1);
-    assert!(rt; is_as_wanted(first, t, FORM, KEPT - OPEN), "moment {t}");
-    let second = reads_as(rt, &mut left, Dev::Ckpt2);
-    assert!(rt; is_as_wanted(second, t, FORMED, KEPT), "moment {t}");
+    assert!(rt; t <= run.plant.now());
+    let mut left = run.plant.crash_at(alloc, t, choice)?;
+    if let Some(dev) = lost {
+        left.lose(dev);
+    }
+    let told = left.console_lines(alloc)?.len();
+    let (decks, _) = found(rt, alloc, left)?;
+    let (kept, begun) = kept_and_begun(run.journal.batches.as_slice(), t);
+    assert!(rt;
+        kept <= decks && decks <= begun && told <= decks,
+        "moment {t}"
+    );
     Ok(())
 }
 
+// The same at each moment of a run, with each image.
+fn starts_after_each(
+    rt: &impl Abort,
+    alloc: Global,
+    run: &Ended<MemPlant>,
+    lost: Option<Dev>,
+) -> Result<(), Fail> {
+    assert!(rt; run.status == Status::Done);
+    for t in run.since..=run.plant.now() {
+        for choice in CHOICES {
+            starts_after(rt, alloc, run, t, choice, lost)?;
+        }
+    }
+    Ok(())
+}
+
+// Both copies are left, or one of them is lost in the crash.
 #[test]
-fn crashes_at_each_moment_of_one_deck(rt: HostRuntime) -> Result<(), Fail> {
+fn on_both_copies(rt: HostRuntime) -> Result<(), Fail> {
     let alloc = rt.alloc();
-    let ended = play(alloc, DECK, plant(alloc)?)?;
-    for t in 0..=KEPT + 1 {
-        for choice in CHOICES {
-            crashes_with_both(&rt, alloc, &ended.plant, t, choice)?;
-        }
-    }
-    Ok(())
-}
-
-// The other copy was lost by its first act.
-fn crashes_with_one(
-    rt: &impl Abort,
-    alloc: Global,
-    run: &MemPlant,
-    dev: Dev,
-    t: u64,
-    choice: Choice,
-) -> Result<(), Fail> {
-    let mut left = crashed(rt, alloc, run, t, choice)?;
-    assert!(rt; left.lost(Part::Disk(other(dev))), "moment {t}");
-    assert_eq!(rt; has_closed(rt, alloc, &left)?, t > ONE_KEPT, "moment {t}");
-    let queue = reads_as(rt, &mut left, dev);
-    assert!(rt; is_as_wanted(queue, t, ONE_FORMED, ONE_KEPT), "moment {t}");
-    Ok(())
-}
-
-fn crashes_of_one_copy(rt: &impl Abort, alloc: Global, act: u64) -> Result<(), Fail> {
-    let ended = play(alloc, DECK, failing(alloc, act)?)?;
-    assert_eq!(rt; ended.since, ONE_FORMED);
-    assert_eq!(rt; ended.plant.now(), ONE_KEPT + 1);
-    let dev = other(acted_on(act));
-    for t in ONE_FORMED..=ONE_KEPT + 1 {
-        for choice in CHOICES {
-            crashes_with_one(rt, alloc, &ended.plant, dev, t, choice)?;
-        }
+    let run = play(alloc, THREE, plant(alloc)?)?;
+    for lost in [None, Some(Dev::Ckpt1), Some(Dev::Ckpt2)] {
+        starts_after_each(&rt, alloc, &run, lost)?;
     }
     Ok(())
 }
 
 #[test]
-fn crashes_at_each_moment_with_one_copy(rt: HostRuntime) -> Result<(), Fail> {
-    for act in FIRST_ACTS {
-        crashes_of_one_copy(&rt, rt.alloc(), act)?;
+fn with_one_copy_from_the_begin_on(rt: HostRuntime) -> Result<(), Fail> {
+    let alloc = rt.alloc();
+    for dev in COPIES {
+        let mut plant = plant(alloc)?;
+        plant.lose(dev);
+        starts_after_each(&rt, alloc, &play(alloc, THREE, plant)?, None)?;
     }
     Ok(())
 }
 
-// The queue that is found is that before or after the deck, and once the line stands that after it.
-fn crashes_amid(
-    rt: &impl Abort,
-    alloc: Global,
-    run: &MemPlant,
-    t: u64,
-    choice: Choice,
-) -> Result<(), Fail> {
-    let mut left = crashed(rt, alloc, run, t, choice)?;
-    let told = has_closed(rt, alloc, &left)?;
-    assert_eq!(rt; told, t == run.now(), "moment {t}");
-    let queue = finds(rt, &mut left);
-    assert!(rt; queue != Reading::Nothing, "moment {t}");
-    assert!(rt; !told || queue == Reading::OneJob, "moment {t}");
-    assert!(rt; t > FORMED || queue == Reading::Empty, "moment {t}");
+#[test]
+fn around_an_act_that_fails(rt: HostRuntime) -> Result<(), Fail> {
+    let alloc = rt.alloc();
+    for act in FAILING {
+        let mut plant = plant(alloc)?;
+        plant.fail_at(act);
+        starts_after_each(&rt, alloc, &play(alloc, THREE, plant)?, None)?;
+    }
     Ok(())
 }
 
-fn crashes_of_a_loss(rt: &impl Abort, alloc: Global, act: u64) -> Result<(), Fail> {
-    let ended = play(alloc, DECK, failing(alloc, act)?)?;
-    for t in FORMED..=ended.plant.now() {
+#[test]
+fn around_a_line_that_loses_a_copy(rt: HostRuntime) -> Result<(), Fail> {
+    let alloc = rt.alloc();
+    for script in LOSING {
+        starts_after_each(&rt, alloc, &play(alloc, script, plant(alloc)?)?, None)?;
+    }
+    Ok(())
+}
+
+// A copy counts once it is formatted, and at the act before it may.
+#[test]
+fn amid_the_formatting(rt: HostRuntime) -> Result<(), Fail> {
+    let alloc = rt.alloc();
+    let run = play(alloc, DECK, plant(alloc)?)?;
+    for t in 0..FORMED {
         for choice in CHOICES {
-            crashes_amid(rt, alloc, &ended.plant, t, choice)?;
+            assert!(rt; t <= run.plant.now());
+            let ended = start(alloc, b"", run.plant.crash_at(alloc, t, choice)?)?;
+            let is_done = ended.status == Status::Done;
+            assert!(rt; is_done || matches!(ended.status, Status::NotFormatted { .. }));
+            assert!(rt; is_done == (t >= FORM) || t + 1 == FORM, "moment {t}");
+            assert!(rt; ended.base.jobs.len() == 0);
         }
     }
     Ok(())
 }
 
-// One copy is lost between the acts of the batch.
+// Neither copy is lost, and both have the same pages.
+fn are_equal(rt: &impl Abort, plant: &mut MemPlant) {
+    for dev in COPIES {
+        assert!(rt; !plant.lost(Part::Disk(dev)));
+    }
+    for number in 1..PAGES {
+        let first = page(rt, plant, Dev::Ckpt1, number);
+        let second = page(rt, plant, Dev::Ckpt2, number);
+        assert!(rt; first == second, "page {number}");
+    }
+}
+
+// A member that is stopped as it writes the gate of CKPT2, of which so many bytes are left: both copies get its deck.
 #[test]
-fn crashes_at_each_moment_of_a_loss(rt: HostRuntime) -> Result<(), Fail> {
-    for act in [FORMED + PUT, KEPT - 2 * OPEN] {
-        crashes_of_a_loss(&rt, rt.alloc(), act)?;
+fn behind_the_gate_of_ckpt1(rt: HostRuntime) -> Result<(), Fail> {
+    let alloc = rt.alloc();
+    for keep in [0, 1] {
+        let mut plant = plant(alloc)?;
+        plant.halt_at(KEPT - OPEN, keep);
+        let run = play(alloc, DECK, plant)?;
+        let now = run.plant.now();
+        for choice in CHOICES {
+            let left = run.plant.crash_at(alloc, now, choice)?;
+            let (decks, mut left) = found(&rt, alloc, left)?;
+            assert!(rt; decks == 1);
+            are_equal(&rt, &mut left);
+        }
     }
     Ok(())
 }

@@ -1,110 +1,107 @@
-// An act that fails, two that do, and one that halts: each act of a run.
-use crate::looking::{
-    DECK, FORMED, KEPT, ONE_FORMED, ONE_KEPT, OPEN, Reading, acted_on, failing, failing_twice,
-    fate, finds, halting, has_closed, is_amid_pages, other, reads_as,
-};
-use crate::playing::play;
+// An act that fails, two that do, and one that halts: each act of a run of one deck.
+use crate::playing::{DECK, FORM, FORMED, KEPT, OPEN, PUT, plant, play};
+use crate::starts::found;
 use mas_types::{Dev, Fate, Status};
-use spool_disk::{Part, Plant};
+use spool_disk::{Choice, MemPlant, Part, Plant};
 use std::alloc::Global;
 use std::process::Abort;
 use std::test::Fail;
 
-// One act on a copy fails: the run goes on with the other copy.
-fn one_copy_fails(rt: &impl Abort, alloc: Global, act: u64) -> Result<(), Fail> {
-    let mut ended = play(alloc, DECK, failing(alloc, act)?)?;
-    assert_eq!(rt; ended.status, Status::Done, "act {act}");
-    assert_eq!(rt; fate(&ended), Some(Fate::Kept), "act {act}");
-    assert!(rt; has_closed(rt, alloc, &ended.plant)?);
-    let dev = acted_on(act);
-    assert!(rt; ended.plant.lost(Part::Disk(dev)), "act {act}");
-    assert!(rt; !ended.plant.lost(Part::Disk(other(dev))), "act {act}");
-    let left = reads_as(rt, &mut ended.plant, other(dev));
-    assert_eq!(rt; left, Reading::OneJob, "act {act}");
-    Ok(())
+/// The acts after which one copy is formatted, where the other is lost by its first act.
+const ONE_FORMED: u64 = FORM + 1;
+
+/// And the batch is kept.
+const ONE_KEPT: u64 = ONE_FORMED + PUT + OPEN;
+
+// How the run ends, the fate of its batch, the number of its lines, and which copies are lost.
+type Outcome = (Status, Option<Fate>, usize, [bool; 2]);
+
+fn outcome(alloc: Global, plant: MemPlant) -> Result<(Outcome, MemPlant), Fail> {
+    let ended = play(alloc, DECK, plant)?;
+    let fate = match ended.journal.batches.as_slice() {
+        [batch] => Some(batch.fate),
+        _ => None,
+    };
+    let lines = ended.plant.console_lines(alloc)?.len();
+    let first = ended.plant.lost(Part::Disk(Dev::Ckpt1));
+    let second = ended.plant.lost(Part::Disk(Dev::Ckpt2));
+    Ok(((ended.status, fate, lines, [first, second]), ended.plant))
 }
 
+// What the next start finds.
+fn decks_left(rt: &impl Abort, alloc: Global, plant: &MemPlant) -> Result<usize, Fail> {
+    let now = plant.now();
+    let (decks, _) = found(rt, alloc, plant.crash_at(alloc, now, Choice::Old)?)?;
+    Ok(decks)
+}
+
+// The act is made on CKPT1.
+fn is_on_first(act: u64) -> bool {
+    act < FORM || act >= FORMED && act < FORMED + PUT || act >= KEPT - 2 * OPEN && act < KEPT - OPEN
+}
+
+// An act on a copy, and the run goes on with the other one, or the console's, which ends it.
 #[test]
-fn one_copy_fails_at_each_act(rt: HostRuntime) -> Result<(), Fail> {
-    for act in 0..KEPT {
-        if !is_amid_pages(act, 2) {
-            one_copy_fails(&rt, rt.alloc(), act)?;
-        }
+fn one_act_fails(rt: HostRuntime) -> Result<(), Fail> {
+    let alloc = rt.alloc();
+    for act in 0..=KEPT {
+        let mut plant = plant(alloc)?;
+        plant.fail_at(act);
+        let (outcome, left) = outcome(alloc, plant)?;
+        let first = is_on_first(act);
+        let wanted = if act < KEPT {
+            (Status::Done, Some(Fate::Kept), 1, [first, !first])
+        } else {
+            (Status::ConsoleFault, Some(Fate::Kept), 0, [false, false])
+        };
+        assert!(rt; outcome == wanted, "act {act}");
+        assert!(rt; decks_left(&rt, alloc, &left)? == 1, "act {act}");
     }
     Ok(())
 }
 
+// The first act on CKPT1 fails, and then one on CKPT2, or on the console: the run ends.
 #[test]
-fn the_console_fails(rt: HostRuntime) -> Result<(), Fail> {
+fn two_acts_fail(rt: HostRuntime) -> Result<(), Fail> {
     let alloc = rt.alloc();
-    let ended = play(alloc, DECK, failing(alloc, KEPT)?)?;
-    assert_eq!(rt; ended.status, Status::ConsoleFault);
-    assert_eq!(rt; fate(&ended), Some(Fate::Kept));
-    assert!(rt; !has_closed(&rt, alloc, &ended.plant)?);
-    Ok(())
-}
-
-// The first act on CKPT1 fails, and then one on CKPT2 or on the console: the run ends.
-fn both_copies_fail(rt: &impl Abort, alloc: Global, act: u64) -> Result<(), Fail> {
-    let ended = play(alloc, DECK, failing_twice(alloc, 0, act)?)?;
-    let (status, batch) = match act {
-        _ if act < ONE_FORMED => (Status::BothLost, None),
-        _ if act < ONE_KEPT => (Status::BothLost, Some(Fate::Flying)),
-        _ => (Status::ConsoleFault, Some(Fate::Kept)),
-    };
-    assert_eq!(rt; ended.status, status, "act {act}");
-    assert_eq!(rt; fate(&ended), batch, "act {act}");
-    assert!(rt; ended.plant.lost(Part::Disk(Dev::Ckpt1)), "act {act}");
-    assert_eq!(rt;
-        ended.plant.lost(Part::Disk(Dev::Ckpt2)),
-        act < ONE_KEPT,
-        "act {act}"
-    );
-    assert!(rt; !has_closed(rt, alloc, &ended.plant)?);
-    Ok(())
-}
-
-#[test]
-fn both_copies_fail_at_each_act(rt: HostRuntime) -> Result<(), Fail> {
-    for place in 0..ONE_KEPT {
-        if !is_amid_pages(place, 1) {
-            both_copies_fail(&rt, rt.alloc(), place + 1)?;
-        }
+    for act in 1..=ONE_KEPT {
+        let mut plant = plant(alloc)?;
+        plant.fail_at(0);
+        plant.fail_at(act);
+        let (outcome, _) = outcome(alloc, plant)?;
+        let wanted = match act {
+            _ if act < ONE_FORMED => (Status::BothLost, None, 0, [true, true]),
+            _ if act < ONE_KEPT => (Status::BothLost, Some(Fate::Flying), 0, [true, true]),
+            _ => (Status::ConsoleFault, Some(Fate::Kept), 0, [true, false]),
+        };
+        assert!(rt; outcome == wanted, "act {act}");
     }
     Ok(())
 }
 
 // The member is stopped inside an act. The operator formats, and never halts.
-fn halts(rt: &impl Abort, alloc: Global, act: u64) -> Result<(), Fail> {
-    let mut ended = play(alloc, DECK, halting(alloc, act)?)?;
-    assert_eq!(rt; ended.status, Status::Done, "act {act}");
-    let is_formatting = act < FORMED;
-    assert_eq!(rt;
-        has_closed(rt, alloc, &ended.plant)?,
-        is_formatting,
-        "act {act}"
-    );
-    let batch = if is_formatting || act == KEPT {
-        Fate::Kept
-    } else {
-        Fate::Flying
-    };
-    assert_eq!(rt; fate(&ended), Some(batch), "act {act}");
-    let has_job = finds(rt, &mut ended.plant) == Reading::OneJob;
-    assert_eq!(rt;
-        has_job,
-        is_formatting || act >= KEPT - 2 * OPEN,
-        "act {act}"
-    );
-    Ok(())
-}
-
 #[test]
-fn halts_at_each_act(rt: HostRuntime) -> Result<(), Fail> {
+fn an_act_halts(rt: HostRuntime) -> Result<(), Fail> {
+    let alloc = rt.alloc();
     for act in 0..=KEPT {
-        if !is_amid_pages(act, 2) {
-            halts(&rt, rt.alloc(), act)?;
-        }
+        let mut plant = plant(alloc)?;
+        plant.halt_at(act, 10);
+        let (outcome, left) = outcome(alloc, plant)?;
+        let fate = if act < FORMED || act == KEPT {
+            Fate::Kept
+        } else {
+            Fate::Flying
+        };
+        let lines = if act < FORMED { 1 } else { 0 };
+        assert!(rt;
+            outcome == (Status::Done, Some(fate), lines, [false, false]),
+            "act {act}"
+        );
+        let has_job = act < FORMED || act >= KEPT - 2 * OPEN;
+        assert!(rt;
+            (decks_left(&rt, alloc, &left)? == 1) == has_job,
+            "act {act}"
+        );
     }
     Ok(())
 }

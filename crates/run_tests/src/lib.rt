@@ -1,4 +1,5 @@
-//! Whole runs over a plant in memory: what they leave, each act that fails or halts, and a crash at each moment.
+//! Whole runs over a plant in memory: the bytes that they leave, each act that fails or halts, and a crash at each moment with
+//! the warm start after it.
 #![tactic(auto)]
 
 #[cfg(test)]
@@ -6,9 +7,10 @@ mod crashes;
 #[cfg(test)]
 mod faults;
 #[cfg(test)]
-mod looking;
-pub mod playing;
+mod pages;
+#[cfg(test)]
+mod playing;
 #[cfg(test)]
 mod runs;
 #[cfg(test)]
-mod warm;
+mod starts;

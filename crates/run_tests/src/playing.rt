@@ -1,8 +1,7 @@
-//! Whole runs over a plant in memory, cold and warm: what the tests of runs begin with.
+// Runs over a plant in memory, cold and warm.
 ghost use Rattle.std.specs.Prelude.{◌≡◌, IfOk};
-ghost use Rattle.spool_disk.specs.Begins.{IsBlank};
 ghost use Rattle.spool_disk.specs.Courses.{empty_book};
-ghost use Rattle.spool_disk.specs.MemView.{mem_book, mem_view};
+ghost use Rattle.spool_disk.specs.MemView.{mem_book};
 
 use mas_run::{Ended, calm_top};
 use mas_types::{List, NoMemory};
@@ -17,30 +16,36 @@ pub const SIZES: Sizes = Sizes {
 };
 
 /// Room enough for the acts of a run and of those who look at what it leaves.
-pub const ACTS: usize = 400;
+const ACTS: usize = 400;
 
 /// The same for the bytes that they write.
-pub const BYTES: usize = 1_300_000;
+const BYTES: usize = 1_300_000;
+
+pub const DECK: &[u8] = b"SYSA DECK\n//A JOB\n++END\n";
+
+/// The acts of formatting one copy: VALID, a sync, block 0, 36 pages, a sync, VALID, a sync.
+pub const FORM: u64 = 42;
+
+/// Those of putting pages on one copy: 36 pages, a sync.
+pub const PUT: u64 = 37;
+
+/// And of opening its gate: the gate, a sync.
+pub const OPEN: u64 = 2;
+
+/// The acts after which both copies are formatted.
+pub const FORMED: u64 = 2 * FORM;
+
+/// And the batch of the first deck is kept.
+pub const KEPT: u64 = FORMED + 2 * PUT + 2 * OPEN;
 
 /// A plant of devices that were never written. Nothing is planned.
 pub fn plant(alloc: Global) -> Result<MemPlant, NoMemory>
-    ensures view { IfOk result (λ plant. IsBlank SIZES (mem_view plant)) }
-    ensures book { IfOk result (λ plant. mem_book plant ≡ empty_book ACTS BYTES) }
+    ensures { IfOk result (λ plant. mem_book plant ≡ empty_book ACTS BYTES) }
 {
     MemPlant::new(alloc, SIZES, ACTS, BYTES)
 }
 
-/// A source of these bytes, which fails at a place if one is given.
-pub fn source(alloc: Global, bytes: &[u8], fail_at: Option<u64>) -> Result<MemSource, NoMemory> {
-    let mut list = List::new(alloc);
-    for byte in bytes {
-        list.push(*byte)?;
-    }
-    Ok(MemSource::new(list, fail_at))
-}
-
-/// The words of a command line.
-pub fn words(alloc: Global, texts: &[&str]) -> Result<Vec<String>, NoMemory> {
+fn words(alloc: Global, texts: &[&str]) -> Result<Vec<String>, NoMemory> {
     let mut words = Vec::new(alloc);
     for text in texts {
         let word = String::from_str(alloc, text)?;
@@ -49,16 +54,29 @@ pub fn words(alloc: Global, texts: &[&str]) -> Result<Vec<String>, NoMemory> {
     Ok(words)
 }
 
+/// A run with these words, whose source fails at a place if one is given.
+pub fn run(
+    alloc: Global,
+    texts: &[&str],
+    script: &[u8],
+    fail_at: Option<u64>,
+    plant: MemPlant,
+) -> Result<Ended<MemPlant>, NoMemory> {
+    let words = words(alloc, texts)?;
+    let mut bytes = List::new(alloc);
+    for byte in script {
+        bytes.push(*byte)?;
+    }
+    let mut source = MemSource::new(bytes, fail_at);
+    Ok(calm_top(alloc, &words, &mut source, plant))
+}
+
 /// A cold run of a script.
 pub fn play(alloc: Global, script: &[u8], plant: MemPlant) -> Result<Ended<MemPlant>, NoMemory> {
-    let words = words(alloc, &["play", "--cold"])?;
-    let mut source = source(alloc, script, None)?;
-    Ok(calm_top(alloc, &words, &mut source, plant))
+    run(alloc, &["play", "--cold"], script, None, plant)
 }
 
 /// A warm run of a script.
 pub fn start(alloc: Global, script: &[u8], plant: MemPlant) -> Result<Ended<MemPlant>, NoMemory> {
-    let words = words(alloc, &["play"])?;
-    let mut source = source(alloc, script, None)?;
-    Ok(calm_top(alloc, &words, &mut source, plant))
+    run(alloc, &["play"], script, None, plant)
 }

@@ -1,58 +1,22 @@
 // One deck played, no deck, and what is refused before anything is played.
-use crate::looking::{DECK, FORMED, KEPT, Reading, block, has_closed, reads_as};
-use crate::playing::{SIZES, plant, play, source, words};
-use mas_run::calm_top;
-use mas_types::{Dev, Status};
-use spool_disk::{MemPlant, Plant, Sizes};
-use std::process::Abort;
+use crate::pages::{SECOND, has_one_job, is_empty};
+use crate::playing::{DECK, FORMED, KEPT, SIZES, plant, play, run, start};
+use mas_types::{Dev, Job, MemberId, Status};
+use spool_disk::{Act, Choice, MemPlant, Part, Plant, Sizes};
 use std::test::Fail;
-
-// The pages of a copy with the deck's job.
-fn has_the_job(rt: &impl Abort, plant: &mut MemPlant, dev: Dev) {
-    assert_eq!(rt; reads_as(rt, plant, dev), Reading::OneJob);
-    let header = block(rt, plant, dev, 37);
-    assert_eq!(rt; &header[..16], b"MASCKPT1\0\0\0\0\0\0\0\x02".as_slice());
-    assert_eq!(rt;
-        &header[16..48],
-        [
-            1, 2, 1, 0, 1, 0, 2, 0, 2, 0, 0, 64, 0, 0, 0, 0, 0, 0, 0, 1, 0, 0, 0, 0, 0, 0, 0, 0, 0,
-            0, 0, 1
-        ]
-        .as_slice()
-    );
-    for page in 0..36usize {
-        let level = header[1024 + 8 * page + 7];
-        assert_eq!(rt;
-            level,
-            if page == 0 || page == 3 { 2 } else { 1 },
-            "page {page}"
-        );
-    }
-    let jobs = block(rt, plant, dev, 40);
-    assert_eq!(rt;
-        &jobs[..20],
-        [
-            2, b'A', 5, 4, 0, b'A', 0, 0, 0, 0, 0, 1, 0, 0, 0, 0, 0, 0, 0, 0
-        ]
-        .as_slice()
-    );
-    assert_eq!(rt;
-        &jobs[20..52],
-        b"HELLO   LOCAL   HERE    HERE    ".as_slice()
-    );
-    assert!(rt; jobs[52..].iter().all(|byte| *byte == 0));
-}
 
 #[test]
 fn enters_one_job(rt: HostRuntime) -> Result<(), Fail> {
     let alloc = rt.alloc();
-    let mut ended = play(alloc, DECK, plant(alloc)?)?;
-    assert_eq!(rt; ended.status, Status::Done);
-    assert_eq!(rt; ended.plant.now(), KEPT + 1);
-    assert_eq!(rt; ended.since, FORMED);
-    assert!(rt; has_closed(&rt, alloc, &ended.plant)?);
-    has_the_job(&rt, &mut ended.plant, Dev::Ckpt1);
-    has_the_job(&rt, &mut ended.plant, Dev::Ckpt2);
+    let script = b"SYSA DECK\n//HELLO JOB (1),'ME',CLASS=A\n//\n++END\n";
+    let mut ended = play(alloc, script, plant(alloc)?)?;
+    assert!(rt; ended.status == Status::Done);
+    assert!(rt; ended.plant.now() == KEPT + 1 && ended.since == FORMED);
+    let lines = ended.plant.console_lines(alloc)?;
+    assert!(rt; lines.len() == 1);
+    assert!(rt; lines.line(0) == b"SYSA 00001 OK JOB00001".as_slice());
+    has_one_job(&rt, &mut ended.plant, Dev::Ckpt1);
+    has_one_job(&rt, &mut ended.plant, Dev::Ckpt2);
     Ok(())
 }
 
@@ -60,53 +24,73 @@ fn enters_one_job(rt: HostRuntime) -> Result<(), Fail> {
 fn plays_no_deck(rt: HostRuntime) -> Result<(), Fail> {
     let alloc = rt.alloc();
     let mut ended = play(alloc, b"", plant(alloc)?)?;
-    assert_eq!(rt; ended.status, Status::Done);
-    assert_eq!(rt; ended.plant.now(), FORMED);
-    assert_eq!(rt; ended.journal.batches.len(), 0);
-    assert!(rt; !has_closed(&rt, alloc, &ended.plant)?);
-    for dev in [Dev::Ckpt1, Dev::Ckpt2] {
-        assert_eq!(rt; reads_as(&rt, &mut ended.plant, dev), Reading::Empty);
-        let header = block(&rt, &mut ended.plant, dev, 1);
-        assert_eq!(rt; &header[..16], b"MASCKPT1\0\0\0\0\0\0\0\x01".as_slice());
-        assert_eq!(rt;
-            &header[16..48],
-            [
-                1, 2, 1, 0, 1, 0, 2, 0, 2, 0, 0, 64, 0, 0, 0, 0, 0, 0, 0, 0, 0, 0, 0, 0, 0, 0, 0,
-                0, 0, 0, 0, 0
-            ]
-            .as_slice()
-        );
-    }
+    assert!(rt; ended.status == Status::Done);
+    assert!(rt; ended.plant.now() == FORMED && ended.journal.batches.len() == 0);
+    assert!(rt; ended.plant.console_lines(alloc)?.len() == 0);
+    is_empty(&rt, &mut ended.plant, Dev::Ckpt1);
+    is_empty(&rt, &mut ended.plant, Dev::Ckpt2);
     Ok(())
 }
 
+// Other words, a source that fails at once and after the first line, and a device that is a byte too small.
 #[test]
 fn refuses_before_it_plays(rt: HostRuntime) -> Result<(), Fail> {
     let alloc = rt.alloc();
-    for texts in [["play", "--warm"], ["race", "--cold"], ["--cold", "play"]] {
-        let words = words(alloc, &texts)?;
-        let mut source = source(alloc, DECK, None)?;
-        let ended = calm_top(alloc, &words, &mut source, plant(alloc)?);
-        assert_eq!(rt; ended.status, Status::Words);
-        assert_eq!(rt; ended.plant.now(), 0);
-    }
-    let words = words(alloc, &["play", "--cold"])?;
-    for place in [0, 10] {
-        let mut source = source(alloc, DECK, Some(place))?;
-        let ended = calm_top(alloc, &words, &mut source, plant(alloc)?);
-        assert_eq!(rt; ended.status, Status::SourceFault);
-        assert_eq!(rt; ended.plant.now(), 0);
-    }
     let small = Sizes {
         ckpt: 299_007,
         ..SIZES
     };
-    let ended = play(alloc, DECK, MemPlant::new(alloc, small, 9, 9)?)?;
-    let size = Status::DeviceSize {
+    let too_small = Status::DeviceSize {
         dev: Dev::Ckpt1,
         size: 299_007,
     };
-    assert_eq!(rt; ended.status, size);
-    assert_eq!(rt; ended.plant.now(), 0);
+    let cold = ["play", "--cold"];
+    for (texts, sizes, fail_at, status) in [
+        (["play", "--warm"], SIZES, None, Status::Words),
+        (["race", "--cold"], SIZES, None, Status::Words),
+        (["--cold", "play"], SIZES, None, Status::Words),
+        (cold, SIZES, Some(0), Status::SourceFault),
+        (cold, SIZES, Some(10), Status::SourceFault),
+        (cold, small, None, too_small),
+    ] {
+        let ended = run(
+            alloc,
+            &texts,
+            DECK,
+            fail_at,
+            MemPlant::new(alloc, sizes, 9, 9)?,
+        )?;
+        assert!(rt; ended.status == status && ended.plant.now() == 0);
+    }
+    Ok(())
+}
+
+/// Where the priority of the first job stands in a copy after one deck.
+const PRIORITY: u64 = (SECOND + 3) * 4096 + 2;
+
+fn has_priority(jobs: &[Job], prio: u8) -> bool {
+    match jobs {
+        [job] => job.fields.prio.0 == prio,
+        _ => false,
+    }
+}
+
+// Another hand gave the job another priority on one copy: CKPT1 counts, whichever it is, and CKPT2 doesn't fit.
+#[test]
+fn takes_ckpt1_where_pages_of_a_level_differ(rt: HostRuntime) -> Result<(), Fail> {
+    let alloc = rt.alloc();
+    let run = play(alloc, DECK, plant(alloc)?)?;
+    let now = run.plant.now();
+    for (dev, prio) in [(Dev::Ckpt1, 9), (Dev::Ckpt2, 5)] {
+        let mut plant = run.plant.crash_at(alloc, now, Choice::New)?;
+        assert!(rt; PRIORITY < plant.size(dev));
+        assert!(rt; plant.write(MemberId(0), dev, PRIORITY, &[9]) == Act::Done);
+        let ended = start(alloc, b"", plant)?;
+        assert!(rt; ended.status == Status::Done);
+        assert!(rt; has_priority(ended.base.jobs.as_slice(), prio));
+        assert!(rt;
+            !ended.plant.lost(Part::Disk(Dev::Ckpt1)) && ended.plant.lost(Part::Disk(Dev::Ckpt2))
+        );
+    }
     Ok(())
 }
