@@ -15,24 +15,23 @@ const OPERATOR: MemberId = MemberId(0);
 const MEMBER: MemberId = MemberId(1);
 
 // Room for two areas of six pages.
-const SIZES: Sizes = Sizes {
-    ckpt: 4096 * 13,
-    volumes: 0,
-    volume: 0,
-};
+fn sizes() -> Sizes {
+    Sizes {
+        ckpt: 4096 * 13,
+        volumes: 0,
+        volume: 0,
+    }
+}
+
+fn page(byte: u8) -> Page {
+    Page([byte; 4096])
+}
 
 // Six pages: page 0 has the level, every other its number in each byte.
 fn pages(level: u8) -> [Page; 6] {
-    let mut first = Page([0; 4096]);
+    let mut first = page(0);
     first.0[15] = level;
-    [
-        first,
-        Page([1; 4096]),
-        Page([2; 4096]),
-        Page([3; 4096]),
-        Page([4; 4096]),
-        Page([5; 4096]),
-    ]
+    [first, page(1), page(2), page(3), page(4), page(5)]
 }
 
 // The bytes that stand there on a device.
@@ -69,16 +68,16 @@ fn blocks<P: Plant>(plant: &mut P, first: &[Page], second: &[Page]) -> Result<[[
 fn found<P: Plant>(alloc: Global, plant: &mut P, dev: Dev) -> Result<(usize, u8, u8), FindNo> {
     let mut copy = AreaCopy::new(dev, 0);
     let pages = copy.find(alloc, plant, MEMBER)?;
-    let mut page = Page([0; 4096]);
-    copy.read_page(plant, MEMBER, 4, &mut page)?;
+    let mut fourth = page(0);
+    copy.read_page(plant, MEMBER, 4, &mut fourth)?;
     copy.settle(plant, MEMBER, pages.as_slice())?;
-    Ok((pages.len(), pages.item(0).0[15], page.0[4095]))
+    Ok((pages.len(), pages.item(0).0[15], fourth.0[4095]))
 }
 
 #[test]
 fn the_format_of_a_copy(rt: HostRuntime) -> Result<(), Fail> {
     let alloc = rt.alloc();
-    let mut plant = MemPlant::new(alloc, SIZES, 200, 200_000)?;
+    let mut plant = MemPlant::new(alloc, sizes(), 200, 200_000)?;
     assert!(rt; found(alloc, &mut plant, Dev::Ckpt1) == Err(FindNo::NotValid));
     assert!(rt; plant.size(Dev::Ckpt1) >= AreaCopy::size_for(6));
     let blocks = blocks(&mut plant, &pages(1), &pages(2))?;
@@ -99,7 +98,7 @@ fn the_format_of_a_copy(rt: HostRuntime) -> Result<(), Fail> {
 #[test]
 fn a_copy_says_why_not(rt: HostRuntime) -> Result<(), Fail> {
     let alloc = rt.alloc();
-    let mut plant = MemPlant::new(alloc, SIZES, 200, 200_000)?;
+    let mut plant = MemPlant::new(alloc, sizes(), 200, 200_000)?;
     plant.halt_at(14, 3);
     plant.fail_at(24);
     assert!(rt; plant.size(Dev::Ckpt1) >= AreaCopy::size_for(6));
