@@ -1,6 +1,6 @@
 // A crash at each moment of a run of three decks, and the warm start after it.
 use crate::pages::{PAGES, page};
-use crate::playing::{DECK, FORM, FORMED, KEPT, OPEN, PUT, plant, play, start};
+use crate::playing::{DECK, FORM, FORMED, KEPT, OPEN, PUT, failing, halting, plant, play, start};
 use crate::starts::found;
 use mas_run::Ended;
 use mas_types::{Batch, Dev, Status};
@@ -111,9 +111,8 @@ fn with_one_copy_from_the_begin_on(rt: HostRuntime) -> Result<(), Fail> {
 fn around_an_act_that_fails(rt: HostRuntime) -> Result<(), Fail> {
     let alloc = rt.alloc();
     for act in FAILING {
-        let mut plant = plant(alloc)?;
-        plant.fail_at(act);
-        starts_after_each(&rt, alloc, &play(alloc, THREE, plant)?, None)?;
+        let run = play(alloc, THREE, failing(alloc, act, act)?)?;
+        starts_after_each(&rt, alloc, &run, None)?;
     }
     Ok(())
 }
@@ -162,9 +161,7 @@ fn are_equal(rt: &impl Abort, plant: &mut MemPlant) {
 fn behind_the_gate_of_ckpt1(rt: HostRuntime) -> Result<(), Fail> {
     let alloc = rt.alloc();
     for keep in [0, 1] {
-        let mut plant = plant(alloc)?;
-        plant.halt_at(KEPT - OPEN, keep);
-        let run = play(alloc, DECK, plant)?;
+        let run = play(alloc, DECK, halting(alloc, KEPT - OPEN, keep)?)?;
         let now = run.plant.now();
         for choice in CHOICES {
             let left = run.plant.crash_at(alloc, now, choice)?;

@@ -1,5 +1,5 @@
 // An act that fails, two that do, and one that halts: each act of a run of one deck.
-use crate::playing::{DECK, FORM, FORMED, KEPT, OPEN, PUT, plant, play};
+use crate::playing::{DECK, FORM, FORMED, KEPT, OPEN, PUT, failing, halting, play};
 use crate::starts::found;
 use mas_types::{Dev, Fate, Status};
 use spool_disk::{Choice, MemPlant, Part, Plant};
@@ -45,9 +45,7 @@ fn is_on_first(act: u64) -> bool {
 fn one_act_fails(rt: HostRuntime) -> Result<(), Fail> {
     let alloc = rt.alloc();
     for act in 0..=KEPT {
-        let mut plant = plant(alloc)?;
-        plant.fail_at(act);
-        let (outcome, left) = outcome(alloc, plant)?;
+        let (outcome, left) = outcome(alloc, failing(alloc, act, act)?)?;
         let first = is_on_first(act);
         let wanted = if act < KEPT {
             (Status::Done, Some(Fate::Kept), 1, [first, !first])
@@ -65,10 +63,7 @@ fn one_act_fails(rt: HostRuntime) -> Result<(), Fail> {
 fn two_acts_fail(rt: HostRuntime) -> Result<(), Fail> {
     let alloc = rt.alloc();
     for act in 1..=ONE_KEPT {
-        let mut plant = plant(alloc)?;
-        plant.fail_at(0);
-        plant.fail_at(act);
-        let (outcome, _) = outcome(alloc, plant)?;
+        let (outcome, _) = outcome(alloc, failing(alloc, 0, act)?)?;
         let wanted = match act {
             _ if act < ONE_FORMED => (Status::BothLost, None, 0, [true, true]),
             _ if act < ONE_KEPT => (Status::BothLost, Some(Fate::Flying), 0, [true, true]),
@@ -84,9 +79,7 @@ fn two_acts_fail(rt: HostRuntime) -> Result<(), Fail> {
 fn an_act_halts(rt: HostRuntime) -> Result<(), Fail> {
     let alloc = rt.alloc();
     for act in 0..=KEPT {
-        let mut plant = plant(alloc)?;
-        plant.halt_at(act, 10);
-        let (outcome, left) = outcome(alloc, plant)?;
+        let (outcome, left) = outcome(alloc, halting(alloc, act, 10)?)?;
         let fate = if act < FORMED || act == KEPT {
             Fate::Kept
         } else {

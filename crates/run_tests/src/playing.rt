@@ -8,12 +8,8 @@ use mas_types::{List, NoMemory};
 use spool_disk::{MemPlant, MemSource, Sizes};
 use std::alloc::{AllocError, Global};
 
-/// Devices that have just room enough for the default configuration.
-pub const SIZES: Sizes = Sizes {
-    ckpt: 299_008,
-    volumes: 1,
-    volume: 4_096,
-};
+/// What a copy of the default configuration needs, in bytes.
+pub const CKPT: u64 = 299_008;
 
 /// Room enough for the acts of a run and of those who look at what it leaves.
 const ACTS: usize = 400;
@@ -38,11 +34,35 @@ pub const FORMED: u64 = 2 * FORM;
 /// And the batch of the first deck is kept.
 pub const KEPT: u64 = FORMED + 2 * PUT + 2 * OPEN;
 
-/// A plant of devices that were never written. Nothing is planned.
+/// Devices of which each checkpoint has so many bytes. It has no clause: a proof that knew the numbers would count out each byte.
+pub fn sizes(ckpt: u64) -> Sizes {
+    Sizes {
+        ckpt,
+        volumes: 1,
+        volume: 4_096,
+    }
+}
+
+/// A plant of devices that have just room enough, and were never written. Nothing is planned.
 pub fn plant(alloc: Global) -> Result<MemPlant, NoMemory>
     ensures { IfOk result (λ plant. mem_book plant ≡ empty_book ACTS BYTES) }
 {
-    MemPlant::new(alloc, SIZES, ACTS, BYTES)
+    MemPlant::new(alloc, sizes(CKPT), ACTS, BYTES)
+}
+
+/// The same, but two of its acts fail, or one where both are the same.
+pub fn failing(alloc: Global, first: u64, second: u64) -> Result<MemPlant, NoMemory> {
+    let mut plant = plant(alloc)?;
+    plant.fail_at(first);
+    plant.fail_at(second);
+    Ok(plant)
+}
+
+/// The same, but an act halts, of which so many bytes are left.
+pub fn halting(alloc: Global, act: u64, keep: u32) -> Result<MemPlant, NoMemory> {
+    let mut plant = plant(alloc)?;
+    plant.halt_at(act, keep);
+    Ok(plant)
 }
 
 fn words(alloc: Global, texts: &[&str]) -> Result<Vec<String>, NoMemory> {

@@ -1,8 +1,8 @@
 // One deck played, no deck, and what is refused before anything is played.
 use crate::pages::{SECOND, has_one_job, is_empty};
-use crate::playing::{DECK, FORMED, KEPT, SIZES, plant, play, run, start};
+use crate::playing::{CKPT, DECK, FORMED, KEPT, plant, play, run, sizes, start};
 use mas_types::{Dev, Job, MemberId, Status};
-use spool_disk::{Act, Choice, MemPlant, Part, Plant, Sizes};
+use spool_disk::{Act, Choice, MemPlant, Part, Plant};
 use std::test::Fail;
 
 #[test]
@@ -36,30 +36,21 @@ fn plays_no_deck(rt: HostRuntime) -> Result<(), Fail> {
 #[test]
 fn refuses_before_it_plays(rt: HostRuntime) -> Result<(), Fail> {
     let alloc = rt.alloc();
-    let small = Sizes {
-        ckpt: 299_007,
-        ..SIZES
-    };
+    let cold = ["play", "--cold"];
     let too_small = Status::DeviceSize {
         dev: Dev::Ckpt1,
-        size: 299_007,
+        size: CKPT - 1,
     };
-    let cold = ["play", "--cold"];
-    for (texts, sizes, fail_at, status) in [
-        (["play", "--warm"], SIZES, None, Status::Words),
-        (["race", "--cold"], SIZES, None, Status::Words),
-        (["--cold", "play"], SIZES, None, Status::Words),
-        (cold, SIZES, Some(0), Status::SourceFault),
-        (cold, SIZES, Some(10), Status::SourceFault),
-        (cold, small, None, too_small),
+    for (texts, ckpt, fail_at, status) in [
+        (["play", "--warm"], CKPT, None, Status::Words),
+        (["race", "--cold"], CKPT, None, Status::Words),
+        (["--cold", "play"], CKPT, None, Status::Words),
+        (cold, CKPT, Some(0), Status::SourceFault),
+        (cold, CKPT, Some(10), Status::SourceFault),
+        (cold, CKPT - 1, None, too_small),
     ] {
-        let ended = run(
-            alloc,
-            &texts,
-            DECK,
-            fail_at,
-            MemPlant::new(alloc, sizes, 9, 9)?,
-        )?;
+        let plant = MemPlant::new(alloc, sizes(ckpt), 9, 9)?;
+        let ended = run(alloc, &texts, DECK, fail_at, plant)?;
         assert!(rt; ended.status == status && ended.plant.now() == 0);
     }
     Ok(())

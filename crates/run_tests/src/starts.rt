@@ -1,8 +1,8 @@
 // A warm start, and the queue that it finds.
 use crate::playing::start;
 use mas_types::{
-    Batch, Class, Command, Fate, Job, JobFields, List, MemberId, Name8, NoMemory, Phase, Prio,
-    Queue, Status, Text, default_config, empty_queue,
+    Class, Job, JobFields, List, MemberId, Name8, NoMemory, Phase, Prio, Queue, Status, Text,
+    default_config, empty_queue,
 };
 use spool_disk::MemPlant;
 use std::alloc::Global;
@@ -64,26 +64,11 @@ fn is_after_decks(alloc: Global, queue: &Queue) -> Result<bool, NoMemory> {
     )
 }
 
-// Restart by the operator, which is kept.
-fn is_restart(batches: &[Batch]) -> bool {
-    match batches {
-        [batch] => match batch.entries.as_slice() {
-            [entry] => {
-                batch.by == MemberId(0)
-                    && batch.fate == Fate::Kept
-                    && matches!(entry.command, Command::Restart)
-            }
-            _ => false,
-        },
-        _ => false,
-    }
-}
-
-/// A warm start, which finds the queue after so many decks and plays nothing. What it leaves is there too.
+/// A warm start, which finds the queue after so many decks and gives one batch. What it leaves is there too.
 pub fn found(rt: &impl Abort, alloc: Global, left: MemPlant) -> Result<(usize, MemPlant), Fail> {
     let ended = start(alloc, b"", left)?;
     assert!(rt; ended.status == Status::Done);
-    assert!(rt; is_restart(ended.journal.batches.as_slice()));
+    assert!(rt; ended.journal.batches.len() == 1);
     assert!(rt; is_after_decks(alloc, &ended.base)?);
     Ok((ended.base.jobs.len(), ended.plant))
 }
