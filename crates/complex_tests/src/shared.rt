@@ -20,25 +20,32 @@ pub(crate) const FIRST: MemberId = MemberId(1);
 pub(crate) const SECOND: MemberId = MemberId(2);
 
 // Room for two areas of six pages on each device.
-pub(crate) const SIZES: Sizes = Sizes {
-    ckpt: 4096 * 13,
-    volumes: 0,
-    volume: 0,
-};
+fn sizes() -> Sizes {
+    Sizes {
+        ckpt: 4096 * 13,
+        volumes: 0,
+        volume: 0,
+    }
+}
+
+// A page of equal bytes.
+pub(crate) fn page(byte: u8) -> Page {
+    Page([byte; 4096])
+}
 
 // Six pages: page 0 has the level.
 pub(crate) fn pages(alloc: Global, level: u8) -> Result<List<Page>, NoMemory>
     ensures { IfOk result (λ pages. length pages ≡ 6) }
 {
     let mut pages = List::new(alloc);
-    let mut first = Page([0; 4096]);
+    let mut first = page(0);
     first.0[15] = level;
     pages.push(first)?;
-    pages.push(Page([1; 4096]))?;
-    pages.push(Page([2; 4096]))?;
-    pages.push(Page([3; 4096]))?;
-    pages.push(Page([4; 4096]))?;
-    pages.push(Page([5; 4096]))?;
+    pages.push(page(1))?;
+    pages.push(page(2))?;
+    pages.push(page(3))?;
+    pages.push(page(4))?;
+    pages.push(page(5))?;
     Ok(pages)
 }
 
@@ -67,7 +74,7 @@ pub(crate) fn may_act(complex: &Complex<Quiet, AreaCopy>, by: MemberId) -> bool
 
 // A plant in memory on which the act of this number halts.
 pub(crate) fn halting(alloc: Global, act: u64) -> Result<Quiet, Fail> {
-    let mut plant = MemPlant::new(alloc, SIZES, 400, 800_000)?;
+    let mut plant = MemPlant::new(alloc, sizes(), 400, 800_000)?;
     plant.halt_at(act, 10);
     Ok(Quiet { plant })
 }

@@ -11,11 +11,13 @@ use std::process::Abort;
 use std::test::Fail;
 
 // Two volumes of three groups each.
-const SIZES: Sizes = Sizes {
-    ckpt: 0,
-    volumes: 2,
-    volume: 3 * 4096,
-};
+fn sizes() -> Sizes {
+    Sizes {
+        ckpt: 0,
+        volumes: 2,
+        volume: 3 * 4096,
+    }
+}
 
 const SYSA: MemberId = MemberId(1);
 
@@ -70,7 +72,7 @@ fn assert_whole(rt: &impl Abort, text: Text, wanted: &[u8]) {
 #[test]
 fn reads_texts_across_volumes(rt: HostRuntime) -> Result<(), Fail> {
     let alloc = rt.alloc();
-    let mut plant = MemPlant::new(alloc, SIZES, 99, 99)?;
+    let mut plant = MemPlant::new(alloc, sizes(), 99, 99)?;
     assert_gone(&rt, read(&rt, alloc, &mut plant, 2)?, 2, 2);
     write_line(&rt, &mut plant, 1, 2 * 4096, b'A');
     assert_gone(&rt, read(&rt, alloc, &mut plant, 2)?, 3, 2);

@@ -4,7 +4,7 @@ ghost use Rattle.mas_types.specs.declared.ids.Dev.TheVariants.{Ckpt1, Ckpt2};
 ghost use Rattle.spool_disk.specs.Acts.{Goes};
 ghost use Rattle.ckpt_copy.specs.Areas.{areas_size};
 
-use crate::pairs::{MEMBER, OPERATOR, SIZES, pages};
+use crate::pairs::{MEMBER, OPERATOR, pages, sizes};
 use ckpt_copy::{AreaCopy, CopyNo, Copying};
 use duplex_pair::{Look, LookNo, Pair, PairFindNo, PairNo, pages_level};
 use mas_types::{Dev, Page};
@@ -65,16 +65,16 @@ fn on_second<P: Plant>(plant: &mut P, pages: &[Page]) -> Result<(), CopyNo>
 #[test]
 fn lagging_copy(rt: HostRuntime) -> Result<(), Fail> {
     let alloc = rt.alloc();
-    let mut plant = MemPlant::new(alloc, SIZES, 400, 800_000)?;
+    let mut plant = MemPlant::new(alloc, sizes(), 400, 800_000)?;
     let first = pages(alloc, 2)?;
     let second = pages(alloc, 3)?;
     assert!(rt; plant.size(Dev::Ckpt1) >= 4096 * 13);
     assert!(rt; plant.size(Dev::Ckpt2) >= 4096 * 13);
     one_ahead(&mut plant, first.as_slice(), second.as_slice())?;
-    assert_eq!(rt; found(alloc, &mut plant)?, 3);
-    assert_eq!(rt; mended(alloc, &mut plant)?, 3);
+    assert!(rt; found(alloc, &mut plant)? == 3);
+    assert!(rt; mended(alloc, &mut plant)? == 3);
     plant.lose(Dev::Ckpt1);
-    assert_eq!(rt; found(alloc, &mut plant)?, 3);
+    assert!(rt; found(alloc, &mut plant)? == 3);
     plant.lose(Dev::Ckpt2);
     assert!(rt; matches!(found(alloc, &mut plant), Err(PairFindNo::BothLost)));
     Ok(())
@@ -83,12 +83,12 @@ fn lagging_copy(rt: HostRuntime) -> Result<(), Fail> {
 #[test]
 fn unread_copy(rt: HostRuntime) -> Result<(), Fail> {
     let alloc = rt.alloc();
-    let mut plant = MemPlant::new(alloc, SIZES, 200, 400_000)?;
+    let mut plant = MemPlant::new(alloc, sizes(), 200, 400_000)?;
     assert!(rt; matches!(found(alloc, &mut plant), Err(PairFindNo::NotValid)));
     let only = pages(alloc, 2)?;
     assert!(rt; plant.size(Dev::Ckpt2) >= 4096 * 13);
     on_second(&mut plant, only.as_slice())?;
-    assert_eq!(rt; found(alloc, &mut plant)?, 2);
+    assert!(rt; found(alloc, &mut plant)? == 2);
     assert!(rt; plant.lost(Part::Disk(Dev::Ckpt1)));
     Ok(())
 }

@@ -18,25 +18,32 @@ pub(crate) const OPERATOR: MemberId = MemberId(0);
 pub(crate) const MEMBER: MemberId = MemberId(1);
 
 // Room for two areas of six pages on each device.
-pub(crate) const SIZES: Sizes = Sizes {
-    ckpt: 4096 * 13,
-    volumes: 0,
-    volume: 0,
-};
+pub(crate) fn sizes() -> Sizes {
+    Sizes {
+        ckpt: 4096 * 13,
+        volumes: 0,
+        volume: 0,
+    }
+}
+
+// A page of equal bytes.
+fn page(byte: u8) -> Page {
+    Page([byte; 4096])
+}
 
 // Six pages: page 0 has the level, every other its number in each byte.
 pub(crate) fn pages(alloc: Global, level: u8) -> Result<List<Page>, NoMemory>
     ensures { IfOk result (λ pages. length pages ≡ 6) }
 {
     let mut pages = List::new(alloc);
-    let mut first = Page([0; 4096]);
+    let mut first = page(0);
     first.0[15] = level;
     pages.push(first)?;
-    pages.push(Page([1; 4096]))?;
-    pages.push(Page([2; 4096]))?;
-    pages.push(Page([3; 4096]))?;
-    pages.push(Page([4; 4096]))?;
-    pages.push(Page([5; 4096]))?;
+    pages.push(page(1))?;
+    pages.push(page(2))?;
+    pages.push(page(3))?;
+    pages.push(page(4))?;
+    pages.push(page(5))?;
     Ok(pages)
 }
 
@@ -55,12 +62,12 @@ fn levels<P: Plant>(plant: &mut P, first: &[Page], second: &[Page]) -> Result<[u
     pair.open_copy(plant, MEMBER, Dev::Ckpt1)?;
     pair.open_copy(plant, MEMBER, Dev::Ckpt2)?;
     pair.settle(plant, MEMBER, second)?;
-    let mut page = Page([0; 4096]);
-    pair.read_page(plant, MEMBER, 0, &mut page)?;
-    let both = page.0[15];
+    let mut first = page(0);
+    pair.read_page(plant, MEMBER, 0, &mut first)?;
+    let both = first.0[15];
     pair.lose(plant, Dev::Ckpt1);
-    pair.read_page(plant, MEMBER, 0, &mut page)?;
-    Ok([both, page.0[15]])
+    pair.read_page(plant, MEMBER, 0, &mut first)?;
+    Ok([both, first.0[15]])
 }
 
 // What a new pair sees of each copy: 0 for a lost one, 1 for one that isn't read, and the level of its pages.
@@ -83,16 +90,16 @@ fn seen<P: Plant>(alloc: Global, plant: &mut P, dev: Dev) -> Result<u8, LookNo>
 #[test]
 fn two_copies(rt: HostRuntime) -> Result<(), Fail> {
     let alloc = rt.alloc();
-    let mut plant = MemPlant::new(alloc, SIZES, 200, 400_000)?;
-    assert_eq!(rt; seen(alloc, &mut plant, Dev::Ckpt1)?, 1);
+    let mut plant = MemPlant::new(alloc, sizes(), 200, 400_000)?;
+    assert!(rt; seen(alloc, &mut plant, Dev::Ckpt1)? == 1);
     let first = pages(alloc, 2)?;
     let second = pages(alloc, 3)?;
     assert!(rt; plant.size(Dev::Ckpt1) >= 4096 * 13);
     assert!(rt; plant.size(Dev::Ckpt2) >= 4096 * 13);
     let levels = levels(&mut plant, first.as_slice(), second.as_slice())?;
-    assert_eq!(rt; levels, [3, 3]);
-    assert_eq!(rt; seen(alloc, &mut plant, Dev::Ckpt1)?, 0);
-    assert_eq!(rt; seen(alloc, &mut plant, Dev::Ckpt2)?, 3);
+    assert!(rt; levels == [3, 3]);
+    assert!(rt; seen(alloc, &mut plant, Dev::Ckpt1)? == 0);
+    assert!(rt; seen(alloc, &mut plant, Dev::Ckpt2)? == 3);
     assert!(rt; plant.lost(Part::Disk(Dev::Ckpt1)));
     Ok(())
 }
