@@ -1,0 +1,10 @@
+pub mod Seats
+pub mod Words
+pub mod Told
+pub mod Desks
+pub mod Marked
+pub mod Parts
+pub mod Shared
+pub mod Turning
+pub mod Laws
+pub mod Examples

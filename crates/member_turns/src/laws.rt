@@ -1,0 +1,28 @@
+//! What calls of the shared value leave to the others.
+ghost use Rattle.member_turns.specs.Examples.{LinesAreTheirs};
+ghost use Rattle.member_turns.specs.Laws.{ItselfMayGoBack, OneByOne, TriesMayGoBack, FreesMayGoBack, StopsMayGoBack, SeizesMayGoBack, SpendsMayGoBack, SaysMayGoBack};
+
+/// A value may be given back as it was taken, and after several calls where it may be after each.
+pub fn law_of_giving_back()
+    ensures itself { ItselfMayGoBack }
+    ensures one_by_one { OneByOne }
+{}
+
+/// After each call on the lock of the checkpoint the member that made it may give the value back.
+pub fn law_of_lock_calls()
+    ensures tries { TriesMayGoBack }
+    ensures frees { FreesMayGoBack }
+    ensures stops { StopsMayGoBack }
+    ensures seizes { SeizesMayGoBack }
+    ensures spends { SpendsMayGoBack }
+{}
+
+/// After it said a line that begins with its own name a member may give the value back.
+pub fn law_of_lines()
+    ensures { SaysMayGoBack }
+{}
+
+/// Worked lines: whose they are.
+pub fn examples_of_lines()
+    ensures { LinesAreTheirs }
+{}

@@ -1,0 +1,16 @@
+//! Taking turns at the shared value. Who takes a turn has the value alone until it is handed back, and what is handed back
+//! leaves to the others what is theirs. One who waits for nobody is the only one at the value, and a pass of a gate can be
+//! another.
+#![tactic(auto)]
+
+mod laws;
+mod one_hand;
+mod telling;
+mod trying;
+mod turns;
+
+pub use laws::{examples_of_lines, law_of_giving_back, law_of_lines, law_of_lock_calls};
+pub use one_hand::OneHand;
+pub use telling::Telling;
+pub use trying::try_in_turn;
+pub use turns::Turns;
