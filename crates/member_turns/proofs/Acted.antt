@@ -23,11 +23,11 @@ use Rattle.mas_complex.specs.Journals.{kept_all, coming}
 use Rattle.mas_complex.specs.Meaning.{run}
 use Rattle.member_turns.specs.Parts.{Shown}
 use Rattle.member_turns.specs.Seats.{all_seats, has_lock}
-use Rattle.member_turns.specs.Words.{speaker, said_since, lines_by}
+use Rattle.member_turns.specs.Words.{speaker, lines_by}
 use Rattle.member_turns.specs.Told.{told_by}
 use Rattle.member_turns.specs.Marked.{parts, devices}
 use Rattle.member_turns.specs.Desks.{kept_pages, no_hold, whole_hold, groups_on}
-use Rattle.member_turns.specs.Shared.{said_of, pages_had, groups_of, desk_in, marks_of, facts_of}
+use Rattle.member_turns.specs.Shared.{said_since, said_of, pages_had, groups_of, desk_in, marks_of, facts_of}
 use Rattle.member_turns.specs.Laws.{with_view, SaysMayGoBack}
 use Rattle.member_turns.proofs.Seats.{each_seat}
 

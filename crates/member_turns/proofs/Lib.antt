@@ -5,3 +5,4 @@ pub mod BookLemmas
 pub mod Booked
 pub mod Acted
 pub mod Showing
+pub mod TellLemmas

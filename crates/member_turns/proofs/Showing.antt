@@ -13,7 +13,7 @@ use Rattle.lock_cycle.specs.Books.{Book, IsMember, after_try}
 use Rattle.gate_facts.specs.declared.facts.Facts.{Facts}
 use Rattle.gate_facts.specs.declared.desks.Desk.{Desk}
 use Rattle.gate_facts.specs.Values.{no_desk, desk_of}
-use Rattle.gate_facts.specs.Memory.{MayGiveBack}
+use Rattle.gate_facts.specs.Memory.{Memory, MayGiveBack, IsLeft}
 use Rattle.member_turns.specs.Seats.{has_lock}
 use Rattle.member_turns.specs.Desks.{no_hold, whole_hold}
 use Rattle.member_turns.specs.Parts.{Shown, shown_of}
@@ -82,3 +82,7 @@ pub locked_desk : (x : Shown) (told : Bool) (m : MemberId) → m.0 < 9 → has_l
 locked_desk x told m few has =
     ap (λ (d : Desk). d.hold.locked) (seat_at (desk_in told x) no_desk 0 9 m.0 m few (omega arith))
     ∙ ap (λ z. (if z then whole_hold (pages_had told x) (coming x.current x.reserved) x.first x.second else no_hold).locked) has
+
+-- and remembers that it has it
+pub left_locked : (y : Memory) (x : Shown) (m : MemberId) → IsLeft m.0 y (facts_of false x) → m.0 < 9 → has_lock x.book m ≡ true → (y.desk m.0).hold.locked ≡ true
+left_locked y x m left few has = ap (λ (d : Desk). d.hold.locked) left.desk ∙ locked_desk x false m few has

@@ -1,7 +1,9 @@
 -- What calls of a shared value leave to the others, so that it may be given back.
-use Rattle.std.specs.Prelude.{◌≡◌, ℕ, ◌≤◌, Bool, true, List, Option, None, All}
+use Rattle.std.specs.Prelude.{◌≡◌, ℕ, ◌^◌, ◌<◌, ◌≤◌, Bool, true, List, Option, None, All}
 use Rattle.mas_types.specs.declared.ids.MemberId.{MemberId}
 use Rattle.mas_types.specs.declared.journals.Entry.{Entry}
+use Rattle.mas_types.specs.declared.answers.Closing.{Closing}
+use Rattle.mas_types.specs.Closings.{closing_line}
 use Rattle.spool_disk.specs.declared.plant.Act.{Act}
 use Rattle.spool_disk.specs.declared.plant.Part.TheVariants.{Console}
 use Rattle.spool_disk.specs.View.{View}
@@ -12,9 +14,11 @@ use Rattle.gate_facts.specs.Values.{marked_at}
 use Rattle.gate_facts.specs.Memory.{MayGiveBack}
 use Rattle.mas_complex.specs.Crash.{Begins}
 use Rattle.mas_complex.specs.Journals.{entries_reserved}
+use Rattle.mas_complex.specs.Meaning.{is_telling, Closes}
 use Rattle.mas_complex.specs.Locking.{reserved_after_stop}
 use Rattle.member_turns.specs.Parts.{Shown}
 use Rattle.member_turns.specs.Words.{speaker}
+use Rattle.member_turns.specs.Told.{step_told, IsShort}
 use Rattle.member_turns.specs.Shared.{facts_of}
 
 -- a value may be given back as it was taken
@@ -65,3 +69,11 @@ SaysMayGoBack = (x : Shown) (view : View) (by : MemberId) (line : List ℕ) (res
     → (told ≡ true → (x.since ≤ x.view.now) × Begins (x.view.world x.since).console (x.view.world x.view.now).console)
     → speaker x.base.config.members line ≡ by.0 → marked_at cares by.0 ≡ true
     → MayGiveBack by.0 cares (facts_of told x) (facts_of told (with_view x view))
+
+-- a line with which a step closes tells the step, where the closing tells it
+abbrev pub ClosingsTell : Type 0
+ClosingsTell = (m : MemberId) (at : ℕ) (end : Closing) → is_telling end ≡ true → at < 2 ^ 64 → IsShort end → step_told m (closing_line m at end) ≡ at
+
+-- and no other line does
+abbrev pub OnlyClosingsTell : Type 0
+OnlyClosingsTell = (m : MemberId) (line : List ℕ) → 0 < step_told m line → Closes line m (step_told m line)

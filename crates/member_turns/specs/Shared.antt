@@ -1,11 +1,11 @@
 -- What a shared value tells of itself.
-use Rattle.std.specs.Prelude.{ℕ, Bool, if◌then◌else◌, List, [], ◌∷◌, ◌++◌, map}
+use Rattle.std.specs.Prelude.{ℕ, Bool, if◌then◌else◌, List, [], ◌∷◌, ◌++◌, length, map, filter, drop}
 use Rattle.mas_types.specs.declared.ids.MemberId.{MemberId}
 use Rattle.mas_types.specs.declared.ids.Page.{Page}
 use Rattle.mas_types.specs.declared.journals.Batch.{Batch}
 use Rattle.mas_types.specs.declared.journals.Entry.{Entry}
 use Rattle.mas_types.specs.Ids.{same_member}
-use Rattle.spool_disk.specs.View.{disk_now}
+use Rattle.spool_disk.specs.View.{View, disk_now}
 use Rattle.gate_facts.specs.declared.facts.Facts.{Facts}
 use Rattle.gate_facts.specs.declared.desks.Desk.{Desk}
 use Rattle.gate_facts.specs.declared.desks.Hold.{Hold}
@@ -15,7 +15,7 @@ use Rattle.mas_complex.specs.Journals.{kept_all, in_flight, coming}
 use Rattle.mas_complex.specs.Meaning.{run}
 use Rattle.member_turns.specs.Seats.{all_seats, has_lock, shows_stopped}
 use Rattle.member_turns.specs.Parts.{Shown}
-use Rattle.member_turns.specs.Words.{said_since, lines_by}
+use Rattle.member_turns.specs.Words.{lines_by}
 use Rattle.member_turns.specs.Told.{told_by}
 use Rattle.member_turns.specs.Desks.{kept_pages, no_hold, whole_hold, groups_on}
 use Rattle.member_turns.specs.Marked.{devices, parts, lost_copies}
@@ -24,6 +24,10 @@ use Rattle.member_turns.specs.Marked.{devices, parts, lost_copies}
 abbrev pub begun_by : MemberId → List Batch → List Entry
 begun_by m [] = []
 begun_by m (b ∷ bs) = (if same_member b.by m then b.entries else []) ++ begun_by m bs
+
+-- what stands whole on the console behind what stood there at a moment
+abbrev pub said_since : ℕ → View → List (List ℕ)
+said_since since v = map (λ l. l.text) (filter (λ l. l.whole) (drop (length (v.world since).console) (v.world v.now).console))
 
 abbrev pub marks_of : Shown → Marks
 marks_of x = record {

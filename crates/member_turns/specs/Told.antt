@@ -1,9 +1,10 @@
 -- Which steps lines tell.
-use Rattle.std.specs.Prelude.{ℕ, ◌-◌, ◌==◌, max, if◌then◌else◌, List, [], ◌∷◌, ◌++◌, map, drop, slice_index_or, codes}
+use Rattle.std.specs.Prelude.{ℕ, ◌-◌, ◌^◌, ◌<◌, ◌==◌, max, if◌then◌else◌, List, [], ◌∷◌, ◌++◌, length, map, drop, slice_index_or, codes}
 use Rattle.std.specs.List.{list_any}
 use Rattle.std.specs.Str.{bytes_eq}
 use Rattle.mas_types.specs.declared.ids.MemberId.{MemberId}
 use Rattle.mas_types.specs.declared.ids.JobNo.{JobNo}
+use Rattle.mas_types.specs.declared.ids.Dev.{Dev}
 use Rattle.mas_types.specs.declared.ids.Dev.TheVariants as dev
 use Rattle.mas_types.specs.declared.jobs.Phase.{Phase}
 use Rattle.mas_types.specs.declared.jobs.Phase.TheVariants as phase
@@ -74,3 +75,34 @@ step_told m line = step_if m (number_at_word (words_of line) 1) (drop 2 (words_o
 unfoldable pub told_by : MemberId → List (List ℕ) → ℕ
 told_by m [] = 0
 told_by m (line ∷ lines) = max (step_told m line) (told_by m lines)
+
+-- CLOSINGS WHOSE NUMBERS ARE SHORT, as all that fit into their fields are
+
+abbrev pub IsShortDevice : Dev → Type 0
+IsShortDevice (dev.Spool n) = n < 2 ^ 64
+IsShortDevice _ = Unit {0}
+
+abbrev pub IsShortRefusal : Refusal → Type 0
+IsShortRefusal (refusal.Again n) = n < 2 ^ 64
+IsShortRefusal (refusal.Gap n kept) = (n < 2 ^ 64) × (kept < 2 ^ 64)
+IsShortRefusal _ = Unit {0}
+
+abbrev pub IsShortReply : Reply → Type 0
+IsShortReply (reply.Job job) = job.0 < 2 ^ 64
+IsShortReply (reply.Output job index) = (job.0 < 2 ^ 64) × (index.0 < 2 ^ 64)
+IsShortReply (reply.Count n) = n < 2 ^ 64
+IsShortReply (reply.Shown lines) = length lines < 2 ^ 64
+IsShortReply (reply.No why) = IsShortRefusal why
+IsShortReply _ = Unit {0}
+
+abbrev pub IsShort : Closing → Type 0
+IsShort (closing.Reply r) = IsShortReply r
+IsShort (closing.DoneUnits n) = n < 2 ^ 64
+IsShort (closing.Dormant n) = n < 2 ^ 64
+IsShort (closing.BadCard n cause) = n < 2 ^ 64
+IsShort (closing.SpoolLost n) = n < 2 ^ 64
+IsShort (closing.LineLost n) = n < 2 ^ 64
+IsShort (closing.NoText g) = g.0 < 2 ^ 64
+IsShort (closing.NotLost d) = IsShortDevice d
+IsShort (closing.Line a b) = (a < 2 ^ 64) × (b < 2 ^ 64)
+IsShort _ = Unit {0}

@@ -1,8 +1,7 @@
--- The lines that stand on the console since a moment, and whose each of them is.
-use Rattle.std.specs.Prelude.{ℕ, zero, suc, ◌==◌, if◌then◌else◌, List, [], ◌∷◌, length, map, filter, drop, slice_index_or}
+-- The words of a line, and whose the line is.
+use Rattle.std.specs.Prelude.{ℕ, zero, suc, ◌==◌, if◌then◌else◌, List, [], ◌∷◌, filter, slice_index_or}
 use Rattle.std.specs.Str.{bytes_eq}
 use Rattle.mas_types.specs.Shown.{member_word}
-use Rattle.spool_disk.specs.View.{View}
 
 abbrev pub with_first : ℕ → List (List ℕ) → List (List ℕ)
 with_first b [] = (b ∷ []) ∷ []
@@ -28,10 +27,6 @@ named (suc n) word = if bytes_eq word (member_word (record { 0 = suc n })) then 
 -- whose the line is: of the member that its first word names, or of member 0
 unfoldable pub speaker : ℕ → List ℕ → ℕ
 speaker members line = named members (word_at (words_of line) 0)
-
--- what stands whole on the console behind what stood there at a moment
-abbrev pub said_since : ℕ → View → List (List ℕ)
-said_since since v = map (λ l. l.text) (filter (λ l. l.whole) (drop (length (v.world since).console) (v.world v.now).console))
 
 -- the lines of one member, of so many
 abbrev pub lines_by : ℕ → ℕ → List (List ℕ) → List (List ℕ)

@@ -1,6 +1,6 @@
 //! What calls of the shared value leave to the others.
 ghost use Rattle.member_turns.specs.Examples.{LinesAreTheirs};
-ghost use Rattle.member_turns.specs.Laws.{ItselfMayGoBack, OneByOne, TriesMayGoBack, FreesMayGoBack, StopsMayGoBack, SeizesMayGoBack, SpendsMayGoBack, SaysMayGoBack};
+ghost use Rattle.member_turns.specs.Laws.{ItselfMayGoBack, OneByOne, TriesMayGoBack, FreesMayGoBack, StopsMayGoBack, SeizesMayGoBack, SpendsMayGoBack, SaysMayGoBack, ClosingsTell, OnlyClosingsTell};
 
 /// A value may be given back as it was taken, and after several calls where it may be after each.
 pub fn law_of_giving_back()
@@ -20,6 +20,12 @@ pub fn law_of_lock_calls()
 /// After it said a line that begins with its own name a member may give the value back.
 pub fn law_of_lines()
     ensures { SaysMayGoBack }
+{}
+
+/// The steps that lines tell are read from just the lines with which steps close, but for those of members that were stopped.
+pub fn law_of_told_steps()
+    ensures closings { ClosingsTell }
+    ensures only { OnlyClosingsTell }
 {}
 
 /// Worked lines: whose they are.

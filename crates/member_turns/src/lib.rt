@@ -9,7 +9,9 @@ mod telling;
 mod trying;
 mod turns;
 
-pub use laws::{examples_of_lines, law_of_giving_back, law_of_lines, law_of_lock_calls};
+pub use laws::{
+    examples_of_lines, law_of_giving_back, law_of_lines, law_of_lock_calls, law_of_told_steps,
+};
 pub use one_hand::OneHand;
 pub use telling::Telling;
 pub use trying::try_in_turn;

@@ -5,7 +5,7 @@ use Rattle.member_turns.specs.Parts.{shown_of}
 use Rattle.member_turns.specs.Laws.{with_book}
 use Rattle.member_turns.specs.Turning.{Serves}
 use Rattle.member_turns.proofs.BookLemmas.{tries_hold}
-use Rattle.member_turns.proofs.Showing.{on_ok, few_seats, in_book, shown_beside, tried_back, locked_desk}
+use Rattle.member_turns.proofs.Showing.{on_ok, few_seats, in_book, shown_beside, tried_back, left_locked}
 use Rattle.member_turns.proofs.trying.try_in_turn.Goals as goal
 
 pub back-requires-clause-value : goal.back-requires-clause-value
@@ -32,7 +32,7 @@ returns-clause-ok g c =
     let is = c.try_lock-tried.new.self in
     let by = c.args.by in
     let serves = subst (λ b. Serves b by.0) (sym c.turn-complex.ensures.bound) c.requires.serves in
-    on_ok (try_refusal was.book by c.args.inner ≡ None) _ c.try_lock-tried.result
-    (λ none. ap (λ d. d.hold.locked) (c.back.ensures.left.bare by.0 serves).desk
-    ∙ locked_desk (shown_of is) false by (few_seats (g.T.Turns.memory c.args.turns.now false).base.config by c.requires.member) (ap (λ b. has_lock b by) c.try_lock-tried.ensures.book ∙ tries_hold was.book by c.args.inner c.requires.member.0 none))
+    on_ok (try_refusal was.book by c.args.inner ≡ None) (((g.T.Turns.memory c.back.new.self false).desk by.0).hold.locked ≡ true) c.try_lock-tried.result
+    (λ none. left_locked (g.T.Turns.memory c.back.new.self false) (shown_of is) by (c.back.ensures.left.bare by.0 serves) (few_seats (g.T.Turns.memory c.args.turns.now false).base.config by c.requires.member)
+    (ap (λ b. has_lock b by) c.try_lock-tried.ensures.book ∙ tries_hold was.book by c.args.inner c.requires.member.0 none))
     c.try_lock-tried.ensures.ok
