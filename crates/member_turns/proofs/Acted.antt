@@ -18,7 +18,6 @@ use Rattle.gate_facts.specs.Values.{marked_at, no_desk, stopped_of, SyncedGroups
 use Rattle.gate_facts.specs.Memory.{MayGiveBack}
 use Rattle.gate_facts.proofs.Lists.{true_false}
 use Rattle.gate_facts.proofs.Values.{synced_refl}
-use Rattle.mas_complex.specs.Crash.{Begins}
 use Rattle.mas_complex.specs.Journals.{kept_all, coming}
 use Rattle.mas_complex.specs.Meaning.{run}
 use Rattle.member_turns.specs.Parts.{Shown}
@@ -28,7 +27,7 @@ use Rattle.member_turns.specs.Told.{told_by}
 use Rattle.member_turns.specs.Marked.{parts, devices}
 use Rattle.member_turns.specs.Desks.{kept_pages, no_hold, whole_hold, groups_on}
 use Rattle.member_turns.specs.Shared.{said_since, said_of, pages_had, groups_of, desk_in, marks_of, facts_of}
-use Rattle.member_turns.specs.Laws.{with_view, SaysMayGoBack}
+use Rattle.member_turns.specs.Laws.{with_view, HasBegun, SaysMayGoBack}
 use Rattle.member_turns.proofs.Seats.{each_seat}
 
 -- what holds of each item holds at each place
@@ -56,7 +55,7 @@ pub record Spares (told : Bool) (x : Shown) (view : View) (by : ℕ) : Type 0 wh
   pub pages : pages_had told (with_view x view) ≡ pages_had told x
   pub groups : (k : MemberId) → k.0 ≢ by → SyncedGroups (groups_of told (with_view x view) k) (groups_of told x k)
 
-acted : (x : Shown) (view : View) (by : MemberId) (part : Part) (result : Act) → Acts by.0 part x.view view result → (told : Bool) (cares : List Bool)
+pub acted : (x : Shown) (view : View) (by : MemberId) (part : Part) (result : Act) → Acts by.0 part x.view view result → (told : Bool) (cares : List Bool)
     → marked_at cares by.0 ≡ true → Spares told x view by.0 → MayGiveBack by.0 cares (facts_of told x) (facts_of told (with_view x view))
 acted x view by part result acts told cares own spares = record {
   base = refl;
@@ -121,22 +120,19 @@ after_said members k n line was is Halted le ne said = ⊎_elim
     some)
     said
 
-begins_within : (old new : List Line) → Begins old new → length old ≤ length new
-begins_within old new b = let e = ap length b.is in let l = length-append old b.more in omega arith
-
 -- what was said before a moment is past
 said_lines : (x : Shown) (view : View) (by : ℕ) (line : List ℕ) (result : Act) (k : ℕ) → Goes x.view view → Says line x.view view result
-    → (x.since ≤ x.view.now) × Begins (x.view.world x.since).console (x.view.world x.view.now).console
+    → HasBegun x
     → speaker x.base.config.members line ≢ k
     → lines_by x.base.config.members k (said_since x.since view) ≡ lines_by x.base.config.members k (said_since x.since x.view)
 said_lines x view by line result k goes says before ne =
     ap (λ (w : World). lines_by x.base.config.members k (whole_texts (drop (length w.console) (view.world view.now).console))) (goes.past x.since before.0)
     ∙ after_said x.base.config.members k (length (x.view.world x.since).console) line (x.view.world x.view.now).console (view.world view.now).console result
-    (begins_within (x.view.world x.since).console (x.view.world x.view.now).console before.1) ne says.console
+    before.1 ne says.console
 
 said_spares : (x : Shown) (view : View) (by : MemberId) (line : List ℕ) (result : Act) (told : Bool) → Goes x.view view
     → (told ≡ true → Says line x.view view result)
-    → (told ≡ true → (x.since ≤ x.view.now) × Begins (x.view.world x.since).console (x.view.world x.view.now).console)
+    → (told ≡ true → HasBegun x)
     → speaker x.base.config.members line ≡ by.0 → Spares told x view by.0
 said_spares x view by line result false goes says before own = record { lines = λ k ne. refl; pages = refl; groups = λ k ne. tt }
 said_spares x view by line result true goes says before own = record {

@@ -6,3 +6,4 @@ pub mod Booked
 pub mod Acted
 pub mod Showing
 pub mod TellLemmas
+pub mod SpoolActed

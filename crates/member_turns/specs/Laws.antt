@@ -1,21 +1,27 @@
 -- What calls of a shared value leave to the others, so that it may be given back.
-use Rattle.std.specs.Prelude.{◌≡◌, ℕ, ◌^◌, ◌<◌, ◌≤◌, Bool, true, List, Option, None, All}
+use Rattle.std.specs.Prelude.{◌≡◌, ℕ, ◌^◌, ◌<◌, ◌≤◌, ◌↔◌, Bool, true, false, List, length, Option, None, All}
 use Rattle.mas_types.specs.declared.ids.MemberId.{MemberId}
+use Rattle.mas_types.specs.declared.ids.GroupNo.{GroupNo}
+use Rattle.mas_types.specs.declared.ids.Page.{Page}
+use Rattle.mas_types.specs.declared.ids.Dev.TheVariants.{Spool}
 use Rattle.mas_types.specs.declared.journals.Entry.{Entry}
 use Rattle.mas_types.specs.declared.answers.Closing.{Closing}
 use Rattle.mas_types.specs.Closings.{closing_line}
+use Rattle.mas_types.specs.Limits.{page_bytes}
 use Rattle.spool_disk.specs.declared.plant.Act.{Act}
-use Rattle.spool_disk.specs.declared.plant.Part.TheVariants.{Console}
-use Rattle.spool_disk.specs.View.{View}
-use Rattle.spool_disk.specs.Acts.{Acts, Says}
+use Rattle.spool_disk.specs.declared.plant.Part.TheVariants.{Disk, Console}
+use Rattle.spool_disk.specs.View.{View, disk_now}
+use Rattle.spool_disk.specs.Acts.{Acts, Syncs, Says}
 use Rattle.lock_cycle.specs.Books.{Book, IsMember, is_holder, after_try, after_free, after_stop, after_seize, after_spend}
 use Rattle.gate_facts.specs.declared.facts.Facts.{Facts}
 use Rattle.gate_facts.specs.Values.{marked_at}
 use Rattle.gate_facts.specs.Memory.{MayGiveBack}
-use Rattle.mas_complex.specs.Crash.{Begins}
-use Rattle.mas_complex.specs.Journals.{entries_reserved}
-use Rattle.mas_complex.specs.Meaning.{is_telling, Closes}
+use Rattle.mas_complex.specs.Journals.{kept_all, entries_reserved}
+use Rattle.mas_complex.specs.Meaning.{run, is_telling, Closes}
+use Rattle.mas_complex.specs.Spool.{IsHeldBy, device_of, ReadsGroup, WritesGroup}
+use Rattle.mas_complex.specs.Texts.{spools_at, IsSynced}
 use Rattle.mas_complex.specs.Locking.{reserved_after_stop}
+use Rattle.member_turns.specs.Desks.{group_on}
 use Rattle.member_turns.specs.Parts.{Shown}
 use Rattle.member_turns.specs.Words.{speaker}
 use Rattle.member_turns.specs.Told.{step_told, IsShort}
@@ -62,13 +68,42 @@ SeizesMayGoBack = (x : Shown) (by of : MemberId) → IsMember x.book by → IsMe
 abbrev pub SpendsMayGoBack : Type 0
 SpendsMayGoBack = (x : Shown) (by : MemberId) (commands : ℕ) → IsMember x.book by → MayGoBack by x (after_spend x.book by commands) x.reserved
 
--- After it said a line that its own name begins. The value begins with a part of what stands on the console.
+-- the value began at a moment that is past, and the lines that stood on the console then still do
+abbrev pub HasBegun : Shown → Type 0
+HasBegun x = (x.since ≤ x.view.now) × (length (x.view.world x.since).console ≤ length (x.view.world x.view.now).console)
+
+-- after it said a line that its own name begins
 abbrev pub SaysMayGoBack : Type 0
 SaysMayGoBack = (x : Shown) (view : View) (by : MemberId) (line : List ℕ) (result : Act) (told : Bool) (cares : List Bool) →
-    Acts by.0 Console x.view view result → (told ≡ true → Says line x.view view result)
-    → (told ≡ true → (x.since ≤ x.view.now) × Begins (x.view.world x.since).console (x.view.world x.view.now).console)
+    Acts by.0 Console x.view view result → (told ≡ true → Says line x.view view result) → (told ≡ true → HasBegun x)
     → speaker x.base.config.members line ≡ by.0 → marked_at cares by.0 ≡ true
     → MayGiveBack by.0 cares (facts_of told x) (facts_of told (with_view x view))
+
+-- after it read a group
+abbrev pub ReadsMayGoBack : Type 0
+ReadsMayGoBack = (x : Shown) (view : View) (by : MemberId) (group : GroupNo) (into : Page) (result : Act) (told : Bool) (cares : List Bool) →
+    Acts by.0 (Disk (device_of x.base.config.groups group)) x.view view result → (told ≡ true → ReadsGroup x.base.config.groups group x.view view into result)
+    → (told ≡ true → HasBegun x) → marked_at cares by.0 ≡ true
+    → MayGiveBack by.0 cares (facts_of told x) (facts_of told (with_view x view))
+
+-- after it synced a volume
+abbrev pub SyncsMayGoBack : Type 0
+SyncsMayGoBack = (x : Shown) (view : View) (by : MemberId) (volume : ℕ) (result : Act) (told : Bool) (cares : List Bool) →
+    Acts by.0 (Disk (Spool volume)) x.view view result → (told ≡ true → Syncs (Spool volume) x.view view result)
+    → (told ≡ true → HasBegun x) → marked_at cares by.0 ≡ true
+    → MayGiveBack by.0 cares (facts_of told x) (facts_of told (with_view x view))
+
+-- after it wrote a group of its own
+abbrev pub WritesMayGoBack : Type 0
+WritesMayGoBack = (x : Shown) (view : View) (by : MemberId) (group : GroupNo) (bytes : Page) (result : Act) (told : Bool) (cares : List Bool) →
+    Acts by.0 (Disk (device_of x.base.config.groups group)) x.view view result → (told ≡ true → WritesGroup x.base.config.groups group x.view view bytes result)
+    → length bytes.0 ≡ page_bytes → (told ≡ true → IsHeldBy by group (run x.base (kept_all x.batches)))
+    → (told ≡ true → HasBegun x) → marked_at cares by.0 ≡ true
+    → MayGiveBack by.0 cares (facts_of told x) (facts_of told (with_view x view))
+
+-- a group counts as unsynced at a desk unless no byte of its page is
+abbrev pub UnsyncedAsTheyAre : Type 0
+UnsyncedAsTheyAre = (v : View) (per : ℕ) (g : GroupNo) → ((group_on (disk_now v) per g).unsynced ≡ false) ↔ IsSynced (spools_at v v.now) per g
 
 -- a line with which a step closes tells the step, where the closing tells it
 abbrev pub ClosingsTell : Type 0
