@@ -11,4 +11,6 @@ mod recovered;
 #[cfg(test)]
 mod shared;
 #[cfg(test)]
+mod turns;
+#[cfg(test)]
 mod writing;

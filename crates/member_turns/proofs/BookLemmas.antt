@@ -111,6 +111,9 @@ tries_hold b m inner pos none =
       refused : None ≡ Some lock.Down → ⊥
       refused e = true_false (is_some (Some lock.Down)) refl (sym (ap is_some e))
 
+pub tries_held : (b was : Book) (m : MemberId) (inner : Bool) → b ≡ after_try was m inner → 0 < m.0 → try_refusal was m inner ≡ None → has_lock b m ≡ true
+tries_held b was m inner is pos none = ap (λ c. has_lock c m) is ∙ tries_hold was m inner pos none
+
 -- GIVING UP
 
 pub frees_stop : (b : Book) (m k : MemberId) (inner : Bool) → is_holder b m ≡ true → shows_stopped (after_free b m inner) k ≡ shows_stopped b k

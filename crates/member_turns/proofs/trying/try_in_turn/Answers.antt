@@ -1,10 +1,9 @@
 use Rattle.std.proofs.Common.{◌≡◌, true, false, None, sym, ap, subst, ◌∙◌}
 use Rattle.lock_cycle.specs.Books.{IsMember, after_try, try_refusal}
-use Rattle.member_turns.specs.Seats.{has_lock}
 use Rattle.member_turns.specs.Parts.{shown_of}
 use Rattle.member_turns.specs.Laws.{with_book}
 use Rattle.member_turns.specs.Turning.{Serves}
-use Rattle.member_turns.proofs.BookLemmas.{tries_hold}
+use Rattle.member_turns.proofs.BookLemmas.{tries_held}
 use Rattle.member_turns.proofs.Showing.{on_ok, few_seats, in_book, shown_beside, tried_back, left_locked}
 use Rattle.member_turns.proofs.trying.try_in_turn.Goals as goal
 
@@ -34,5 +33,5 @@ returns-clause-ok g c =
     let serves = subst (λ b. Serves b by.0) (sym c.turn-complex.ensures.bound) c.requires.serves in
     on_ok (try_refusal was.book by c.args.inner ≡ None) (((g.T.Turns.memory c.back.new.self false).desk by.0).hold.locked ≡ true) c.try_lock-tried.result
     (λ none. left_locked (g.T.Turns.memory c.back.new.self false) (shown_of is) by (c.back.ensures.left.bare by.0 serves) (few_seats (g.T.Turns.memory c.args.turns.now false).base.config by c.requires.member)
-    (ap (λ b. has_lock b by) c.try_lock-tried.ensures.book ∙ tries_hold was.book by c.args.inner c.requires.member.0 none))
+    (tries_held is.book was.book by c.args.inner c.try_lock-tried.ensures.book c.requires.member.0 none))
     c.try_lock-tried.ensures.ok
