@@ -29,25 +29,32 @@ pub fn page(rt: &impl Abort, plant: &mut MemPlant, dev: Dev, number: u64) -> [u8
     into
 }
 
-/// A copy that was formatted, and nothing more.
-pub fn is_empty(rt: &impl Abort, plant: &mut MemPlant, dev: Dev) {
-    let first = page(rt, plant, dev, 0);
-    assert!(rt; first[..10] == [0xA5, 1, 0, 36, 0, 0, 0, 0, 0xA5, 0]);
-    let header = page(rt, plant, dev, 1);
-    assert!(rt; &header[..48] == EMPTY);
+// The page of this number begins so.
+fn begins(rt: &impl Abort, plant: &mut MemPlant, dev: Dev, number: u64, wanted: &[u8]) {
+    let page = page(rt, plant, dev, number);
+    assert!(rt; page.starts_with(wanted), "page {number}");
 }
 
-/// A copy with the job of one deck: of its pages the first and that of the job's slot have level 2.
-pub fn has_one_job(rt: &impl Abort, plant: &mut MemPlant, dev: Dev) {
-    let first = page(rt, plant, dev, 0);
-    assert!(rt; first[..10] == [0xA5, 1, 0, 36, 0, 0, 0, 0, 0xA5, 0xA5]);
-    let header = page(rt, plant, dev, SECOND);
-    assert!(rt; &header[..48] == ONE_JOB);
+/// A copy that was formatted, and nothing more.
+pub fn is_empty(rt: &impl Abort, plant: &mut MemPlant, dev: Dev) {
+    begins(rt, plant, dev, 0, &[0xA5, 1, 0, 36, 0, 0, 0, 0, 0xA5, 0]);
+    begins(rt, plant, dev, 1, EMPTY);
+}
+
+// Of the pages of one job the first and that of the job's slot have level 2, by the first.
+fn has_levels(rt: &impl Abort, first: &[u8; 4096]) {
     for number in 0..36usize {
         let level = if number == 0 || number == 3 { 2 } else { 1 };
-        assert!(rt; header[1024 + 8 * number + 7] == level);
+        assert!(rt; first[1024 + 8 * number + 7] == level);
     }
+}
+
+/// A copy with the job of one deck.
+pub fn has_one_job(rt: &impl Abort, plant: &mut MemPlant, dev: Dev) {
+    begins(rt, plant, dev, 0, &[0xA5, 1, 0, 36, 0, 0, 0, 0, 0xA5, 0xA5]);
+    begins(rt, plant, dev, SECOND, ONE_JOB);
+    begins(rt, plant, dev, SECOND + 3, SLOT);
+    has_levels(rt, &page(rt, plant, dev, SECOND));
     let slots = page(rt, plant, dev, SECOND + 3);
-    assert!(rt; &slots[..52] == SLOT);
-    assert!(rt; slots[52..].iter().all(|byte| *byte == 0));
+    assert!(rt; slots.iter().skip(SLOT.len()).all(|byte| *byte == 0));
 }
