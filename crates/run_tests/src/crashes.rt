@@ -1,6 +1,8 @@
 // A crash at each moment of a run of three decks, and the warm start after it.
 use crate::pages::{PAGES, page};
-use crate::playing::{DECK, FORM, FORMED, KEPT, OPEN, PUT, failing, halting, plant, play, start};
+use crate::playing::{
+    DECK, FORM, FORMED, KEPT, OPEN, PUT, failing, halting, plant, play, start, without,
+};
 use crate::starts::found;
 use mas_run::Ended;
 use mas_types::{Batch, Dev, Status};
@@ -100,9 +102,9 @@ fn on_both_copies(rt: HostRuntime) -> Result<(), Fail> {
 fn with_one_copy_from_the_begin_on(rt: HostRuntime) -> Result<(), Fail> {
     let alloc = rt.alloc();
     for dev in COPIES {
-        let mut plant = plant(alloc)?;
-        plant.lose(dev);
-        starts_after_each(&rt, alloc, &play(alloc, THREE, plant)?, None)?;
+        let plant = without(alloc, dev)?;
+        let run = play(alloc, THREE, plant)?;
+        starts_after_each(&rt, alloc, &run, None)?;
     }
     Ok(())
 }
@@ -156,6 +158,14 @@ fn are_equal(rt: &impl Abort, plant: &mut MemPlant) {
     }
 }
 
+// The next start finds the deck, and both copies get it.
+fn keeps_the_deck(rt: &impl Abort, alloc: Global, left: MemPlant) -> Result<(), Fail> {
+    let (decks, mut left) = found(rt, alloc, left)?;
+    assert!(rt; decks == 1);
+    are_equal(rt, &mut left);
+    Ok(())
+}
+
 // A member that is stopped as it writes the gate of CKPT2, of which so many bytes are left: both copies get its deck.
 #[test]
 fn behind_the_gate_of_ckpt1(rt: HostRuntime) -> Result<(), Fail> {
@@ -164,10 +174,7 @@ fn behind_the_gate_of_ckpt1(rt: HostRuntime) -> Result<(), Fail> {
         let run = play(alloc, DECK, halting(alloc, KEPT - OPEN, keep)?)?;
         let now = run.plant.now();
         for choice in CHOICES {
-            let left = run.plant.crash_at(alloc, now, choice)?;
-            let (decks, mut left) = found(&rt, alloc, left)?;
-            assert!(rt; decks == 1);
-            are_equal(&rt, &mut left);
+            keeps_the_deck(&rt, alloc, run.plant.crash_at(alloc, now, choice)?)?;
         }
     }
     Ok(())

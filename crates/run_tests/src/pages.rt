@@ -58,3 +58,11 @@ pub fn has_one_job(rt: &impl Abort, plant: &mut MemPlant, dev: Dev) {
     let slots = page(rt, plant, dev, SECOND + 3);
     assert!(rt; slots.iter().skip(SLOT.len()).all(|byte| *byte == 0));
 }
+
+/// A byte is written by another hand.
+pub fn write(rt: &impl Abort, plant: &mut MemPlant, dev: Dev, at: u64, byte: u8) {
+    let bytes = [byte];
+    let room = plant.size(dev);
+    assert!(rt; at <= room && bytes.len() as u64 <= room - at);
+    assert!(rt; plant.write(MemberId(0), dev, at, &bytes) == Act::Done);
+}

@@ -4,8 +4,8 @@ ghost use Rattle.spool_disk.specs.Courses.{empty_book};
 ghost use Rattle.spool_disk.specs.MemView.{mem_book};
 
 use mas_run::{Ended, calm_top};
-use mas_types::{List, NoMemory};
-use spool_disk::{MemPlant, MemSource, Sizes};
+use mas_types::{Dev, List, NoMemory};
+use spool_disk::{MemPlant, MemSource, Plant, Sizes};
 use std::alloc::{AllocError, Global};
 
 /// What a copy of the default configuration needs, in bytes.
@@ -99,4 +99,11 @@ pub fn play(alloc: Global, script: &[u8], plant: MemPlant) -> Result<Ended<MemPl
 /// A warm run of a script.
 pub fn start(alloc: Global, script: &[u8], plant: MemPlant) -> Result<Ended<MemPlant>, NoMemory> {
     run(alloc, &["play"], script, None, plant)
+}
+
+/// A plant that has lost a device from the begin on.
+pub fn without(alloc: Global, dev: Dev) -> Result<MemPlant, NoMemory> {
+    let mut plant = plant(alloc)?;
+    plant.lose(dev);
+    Ok(plant)
 }

@@ -1,8 +1,8 @@
 // One deck played, no deck, and what is refused before anything is played.
-use crate::pages::{SECOND, has_one_job, is_empty};
+use crate::pages::{SECOND, has_one_job, is_empty, write};
 use crate::playing::{CKPT, DECK, FORMED, KEPT, plant, play, run, sizes, start};
-use mas_types::{Dev, Job, MemberId, Status};
-use spool_disk::{Act, Choice, MemPlant, Part, Plant};
+use mas_types::{Dev, Job, Status};
+use spool_disk::{Choice, MemPlant, Part, Plant};
 use std::test::Fail;
 
 #[test]
@@ -74,8 +74,7 @@ fn takes_ckpt1_where_pages_of_a_level_differ(rt: HostRuntime) -> Result<(), Fail
     let now = run.plant.now();
     for (dev, prio) in [(Dev::Ckpt1, 9), (Dev::Ckpt2, 5)] {
         let mut plant = run.plant.crash_at(alloc, now, Choice::New)?;
-        assert!(rt; PRIORITY < plant.size(dev));
-        assert!(rt; plant.write(MemberId(0), dev, PRIORITY, &[9]) == Act::Done);
+        write(&rt, &mut plant, dev, PRIORITY, 9);
         let ended = start(alloc, b"", plant)?;
         assert!(rt; ended.status == Status::Done);
         assert!(rt; has_priority(ended.base.jobs.as_slice(), prio));
