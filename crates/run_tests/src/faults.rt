@@ -28,10 +28,15 @@ fn outcome(alloc: Global, plant: MemPlant) -> Result<(Outcome, MemPlant), Fail> 
     Ok(((ended.status, fate, lines, [first, second]), ended.plant))
 }
 
-// What the next start finds.
-fn decks_left(rt: &impl Abort, alloc: Global, plant: &MemPlant) -> Result<usize, Fail> {
+// What a start finds after a crash at the end.
+fn decks_left(
+    rt: &impl Abort,
+    alloc: Global,
+    plant: &MemPlant,
+    choice: Choice,
+) -> Result<usize, Fail> {
     let now = plant.now();
-    let (decks, _) = found(rt, alloc, plant.crash_at(alloc, now, Choice::Old)?)?;
+    let (decks, _) = found(rt, alloc, plant.crash_at(alloc, now, choice)?)?;
     Ok(decks)
 }
 
@@ -53,7 +58,7 @@ fn one_act_fails(rt: HostRuntime) -> Result<(), Fail> {
             (Status::ConsoleFault, Some(Fate::Kept), 0, [false, false])
         };
         assert!(rt; outcome == wanted, "act {act}");
-        assert!(rt; decks_left(&rt, alloc, &left)? == 1, "act {act}");
+        assert!(rt; decks_left(&rt, alloc, &left, Choice::Old)? == 1, "act {act}");
     }
     Ok(())
 }
@@ -74,7 +79,8 @@ fn two_acts_fail(rt: HostRuntime) -> Result<(), Fail> {
     Ok(())
 }
 
-// The member is stopped inside an act. The operator formats, and never halts.
+// The member is stopped inside an act. The operator formats, and never halts. The gate of CKPT1 counts once it is synced, and
+// where the crash leaves what was written of it.
 #[test]
 fn an_act_halts(rt: HostRuntime) -> Result<(), Fail> {
     let alloc = rt.alloc();
@@ -90,11 +96,12 @@ fn an_act_halts(rt: HostRuntime) -> Result<(), Fail> {
             outcome == (Status::Done, Some(fate), lines, [false, false]),
             "act {act}"
         );
-        let has_job = act < FORMED || act >= KEPT - 2 * OPEN;
-        assert!(rt;
-            (decks_left(&rt, alloc, &left)? == 1) == has_job,
-            "act {act}"
-        );
+        let synced = act < FORMED || act >= KEPT - OPEN;
+        let decks = decks_left(&rt, alloc, &left, Choice::Old)?;
+        assert!(rt; (decks == 1) == synced, "act {act}");
+        let written = act < FORMED || act >= KEPT - 2 * OPEN;
+        let decks = decks_left(&rt, alloc, &left, Choice::New)?;
+        assert!(rt; (decks == 1) == written, "act {act}");
     }
     Ok(())
 }
