@@ -1,5 +1,8 @@
 -- What a shared value shows after a call on its lock.
 use Rattle.std.proofs.Common.{◌≡◌, ℕ, ◌+◌, ◌<◌, ◌≤◌, Bool, true, false, List, length, Option, Some, None, Result, Ok, Err, refl, sym, ap, subst, ◌∙◌, arith}
+use Rattle.std.proofs.Math.Logic.{∥∥₁_elim}
+use Rattle.std.proofs.lemmas.List.{length-append}
+use native.Mathlib.Bridge.{le_prop}
 use Rattle.std.specs.Prelude.{IfSome, OnOk, if◌then◌else◌}
 use Rattle.mas_types.specs.declared.ids.MemberId.{MemberId}
 use Rattle.mas_types.specs.declared.journals.Entry.{Entry}
@@ -18,7 +21,7 @@ use Rattle.member_turns.specs.Seats.{has_lock}
 use Rattle.member_turns.specs.Desks.{no_hold, whole_hold}
 use Rattle.member_turns.specs.Parts.{Shown, shown_of}
 use Rattle.member_turns.specs.Shared.{pages_had, desk_in, facts_of}
-use Rattle.member_turns.specs.Laws.{with_book}
+use Rattle.member_turns.specs.Laws.{with_book, HasBegun}
 use Rattle.member_turns.specs.Turning.{Serves, IsMemberOf, members_of}
 use Rattle.member_turns.proofs.Booked.{tries_may}
 use Rattle.member_turns.proofs.Seats.{seat_at}
@@ -76,6 +79,14 @@ module _ {P C : Type 0} {plants : PlantGhosts P} {steadies : SteadyGhosts C} {co
       may_serve bound by.0 (λ m. MayGiveBack m cares taken (facts_of told (shown_of is))) serves
       (subst (λ t. MayGiveBack by.0 cares t (facts_of told (shown_of is))) (sym took)
       (subst (λ s. MayGiveBack by.0 cares (facts_of told (shown_of was)) (facts_of told s)) (sym shown) (tries_may (shown_of was) by inner member told cares)))
+
+-- what a value keeps of its past says that it has begun
+module _ {P C : Type 0} {plants : PlantGhosts P} {steadies : SteadyGhosts C} {copies : CopyGhosts C} where
+  pub begun_of : (x : Complex P C plants steadies copies) → plants.tells → HasBegun (shown_of x)
+  begun_of x tells = (
+    ∥∥₁_elim (x.kept tells) le_prop (λ k. k.started),
+    ∥∥₁_elim (x.kept tells) le_prop (λ k. let grown = k.grows x.since (omega arith) k.started in let l = length-append ((plants.view x.plant).world x.since).console grown.more in let e = ap length grown.is in omega arith),
+  )
 
 -- who has the lock has it at its desk
 pub locked_desk : (x : Shown) (told : Bool) (m : MemberId) → m.0 < 9 → has_lock x.book m ≡ true → (desk_of (facts_of told x) m.0).hold.locked ≡ true

@@ -1,6 +1,10 @@
 //! What calls of the shared value leave to the others.
 ghost use Rattle.member_turns.specs.Examples.{LinesAreTheirs};
-ghost use Rattle.member_turns.specs.Laws.{ItselfMayGoBack, OneByOne, TriesMayGoBack, FreesMayGoBack, StopsMayGoBack, SeizesMayGoBack, SpendsMayGoBack, SaysMayGoBack, ReadsMayGoBack, SyncsMayGoBack, WritesMayGoBack, UnsyncedAsTheyAre, ClosingsTell, OnlyClosingsTell};
+ghost use Rattle.member_turns.specs.Laws.{ItselfMayGoBack, OneByOne, TriesMayGoBack, FreesMayGoBack, StopsMayGoBack, SeizesMayGoBack, SpendsMayGoBack, SaysMayGoBack, ReadsMayGoBack, SyncsMayGoBack, WritesMayGoBack, UnsyncedAsTheyAre, HasBegun, ClosingsTell, OnlyClosingsTell};
+ghost use Rattle.member_turns.specs.Parts.{shown_of};
+
+use mas_complex::{Complex, Steady};
+use spool_disk::Plant;
 
 /// A value may be given back as it was taken, and after several calls where it may be after each.
 pub fn law_of_giving_back()
@@ -29,6 +33,13 @@ pub fn law_of_groups()
     ensures writes { WritesMayGoBack }
     ensures unsynced { UnsyncedAsTheyAre }
 {}
+
+/// A value whose plant tells its content began at a moment that is past, and the lines that stood on the console then still do.
+pub fn law_of_beginnings<P: Plant + Drop, C: Steady + Drop>(complex: &Complex<P, C>)
+    ensures { P.tells → HasBegun (shown_of complex.now) }
+{
+    let _complex = complex;
+}
 
 /// The steps that lines tell are read from just the lines with which steps close, but for those of members that were stopped.
 pub fn law_of_told_steps()
