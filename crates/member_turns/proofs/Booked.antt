@@ -27,7 +27,7 @@ use Rattle.member_turns.proofs.Seats.{each_seat, seat_at}
 use Rattle.member_turns.proofs.BookLemmas.{holder_is, tries_stop, tries_lock, frees_stop, frees_lock, stops_still, stops_others, seizes_stop, seizes_lock, spends_stop}
 
 -- a part of the checkpoint is the same where the lock is, and where it isn't had
-same_hold : (pages : List Page) (current : Option Batch) (first second : Place) (p q : Bool) (r s : Option (List Entry)) → p ≡ q → (q ≡ true → coming current r ≡ coming current s)
+pub same_hold : (pages : List Page) (current : Option Batch) (first second : Place) (p q : Bool) (r s : Option (List Entry)) → p ≡ q → (q ≡ true → coming current r ≡ coming current s)
     → (if p then whole_hold pages (coming current r) first second else no_hold) ≡ (if q then whole_hold pages (coming current s) first second else no_hold)
 same_hold pages current first second p q r s e c = ap (λ z. if z then whole_hold pages (coming current r) first second else no_hold) e ∙ here q c where
   here : (z : Bool) → (z ≡ true → coming current r ≡ coming current s) → (if z then whole_hold pages (coming current r) first second else no_hold) ≡ (if z then whole_hold pages (coming current s) first second else no_hold)

@@ -7,3 +7,5 @@ pub mod Acted
 pub mod Showing
 pub mod TellLemmas
 pub mod SpoolActed
+pub mod EntrySet
+pub mod KeptSame

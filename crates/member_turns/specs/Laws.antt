@@ -1,10 +1,11 @@
 -- What calls of a shared value leave to the others, so that it may be given back.
-use Rattle.std.specs.Prelude.{◌≡◌, ℕ, ◌^◌, ◌<◌, ◌≤◌, ◌↔◌, Bool, true, false, List, length, Option, None, All}
+use Rattle.std.specs.Prelude.{◌≡◌, ℕ, ◌^◌, ◌<◌, ◌≤◌, ◌↔◌, Bool, true, false, List, ◌++◌, length, Option, Some, None, All}
 use Rattle.mas_types.specs.declared.ids.MemberId.{MemberId}
 use Rattle.mas_types.specs.declared.ids.GroupNo.{GroupNo}
 use Rattle.mas_types.specs.declared.ids.Page.{Page}
 use Rattle.mas_types.specs.declared.ids.Dev.TheVariants.{Spool}
 use Rattle.mas_types.specs.declared.journals.Entry.{Entry}
+use Rattle.mas_types.specs.declared.journals.Fate.TheVariants.{Kept}
 use Rattle.mas_types.specs.declared.answers.Closing.{Closing}
 use Rattle.mas_types.specs.Closings.{closing_line}
 use Rattle.mas_types.specs.Limits.{page_bytes}
@@ -16,7 +17,7 @@ use Rattle.lock_cycle.specs.Books.{Book, IsMember, is_holder, after_try, after_f
 use Rattle.gate_facts.specs.declared.facts.Facts.{Facts}
 use Rattle.gate_facts.specs.Values.{marked_at}
 use Rattle.gate_facts.specs.Memory.{MayGiveBack}
-use Rattle.mas_complex.specs.Journals.{kept_all, entries_reserved}
+use Rattle.mas_complex.specs.Journals.{kept_all, entries_reserved, begun, fated, with_last, EndsInPlace}
 use Rattle.mas_complex.specs.Meaning.{run, is_telling, Closes}
 use Rattle.mas_complex.specs.Spool.{IsHeldBy, device_of, ReadsGroup, WritesGroup}
 use Rattle.mas_complex.specs.Texts.{spools_at, IsSynced}
@@ -43,6 +44,10 @@ with_book x book reserved = record x { book = book; reserved = reserved }
 abbrev pub with_view : Shown → View → Shown
 with_view x view = record x { view = view }
 
+-- the value in which this member's reserved batch is kept since a moment
+abbrev pub with_kept : Shown → ℕ → MemberId → List Entry → Shown
+with_kept x now by entries = record x { batches = with_last (fated Kept now (begun now by entries)) x.batches; reserved = None }
+
 -- whatever the member cares for, it may give back the value with this book and this reserved batch
 abbrev pub MayGoBack : MemberId → Shown → Book → Option (List Entry) → Type 0
 MayGoBack by x book reserved = (told : Bool) (cares : List Bool) → MayGiveBack by.0 cares (facts_of told x) (facts_of told (with_book x book reserved))
@@ -67,6 +72,13 @@ SeizesMayGoBack = (x : Shown) (by of : MemberId) → IsMember x.book by → IsMe
 -- after a part of its hold was spent
 abbrev pub SpendsMayGoBack : Type 0
 SpendsMayGoBack = (x : Shown) (by : MemberId) (commands : ℕ) → IsMember x.book by → MayGoBack by x (after_spend x.book by commands) x.reserved
+
+-- after it kept the batch that it reserved without a write
+abbrev pub KeepsMayGoBack : Type 0
+KeepsMayGoBack = (x : Shown) (by : MemberId) (now : ℕ) (entries : List Entry) (told : Bool) (cares : List Bool) →
+    x.reserved ≡ Some entries → All (λ e. e.by ≡ by) entries → x.current ≡ None → ∥ EndsInPlace x.batches ∥₁ → x.book.holder ≡ by
+    → (told ≡ true → run x.base (kept_all x.batches ++ entries) ≡ run x.base (kept_all x.batches)) → marked_at cares by.0 ≡ true
+    → MayGiveBack by.0 cares (facts_of told x) (facts_of told (with_kept x now by entries))
 
 -- the value began at a moment that is past, and the lines that stood on the console then still do
 abbrev pub HasBegun : Shown → Type 0

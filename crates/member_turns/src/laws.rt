@@ -1,6 +1,6 @@
 //! What calls of the shared value leave to the others.
 ghost use Rattle.member_turns.specs.Examples.{LinesAreTheirs};
-ghost use Rattle.member_turns.specs.Laws.{ItselfMayGoBack, OneByOne, TriesMayGoBack, FreesMayGoBack, StopsMayGoBack, SeizesMayGoBack, SpendsMayGoBack, SaysMayGoBack, ReadsMayGoBack, SyncsMayGoBack, WritesMayGoBack, UnsyncedAsTheyAre, HasBegun, ClosingsTell, OnlyClosingsTell};
+ghost use Rattle.member_turns.specs.Laws.{ItselfMayGoBack, OneByOne, TriesMayGoBack, FreesMayGoBack, StopsMayGoBack, SeizesMayGoBack, SpendsMayGoBack, KeepsMayGoBack, SaysMayGoBack, ReadsMayGoBack, SyncsMayGoBack, WritesMayGoBack, UnsyncedAsTheyAre, HasBegun, ClosingsTell, OnlyClosingsTell};
 ghost use Rattle.member_turns.specs.Parts.{shown_of};
 
 use mas_complex::{Complex, Steady};
@@ -19,6 +19,11 @@ pub fn law_of_lock_calls()
     ensures stops { StopsMayGoBack }
     ensures seizes { SeizesMayGoBack }
     ensures spends { SpendsMayGoBack }
+{}
+
+/// After a batch of its own is kept without a write a member may give the value back.
+pub fn law_of_kept_batches()
+    ensures { KeepsMayGoBack }
 {}
 
 /// After it said a line that begins with its own name a member may give the value back.

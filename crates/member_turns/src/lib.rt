@@ -10,8 +10,8 @@ mod trying;
 mod turns;
 
 pub use laws::{
-    examples_of_lines, law_of_beginnings, law_of_giving_back, law_of_groups, law_of_lines, law_of_lock_calls,
-    law_of_told_steps,
+    examples_of_lines, law_of_beginnings, law_of_giving_back, law_of_groups, law_of_kept_batches,
+    law_of_lines, law_of_lock_calls, law_of_told_steps,
 };
 pub use one_hand::OneHand;
 pub use telling::Telling;
