@@ -1,9 +1,9 @@
 -- A value whose plant alone is changed, by an act of the member, may be given back.
-use Rattle.std.proofs.Common.{◌≡◌, ◌≢◌, ℕ, zero, suc, ◌+◌, ◌<◌, ◌≤◌, ◌⊎◌, Bool, true, false, List, [], ◌∷◌, ◌++◌, length, refl, sym, ap, ◌∙◌, inl, ⊎_elim, subst, arith}
-use Rattle.std.proofs.lemmas.List.{append-nil, drop-append-le, map-append, length-append}
+use Rattle.std.proofs.Common.{◌≡◌, ◌≢◌, ℕ, zero, suc, ◌+◌, ◌≤◌, Bool, true, false, List, [], ◌∷◌, ◌++◌, length, refl, sym, ap, ◌∙◌, inl, ⊎_elim, subst, arith}
+use Rattle.std.proofs.lemmas.List.{append-nil, drop-append-le, map-append}
 use Rattle.std.proofs.lemmas.List.Elements.{filter-append}
 use Rattle.std.proofs.lemmas.Bool.{eqb-true}
-use Rattle.std.specs.Prelude.{◌==◌, map, filter, drop, slice_index_or, if◌then◌else◌, Option}
+use Rattle.std.specs.Prelude.{◌==◌, map, filter, drop, slice_index_or, if◌then◌else◌}
 use Rattle.mas_types.specs.declared.ids.MemberId.{MemberId}
 use Rattle.spool_disk.specs.declared.plant.Act.{Act}
 use Rattle.spool_disk.specs.declared.plant.Act.TheVariants.{Done, Failed, Halted}
@@ -13,8 +13,7 @@ use Rattle.spool_disk.specs.View.{View, World, Line, disk_now}
 use Rattle.spool_disk.specs.Acts.{Acts, Goes, Said, Says}
 use Rattle.gate_facts.specs.declared.desks.Desk.{Desk}
 use Rattle.gate_facts.specs.declared.desks.Group.{Group}
-use Rattle.gate_facts.specs.declared.marks.Marks.{Marks}
-use Rattle.gate_facts.specs.Values.{marked_at, no_desk, stopped_of, SyncedGroups, Synced, Later}
+use Rattle.gate_facts.specs.Values.{marked_at, no_desk, SyncedGroups, Synced, Later}
 use Rattle.gate_facts.specs.Memory.{MayGiveBack}
 use Rattle.gate_facts.proofs.Lists.{true_false}
 use Rattle.gate_facts.proofs.Values.{synced_refl}

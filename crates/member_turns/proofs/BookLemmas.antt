@@ -1,17 +1,15 @@
 -- What the calls of the lock's book leave to the members that don't act.
-use Rattle.std.proofs.Common.{◌≡◌, ◌≢◌, ℕ, zero, suc, ◌+◌, ◌-◌, ◌<◌, ◌≤◌, Bool, true, false, List, [], ◌∷◌, refl, sym, ap, ◌∙◌, arith, rules}
-use Rattle.std.specs.Prelude.{not, ◌==◌, ◌&&◌, ◌||◌, if◌then◌else◌, length, slice_index_or, slice_set, Option, Some, None, is_some}
+use Rattle.std.proofs.Common.{◌≡◌, ◌≢◌, ℕ, zero, suc, ◌-◌, ◌<◌, Bool, true, false, List, [], ◌∷◌, refl, sym, ap, ◌∙◌, arith}
+use Rattle.std.specs.Prelude.{not, ◌==◌, ◌&&◌, ◌||◌, if◌then◌else◌, slice_index_or, slice_set, Option, Some, None, is_some}
 use Rattle.std.proofs.lemmas.Grind.{common_steps}
 use Rattle.std.proofs.lemmas.Bool.{ne_eqb, eqb-true, eq-eqb}
-use mathlib.Core.Logic.{dite}
-use native.Mathlib.Decide.{ℕ_discrete}
 use Rattle.mas_types.specs.declared.ids.MemberId.{MemberId}
 use Rattle.mas_types.specs.Ids.{nobody, is_somebody, same_member}
 use Rattle.lock_cycle.specs.declared.standings.Standing.{Standing}
 use Rattle.lock_cycle.specs.declared.answers.LockNo.{LockNo}
 use Rattle.lock_cycle.specs.declared.answers.LockNo.TheVariants as lock
 use Rattle.lock_cycle.specs.declared.answers.SeizeNo.TheVariants as seized
-use Rattle.lock_cycle.specs.Books.{Book, IsMember, standing, is_stopped, is_holder, left_of, with_standing, with_holder, granted, ticked, noted, is_dormant, wakes, try_refusal, after_try, after_free, after_stop, seize_refusal, after_seize, after_spend, beginner}
+use Rattle.lock_cycle.specs.Books.{Book, standing, is_stopped, is_holder, left_of, with_standing, with_holder, granted, ticked, noted, is_dormant, wakes, try_refusal, after_try, after_free, after_stop, seize_refusal, after_seize, after_spend, beginner}
 use Rattle.gate_facts.proofs.Lists.{true_false, not_true}
 use Rattle.member_turns.specs.Seats.{has_lock, shows_stopped}
 

@@ -1,5 +1,5 @@
 -- A value whose book and whose reserved batch alone are changed may be given back.
-use Rattle.std.proofs.Common.{◌≡◌, ◌≢◌, ℕ, ◌+◌, ◌<◌, Bool, true, false, List, [], ◌∷◌, ◌++◌, refl, sym, ap, ◌∙◌, arith}
+use Rattle.std.proofs.Common.{◌≡◌, ◌≢◌, ℕ, ◌+◌, Bool, true, false, List, [], ◌∷◌, refl, sym, ap, ◌∙◌, arith}
 use Rattle.std.proofs.lemmas.List.{append-nil}
 use Rattle.std.proofs.lemmas.Bool.{ne_eqb}
 use Rattle.std.proofs.lemmas.List.Elements.{All-head}
@@ -8,18 +8,16 @@ use Rattle.mas_types.specs.declared.ids.MemberId.{MemberId}
 use Rattle.mas_types.specs.declared.journals.Batch.{Batch}
 use Rattle.mas_types.specs.declared.journals.Entry.{Entry}
 use Rattle.mas_types.specs.declared.ids.Page.{Page}
-use Rattle.spool_disk.specs.View.{View}
-use Rattle.lock_cycle.specs.Books.{Book, IsMember, is_holder, after_try, after_free, after_stop, after_seize, after_spend}
+use Rattle.lock_cycle.specs.Books.{Book, after_try, after_free, after_stop, after_seize, after_spend}
 use Rattle.gate_facts.specs.declared.desks.Desk.{Desk}
-use Rattle.gate_facts.specs.Values.{no_desk, stopped_of, Synced}
-use Rattle.gate_facts.specs.Memory.{MayGiveBack}
+use Rattle.gate_facts.specs.Values.{no_desk, Synced}
 use Rattle.gate_facts.proofs.Lists.{true_false}
 use Rattle.gate_facts.proofs.Values.{synced_refl, later_refl}
 use Rattle.mas_complex.specs.declared.places.Place.{Place}
 use Rattle.mas_complex.specs.Journals.{coming, entries_reserved}
 use Rattle.mas_complex.specs.Locking.{reserved_after_stop}
 use Rattle.member_turns.specs.Parts.{Shown}
-use Rattle.member_turns.specs.Seats.{has_lock, shows_stopped, all_seats}
+use Rattle.member_turns.specs.Seats.{has_lock, shows_stopped}
 use Rattle.member_turns.specs.Desks.{no_hold, whole_hold}
 use Rattle.member_turns.specs.Shared.{pages_had, hold_of, desk_in, marks_of, facts_of}
 use Rattle.member_turns.specs.Laws.{with_book, MayGoBack, TriesMayGoBack, FreesMayGoBack, StopsMayGoBack, SeizesMayGoBack, SpendsMayGoBack}

@@ -1,5 +1,5 @@
 -- A value in which a member kept a batch without a write may be given back.
-use Rattle.std.proofs.Common.{◌≡◌, ◌≢◌, ℕ, ◌+◌, ◌⊎◌, ◌==◌, Bool, true, false, List, [], ◌∷◌, ◌++◌, Option, Some, None, refl, sym, ap, subst, ◌∙◌, inl, append_assoc, arith}
+use Rattle.std.proofs.Common.{◌≡◌, ◌≢◌, ℕ, ◌+◌, ◌⊎◌, Bool, true, false, List, [], ◌∷◌, ◌++◌, None, refl, sym, ap, subst, ◌∙◌, inl, append_assoc, arith}
 use Rattle.std.proofs.Math.Logic.{∥∥₁_elim}
 use Rattle.std.proofs.lemmas.Bool.{ne_eqb}
 use Rattle.std.proofs.lemmas.List.{append-nil}
@@ -15,17 +15,16 @@ use Rattle.mas_types.specs.Journal.{is_kept}
 use Rattle.gate_facts.specs.declared.desks.Desk.{Desk}
 use Rattle.gate_facts.specs.declared.desks.Group.{Group}
 use Rattle.gate_facts.specs.Values.{marked_at, no_desk, stopped_of, SyncedGroups, Synced}
-use Rattle.gate_facts.specs.Memory.{EachOf, MayGiveBack}
+use Rattle.gate_facts.specs.Memory.{EachOf}
 use Rattle.gate_facts.proofs.Lists.{true_false}
 use Rattle.gate_facts.proofs.Values.{synced_refl, later_refl}
 use Rattle.spool_disk.specs.View.{disk_now}
-use Rattle.mas_complex.specs.Journals.{kept_all, in_flight, coming, begun, fated, with_last, EndsInPlace}
+use Rattle.mas_complex.specs.Journals.{kept_all, in_flight, begun, fated, with_last, EndsInPlace}
 use Rattle.mas_complex.specs.Meaning.{run}
 use Rattle.mas_complex.proofs.Batches.{kept_all_append}
 use Rattle.mas_complex.proofs.BatchEnds.{with_last-append}
 use Rattle.member_turns.specs.Seats.{has_lock}
-use Rattle.member_turns.specs.Desks.{no_hold, whole_hold, groups_on}
-use Rattle.member_turns.specs.Parts.{Shown}
+use Rattle.member_turns.specs.Desks.{no_hold, groups_on}
 use Rattle.member_turns.specs.Shared.{begun_by, pages_had, groups_of, desk_in, marks_of, facts_of}
 use Rattle.member_turns.specs.Laws.{with_kept, KeepsMayGoBack}
 use Rattle.member_turns.proofs.EntrySet.{entries_set}

@@ -1,5 +1,5 @@
 -- What two lists by member have at a place.
-use Rattle.std.proofs.Common.{◌≡◌, ℕ, zero, suc, ◌+◌, ◌<◌, List, [], ◌∷◌, refl, arith}
+use Rattle.std.proofs.Common.{◌≡◌, ℕ, zero, suc, ◌+◌, ◌<◌, arith}
 use Rattle.std.specs.Prelude.{map, slice_index_or}
 use Rattle.mas_types.specs.declared.ids.MemberId.{MemberId}
 use Rattle.member_turns.specs.Seats.{seats_from}

@@ -1,9 +1,9 @@
 -- A value on whose spool a member acted may be given back.
-use Rattle.std.proofs.Common.{◌≡◌, ◌≢◌, inl, inr, ⊎_elim, ◌⊎◌, ◌||◌, ◌==◌, ℕ, zero, suc, ◌+◌, ◌*◌, ◌/◌, ◌%◌, ◌≤◌, ◌<◌, nat_le, if◌then◌else◌, Bool, true, false, List, [], ◌∷◌, length, Option, Some, None, slice_get, refl, subst, sym, ◌∙◌, ap, arith}
+use Rattle.std.proofs.Common.{◌≡◌, ◌≢◌, inl, inr, ⊎_elim, ◌⊎◌, ◌||◌, ◌==◌, ℕ, zero, suc, ◌+◌, ◌*◌, ◌/◌, ◌%◌, ◌≤◌, ◌<◌, nat_le, if◌then◌else◌, Bool, true, false, List, [], ◌∷◌, length, Option, Some, slice_get, refl, subst, sym, ◌∙◌, ap, arith}
 use Rattle.std.specs.Prelude.{not, map, filter, drop}
 use Rattle.std.specs.List.{list_any}
 use Rattle.std.proofs.Math.Nat.{div-add-mod}
-use Rattle.std.proofs.lemmas.Bool.{eqb-true, eqb-false, ne_eqb, leb-true, le-leb, leb-false}
+use Rattle.std.proofs.lemmas.Bool.{eqb-true, eqb-false, ne_eqb, leb-true, le-leb}
 use Rattle.mas_types.specs.declared.ids.MemberId.{MemberId}
 use Rattle.mas_types.specs.declared.ids.GroupNo.{GroupNo}
 use Rattle.mas_types.specs.declared.ids.Page.{Page}
@@ -16,23 +16,22 @@ use Rattle.spool_disk.specs.declared.plant.Act.{Act}
 use Rattle.spool_disk.specs.declared.plant.Act.TheVariants.{Done, Failed, Halted}
 use Rattle.spool_disk.specs.declared.plant.Part.TheVariants.{Disk as DiskPart}
 use Rattle.spool_disk.specs.View.{View, Disk, Stretch, Apart, Avoids, disk_now, slice}
-use Rattle.spool_disk.specs.Acts.{Acts, Goes, Dirtied, DirtiedIn, Written, OnDevice, Reads, Syncs}
+use Rattle.spool_disk.specs.Acts.{Goes, DirtiedIn, Written, OnDevice, Syncs}
 use Rattle.ckpt_copy.specs.Slices.{stretch, slice_apart}
 use Rattle.ckpt_copy.specs.Moments.{either_way}
 use Rattle.spool_volumes.specs.Volumes.{volume_of, start_of}
-use Rattle.gate_facts.specs.Values.{marked_at, SyncedGroups}
-use Rattle.gate_facts.specs.Memory.{MayGiveBack}
-use Rattle.gate_facts.proofs.Lists.{true_false, not_true}
+use Rattle.gate_facts.specs.Values.{SyncedGroups}
+use Rattle.gate_facts.proofs.Lists.{true_false}
 use Rattle.mas_complex.specs.Journals.{kept_all}
 use Rattle.mas_complex.specs.Meaning.{run}
 use Rattle.mas_complex.specs.Spool.{IsHeldBy, device_of, is_within, page_start, page_part, ReadsGroup, WritesGroup}
-use Rattle.mas_complex.specs.Texts.{spools_at, IsSynced}
+use Rattle.mas_complex.specs.Texts.{spools_at}
 use Rattle.mas_complex.proofs.Spooled.{Spared, Quiet, quiet_same, quiet_untouched, quiet_spared, read_quiet, sync_quiet, each_quiet}
 use Rattle.member_turns.specs.Parts.{Shown}
 use Rattle.member_turns.specs.Words.{lines_by}
 use Rattle.member_turns.specs.Desks.{Disks, if_at_level, if_good, one_of, kept_pages, groups_from, meets, is_unsynced, page_stretch, group_on, groups_on}
-use Rattle.member_turns.specs.Shared.{said_since, facts_of}
-use Rattle.member_turns.specs.Laws.{with_view, HasBegun, ReadsMayGoBack, SyncsMayGoBack, WritesMayGoBack, UnsyncedAsTheyAre}
+use Rattle.member_turns.specs.Shared.{said_since}
+use Rattle.member_turns.specs.Laws.{HasBegun, ReadsMayGoBack, SyncsMayGoBack, WritesMayGoBack, UnsyncedAsTheyAre}
 use Rattle.member_turns.proofs.Acted.{Spares, acted}
 
 -- WHAT IS UNSYNCED

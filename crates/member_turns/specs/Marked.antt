@@ -1,13 +1,10 @@
 -- What only grows.
-use Rattle.std.specs.Prelude.{ℕ, zero, suc, Bool, false, not, List, [], ◌∷◌, ◌++◌, map}
-use Rattle.mas_types.specs.declared.ids.MemberId.{MemberId}
+use Rattle.std.specs.Prelude.{ℕ, zero, suc, Bool, not, List, [], ◌∷◌, ◌++◌, map}
 use Rattle.mas_types.specs.declared.ids.Dev.{Dev}
 use Rattle.mas_types.specs.declared.ids.Dev.TheVariants.{Ckpt1, Ckpt2, Spool}
 use Rattle.mas_types.specs.Limits.{members_most, volumes_most, wires_most}
 use Rattle.spool_disk.specs.declared.plant.Part.{Part}
 use Rattle.spool_disk.specs.declared.plant.Part.TheVariants.{Disk, Console, Printer, Wire}
-use Rattle.spool_disk.specs.View.{View}
-use Rattle.gate_facts.specs.declared.marks.Marks.{Marks}
 
 -- so many numbers from 1 on, the greatest first
 abbrev pub down_from : ℕ → List ℕ

@@ -1,4 +1,4 @@
-use Rattle.std.proofs.Common.{◌≡◌, true, false, None, sym, ap, subst, ◌∙◌}
+use Rattle.std.proofs.Common.{◌≡◌, true, false, None, sym, ap, subst}
 use Rattle.lock_cycle.specs.Books.{IsMember, after_try, try_refusal}
 use Rattle.member_turns.specs.Parts.{shown_of}
 use Rattle.member_turns.specs.Laws.{with_book}
