@@ -58,7 +58,10 @@ fn one_act_fails(rt: HostRuntime) -> Result<(), Fail> {
             (Status::ConsoleFault, Some(Fate::Kept), 0, [false, false])
         };
         assert!(rt; outcome == wanted, "act {act}");
-        assert!(rt; decks_left(&rt, alloc, &left, Choice::Old)? == 1, "act {act}");
+        assert!(rt;
+            decks_left(&rt, alloc, &left, Choice::Old)? == 1,
+            "act {act}"
+        );
     }
     Ok(())
 }
