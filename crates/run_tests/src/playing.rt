@@ -34,7 +34,7 @@ pub const FORMED: u64 = 2 * FORM;
 /// And the batch of the first deck is kept.
 pub const KEPT: u64 = FORMED + 2 * PUT + 2 * OPEN;
 
-/// Devices of which each checkpoint has so many bytes. It has no clause: a proof that knew the numbers would count out each byte.
+/// Devices of which each checkpoint has so many bytes.
 pub fn sizes(ckpt: u64) -> Sizes {
     Sizes {
         ckpt,
