@@ -1,0 +1,169 @@
+-- A step that gives a command, by how it ended.
+use Rattle.std.proofs.Common.{OnOk, ◌≡◌, inl, inr, ℕ, ◌+◌, ◌≤◌, ◌++◌, Bool, List, [], ◌∷◌, length, map, take, Option, None, Result, Ok, Err, All, append-nil, refl, sym, ◌∙◌, ap, subst, arith}
+use Rattle.std.proofs.lemmas.List.Elements.{All-nil, All-cons, All-head, All-tail}
+use Rattle.mas_types.specs.declared.commands.Command.{Command}
+use Rattle.mas_types.specs.declared.journals.Batch.{Batch}
+use Rattle.mas_types.specs.declared.journals.Entry.{Entry}
+use Rattle.mas_types.specs.declared.journals.Fate.TheVariants.{Kept}
+use Rattle.mas_types.specs.declared.ids.MemberId.{MemberId}
+use Rattle.mas_types.specs.declared.queues.Queue.{Queue}
+use Rattle.spool_disk.specs.declared.plant.Part.TheVariants.{Console}
+use Rattle.spool_disk.specs.View.{View, Line}
+use Rattle.mas_complex.specs.Crash.{IsUntold, setting}
+use Rattle.mas_complex.specs.Headline.{whole}
+use Rattle.mas_complex.specs.Journals.{StepIsKept, fated, in_flight, kept_all, with_last}
+use Rattle.mas_complex.specs.Meaning.{run}
+use Rattle.mas_complex.proofs.BatchEnds.{with_last-append}
+use Rattle.member_node.specs.declared.checkpoint.Checkpoint.{Checkpoint}
+use Rattle.member_node.specs.declared.checkpoint.Draft.{Draft}
+use Rattle.member_node.specs.declared.checkpoint.Draft.TheVariants as draft
+use Rattle.member_node.specs.declared.member.NodeNo.{NodeNo}
+use Rattle.member_node.specs.declared.member.NodeNo.TheVariants.{BothLost, Halted, ConsoleFault, NoMemory}
+use Rattle.member_node.specs.Batches.{HasDone, level_with}
+use Rattle.member_node.specs.Calls.{console_now}
+use Rattle.member_node.specs.Writes.{HasKept, IsWrite}
+use Rattle.member_node.proofs.CourseLemmas.{course_none, course_then, only_none, only_on, rose_later}
+use Rattle.member_node.proofs.EntryLemmas.{nothing_done}
+use Rattle.member_steps.specs.Saying.{Breaks, HaveSaid}
+use Rattle.member_steps.specs.Steps.{AreAllKept, IsBetween, IsStep, entry_of}
+use Rattle.member_steps.proofs.SayLemmas.{console_course}
+
+-- THE STEP
+
+module _ (told : Type 0) (by : ℕ) (lines : List (List ℕ)) (b : Batch) (front batches : List Batch) where
+  -- nothing was done
+  pub step_unplayed : (is1 is2 : Bool) (v : View) → batches ≡ front → IsStep {T = Unit {0}} told by lines b front batches is1 is1 is2 is2 v v (Err NoMemory)
+  step_unplayed is1 is2 v none = record {
+    course = course_none is1 is2 v;
+    loses = λ d. refl;
+    cause = (refl, refl);
+    journal = none;
+    others = λ t. only_none v;
+    console = λ t. refl;
+  }
+
+  module _ (was1 is1 was2 is2 : Bool) (v0 v1 : View) where
+    -- the batch wasn't kept
+    pub step_unwritten : (e : NodeNo) → IsWrite {T = Unit {0}} told by b front batches was1 is1 was2 is2 v0 v1 (Err e) → IsStep {T = Unit {0}} told by lines b front batches was1 is1 was2 is2 v0 v1 (Err e)
+    step_unwritten ConsoleFault write = absurd write.cause
+    step_unwritten NoMemory write = absurd write.cause
+    step_unwritten BothLost write = record {
+      course = write.course;
+      loses = write.loses;
+      cause = write.cause;
+      journal = write.journal;
+      others = λ t. (write.apart t).others;
+      console = λ t. (write.apart t).console;
+    }
+    step_unwritten Halted write = record {
+      course = write.course;
+      loses = write.loses;
+      cause = write.cause;
+      journal = inl write.journal;
+      others = λ t. (write.apart t).others;
+      console = λ t. inl (write.apart t).console;
+    }
+
+    -- it was, and its lines were said
+    module _ (write : IsWrite {T = Unit {0}} told by b front batches was1 is1 was2 is2 v0 v1 (Ok tt)) (v2 : View) where
+      kept_then : v1.now ≤ v2.now → HasKept front batches b v2.now
+      kept_then later = let k : HasKept front batches b v1.now = write.journal in (k.0, k.1, omega (arith, k.2, later), k.3)
+
+      console_then : told → (n : ℕ) → console_now v2 ≡ console_now v1 ++ map whole (take n lines) → console_now v2 ≡ console_now v0 ++ map whole (take n lines)
+      console_then t n is = is ∙ ap (λ (l : List Line). l ++ map whole (take n lines)) (write.apart t).console
+
+      pub step_told : (r : Result (Unit {0}) NodeNo) → HaveSaid told by lines v1 v2 r → IsStep told by lines b front batches was1 is1 was2 is2 v0 v2 r
+      step_told (Err BothLost) said = absurd said.cause
+      step_told (Err NoMemory) said = absurd said.cause
+      step_told (Ok done) said = record {
+        course = course_then was1 is1 is1 was2 is2 is2 v0 v1 v2 write.course (console_course told is1 is2 v1 v2 said.acts);
+        loses = λ d. said.acts.loses d ∙ write.loses d;
+        cause = write.cause;
+        journal = kept_then said.acts.goes.later;
+        others = λ t. only_on v0 v1 v2 write.course.goes.later said.acts.goes (write.apart t).others (said.acts.others t);
+        console = λ t. said.console t ∙ ap (λ (l : List Line). l ++ map whole lines) (write.apart t).console;
+      }
+      step_told (Err ConsoleFault) said = record {
+        course = course_then was1 is1 is1 was2 is2 is2 v0 v1 v2 write.course (console_course told is1 is2 v1 v2 said.acts);
+        loses = λ d. said.acts.loses d ∙ write.loses d;
+        cause = (write.cause, rose_later (v0.faults Console) (v1.faults Console) (v2.faults Console) (write.course.goes.faults Console) said.cause);
+        journal = kept_then said.acts.goes.later;
+        others = λ t. only_on v0 v1 v2 write.course.goes.later said.acts.goes (write.apart t).others (said.acts.others t);
+        console = λ t. let some = said.console t in (some.0, some.1, console_then t some.0 some.2);
+      }
+      step_told (Err Halted) said = record {
+        course = course_then was1 is1 is1 was2 is2 is2 v0 v1 v2 write.course (console_course told is1 is2 v1 v2 said.acts);
+        loses = λ d. said.acts.loses d ∙ write.loses d;
+        cause = (write.cause, rose_later (v0.stops by) (v1.stops by) (v2.stops by) (write.course.goes.stops by) said.cause);
+        journal = inr (kept_then said.acts.goes.later);
+        others = λ t. only_on v0 v1 v2 write.course.goes.later said.acts.goes (write.apart t).others (said.acts.others t);
+        console = λ t. let some = said.console t in inr (kept_then said.acts.goes.later, some.0, some.1, subst (λ (l : List Line). Breaks some.0 lines l (console_now v2)) (write.apart t).console some.2);
+      }
+
+-- BEFORE AND AFTER IT
+
+-- nothing is done yet
+pub between_done : (base : Queue) (batches : List Batch) (current : Option Batch) (placed : Bool) (level : ℕ) (batch : List Entry) (k : Checkpoint) → IsBetween base batches current placed level batch k → HasDone (run base (kept_all batches)) batch k
+between_done base batches current placed level batch k between =
+    subst (λ (es : List Entry). HasDone (run base (kept_all batches)) es k) (sym between.nothing)
+    (subst (λ (Q : Queue). HasDone Q [] k) between.queue (nothing_done k between.drawn between.fit))
+
+-- a step is kept where all batches are
+pub all_step_kept : (batches : List Batch) (t : ℕ) (m : MemberId) (s : ℕ) → AreAllKept batches t → StepIsKept batches t m s
+all_step_kept [] t m s all = tt
+all_step_kept (b ∷ batches) t m s all =
+    let here : (b.fate ≡ Kept) × (b.last ≤ t) = All-head (λ (b : Batch). (b.fate ≡ Kept) × (b.last ≤ t)) b batches all in
+    ((λ has. here), all_step_kept batches t m s (All-tail (λ (b : Batch). (b.fate ≡ Kept) × (b.last ≤ t)) b batches all))
+
+pub none_flying : (batches : List Batch) (current : Option Batch) (t : ℕ) (m : MemberId) (s : ℕ) → current ≡ None → StepIsKept batches t m s → StepIsKept (batches ++ in_flight current) t m s
+none_flying batches current t m s none kept = subst (λ (c : Option Batch). StepIsKept (batches ++ in_flight c) t m s) (sym none) (rw append-nil kept)
+
+pub kept_later : (batches : List Batch) (now t : ℕ) → now ≤ t → AreAllKept batches now → AreAllKept batches t
+kept_later [] now t le all = All-nil (λ (b : Batch). (b.fate ≡ Kept) × (b.last ≤ t))
+kept_later (a ∷ batches) now t le all =
+    let here : (a.fate ≡ Kept) × (a.last ≤ now) = All-head (λ (b : Batch). (b.fate ≡ Kept) × (b.last ≤ now)) a batches all in
+    All-cons (λ (b : Batch). (b.fate ≡ Kept) × (b.last ≤ t)) a batches (here.0, omega (arith, here.1, le))
+    (kept_later batches now t le (All-tail (λ (b : Batch). (b.fate ≡ Kept) × (b.last ≤ now)) a batches all))
+
+pub kept_push : (batches : List Batch) (now t : ℕ) (b : Batch) → now ≤ t → AreAllKept batches now → AreAllKept (batches ++ fated Kept t b ∷ []) t
+kept_push [] now t b le all = All-cons (λ (b : Batch). (b.fate ≡ Kept) × (b.last ≤ t)) (fated Kept t b) [] (refl, omega arith) (All-nil (λ (b : Batch). (b.fate ≡ Kept) × (b.last ≤ t)))
+kept_push (a ∷ batches) now t b le all =
+    let here : (a.fate ≡ Kept) × (a.last ≤ now) = All-head (λ (b : Batch). (b.fate ≡ Kept) × (b.last ≤ now)) a batches all in
+    All-cons (λ (b : Batch). (b.fate ≡ Kept) × (b.last ≤ t)) a (batches ++ fated Kept t b ∷ []) (here.0, omega (arith, here.1, le))
+    (kept_push batches now t b le (All-tail (λ (b : Batch). (b.fate ≡ Kept) × (b.last ≤ now)) a batches all))
+
+-- the journal once the batch is kept
+pub journal_kept : (front was batches : List Batch) (place b : Batch) → was ≡ front ++ place ∷ [] → batches ≡ with_last b was → batches ≡ front ++ b ∷ []
+journal_kept front was batches place b one is = is ∙ ap (with_last b) one ∙ with_last-append b front place
+
+-- the same by other names
+pub untold_by : (reads : List ℕ → Option (List ℕ)) (base base' : Queue) (since since' : ℕ) (v v' : View) (es es' : List Entry) → base' ≡ base → since' ≡ since → v' ≡ v → es' ≡ es
+    → IsUntold (setting reads base since) v es → IsUntold (setting reads base' since') v' es'
+untold_by reads base base' since since' v v' es es' one two three four untold =
+    subst (λ (Q : Queue). IsUntold (setting reads Q since') v' es') (sym one)
+    (subst (λ (n : ℕ). IsUntold (setting reads base n) v' es') (sym two)
+    (subst (λ (x : View). IsUntold (setting reads base since) x es') (sym three)
+    (subst (λ (l : List Entry). IsUntold (setting reads base since) v l) (sym four) untold)))
+
+-- THE ENTRY
+
+-- a batch that was empty has the one entry
+pub one_entry : (batch more : List Entry) (T Q : Queue) (by : MemberId) (at : ℕ) (c : Command) → batch ≡ [] → T ≡ Q → more ≡ batch ++ entry_of T by at c ∷ [] → more ≡ entry_of Q by at c ∷ []
+one_entry batch more T Q by at c nothing same is =
+    is ∙ ap (λ (es : List Entry). es ++ entry_of T by at c ∷ []) nothing ∙ ap (λ (R : Queue). entry_of R by at c ∷ []) same
+
+pub some_of_one : (es : List Entry) (e : Entry) → es ≡ e ∷ [] → 1 ≤ length es
+some_of_one es e is = subst (λ (l : List Entry). 1 ≤ length l) (sym is) (omega arith)
+
+pub own_of_one : (es : List Entry) (e : Entry) (m : MemberId) → es ≡ e ∷ [] → e.by ≡ m → All (λ (x : Entry). x.by ≡ m) es
+own_of_one es e m is by = subst (All (λ (x : Entry). x.by ≡ m)) (sym is) (All-cons (λ (x : Entry). x.by ≡ m) e [] by (All-nil (λ (x : Entry). x.by ≡ m)))
+
+-- WHAT HOLDS WHATEVER THE ANSWER
+
+pub ok_of : {T E A : Type 0} (r : Result T E) → A → OnOk r A
+ok_of (Ok done) a = a
+ok_of (Err why) a = tt
+
+pub level_most : (d : Draft) (n : ℕ) → level_with d n ≤ n + 1
+level_most draft.Same n = omega arith
+level_most (draft.Changed numbers) n = omega arith

@@ -1,0 +1,51 @@
+-- Lines that a member says one after another.
+use Rattle.std.specs.Prelude.{◌≡◌, ◌⊎◌, ℕ, suc, ◌<◌, false, List, [], ◌∷◌, ◌++◌, length, map, take, Result, Ok, Err}
+use Rattle.mas_types.specs.declared.ids.Dev.{Dev}
+use Rattle.spool_disk.specs.declared.plant.Part.TheVariants.{Disk, Console}
+use Rattle.spool_disk.specs.View.{View, Line, disk_now}
+use Rattle.spool_disk.specs.Acts.{Goes, Rose}
+use Rattle.mas_complex.specs.Headline.{whole}
+use Rattle.member_node.specs.declared.member.NodeNo.{NodeNo}
+use Rattle.member_node.specs.declared.member.NodeNo.TheVariants.{BothLost, Halted, ConsoleFault, NoMemory}
+use Rattle.member_node.specs.Calls.{IsOnlyOn, console_now}
+
+abbrev pub torn : List ℕ → Line
+torn text = record { text = text; whole = false }
+
+-- behind a front of the lines stands nothing, the next one torn, or the next one
+abbrev pub Breaks : ℕ → List (List ℕ) → List Line → List Line → Type 0
+Breaks n lines was now =
+    (now ≡ was ++ map whole (take n lines))
+    ⊎ ((text : List ℕ) × (now ≡ (was ++ map whole (take n lines)) ++ torn text ∷ []))
+    ⊎ (now ≡ was ++ map whole (take (suc n) lines))
+
+-- What is added to the console, by the answer: all the lines, or those before the one at which the console failed or the member
+-- was stopped.
+abbrev pub Adds : {T : Type 0} → Result T NodeNo → List (List ℕ) → List Line → List Line → Type 0
+Adds (Ok done) lines was now = now ≡ was ++ map whole lines
+Adds (Err ConsoleFault) lines was now = (n : ℕ) × (n < length lines) × (now ≡ was ++ map whole (take n lines))
+Adds (Err Halted) lines was now = (n : ℕ) × (n < length lines) × Breaks n lines was now
+Adds (Err BothLost) lines was now = ⊥
+Adds (Err NoMemory) lines was now = ⊥
+
+-- the cause of an answer
+abbrev pub SayCauses : {T : Type 0} → Result T NodeNo → ℕ → View → View → Type 0
+SayCauses (Ok done) by old new = Unit {0}
+SayCauses (Err ConsoleFault) by old new = Rose (old.faults Console) (new.faults Console)
+SayCauses (Err Halted) by old new = Rose (old.stops by) (new.stops by)
+SayCauses (Err BothLost) by old new = ⊥
+SayCauses (Err NoMemory) by old new = ⊥
+
+-- Acts on the console: no device is lost, and where content is told, each holds at each moment what it held.
+pub record OnConsole (told : Type 0) (old new : View) : Type 0 where
+  pub goes : Goes old new
+  pub lost : (d : Dev) → new.lost (Disk d) ≡ old.lost (Disk d)
+  pub loses : (d : Dev) → new.loses d ≡ old.loses d
+  pub disks : told → (d : Dev) → disk_now new d ≡ disk_now old d
+  pub others : told → IsOnlyOn old new
+
+-- The lines were said one after another, up to one that couldn't be.
+pub record HaveSaid {T : Type 0} (told : Type 0) (by : ℕ) (lines : List (List ℕ)) (old new : View) (result : Result T NodeNo) : Type 0 where
+  pub acts : OnConsole told old new
+  pub cause : SayCauses result by old new
+  pub console : told → Adds result lines (console_now old) (console_now new)

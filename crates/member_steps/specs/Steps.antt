@@ -1,0 +1,93 @@
+-- A member's step that gives a command, by its answer.
+use Rattle.std.specs.Prelude.{◌≡◌, ◌⊎◌, ℕ, ◌≤◌, ◌<◌, Bool, false, List, [], ◌++◌, length, map, take, All, Option, None, Result, Ok, Err}
+use Rattle.mas_types.specs.declared.ids.Dev.{Dev}
+use Rattle.mas_types.specs.declared.ids.MemberId.{MemberId}
+use Rattle.mas_types.specs.declared.commands.Command.{Command}
+use Rattle.mas_types.specs.declared.commands.Reply.{Reply}
+use Rattle.mas_types.specs.declared.journals.Batch.{Batch}
+use Rattle.mas_types.specs.declared.journals.Entry.{Entry}
+use Rattle.mas_types.specs.declared.journals.Fate.TheVariants.{Kept}
+use Rattle.mas_types.specs.declared.queues.Queue.{Queue}
+use Rattle.spool_disk.specs.declared.plant.Part.TheVariants.{Console}
+use Rattle.spool_disk.specs.View.{View, Line}
+use Rattle.spool_disk.specs.Acts.{Rose}
+use Rattle.duplex_pair.specs.Halves.{IsBothLost}
+use Rattle.queue_effect.specs.Standing.{AreFit}
+use Rattle.mas_complex.specs.Headline.{whole}
+use Rattle.mas_complex.specs.Journals.{kept_all}
+use Rattle.mas_complex.specs.Meaning.{step, run}
+use Rattle.member_node.specs.declared.checkpoint.Checkpoint.{Checkpoint}
+use Rattle.member_node.specs.declared.member.NodeNo.{NodeNo}
+use Rattle.member_node.specs.declared.member.NodeNo.TheVariants.{BothLost, Halted, ConsoleFault, NoMemory}
+use Rattle.member_node.specs.Calls.{Course, IsLeft, IsOnlyOn, console_now}
+use Rattle.member_node.specs.Drawn.{AreDrawn}
+use Rattle.member_node.specs.Lines.{reply_lines}
+use Rattle.member_node.specs.Standing.{queue_of}
+use Rattle.member_node.specs.Writes.{HasKept, HasFlying}
+use Rattle.member_steps.specs.Saying.{Breaks}
+
+-- WHAT A STEP GIVES
+
+-- the reply that a command has at a queue
+abbrev pub reply_to : Queue → MemberId → Command → Reply
+reply_to Q by c = (step Q by c).1
+
+-- the entry of a command that a member gives in a step
+abbrev pub entry_of : Queue → MemberId → ℕ → Command → Entry
+entry_of Q by at c = record { by = by; step = at; command = c; reply = reply_to Q by c }
+
+-- the lines with which the step closes
+abbrev pub step_lines : Queue → MemberId → ℕ → Command → List (List ℕ)
+step_lines Q by at c = reply_lines by at (reply_to Q by c)
+
+-- BETWEEN STEPS
+
+-- No batch is in flight or has its place, and the member's checkpoint is that of the queue after the kept batches.
+pub record IsBetween (base : Queue) (batches : List Batch) (current : Option Batch) (placed : Bool) (level : ℕ) (batch : List Entry) (k : Checkpoint) : Type 0 where
+  pub none : current ≡ None
+  pub unplaced : placed ≡ false
+  pub same_level : level ≡ k.level
+  pub nothing : batch ≡ []
+  pub drawn : AreDrawn k.tables k.level k.levels k.pages
+  pub queue : queue_of k.tables ≡ run base (kept_all batches)
+  pub fit : AreFit k.tables
+
+-- each batch is kept by now
+abbrev pub AreAllKept : List Batch → ℕ → Type 0
+AreAllKept batches now = All (λ b. (b.fate ≡ Kept) × (b.last ≤ now)) batches
+
+-- WHAT A STEP LEAVES
+
+-- the cause of an answer, and which copies count as alive after it
+abbrev pub StepCauses : {T : Type 0} → Result T NodeNo → ℕ → Bool → Bool → Bool → Bool → View → View → Type 0
+StepCauses (Ok done) by was1 is1 was2 is2 old new = IsLeft was1 is1 was2 is2
+StepCauses (Err NoMemory) by was1 is1 was2 is2 old new = (is1 ≡ was1) × (is2 ≡ was2)
+StepCauses (Err BothLost) by was1 is1 was2 is2 old new = IsBothLost is1 is2
+StepCauses (Err ConsoleFault) by was1 is1 was2 is2 old new = IsLeft was1 is1 was2 is2 × Rose (old.faults Console) (new.faults Console)
+StepCauses (Err Halted) by was1 is1 was2 is2 old new = IsLeft was1 is1 was2 is2 × Rose (old.stops by) (new.stops by)
+
+-- The batch is kept where all lines are said, or where the console failed at one; it is in flight where both copies were lost; where
+-- the member was stopped it is either.
+abbrev pub StepLeaves : {T : Type 0} → Result T NodeNo → List Batch → List Batch → Batch → ℕ → Type 0
+StepLeaves (Ok done) front batches b now = HasKept front batches b now
+StepLeaves (Err NoMemory) front batches b now = batches ≡ front
+StepLeaves (Err BothLost) front batches b now = HasFlying front batches b
+StepLeaves (Err ConsoleFault) front batches b now = HasKept front batches b now
+StepLeaves (Err Halted) front batches b now = HasFlying front batches b ⊎ HasKept front batches b now
+
+-- What is added to the console: nothing before the batch is kept.
+abbrev pub StepTells : {T : Type 0} → Result T NodeNo → List (List ℕ) → Type 0 → List Line → List Line → Type 0
+StepTells (Ok done) lines kept was now = now ≡ was ++ map whole lines
+StepTells (Err NoMemory) lines kept was now = now ≡ was
+StepTells (Err BothLost) lines kept was now = now ≡ was
+StepTells (Err ConsoleFault) lines kept was now = (n : ℕ) × (n < length lines) × (now ≡ was ++ map whole (take n lines))
+StepTells (Err Halted) lines kept was now = (now ≡ was) ⊎ (kept × (n : ℕ) × (n < length lines) × Breaks n lines was now)
+
+-- A step whose commands are this batch, and which closes with these lines, over a journal with these batches before it.
+pub record IsStep {T : Type 0} (told : Type 0) (by : ℕ) (lines : List (List ℕ)) (b : Batch) (front batches : List Batch) (was1 is1 was2 is2 : Bool) (old new : View) (result : Result T NodeNo) : Type 0 where
+  pub course : Course was1 is1 was2 is2 old new
+  pub loses : (d : Dev) → new.loses d ≡ old.loses d
+  pub cause : StepCauses result by was1 is1 was2 is2 old new
+  pub journal : StepLeaves result front batches b new.now
+  pub others : told → IsOnlyOn old new
+  pub console : told → StepTells result lines (HasKept front batches b new.now) (console_now old) (console_now new)
