@@ -1,2 +1,3 @@
+pub mod LockLemmas
 pub mod SayLemmas
 pub mod StepLemmas

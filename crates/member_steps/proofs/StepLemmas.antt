@@ -11,7 +11,7 @@ use Rattle.spool_disk.specs.declared.plant.Part.TheVariants.{Console}
 use Rattle.spool_disk.specs.View.{View, Line}
 use Rattle.mas_complex.specs.Crash.{IsUntold, setting}
 use Rattle.mas_complex.specs.Headline.{whole}
-use Rattle.mas_complex.specs.Journals.{StepIsKept, fated, in_flight, kept_all, with_last}
+use Rattle.mas_complex.specs.Journals.{StepIsKept, begun, fated, in_flight, kept_all, with_last}
 use Rattle.mas_complex.specs.Meaning.{run}
 use Rattle.mas_complex.proofs.BatchEnds.{with_last-append}
 use Rattle.member_node.specs.declared.checkpoint.Checkpoint.{Checkpoint}
@@ -25,7 +25,7 @@ use Rattle.member_node.specs.Writes.{HasKept, IsWrite}
 use Rattle.member_node.proofs.CourseLemmas.{course_none, course_then, only_none, only_on, rose_later}
 use Rattle.member_node.proofs.EntryLemmas.{nothing_done}
 use Rattle.member_steps.specs.Saying.{Breaks, HaveSaid}
-use Rattle.member_steps.specs.Steps.{AreAllKept, IsBetween, IsStep, entry_of}
+use Rattle.member_steps.specs.Steps.{AreAllKept, IsBetween, IsStep, entry_of, step_lines}
 use Rattle.member_steps.proofs.SayLemmas.{console_course}
 
 -- THE STEP
@@ -167,3 +167,20 @@ ok_of (Err why) a = tt
 pub level_most : (d : Draft) (n : ℕ) → level_with d n ≤ n + 1
 level_most draft.Same n = omega arith
 level_most (draft.Changed numbers) n = omega arith
+
+-- A STEP BY OTHER NAMES
+
+abbrev StepOf : Type 0 → MemberId → ℕ → Command → Result (Unit {0}) NodeNo → List Batch → Bool → Bool → View → Queue → List Batch → Bool → Bool → View → Type 0
+StepOf told by at c r batches is1 is2 new base front was1 was2 old =
+    IsStep told by.0 (step_lines (run base (kept_all front)) by at c) (begun old.now by (entry_of (run base (kept_all front)) by at c ∷ [])) front batches was1 is1 was2 is2 old new r
+
+pub step_as : (told : Type 0) (by : MemberId) (at : ℕ) (c : Command) (r : Result (Unit {0}) NodeNo) (base base' : Queue) (front front' batches : List Batch) (was1 was1' is1 was2 was2' is2 : Bool) (old old' new : View)
+    → base' ≡ base → front' ≡ front → was1' ≡ was1 → was2' ≡ was2 → old' ≡ old
+    → IsStep told by.0 (step_lines (run base' (kept_all front')) by at c) (begun old'.now by (entry_of (run base' (kept_all front')) by at c ∷ [])) front' batches was1' is1 was2' is2 old' new r
+    → IsStep told by.0 (step_lines (run base (kept_all front)) by at c) (begun old.now by (entry_of (run base (kept_all front)) by at c ∷ [])) front batches was1 is1 was2 is2 old new r
+step_as told by at c r base base' front front' batches was1 was1' is1 was2 was2' is2 old old' new one two three four five step =
+    subst (λ (x : Queue). StepOf told by at c r batches is1 is2 new x front was1 was2 old) one
+    (subst (λ (x : List Batch). StepOf told by at c r batches is1 is2 new base' x was1 was2 old) two
+    (subst (λ (x : Bool). StepOf told by at c r batches is1 is2 new base' front' x was2 old) three
+    (subst (λ (x : Bool). StepOf told by at c r batches is1 is2 new base' front' was1' x old) four
+    (subst (λ (x : View). StepOf told by at c r batches is1 is2 new base' front' was1' was2' x) five step))))

@@ -1,8 +1,10 @@
-//! A member's steps: a command that is done, written to both copies, and told on the console.
+//! A member's steps: it takes the lock, a command is done, written to both copies, and told on the console, and the lock is given up.
 #![tactic(auto)]
 
+mod locked;
 mod playing;
 mod telling;
 
+pub use locked::play_locked;
 pub use playing::play_command;
 pub use telling::tell_lines;

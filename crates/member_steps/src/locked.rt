@@ -1,0 +1,146 @@
+//! A step of a member that takes the lock.
+ghost use Rattle.std.specs.Prelude.{◌≡◌, ◌+◌, ◌≤◌, ◌<◌, ◌^◌, [], ◌∷◌, Some, None, true, false, IfOk, OnOk};
+ghost use Rattle.mas_types.specs.declared.ids.Dev.{Dev};
+ghost use Rattle.mas_types.specs.declared.ids.Dev.TheVariants.{Ckpt1, Ckpt2};
+ghost use Rattle.mas_types.specs.Closings.{AreMembersNamed};
+ghost use Rattle.mas_types.specs.Fit.{IsFit};
+ghost use Rattle.mas_types.specs.Limits.{members_most};
+ghost use Rattle.lock_cycle.specs.declared.answers.LockNo.{LockNo};
+ghost use Rattle.lock_cycle.specs.Books.{try_refusal, after_try, after_free};
+ghost use Rattle.spool_disk.specs.View.{disk_now};
+ghost use Rattle.mas_complex.specs.Crash.{IsUntold, setting};
+ghost use Rattle.mas_complex.specs.Journals.{begun, end_of, kept_all};
+ghost use Rattle.mas_complex.specs.Locking.{IsUp};
+ghost use Rattle.mas_complex.specs.Meaning.{run};
+ghost use Rattle.table_commands.specs.Stored.{IsGiver, is_plain};
+ghost use Rattle.member_node.specs.Copies.{RestsAt};
+ghost use Rattle.member_steps.specs.Locked.{IsDenial, IsOpenTo, closing_of as closing_of_lem, denied_lines as denied_lines_lem};
+ghost use Rattle.member_steps.specs.Steps.{AreAllKept, IsBetween, IsStep, entry_of, step_lines};
+
+use crate::playing::play_command;
+use crate::telling::tell_lines;
+use cmd_report::closing;
+use lock_cycle::LockNo;
+use mas_complex::{Complex, Steady};
+use mas_types::{Closing, Command, Lines, MemberId, NoMemory};
+use member_node::{Member, NodeNo};
+use spool_disk::Plant;
+use std::alloc::Global;
+
+// How a step closes whose member doesn't get the lock.
+fn closing_of(why: LockNo) -> Closing
+    ensures { result ≡ closing_of_lem why }
+{
+    match why {
+        LockNo::Down => Closing::Down,
+        LockNo::Busy(holder) => Closing::Busy(holder),
+        LockNo::Dormant(tick) => Closing::Dormant(tick),
+    }
+}
+
+// The one line of such a step.
+fn denied_lines(alloc: Global, by: MemberId, step: u32, why: LockNo) -> Result<Lines, NoMemory>
+    requires by { by.0 ≤ members_most }
+    requires named { AreMembersNamed (closing_of_lem why) }
+    ensures { IfOk result (λ lines. lines ≡ denied_lines_lem by step why) }
+{
+    let line = closing(alloc, by, step, &closing_of(why))?;
+    let mut lines = Lines::new(alloc);
+    lines.push(line.as_slice())?;
+    Ok(lines)
+}
+
+// Says why the member doesn't get the lock.
+fn deny<P: Plant + Drop, C: Steady + Drop>(
+    member: &Member,
+    alloc: Global,
+    complex: &mut Complex<P, C>,
+    step: u32,
+    why: LockNo,
+) -> Result<(), NodeNo>
+    requires up { IsUp complex.old.book member.now.id }
+    requires by { member.now.id.0 ≤ members_most }
+    requires named { AreMembersNamed (closing_of_lem why) }
+    requires none { complex.old.current ≡ None }
+    requires unplaced { complex.old.placed ≡ false }
+    requires kept { AreAllKept complex.old.journal.batches (P.view complex.old.plant).now }
+    ensures pair { complex.new.pair ≡ complex.old.pair }
+    ensures base { complex.new.base ≡ complex.old.base }
+    ensures since { complex.new.since ≡ complex.old.since }
+    ensures book { complex.new.book ≡ complex.old.book }
+    ensures journal { complex.new.journal ≡ complex.old.journal }
+    ensures current { complex.new.current ≡ complex.old.current }
+    ensures reserved { complex.new.reserved ≡ complex.old.reserved }
+    ensures placed { complex.new.placed ≡ complex.old.placed }
+    ensures first { complex.new.first ≡ complex.old.first }
+    ensures second { complex.new.second ≡ complex.old.second }
+    ensures level { complex.new.level ≡ complex.old.level }
+    ensures later { (P.view complex.old.plant).now ≤ (P.view complex.new.plant).now }
+    ensures disks { P.tells → (d : Dev) → disk_now (P.view complex.new.plant) d ≡ disk_now (P.view complex.old.plant) d }
+    ensures denial { IsDenial P.tells member.now.id.0 (denied_lines_lem member.now.id step why) complex.old.journal.batches (end_of complex.new.placed complex.new.current complex.new.journal.batches)
+        complex.old.pair.first.alive complex.new.pair.first.alive complex.old.pair.second.alive complex.new.pair.second.alive
+        (P.view complex.old.plant) (P.view complex.new.plant) result }
+{
+    let Ok(lines) = denied_lines(alloc, member.id, step, why) else {
+        return Err(NodeNo::NoMemory);
+    };
+    tell_lines(member, complex, &lines)
+}
+
+/// Plays a step of the member: it takes the lock by a try, its command is played, and the lock is given up. Where the member doesn't get
+/// the lock the step closes with why, and nothing else is done.
+///
+/// After BothLost, ConsoleFault or Halted in a step that got the lock, or want of memory, the member holds it still, and can't go on.
+pub fn play_locked<P: Plant + Drop, C: Steady + Drop>(
+    member: &mut Member,
+    alloc: Global,
+    complex: &mut Complex<P, C>,
+    step: u32,
+    command: Command,
+) -> Result<(), NodeNo>
+    requires lock { IsOpenTo complex.old.book complex.old.reserved member.old.id }
+    requires by { member.old.id.0 ≤ members_most }
+    requires plain { is_plain command ≡ true }
+    requires command { IsFit command }
+    requires giver { IsGiver member.old.id command }
+    requires between { IsBetween complex.old.base complex.old.journal.batches complex.old.current complex.old.placed complex.old.level member.old.batch member.old.checkpoint }
+    requires rests1 { RestsAt P.tells complex.old.pair.first.alive complex.old.first (C.count complex.old.pair.first.copy) member.old.checkpoint.pages (C.reads (disk_now (P.view complex.old.plant) Ckpt1).bytes) }
+    requires rests2 { RestsAt P.tells complex.old.pair.second.alive complex.old.second (C.count complex.old.pair.second.copy) member.old.checkpoint.pages (C.reads (disk_now (P.view complex.old.plant) Ckpt2).bytes) }
+    requires kept { AreAllKept complex.old.journal.batches (P.view complex.old.plant).now }
+    requires untold { P.tells → IsUntold (setting C.reads complex.old.base complex.old.since) (P.view complex.old.plant) (entry_of (run complex.old.base (kept_all complex.old.journal.batches)) member.old.id step command ∷ []) }
+    requires order { member.old.checkpoint.tables.order + 32 < 2 ^ 63 }
+    requires level { member.old.checkpoint.level + 1 < 2 ^ 63 }
+    requires room1 { complex.old.pair.first.alive ≡ true → 1 ≤ C.room complex.old.pair.first.copy }
+    requires room2 { complex.old.pair.second.alive ≡ true → 1 ≤ C.room complex.old.pair.second.copy }
+    ensures base { complex.new.base ≡ complex.old.base }
+    ensures since { complex.new.since ≡ complex.old.since }
+    ensures id { member.new.id ≡ member.old.id }
+    ensures lock { OnOk result (IsOpenTo complex.new.book complex.new.reserved member.old.id) }
+    ensures book { OnOk result (complex.new.book ≡ after_free (after_try complex.old.book member.old.id false) member.old.id false) }
+    ensures granted { try_refusal complex.old.book member.old.id false ≡ None → IsStep P.tells member.old.id.0 (step_lines (run complex.old.base (kept_all complex.old.journal.batches)) member.old.id step command)
+        (begun (P.view complex.old.plant).now member.old.id (entry_of (run complex.old.base (kept_all complex.old.journal.batches)) member.old.id step command ∷ []))
+        complex.old.journal.batches (end_of complex.new.placed complex.new.current complex.new.journal.batches)
+        complex.old.pair.first.alive complex.new.pair.first.alive complex.old.pair.second.alive complex.new.pair.second.alive
+        (P.view complex.old.plant) (P.view complex.new.plant) result }
+    ensures denied { (why : LockNo) → try_refusal complex.old.book member.old.id false ≡ Some why → IsDenial P.tells member.old.id.0 (denied_lines_lem member.old.id step why)
+        complex.old.journal.batches (end_of complex.new.placed complex.new.current complex.new.journal.batches)
+        complex.old.pair.first.alive complex.new.pair.first.alive complex.old.pair.second.alive complex.new.pair.second.alive
+        (P.view complex.old.plant) (P.view complex.new.plant) result }
+    ensures between { OnOk result (IsBetween complex.new.base complex.new.journal.batches complex.new.current complex.new.placed complex.new.level member.new.batch member.new.checkpoint) }
+    ensures rests1 { OnOk result (RestsAt P.tells complex.new.pair.first.alive complex.new.first (C.count complex.new.pair.first.copy) member.new.checkpoint.pages (C.reads (disk_now (P.view complex.new.plant) Ckpt1).bytes)) }
+    ensures rests2 { OnOk result (RestsAt P.tells complex.new.pair.second.alive complex.new.second (C.count complex.new.pair.second.copy) member.new.checkpoint.pages (C.reads (disk_now (P.view complex.new.plant) Ckpt2).bytes)) }
+    ensures kept { OnOk result (AreAllKept complex.new.journal.batches (P.view complex.new.plant).now) }
+    ensures config { member.new.checkpoint.tables.config ≡ member.old.checkpoint.tables.config }
+    ensures order { member.new.checkpoint.tables.order ≤ member.old.checkpoint.tables.order + 32 }
+    ensures level { OnOk result (member.new.checkpoint.level ≤ member.old.checkpoint.level + 1) }
+{
+    let by = member.id;
+    if let Err(why) = complex.try_lock(by, false) {
+        return deny(member, alloc, complex, step, why);
+    }
+    play_command(member, alloc, complex, step, command)?;
+    let Ok(()) = complex.free(by, false) else {
+        unreachable!();
+    };
+    Ok(())
+}
