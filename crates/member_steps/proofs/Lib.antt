@@ -1,3 +1,4 @@
 pub mod LockLemmas
 pub mod SayLemmas
 pub mod StepLemmas
+pub mod UntoldLemmas

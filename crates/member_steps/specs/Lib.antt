@@ -1,3 +1,4 @@
 pub mod Locked
 pub mod Saying
 pub mod Steps
+pub mod Untold
