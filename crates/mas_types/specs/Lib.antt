@@ -1,6 +1,6 @@
 pub mod Lends
 pub mod Lists
-pub mod LineEnds
+pub mod LineBytes
 pub mod Limits
 pub mod Ids
 pub mod Queue

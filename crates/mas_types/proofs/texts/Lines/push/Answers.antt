@@ -1,20 +1,34 @@
-use Rattle.std.proofs.Common.{◌≡◌, ◌≤◌, ◌+◌, ◌++◌, ◌∙◌, ap, length, arith}
-use Rattle.std.proofs.lemmas.List.{length-append}
-use Rattle.mas_types.proofs.LineLemmas.{pushed, ends_pushed}
+use Rattle.std.proofs.Common.{◌≡◌, ◌++◌, ◌∙◌, ap, length, arith}
+use Rattle.mas_types.specs.LineBytes.{line_bytes, with_mark}
+use Rattle.mas_types.proofs.LineLemmas.{pushed, marked, kept_pushed, room_for_one}
 use Rattle.mas_types.proofs.texts.Lines.push.Goals as goal
 
-pub invariant_of-self-in-Ok : goal.invariant_of-self-in-Ok
-invariant_of-self-in-Ok c =
+pub invariant_of-self-in_err-push_line : goal.invariant_of-self-in_err-push_line
+invariant_of-self-in_err-push_line c =
+    let count = c.self.inside.count in
     let bytes = c.self.inside.bytes.items in
-    let line = c.args.line.now in
-    let long : length (bytes ++ line) ≡ length bytes + length line = length-append bytes line in
-    let more : length bytes ≤ length (bytes ++ line) = omega arith in
-    let count : c.len.result ≡ length (bytes ++ line) = c.len.ensures ∙ c.extend_from_slice.new.self.ok.0 ∙ ap length c.in_ok-extend_from_slice.ensures.items in
-    rw (c.in-Ok.ensures.ok, count, c.in_ok-extend_from_slice.ensures.items) (ends_pushed 0 c.self.inside.ends.items (length bytes) (length (bytes ++ line)) c.self.invariant more)
+    let place : c.len.result ≡ length bytes = c.len.ensures ∙ c.self.inside.bytes.ok.0 in
+    rw (c.in_err-push_line.ensures.err, c.in_ok-push_mark.ensures.ok, place) (marked count bytes c.self.inside.marks.items c.self.invariant).0
 
-pub returns-in-Ok-clause-ok : goal.returns-in-Ok-clause-ok
-returns-in-Ok-clause-ok c =
+pub overflow_add-self : goal.overflow_add-self
+overflow_add-self c =
+    let count = c.self.inside.count in
     let bytes = c.self.inside.bytes.items in
     let line = c.args.line.now in
-    let count : c.len.result ≡ length (bytes ++ line) = c.len.ensures ∙ c.extend_from_slice.new.self.ok.0 ∙ ap length c.in_ok-extend_from_slice.ensures.items in
-    rw (c.in-Ok.ensures.ok, count, c.in_ok-extend_from_slice.ensures.items, ← c.self.view_is) (pushed 0 c.self.inside.ends.items bytes line c.self.invariant)
+    let room = room_for_one count bytes c.self.inside.marks.items line c.self.invariant in
+    let all : length c.push_line.new.bytes.items ≡ length (bytes ++ line_bytes line) = ap length c.in_ok-push_line.ensures.ok in
+    omega (arith, room, all, c.push_line.new.bytes.ok.0, c.push_line.new.bytes.ok.1, c.push_line.new.bytes.small)
+
+pub invariant_of-self-2 : goal.invariant_of-self-2
+invariant_of-self-2 c =
+    let count = c.self.inside.count in
+    let bytes = c.self.inside.bytes.items in
+    let place : c.len.result ≡ length bytes = c.len.ensures ∙ c.self.inside.bytes.ok.0 in
+    let marks = marked count bytes c.self.inside.marks.items c.self.invariant in
+    rw (c.in_ok-push_line.ensures.ok, c.in_ok-push_mark.ensures.ok, place) (kept_pushed count bytes (with_mark count (length bytes) c.self.inside.marks.items) c.args.line.now marks.0 marks.1 c.in_ok-push_line.ensures.short)
+
+pub returns-clause-ok : goal.returns-clause-ok
+returns-clause-ok c =
+    let count = c.self.inside.count in
+    let bytes = c.self.inside.bytes.items in
+    rw (c.in_ok-push_line.ensures.ok, ← c.self.view_is) (pushed count bytes c.self.inside.marks.items c.args.line.now c.self.invariant c.in_ok-push_line.ensures.short)
