@@ -1,4 +1,5 @@
-//! Reads a script of nearly 16 MiB as often as its first word says, with cards of as many bytes as its second says.
+//! Reads a script of nearly 16 MiB as often as its first word says, with cards of as many bytes as its second says, in decks
+//! of as many bytes as its third says, or 16,000.
 //! `bench/layers` takes the time and the memory.
 #![tactic(auto)]
 
@@ -8,32 +9,32 @@ use std::alloc::{AllocError, Global};
 use std::env;
 use std::process::ExitCode;
 
-// The bytes of the cards of a deck.
+// The bytes of the cards of a deck, where no word says them.
 const CARDS_BYTES: usize = 16_000;
 
-// The bytes of a deck with the lines behind it, or more.
-const DECK_BYTES: usize = 20_000;
+// The bytes of the lines round the cards of a deck, or more.
+const ROUND_BYTES: usize = 4_000;
 
 const CARD: &[u8] =
     b"A CARD OF DATA THAT FILLS ALL OF ITS EIGHTY COLUMNS WITH TEXT UP TO THE LAST ONE";
 
-fn push_deck(text: &mut Vec<u8>, width: usize) -> Result<(), AllocError> {
+fn push_deck(text: &mut Vec<u8>, width: usize, cards_bytes: usize) -> Result<(), AllocError> {
     text.extend_from_slice(b"SYSA DECK\n")?;
     let card = &CARD[..width.min(CARD.len())];
-    for _card in 0..CARDS_BYTES / (card.len() + 1) {
+    for _card in 0..cards_bytes / (card.len() + 1) {
         text.extend_from_slice(card)?;
         text.push(b'\n')?;
     }
     text.extend_from_slice(b"++END\nSYSA WORK 40\nSYSA $TPRT,Q=ABC,F=STD,L=20\n\n")
 }
 
-fn script(alloc: Global, width: usize) -> Result<Vec<u8>, AllocError> {
+fn script(alloc: Global, width: usize, cards_bytes: usize) -> Result<Vec<u8>, AllocError> {
     let mut text = Vec::with_capacity(alloc, SCRIPT_BYTES)?;
     for _deck in 0..SCRIPT_BYTES {
-        if text.len() + DECK_BYTES > SCRIPT_BYTES {
+        if text.len().saturating_add(cards_bytes) > SCRIPT_BYTES - ROUND_BYTES {
             break;
         }
-        push_deck(&mut text, width)?;
+        push_deck(&mut text, width, cards_bytes)?;
     }
     Ok(text)
 }
@@ -50,6 +51,13 @@ fn number(rt: &HostRuntime, at: usize) -> u32 {
     number
 }
 
+fn cards_bytes(rt: &HostRuntime) -> usize {
+    match number(rt, 3) {
+        0 => CARDS_BYTES,
+        bytes => bytes as usize,
+    }
+}
+
 // How many steps were read in all.
 fn read_often(alloc: Global, text: &[u8], count: u32) -> Result<usize, ScriptNo> {
     let mut steps = 0usize;
@@ -61,7 +69,7 @@ fn read_often(alloc: Global, text: &[u8], count: u32) -> Result<usize, ScriptNo>
 }
 
 fn main(rt: HostRuntime) -> ExitCode {
-    let Ok(text) = script(rt.alloc(), number(&rt, 2) as usize) else {
+    let Ok(text) = script(rt.alloc(), number(&rt, 2) as usize, cards_bytes(&rt)) else {
         return ExitCode::FAILURE;
     };
     match read_often(rt.alloc(), text.as_slice(), number(&rt, 1)) {
