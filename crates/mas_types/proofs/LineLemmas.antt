@@ -123,16 +123,16 @@ front_within lines n =
 pub mark_within : (count : ℕ) (bytes marks : List ℕ) (k mark : ℕ) → AreKept count bytes marks → slice_get marks k ≡ Some mark → mark ≤ length bytes
 mark_within count bytes marks k mark are here =
     let lines = lines_in count bytes in
-    let at : mark ≡ length (lines_bytes (take (16 * k) lines)) = (are.2 k mark here).1 in
+    let at : mark ≡ length (lines_bytes (take (32 * k) lines)) = (are.2 k mark here).1 in
     let same : length bytes ≡ length (lines_bytes lines) = ap length are.0 in
-    let within = front_within lines (16 * k) in
+    let within = front_within lines (32 * k) in
     omega (arith, at, same, within)
 
-pub from_mark : (count : ℕ) (bytes marks : List ℕ) (k mark : ℕ) → AreKept count bytes marks → slice_get marks k ≡ Some mark → drop mark bytes ≡ lines_bytes (drop (16 * k) (lines_in count bytes))
+pub from_mark : (count : ℕ) (bytes marks : List ℕ) (k mark : ℕ) → AreKept count bytes marks → slice_get marks k ≡ Some mark → drop mark bytes ≡ lines_bytes (drop (32 * k) (lines_in count bytes))
 from_mark count bytes marks k mark are here =
     let lines = lines_in count bytes in
-    let at : mark ≡ length (lines_bytes (take (16 * k) lines)) = (are.2 k mark here).1 in
-    ap (drop mark) are.0 ∙ ap (λ (n : ℕ). drop n (lines_bytes lines)) at ∙ dropped lines (16 * k)
+    let at : mark ≡ length (lines_bytes (take (32 * k) lines)) = (are.2 k mark here).1 in
+    ap (drop mark) are.0 ∙ ap (λ (n : ℕ). drop n (lines_bytes lines)) at ∙ dropped lines (32 * k)
 
 -- the line at a place, and the bytes of those behind it
 pub line_here : (lines : List (List ℕ)) (at : ℕ) → AreShort lines → at < length lines → HasLine (lines_bytes (drop at lines)) × (first_line (lines_bytes (drop at lines)) ≡ get_or lines at []) × (behind_line (lines_bytes (drop at lines)) ≡ lines_bytes (drop (at + 1) lines))
@@ -153,48 +153,48 @@ mark_pushed (first ∷ marks) place (suc k) mark is = go (mark_pushed marks plac
     go (inr added) = inr (ap suc added.0, added.1)
 
 -- the next line's mark is added
-marks_more : (count : ℕ) (bytes marks : List ℕ) → AreKept count bytes marks → 16 * length marks ≡ count → AreMarks (lines_in count bytes) (marks ++ length bytes ∷ [])
+marks_more : (count : ℕ) (bytes marks : List ℕ) → AreKept count bytes marks → 32 * length marks ≡ count → AreMarks (lines_in count bytes) (marks ++ length bytes ∷ [])
 marks_more count bytes marks are next k mark is = go (mark_pushed marks (length bytes) k mark is)
   where
-    go : (slice_get marks k ≡ Some mark) ⊎ ((k ≡ length marks) × (mark ≡ length bytes)) → (16 * k ≤ length (lines_in count bytes)) × (mark ≡ length (lines_bytes (take (16 * k) (lines_in count bytes))))
+    go : (slice_get marks k ≡ Some mark) ⊎ ((k ≡ length marks) × (mark ≡ length bytes)) → (32 * k ≤ length (lines_in count bytes)) × (mark ≡ length (lines_bytes (take (32 * k) (lines_in count bytes))))
     go (inl was) = are.2 k mark was
     go (inr added) =
         let lines = lines_in count bytes in
         let number : length lines ≡ count = length_lines count bytes in
-        let place : 16 * k ≡ length lines = ap (λ (n : ℕ). 16 * n) added.0 ∙ next ∙ sym number in
-        let all : take (16 * k) lines ≡ lines = take_all (16 * k) lines (omega (arith, place)) in
+        let place : 32 * k ≡ length lines = ap (λ (n : ℕ). 32 * n) added.0 ∙ next ∙ sym number in
+        let all : take (32 * k) lines ≡ lines = take_all (32 * k) lines (omega (arith, place)) in
         (omega (arith, place), added.1 ∙ ap length are.0 ∙ ap (λ (front : List (List ℕ)). length (lines_bytes front)) (sym all))
 
-unmarked : (count most : ℕ) → (count / 16 == most) ≡ false → count ≤ 16 * most → count < 16 * most
-unmarked count most is within = go (cases_lt count (16 * most))
+unmarked : (count most : ℕ) → (count / 32 == most) ≡ false → count ≤ 32 * most → count < 32 * most
+unmarked count most is within = go (cases_lt count (32 * most))
   where
-    go : (count < 16 * most) ⊎ (16 * most ≤ count) → count < 16 * most
+    go : (count < 32 * most) ⊎ (32 * most ≤ count) → count < 32 * most
     go (inl less) = less
     go (inr more) =
-        let same : count / 16 ≡ most = omega arith in
+        let same : count / 32 ≡ most = omega arith in
         absurd (grind (arith, nat_tests))
 
-marked_by : (count : ℕ) (bytes marks : List ℕ) (b : Bool) → (count / 16 == length marks) ≡ b → AreKept count bytes marks → AreKept count bytes (with_mark count (length bytes) marks) × (count < 16 * length (with_mark count (length bytes) marks))
+marked_by : (count : ℕ) (bytes marks : List ℕ) (b : Bool) → (count / 32 == length marks) ≡ b → AreKept count bytes marks → AreKept count bytes (with_mark count (length bytes) marks) × (count < 32 * length (with_mark count (length bytes) marks))
 marked_by count bytes marks true is are =
-    let due : count / 16 ≡ length marks = grind (arith, nat_tests) in
-    let next : 16 * length marks ≡ count = omega (arith, due, are.3) in
+    let due : count / 32 ≡ length marks = grind (arith, nat_tests) in
+    let next : 32 * length marks ≡ count = omega (arith, due, are.3) in
     let long = length-append marks (length bytes ∷ []) in
     rw is ((are.0, are.1, marks_more count bytes marks are next, omega (arith, long, are.3)), omega (arith, long, are.3))
 marked_by count bytes marks false is are =
     rw is (are, unmarked count (length marks) is are.3)
 
-pub marked : (count : ℕ) (bytes marks : List ℕ) → AreKept count bytes marks → AreKept count bytes (with_mark count (length bytes) marks) × (count < 16 * length (with_mark count (length bytes) marks))
-marked count bytes marks are = marked_by count bytes marks (count / 16 == length marks) refl are
+pub marked : (count : ℕ) (bytes marks : List ℕ) → AreKept count bytes marks → AreKept count bytes (with_mark count (length bytes) marks) × (count < 32 * length (with_mark count (length bytes) marks))
+marked count bytes marks are = marked_by count bytes marks (count / 32 == length marks) refl are
 
 marks_stay : (lines : List (List ℕ)) (marks line : List ℕ) → AreMarks lines marks → AreMarks (lines ++ line ∷ []) marks
 marks_stay lines marks line are k mark is =
     let was = are k mark is in
-    let within : 16 * k ≤ length lines = was.0 in
+    let within : 32 * k ≤ length lines = was.0 in
     let long = length-append lines (line ∷ []) in
-    (omega (arith, within, long), was.1 ∙ ap (λ (front : List (List ℕ)). length (lines_bytes front)) (sym (take-append-le (16 * k) lines (line ∷ []) within)))
+    (omega (arith, within, long), was.1 ∙ ap (λ (front : List (List ℕ)). length (lines_bytes front)) (sym (take-append-le (32 * k) lines (line ∷ []) within)))
 
 -- a line more, which has its mark
-pub kept_pushed : (count : ℕ) (bytes marks line : List ℕ) → AreKept count bytes marks → count < 16 * length marks → length line < 2 ^ 32 → AreKept (count + 1) (bytes ++ line_bytes line) marks
+pub kept_pushed : (count : ℕ) (bytes marks line : List ℕ) → AreKept count bytes marks → count < 32 * length marks → length line < 2 ^ 32 → AreKept (count + 1) (bytes ++ line_bytes line) marks
 kept_pushed count bytes marks line are has short =
     let lines = lines_in count bytes in
     let more = pushed count bytes marks line are short in
@@ -204,3 +204,11 @@ kept_pushed count bytes marks line are has short =
       subst (λ (ls : List (List ℕ)). AreMarks ls marks) (sym more) (marks_stay lines marks line are.2),
       omega (arith, has),
     )
+
+first_mark : AreMarks [] (0 ∷ [])
+first_mark zero mark is = (omega arith, cc)
+first_mark (suc k) mark is = absurd (cc)
+
+-- no lines, with the mark that needn't be kept
+pub none_kept : AreKept 0 [] (0 ∷ [])
+none_kept = (refl, tt, first_mark, omega arith)

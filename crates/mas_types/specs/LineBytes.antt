@@ -47,14 +47,14 @@ abbrev pub AreShort : List (List ℕ) → Type 0
 AreShort [] = ⊤
 AreShort (line ∷ lines) = (length line < 2 ^ 32) × AreShort lines
 
--- each mark says where the bytes of one line of sixteen begin, from the first on
+-- each mark says where the bytes of one line of 32 begin, from the first on
 abbrev pub AreMarks : List (List ℕ) → List ℕ → Type 0
-AreMarks lines marks = (k mark : ℕ) → slice_get marks k ≡ Some mark → (16 * k ≤ length lines) × (mark ≡ length (lines_bytes (take (16 * k) lines)))
+AreMarks lines marks = (k mark : ℕ) → slice_get marks k ≡ Some mark → (32 * k ≤ length lines) × (mark ≡ length (lines_bytes (take (32 * k) lines)))
 
--- the marks with that of the next line, where that is one of sixteen and has none yet
+-- the marks with that of the next line, where that is one of 32 and has none yet
 abbrev pub with_mark : ℕ → ℕ → List ℕ → List ℕ
-with_mark count place marks = if count / 16 == length marks then marks ++ place ∷ [] else marks
+with_mark count place marks = if count / 32 == length marks then marks ++ place ∷ [] else marks
 
 -- the bytes are those of so many lines, and each line that is there has its mark
 abbrev pub AreKept : ℕ → List ℕ → List ℕ → Type 0
-AreKept count bytes marks = (bytes ≡ lines_bytes (lines_in count bytes)) × AreShort (lines_in count bytes) × AreMarks (lines_in count bytes) marks × (count ≤ 16 * length marks)
+AreKept count bytes marks = (bytes ≡ lines_bytes (lines_in count bytes)) × AreShort (lines_in count bytes) × AreMarks (lines_in count bytes) marks × (count ≤ 32 * length marks)

@@ -4,4 +4,4 @@ use Rattle.mas_types.proofs.texts.Lines.bytes_from.Given as goal
 
 -- so many lines were passed
 abbrev pub invariant-loop-passed : goal.invariant-loop-passed
-invariant-loop-passed l = l.rest ≡ lines_bytes (drop (16 * (l.at / 16) + l._passed) l.self)
+invariant-loop-passed l = l.rest ≡ lines_bytes (drop (32 * (l.at / 32) + l._passed) l.self)
