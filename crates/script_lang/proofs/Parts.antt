@@ -3,7 +3,7 @@ use Rattle.std.proofs.Common.{◌≡◌, ap, ℕ, zero, suc, ◌+◌, ◌-◌, �
 use Rattle.std.specs.Borrow.{Bor}
 use Rattle.std.proofs.lemmas.Bool.{ltb-true, ltb-false}
 use Rattle.std.proofs.lemmas.List.Splits.{slice_split_first, length-slice_split}
-use Rattle.std.specs.List.{position, position_or_len, slice_split, onto_first}
+use Rattle.std.specs.List.{list_any, position, position_or_len, slice_split, onto_first}
 use Rattle.std.specs.Str.Lines.{strip_carriage_return}
 use Rattle.script_lang.specs.Config.{halves}
 use Rattle.script_lang.specs.Lines.{lines_of_parts, lines_of, is_line_end}
@@ -74,3 +74,7 @@ word_first words behind first e = rw e refl
 abbrev pub length_left : Option (Bor (List ℕ)) → ℕ
 length_left None = 0
 length_left (Some text) = suc (length text.now)
+
+-- a line at which the test fails is passed
+pub passes : (test : List ℕ → Bool) (line : List ℕ) (lines behind : List (List ℕ)) → lines ≡ line ∷ behind → test line ≡ false → (list_any test behind ≡ list_any test lines) × (1 + position_or_len test behind ≡ position_or_len test lines) × (behind ≡ drop 1 lines)
+passes test line lines behind is fails = rw (is, fails) (refl, refl, refl)

@@ -1,6 +1,6 @@
 //! Bytes cut into lines and words.
-ghost use Rattle.std.specs.Prelude.{◌≡◌, ℕ, ◌+◌, ◌==◌, ◌<◌, [], ◌∷◌, length, MatchOption, position, count_by};
-ghost use Rattle.std.specs.List.{slice_split, list_any};
+ghost use Rattle.std.specs.Prelude.{◌≡◌, ℕ, ◌+◌, ◌==◌, ◌<◌, ◌≤◌, [], ◌∷◌, length, drop, IfSome, is_some, MatchOption, position, count_by};
+ghost use Rattle.std.specs.List.{slice_split, list_any, position_or_len};
 ghost use Rattle.std.specs.Str.Lines.{strip_carriage_return};
 ghost use Rattle.mas_types.specs.Fit.{is_text_byte as is_text_byte_lem, is_text_line};
 ghost use Rattle.mas_types.specs.Names.{is_blank, unpadded};
@@ -77,19 +77,24 @@ pub(crate) fn is_deck_end(line: &[u8]) -> bool
     line == b"++END".as_slice()
 }
 
-/// Whether one of the lines ends a deck.
-pub(crate) fn has_deck_end(script: &[u8]) -> bool
-    ensures { result ≡ list_any is_deck_end_lem (lines_of script.now) }
+/// The number of lines before the first that ends a deck, and the script from that line on. None where no line ends a deck.
+pub(crate) fn deck_end(script: &[u8]) -> Option<(usize, &[u8])>
+    ensures found { is_some result ≡ list_any is_deck_end_lem (lines_of script.now) }
+    ensures lines { IfSome result (λ end. end.0 ≡ position_or_len is_deck_end_lem (lines_of script.now)) }
+    ensures rest { IfSome result (λ end. lines_of end.1.now ≡ drop end.0 (lines_of script.now)) }
+    ensures shorter { IfSome result (λ end. length end.1.now ≤ length script.now) }
 {
     let mut rest = script;
+    let mut lines = 0;
     while !rest.is_empty() {
         let (line, behind) = next_line(rest);
         if is_deck_end(line) {
-            return true;
+            return Some((lines, rest));
         }
         rest = behind;
+        lines += 1;
     }
-    false
+    None
 }
 
 /// A line without the blanks at its end.

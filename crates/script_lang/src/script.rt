@@ -4,7 +4,7 @@ ghost use Rattle.std.specs.List.{list_any};
 
 use crate::asks::{has_word, read_step};
 use crate::config::{Setup, read_setup};
-use crate::lines::{has_deck_end, is_deck_end, is_line, next_line, trimmed};
+use crate::lines::{deck_end, is_deck_end, is_line, next_line, trimmed};
 use crate::types::{Ask, Run, Script, ScriptNo, Step};
 use mas_types::limits::{SCRIPT_BYTES, STEPS_MOST};
 use mas_types::{LineCause, Lines, List, MemberId, NoMemory, default_config};
@@ -103,17 +103,23 @@ impl State {
     }
 
     // A DECK line, where `behind` are the lines behind it.
-    fn begin_deck(&mut self, alloc: Global, by: MemberId, behind: &[u8]) -> Result<(), LineCause>
-        ensures { Takes result self.new (next_deck self.old (list_any is_deck_end_lem (lines_of behind.now)) by) }
+    fn begin_deck(
+        &mut self,
+        alloc: Global,
+        by: MemberId,
+        behind: &[u8],
+    ) -> Result<Result<(), LineCause>, NoMemory>
+        ensures { IfOk result (λ taken. Takes taken self.new (next_deck self.old (list_any is_deck_end_lem (lines_of behind.now)) by)) }
     {
-        if !has_deck_end(behind) {
-            return Err(LineCause::End);
-        }
+        let Some((lines, end)) = deck_end(behind) else {
+            return Ok(Err(LineCause::End));
+        };
         if !self.has_room() {
-            return Err(LineCause::Steps);
+            return Ok(Err(LineCause::Steps));
         }
-        self.open_deck(by, Lines::new(alloc));
-        Ok(())
+        let cards = Lines::with_room(alloc, lines, behind.len() - end.len())?;
+        self.open_deck(by, cards);
+        Ok(Ok(()))
     }
 
     // A line of any other step.
@@ -138,7 +144,7 @@ impl State {
     {
         let Step { by, what } = step;
         if is_deck(&what) {
-            return Ok(self.begin_deck(alloc, by, behind));
+            return self.begin_deck(alloc, by, behind);
         }
         self.add_step(by, what)
     }
