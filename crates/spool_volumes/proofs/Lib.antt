@@ -1,2 +1,3 @@
 mod TextLemmas
 mod ReadLemmas
+pub mod LookLemmas

@@ -1,7 +1,7 @@
 -- Lemmas on reading groups.
-use Rattle.std.proofs.Common.{◌≡◌, ℕ, Bool, true, false, List, [], ◌∷◌, ◌++◌, Option, Some, None, option_map, unwrap_or, refl, sym, ap, ◌∙◌, append_assoc}
+use Rattle.std.proofs.Common.{◌≡◌, ◌||◌, ℕ, Bool, true, false, List, [], ◌∷◌, ◌++◌, Option, Some, None, option_map, unwrap_or, refl, sym, ap, ◌∙◌, append_assoc}
+use Rattle.std.specs.List.{list_any}
 use Rattle.std.proofs.lemmas.List.{append-nil}
-use Rattle.ckpt_copy.specs.Moments.{goes_on}
 use Rattle.mas_types.specs.declared.ids.GroupNo.{GroupNo}
 use Rattle.mas_types.specs.declared.ids.Dev.TheVariants.{Spool}
 use Rattle.mas_types.specs.Limits.{page_bytes}
@@ -10,8 +10,10 @@ use Rattle.spool_disk.specs.Acts.{Goes}
 use Rattle.spool_disk.specs.View.{View, disk_now, slice}
 use Rattle.spool_disk.specs.declared.plant.Part.TheVariants.{Disk as DiskPart}
 use Rattle.spool_text.specs.Laws.{ReadsWhatIsHeld}
-use Rattle.spool_volumes.specs.Volumes.{bytes_unless, volume_of, start_of, volumes_now, IsSteady, AreSame}
-use Rattle.spool_volumes.specs.Texts.{Held, held, records_on, gone_or, first_gone, all_records, Adds}
+use Rattle.spool_volumes.specs.Volumes.{bytes_unless, volume_of, start_of, page_of, volumes_now, IsSteady}
+use Rattle.spool_volumes.specs.Looks.{volumes_shown, lie_on_lost, LooksAt}
+use Rattle.spool_volumes.specs.Texts.{Held, held, records_on, gone_or, first_gone, all_records, whole_text, text_unless, text_of, Adds}
+use Rattle.spool_volumes.proofs.LookLemmas.{looks_then, same_bytes}
 
 -- what was read from a volume that isn't lost
 pub page_there : (lost : Bool) (at : ℕ) (bytes into : List ℕ) → (lost ≡ true → ⊥) → into ≡ slice at page_bytes bytes → option_map (slice at page_bytes) (bytes_unless lost bytes) ≡ Some into
@@ -52,22 +54,69 @@ gone_more records [] more none = refl
 gone_more records (g ∷ gs) more none =
     rest_first g (records g) (first_gone records gs) (first_gone records (gs ++ more)) (first_gone records more) none (λ rest. gone_more records gs more rest)
 
+-- WHAT A VOLUME SHOWS
+
+shown_page : (f : List ℕ → List ℕ) (lost : Bool) (bytes page : List ℕ) → option_map f (bytes_unless lost bytes) ≡ Some page → option_map f (Some bytes) ≡ Some page
+shown_page f true bytes page is = absurd (cc)
+shown_page f false bytes page is = is
+
+shown_held : (f : List ℕ → List ℕ) (lost : Bool) (bytes : List ℕ) (lines : List (List ℕ)) → held (option_map f (bytes_unless lost bytes)) ≡ Some lines → held (option_map f (Some bytes)) ≡ Some lines
+shown_held f true bytes lines is = absurd (cc)
+shown_held f false bytes lines is = is
+
+-- a page that is read of what isn't lost is shown
+pub page_shown : (v : View) (per : ℕ) (g : GroupNo) (page : List ℕ) → page_of (volumes_now v) per g ≡ Some page → page_of (volumes_shown v) per g ≡ Some page
+page_shown v per g page is = shown_page (slice (start_of per g) page_bytes) (v.lost (DiskPart (Spool (volume_of per g)))) (disk_now v (Spool (volume_of per g))).bytes page is
+
+-- groups that hold records on what isn't lost hold the same ones on what is shown
+record AreShown (v : View) (per : ℕ) (groups : List GroupNo) : Type 0 where
+  none : first_gone (records_on (volumes_shown v) per) groups ≡ None
+  all : all_records (records_on (volumes_shown v) per) groups ≡ all_records (records_on (volumes_now v) per) groups
+
+shown_more : (v : View) (per : ℕ) (g : GroupNo) (gs : List GroupNo) (r : Option (List (List ℕ))) → records_on (volumes_now v) per g ≡ r → gone_or g r (first_gone (records_on (volumes_now v) per) gs) ≡ None
+    → (first_gone (records_on (volumes_now v) per) gs ≡ None → AreShown v per gs) → AreShown v per (g ∷ gs)
+shown_more v per g gs None is none others = absurd (cc)
+shown_more v per g gs (Some lines) is none others =
+    let here : records_on (volumes_shown v) per g ≡ Some lines = shown_held (slice (start_of per g) page_bytes) (v.lost (DiskPart (Spool (volume_of per g)))) (disk_now v (Spool (volume_of per g))).bytes lines is in
+    let more = others none in
+    record {
+      none = ap (λ (r : Option (List (List ℕ))). gone_or g r (first_gone (records_on (volumes_shown v) per) gs)) here ∙ more.none;
+      all = ap (λ (r : Option (List (List ℕ))). unwrap_or r [] ++ all_records (records_on (volumes_shown v) per) gs) (here ∙ sym is)
+          ∙ ap (λ (l : List (List ℕ)). unwrap_or (records_on (volumes_now v) per g) [] ++ l) more.all;
+    }
+
+are_shown : (v : View) (per : ℕ) (groups : List GroupNo) → first_gone (records_on (volumes_now v) per) groups ≡ None → AreShown v per groups
+are_shown v per [] none = record { none = refl; all = refl }
+are_shown v per (g ∷ gs) none = shown_more v per g gs (records_on (volumes_now v) per g) refl none (λ rest. are_shown v per gs rest)
+
+-- a group among others lies on no lost volume where none of them does
+among : (test : GroupNo → Bool) (before : List GroupNo) (g : GroupNo) (rest : List GroupNo) → list_any test (before ++ g ∷ rest) ≡ false → test g ≡ false
+among test [] g rest none = left (test g) (list_any test rest) none where
+  left : (a b : Bool) → (a || b) ≡ false → a ≡ false
+  left true b e = absurd (cc)
+  left false b e = refl
+among test (h ∷ before) g rest none = among test before g rest (right (test h) (list_any test (before ++ g ∷ rest)) none) where
+  right : (a b : Bool) → (a || b) ≡ false → b ≡ false
+  right true b e = absurd (cc)
+  right false b e = e
+
+-- THE GROUPS SO FAR
+
 -- the records of the groups so far are the lines
-pub record HaveRead (tells : Type 0) (first now : View) (per : ℕ) (groups : List GroupNo) (lines : List (List ℕ)) : Type 0 where
-  pub goes : Goes first now
-  pub same : tells → AreSame first now
+pub record HaveRead (tells : Type 0) (by : ℕ) (first now : View) (per : ℕ) (groups : List GroupNo) (lines : List (List ℕ)) : Type 0 where
+  pub looks : LooksAt tells by first now
   pub all : tells → all_records (records_on (volumes_now first) per) groups ≡ lines
   pub none : tells → first_gone (records_on (volumes_now first) per) groups ≡ None
 
 -- one group more
-pub read_more : (tells : Type 0) (first now new : View) (per : ℕ) (groups : List GroupNo) (g : GroupNo) (old lines : List (List ℕ))
-    → HaveRead tells first now per groups old → Goes now new → (tells → AreSame now new) → (tells → Adds (records_on (volumes_now now) per g) old lines) → HaveRead tells first new per (groups ++ g ∷ []) lines
-read_more tells first now new per groups g old lines have goes same adds =
+pub read_more : (tells : Type 0) (by : ℕ) (first now new : View) (per : ℕ) (groups : List GroupNo) (g : GroupNo) (old lines : List (List ℕ))
+    → HaveRead tells by first now per groups old → LooksAt tells by now new → (tells → Adds (records_on (volumes_now now) per g) old lines) → HaveRead tells by first new per (groups ++ g ∷ []) lines
+read_more tells by first now new per groups g old lines have looks adds =
+    let v = volume_of per g in
     let there : tells → (l : List (List ℕ)) → records_on (volumes_now now) per g ≡ Some l → records_on (volumes_now first) per g ≡ Some l
-    = λ told l is. earlier (slice (start_of per g) page_bytes) (first.lost (DiskPart (Spool (volume_of per g)))) (now.lost (DiskPart (Spool (volume_of per g)))) (disk_now first (Spool (volume_of per g))).bytes (disk_now now (Spool (volume_of per g))).bytes l (have.goes.lost (DiskPart (Spool (volume_of per g)))) (have.same told (Spool (volume_of per g))) is in
+    = λ told l is. earlier (slice (start_of per g) page_bytes) (first.lost (DiskPart (Spool v))) (now.lost (DiskPart (Spool v))) (disk_now first (Spool v)).bytes (disk_now now (Spool v)).bytes l (have.looks.goes.lost (DiskPart (Spool v))) (same_bytes first now (have.looks.during told) (Spool v)) is in
     record {
-      goes = goes_on first now new have.goes goes;
-      same = λ told d. same told d ∙ have.same told d;
+      looks = looks_then first now new tells by have.looks looks;
       all = λ told.
           let added = adds told in
           let here = there told added.lines added.held in
@@ -80,13 +129,30 @@ read_more tells first now new per groups g old lines have goes same adds =
     }
 
 -- the group that comes next is gone
-pub gone_next : (tells : Type 0) (first now new : View) (per count : ℕ) (groups : List GroupNo) (g : GroupNo) (rest : List GroupNo) (old : List (List ℕ)) → tells
-    → HaveRead tells first now per groups old → Goes now new → IsSteady first new → (IsSteady now new → records_on (volumes_now now) per g ≡ None) → first_gone (records_on (volumes_now first) per) (groups ++ g ∷ rest) ≡ Some g
-gone_next tells first now new per count groups g rest old told have goes steady none =
+pub gone_next : (tells : Type 0) (by : ℕ) (first now new : View) (per : ℕ) (groups : List GroupNo) (g : GroupNo) (rest : List GroupNo) (old : List (List ℕ)) → tells
+    → HaveRead tells by first now per groups old → Goes now new → IsSteady first new → (IsSteady now new → records_on (volumes_now now) per g ≡ None) → first_gone (records_on (volumes_now first) per) (groups ++ g ∷ rest) ≡ Some g
+gone_next tells by first now new per groups g rest old told have goes steady none =
     let part = λ (n : ℕ). DiskPart (Spool n) in
-    let still : IsSteady now new = λ n. in_between (first.lost (part n)) (now.lost (part n)) (new.lost (part n)) (have.goes.lost (part n)) (goes.lost (part n)) (steady n) in
+    let still : IsSteady now new = λ n. in_between (first.lost (part n)) (now.lost (part n)) (new.lost (part n)) (have.looks.goes.lost (part n)) (goes.lost (part n)) (steady n) in
     let v = volume_of per g in
     let lost : now.lost (part v) ≡ first.lost (part v) = sym (still v) ∙ steady v in
     let here : records_on (volumes_now first) per g ≡ None
-    = same_unless (slice (start_of per g) page_bytes) (first.lost (part v)) (now.lost (part v)) (disk_now first (Spool v)).bytes (disk_now now (Spool v)).bytes lost (have.same told (Spool v)) ∙ none still in
+    = same_unless (slice (start_of per g) page_bytes) (first.lost (part v)) (now.lost (part v)) (disk_now first (Spool v)).bytes (disk_now now (Spool v)).bytes lost (same_bytes first now (have.looks.during told) (Spool v)) ∙ none still in
     gone_more (records_on (volumes_now first) per) groups (g ∷ rest) (have.none told) ∙ rw here refl
+
+-- and so it is on what is shown, where none of the groups lies on a lost volume
+pub left_next : (tells : Type 0) (by : ℕ) (first now new : View) (per : ℕ) (groups : List GroupNo) (g : GroupNo) (rest : List GroupNo) (old : List (List ℕ)) → tells
+    → HaveRead tells by first now per groups old → (new.lost (DiskPart (Spool (volume_of per g))) ≡ false → records_on (volumes_shown now) per g ≡ None)
+    → lie_on_lost new per (groups ++ g ∷ rest) ≡ false → first_gone (records_on (volumes_shown first) per) (groups ++ g ∷ rest) ≡ Some g
+left_next tells by first now new per groups g rest old told have none kept =
+    let v = volume_of per g in
+    let there = among (λ h. new.lost (DiskPart (Spool (volume_of per h)))) groups g rest kept in
+    let here : records_on (volumes_shown first) per g ≡ None = ap (λ (b : List ℕ). held (Some (slice (start_of per g) page_bytes b))) (sym (same_bytes first now (have.looks.during told) (Spool v))) ∙ none there in
+    gone_more (records_on (volumes_shown first) per) groups (g ∷ rest) (are_shown first per groups (have.none told)).none ∙ rw here refl
+
+-- all groups were read
+pub left_whole : (tells : Type 0) (by : ℕ) (first now : View) (per count : ℕ) (groups : List GroupNo) (lines : List (List ℕ)) → tells → HaveRead tells by first now per groups lines
+    → whole_text count groups lines ≡ text_of (records_on (volumes_shown first) per) count groups
+left_whole tells by first now per count groups lines told have =
+    let shown = are_shown first per groups (have.none told) in
+    sym (ap (λ (o : Option GroupNo). text_unless count groups (all_records (records_on (volumes_shown first) per) groups) o) shown.none ∙ ap (whole_text count groups) (shown.all ∙ have.all told))

@@ -1,3 +1,4 @@
 pub mod Volumes
 pub mod Texts
 pub mod Laws
+pub mod Looks

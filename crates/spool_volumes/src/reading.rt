@@ -1,8 +1,12 @@
 //! Reading a text.
-ghost use Rattle.std.specs.Prelude.{◌≡◌, ◌≤◌, ◌++◌, true, false, Some, None, All, length, IfOk, IsErrOf, Ok as OkLem};
+ghost use Rattle.std.specs.Prelude.{◌≡◌, ◌≤◌, ◌<◌, ◌++◌, true, false, Some, None, All, length, IfOk, IsErrOf, Ok as OkLem};
+ghost use Rattle.mas_types.specs.declared.ids.Dev.TheVariants.{Spool};
 ghost use Rattle.mas_types.specs.Limits.{page_bytes};
-ghost use Rattle.spool_disk.specs.Acts.{Goes, Rose};
-ghost use Rattle.spool_volumes.specs.Volumes.{page_of, volumes_now, IsPlaced, IsSteady, AreSame};
+ghost use Rattle.mas_types.specs.Queue.{line_count};
+ghost use Rattle.spool_disk.specs.Acts.{Rose};
+ghost use Rattle.spool_disk.specs.declared.plant.Part.TheVariants.{Disk};
+ghost use Rattle.spool_volumes.specs.Volumes.{page_of, volume_of, volumes_now, IsPlaced, IsSteady};
+ghost use Rattle.spool_volumes.specs.Looks.{volumes_shown, lie_on_lost, LooksAt};
 ghost use Rattle.spool_volumes.specs.Texts.{last_of, records_on, text_of, whole_text, Adds};
 ghost use Rattle.spool_volumes.specs.declared.reading.ReadNo.TheVariants.{Halted as ReadNoHalted};
 
@@ -35,11 +39,11 @@ fn read_page<P: Plant>(
     requires some { 1 ≤ per }
     requires page { length into.old ≡ page_bytes }
     requires placed { IsPlaced (P.view plant.old) per group }
-    ensures goes { Goes (P.view plant.old) (P.view plant.new) }
-    ensures same { P.tells → AreSame (P.view plant.old) (P.view plant.new) }
+    ensures looks { LooksAt P.tells by.0 (P.view plant.old) (P.view plant.new) }
     ensures read { result ≡ OkLem true → P.tells → page_of (volumes_now (P.view plant.old)) per group ≡ Some into.new }
     ensures lost { result ≡ OkLem false → IsSteady (P.view plant.old) (P.view plant.new) → page_of (volumes_now (P.view plant.old)) per group ≡ None }
-    ensures halted { IsErrOf result ReadNoHalted → Rose ((P.view plant.old).stops by.0) ((P.view plant.new).stops by.0) }
+    ensures out { result ≡ OkLem false → (P.view plant.new).lost (Disk (Spool (volume_of per group))) ≡ true }
+    ensures halted { IsErrOf result ReadNoHalted → (0 < by.0) × Rose ((P.view plant.old).stops by.0) ((P.view plant.new).stops by.0) }
 {
     let dev = Dev::Spool((group.0 / per) as u8 + 1);
     let at = PAGE_BYTES as u64 * (group.0 % per) as u64;
@@ -61,11 +65,11 @@ fn add_group<P: Plant>(
 ) -> Result<bool, ReadNo>
     requires some { 1 ≤ per }
     requires placed { IsPlaced (P.view plant.old) per group }
-    ensures goes { Goes (P.view plant.old) (P.view plant.new) }
-    ensures same { P.tells → AreSame (P.view plant.old) (P.view plant.new) }
+    ensures looks { LooksAt P.tells by.0 (P.view plant.old) (P.view plant.new) }
     ensures added { result ≡ OkLem true → P.tells → Adds (records_on (volumes_now (P.view plant.old)) per group) lines.old lines.new }
     ensures none { result ≡ OkLem false → P.tells → IsSteady (P.view plant.old) (P.view plant.new) → records_on (volumes_now (P.view plant.old)) per group ≡ None }
-    ensures halted { IsErrOf result ReadNoHalted → Rose ((P.view plant.old).stops by.0) ((P.view plant.new).stops by.0) }
+    ensures out { result ≡ OkLem false → P.tells → (P.view plant.new).lost (Disk (Spool (volume_of per group))) ≡ false → records_on (volumes_shown (P.view plant.old)) per group ≡ None }
+    ensures halted { IsErrOf result ReadNoHalted → (0 < by.0) × Rose ((P.view plant.old).stops by.0) ((P.view plant.new).stops by.0) }
 {
     law_of_reading();
     let mut page = Page([0; 4096]);
@@ -81,7 +85,8 @@ fn add_group<P: Plant>(
 
 // The text of these lines, of which so many are counted.
 fn ended(count: u16, groups: &[GroupNo], lines: Lines) -> Text
-    ensures { result ≡ whole_text count groups.now lines }
+    ensures text { result ≡ whole_text count groups.now lines }
+    ensures count { line_count result ≡ count }
 {
     if lines.len() == count as usize {
         return Text::Whole(lines);
@@ -102,8 +107,9 @@ fn last_group(groups: &[GroupNo]) -> GroupNo
 /// at least one, and each group lies within its volume. It is whole, or gone with the first group that lies on a lost
 /// volume or holds no records; the last group counts as such where the lines are not as many as the slot counts.
 ///
-/// What is said of the text holds where no volume was lost in the call: else read again. Halted comes only where the
-/// member was stopped inside a read. No byte of a volume is changed.
+/// What is said of the text holds where no volume was lost in the call, and so it does where none of its groups lies on a
+/// volume that is lost then: else read again. Halted comes only where the member was stopped inside a read, never for the
+/// operator. No byte of a volume is changed, and nothing more is unsynced.
 pub fn read_text<P: Plant>(
     alloc: Global,
     plant: &mut P,
@@ -114,10 +120,11 @@ pub fn read_text<P: Plant>(
 ) -> Result<Text, ReadNo>
     requires some { 1 ≤ per }
     requires placed { All (IsPlaced (P.view plant.old) per) groups.now }
-    ensures goes { Goes (P.view plant.old) (P.view plant.new) }
-    ensures same { P.tells → AreSame (P.view plant.old) (P.view plant.new) }
+    ensures looks { LooksAt P.tells by.0 (P.view plant.old) (P.view plant.new) }
+    ensures count { IfOk result (λ text. line_count text ≡ count) }
+    ensures left { IfOk result (λ text. P.tells → lie_on_lost (P.view plant.new) per groups.now ≡ false → text ≡ text_of (records_on (volumes_shown (P.view plant.old)) per) count groups.now) }
     ensures text { IfOk result (λ text. P.tells → IsSteady (P.view plant.old) (P.view plant.new) → text ≡ text_of (records_on (volumes_now (P.view plant.old)) per) count groups.now) }
-    ensures halted { IsErrOf result ReadNoHalted → Rose ((P.view plant.old).stops by.0) ((P.view plant.new).stops by.0) }
+    ensures halted { IsErrOf result ReadNoHalted → (0 < by.0) × Rose ((P.view plant.old).stops by.0) ((P.view plant.new).stops by.0) }
 {
     let mut lines = Lines::new(alloc);
     for group in groups {

@@ -1,6 +1,6 @@
 use Rattle.std.proofs.Common.{◌∙◌, ap, Ok, Err}
 use Rattle.spool_volumes.specs.Texts.{held}
-use Rattle.spool_volumes.proofs.ReadLemmas.{no_records}
+use Rattle.spool_volumes.proofs.ReadLemmas.{no_records, page_shown}
 use Rattle.spool_volumes.proofs.reading.add_group.Goals as goal
 
 pub returns-in-Ok-clause-added : goal.returns-in-Ok-clause-added
@@ -17,3 +17,8 @@ pub returns-in-Err-Bad-clause-none : goal.returns-in-Err-Bad-clause-none
 returns-in-Err-Bad-clause-none g c is told steady =
     let page = c.in_ok-read_page.ensures.read (ap Ok c.if-not-branch.false) told in
     ap held page ∙ no_records c.law_of_reading.ensures c.read_page.new.into (c.in-Err-Bad.ensures.bad.0 (ap Err c.in-Err-Bad.field-0-is))
+
+pub returns-in-Err-Bad-clause-out : goal.returns-in-Err-Bad-clause-out
+returns-in-Err-Bad-clause-out g c is told there =
+    let page = c.in_ok-read_page.ensures.read (ap Ok c.if-not-branch.false) told in
+    ap held (page_shown (g.P.Plant.view c.args.plant.now) c.args.per c.args.group c.read_page.new.into page) ∙ no_records c.law_of_reading.ensures c.read_page.new.into (c.in-Err-Bad.ensures.bad.0 (ap Err c.in-Err-Bad.field-0-is))

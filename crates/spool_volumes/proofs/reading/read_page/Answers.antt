@@ -2,10 +2,24 @@ use Rattle.std.proofs.Common.{◌≡◌, length, refl, arith}
 use Rattle.mas_types.specs.declared.ids.Dev.TheVariants.{Spool}
 use Rattle.mas_types.specs.Limits.{page_bytes}
 use Rattle.spool_disk.specs.View.{disk_now}
+use Rattle.spool_disk.specs.declared.plant.Act.TheVariants.{Done, Failed, Halted}
 use Rattle.spool_disk.specs.declared.plant.Part.TheVariants.{Disk as DiskPart}
 use Rattle.spool_volumes.specs.Volumes.{volume_of, start_of}
+use Rattle.spool_volumes.proofs.LookLemmas.{looks_read}
 use Rattle.spool_volumes.proofs.ReadLemmas.{page_there}
 use Rattle.spool_volumes.proofs.reading.read_page.Goals as goal
+
+pub returns-in-Done-clause-looks : goal.returns-in-Done-clause-looks
+returns-in-Done-clause-looks g c =
+    looks_read g.P.Plant.tells c.args.by.0 (volume_of c.args.per c.args.group) (g.P.Plant.view c.args.plant.now) (g.P.Plant.view c.read.new.self) Done c.in-Done.ensures.acts (start_of c.args.per c.args.group) c.read.new.into c.in-Done.ensures.content
+
+pub returns-in-Failed-clause-looks : goal.returns-in-Failed-clause-looks
+returns-in-Failed-clause-looks g c =
+    looks_read g.P.Plant.tells c.args.by.0 (volume_of c.args.per c.args.group) (g.P.Plant.view c.args.plant.now) (g.P.Plant.view c.read.new.self) Failed c.in-Failed.ensures.acts (start_of c.args.per c.args.group) c.read.new.into c.in-Failed.ensures.content
+
+pub returns-in-Halted-clause-looks : goal.returns-in-Halted-clause-looks
+returns-in-Halted-clause-looks g c =
+    looks_read g.P.Plant.tells c.args.by.0 (volume_of c.args.per c.args.group) (g.P.Plant.view c.args.plant.now) (g.P.Plant.view c.read.new.self) Halted c.in-Halted.ensures.acts (start_of c.args.per c.args.group) c.read.new.into c.in-Halted.ensures.content
 
 pub returns-in-Done-clause-read : goal.returns-in-Done-clause-read
 returns-in-Done-clause-read g c is told =

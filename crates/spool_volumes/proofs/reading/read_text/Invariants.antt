@@ -4,4 +4,4 @@ use Rattle.spool_volumes.proofs.reading.read_text.Given as goal
 
 -- the records of the groups so far are the lines
 abbrev pub invariant-loop-group : goal.invariant-loop-group
-invariant-loop-group g l = HaveRead g.P.Plant.tells (g.P.Plant.view l.initial.plant) (g.P.Plant.view l.plant) l.per (take l.group-index l.groups) l.lines
+invariant-loop-group g l = HaveRead g.P.Plant.tells l.by.0 (g.P.Plant.view l.initial.plant) (g.P.Plant.view l.plant) l.per (take l.group-index l.groups) l.lines
