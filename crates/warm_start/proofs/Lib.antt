@@ -6,3 +6,4 @@ pub mod Starts
 pub mod Inspections
 pub mod Again
 pub mod Begun
+mod Spooling

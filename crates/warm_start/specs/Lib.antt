@@ -4,3 +4,4 @@ pub mod Choosing
 pub mod Judging
 pub mod Starting
 pub mod Inspecting
+pub mod Spooled

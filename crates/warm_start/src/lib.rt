@@ -8,6 +8,7 @@ mod levels;
 mod looking;
 mod queues;
 mod sound_pages;
+mod spooled;
 mod starting;
 
 pub use choosing::{Good, Judged, Start, StartNo, choose, judge};
@@ -15,4 +16,5 @@ pub use inspecting::{found, law_of_looks, looked};
 pub use levels::law_of_found_levels;
 pub use queues::{law_of_found_queues, queue_of};
 pub use sound_pages::usable;
+pub use spooled::spooled_queue;
 pub use starting::{Started, Unstarted, warm};

@@ -25,8 +25,8 @@ fn used_slots<T: Copy>(alloc: Global, slots: &[Option<T>]) -> Result<Vec<T>, All
     Ok(records)
 }
 
-// The records of jobs, in ascending order.
-fn jobs_in_order(alloc: Global, slots: &[Option<JobRec>]) -> Result<Vec<JobRec>, NoMemory>
+/// The records of jobs, in ascending order.
+pub(crate) fn jobs_in_order(alloc: Global, slots: &[Option<JobRec>]) -> Result<Vec<JobRec>, NoMemory>
     ensures { IfOk result (λ records. records.items ≡ in_order (λ r. r.order) (used slots.now)) }
 {
     let mut records = used_slots(alloc, slots)?;
@@ -34,8 +34,8 @@ fn jobs_in_order(alloc: Global, slots: &[Option<JobRec>]) -> Result<Vec<JobRec>,
     Ok(records)
 }
 
-// The records of outputs, in ascending order.
-fn outputs_in_order(alloc: Global, slots: &[Option<OutRec>]) -> Result<Vec<OutRec>, NoMemory>
+/// The records of outputs, in ascending order.
+pub(crate) fn outputs_in_order(alloc: Global, slots: &[Option<OutRec>]) -> Result<Vec<OutRec>, NoMemory>
     ensures { IfOk result (λ records. records.items ≡ in_order (λ r. r.order) (used slots.now)) }
 {
     let mut records = used_slots(alloc, slots)?;

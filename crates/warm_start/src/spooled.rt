@@ -1,0 +1,190 @@
+//! The queue of tables with the texts that the spool volumes give.
+ghost use Rattle.std.specs.Prelude.{◌≡◌, ◌≤◌, ◌<◌, ◌^◌, ℕ, false, [], All, List, map, length, IfOk};
+ghost use Rattle.lay_bytes.specs.declared.records.JobRec.{JobRec as JobRecLem};
+ghost use Rattle.lay_bytes.specs.declared.records.OutRec.{OutRec as OutRecLem};
+ghost use Rattle.mas_types.specs.declared.ids.Dev.TheVariants.{Spool};
+ghost use Rattle.mas_types.specs.declared.queues.Thing.{Thing as ThingLem};
+ghost use Rattle.mas_types.specs.declared.queues.Thing.TheVariants.{Deck, Output as OutputOf};
+ghost use Rattle.mas_types.specs.Queue.{line_count};
+ghost use Rattle.spool_disk.specs.declared.plant.Part.TheVariants.{Disk};
+ghost use Rattle.spool_disk.specs.View.{disk_now};
+ghost use Rattle.spool_volumes.specs.Volumes.{volume_of};
+ghost use Rattle.spool_volumes.specs.Looks.{lie_on_lost, LooksAt};
+ghost use Rattle.track_groups.specs.Places.{groups_of as groups_of_lem};
+ghost use Rattle.ckpt_pages.specs.Shape.{HasSpelling};
+ghost use Rattle.ckpt_pages.specs.QueueOf.{used, in_order, job_with, output_with};
+ghost use Rattle.mas_complex.specs.Meaning.{no_deck, no_print};
+ghost use Rattle.mas_complex.specs.Texts.{lost_now, spools_at, bytes_on, IsReadUnless, HasTexts};
+ghost use Rattle.warm_start.specs.Spooled.{bare_job, bare_output, IsQueueOf, AreRoomy};
+
+use crate::looking::OPERATOR;
+use crate::queues::{jobs_in_order, outputs_in_order};
+use ckpt_pages::Tables;
+use mas_types::{
+    Copied, Dev, GroupNo, Job, List, NoMemory, Output, Owner, Queue, Text, Thing,
+};
+use spool_disk::{Part, Plant};
+use spool_volumes::read_text;
+use std::alloc::Global;
+use track_groups::{groups_of, law_of_places};
+
+// Syncs each volume of the configuration. One that fails is lost.
+fn sync_volumes<P: Plant>(plant: &mut P, volumes: u8)
+    ensures looks { LooksAt P.tells 0 (P.view plant.old) (P.view plant.new) }
+    ensures synced { P.tells → (n : ℕ) → 1 ≤ n → n ≤ volumes → (P.view plant.new).lost (Disk (Spool n)) ≡ false → (disk_now (P.view plant.new) (Spool n)).unsynced ≡ [] }
+{
+    for volume in 0..volumes {
+        let _act = plant.sync(OPERATOR, Dev::Spool(volume + 1));
+    }
+}
+
+// The device on which a group lies.
+fn device(per: u32, group: GroupNo) -> Dev
+    requires some { 1 ≤ per }
+    requires numbered { volume_of per group ≤ 255 }
+    ensures { result ≡ Spool (volume_of per group) }
+{
+    Dev::Spool((group.0 / per) as u8 + 1)
+}
+
+// Whether one of the groups lies on a volume that is lost.
+fn is_on_lost<P: Plant>(plant: &P, per: u32, groups: &[GroupNo]) -> bool
+    requires some { 1 ≤ per }
+    requires numbered { All (λ g. volume_of per g ≤ 255) groups.now }
+    ensures { result ≡ lie_on_lost (P.view plant.now) per groups.now }
+{
+    for group in groups {
+        if plant.lost(Part::Disk(device(per, *group))) {
+            return true;
+        }
+    }
+    false
+}
+
+// The groups of a deck or an output, each of which is there.
+fn groups_in(alloc: Global, owners: &[Owner], thing: Thing) -> Result<List<GroupNo>, NoMemory>
+    requires { length owners.now < 2 ^ 32 }
+    ensures groups { IfOk result (λ groups. groups ≡ groups_of_lem thing owners.now) }
+    ensures numbered { (t : ThingLem) → All (λ g. g.0 < length owners.now) (groups_of_lem t owners.now) }
+{
+    law_of_places();
+    groups_of(alloc, owners, thing)
+}
+
+// The text of a deck or an output, of which its slot counts so many lines. With a group on a volume that is lost it is gone.
+fn text_in<P: Plant>(
+    alloc: Global,
+    plant: &mut P,
+    tables: &Tables,
+    thing: Thing,
+    count: u16,
+) -> Result<Text, NoMemory>
+    requires spelling { HasSpelling tables.now }
+    requires roomy { AreRoomy (P.view plant.old) tables.now.config }
+    ensures looks { LooksAt P.tells 0 (P.view plant.old) (P.view plant.new) }
+    ensures count { IfOk result (λ text. line_count text ≡ count) }
+    ensures text { IfOk result (λ text. P.tells → IsReadUnless (lost_now (P.view plant.new)) (bytes_on (spools_at (P.view plant.old) (P.view plant.old).now)) tables.now.config.groups text (groups_of_lem thing tables.now.owners)) }
+{
+    let per = tables.config.groups as u32;
+    let groups = groups_in(alloc, tables.owners.as_slice(), thing)?;
+    if is_on_lost(plant, per, groups.as_slice()) {
+        return Ok(Text::Gone(GroupNo(0), count));
+    }
+    // The operator is never stopped.
+    let Ok(text) = read_text(alloc, plant, OPERATOR, per, groups.as_slice(), count) else {
+        return Err(NoMemory);
+    };
+    Ok(text)
+}
+
+// The jobs of tables with their texts.
+fn jobs_on<P: Plant>(alloc: Global, plant: &mut P, tables: &Tables) -> Result<List<Job>, NoMemory>
+    requires spelling { HasSpelling tables.now }
+    requires roomy { AreRoomy (P.view plant.old) tables.now.config }
+    ensures looks { LooksAt P.tells 0 (P.view plant.old) (P.view plant.new) }
+    ensures jobs { IfOk result (λ jobs. map bare_job jobs ≡ map (job_with no_deck) (in_order (λ r. r.order) (used tables.now.jobs))) }
+    ensures texts { IfOk result (λ jobs. P.tells → All (λ j. IsReadUnless (lost_now (P.view plant.new)) (bytes_on (spools_at (P.view plant.old) (P.view plant.old).now)) tables.now.config.groups j.text (groups_of_lem (Deck j.number) tables.now.owners)) jobs) }
+{
+    let records = jobs_in_order(alloc, tables.jobs.as_slice())?;
+    let mut jobs = List::new(alloc);
+    for record in records.as_slice() {
+        let text = text_in(alloc, plant, tables, Thing::Deck(record.number), record.cards)?;
+        jobs.push(Job {
+            number: record.number,
+            fields: record.fields,
+            phase: record.phase,
+            cancelled: record.cancelled,
+            busy: record.busy,
+            text,
+        })?;
+    }
+    Ok(jobs)
+}
+
+// The outputs of tables with their texts.
+fn outputs_on<P: Plant>(
+    alloc: Global,
+    plant: &mut P,
+    tables: &Tables,
+) -> Result<List<Output>, NoMemory>
+    requires spelling { HasSpelling tables.now }
+    requires roomy { AreRoomy (P.view plant.old) tables.now.config }
+    ensures looks { LooksAt P.tells 0 (P.view plant.old) (P.view plant.new) }
+    ensures outputs { IfOk result (λ outputs. map bare_output outputs ≡ map (output_with no_print) (in_order (λ r. r.order) (used tables.now.outputs))) }
+    ensures texts { IfOk result (λ outputs. P.tells → All (λ o. IsReadUnless (lost_now (P.view plant.new)) (bytes_on (spools_at (P.view plant.old) (P.view plant.old).now)) tables.now.config.groups o.text (groups_of_lem (OutputOf o.job o.index) tables.now.owners)) outputs) }
+{
+    let records = outputs_in_order(alloc, tables.outputs.as_slice())?;
+    let mut outputs = List::new(alloc);
+    for record in records.as_slice() {
+        let thing = Thing::Output(record.job, record.index);
+        let text = text_in(alloc, plant, tables, thing, record.lines)?;
+        outputs.push(Output {
+            job: record.job,
+            index: record.index,
+            class: record.class,
+            dest: record.dest,
+            forms: record.forms,
+            copies: record.copies,
+            held: record.held,
+            busy: record.busy,
+            mark: record.mark,
+            text,
+        })?;
+    }
+    Ok(outputs)
+}
+
+/// The queue of tables with its texts, as they stand on the spool volumes: the operator syncs each volume of the configuration,
+/// and then reads the text of each deck and each output.
+///
+/// Each volume that isn't lost has room for its groups. A text is what its groups hold, with as many lines as its slot counts,
+/// and all of it is synced; only of one with a group on a volume that is lost at the end is no more said than the number of its
+/// lines. No byte of a device is changed, and no volume is lost but by an act that failed.
+///
+/// NoMemory comes for want of memory alone.
+pub fn spooled_queue<P: Plant>(
+    alloc: Global,
+    plant: &mut P,
+    tables: &Tables,
+) -> Result<Queue, NoMemory>
+    requires spelling { HasSpelling tables.now }
+    requires roomy { AreRoomy (P.view plant.old) tables.now.config }
+    ensures looks { LooksAt P.tells 0 (P.view plant.old) (P.view plant.new) }
+    ensures queue { IfOk result (IsQueueOf tables.now) }
+    ensures texts { IfOk result (λ queue. P.tells → HasTexts (lost_now (P.view plant.new)) (spools_at (P.view plant.new) (P.view plant.new).now) tables.now.config.groups queue) }
+{
+    law_of_places();
+    sync_volumes(plant, tables.config.volumes);
+    let jobs = jobs_on(alloc, plant, tables)?;
+    let outputs = outputs_on(alloc, plant, tables)?;
+    Ok(Queue {
+        config: tables.config,
+        jobs,
+        outputs,
+        owners: tables.owners.copy(alloc)?,
+        members: tables.members.copy(alloc)?,
+        routes: tables.routes.copy(alloc)?,
+        lines: tables.lines.copy(alloc)?,
+        last: tables.last,
+    })
+}
