@@ -52,24 +52,24 @@ fewer old new per [] goes none = refl
 fewer old new per (g ∷ gs) goes none =
     both (old.lost (DiskPart (Spool (volume_of per g)))) (new.lost (DiskPart (Spool (volume_of per g)))) (lie_on_lost old per gs) (lie_on_lost new per gs) (goes.lost (DiskPart (Spool (volume_of per g)))) (λ later. fewer old new per gs goes later) none
   where
-  both : (a b c d : Bool) → (a ≡ true → b ≡ true) → (d ≡ false → c ≡ false) → (b || d) ≡ false → (a || c) ≡ false
-  both true true c d stays later none = absurd (cc)
-  both true false c d stays later none = let is : false ≡ true = stays refl in absurd (cc)
-  both false true c d stays later none = absurd (cc)
-  both false false c d stays later none = later none
+    both : (a b c d : Bool) → (a ≡ true → b ≡ true) → (d ≡ false → c ≡ false) → (b || d) ≡ false → (a || c) ≡ false
+    both true true c d stays later none = absurd (cc)
+    both true false c d stays later none = let is : false ≡ true = stays refl in absurd (cc)
+    both false true c d stays later none = absurd (cc)
+    both false false c d stays later none = later none
 
 all_false : (test : GroupNo → Bool) (gs : List GroupNo) → list_any test gs ≡ false → All (λ (g : GroupNo). test g ≡ false) gs
 all_false test [] none = All-nil (λ (g : GroupNo). test g ≡ false)
 all_false test (g ∷ gs) none =
     All-cons (λ (h : GroupNo). test h ≡ false) g gs (left (test g) (list_any test gs) none) (all_false test gs (right (test g) (list_any test gs) none))
   where
-  left : (a b : Bool) → (a || b) ≡ false → a ≡ false
-  left true b e = absurd (cc)
-  left false b e = refl
+    left : (a b : Bool) → (a || b) ≡ false → a ≡ false
+    left true b e = absurd (cc)
+    left false b e = refl
 
-  right : (a b : Bool) → (a || b) ≡ false → b ≡ false
-  right true b e = absurd (cc)
-  right false b e = e
+    right : (a b : Bool) → (a || b) ≡ false → b ≡ false
+    right true b e = absurd (cc)
+    right false b e = e
 
 pub roomy_later : (old new : View) (config : Config) → Goes old new → AreRoomy old config → AreRoomy new config
 roomy_later old new config goes roomy n some le there =

@@ -26,7 +26,10 @@ fn used_slots<T: Copy>(alloc: Global, slots: &[Option<T>]) -> Result<Vec<T>, All
 }
 
 /// The records of jobs, in ascending order.
-pub(crate) fn jobs_in_order(alloc: Global, slots: &[Option<JobRec>]) -> Result<Vec<JobRec>, NoMemory>
+pub(crate) fn jobs_in_order(
+    alloc: Global,
+    slots: &[Option<JobRec>],
+) -> Result<Vec<JobRec>, NoMemory>
     ensures { IfOk result (λ records. records.items ≡ in_order (λ r. r.order) (used slots.now)) }
 {
     let mut records = used_slots(alloc, slots)?;
@@ -35,7 +38,10 @@ pub(crate) fn jobs_in_order(alloc: Global, slots: &[Option<JobRec>]) -> Result<V
 }
 
 /// The records of outputs, in ascending order.
-pub(crate) fn outputs_in_order(alloc: Global, slots: &[Option<OutRec>]) -> Result<Vec<OutRec>, NoMemory>
+pub(crate) fn outputs_in_order(
+    alloc: Global,
+    slots: &[Option<OutRec>],
+) -> Result<Vec<OutRec>, NoMemory>
     ensures { IfOk result (λ records. records.items ≡ in_order (λ r. r.order) (used slots.now)) }
 {
     let mut records = used_slots(alloc, slots)?;

@@ -20,9 +20,7 @@ ghost use Rattle.warm_start.specs.Spooled.{bare_job, bare_output, IsQueueOf, Are
 use crate::looking::OPERATOR;
 use crate::queues::{jobs_in_order, outputs_in_order};
 use ckpt_pages::Tables;
-use mas_types::{
-    Copied, Dev, GroupNo, Job, List, NoMemory, Output, Owner, Queue, Text, Thing,
-};
+use mas_types::{Copied, Dev, GroupNo, Job, List, NoMemory, Output, Owner, Queue, Text, Thing};
 use spool_disk::{Part, Plant};
 use spool_volumes::read_text;
 use std::alloc::Global;
@@ -108,7 +106,13 @@ fn jobs_on<P: Plant>(alloc: Global, plant: &mut P, tables: &Tables) -> Result<Li
     let records = jobs_in_order(alloc, tables.jobs.as_slice())?;
     let mut jobs = List::new(alloc);
     for record in records.as_slice() {
-        let text = text_in(alloc, plant, tables, Thing::Deck(record.number), record.cards)?;
+        let text = text_in(
+            alloc,
+            plant,
+            tables,
+            Thing::Deck(record.number),
+            record.cards,
+        )?;
         jobs.push(Job {
             number: record.number,
             fields: record.fields,

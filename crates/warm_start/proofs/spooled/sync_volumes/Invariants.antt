@@ -1,4 +1,3 @@
-use Rattle.std.proofs.Common.{ℕ}
 use Rattle.spool_volumes.specs.Looks.{LooksAt}
 use Rattle.warm_start.proofs.Spooling.{AreClean}
 use Rattle.warm_start.proofs.spooled.sync_volumes.Given as goal
