@@ -4,17 +4,17 @@ ghost use Rattle.mas_types.specs.Limits.{members_most};
 ghost use Rattle.ckpt_pages.specs.Shape.{HasSpelling};
 ghost use Rattle.queue_effect.specs.Standing.{AreFit};
 
-use ckpt_pages::sound;
+use ckpt_pages::{Tables, sound};
 use mas_types::{
-    Class, Command, JobFields, JobNo, Lines, MemberId, Name8, NoMemory, Prio, Refusal, Reply,
-    default_config,
+    Class, Command, JobFields, JobNo, Lines, MemberId, Name8, NoMemory, Owner, Prio, Refusal,
+    Reply, default_config,
 };
 use member_node::{Member, blank, reply_lines};
 use queue_effect::law_of_fit_tables;
 use queue_laws::fitness::is_fit;
 use std::alloc::Global;
 use std::test::Fail;
-use table_commands::is_plain;
+use table_commands::{carry_out, is_plain};
 
 const ONE: JobNo = JobNo(1);
 
@@ -126,5 +126,58 @@ fn a_display_has_its_lines_before_the_closing_line(rt: HostRuntime) -> Result<()
         b"SYSA 00002 - JOB00001 A A 05 INPUT SYSA -".as_slice()
     );
     assert_eq!(rt; line_at(&lines, 1), b"SYSA 00002 OK 1".as_slice());
+    Ok(())
+}
+
+// Carries out a command, and gives the number of its reply, 0 for another one.
+fn carried(alloc: Global, tables: &mut Tables, command: &Command) -> u32
+    requires fit { AreFit tables.old }
+    requires spelling { HasSpelling tables.old }
+    ensures fit { AreFit tables.new }
+    ensures spelling { HasSpelling tables.new }
+{
+    if tables.order > 1_000_000 || !is_fit(command) || matches!(command, Command::Restart) {
+        return 0;
+    }
+    match carry_out(alloc, tables, MemberId(1), command) {
+        Ok(Reply::Job(job)) => job.0,
+        Ok(Reply::Count(count)) => count,
+        _ => 0,
+    }
+}
+
+// Cards of 79 bytes, of which a group holds 51.
+fn cards(alloc: Global, count: u8) -> Result<Lines, NoMemory> {
+    let mut cards = Lines::new(alloc);
+    for _card in 0..count {
+        cards.push(&[b'/'; 79])?;
+    }
+    Ok(cards)
+}
+
+fn is_deck(tables: &Tables, group: usize, place: u16) -> bool {
+    matches!(
+        tables.owners.as_slice().get(group),
+        Some(Owner::Deck { job: ONE, place: at }) if *at == place
+    )
+}
+
+#[test]
+fn a_deck_is_entered_in_its_groups(rt: HostRuntime) -> Result<(), Fail> {
+    let alloc = rt.alloc();
+    let mut tables = first_member(alloc)?.checkpoint.tables;
+    let begin = Command::Begin { fields: fields() };
+    let enter = Command::Enter {
+        job: ONE,
+        text: cards(alloc, 52)?,
+    };
+    assert_eq!(rt; carried(alloc, &mut tables, &begin), 1);
+    assert_eq!(rt; carried(alloc, &mut tables, &Command::Take { want: 3 }), 3);
+    assert_eq!(rt; carried(alloc, &mut tables, &enter), 1);
+    assert!(rt; is_deck(&tables, 0, 0) && is_deck(&tables, 1, 1));
+    assert_eq!(rt;
+        carried(alloc, &mut tables, &Command::Take { want: 511 }),
+        510
+    );
     Ok(())
 }

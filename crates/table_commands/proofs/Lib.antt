@@ -1,3 +1,4 @@
+pub mod BroughtLemmas
 pub mod StoredLemmas
 pub mod NamedLemmas
 pub mod GivenLemmas

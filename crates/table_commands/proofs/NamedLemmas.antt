@@ -1,4 +1,4 @@
--- The members that a refusal of a plain command names.
+-- The members that a refusal names.
 use Rattle.std.proofs.Common.{◌≡◌, ℕ, ◌≤◌, ◌==◌, nat_le, nat_lt, not, ◌&&◌, Bool, true, false, List, [], ◌∷◌, length, Option, Some, None, refl}
 use Rattle.mas_types.specs.declared.ids.MemberId.{MemberId}
 use Rattle.mas_types.specs.declared.ids.JobNo.{JobNo}
@@ -18,16 +18,16 @@ use Rattle.mas_types.specs.Closings.{IsRefusalNamed, IsReplyNamed}
 use Rattle.mas_types.specs.Ids.{is_somebody, same_member}
 use Rattle.mas_types.specs.Lists.{first_some}
 use Rattle.mas_types.specs.Owners.{free_count}
-use Rattle.mas_types.specs.Queue.{has_number, has_key, is_of, is_member, knows_node, job_at, output_at, printing_at, in_input, in_convert, in_purge, first_in, total}
+use Rattle.mas_types.specs.Queue.{has_number, has_key, is_of, is_member, knows_node, job_at, output_at, printing_at, current_on, in_input, in_convert, in_purge, first_in, total}
 use Rattle.mas_types.specs.Row.{Row, settled, done, refused_where, none_such, wrong_phase, job_not_at, output_not_at, output_elsewhere}
 use Rattle.mas_types.specs.Selection.{for_printer}
 use Rattle.mas_types.specs.Shown.{shown_of_none}
 use Rattle.mas_types.specs.Step.{row_of}
-use Rattle.mas_types.specs.Commands.Input.{not_in_input, drop_row}
+use Rattle.mas_types.specs.Commands.Input.{not_in_input, not_entered, drop_row}
+use Rattle.mas_types.specs.Commands.Life.{runs}
 use Rattle.mas_types.specs.Commands.Operator.{is_past_cancel, past_cancel, printing_elsewhere, has_yet_to_run}
 use Rattle.mas_types.specs.Commands.Printing.{in_use, not_printed}
 use Rattle.queue_laws.proofs.Finds.{test_cases, find-All}
-use Rattle.table_commands.specs.Stored.{is_plain}
 use Rattle.table_commands.proofs.StoredLemmas.{IsStored, IsStoredJob, IsStoredOutput}
 
 abbrev OneNamed : Option Refusal → Type 0
@@ -91,18 +91,22 @@ all_printed (Some x) = where_holds (nat_lt x.mark (total x)) refusal.Nothing tt
 
 -- ROWS
 
-module _ (deck : JobNo → ℕ → Text) (print : JobNo → OutNo → ℕ → Text) (Q : Queue) (s : IsStored deck print Q) where
+module _ (Deck : JobNo → Text → Type 0) (Print : JobNo → OutNo → Text → Type 0) (Q : Queue) (s : IsStored Deck Print Q) where
   job_few : (n : JobNo) (j : Job) → job_at Q n ≡ Some j → j.busy.0 ≤ 8
-  job_few n j found = (find-All (IsStoredJob deck) (has_number n) Q.jobs j s.jobs found).0.spelled.busy
+  job_few n j found = (find-All (IsStoredJob Deck) (has_number n) Q.jobs j s.jobs found).0.spelled.busy
 
   output_few : (n : JobNo) (i : OutNo) (o : Output) → output_at Q n i ≡ Some o → o.busy.0 ≤ 8
-  output_few n i o found = (find-All (IsStoredOutput print) (has_key n i) Q.outputs o s.outputs found).0.spelled.busy
+  output_few n i o found = (find-All (IsStoredOutput Print) (has_key n i) Q.outputs o s.outputs found).0.spelled.busy
 
   elsewhere_few : (m : MemberId) (n : JobNo) (o : Output) → printing_elsewhere Q m n ≡ Some o → o.busy.0 ≤ 8
-  elsewhere_few m n o found = (find-All (IsStoredOutput print) (λ x. is_of n x && is_somebody x.busy && not (same_member x.busy m)) Q.outputs o s.outputs found).0.spelled.busy
+  elsewhere_few m n o found = (find-All (IsStoredOutput Print) (λ x. is_of n x && is_somebody x.busy && not (same_member x.busy m)) Q.outputs o s.outputs found).0.spelled.busy
 
   input_named : (m : MemberId) (n : JobNo) → AreNamed (not_in_input Q m n)
   input_named m n = (without_such refusal.NoJob tt (job_at Q n), (in_phase in_input (job_at Q n), (job_at_member m (job_at Q n) (job_few n), tt)))
+
+  entered_named : (m : MemberId) (n : JobNo) (text : List (List ℕ)) → AreNamed (not_entered Q m n text)
+  entered_named m n text =
+      (without_such refusal.NoJob tt (job_at Q n), (in_phase in_input (job_at Q n), (job_at_member m (job_at Q n) (job_few n), (where_holds _ refusal.Nothing tt, tt))))
 
   drop_named : (m : MemberId) (n : JobNo) → AreNamed (drop_row Q m n).refusals
   drop_named m n = test_cases (n.0 == 0) (AreNamed (drop_row Q m n).refusals) (λ e. rw e tt) (λ e. rw e (input_named m n))
@@ -117,43 +121,44 @@ module _ (deck : JobNo → ℕ → Text) (print : JobNo → OutNo → ℕ → Te
   ours_named : (m : MemberId) (n : JobNo) (i : OutNo) → AreNamed (none_such refusal.NoOutput (output_at Q n i) ∷ output_elsewhere m (output_at Q n i) ∷ [])
   ours_named m n i = (without_such refusal.NoOutput tt (output_at Q n i), (output_of_others m (output_at Q n i) (output_few n i), tt))
 
-  row_named : (m : MemberId) → m.0 ≤ 8 → (c : Command) → is_plain c ≡ true → AreNamed (row_of Q m c).refusals × IsReplyNamed (row_of Q m c).answer
-  row_named m few (command.Begin fields) plain =
+  row_named : (m : MemberId) → m.0 ≤ 8 → (c : Command) → AreNamed (row_of Q m c).refusals × IsReplyNamed (row_of Q m c).answer
+  row_named m few (command.Begin fields) =
       ((where_holds (not (knows_node Q fields.node)) refusal.NoNode tt, (where_holds (nat_le Q.config.jobs (length Q.jobs)) refusal.JobsFull tt, tt)), tt)
-  row_named m few (command.Take want) plain = ((where_holds (free_count Q.owners == 0) refusal.SpoolFull tt, tt), tt)
-  row_named m few (command.Drop job) plain = (drop_named m job, tt)
-  row_named m few (command.Enter job text) plain = absurd (cc)
-  row_named m few command.TakeConvert plain = ((without_such refusal.Nothing tt _, tt), tt)
-  row_named m few (command.Converted job) plain = ((without_such refusal.NoJob tt (job_at Q job), (in_phase in_convert (job_at Q job), (job_at_member m (job_at Q job) (job_few job), tt))), tt)
-  row_named m few command.TakeExec plain = ((without_such refusal.Nothing tt _, tt), tt)
-  row_named m few (command.Ended job specs) plain = absurd (cc)
-  row_named m few command.Gather plain = ((without_such refusal.Nothing tt _, tt), tt)
-  row_named m few command.Pick plain = ((member_in_use m (printing_at Q m) few, (without_such refusal.Nothing tt (for_printer Q m), tt)), tt)
-  row_named m few (command.Mark job index at) plain =
+  row_named m few (command.Take want) = ((where_holds (free_count Q.owners == 0) refusal.SpoolFull tt, tt), tt)
+  row_named m few (command.Drop job) = (drop_named m job, tt)
+  row_named m few (command.Enter job text) = (entered_named m job text, tt)
+  row_named m few command.TakeConvert = ((without_such refusal.Nothing tt _, tt), tt)
+  row_named m few (command.Converted job) = ((without_such refusal.NoJob tt (job_at Q job), (in_phase in_convert (job_at Q job), (job_at_member m (job_at Q job) (job_few job), tt))), tt)
+  row_named m few command.TakeExec = ((without_such refusal.Nothing tt _, tt), tt)
+  row_named m few (command.Ended job specs) =
+      ((without_such refusal.NoJob tt (job_at Q job), (in_phase runs (job_at Q job), (job_at_member m (job_at Q job) (job_few job), (where_holds _ refusal.OutputsFull tt, (where_holds _ refusal.Nothing tt, tt))))), tt)
+  row_named m few command.Gather = ((without_such refusal.Nothing tt _, tt), tt)
+  row_named m few command.Pick = ((member_in_use m (printing_at Q m) few, (without_such refusal.Nothing tt (for_printer Q m), tt)), tt)
+  row_named m few (command.Mark job index at) =
       ((without_such refusal.NoOutput tt (output_at Q job index), (output_at_member m (output_at Q job index) (output_few job index), tt)), tt)
-  row_named m few (command.Done job index) plain =
+  row_named m few (command.Done job index) =
       ((without_such refusal.NoOutput tt (output_at Q job index), (output_at_member m (output_at Q job index) (output_few job index), (all_printed (output_at Q job index), tt))), tt)
-  row_named m few command.Purge plain = ((without_such refusal.Nothing tt (first_in in_purge Q), tt), tt)
-  row_named m few (command.Hold job) plain = ((without_such refusal.NoJob tt (job_at Q job), tt), tt)
-  row_named m few (command.Release job) plain = ((without_such refusal.NoJob tt (job_at Q job), tt), tt)
-  row_named m few (command.Cancel job) plain =
+  row_named m few command.Purge = ((without_such refusal.Nothing tt (first_in in_purge Q), tt), tt)
+  row_named m few (command.Hold job) = ((without_such refusal.NoJob tt (job_at Q job), tt), tt)
+  row_named m few (command.Release job) = ((without_such refusal.NoJob tt (job_at Q job), tt), tt)
+  row_named m few (command.Cancel job) =
       ((without_such refusal.NoJob tt (job_at Q job), (before_cancel Q (job_at Q job), (output_of_others m (printing_elsewhere Q m job) (elsewhere_few m job), tt))), tt)
-  row_named m few (command.SetPrio job prio) plain = ((without_such refusal.NoJob tt (job_at Q job), (in_phase (λ p. not (in_purge p)) (job_at Q job), tt)), tt)
-  row_named m few (command.SetClass job class) plain = ((without_such refusal.NoJob tt (job_at Q job), (in_phase has_yet_to_run (job_at Q job), tt)), tt)
-  row_named m few (command.Out job) plain = ((without_such refusal.NoJob tt (job_at Q job), tt), tt)
-  row_named m few (command.CancelOut job index) plain = (ours_named m job index, tt)
-  row_named m few (command.SetOut job index class) plain = (ours_named m job index, tt)
-  row_named m few (command.Show w) plain = (shown_named w, tt)
-  row_named m few (command.SetInit classes) plain = (tt, tt)
-  row_named m few (command.SetPrt classes forms lines) plain = (tt, tt)
-  row_named m few (command.Back lines) plain = ((without_such refusal.Nothing tt (printing_at Q m), tt), tt)
-  row_named m few (command.Forward lines) plain = ((without_such refusal.Nothing tt (printing_at Q m), tt), tt)
-  row_named m few (command.Reset of_member) plain = ((where_holds (not (is_member Q.config of_member)) refusal.NoMember tt, tt), tt)
-  row_named m few command.Restart plain = (tt, tt)
-  row_named m few (command.Load line) plain = absurd (cc)
-  row_named m few (command.Sent line number) plain = absurd (cc)
-  row_named m few (command.Got line number job text) plain = absurd (cc)
+  row_named m few (command.SetPrio job prio) = ((without_such refusal.NoJob tt (job_at Q job), (in_phase (λ p. not (in_purge p)) (job_at Q job), tt)), tt)
+  row_named m few (command.SetClass job class) = ((without_such refusal.NoJob tt (job_at Q job), (in_phase has_yet_to_run (job_at Q job), tt)), tt)
+  row_named m few (command.Out job) = ((without_such refusal.NoJob tt (job_at Q job), tt), tt)
+  row_named m few (command.CancelOut job index) = (ours_named m job index, tt)
+  row_named m few (command.SetOut job index class) = (ours_named m job index, tt)
+  row_named m few (command.Show w) = (shown_named w, tt)
+  row_named m few (command.SetInit classes) = (tt, tt)
+  row_named m few (command.SetPrt classes forms lines) = (tt, tt)
+  row_named m few (command.Back lines) = ((without_such refusal.Nothing tt (printing_at Q m), tt), tt)
+  row_named m few (command.Forward lines) = ((without_such refusal.Nothing tt (printing_at Q m), tt), tt)
+  row_named m few (command.Reset of_member) = ((where_holds (not (is_member Q.config of_member)) refusal.NoMember tt, tt), tt)
+  row_named m few command.Restart = (tt, tt)
+  row_named m few (command.Load line) = ((without_such refusal.Nothing tt _, tt), tt)
+  row_named m few (command.Sent line number) = ((where_holds _ (refusal.Again number) tt, (where_holds _ (refusal.Gap number _) tt, (without_such refusal.Nothing tt (current_on Q line), tt))), tt)
+  row_named m few (command.Got line number job text) = ((where_holds _ (refusal.Again number) tt, (where_holds _ (refusal.Gap number _) tt, entered_named m job text)), tt)
 
   -- a reply names members that there may be
-  pub step_named : (m : MemberId) → m.0 ≤ 8 → (c : Command) → is_plain c ≡ true → IsReplyNamed (done Q (row_of Q m c)).1
-  step_named m few c plain = let both = row_named m few c plain in reply_named Q (row_of Q m c) both.0 both.1
+  pub step_named : (m : MemberId) → m.0 ≤ 8 → (c : Command) → IsReplyNamed (done Q (row_of Q m c)).1
+  step_named m few c = let both = row_named m few c in reply_named Q (row_of Q m c) both.0 both.1

@@ -1,5 +1,5 @@
--- The queue of tables whose texts are told by their jobs and outputs.
-use Rattle.std.specs.Prelude.{◌≡◌, ℕ, ◌≤◌, Bool, true, false, []}
+-- The queue of tables whose texts are told by their jobs and outputs, and what a command carries.
+use Rattle.std.specs.Prelude.{◌≡◌, ℕ, ◌≤◌, ◌<◌, ◌^◌, Bool, true, false, [], All}
 use Rattle.mas_types.specs.declared.ids.MemberId.{MemberId}
 use Rattle.mas_types.specs.declared.ids.JobNo.{JobNo}
 use Rattle.mas_types.specs.declared.ids.OutNo.{OutNo}
@@ -10,6 +10,7 @@ use Rattle.mas_types.specs.declared.commands.Command.TheVariants as command
 use Rattle.mas_types.specs.declared.queues.Queue.{Queue}
 use Rattle.mas_types.specs.Limits.{members_most}
 use Rattle.mas_types.specs.Queue.{line_count}
+use Rattle.lay_bytes.specs.Limits.{copies_most}
 use Rattle.lay_bytes.specs.declared.records.JobRec.{JobRec}
 use Rattle.lay_bytes.specs.declared.records.OutRec.{OutRec}
 use Rattle.ckpt_pages.specs.declared.tables.Tables.{Tables}
@@ -45,3 +46,10 @@ is_plain (command.Load line) = false
 is_plain (command.Sent line number) = false
 is_plain (command.Got line number job text) = false
 is_plain _ = true
+
+-- the numbers that a command carries are within the ranges of their types
+abbrev pub IsInRange : Command → Type 0
+IsInRange (command.Ended job specs) = All (λ s. s.copies ≤ copies_most) specs
+IsInRange (command.Sent line number) = number < 2 ^ 32
+IsInRange (command.Got line number job text) = number < 2 ^ 32
+IsInRange _ = Unit {0}

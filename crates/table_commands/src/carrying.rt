@@ -1,0 +1,78 @@
+//! Any command on tables that have a spelling, the commands that bring a text among them.
+ghost use Rattle.std.specs.Prelude.{◌≡◌, ◌≤◌, ◌<◌, ◌+◌, ◌^◌, All, IfOk, OnErr};
+ghost use Rattle.mas_types.specs.Closings.{IsReplyNamed};
+ghost use Rattle.mas_types.specs.Fit.{IsFit};
+ghost use Rattle.mas_types.specs.Step.{row_of};
+ghost use Rattle.lay_bytes.specs.Limits.{copies_most};
+ghost use Rattle.ckpt_pages.specs.Shape.{HasSpelling};
+ghost use Rattle.queue_effect.specs.Standing.{AreFit, IfRefused, Plays};
+ghost use Rattle.table_commands.specs.Stored.{IsGiver, IsInRange};
+
+use ckpt_pages::Tables;
+use mas_types::{Command, MemberId, NoMemory, OutSpec, Reply};
+use queue_effect::{apply, law_of_standing};
+use std::alloc::Global;
+
+/// Carries out any command of a member, or Restart by the operator: for each queue that the tables stand for, with whatever texts, they
+/// stand for what the command leaves of it, and the reply is the command's. The tables can be spelled by pages as before. A
+/// refused command, or one for which there is no memory, changes nothing.
+///
+/// The orders of jobs and outputs are below the next one, which is below 2^63 - 32, and what is busy is so at nobody or at one of
+/// at most eight members. What the command carries is within the limits.
+pub fn carry_out(
+    alloc: Global,
+    tables: &mut Tables,
+    by: MemberId,
+    command: &Command,
+) -> Result<Reply, NoMemory>
+    requires spelling { HasSpelling tables.old }
+    requires fit { AreFit tables.old }
+    requires order { tables.old.order + 32 < 2 ^ 63 }
+    requires giver { IsGiver by command.now }
+    requires command { IsFit command.now }
+    ensures plays { IfOk result (λ reply. Plays tables.old tables.new (λ Q. row_of Q by command.now) reply) }
+    ensures named { IfOk result IsReplyNamed }
+    ensures refused { IfOk result (λ reply. IfRefused reply (tables.new ≡ tables.old)) }
+    ensures no_memory { OnErr result (tables.new ≡ tables.old) }
+    ensures spelling { HasSpelling tables.new }
+    ensures fit { AreFit tables.new }
+    ensures order { tables.new.order ≤ tables.old.order + 32 }
+    ensures config { tables.new.config ≡ tables.old.config }
+{
+    law_of_standing();
+    read_numbers(command);
+    match apply(alloc, tables, by, command) {
+        Ok(reply) => Ok(reply),
+        Err(NoMemory) => Err(NoMemory),
+    }
+}
+
+/// Reads the numbers of a command that tables keep, which are within the ranges of their types.
+fn read_numbers(command: &Command)
+    ensures { IsInRange command.now }
+{
+    match command {
+        Command::Ended { outputs, .. } => read_copies(outputs.as_slice()),
+        Command::Sent { number, .. } => {
+            let _number = *number;
+        }
+        Command::Got { number, .. } => {
+            let _number = *number;
+        }
+        _ => {}
+    }
+}
+
+fn read_copies(outputs: &[OutSpec])
+    ensures { All (λ s. s.copies ≤ copies_most) outputs.now }
+{
+    for output in outputs {
+        read_copies_of(output);
+    }
+}
+
+fn read_copies_of(output: &OutSpec)
+    ensures { output.now.copies ≤ copies_most }
+{
+    let _copies = output.copies;
+}
