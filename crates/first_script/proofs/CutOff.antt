@@ -1,24 +1,29 @@
 -- Decks that the end of the script cuts off.
-use Rattle.std.proofs.Common.{◌≡◌, ◌∙◌, sym, ap, subst, inl, inr, ◌⊎◌, ℕ, ◌+◌, Bool, true, false, ◌||◌, Option, Some, None, Ok, Err, List, [], ◌∷◌, ◌++◌, length, length-append, append_assoc, codes, refl, arith}
-use Rattle.std.specs.List.{list_any}
+use Rattle.std.proofs.Common.{◌≡◌, ◌∙◌, sym, ap, subst, inl, inr, ◌⊎◌, ℕ, ◌+◌, Bool, true, false, ◌||◌, if◌then◌else◌, Option, Some, None, Ok, Err, List, [], ◌∷◌, ◌++◌, length, take, drop, length-append, append_assoc, codes, refl, arith}
+use Rattle.std.specs.List.{list_any, list_all}
 use Rattle.std.proofs.lemmas.Slice.Eq.{bytes_eq-Decides}
 use Rattle.mas_types.specs.declared.answers.LineCause.{LineCause}
-use Rattle.mas_types.specs.declared.answers.LineCause.TheVariants.{End, NotBuilt}
+use Rattle.mas_types.specs.declared.answers.LineCause.TheVariants.{End, NotBuilt, Text, Verb, Command as BadCommand}
+use Rattle.std.specs.Prelude.{Result}
+use Rattle.mas_types.specs.declared.commands.Command.{Command as AnyCommand}
 use Rattle.mas_types.specs.declared.ids.Dev.{Dev}
 use Rattle.mas_types.specs.declared.ids.Dev.TheVariants.{Ckpt1, Ckpt2}
 use Rattle.mas_types.specs.declared.ids.Name8.{Name8}
 use Rattle.mas_types.specs.declared.jobs.JobFields.{JobFields}
+use Rattle.mas_types.specs.Names.{is_blank}
+use Rattle.operator_cmds.specs.Typed.{command_in}
 use Rattle.first_script.specs.declared.asked.Asked.{Asked}
-use Rattle.first_script.specs.declared.asked.Asked.TheVariants.{Deck as AskedDeck, Lose}
+use Rattle.first_script.specs.declared.asked.Asked.TheVariants.{Deck as AskedDeck, Lose, Command}
 use Rattle.first_script.specs.declared.asked.BadLine.{BadLine}
 use Rattle.first_script.specs.declared.turns.Place.{Place}
 use Rattle.first_script.specs.declared.turns.Place.TheVariants.{Outside, Deck, Job, Last}
 use Rattle.first_script.specs.declared.cards.JobCard.{JobCard}
 use Rattle.first_script.specs.Cards.{job_of, is_last_card}
+use Rattle.first_script.specs.Commands.{given_by, is_command_line, is_line, is_played, typed, typed_in, word_bytes}
 use Rattle.first_script.specs.Grammar.{IsScript, IsCutOff}
 use Rattle.first_script.specs.Script.{Said, is_deck_end, is_deck_line, is_blank_line, is_lose_line, said_at, misplaced, with_step, fields_of, refused}
 use Rattle.first_script.specs.LineByLine.{with_steps}
-use Rattle.first_script.proofs.Forms.{split_if, card_case, Closes, with_card, with_last, with_deck, blank_front, step_first, deck_not_blank, front_said}
+use Rattle.first_script.proofs.Forms.{split_if, card_case, given_case, Closes, with_card, with_last, with_deck, blank_front, step_first, deck_not_blank, front_said}
 use Rattle.first_script.proofs.Ahead.{with_bad}
 
 -- one refusal is another only at its line and by its cause
@@ -31,6 +36,24 @@ same_refusal m n why other e =
 
 not_end : (m n : ℕ) (P : Type 0) → refused m NotBuilt ≡ refused n End → P
 not_end m n P e = absurd (let causes : NotBuilt ≡ End = (same_refusal m n NotBuilt End e).1 in cc)
+
+-- A LINE THAT BEGINS A COMMAND IS NEVER REFUSED BY END
+
+-- by cases of a test
+not_by : (b : Bool) (one other : Result AnyCommand LineCause) → (one ≡ Err End → ⊥) → (other ≡ Err End → ⊥) → (if b then one else other) ≡ Err End → ⊥
+not_by true one other left right e = left e
+not_by false one other left right e = right e
+
+typed_not_end : (found : Option AnyCommand) → typed found ≡ Err End → ⊥
+typed_not_end None e = cc
+typed_not_end (Some given) e = not_by (is_played given) (Ok given) (Err NotBuilt) (λ h. cc) (λ h. cc) e
+
+given_not_end : (line : List ℕ) → given_by line ≡ Err End → ⊥
+given_not_end line e =
+    let text = drop 5 line in
+    not_by (is_line line) (typed_in text) (Err Text)
+    (λ h. not_by (list_all is_blank (drop (word_bytes text) text)) (typed (command_in (take (word_bytes text) text))) (Err Verb) (typed_not_end (command_in (take (word_bytes text) text))) (λ k. cc) h)
+    (λ h. cc) e
 
 -- behind a step a line is refused as it is without it
 pub bad_ahead : (step : Asked) (said : Said) (n : ℕ) (why : LineCause) → with_step step said ≡ refused n why → said ≡ refused n why
@@ -112,6 +135,11 @@ lose_cut : (own : Name8) (dev : Dev) (m n : ℕ) (line : List ℕ) (lines : List
 lose_cut own dev m n line lines is cut =
     before own m n (line ∷ []) lines (λ front steps played. (Lose dev ∷ steps, step_first own (line ∷ []) front (Lose dev) steps (line, is, refl) played)) cut
 
+command_cut : (own : Name8) (given : AnyCommand) (m n : ℕ) (line : List ℕ) (lines : List (List ℕ)) → is_command_line line ≡ true → given_by line ≡ Ok given → IsCutOffFrom own (m + 1) lines n
+    → IsCutOffFrom own m (line ∷ lines) n
+command_cut own given m n line lines is gives cut =
+    before own m n (line ∷ []) lines (λ front steps played. (Command given ∷ steps, step_first own (line ∷ []) front (Command given) steps (line, is, gives, refl) played)) cut
+
 no_end_ahead : (line : List ℕ) (lines : List (List ℕ)) → is_deck_end line ≡ false → list_any is_deck_end lines ≡ false → list_any is_deck_end (line ∷ lines) ≡ false
 no_end_ahead line lines here rest = rw (here, rest) refl
 
@@ -149,7 +177,11 @@ cut_form own Outside m n (line ∷ lines) e =
     (λ one more. lose_cut own Ckpt1 m n line lines one (cut_form own Outside (m + 1) n lines (bad_ahead (Lose Ckpt1) (said_at own Outside (m + 1) lines) n End more)))
     (λ one last. split_if (is_lose_line Ckpt2 line) _ _ (refused n End) (IsCutOffFrom own m (line ∷ lines) n)
     (λ two more. lose_cut own Ckpt2 m n line lines two (cut_form own Outside (m + 1) n lines (bad_ahead (Lose Ckpt2) (said_at own Outside (m + 1) lines) n End more)))
-    (λ two bad. not_end m n (IsCutOffFrom own m (line ∷ lines) n) bad) last) rest) other) e
+    (λ two left. split_if (is_command_line line) _ _ (refused n End) (IsCutOffFrom own m (line ∷ lines) n)
+    (λ three found. given_case m (given_by line) (said_at own Outside (m + 1) lines) (refused n End) (IsCutOffFrom own m (line ∷ lines) n)
+    (λ given gives more. command_cut own given m n line lines three gives (cut_form own Outside (m + 1) n lines (bad_ahead (Command given) (said_at own Outside (m + 1) lines) n End more)))
+    (λ why none bad. absurd (given_not_end line (none ∙ ap (λ (w : LineCause). let r : Result AnyCommand LineCause = Err w in r) (same_refusal m n why End bad).1))) found)
+    (λ three bad. not_end m n (IsCutOffFrom own m (line ∷ lines) n) bad) left) last) rest) other) e
 cut_form own (Deck start) m n (card ∷ lines) e =
     card_case own start m card lines (refused n End) (IsCut own (Deck start) m (card ∷ lines) start n) (job_of card)
     (λ job is more. in_deck own (Deck start) (Job start job) m n start card lines (job_not_end card job is)

@@ -6,19 +6,22 @@ use Rattle.std.proofs.lemmas.List.{take-append-drop}
 use Rattle.std.proofs.lemmas.Slice.Eq.{bytes_eq-Decides}
 use Rattle.mas_types.specs.declared.answers.LineCause.{LineCause}
 use Rattle.mas_types.specs.declared.answers.LineCause.TheVariants.{End, NotBuilt}
+use Rattle.std.specs.Prelude.{Result}
+use Rattle.mas_types.specs.declared.commands.Command.{Command as AnyCommand}
 use Rattle.mas_types.specs.declared.ids.Dev.{Dev}
 use Rattle.mas_types.specs.declared.ids.Dev.TheVariants.{Ckpt1, Ckpt2, Spool}
 use Rattle.mas_types.specs.declared.ids.Name8.{Name8}
 use Rattle.mas_types.specs.declared.jobs.JobFields.{JobFields}
 use Rattle.first_script.specs.declared.asked.Asked.{Asked}
-use Rattle.first_script.specs.declared.asked.Asked.TheVariants.{Deck as AskedDeck, Lose}
+use Rattle.first_script.specs.declared.asked.Asked.TheVariants.{Deck as AskedDeck, Lose, Command}
 use Rattle.first_script.specs.declared.turns.Place.{Place}
 use Rattle.first_script.specs.declared.turns.Place.TheVariants.{Outside, Deck, Job, Last}
 use Rattle.first_script.specs.declared.cards.JobCard.{JobCard}
 use Rattle.mas_types.specs.Names.{is_blank}
 use Rattle.first_script.specs.Cards.{job_of, is_last_card, is_text_then_blanks}
+use Rattle.first_script.specs.Commands.{given_by, is_command_line}
 use Rattle.first_script.specs.Grammar.{AreCards, IsDeck, IsStep, IsScript}
-use Rattle.first_script.specs.Script.{Said, is_deck_end, is_deck_line, is_blank_line, is_lose_line, said_at, misplaced, with_step, fields_of, refused}
+use Rattle.first_script.specs.Script.{Said, is_deck_end, is_deck_line, is_blank_line, is_lose_line, said_at, misplaced, with_command, with_step, fields_of, refused}
 use Rattle.first_script.specs.LineByLine.{with_steps}
 use Rattle.first_script.proofs.Jobs.{both_true}
 use Rattle.first_script.proofs.Ahead.{with_none}
@@ -45,6 +48,12 @@ pub ahead : (step : Asked) (said : Said) (steps : List Asked) → with_step step
 ahead step (Err bad) steps e = absurd (cc)
 ahead step (Ok more) [] e = absurd (cc)
 ahead step (Ok more) (first ∷ steps) e = (cc, cc)
+
+-- by cases of what a line gives that begins a command
+pub given_case : (n : ℕ) (found : Result AnyCommand LineCause) (said is : Said) (P : Type 0) → ((given : AnyCommand) → found ≡ Ok given → with_step (Command given) said ≡ is → P)
+    → ((why : LineCause) → found ≡ Err why → refused n why ≡ is → P) → with_command n found said ≡ is → P
+given_case n (Ok given) said is P go bad e = go given refl e
+given_case n (Err why) said is P go bad e = bad why refl e
 
 -- HOW A DECK ENDS, FROM A PLACE IN IT
 
@@ -125,6 +134,12 @@ lose_front own dev line lines said [] is none go = absurd none
 lose_front own dev line lines said (first ∷ steps) is (same, rest) go =
     ([], line ∷ [], lines, refl, subst (IsStep own (line ∷ [])) (sym same) (line, is, refl), go steps rest, refl)
 
+command_front : (own : Name8) (given : AnyCommand) (line : List ℕ) (lines : List (List ℕ)) (said : Said) (steps : List Asked) → is_command_line line ≡ true → given_by line ≡ Ok given
+    → IsAhead (Command given) said steps → ((more : List Asked) → said ≡ Ok more → IsScript own lines more) → IsScript own (line ∷ lines) steps
+command_front own given line lines said [] is gives none go = absurd none
+command_front own given line lines said (first ∷ steps) is gives (same, rest) go =
+    ([], line ∷ [], lines, refl, subst (IsStep own (line ∷ [])) (sym same) (line, is, gives, refl), go steps rest, refl)
+
 card_front : (own : Name8) (start : ℕ) (job : JobCard) (card : List ℕ) (lines : List (List ℕ)) (steps : List Asked) → job_of card ≡ Some job
     → IsRest own (Job start job) lines steps → IsRest own (Deck start) (card ∷ lines) steps
 card_front own start job card lines [] is none = absurd none
@@ -175,7 +190,12 @@ said_form own Outside n (line ∷ lines) steps e =
     (λ one more. lose_front own Ckpt1 line lines (said_at own Outside (n + 1) lines) steps one (ahead (Lose Ckpt1) (said_at own Outside (n + 1) lines) steps more) (λ more said. said_form own Outside (n + 1) lines more said))
     (λ one last. split_if (is_lose_line Ckpt2 line) _ _ (Ok steps) (IsScript own (line ∷ lines) steps)
     (λ two more. lose_front own Ckpt2 line lines (said_at own Outside (n + 1) lines) steps two (ahead (Lose Ckpt2) (said_at own Outside (n + 1) lines) steps more) (λ more said. said_form own Outside (n + 1) lines more said))
-    (λ two bad. not_ok n NotBuilt steps (IsScript own (line ∷ lines) steps) bad) last) rest) other) e
+    (λ two left. split_if (is_command_line line) _ _ (Ok steps) (IsScript own (line ∷ lines) steps)
+    (λ three found. given_case n (given_by line) (said_at own Outside (n + 1) lines) (Ok steps) (IsScript own (line ∷ lines) steps)
+    (λ given gives more. command_front own given line lines (said_at own Outside (n + 1) lines) steps three gives (ahead (Command given) (said_at own Outside (n + 1) lines) steps more)
+    (λ more said. said_form own Outside (n + 1) lines more said))
+    (λ why none bad. not_ok n why steps (IsScript own (line ∷ lines) steps) bad) found)
+    (λ three bad. not_ok n NotBuilt steps (IsScript own (line ∷ lines) steps) bad) left) last) rest) other) e
 said_form own (Deck start) n (card ∷ lines) steps e =
     card_case own start n card lines (Ok steps) (IsRest own (Deck start) (card ∷ lines) steps) (job_of card)
     (λ job is more. card_front own start job card lines steps is (said_form own (Job start job) (n + 1) lines steps more))
@@ -289,12 +309,32 @@ lose_said own n Ckpt2 line lines is =
     rw (blank, deck, first, is) refl
 lose_said own n (Spool volume) line lines is = absurd (cc)
 
+-- a line that begins a command begins with SYSA and `$`
+command_first : (line : List ℕ) → is_command_line line ≡ true → line ≡ codes "SYSA $" ++ drop 6 line
+command_first line is =
+    let front : take 6 line ≡ codes "SYSA $" = sym ((bytes_eq-Decides (codes "SYSA $") (take 6 line)).0 is) in
+    sym (take-append-drop 6 line) ∙ ap (λ (l : List ℕ). l ++ drop 6 line) front
+
+-- what a line that gives a command says
+command_said : (own : Name8) (n : ℕ) (given : AnyCommand) (line : List ℕ) (lines : List (List ℕ)) → is_command_line line ≡ true → given_by line ≡ Ok given
+    → said_at own Outside n (line ∷ lines) ≡ with_step (Command given) (said_at own Outside (n + 1) lines)
+command_said own n given line lines is gives =
+    let whole : line ≡ codes "SYSA $" ++ drop 6 line = command_first line is in
+    let blank : is_blank_line line ≡ false = rw whole (and_false (nat_le (length (codes "SYSA $" ++ drop 6 line)) 255 && true)) in
+    let deck : is_deck_line line ≡ false = rw whole (other_text (nat_le (length (codes "SYSA $" ++ drop 6 line)) 255) (list_all is_blank (drop 9 (codes "SYSA $" ++ drop 6 line)))) in
+    let one : is_lose_line Ckpt1 line ≡ false = rw whole (other_text (nat_le (length (codes "SYSA $" ++ drop 6 line)) 255) (list_all is_blank (drop 10 (codes "SYSA $" ++ drop 6 line)))) in
+    let two : is_lose_line Ckpt2 line ≡ false = rw whole (other_text (nat_le (length (codes "SYSA $" ++ drop 6 line)) 255) (list_all is_blank (drop 10 (codes "SYSA $" ++ drop 6 line)))) in
+    rw (blank, deck, one, two, is, gives) refl
+
 -- what one step says
 step_said : (own : Name8) (n : ℕ) (part : List (List ℕ)) (step : Asked) (lines : List (List ℕ)) → IsStep own part step
     → said_at own Outside n (part ++ lines) ≡ with_step step (said_at own Outside (n + length part) lines)
 step_said own n part (Lose dev) lines (line, is, whole) =
     ap (λ (l : List (List ℕ)). said_at own Outside n (l ++ lines)) whole ∙ lose_said own n dev line lines is
     ∙ ap (λ (l : List (List ℕ)). with_step (Lose dev) (said_at own Outside (n + length l) lines)) (sym whole)
+step_said own n part (Command given) lines (line, is, gives, whole) =
+    ap (λ (l : List (List ℕ)). said_at own Outside n (l ++ lines)) whole ∙ command_said own n given line lines is gives
+    ∙ ap (λ (l : List (List ℕ)). with_step (Command given) (said_at own Outside (n + length l) lines)) (sym whole)
 step_said own n part (AskedDeck fields) lines d =
     let job = d.job in
     let all = d.deck ∷ (d.cards ++ d.close ∷ []) in

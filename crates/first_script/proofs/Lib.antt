@@ -2,6 +2,7 @@ pub mod Parts
 pub mod Rest
 pub mod Jobs
 pub mod Words
+pub mod CommandFits
 pub mod Ahead
 pub mod Forms
 pub mod CutOff

@@ -1,20 +1,24 @@
 -- The first line with which no script that is played may begin.
-use Rattle.std.proofs.Common.{◌≡◌, ◌∙◌, sym, ap, inl, inr, ℕ, suc, ◌+◌, ◌-◌, ◌<◌, ◌⊎◌, false, None, Ok, List, [], ◌∷◌, ◌++◌, length, take, codes, refl, arith}
+use Rattle.std.proofs.Common.{◌≡◌, ◌∙◌, sym, ap, inl, inr, ℕ, suc, ◌+◌, ◌-◌, ◌<◌, ◌≤◌, subst, Err, ◌⊎◌, false, None, Ok, List, [], ◌∷◌, ◌++◌, length, take, codes, refl, arith}
 use Rattle.std.specs.List.{list_any}
 use Rattle.mas_types.specs.declared.answers.LineCause.{LineCause}
 use Rattle.mas_types.specs.declared.answers.LineCause.TheVariants.{End, NotBuilt}
+use Rattle.std.specs.Prelude.{Result, slice_index_or}
+use Rattle.mas_types.specs.declared.commands.Command.{Command as AnyCommand}
 use Rattle.mas_types.specs.declared.ids.Dev.TheVariants.{Ckpt1, Ckpt2}
 use Rattle.mas_types.specs.declared.ids.Name8.{Name8}
 use Rattle.first_script.specs.declared.asked.Asked.{Asked}
-use Rattle.first_script.specs.declared.asked.Asked.TheVariants.{Deck as AskedDeck, Lose}
+use Rattle.first_script.specs.declared.asked.Asked.TheVariants.{Deck as AskedDeck, Lose, Command}
 use Rattle.first_script.specs.declared.turns.Place.{Place}
 use Rattle.first_script.specs.declared.turns.Place.TheVariants.{Outside, Deck, Job, Last}
 use Rattle.first_script.specs.declared.cards.JobCard.{JobCard}
 use Rattle.mas_types.specs.Names.{padded}
 use Rattle.first_script.specs.Cards.{class_a, job_of, is_last_card}
+use Rattle.first_script.specs.Commands.{given_by, is_command_line}
 use Rattle.first_script.specs.Grammar.{IsFirstOutside}
-use Rattle.first_script.specs.Script.{Said, is_deck_end, is_deck_line, is_blank_line, is_lose_line, said_at, misplaced, with_step, fields_of, refused}
-use Rattle.first_script.proofs.Forms.{split_if, card_case, not_ok, misplaced_not_ok, with_job, with_no_job, IsAhead, ahead, said_form, form_said}
+use Rattle.first_script.specs.Laws.{GivesNone}
+use Rattle.first_script.specs.Script.{Said, is_deck_end, is_deck_line, is_blank_line, is_lose_line, said_at, misplaced, with_command, with_step, fields_of, refused}
+use Rattle.first_script.proofs.Forms.{split_if, card_case, given_case, not_ok, misplaced_not_ok, with_job, with_no_job, IsAhead, ahead, said_form, form_said}
 use Rattle.first_script.proofs.CutOff.{same_refusal, bad_ahead}
 
 -- The line of this number is the first that nothing may follow to be played, where the first of the lines has the number `from`.
@@ -72,27 +76,46 @@ at_once said from line lines rest steps fine bad = record {
   bad = bad;
 }
 
--- a line is refused by End, or by NotBuilt as the first
+-- a line is refused by NotBuilt, or by the cause of a command that it doesn't give
+abbrev IsCause : List ℕ → LineCause → Type 0
+IsCause line why = (why ≡ NotBuilt) ⊎ GivesNone line why
+
+-- a line is refused by End, or as the first, which stands behind so many others
 abbrev IsRefusal : (List (List ℕ) → Said) → ℕ → List (List ℕ) → ℕ → LineCause → Type 0
-IsRefusal said from lines number why = (why ≡ End) ⊎ ((why ≡ NotBuilt) × IsFirstBad said from lines number)
+IsRefusal said from lines number why = (why ≡ End) ⊎ (IsCause (slice_index_or lines (number - from) []) why × IsFirstBad said from lines number)
+
+-- the line of a number stands one place nearer behind a line
+one_nearer : (from number : ℕ) (line : List ℕ) (lines : List (List ℕ)) → from + 1 ≤ number → slice_index_or lines (number - (from + 1)) [] ≡ slice_index_or (line ∷ lines) (number - from) []
+one_nearer from number line lines later =
+    let more : number - from ≡ suc (number - (from + 1)) = omega (arith, later) in
+    rw more refl
 
 refused_behind : (said more : List (List ℕ) → Said) (from number : ℕ) (why : LineCause) (line : List ℕ) (lines : List (List ℕ)) → ((rest : List (List ℕ)) → Follow (said (line ∷ rest)) (more rest))
     → IsRefusal more (from + 1) lines number why → IsRefusal said from (line ∷ lines) number why
 refused_behind said more from number why line lines same (inl is) = inl is
-refused_behind said more from number why line lines same (inr (is, first)) = inr (is, in_front said more from number line lines same first)
+refused_behind said more from number why line lines same (inr (is, first)) =
+    let later : from + 1 ≤ number = omega (arith, first.numbered) in
+    inr (subst (λ (l : List ℕ). IsCause l why) (one_nearer from number line lines later) is, in_front said more from number line lines same first)
 
 -- refused at its own line
-refused_at : (said : List (List ℕ) → Said) (from number : ℕ) (why : LineCause) (lines : List (List ℕ)) → refused from NotBuilt ≡ refused number why → IsFirstBad said from lines from → IsRefusal said from lines number why
-refused_at said from number why lines e first =
-    let same = same_refusal from number NotBuilt why e in
-    let at : from ≡ number = same.0 in
-    inr (sym same.1, rw (← at) first)
+refused_by : (said : List (List ℕ) → Said) (from number : ℕ) (cause why : LineCause) (line : List ℕ) (lines : List (List ℕ)) → IsCause line cause → refused from cause ≡ refused number why → IsFirstBad said from (line ∷ lines) from
+    → IsRefusal said from (line ∷ lines) number why
+refused_by said from number cause why line lines is e first =
+    let same = same_refusal from number cause why e in
+    let here : from - from ≡ 0 = omega arith in
+    let at : slice_index_or (line ∷ lines) (from - from) [] ≡ line = rw here refl in
+    subst (λ (n : ℕ). IsRefusal said from (line ∷ lines) n why) same.0
+    (inr (subst (λ (l : List ℕ). IsCause l why) (sym at) (subst (IsCause line) same.1 is), first))
+
+refused_at : (said : List (List ℕ) → Said) (from number : ℕ) (why : LineCause) (line : List ℕ) (lines : List (List ℕ)) → refused from NotBuilt ≡ refused number why → IsFirstBad said from (line ∷ lines) from
+    → IsRefusal said from (line ∷ lines) number why
+refused_at said from number why line lines e first = refused_by said from number NotBuilt why line lines (inl refl) e first
 
 misplaced_first : (said : List (List ℕ) → Said) (start from number : ℕ) (why : LineCause) (card : List ℕ) (lines : List (List ℕ)) → misplaced start from (card ∷ lines) ≡ refused number why
     → IsFirstBad said from (card ∷ lines) from → IsRefusal said from (card ∷ lines) number why
 misplaced_first said start from number why card lines e first =
     split_if (list_any is_deck_end (card ∷ lines)) _ _ (refused number why) (IsRefusal said from (card ∷ lines) number why)
-    (λ ends bad. refused_at said from number why (card ∷ lines) bad first)
+    (λ ends bad. refused_at said from number why card lines bad first)
     (λ none cut. inl (sym (same_refusal start number End why cut).1)) e
 
 no_job : (own : Name8) (start n : ℕ) (card : List ℕ) (rest : List (List ℕ)) (steps : List Asked) → job_of card ≡ None → said_at own (Deck start) n (card ∷ rest) ≡ Ok steps → ⊥
@@ -125,8 +148,14 @@ refusal own Outside n number why (line ∷ lines) e =
     (λ one last. split_if (is_lose_line Ckpt2 line) _ _ (refused number why) (IsRefusal (said_at own Outside n) n (line ∷ lines) number why)
     (λ two more. refused_behind (said_at own Outside n) (said_at own Outside (n + 1)) n number why line lines (λ rest. follow_step (Lose Ckpt2) _ _ (rw (blank, deck, one, two) refl))
     (refusal own Outside (n + 1) number why lines (bad_ahead (Lose Ckpt2) (said_at own Outside (n + 1) lines) number why more)))
-    (λ two bad. refused_at (said_at own Outside n) n number why (line ∷ lines) bad
-    (at_once (said_at own Outside n) n line lines [] [] refl (λ rest steps e. not_ok n NotBuilt steps ⊥ (rw (blank, deck, one, two) at e)))) last) rest) other) e
+    (λ two left. split_if (is_command_line line) _ _ (refused number why) (IsRefusal (said_at own Outside n) n (line ∷ lines) number why)
+    (λ three found. given_case n (given_by line) (said_at own Outside (n + 1) lines) (refused number why) (IsRefusal (said_at own Outside n) n (line ∷ lines) number why)
+    (λ given gives more. refused_behind (said_at own Outside n) (said_at own Outside (n + 1)) n number why line lines (λ rest. follow_step (Command given) _ _ (rw (blank, deck, one, two, three, gives) refl))
+    (refusal own Outside (n + 1) number why lines (bad_ahead (Command given) (said_at own Outside (n + 1) lines) number why more)))
+    (λ cause none bad. refused_by (said_at own Outside n) n number cause why line lines (inr (three, none)) bad
+    (at_once (said_at own Outside n) n line lines [] [] refl (λ rest steps e. not_ok n cause steps ⊥ (rw (blank, deck, one, two, three, none) at e)))) found)
+    (λ three bad. refused_at (said_at own Outside n) n number why line lines bad
+    (at_once (said_at own Outside n) n line lines [] [] refl (λ rest steps e. not_ok n NotBuilt steps ⊥ (rw (blank, deck, one, two, three) at e)))) left) last) rest) other) e
 refusal own (Deck start) n number why (card ∷ lines) e =
     card_case own start n card lines (refused number why) (IsRefusal (said_at own (Deck start) n) n (card ∷ lines) number why) (job_of card)
     (λ job is more. refused_behind (said_at own (Deck start) n) (said_at own (Job start job) (n + 1)) n number why card lines (λ rest. follow_same _ _ (with_job own start n card rest job is))
@@ -160,8 +189,9 @@ outside_is own number lines first =
       outside = rw next (λ begins. first.bad begins.0 begins.1 (form_said own 1 (take (suc first.place) lines ++ begins.0) begins.1 begins.2));
     }
 
-pub refused_first : (own : Name8) (number : ℕ) (why : LineCause) (lines : List (List ℕ)) → said_at own Outside 1 lines ≡ refused number why → (why ≡ End) ⊎ ((why ≡ NotBuilt) × IsFirstOutside own lines number)
+pub refused_first : (own : Name8) (number : ℕ) (why : LineCause) (lines : List (List ℕ)) → said_at own Outside 1 lines ≡ refused number why
+    → (why ≡ End) ⊎ (((why ≡ NotBuilt) ⊎ GivesNone (slice_index_or lines (number - 1) []) why) × IsFirstOutside own lines number)
 refused_first own number why lines e = by_form (refusal own Outside 1 number why lines e) where
-  by_form : IsRefusal (said_at own Outside 1) 1 lines number why → (why ≡ End) ⊎ ((why ≡ NotBuilt) × IsFirstOutside own lines number)
+  by_form : IsRefusal (said_at own Outside 1) 1 lines number why → (why ≡ End) ⊎ (((why ≡ NotBuilt) ⊎ GivesNone (slice_index_or lines (number - 1) []) why) × IsFirstOutside own lines number)
   by_form (inl is) = inl is
   by_form (inr (is, first)) = inr (is, outside_is own number lines first)

@@ -1,5 +1,5 @@
 -- Lists cut at the first element that passes a test.
-use Rattle.std.proofs.Common.{◌≡◌, ℕ, ◌+◌, ◌<◌, ◌≤◌, Bool, true, false, cond, Some, None, List, [], ◌∷◌, length, take, drop, refl, arith, nat_lt, not}
+use Rattle.std.proofs.Common.{◌≡◌, ℕ, suc, ◌+◌, ◌<◌, ◌≤◌, Bool, true, false, cond, Some, None, List, [], ◌∷◌, length, take, drop, refl, arith, nat_lt, not}
 use Rattle.std.proofs.lemmas.Bool.{ltb-true, ltb-false}
 use Rattle.std.proofs.lemmas.List.Splits.{slice_split_first, length-slice_split}
 use Rattle.std.specs.List.{position, position_or_len, slice_split, onto_first}
@@ -37,6 +37,20 @@ pub split_nowhere : (p : ℕ → Bool) (text : List ℕ) → position p text ≡
 split_nowhere p text e =
     let out : nat_lt (position_or_len p text) (length text) ≡ false = none_is (nat_lt (position_or_len p text) (length text)) (position_or_len p text) e in
     split_whole p text (ltb-false _ _ out)
+
+place_step : (v : Bool) (n m : ℕ) → n ≤ m → cond (not v) (1 + n) 0 ≤ suc m
+place_step true n m h = omega arith
+place_step false n m h = omega (arith, h)
+
+place_within : (p : ℕ → Bool) (text : List ℕ) → position_or_len p text ≤ length text
+place_within p [] = omega arith
+place_within p (b ∷ text) = place_step (p b) (position_or_len p text) (length text) (place_within p text)
+
+-- a list without such an element has all of it before the first
+pub all_before : (p : ℕ → Bool) (text : List ℕ) → position p text ≡ None → length text ≡ position_or_len p text
+all_before p text e =
+    let out : nat_lt (position_or_len p text) (length text) ≡ false = none_is (nat_lt (position_or_len p text) (length text)) (position_or_len p text) e in
+    omega (arith, ltb-false _ _ out, place_within p text)
 
 more_lines : (part : List ℕ) (parts : List (List ℕ)) → 0 < length parts → lines_of_parts (part ∷ parts) ≡ strip_carriage_return part ∷ lines_of_parts parts
 more_lines part [] h = absurd (omega arith)

@@ -1,5 +1,5 @@
 -- The scripts that are played, as a grammar.
-use Rattle.std.specs.Prelude.{◌≡◌, ℕ, ◌+◌, ◌-◌, ◌≤◌, ◌⊎◌, Bool, true, false, List, [], ◌∷◌, ◌++◌, length, take, slice_index, codes}
+use Rattle.std.specs.Prelude.{◌≡◌, ℕ, ◌+◌, ◌-◌, ◌≤◌, ◌⊎◌, Bool, true, false, Ok, List, [], ◌∷◌, ◌++◌, length, take, slice_index, codes}
 use Rattle.std.specs.List.{list_all, list_any}
 use Rattle.mas_types.specs.declared.ids.Name8.{Name8}
 use Rattle.mas_types.specs.declared.jobs.JobFields.{JobFields}
@@ -10,6 +10,7 @@ use Rattle.first_script.specs.declared.asked.Asked.{Asked}
 use Rattle.first_script.specs.declared.asked.Asked.TheVariants as asked
 use Rattle.first_script.specs.declared.cards.JobCard.{JobCard}
 use Rattle.first_script.specs.Cards.{is_letter, is_last_card, class_a}
+use Rattle.first_script.specs.Commands.{given_by, is_command_line}
 use Rattle.first_script.specs.Script.{is_blank_line, is_deck_line, is_deck_end, is_lose_line, fields_of}
 
 -- 1 to so many bytes of a kind
@@ -58,6 +59,7 @@ pub record IsDeck (own : Name8) (lines : List (List ℕ)) (fields : JobFields) :
 abbrev pub IsStep : Name8 → List (List ℕ) → Asked → Type 0
 IsStep own lines (asked.Deck fields) = IsDeck own lines fields
 IsStep own lines (asked.Lose dev) = (line : List ℕ) × (is_lose_line dev line ≡ true) × (lines ≡ line ∷ [])
+IsStep own lines (asked.Command given) = (line : List ℕ) × (is_command_line line ≡ true) × (given_by line ≡ Ok given) × (lines ≡ line ∷ [])
 
 -- a script that is played: steps one after another, with blank lines round them
 abbrev pub IsScript : Name8 → List (List ℕ) → List Asked → Type 0

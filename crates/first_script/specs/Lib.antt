@@ -1,4 +1,5 @@
 pub mod Cards
+pub mod Commands
 pub mod Script
 pub mod LineByLine
 pub mod Steps

@@ -2,13 +2,14 @@
 use Rattle.std.specs.Prelude.{◌≡◌, ℕ, List, map, Ok, Err}
 use Rattle.mas_types.specs.declared.ids.Name8.{Name8}
 use Rattle.first_script.specs.declared.asked.Asked.{Asked}
-use Rattle.first_script.specs.declared.asked.Asked.TheVariants.{Deck, Lose}
+use Rattle.first_script.specs.declared.asked.Asked.TheVariants.{Deck, Lose, Command}
 use Rattle.first_script.specs.Script.{Said, read_as}
 
 -- a deck's job at the node and from it
 abbrev pub step_at : Name8 → Asked → Asked
 step_at node (Deck fields) = Deck (record fields { node = node; origin = node })
 step_at node (Lose dev) = Lose dev
+step_at node (Command given) = Command given
 
 abbrev pub at_node : Name8 → List Asked → List Asked
 at_node node asked = map (step_at node) asked

@@ -5,6 +5,7 @@ use Rattle.std.specs.Str.{bytes_eq}
 use Rattle.std.specs.Str.Lines.{strip_carriage_return}
 use Rattle.mas_types.specs.declared.answers.LineCause.{LineCause}
 use Rattle.mas_types.specs.declared.answers.LineCause.TheVariants.{End, NotBuilt}
+use Rattle.mas_types.specs.declared.commands.Command.{Command}
 use Rattle.mas_types.specs.declared.ids.Dev.{Dev}
 use Rattle.mas_types.specs.declared.ids.Dev.TheVariants.{Ckpt1, Ckpt2, Spool}
 use Rattle.mas_types.specs.declared.ids.Name8.{Name8}
@@ -18,6 +19,7 @@ use Rattle.first_script.specs.declared.turns.Place.{Place}
 use Rattle.first_script.specs.declared.turns.Place.TheVariants as place
 use Rattle.first_script.specs.declared.cards.JobCard.{JobCard}
 use Rattle.first_script.specs.Cards.{class_a, is_text_then_blanks, job_of, is_last_card}
+use Rattle.first_script.specs.Commands.{given_by, is_command_line}
 
 abbrev pub is_line_end : ℕ → Bool
 is_line_end b = b == 10
@@ -77,6 +79,11 @@ abbrev pub with_step : Asked → Said → Said
 with_step step (Ok steps) = Ok (step ∷ steps)
 with_step step (Err bad) = Err bad
 
+-- a command in front, where the line of this number gives one; else it is refused
+abbrev pub with_command : ℕ → Result Command LineCause → Said → Said
+with_command number (Ok given) said = with_step (asked.Command given) said
+with_command number (Err why) said = refused number why
+
 -- A line of a deck stands where it may not, this and those behind it being left of the script: where the deck has an end it is
 -- refused, else the deck's DECK line is.
 abbrev pub misplaced : ℕ → ℕ → List (List ℕ) → Said
@@ -84,8 +91,8 @@ misplaced start number lines = if list_any is_deck_end lines then refused number
 
 -- What the lines of a script say from one on that has this number and stands at a place.
 --
--- Outside decks blank lines are skipped, and a line begins a deck or loses a copy. A deck is a JOB card, at most one card that ends
--- the job, and the deck's end.
+-- Outside decks blank lines are skipped, and a line begins a deck, loses a copy or gives a command. A deck is a JOB card, at most one card
+-- that ends the job, and the deck's end.
 abbrev pub said_at : Name8 → Place → ℕ → List (List ℕ) → Said
 said_at own place.Outside number [] = Ok []
 said_at own (place.Deck start) number [] = refused start End
@@ -96,6 +103,7 @@ said_at own place.Outside number (line ∷ lines) =
     else if is_deck_line line then said_at own (place.Deck number) (number + 1) lines
     else if is_lose_line Ckpt1 line then with_step (asked.Lose Ckpt1) (said_at own place.Outside (number + 1) lines)
     else if is_lose_line Ckpt2 line then with_step (asked.Lose Ckpt2) (said_at own place.Outside (number + 1) lines)
+    else if is_command_line line then with_command number (given_by line) (said_at own place.Outside (number + 1) lines)
     else refused number NotBuilt
 said_at own (place.Deck start) number (card ∷ lines) = elim (job_of card) [
   | None ↦ misplaced start number (card ∷ lines)

@@ -2,16 +2,18 @@
 ghost use Rattle.std.specs.Prelude.{◌≡◌};
 ghost use Rattle.first_script.specs.declared.asked.ScriptNo.TheVariants.{NoMemory as no_memory};
 
-use mas_types::{Dev, JobFields, LineCause, NoMemory};
+use mas_types::{Command, Dev, JobFields, LineCause, NoMemory};
 use thiserror::Error;
 
 /// A step that a script asks for.
-#[derive(Clone, Copy, Debug, PartialEq, Eq)]
+#[derive(Debug, Drop)]
 pub enum Asked {
     /// SYSA reads the deck of a job of these fields.
     Deck(JobFields),
     /// A copy of the checkpoint is lost, with its device, which is CKPT1 or CKPT2.
     Lose(Dev),
+    /// SYSA gives an operator's command, any but the reset of a member.
+    Command(Command),
 }
 
 /// The least line of a script that is refused, counted from 1, and why.

@@ -1,8 +1,9 @@
-//! Reading the script that the program plays: decks of a JOB card, and losses of a copy of the checkpoint.
+//! Reading the script that the program plays: decks of a JOB card, operator commands at SYSA, and losses of a copy of the checkpoint.
 #![tactic(auto)]
 
 mod asked;
 mod cards;
+mod commands;
 pub mod laws;
 mod lines;
 mod reading;

@@ -6,7 +6,7 @@ ghost use Rattle.mas_types.specs.Names.{is_blank};
 ghost use Rattle.first_script.specs.Cards.{is_text_then_blanks as is_text_then_blanks_lem};
 ghost use Rattle.first_script.specs.Script.{lines_of};
 
-fn place_of(text: &[u8], at: u8) -> Option<usize>
+pub(crate) fn place_of(text: &[u8], at: u8) -> Option<usize>
     ensures { result ≡ position (λ b. b == at) text.now }
 {
     text.iter().position(|b| *b == at)
@@ -49,7 +49,7 @@ pub(crate) fn next_line(script: &[u8]) -> (&[u8], &[u8])
     }
 }
 
-fn are_blanks(text: &[u8]) -> bool
+pub(crate) fn are_blanks(text: &[u8]) -> bool
     ensures { result ≡ list_all is_blank text.now }
 {
     text.iter().all(|b| *b == b' ')

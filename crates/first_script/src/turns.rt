@@ -1,18 +1,21 @@
 //! One line of a script.
-ghost use Rattle.std.specs.Prelude.{◌≡◌, ◌+◌, [], ◌∷◌, ℕ, Err, None, Some};
+ghost use Rattle.std.specs.Prelude.{◌≡◌, ◌+◌, [], ◌∷◌, ℕ, Err, List, None, Some, IfOk, true};
 ghost use Rattle.mas_types.specs.declared.ids.Name8.{Name8};
 ghost use Rattle.std.specs.List.{list_any};
 ghost use Rattle.mas_types.specs.declared.ids.Dev.TheVariants.{Ckpt1, Ckpt2};
 ghost use Rattle.first_script.specs.Cards.{is_last_card as is_last_card_lem};
-ghost use Rattle.first_script.specs.Script.{is_blank_line as is_blank_line_lem, is_deck_line as is_deck_line_lem, is_deck_end as is_deck_end_lem, is_lose_line, lines_of, fields_of as fields_of_lem, misplaced as misplaced_lem, said_at};
+ghost use Rattle.first_script.specs.Script.{is_blank_line as is_blank_line_lem, is_deck_line as is_deck_line_lem, is_deck_end as is_deck_end_lem, is_lose_line, lines_of, fields_of as fields_of_lem, misplaced as misplaced_lem, said_at, with_command};
+ghost use Rattle.first_script.specs.Commands.{given_by as given_by_lem, is_command_line as is_command_line_lem};
 ghost use Rattle.first_script.specs.LineByLine.{goes_on, ends_in};
 ghost use Rattle.first_script.specs.declared.turns.Place.TheVariants.{Outside as PlaceOutside, Deck as PlaceDeck, Job as PlaceJob, Last as PlaceLast};
 
 use crate::asked::{Asked, BadLine};
 use crate::cards::{JobCard, read_job_card};
+use crate::commands::{given_by, is_command_line};
 use crate::lines::{is_text_then_blanks, next_line};
 use mas_types::limits::{CARD_BYTES, SCRIPT_LINE_BYTES};
-use mas_types::{Class, Dev, JobFields, LineCause, Name8, Prio};
+use mas_types::{Class, Dev, JobFields, LineCause, Name8, NoMemory, Prio};
+use std::alloc::Global;
 
 /// Where in a script a line stands.
 #[derive(Clone, Copy, Debug, PartialEq, Eq)]
@@ -28,7 +31,7 @@ pub(crate) enum Place {
 }
 
 /// What a line comes to: the place of the next line, and the step that is whole with it.
-#[derive(Clone, Copy, Debug, PartialEq, Eq)]
+#[derive(Debug, Drop)]
 pub(crate) struct Turn {
     pub(crate) place: Place,
     pub(crate) step: Option<Asked>,
@@ -146,22 +149,45 @@ fn step(step: Asked) -> Turn
     }
 }
 
-fn take_outside(own: Name8, number: u32, line: &[u8], behind: &[u8]) -> Result<Turn, BadLine>
-    ensures { said_at own PlaceOutside number (line.now ∷ lines_of behind.now) ≡ goes_on own (number + 1) (lines_of behind.now) result }
+// A line that begins a command.
+fn take_command(alloc: Global, number: u32, line: &[u8]) -> Result<Result<Turn, BadLine>, NoMemory>
+    requires { is_command_line_lem line.now ≡ true }
+    ensures { IfOk result (λ turn. (own : Name8) (lines : List (List ℕ)) → with_command number (given_by_lem line.now) (said_at own PlaceOutside (number + 1) lines) ≡ goes_on own (number + 1) lines turn) }
+{
+    match given_by(alloc, line)? {
+        Ok(command) => Ok(Ok(step(Asked::Command(command)))),
+        Err(cause) => Ok(Err(BadLine {
+            line: number,
+            cause,
+        })),
+    }
+}
+
+fn take_outside(
+    alloc: Global,
+    own: Name8,
+    number: u32,
+    line: &[u8],
+    behind: &[u8],
+) -> Result<Result<Turn, BadLine>, NoMemory>
+    ensures { IfOk result (λ turn. said_at own PlaceOutside number (line.now ∷ lines_of behind.now) ≡ goes_on own (number + 1) (lines_of behind.now) turn) }
 {
     if is_blank_line(line) {
-        return Ok(on(Place::Outside));
+        return Ok(Ok(on(Place::Outside)));
     }
     if is_deck_line(line) {
-        return Ok(on(Place::Deck(number)));
+        return Ok(Ok(on(Place::Deck(number))));
     }
     if loses_first(line) {
-        return Ok(step(Asked::Lose(Dev::Ckpt1)));
+        return Ok(Ok(step(Asked::Lose(Dev::Ckpt1))));
     }
     if loses_second(line) {
-        return Ok(step(Asked::Lose(Dev::Ckpt2)));
+        return Ok(Ok(step(Asked::Lose(Dev::Ckpt2))));
     }
-    Err(not_built(number))
+    if is_command_line(line) {
+        return take_command(alloc, number, line);
+    }
+    Ok(Err(not_built(number)))
 }
 
 fn take_job(
@@ -216,19 +242,20 @@ fn take_end(
 
 /// What a line of this number comes to that stands at a place, with what stands behind it.
 pub(crate) fn take_line(
+    alloc: Global,
     own: Name8,
     place: Place,
     number: u32,
     line: &[u8],
     behind: &[u8],
-) -> Result<Turn, BadLine>
-    ensures { said_at own place number (line.now ∷ lines_of behind.now) ≡ goes_on own (number + 1) (lines_of behind.now) result }
+) -> Result<Result<Turn, BadLine>, NoMemory>
+    ensures { IfOk result (λ turn. said_at own place number (line.now ∷ lines_of behind.now) ≡ goes_on own (number + 1) (lines_of behind.now) turn) }
 {
     match place {
-        Place::Outside => take_outside(own, number, line, behind),
-        Place::Deck(start) => take_job(own, start, number, line, behind),
-        Place::Job(start, job) => take_second(own, start, job, number, line, behind),
-        Place::Last(start, job) => take_end(own, start, job, number, line, behind),
+        Place::Outside => take_outside(alloc, own, number, line, behind),
+        Place::Deck(start) => Ok(take_job(own, start, number, line, behind)),
+        Place::Job(start, job) => Ok(take_second(own, start, job, number, line, behind)),
+        Place::Last(start, job) => Ok(take_end(own, start, job, number, line, behind)),
     }
 }
 

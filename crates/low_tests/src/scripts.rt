@@ -1,6 +1,8 @@
 use first_script::{Asked, BadLine, ScriptNo, SourceNo, read_script, read_source};
 use mas_types::limits::SCRIPT_BYTES;
-use mas_types::{Class, Dev, JobFields, LineCause, List, Name8, NoMemory, Prio};
+use mas_types::{
+    Class, Command, Dev, JobFields, JobNo, LineCause, List, Name8, NoMemory, Prio, What,
+};
 use spool_disk::{Got, MemSource, Source};
 use std::alloc::Global;
 use std::test::Fail;
@@ -19,6 +21,34 @@ fn job(name: &[u8; 8], class: u8) -> JobFields {
         dest: Name8(*b"LOCAL   "),
         node: OWN,
         origin: OWN,
+    }
+}
+
+fn is_deck(asked: &List<Asked>, at: usize, want: JobFields) -> bool {
+    match asked.as_slice().get(at) {
+        Some(Asked::Deck(fields)) => *fields == want,
+        _ => false,
+    }
+}
+
+fn is_loss(asked: &List<Asked>, at: usize, want: Dev) -> bool {
+    match asked.as_slice().get(at) {
+        Some(Asked::Lose(dev)) => *dev == want,
+        _ => false,
+    }
+}
+
+fn is_hold(asked: &List<Asked>, at: usize, want: JobNo) -> bool {
+    match asked.as_slice().get(at) {
+        Some(Asked::Command(Command::Hold { job })) => *job == want,
+        _ => false,
+    }
+}
+
+fn is_display(asked: &List<Asked>, at: usize, want: What) -> bool {
+    match asked.as_slice().get(at) {
+        Some(Asked::Command(Command::Show { what })) => *what == want,
+        _ => false,
     }
 }
 
@@ -55,21 +85,25 @@ fn plays_one_deck(rt: HostRuntime) -> Result<(), Fail> {
     for (script, want) in scripts {
         assert!(rt; script.len() <= SCRIPT_BYTES);
         let asked = read_script(rt.alloc(), OWN, script)?;
-        assert_eq!(rt; asked.as_slice(), [Asked::Deck(want)].as_slice());
+        assert!(rt; asked.len() == 1);
+        assert!(rt; is_deck(&asked, 0, want));
     }
     Ok(())
 }
 
 #[test]
 fn plays_steps_in_order(rt: HostRuntime) -> Result<(), Fail> {
-    let a = Asked::Deck(job(b"A       ", b'A'));
-    let b = Asked::Deck(job(b"B       ", b'B'));
     let script =
-        b"SYSA DECK\n//A JOB\n++END\n\nLOSE CKPT1\nSYSA DECK\n//B JOB (1),'ME',CLASS=B\n//\n++END\nLOSE CKPT2  \r\nSYSA DECK\n//A JOB\n++END".as_slice();
+        b"SYSA DECK\n//A JOB\n++END\n\nLOSE CKPT1\nSYSA $HJ00001  \r\nSYSA DECK\n//B JOB (1),'ME',CLASS=B\n//\n++END\nLOSE CKPT2  \r\nSYSA $DQ".as_slice();
     assert!(rt; script.len() <= SCRIPT_BYTES);
     let asked = read_script(rt.alloc(), OWN, script)?;
-    let want = [a, Asked::Lose(Dev::Ckpt1), b, Asked::Lose(Dev::Ckpt2), a];
-    assert_eq!(rt; asked.as_slice(), want.as_slice());
+    assert!(rt; asked.len() == 6);
+    assert!(rt; is_deck(&asked, 0, job(b"A       ", b'A')));
+    assert!(rt; is_loss(&asked, 1, Dev::Ckpt1));
+    assert!(rt; is_hold(&asked, 2, JobNo(1)));
+    assert!(rt; is_deck(&asked, 3, job(b"B       ", b'B')));
+    assert!(rt; is_loss(&asked, 4, Dev::Ckpt2));
+    assert!(rt; is_display(&asked, 5, What::Queue));
     Ok(())
 }
 
@@ -132,6 +166,7 @@ fn refuses_the_least_line(rt: HostRuntime) {
             not_built,
         ),
         (b"SYSA DECK\n\n//A JOB\n++END\n".as_slice(), 2, not_built),
+        (b"SYSA DECK\nSYSA $XX\n++END\n".as_slice(), 2, not_built),
         (b"\x80\n".as_slice(), 1, not_built),
     ];
     for (script, line, cause) in scripts {
@@ -141,6 +176,40 @@ fn refuses_the_least_line(rt: HostRuntime) {
             "at {line}"
         );
     }
+}
+
+#[test]
+fn refuses_other_commands(rt: HostRuntime) -> Result<(), Fail> {
+    let rows = [
+        (b"SYSA $HJ1 X".as_slice(), LineCause::Verb),
+        (b"SYSA $XX X".as_slice(), LineCause::Verb),
+        (b"SYSA $ ".as_slice(), LineCause::Command),
+        (b"SYSA $HJ0".as_slice(), LineCause::Command),
+        (b"SYSA $hJ1".as_slice(), LineCause::Command),
+        (b"SYSA $DQ\x7F".as_slice(), LineCause::Text),
+        (b"SYSA $DQ X\x80".as_slice(), LineCause::Text),
+        (b"SYSA $EMEMBER(SYSB)".as_slice(), LineCause::NotBuilt),
+        (b"SYSB $DQ".as_slice(), LineCause::NotBuilt),
+        (b"SYSA  $DQ".as_slice(), LineCause::NotBuilt),
+    ];
+    for (line, cause) in rows {
+        let mut script = b"\nSYSA $DO\n".to_vec(rt.alloc())?;
+        script.extend_from_slice(line)?;
+        script.extend_from_slice(b"\nSYSA WORK 1\n")?;
+        assert!(rt; refusal(rt.alloc(), &script) == Some(BadLine { line: 3, cause }));
+    }
+    let mut longest = b"SYSA $DQ".to_vec(rt.alloc())?;
+    longest.resize(255, b' ')?;
+    assert!(rt; longest.len() <= SCRIPT_BYTES);
+    let asked = read_script(rt.alloc(), OWN, &longest)?;
+    assert!(rt; is_display(&asked, 0, What::Queue));
+    longest.push(b' ')?;
+    let long = BadLine {
+        line: 1,
+        cause: LineCause::Text,
+    };
+    assert!(rt; refusal(rt.alloc(), &longest) == Some(long));
+    Ok(())
 }
 
 #[test]
