@@ -35,8 +35,9 @@ use Rattle.slot_order.proofs.Changes.{length-listed, listed-free}
 use Rattle.job_queue.specs.Jobs.{AreJobs, order_of, unordered, rec_of}
 use Rattle.mas_complex.specs.Meaning.{step, run, no_deck}
 use Rattle.mas_run.specs.Decks.{deck_entries, entries_of, entering}
-use Rattle.mas_run.specs.Standing.{queue_of}
-use Rattle.mas_run.specs.Entering.{AreBelow, in_convert, with_job, new_number, job_entries, full_entries}
+use Rattle.member_node.specs.Standing.{queue_of}
+use Rattle.queue_effect.specs.Standing.{AreFit, IsFitJob, IsFitOutput}
+use Rattle.mas_run.specs.Entering.{in_convert, with_job, new_number, job_entries, full_entries}
 
 -- LISTS
 
@@ -45,7 +46,7 @@ or_false true b e = absurd (cc)
 or_false false b e = (refl, e)
 
 -- groups of which the member has none stay whose they are
-handed_none : (m : MemberId) (new gs : List Owner) → list_any (is_members m) gs ≡ false → handed_out m new gs ≡ gs
+pub handed_none : (m : MemberId) (new gs : List Owner) → list_any (is_members m) gs ≡ false → handed_out m new gs ≡ gs
 handed_none m new [] none = refl
 handed_none m new (g ∷ gs) none =
     let parts = or_false (is_members m g) (list_any (is_members m) gs) none in
@@ -179,9 +180,10 @@ module _ (t : Tables) (by : MemberId) (fields : JobFields) (node : same_name fie
     pub room_entries : (at : ℕ) → deck_entries (queue_of t) by at fields ≡ job_entries by at fields (next_number (queue_of t).jobs t.last)
     room_entries at = (both at).0
 
-    pub room_queue : (slot at : ℕ) → slice_get t.jobs slot ≡ Some None → AreBelow t
+    pub room_queue : (slot at : ℕ) → slice_get t.jobs slot ≡ Some None → AreFit t
         → run (queue_of t) (deck_entries (queue_of t) by at fields) ≡ queue_of (with_job slot (in_convert fields (next_number (queue_of t).jobs t.last) t.order) t)
-    room_queue slot at free below =
+    room_queue slot at free fit =
+        let below : All (λ job. job.order < t.order) (used t.jobs) = All-weaker (IsFitJob t.order) (λ job. job.order < t.order) (λ job is. is.below) (used t.jobs) fit.jobs in
         let job : JobRec = in_convert fields (next_number (queue_of t).jobs t.last) t.order in
         let listed : map (job_with no_deck) (in_order order_of (used (slice_set t.jobs slot (Some job)))) ≡ (queue_of t).jobs ++ job_with no_deck job ∷ [] =
         ap (map (job_with no_deck)) (listed-free order_of job t.jobs slot free below) ∙ map_last no_deck (in_order order_of (used t.jobs)) job in
@@ -243,7 +245,10 @@ used_with P x (None ∷ slots) (suc at) free here all = used_with P x slots at f
 used_with P x (Some y ∷ slots) (suc at) free here all =
     All-cons P y (used (slice_set slots at (Some x))) (All-head P y (used slots) all) (used_with P x slots at free here (All-tail P y (used slots) all))
 
-pub below_with : (t : Tables) (fields : JobFields) (slot : ℕ) → slice_get t.jobs slot ≡ Some None → AreBelow t → AreBelow (with_job slot (in_convert fields (new_number t) t.order) t)
-below_with t fields slot free below =
-    used_with (λ job. job.order < t.order + 1) (in_convert fields (new_number t) t.order) t.jobs slot free (omega arith)
-    (All-weaker (λ job. job.order < t.order) (λ job. job.order < t.order + 1) (λ job lt. omega arith) (used t.jobs) below)
+pub fit_with : (t : Tables) (fields : JobFields) (slot : ℕ) → slice_get t.jobs slot ≡ Some None → HasSpelling (with_job slot (in_convert fields (new_number t) t.order) t) → AreFit t → AreFit (with_job slot (in_convert fields (new_number t) t.order) t)
+fit_with t fields slot free spelled fit = record {
+  shape = spelled.shape;
+  jobs = used_with (IsFitJob (t.order + 1)) (in_convert fields (new_number t) t.order) t.jobs slot free (record { below = omega arith; busy = omega arith })
+      (All-weaker (IsFitJob t.order) (IsFitJob (t.order + 1)) (λ job is. record { below = omega (arith, is.below); busy = is.busy }) (used t.jobs) fit.jobs);
+  outputs = All-weaker (IsFitOutput t.order) (IsFitOutput (t.order + 1)) (λ output is. record { below = omega (arith, is.below); busy = is.busy }) (used t.outputs) fit.outputs;
+}

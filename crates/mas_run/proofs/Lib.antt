@@ -1,9 +1,7 @@
-pub mod BatchLemmas
 pub mod EnteringLemmas
-pub mod DrawnLemmas
+pub mod GroupLemmas
+pub mod DeckLemmas
 pub mod CourseLemmas
-pub mod WriteLemmas
-pub mod StepLemmas
 pub mod LineLemmas
 pub mod PlayLemmas
 pub mod RunLemmas

@@ -3,7 +3,7 @@ use Rattle.std.proofs.Common.{◌≡◌, ℕ, ◌≤◌, ◌==◌, nat_le, not, 
 use Rattle.std.specs.List.{list_any}
 use Rattle.std.proofs.lemmas.Slice.Eq.{bytes_eq-Decides}
 use Rattle.std.proofs.lemmas.List.{length-map}
-use Rattle.std.proofs.lemmas.List.Elements.{All-nil, All-cons, All-head, All-tail, All-weaker}
+use Rattle.std.proofs.lemmas.List.Elements.{All-nil, All-cons, All-head, All-tail}
 use Rattle.std.proofs.lemmas.Bool.{or_parts}
 use Rattle.std.proofs.lemmas.Bool.Decides.{nat_tests}
 use Rattle.mas_types.specs.declared.ids.Dev.TheVariants.{Ckpt1, Ckpt2, Spool}
@@ -16,13 +16,11 @@ use Rattle.mas_types.specs.Fit.{IsName, IsConfig}
 use Rattle.mas_types.specs.Owners.{is_held_by, is_members}
 use Rattle.mas_types.specs.Queue.{is_member}
 use Rattle.first_script.specs.declared.asked.Asked.{Asked}
-use Rattle.first_script.specs.declared.asked.Asked.TheVariants.{Deck, Lose}
+use Rattle.first_script.specs.declared.asked.Asked.TheVariants as asked_of
 use Rattle.first_script.specs.Steps.{IsFitStep}
-use Rattle.duplex_pair.specs.Halves.{IsCkpt}
 use Rattle.mas_run.specs.Decks.{sysa}
-use Rattle.mas_run.specs.Entering.{MayEnter, AreFieldsFor}
 use Rattle.first_script.specs.Nodes.{step_at, at_node}
-use Rattle.mas_run.specs.Steps.{IfDeck, IfLose}
+use Rattle.mas_run.specs.Steps.{IsFitFor}
 
 -- STEPS AT A NODE
 
@@ -31,8 +29,9 @@ fields_same fields node one two =
     ap (λ (n : Name8). record fields { node = n; origin = node }) (sym one) ∙ ap (λ (n : Name8). record fields { node = fields.node; origin = n }) (sym two)
 
 step_same : (node : Name8) (s : Asked) → IsFitStep node s → step_at node s ≡ s
-step_same node (Deck fields) fit = ap Deck (fields_same fields node fit.0 fit.1)
-step_same node (Lose dev) fit = refl
+step_same node (asked_of.Deck fields) fit = ap asked_of.Deck (fields_same fields node fit.0 fit.1)
+step_same node (asked_of.Lose dev) fit = refl
+step_same node (asked_of.Command given) fit = refl
 
 -- those of the node stay
 pub steps_same : (node : Name8) (asked : List Asked) → All (IsFitStep node) asked → at_node node asked ≡ asked
@@ -42,28 +41,20 @@ steps_same node (s ∷ asked) fits =
     let more : at_node node asked ≡ asked = steps_same node asked (All-tail (IsFitStep node) s asked fits) in
     cc
 
-step_for : (own : Name8) (config : Config) (s : Asked) → IsName own → IsName config.node → IsFitStep own s → IfDeck (step_at config.node s) (AreFieldsFor config)
-step_for own config (Deck fields) named is fit = let f = fit.2 named in record {
+step_for : (own : Name8) (config : Config) (s : Asked) → IsName own → IsName config.node → IsFitStep own s → IsFitFor config (step_at config.node s)
+step_for own config (asked_of.Deck fields) named is fit = let f = fit.2 named in record {
   node = (bytes_eq-Decides config.node.0 config.node.0).1 refl;
   fit = record { name = f.name; class = f.class; msgclass = f.msgclass; prio = f.prio; dest = f.dest; node = is; origin = is };
 }
-step_for own config (Lose dev) named is fit = tt
+step_for own config (asked_of.Lose Ckpt1) named is fit = tt
+step_for own config (asked_of.Lose Ckpt2) named is fit = tt
+step_for own config (asked_of.Lose (Spool v)) named is fit = absurd fit
+step_for own config (asked_of.Command given) named is fit = fit
 
-pub steps_for : (own : Name8) (config : Config) (asked : List Asked) → IsName own → IsName config.node → All (IsFitStep own) asked → All (λ s. IfDeck s (AreFieldsFor config)) (at_node config.node asked)
-steps_for own config [] named is fits = All-nil (λ s. IfDeck s (AreFieldsFor config))
+pub steps_for : (own : Name8) (config : Config) (asked : List Asked) → IsName own → IsName config.node → All (IsFitStep own) asked → All (IsFitFor config) (at_node config.node asked)
+steps_for own config [] named is fits = All-nil (IsFitFor config)
 steps_for own config (s ∷ asked) named is fits =
-    All-cons (λ s. IfDeck s (AreFieldsFor config)) (step_at config.node s) (at_node config.node asked) (step_for own config s named is (All-head (IsFitStep own) s asked fits)) (steps_for own config asked named is (All-tail (IsFitStep own) s asked fits))
-
-copy_at : (own node : Name8) (s : Asked) → IsFitStep own s → IfLose (step_at node s) IsCkpt
-copy_at own node (Deck fields) fit = tt
-copy_at own node (Lose Ckpt1) fit = tt
-copy_at own node (Lose Ckpt2) fit = tt
-copy_at own node (Lose (Spool v)) fit = absurd fit
-
-pub copies_at : (own node : Name8) (asked : List Asked) → All (IsFitStep own) asked → All (λ s. IfLose s IsCkpt) (at_node node asked)
-copies_at own node [] fits = All-nil (λ s. IfLose s IsCkpt)
-copies_at own node (s ∷ asked) fits =
-    All-cons (λ s. IfLose s IsCkpt) (step_at node s) (at_node node asked) (copy_at own node s (All-head (IsFitStep own) s asked fits)) (copies_at own node asked (All-tail (IsFitStep own) s asked fits))
+    All-cons (IsFitFor config) (step_at config.node s) (at_node config.node asked) (step_for own config s named is (All-head (IsFitStep own) s asked fits)) (steps_for own config asked named is (All-tail (IsFitStep own) s asked fits))
 
 pub many_at : (node : Name8) (asked : List Asked) → length (at_node node asked) ≡ length asked
 many_at node asked = length-map asked (step_at node)
@@ -85,10 +76,3 @@ none_left config (g ∷ gs) is none =
     let both = or_parts (is_held_by (is_member config) g) (list_any (is_held_by (is_member config)) gs) none in
     let here : is_members sysa g ≡ false = none_of_sysa config g is both.0 in
     rw here (none_left config gs is both.1)
-
-may_one : (config : Config) (gs : List Owner) (s : Asked) → list_any (is_members sysa) gs ≡ false → IfDeck s (AreFieldsFor config) → IfDeck s (MayEnter config gs sysa)
-may_one config gs (Deck fields) none are = record { node = are.node; groups = none; fit = are.fit }
-may_one config gs (Lose dev) none are = tt
-
-pub all_enter : (config : Config) (gs : List Owner) (asked : List Asked) → list_any (is_members sysa) gs ≡ false → All (λ s. IfDeck s (AreFieldsFor config)) asked → All (λ s. IfDeck s (MayEnter config gs sysa)) asked
-all_enter config gs asked none are = All-weaker (λ s. IfDeck s (AreFieldsFor config)) (λ s. IfDeck s (MayEnter config gs sysa)) (λ s is. may_one config gs s none is) asked are

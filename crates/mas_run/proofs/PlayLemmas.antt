@@ -1,24 +1,32 @@
 -- Steps that are played one after another.
 use Rattle.std.proofs.Common.{◌≡◌, ◌⊎◌, inl, inr, ⊎_elim, ℕ, suc, ◌+◌, ◌≤◌, ◌<◌, Bool, false, List, [], ◌∷◌, ◌++◌, length, map, take, drop, get_or, All, if◌then◌else◌, Option, Some, None, ◌^◌, Result, Ok, Err, refl, sym, ◌∙◌, ap, subst, arith, append_assoc, append-nil}
 use Rattle.std.proofs.Math.Seq.{drop-cons}
-use Rattle.std.proofs.lemmas.List.{take_more, length-take, append_cancel_left}
+use Rattle.std.proofs.lemmas.List.{take_more, length-take, length-append, append_cancel_left}
 use Rattle.std.proofs.lemmas.List.Elements.{All-nil, All-cons, All-append, All-weaker}
 use Rattle.mas_types.specs.declared.ids.Dev.{Dev}
 use Rattle.mas_types.specs.declared.ids.Dev.TheVariants.{Ckpt1, Ckpt2, Spool}
-use Rattle.mas_types.specs.declared.jobs.JobFields.{JobFields}
 use Rattle.mas_types.specs.declared.journals.Batch.{Batch}
 use Rattle.mas_types.specs.declared.journals.Entry.{Entry}
 use Rattle.mas_types.specs.declared.journals.Fate.{Fate}
 use Rattle.mas_types.specs.declared.journals.Fate.TheVariants.{Kept, Flying}
 use Rattle.mas_types.specs.declared.queues.Config.{Config}
-use Rattle.mas_types.specs.declared.queues.Owner.{Owner}
 use Rattle.mas_types.specs.declared.queues.Queue.{Queue}
 use Rattle.mas_types.specs.Journal.{is_kept}
 use Rattle.first_script.specs.declared.asked.Asked.{Asked}
-use Rattle.first_script.specs.declared.asked.Asked.TheVariants.{Deck, Lose}
+use Rattle.first_script.specs.declared.asked.Asked.TheVariants as asked_of
 use Rattle.lock_cycle.specs.declared.answers.LockNo.{LockNo}
 use Rattle.lock_cycle.specs.Books.{Book, try_refusal}
-use Rattle.mas_run.specs.Turns.{Turn, Granted, Denied, Loss, denied_line, deck_turn, turn_at}
+use Rattle.mas_types.specs.declared.answers.Status.TheVariants as status
+use Rattle.member_node.specs.declared.member.NodeNo.{NodeNo}
+use Rattle.member_node.specs.declared.member.NodeNo.TheVariants as no_node
+use Rattle.member_node.specs.Calls.{Course, Grows, IsLeft, IsOnlyOn, console_now}
+use Rattle.member_node.specs.Writes.{HasKept, HasFlying}
+use Rattle.member_node.proofs.CourseLemmas.{course_none, course_then, only_none, only_on, rose_later}
+use Rattle.member_node.proofs.WriteLemmas.{run_append}
+use Rattle.member_steps.specs.Locked.{IsDenial, denied_lines}
+use Rattle.member_steps.specs.Saying.{torn, Breaks}
+use Rattle.member_steps.specs.Steps.{AreAllKept, IsStep, StepLeaves, StepTells}
+use Rattle.mas_run.specs.Turns.{Task, Reads, Gives, Turn, Granted, Denied, Loss, task_turn, turn_at}
 use Rattle.spool_disk.specs.View.{View, Line}
 use Rattle.spool_disk.specs.Acts.{Loses, next}
 use Rattle.spool_disk.specs.declared.plant.Part.TheVariants.{Disk, Console}
@@ -26,23 +34,15 @@ use Rattle.duplex_pair.specs.Halves.{SomeAlive, IsCkpt}
 use Rattle.mas_complex.specs.Headline.{whole}
 use Rattle.mas_complex.specs.Journals.{begun, fated, kept_all}
 use Rattle.mas_complex.specs.Meaning.{run}
-use Rattle.mas_run.specs.Between.{AreAllKept}
-use Rattle.mas_run.specs.Crash.{IsOnlyOn}
 use Rattle.mas_complex.specs.Crash.{IsUntold, setting}
-use Rattle.mas_run.specs.Decks.{sysa, deck_commands, deck_entries, deck_line}
-use Rattle.mas_run.specs.Entering.{MayEnter}
+use Rattle.mas_run.specs.Decks.{sysa}
 use Rattle.mas_run.specs.Plays.{HavePlayed, ArePlayed}
-use Rattle.mas_run.specs.Runs.{IsDeckBatch, AreKept, IsInFlight, IsHistory, HasLost, IsStopped}
-use Rattle.mas_run.specs.Statuses.{Grows}
-use Rattle.mas_run.specs.Steps.{IfDeck, IfLose, step_lines, after_step, queue_after, output_from, output, loses_after_step, loses_after}
+use Rattle.mas_run.specs.Runs.{IsBatchOf, AreKept, IsInFlight, IsHistory, Adds, HasLost, IsStopped}
+use Rattle.mas_run.specs.Steps.{IfTask, IsFitFor, task_entries, task_lines, step_lines, after_step, queue_after, output_from, output, loses_after_step, loses_after}
 use Rattle.mas_complex.proofs.Batches.{kept_all_append}
-use Rattle.mas_run.specs.Stops.{Course, IsLeft, IsStep, IsDenial, IsLoss, IsStepOf, HasKept, HasFlying, Leaves, Tells}
-use Rattle.mas_run.specs.Told.{torn, console_now}
-use Rattle.mas_run.specs.declared.running.StepNo.{StepNo}
-use Rattle.mas_run.specs.declared.running.StepNo.TheVariants as no_step
-use Rattle.mas_run.proofs.CourseLemmas.{course_none, course_then, only_none, has_lost_more, has_lost_later, only_on, rose_later}
-use Rattle.mas_run.proofs.LineLemmas.{step_untold}
-use Rattle.mas_run.proofs.WriteLemmas.{run_append}
+use Rattle.mas_run.specs.Stops.{IsLoss, IsStepOf}
+use Rattle.mas_run.proofs.CourseLemmas.{has_lost_more, has_lost_later}
+use Rattle.mas_run.proofs.LineLemmas.{of_task, step_untold}
 
 -- ONE STEP MORE
 
@@ -66,30 +66,30 @@ module _ (s : Turn) where
 
 -- KEPT BATCHES
 
-batch_later : (Q : Queue) (at : ℕ) (fields : JobFields) (from now later : ℕ) (b : Batch) → now ≤ later → IsDeckBatch Q at fields from now b → IsDeckBatch Q at fields from later b
-batch_later Q at fields from now later b le is = record { by = is.by; entries = is.entries; began = (is.began.0, omega (arith, is.began.1, le)) }
+batch_later : (Q : Queue) (at : ℕ) (task : Task) (from now later : ℕ) (b : Batch) → now ≤ later → IsBatchOf Q at task from now b → IsBatchOf Q at task from later b
+batch_later Q at task from now later b le is = record { by = is.by; entries = is.entries; began = (is.began.0, omega (arith, is.began.1, le)) }
 
 pub kept_later : (Q : Queue) (at : ℕ) (steps : List Turn) (from now later : ℕ) (bs : List Batch) → now ≤ later → AreKept Q at steps from now bs → AreKept Q at steps from later bs
 kept_later Q at [] from now later bs le are = are
 kept_later Q at (Denied why ∷ steps) from now later bs le are = kept_later (after_step Q at (Denied why)) (at + 1) steps from now later bs le are
 kept_later Q at (Loss dev ∷ steps) from now later bs le are = kept_later (after_step Q at (Loss dev)) (at + 1) steps from now later bs le are
-kept_later Q at (Granted fields ∷ steps) from now later [] le are = absurd are
-kept_later Q at (Granted fields ∷ steps) from now later (b ∷ bs) le are = (
-  batch_later Q at fields from now later b le are.0,
+kept_later Q at (Granted task ∷ steps) from now later [] le are = absurd are
+kept_later Q at (Granted task ∷ steps) from now later (b ∷ bs) le are = (
+  batch_later Q at task from now later b le are.0,
   are.1,
   are.2,
   omega (arith, are.3, le),
-  kept_later (after_step Q at (Granted fields)) (at + 1) steps b.last now later bs le are.4,
+  kept_later (after_step Q at (Granted task)) (at + 1) steps b.last now later bs le are.4,
 )
 
 -- a step that adds no batch
 abbrev IsIdle : Turn → Type 0
-IsIdle (Granted fields) = ⊥
+IsIdle (Granted task) = ⊥
 IsIdle (Denied why) = Unit {0}
 IsIdle (Loss dev) = Unit {0}
 
 idle_kept : (x : Turn) (Q : Queue) (at from now : ℕ) (bs : List Batch) → IsIdle x → bs ≡ [] → AreKept Q at (x ∷ []) from now bs
-idle_kept (Granted fields) Q at from now bs idle are = absurd idle
+idle_kept (Granted task) Q at from now bs idle are = absurd idle
 idle_kept (Denied why) Q at from now bs idle are = are
 idle_kept (Loss dev) Q at from now bs idle are = are
 
@@ -97,43 +97,43 @@ pub kept_with_idle : (x : Turn) (Q : Queue) (at : ℕ) (steps : List Turn) (from
 kept_with_idle x Q at [] from now bs idle are = idle_kept x Q at from now bs idle are
 kept_with_idle x Q at (Denied why ∷ steps) from now bs idle are = kept_with_idle x (after_step Q at (Denied why)) (at + 1) steps from now bs idle are
 kept_with_idle x Q at (Loss d ∷ steps) from now bs idle are = kept_with_idle x (after_step Q at (Loss d)) (at + 1) steps from now bs idle are
-kept_with_idle x Q at (Granted fields ∷ steps) from now [] idle are = absurd are
-kept_with_idle x Q at (Granted fields ∷ steps) from now (b ∷ bs) idle are =
-    (are.0, are.1, are.2, are.3, kept_with_idle x (after_step Q at (Granted fields)) (at + 1) steps b.last now bs idle are.4)
+kept_with_idle x Q at (Granted task ∷ steps) from now [] idle are = absurd are
+kept_with_idle x Q at (Granted task ∷ steps) from now (b ∷ bs) idle are =
+    (are.0, are.1, are.2, are.3, kept_with_idle x (after_step Q at (Granted task)) (at + 1) steps b.last now bs idle are.4)
 
 -- a batch that began behind these, and is kept
-pub record IsNext (Q : Queue) (at : ℕ) (fields : JobFields) (now later : ℕ) (b : Batch) : Type 0 where
+pub record IsNext (Q : Queue) (at : ℕ) (task : Task) (now later : ℕ) (b : Batch) : Type 0 where
   pub by : b.by ≡ sysa
-  pub entries : b.entries ≡ deck_entries Q sysa at fields
+  pub entries : b.entries ≡ task_entries Q at task
   pub began : now ≤ b.first
   pub fate : b.fate ≡ Kept
   pub ends : b.first ≤ b.last
   pub past : b.last ≤ later
 
-pub kept_with_deck : (Q : Queue) (at : ℕ) (steps : List Turn) (fields : JobFields) (from now later : ℕ) (bs : List Batch) (b : Batch) → from ≤ now → now ≤ later → AreKept Q at steps from now bs
-    → IsNext (queue_after Q at steps) (at + length steps) fields now later b → AreKept Q at (steps ++ Granted fields ∷ []) from later (bs ++ b ∷ [])
-kept_with_deck Q at [] fields from now later bs b first le are is =
+pub kept_with_task : (Q : Queue) (at : ℕ) (steps : List Turn) (task : Task) (from now later : ℕ) (bs : List Batch) (b : Batch) → from ≤ now → now ≤ later → AreKept Q at steps from now bs
+    → IsNext (queue_after Q at steps) (at + length steps) task now later b → AreKept Q at (steps ++ Granted task ∷ []) from later (bs ++ b ∷ [])
+kept_with_task Q at [] task from now later bs b first le are is =
     let e : at + 0 ≡ at = omega arith in
-    let entries : b.entries ≡ deck_entries Q sysa at fields = is.entries ∙ ap (λ (n : ℕ). deck_entries Q sysa n fields) e in
-    subst (λ (l : List Batch). AreKept Q at (Granted fields ∷ []) from later (l ++ b ∷ [])) (sym are)
+    let entries : b.entries ≡ task_entries Q at task = is.entries ∙ ap (λ (n : ℕ). task_entries Q n task) e in
+    subst (λ (l : List Batch). AreKept Q at (Granted task ∷ []) from later (l ++ b ∷ [])) (sym are)
     (record { by = is.by; entries = entries; began = (omega (arith, is.began), omega (arith, is.ends, is.past)) }, is.fate, is.ends, is.past, refl)
-kept_with_deck Q at (Denied why ∷ steps) fields from now later bs b first le are is =
+kept_with_task Q at (Denied why ∷ steps) task from now later bs b first le are is =
     let e : at + length (Denied why ∷ steps) ≡ at + 1 + length steps = omega arith in
-    kept_with_deck (after_step Q at (Denied why)) (at + 1) steps fields from now later bs b first le are
-    (subst (λ (n : ℕ). IsNext (queue_after (after_step Q at (Denied why)) (at + 1) steps) n fields now later b) e is)
-kept_with_deck Q at (Loss d ∷ steps) fields from now later bs b first le are is =
+    kept_with_task (after_step Q at (Denied why)) (at + 1) steps task from now later bs b first le are
+    (subst (λ (n : ℕ). IsNext (queue_after (after_step Q at (Denied why)) (at + 1) steps) n task now later b) e is)
+kept_with_task Q at (Loss d ∷ steps) task from now later bs b first le are is =
     let e : at + length (Loss d ∷ steps) ≡ at + 1 + length steps = omega arith in
-    kept_with_deck (after_step Q at (Loss d)) (at + 1) steps fields from now later bs b first le are
-    (subst (λ (n : ℕ). IsNext (queue_after (after_step Q at (Loss d)) (at + 1) steps) n fields now later b) e is)
-kept_with_deck Q at (Granted f ∷ steps) fields from now later [] b first le are is = absurd are
-kept_with_deck Q at (Granted f ∷ steps) fields from now later (a ∷ bs) b first le are is =
+    kept_with_task (after_step Q at (Loss d)) (at + 1) steps task from now later bs b first le are
+    (subst (λ (n : ℕ). IsNext (queue_after (after_step Q at (Loss d)) (at + 1) steps) n task now later b) e is)
+kept_with_task Q at (Granted f ∷ steps) task from now later [] b first le are is = absurd are
+kept_with_task Q at (Granted f ∷ steps) task from now later (a ∷ bs) b first le are is =
     let e : at + length (Granted f ∷ steps) ≡ at + 1 + length steps = omega arith in (
       batch_later Q at f from now later a le are.0,
       are.1,
       are.2,
       omega (arith, are.3, le),
-      kept_with_deck (after_step Q at (Granted f)) (at + 1) steps fields a.last now later bs b are.3 le are.4
-          (subst (λ (n : ℕ). IsNext (queue_after (after_step Q at (Granted f)) (at + 1) steps) n fields now later b) e is),
+      kept_with_task (after_step Q at (Granted f)) (at + 1) steps task a.last now later bs b are.3 le are.4
+          (subst (λ (n : ℕ). IsNext (queue_after (after_step Q at (Granted f)) (at + 1) steps) n task now later b) e is),
     )
 
 -- the queue after them
@@ -141,19 +141,19 @@ pub kept_run : (Q : Queue) (at : ℕ) (steps : List Turn) (from now : ℕ) (bs :
 kept_run Q at [] from now bs are = ap (λ (l : List Batch). run Q (kept_all l)) are
 kept_run Q at (Denied why ∷ steps) from now bs are = kept_run (after_step Q at (Denied why)) (at + 1) steps from now bs are
 kept_run Q at (Loss d ∷ steps) from now bs are = kept_run (after_step Q at (Loss d)) (at + 1) steps from now bs are
-kept_run Q at (Granted fields ∷ steps) from now [] are = absurd are
-kept_run Q at (Granted fields ∷ steps) from now (b ∷ bs) are =
+kept_run Q at (Granted task ∷ steps) from now [] are = absurd are
+kept_run Q at (Granted task ∷ steps) from now (b ∷ bs) are =
     ap (λ (f : Fate). run Q ((if is_kept f then b.entries else []) ++ kept_all bs)) are.1
-    ∙ ap (λ (es : List Entry). run Q (es ++ kept_all bs)) are.0.entries ∙ run_append Q (deck_entries Q sysa at fields) (kept_all bs)
-    ∙ kept_run (after_step Q at (Granted fields)) (at + 1) steps b.last now bs are.4
+    ∙ ap (λ (es : List Entry). run Q (es ++ kept_all bs)) are.0.entries ∙ run_append Q (task_entries Q at task) (kept_all bs)
+    ∙ kept_run (after_step Q at (Granted task)) (at + 1) steps b.last now bs are.4
 
 pub all_kept : (Q : Queue) (at : ℕ) (steps : List Turn) (from now : ℕ) (bs : List Batch) → AreKept Q at steps from now bs → AreAllKept bs now
 all_kept Q at [] from now bs are = subst (λ (l : List Batch). AreAllKept l now) (sym are) (All-nil (λ (b : Batch). (b.fate ≡ Kept) × (b.last ≤ now)))
 all_kept Q at (Denied why ∷ steps) from now bs are = all_kept (after_step Q at (Denied why)) (at + 1) steps from now bs are
 all_kept Q at (Loss d ∷ steps) from now bs are = all_kept (after_step Q at (Loss d)) (at + 1) steps from now bs are
-all_kept Q at (Granted fields ∷ steps) from now [] are = absurd are
-all_kept Q at (Granted fields ∷ steps) from now (b ∷ bs) are =
-    All-cons (λ (b : Batch). (b.fate ≡ Kept) × (b.last ≤ now)) b bs (are.1, are.3) (all_kept (after_step Q at (Granted fields)) (at + 1) steps b.last now bs are.4)
+all_kept Q at (Granted task ∷ steps) from now [] are = absurd are
+all_kept Q at (Granted task ∷ steps) from now (b ∷ bs) are =
+    All-cons (λ (b : Batch). (b.fate ≡ Kept) × (b.last ≤ now)) b bs (are.1, are.3) (all_kept (after_step Q at (Granted task)) (at + 1) steps b.last now bs are.4)
 
 -- the fate of the last batch
 abbrev last_fate : List Batch → Fate
@@ -190,10 +190,10 @@ loss_lost Ckpt1 old new is loses = inl (omega (arith, loses.counted Ckpt1 refl))
 loss_lost Ckpt2 old new is loses = inr (omega (arith, loses.counted Ckpt2 refl))
 loss_lost (Spool v) old new is loses = absurd is
 
-deck_counts : (d : Dev) (fields : JobFields) (n : ℕ) → loses_after_step d (Granted fields) n ≡ n
-deck_counts Ckpt1 fields n = refl
-deck_counts Ckpt2 fields n = refl
-deck_counts (Spool v) fields n = refl
+task_counts : (d : Dev) (task : Task) (n : ℕ) → loses_after_step d (Granted task) n ≡ n
+task_counts Ckpt1 task n = refl
+task_counts Ckpt2 task n = refl
+task_counts (Spool v) task n = refl
 
 denied_counts : (d : Dev) (why : LockNo) (n : ℕ) → loses_after_step d (Denied why) n ≡ n
 denied_counts Ckpt1 why n = refl
@@ -206,16 +206,47 @@ map_append (x ∷ xs) ys = ap (λ (ls : List Line). whole x ∷ ls) (map_append 
 
 -- what is said of a loss alone
 abbrev IfLoss : Turn → (Dev → Type 0) → Type 0
-IfLoss (Granted fields) P = Unit {0}
+IfLoss (Granted task) P = Unit {0}
 IfLoss (Denied why) P = Unit {0}
 IfLoss (Loss dev) P = P dev
 
-pub loss_of : (b : Book) (s : Asked) (P : Dev → Type 0) → IfLose s P → IfLoss (turn_at b s) P
-loss_of b (Deck fields) P is = of_try (try_refusal b sysa false) where
-  of_try : (why : Option LockNo) → IfLoss (deck_turn why fields) P
-  of_try None = tt
-  of_try (Some why) = tt
-loss_of b (Lose dev) P is = is
+tried_task : (why : Option LockNo) (task : Task) (P : Dev → Type 0) → IfLoss (task_turn why task) P
+tried_task None task P = tt
+tried_task (Some why) task P = tt
+
+pub loss_of : (config : Config) (b : Book) (s : Asked) → IsFitFor config s → IfLoss (turn_at b s) IsCkpt
+loss_of config b (asked_of.Deck fields) fit = tried_task (try_refusal b sysa false) (Reads fields) IsCkpt
+loss_of config b (asked_of.Lose dev) fit = fit
+loss_of config b (asked_of.Command given) fit = tried_task (try_refusal b sysa false) (Gives given) IsCkpt
+
+-- THE LINES OF A STEP, BEHIND THOSE OF THE STEPS BEFORE IT
+
+take_on : {A : Type 0} (xs ys : List A) (n : ℕ) → take (length xs + n) (xs ++ ys) ≡ xs ++ take n ys
+take_on [] ys n = let e : 0 + n ≡ n = omega arith in ap (λ (k : ℕ). take k ys) e
+take_on (x ∷ xs) ys n =
+    let e : length (x ∷ xs) + n ≡ suc (length xs + n) = omega arith in
+    ap (λ (k : ℕ). take k (x ∷ xs ++ ys)) e ∙ ap (λ (l : List _). x ∷ l) (take_on xs ys n)
+
+module _ (closed lines kept : List (List ℕ)) (are : kept ≡ closed ++ lines) (was mid now : List Line) (before : mid ≡ was ++ map whole closed) where
+  many_lines : length kept ≡ length closed + length lines
+  many_lines = ap length are ∙ length-append closed lines
+
+  front_lines : (n : ℕ) → mid ++ map whole (take n lines) ≡ was ++ map whole (take (length closed + n) kept)
+  front_lines n =
+      ap (λ (ls : List Line). ls ++ map whole (take n lines)) before ∙ append_assoc was (map whole closed) (map whole (take n lines))
+      ∙ ap (λ (ls : List Line). was ++ ls) (sym (map_append closed (take n lines)) ∙ ap (map whole) (sym (take_on closed lines n) ∙ ap (take (length closed + n)) (sym are)))
+
+  pub adds_failed : (failed stopped : Type 0) → failed → ((n : ℕ) × (n < length lines) × (now ≡ mid ++ map whole (take n lines))) → Adds closed kept was now failed stopped
+  adds_failed failed stopped why some = inr (inl (length closed + some.0, omega arith, omega (arith, some.1, many_lines), some.2 ∙ front_lines some.0, why))
+
+  pub adds_stopped : (failed stopped : Type 0) → stopped → (n : ℕ) → n < length lines → Breaks n lines mid now → Adds closed kept was now failed stopped
+  adds_stopped failed stopped why n lt breaks = ⊎_elim
+      (λ here. inr (inr (inl (length closed + n, omega arith, omega (arith, lt, many_lines), here ∙ front_lines n, why))))
+      (λ more. ⊎_elim
+      (λ part. inr (inr (inr (length closed + n, part.0, omega arith, omega (arith, lt, many_lines), part.1 ∙ ap (λ (ls : List Line). ls ++ torn part.0 ∷ []) (front_lines n), why))))
+      (λ next. inr (inr (inl (length closed + suc n, omega arith, omega (arith, lt, many_lines), next ∙ front_lines (suc n), why))))
+      more)
+      breaks
 
 module _ (told : Type 0) (base : Queue) (asked : List Turn) (i : ℕ) (s : Turn) (lt : i < length asked) (here : s ≡ get_or asked i s) (batches : List Batch) (a0 a a' b0 b b' : Bool) (v0 v v' : View)
     (played : HavePlayed told base asked i batches a0 a b0 b v0 v) where
@@ -260,7 +291,7 @@ module _ (told : Type 0) (base : Queue) (asked : List Turn) (i : ℕ) (s : Turn)
   -- A LOSS
 
   module _ (dev : Dev) (is : s ≡ Loss dev) (ckpt : IsCkpt dev) where
-    pub played_loss : {T : Type 0} (result : Result T StepNo) (bs : List Batch) → IsLoss told dev batches bs a a' b b' v v' result → HavePlayed told base asked (i + 1) bs a0 a' b0 b' v0 v'
+    pub played_loss : {T : Type 0} (result : Result T NodeNo) (bs : List Batch) → IsLoss told dev batches bs a a' b b' v v' result → HavePlayed told base asked (i + 1) bs a0 a' b0 b' v0 v'
     played_loss result bs step = record {
       course = course_now step.course;
       left = inr (has_lost_later v0 v v' played.course.grow (loss_lost dev v v' ckpt step.loses));
@@ -272,53 +303,53 @@ module _ (told : Type 0) (base : Queue) (asked : List Turn) (i : ℕ) (s : Turn)
       said = λ t. said_more [] (ap (λ (x : Turn). step_lines (run base (kept_all batches)) (1 + i) x) (sym is)) (played.said t) (step.console t ∙ sym (append-nil (console_now v)));
     }
 
-  -- A DECK
+  -- A TASK
 
-  module _ (fields : JobFields) (is : s ≡ Granted fields) where
+  module _ (task : Task) (is : s ≡ Granted task) where
     abbrev batch : Batch
-    batch = begun v.now sysa (deck_entries (run base (kept_all batches)) sysa (1 + i) fields)
+    batch = begun v.now sysa (task_entries (run base (kept_all batches)) (1 + i) task)
 
-    abbrev line : List ℕ
-    line = deck_line (run base (kept_all batches)) sysa (1 + i) fields
+    abbrev lines : List (List ℕ)
+    lines = task_lines (run base (kept_all batches)) (1 + i) task
 
-    entries_are : deck_entries (run base (kept_all batches)) sysa (1 + i) fields ≡ deck_entries (queue_after base 1 (take i asked)) sysa (1 + length (take i asked)) fields
-    entries_are = ap (λ (R : Queue). deck_entries R sysa (1 + i) fields) queue_is ∙ ap (λ (n : ℕ). deck_entries (queue_after base 1 (take i asked)) sysa (1 + n) fields) (sym long)
+    entries_are : task_entries (run base (kept_all batches)) (1 + i) task ≡ task_entries (queue_after base 1 (take i asked)) (1 + length (take i asked)) task
+    entries_are = ap (λ (R : Queue). task_entries R (1 + i) task) queue_is ∙ ap (λ (n : ℕ). task_entries (queue_after base 1 (take i asked)) (1 + n) task) (sym long)
 
-    kept_deck : (bs : List Batch) → HasKept batches bs (begun v.now sysa (deck_entries (run base (kept_all batches)) sysa (1 + i) fields)) v'.now → v.now ≤ v'.now → AreKept base 1 (take (i + 1) asked) v0.now v'.now bs
-    kept_deck bs k le =
+    kept_task : (bs : List Batch) → HasKept batches bs (begun v.now sysa (task_entries (run base (kept_all batches)) (1 + i) task)) v'.now → v.now ≤ v'.now → AreKept base 1 (take (i + 1) asked) v0.now v'.now bs
+    kept_task bs k le =
         subst (λ (l : List Batch). AreKept base 1 (take (i + 1) asked) v0.now v'.now l) (sym k.3)
-        (subst (λ (xs : List Turn). AreKept base 1 xs v0.now v'.now (batches ++ fated Kept k.0 (begun v.now sysa (deck_entries (run base (kept_all batches)) sysa (1 + i) fields)) ∷ [])) (sym (more ∙ ap (λ (x : Turn). take i asked ++ x ∷ []) is))
-        (kept_with_deck base 1 (take i asked) fields v0.now v.now v'.now batches (fated Kept k.0 (begun v.now sysa (deck_entries (run base (kept_all batches)) sysa (1 + i) fields))) played.course.goes.later le played.kept
+        (subst (λ (xs : List Turn). AreKept base 1 xs v0.now v'.now (batches ++ fated Kept k.0 (begun v.now sysa (task_entries (run base (kept_all batches)) (1 + i) task)) ∷ [])) (sym (more ∙ ap (λ (x : Turn). take i asked ++ x ∷ []) is))
+        (kept_with_task base 1 (take i asked) task v0.now v.now v'.now batches (fated Kept k.0 (begun v.now sysa (task_entries (run base (kept_all batches)) (1 + i) task))) played.course.goes.later le played.kept
         (record { by = refl; entries = entries_are; began = omega arith; fate = refl; ends = k.1; past = k.2 })))
 
-    deck_grow : {T : Type 0} (result : Result T StepNo) (bs : List Batch) → IsStep told sysa.0 line batch batches bs a a' b b' v v' result → (d : Dev) → v'.loses d ≡ loses_after_step d s (v.loses d)
-    deck_grow result bs step d = step.loses d ∙ sym (deck_counts d fields (v.loses d)) ∙ ap (λ (x : Turn). loses_after_step d x (v.loses d)) (sym is)
+    task_grow : {T : Type 0} (result : Result T NodeNo) (bs : List Batch) → IsStep told sysa.0 lines batch batches bs a a' b b' v v' result → (d : Dev) → v'.loses d ≡ loses_after_step d s (v.loses d)
+    task_grow result bs step d = step.loses d ∙ sym (task_counts d task (v.loses d)) ∙ ap (λ (x : Turn). loses_after_step d x (v.loses d)) (sym is)
 
-    lines_are : line ∷ [] ≡ step_lines (run base (kept_all batches)) (1 + i) s
+    lines_are : lines ≡ step_lines (run base (kept_all batches)) (1 + i) s
     lines_are = ap (λ (x : Turn). step_lines (run base (kept_all batches)) (1 + i) x) (sym is)
 
-    pub played_deck : {T : Type 0} (done : T) (bs : List Batch) → IsStep told sysa.0 line batch batches bs a a' b b' v v' (Ok done) → HavePlayed told base asked (i + 1) bs a0 a' b0 b' v0 v'
-    played_deck done bs step = record {
+    pub played_task : {T : Type 0} (done : T) (bs : List Batch) → IsStep told sysa.0 lines batch batches bs a a' b b' v v' (Ok done) → HavePlayed told base asked (i + 1) bs a0 a' b0 b' v0 v'
+    played_task done bs step = record {
       course = course_now step.course;
       left = left_then a a' b b' v0 v v' played.left step.cause step.course.grow;
-      kept = kept_deck bs step.journal step.course.goes.later;
-      loses = loses_now (deck_grow (Ok done) bs step);
-      elsewhere = elsewhere_now step.course step.elsewhere;
-      said = λ t. said_more (line ∷ []) lines_are (played.said t) (step.console t);
+      kept = kept_task bs step.journal step.course.goes.later;
+      loses = loses_now (task_grow (Ok done) bs step);
+      elsewhere = elsewhere_now step.course step.others;
+      said = λ t. said_more lines lines_are (played.said t) (step.console t);
     }
 
     -- STEPS THAT END THE RUN
 
-    abbrev Played : {T : Type 0} → List Batch → Result T StepNo → Type 0
+    abbrev Played : {T : Type 0} → List Batch → Result T NodeNo → Type 0
     Played bs result = ArePlayed told base asked bs a0 a' b0 b' v0 v' result
 
     still : v.now ≤ v'.now → AreKept base 1 (take i asked) v0.now v'.now batches
     still le = kept_later base 1 (take i asked) v0.now v.now v'.now batches le played.kept
 
-    same_counts : {T : Type 0} (result : Result T StepNo) (bs : List Batch) → IsStep told sysa.0 line batch batches bs a a' b b' v v' result → (d : Dev) → v'.loses d ≡ loses_after d (take i asked) (v0.loses d)
+    same_counts : {T : Type 0} (result : Result T NodeNo) (bs : List Batch) → IsStep told sysa.0 lines batch batches bs a a' b b' v v' result → (d : Dev) → v'.loses d ≡ loses_after d (take i asked) (v0.loses d)
     same_counts result bs step d = step.loses d ∙ played.loses d
 
-    pub played_unplayed : {T : Type 0} (bs : List Batch) → IsStep {T = T} told sysa.0 line batch batches bs a a' b b' v v' (Err no_step.NoMemory) → ArePlayed {T = T} told base asked bs a0 a' b0 b' v0 v' (Err no_step.NoMemory)
+    pub played_unplayed : {T : Type 0} (bs : List Batch) → IsStep {T = T} told sysa.0 lines batch batches bs a a' b b' v v' (Err no_node.NoMemory) → ArePlayed {T = T} told base asked bs a0 a' b0 b' v0 v' (Err no_node.NoMemory)
     played_unplayed bs step =
         let kept : AreKept base 1 (take i asked) v0.now v'.now bs = subst (AreKept base 1 (take i asked) v0.now v'.now) (sym step.journal) (still step.course.goes.later) in
         record {
@@ -326,28 +357,28 @@ module _ (told : Type 0) (base : Queue) (asked : List Turn) (i : ℕ) (s : Turn)
           closed = i;
           few = (omega arith, omega arith, omega arith);
           course = course_now step.course;
-          left = left_then a a' b b' v0 v v' played.left step.cause step.course.grow;
+          left = left_then a a' b b' v0 v v' played.left (inr step.cause) step.course.grow;
           history = record { front = bs; are_kept = kept; rest = inl refl };
           ends = (refl, kept);
-          loses = same_counts (Err no_step.NoMemory) bs step;
-          elsewhere = elsewhere_now step.course step.elsewhere;
+          loses = same_counts (Err no_node.NoMemory) bs step;
+          elsewhere = elsewhere_now step.course step.others;
           said = λ t. inl (step.console t ∙ played.said t);
         }
 
-    in_flight : (bs : List Batch) → HasFlying batches bs (begun v.now sysa (deck_entries (run base (kept_all batches)) sysa (1 + i) fields)) → v.now ≤ v'.now → IsHistory base asked i v0.now v'.now bs
+    in_flight : (bs : List Batch) → HasFlying batches bs (begun v.now sysa (task_entries (run base (kept_all batches)) (1 + i) task)) → v.now ≤ v'.now → IsHistory base asked i v0.now v'.now bs
     in_flight bs flying le = record {
       front = batches;
       are_kept = still le;
       rest = inr (
-        begun v.now sysa (deck_entries (run base (kept_all batches)) sysa (1 + i) fields),
+        begun v.now sysa (task_entries (run base (kept_all batches)) (1 + i) task),
         flying,
-        subst (λ (xs : List Turn). IsInFlight (queue_after base 1 (take i asked)) (1 + i) xs v0.now v'.now (begun v.now sysa (deck_entries (run base (kept_all batches)) sysa (1 + i) fields)))
+        subst (λ (xs : List Turn). IsInFlight (queue_after base 1 (take i asked)) (1 + i) xs v0.now v'.now (begun v.now sysa (task_entries (run base (kept_all batches)) (1 + i) task)))
             (sym (drop-cons asked i s lt ∙ ap (λ (x : Turn). x ∷ drop (suc i) asked) (sym here ∙ is)))
-            (record { by = refl; entries = ap (λ (R : Queue). deck_entries R sysa (1 + i) fields) queue_is; began = (played.course.goes.later, le) }, refl, refl),
+            (record { by = refl; entries = ap (λ (R : Queue). task_entries R (1 + i) task) queue_is; began = (played.course.goes.later, le) }, refl, refl),
       );
     }
 
-    pub played_lost : {T : Type 0} (bs : List Batch) → IsStep {T = T} told sysa.0 line batch batches bs a a' b b' v v' (Err no_step.Lost) → ArePlayed {T = T} told base asked bs a0 a' b0 b' v0 v' (Err no_step.Lost)
+    pub played_lost : {T : Type 0} (bs : List Batch) → IsStep {T = T} told sysa.0 lines batch batches bs a a' b b' v v' (Err no_node.BothLost) → ArePlayed {T = T} told base asked bs a0 a' b0 b' v0 v' (Err no_node.BothLost)
     played_lost bs step = record {
       kept = i;
       closed = i;
@@ -356,15 +387,15 @@ module _ (told : Type 0) (base : Queue) (asked : List Turn) (i : ℕ) (s : Turn)
       left = tt;
       history = in_flight bs step.journal step.course.goes.later;
       ends = (refl, step.cause);
-      loses = same_counts (Err no_step.Lost) bs step;
-      elsewhere = elsewhere_now step.course step.elsewhere;
+      loses = same_counts (Err no_node.BothLost) bs step;
+      elsewhere = elsewhere_now step.course step.others;
       said = λ t. inl (step.console t ∙ played.said t);
     }
 
-    kept_one : (bs : List Batch) → HasKept batches bs (begun v.now sysa (deck_entries (run base (kept_all batches)) sysa (1 + i) fields)) v'.now → v.now ≤ v'.now → IsHistory base asked (i + 1) v0.now v'.now bs
-    kept_one bs k le = record { front = bs; are_kept = kept_deck bs k le; rest = inl refl }
+    kept_one : (bs : List Batch) → HasKept batches bs (begun v.now sysa (task_entries (run base (kept_all batches)) (1 + i) task)) v'.now → v.now ≤ v'.now → IsHistory base asked (i + 1) v0.now v'.now bs
+    kept_one bs k le = record { front = bs; are_kept = kept_task bs k le; rest = inl refl }
 
-    pub played_unsaid : {T : Type 0} (bs : List Batch) → IsStep {T = T} told sysa.0 line batch batches bs a a' b b' v v' (Err no_step.Unsaid) → ArePlayed {T = T} told base asked bs a0 a' b0 b' v0 v' (Err no_step.Unsaid)
+    pub played_unsaid : {T : Type 0} (bs : List Batch) → IsStep {T = T} told sysa.0 lines batch batches bs a a' b b' v v' (Err no_node.ConsoleFault) → ArePlayed {T = T} told base asked bs a0 a' b0 b' v0 v' (Err no_node.ConsoleFault)
     played_unsaid bs step = record {
       kept = i + 1;
       closed = i;
@@ -372,28 +403,24 @@ module _ (told : Type 0) (base : Queue) (asked : List Turn) (i : ℕ) (s : Turn)
       course = course_now step.course;
       left = left_then a a' b b' v0 v v' played.left step.cause.0 step.course.grow;
       history = kept_one bs step.journal step.course.goes.later;
-      ends = (refl, kept_deck bs step.journal step.course.goes.later, rose_later (v0.faults Console) (v.faults Console) (v'.faults Console) (played.course.goes.faults Console) step.cause.1);
-      loses = loses_now (deck_grow (Err no_step.Unsaid) bs step);
-      elsewhere = elsewhere_now step.course step.elsewhere;
-      said = λ t. inl (step.console t ∙ played.said t);
+      ends = (refl, kept_task bs step.journal step.course.goes.later, rose_later (v0.faults Console) (v.faults Console) (v'.faults Console) (played.course.goes.faults Console) step.cause.1);
+      loses = loses_now (task_grow (Err no_node.ConsoleFault) bs step);
+      elsewhere = elsewhere_now step.course step.others;
+      said = λ t. adds_failed (output base (take i asked)) lines (output base (take (i + 1) asked)) (lines_more lines lines_are) (console_now v0) (console_now v) (console_now v') (played.said t) (status.ConsoleFault ≡ status.ConsoleFault) (IsStopped v0 v') refl (step.console t);
     }
 
-    stopped_now : {T : Type 0} (bs : List Batch) → IsStep {T = T} told sysa.0 line batch batches bs a a' b b' v v' (Err no_step.Stopped) → IsStopped v0 v'
+    stopped_now : {T : Type 0} (bs : List Batch) → IsStep {T = T} told sysa.0 lines batch batches bs a a' b b' v v' (Err no_node.Halted) → IsStopped v0 v'
     stopped_now bs step = rose_later (v0.stops sysa.0) (v.stops sysa.0) (v'.stops sysa.0) (played.course.goes.stops sysa.0) step.cause.1
 
-    torn_now : (text : List ℕ) → console_now v ≡ console_now v0 ++ map whole (output base (take i asked)) → console_now v' ≡ console_now v ++ torn text ∷ []
-        → console_now v' ≡ (console_now v0 ++ map whole (output base (take i asked))) ++ torn text ∷ []
-    torn_now text before now = now ∙ ap (λ (ls : List Line). ls ++ torn text ∷ []) before
-
-    not_both : (bs : List Batch) → HasFlying batches bs (begun v.now sysa (deck_entries (run base (kept_all batches)) sysa (1 + i) fields)) → HasKept batches bs (begun v.now sysa (deck_entries (run base (kept_all batches)) sysa (1 + i) fields)) v'.now → ⊥
+    not_both : (bs : List Batch) → HasFlying batches bs (begun v.now sysa (task_entries (run base (kept_all batches)) (1 + i) task)) → HasKept batches bs (begun v.now sysa (task_entries (run base (kept_all batches)) (1 + i) task)) v'.now → ⊥
     not_both bs flying k =
-        let same : Flying ≡ Kept = sym (last_fate_is batches (begun v.now sysa (deck_entries (run base (kept_all batches)) sysa (1 + i) fields))) ∙ ap last_fate (sym flying ∙ k.3)
-        ∙ last_fate_is batches (fated Kept k.0 (begun v.now sysa (deck_entries (run base (kept_all batches)) sysa (1 + i) fields))) in
+        let same : Flying ≡ Kept = sym (last_fate_is batches (begun v.now sysa (task_entries (run base (kept_all batches)) (1 + i) task))) ∙ ap last_fate (sym flying ∙ k.3)
+        ∙ last_fate_is batches (fated Kept k.0 (begun v.now sysa (task_entries (run base (kept_all batches)) (1 + i) task))) in
         cc
 
-    pub played_stopped : {T : Type 0} (bs : List Batch) → IsStep {T = T} told sysa.0 line batch batches bs a a' b b' v v' (Err no_step.Stopped) → ArePlayed {T = T} told base asked bs a0 a' b0 b' v0 v' (Err no_step.Stopped)
+    pub played_stopped : {T : Type 0} (bs : List Batch) → IsStep {T = T} told sysa.0 lines batch batches bs a a' b b' v v' (Err no_node.Halted) → ArePlayed {T = T} told base asked bs a0 a' b0 b' v0 v' (Err no_node.Halted)
     played_stopped {T = T} bs step = ⊎_elim in_the_middle at_the_end step.journal where
-      in_the_middle : HasFlying batches bs (begun v.now sysa (deck_entries (run base (kept_all batches)) sysa (1 + i) fields)) → ArePlayed {T = T} told base asked bs a0 a' b0 b' v0 v' (Err no_step.Stopped)
+      in_the_middle : HasFlying batches bs (begun v.now sysa (task_entries (run base (kept_all batches)) (1 + i) task)) → ArePlayed {T = T} told base asked bs a0 a' b0 b' v0 v' (Err no_node.Halted)
       in_the_middle flying = record {
         kept = i;
         closed = i;
@@ -402,14 +429,12 @@ module _ (told : Type 0) (base : Queue) (asked : List Turn) (i : ℕ) (s : Turn)
         left = left_then a a' b b' v0 v v' played.left step.cause.0 step.course.grow;
         history = in_flight bs flying step.course.goes.later;
         ends = stopped_now bs step;
-        loses = same_counts (Err no_step.Stopped) bs step;
-        elsewhere = elsewhere_now step.course step.elsewhere;
-        said = λ t. ⊎_elim (λ none. inl (none ∙ played.said t))
-            (λ more. ⊎_elim (λ all. absurd (not_both bs flying all.1)) (λ part. inr (inr (part.0, torn_now part.0 (played.said t) part.1, stopped_now bs step))) more)
-            (step.console t);
+        loses = same_counts (Err no_node.Halted) bs step;
+        elsewhere = elsewhere_now step.course step.others;
+        said = λ t. ⊎_elim (λ none. inl (none ∙ played.said t)) (λ more. absurd (not_both bs flying more.0)) (step.console t);
       }
 
-      at_the_end : HasKept batches bs (begun v.now sysa (deck_entries (run base (kept_all batches)) sysa (1 + i) fields)) v'.now → ArePlayed {T = T} told base asked bs a0 a' b0 b' v0 v' (Err no_step.Stopped)
+      at_the_end : HasKept batches bs (begun v.now sysa (task_entries (run base (kept_all batches)) (1 + i) task)) v'.now → ArePlayed {T = T} told base asked bs a0 a' b0 b' v0 v' (Err no_node.Halted)
       at_the_end k = record {
         kept = i + 1;
         closed = i;
@@ -418,20 +443,21 @@ module _ (told : Type 0) (base : Queue) (asked : List Turn) (i : ℕ) (s : Turn)
         left = left_then a a' b b' v0 v v' played.left step.cause.0 step.course.grow;
         history = kept_one bs k step.course.goes.later;
         ends = stopped_now bs step;
-        loses = loses_now (deck_grow (Err no_step.Stopped) bs step);
-        elsewhere = elsewhere_now step.course step.elsewhere;
+        loses = loses_now (task_grow (Err no_node.Halted) bs step);
+        elsewhere = elsewhere_now step.course step.others;
         said = λ t. ⊎_elim (λ none. inl (none ∙ played.said t))
-            (λ more. ⊎_elim (λ all. inr (inl (said_more (line ∷ []) lines_are (played.said t) all.0, stopped_now bs step))) (λ part. inr (inr (part.0, torn_now part.0 (played.said t) part.1, stopped_now bs step))) more)
+            (λ more. adds_stopped (output base (take i asked)) lines (output base (take (i + 1) asked)) (lines_more lines lines_are) (console_now v0) (console_now v) (console_now v') (played.said t)
+            (status.Done ≡ status.ConsoleFault) (IsStopped v0 v') (stopped_now bs step) more.1 more.2 more.3)
             (step.console t);
       }
 
-  -- A DECK WHOSE MEMBER DOESN'T GET THE LOCK
+  -- A STEP WHOSE MEMBER DOESN'T GET THE LOCK
 
   module _ (why : LockNo) (is : s ≡ Denied why) where
-    abbrev said_line : List ℕ
-    said_line = denied_line sysa (1 + i) why
+    abbrev said_lines : List (List ℕ)
+    said_lines = denied_lines sysa (1 + i) why
 
-    lines_denied : said_line ∷ [] ≡ step_lines (run base (kept_all batches)) (1 + i) s
+    lines_denied : said_lines ≡ step_lines (run base (kept_all batches)) (1 + i) s
     lines_denied = ap (λ (x : Turn). step_lines (run base (kept_all batches)) (1 + i) x) (sym is)
 
     kept_denied : (bs : List Batch) → bs ≡ batches → v.now ≤ v'.now → AreKept base 1 (take (i + 1) asked) v0.now v'.now bs
@@ -443,17 +469,17 @@ module _ (told : Type 0) (base : Queue) (asked : List Turn) (i : ℕ) (s : Turn)
     denied_grow : ((d : Dev) → v'.loses d ≡ v.loses d) → (d : Dev) → v'.loses d ≡ loses_after_step d s (v.loses d)
     denied_grow loses d = loses d ∙ sym (denied_counts d why (v.loses d)) ∙ ap (λ (x : Turn). loses_after_step d x (v.loses d)) (sym is)
 
-    pub played_denied : {T : Type 0} (done : T) (bs : List Batch) → IsDenial told sysa.0 said_line batches bs a a' b b' v v' (Ok done) → HavePlayed told base asked (i + 1) bs a0 a' b0 b' v0 v'
+    pub played_denied : {T : Type 0} (done : T) (bs : List Batch) → IsDenial told sysa.0 said_lines batches bs a a' b b' v v' (Ok done) → HavePlayed told base asked (i + 1) bs a0 a' b0 b' v0 v'
     played_denied done bs step = record {
       course = course_now step.course;
       left = left_then a a' b b' v0 v v' played.left step.cause step.course.grow;
       kept = kept_denied bs step.same step.course.goes.later;
       loses = loses_now (denied_grow step.loses);
-      elsewhere = elsewhere_now step.course step.elsewhere;
-      said = λ t. said_more (said_line ∷ []) lines_denied (played.said t) (step.console t);
+      elsewhere = elsewhere_now step.course step.others;
+      said = λ t. said_more said_lines lines_denied (played.said t) (step.console t);
     }
 
-    pub denied_unplayed : {T : Type 0} (bs : List Batch) → IsDenial {T = T} told sysa.0 said_line batches bs a a' b b' v v' (Err no_step.NoMemory) → ArePlayed {T = T} told base asked bs a0 a' b0 b' v0 v' (Err no_step.NoMemory)
+    pub denied_unplayed : {T : Type 0} (bs : List Batch) → IsDenial {T = T} told sysa.0 said_lines batches bs a a' b b' v v' (Err no_node.NoMemory) → ArePlayed {T = T} told base asked bs a0 a' b0 b' v0 v' (Err no_node.NoMemory)
     denied_unplayed bs step =
         let kept : AreKept base 1 (take i asked) v0.now v'.now bs = subst (AreKept base 1 (take i asked) v0.now v'.now) (sym step.same) (kept_later base 1 (take i asked) v0.now v.now v'.now batches step.course.goes.later played.kept) in
         record {
@@ -461,15 +487,15 @@ module _ (told : Type 0) (base : Queue) (asked : List Turn) (i : ℕ) (s : Turn)
           closed = i;
           few = (omega arith, omega arith, omega arith);
           course = course_now step.course;
-          left = left_then a a' b b' v0 v v' played.left step.cause step.course.grow;
+          left = left_then a a' b b' v0 v v' played.left (inr step.cause) step.course.grow;
           history = record { front = bs; are_kept = kept; rest = inl refl };
           ends = (refl, kept);
           loses = λ d. step.loses d ∙ played.loses d;
-          elsewhere = elsewhere_now step.course step.elsewhere;
+          elsewhere = elsewhere_now step.course step.others;
           said = λ t. inl (step.console t ∙ played.said t);
         }
 
-    pub denied_unsaid : {T : Type 0} (bs : List Batch) → IsDenial {T = T} told sysa.0 said_line batches bs a a' b b' v v' (Err no_step.Unsaid) → ArePlayed {T = T} told base asked bs a0 a' b0 b' v0 v' (Err no_step.Unsaid)
+    pub denied_unsaid : {T : Type 0} (bs : List Batch) → IsDenial {T = T} told sysa.0 said_lines batches bs a a' b b' v v' (Err no_node.ConsoleFault) → ArePlayed {T = T} told base asked bs a0 a' b0 b' v0 v' (Err no_node.ConsoleFault)
     denied_unsaid bs step = record {
       kept = i + 1;
       closed = i;
@@ -479,11 +505,11 @@ module _ (told : Type 0) (base : Queue) (asked : List Turn) (i : ℕ) (s : Turn)
       history = record { front = bs; are_kept = kept_denied bs step.same step.course.goes.later; rest = inl refl };
       ends = (refl, kept_denied bs step.same step.course.goes.later, rose_later (v0.faults Console) (v.faults Console) (v'.faults Console) (played.course.goes.faults Console) step.cause.1);
       loses = loses_now (denied_grow step.loses);
-      elsewhere = elsewhere_now step.course step.elsewhere;
-      said = λ t. inl (step.console t ∙ played.said t);
+      elsewhere = elsewhere_now step.course step.others;
+      said = λ t. adds_failed (output base (take i asked)) said_lines (output base (take (i + 1) asked)) (lines_more said_lines lines_denied) (console_now v0) (console_now v) (console_now v') (played.said t) (status.ConsoleFault ≡ status.ConsoleFault) (IsStopped v0 v') refl (step.console t);
     }
 
-    pub denied_stopped : {T : Type 0} (bs : List Batch) → IsDenial {T = T} told sysa.0 said_line batches bs a a' b b' v v' (Err no_step.Stopped) → ArePlayed {T = T} told base asked bs a0 a' b0 b' v0 v' (Err no_step.Stopped)
+    pub denied_stopped : {T : Type 0} (bs : List Batch) → IsDenial {T = T} told sysa.0 said_lines batches bs a a' b b' v v' (Err no_node.Halted) → ArePlayed {T = T} told base asked bs a0 a' b0 b' v0 v' (Err no_node.Halted)
     denied_stopped bs step =
         let stopped : IsStopped v0 v' = rose_later (v0.stops sysa.0) (v.stops sysa.0) (v'.stops sysa.0) (played.course.goes.stops sysa.0) step.cause.1 in
         record {
@@ -495,10 +521,10 @@ module _ (told : Type 0) (base : Queue) (asked : List Turn) (i : ℕ) (s : Turn)
           history = record { front = bs; are_kept = kept_denied bs step.same step.course.goes.later; rest = inl refl };
           ends = stopped;
           loses = loses_now (denied_grow step.loses);
-          elsewhere = elsewhere_now step.course step.elsewhere;
+          elsewhere = elsewhere_now step.course step.others;
           said = λ t. ⊎_elim (λ none. inl (none ∙ played.said t))
-              (λ more. ⊎_elim (λ all. inr (inl (said_more (said_line ∷ []) lines_denied (played.said t) all.0, stopped)))
-              (λ part. inr (inr (part.0, part.1 ∙ ap (λ (ls : List Line). ls ++ torn part.0 ∷ []) (played.said t), stopped))) more)
+              (λ more. adds_stopped (output base (take i asked)) said_lines (output base (take (i + 1) asked)) (lines_more said_lines lines_denied) (console_now v0) (console_now v) (console_now v') (played.said t)
+              (status.Done ≡ status.ConsoleFault) (IsStopped v0 v') stopped more.1 more.2 more.3)
               (step.console t);
         }
 
@@ -507,21 +533,21 @@ module _ (told : Type 0) (base : Queue) (asked : List Turn) (i : ℕ) (s : Turn)
   pub played_on : {T : Type 0} (done : T) (bs : List Batch) → IfLoss s IsCkpt → IsStepOf told s (run base (kept_all batches)) (1 + i) batches bs a a' b b' v v' (Ok done) → HavePlayed told base asked (i + 1) bs a0 a' b0 b' v0 v'
   played_on {T = T} done bs ckpt step = by_kind s refl ckpt step where
     by_kind : (x : Turn) → s ≡ x → IfLoss x IsCkpt → IsStepOf told x (run base (kept_all batches)) (1 + i) batches bs a a' b b' v v' (Ok done) → HavePlayed told base asked (i + 1) bs a0 a' b0 b' v0 v'
-    by_kind (Granted fields) is ckpt step = played_deck fields is done bs step
+    by_kind (Granted task) is ckpt step = played_task task is done bs step
     by_kind (Denied why) is ckpt step = played_denied why is done bs step
     by_kind (Loss dev) is ckpt step = played_loss dev is ckpt (Ok done) bs step
 
-  pub played_out : {T : Type 0} (why : StepNo) (bs : List Batch) → IsStepOf {T = T} told s (run base (kept_all batches)) (1 + i) batches bs a a' b b' v v' (Err why) → ArePlayed {T = T} told base asked bs a0 a' b0 b' v0 v' (Err why)
+  pub played_out : {T : Type 0} (why : NodeNo) (bs : List Batch) → IsStepOf {T = T} told s (run base (kept_all batches)) (1 + i) batches bs a a' b b' v v' (Err why) → ArePlayed {T = T} told base asked bs a0 a' b0 b' v0 v' (Err why)
   played_out {T = T} why bs step = by_kind s refl why step where
-    by_kind : (x : Turn) → s ≡ x → (why : StepNo) → IsStepOf {T = T} told x (run base (kept_all batches)) (1 + i) batches bs a a' b b' v v' (Err why) → ArePlayed {T = T} told base asked bs a0 a' b0 b' v0 v' (Err why)
-    by_kind (Granted fields) is no_step.NoMemory step = played_unplayed fields is bs step
-    by_kind (Granted fields) is no_step.Lost step = played_lost fields is bs step
-    by_kind (Granted fields) is no_step.Unsaid step = played_unsaid fields is bs step
-    by_kind (Granted fields) is no_step.Stopped step = played_stopped fields is bs step
-    by_kind (Denied why) is no_step.NoMemory step = denied_unplayed why is bs step
-    by_kind (Denied why) is no_step.Lost step = absurd (step.not_lost refl)
-    by_kind (Denied why) is no_step.Unsaid step = denied_unsaid why is bs step
-    by_kind (Denied why) is no_step.Stopped step = denied_stopped why is bs step
+    by_kind : (x : Turn) → s ≡ x → (why : NodeNo) → IsStepOf {T = T} told x (run base (kept_all batches)) (1 + i) batches bs a a' b b' v v' (Err why) → ArePlayed {T = T} told base asked bs a0 a' b0 b' v0 v' (Err why)
+    by_kind (Granted task) is no_node.NoMemory step = played_unplayed task is bs step
+    by_kind (Granted task) is no_node.BothLost step = played_lost task is bs step
+    by_kind (Granted task) is no_node.ConsoleFault step = played_unsaid task is bs step
+    by_kind (Granted task) is no_node.Halted step = played_stopped task is bs step
+    by_kind (Denied why) is no_node.NoMemory step = denied_unplayed why is bs step
+    by_kind (Denied why) is no_node.BothLost step = absurd (step.not_lost refl)
+    by_kind (Denied why) is no_node.ConsoleFault step = denied_unsaid why is bs step
+    by_kind (Denied why) is no_node.Halted step = denied_stopped why is bs step
     by_kind (Loss dev) is why step = absurd (step.done why refl)
 
 -- all steps have been played
@@ -555,19 +581,21 @@ played_none told base asked batches a b v none some = record {
 
 -- THE STEPS OF A SCRIPT, AS THEY ARE TAKEN
 
-pub may_step : (asked : List Asked) (i : ℕ) (d : Asked) (config0 config : Config) (owners0 owners : List Owner) → config ≡ config0 → owners ≡ owners0
-    → All (λ step. IfDeck step (MayEnter config0 owners0 sysa)) asked → i < length asked → IfDeck (get_or asked i d) (MayEnter config owners sysa)
-may_step asked i d config0 config owners0 owners one two all lt =
-    subst (λ (c : Config). IfDeck (get_or asked i d) (MayEnter c owners sysa)) (sym one)
-    (subst (λ (o : List Owner). IfDeck (get_or asked i d) (MayEnter config0 o sysa)) (sym two) (all i d lt))
+pub may_step : (steps : List Asked) (i : ℕ) (d : Asked) (config0 config : Config) → config ≡ config0 → All (IsFitFor config0) steps → i < length steps → IsFitFor config (get_or steps i d)
+may_step steps i d config0 config same all lt = subst (λ (c : Config). IsFitFor c (get_or steps i d)) (sym same) (all i d lt)
 
 pub untold_step : (reads : List ℕ → Option (List ℕ)) (base first : Queue) (since : ℕ) (asked : List Turn) (i k : ℕ) (s : Asked) (Q : Queue) (v0 v : View) → k ≡ 1 + i → k < 2 ^ 64 → i < length asked
-    → (v.world since).console ≡ console_now v0 → console_now v ≡ console_now v0 ++ map whole (output first (take i asked)) → IfDeck s (λ fields. IsUntold (setting reads base since) v (deck_entries Q sysa k fields))
-untold_step reads base first since asked i k (Deck fields) Q v0 v is small lt before now =
-    step_untold reads base Q first (deck_commands Q sysa fields) since 1 k (take i asked) v (console_now v0) small (omega (arith, length-take i asked, is)) before now
-untold_step reads base first since asked i k (Lose dev) Q v0 v is small lt before now = tt
+    → (v.world since).console ≡ console_now v0 → console_now v ≡ console_now v0 ++ map whole (output first (take i asked)) → IfTask s (λ task. IsUntold (setting reads base since) v (task_entries Q k task))
+untold_step reads base first since asked i k s Q v0 v is small lt before now = by_step s where
+  untold : (task : Task) → IsUntold (setting reads base since) v (task_entries Q k task)
+  untold task = step_untold (task_entries Q k task) k small (of_task Q k task) reads base first since 1 (take i asked) v (console_now v0) (omega (arith, length-take i asked, is)) before now
 
-pub step_renamed : {T : Type 0} (told : Type 0) (s : Turn) (Q Q' : Queue) (at at' : ℕ) (front bs bs' : List Batch) (a a' b b' : Bool) (v v' : View) (result : Result T StepNo) → Q ≡ Q' → at ≡ at' → bs ≡ bs'
+  by_step : (s : Asked) → IfTask s (λ task. IsUntold (setting reads base since) v (task_entries Q k task))
+  by_step (asked_of.Deck fields) = untold (Reads fields)
+  by_step (asked_of.Lose dev) = tt
+  by_step (asked_of.Command given) = untold (Gives given)
+
+pub step_renamed : {T : Type 0} (told : Type 0) (s : Turn) (Q Q' : Queue) (at at' : ℕ) (front bs bs' : List Batch) (a a' b b' : Bool) (v v' : View) (result : Result T NodeNo) → Q ≡ Q' → at ≡ at' → bs ≡ bs'
     → IsStepOf told s Q at front bs a a' b b' v v' result → IsStepOf told s Q' at' front bs' a a' b b' v v' result
 step_renamed told s Q Q' at at' front bs bs' a a' b b' v v' result one two three step =
     subst (λ (x : Queue). IsStepOf told s x at' front bs' a a' b b' v v' result) one
@@ -582,33 +610,33 @@ behind_kept opening front news b now k = k.3 ∙ append_assoc opening front (fat
 kept_behind : (opening front more news : List Batch) (b : Batch) (now : ℕ) → news ≡ opening ++ more → HasKept (opening ++ front) news b now → HasKept front more b now
 kept_behind opening front more news b now are k = (k.0, k.1, k.2, append_cancel_left opening more (front ++ fated Kept k.0 b ∷ []) (sym are ∙ behind_kept opening front news b now k))
 
-tells_behind : {T : Type 0} (result : Result T StepNo) (text : List ℕ) (A B : Type 0) (was now : List Line) → (A → B) → Tells result text A was now → Tells result text B was now
-tells_behind (Ok done) text A B was now f t = t
-tells_behind (Err no_step.NoMemory) text A B was now f t = t
-tells_behind (Err no_step.Lost) text A B was now f t = t
-tells_behind (Err no_step.Unsaid) text A B was now f t = t
-tells_behind (Err no_step.Stopped) text A B was now f t = ⊎_elim inl (λ more. inr (⊎_elim (λ all. inl (all.0, f all.1)) inr more)) t
+tells_behind : {T : Type 0} (result : Result T NodeNo) (texts : List (List ℕ)) (A B : Type 0) (was now : List Line) → (A → B) → StepTells result texts A was now → StepTells result texts B was now
+tells_behind (Ok done) texts A B was now f t = t
+tells_behind (Err no_node.NoMemory) texts A B was now f t = t
+tells_behind (Err no_node.BothLost) texts A B was now f t = t
+tells_behind (Err no_node.ConsoleFault) texts A B was now f t = t
+tells_behind (Err no_node.Halted) texts A B was now f t = ⊎_elim inl (λ more. inr (f more.0, more.1, more.2, more.3)) t
 
 -- a step behind such batches
-pub record IsBehind {T : Type 0} (told : Type 0) (s : Turn) (Q : Queue) (at : ℕ) (opening front news : List Batch) (a a' b b' : Bool) (v v' : View) (result : Result T StepNo) : Type 0 where
+pub record IsBehind {T : Type 0} (told : Type 0) (s : Turn) (Q : Queue) (at : ℕ) (opening front news : List Batch) (a a' b b' : Bool) (v v' : View) (result : Result T NodeNo) : Type 0 where
   pub more : List Batch
   pub are : news ≡ opening ++ more
   pub step : IsStepOf told s Q at front more a a' b b' v v' result
 
 module _ {T : Type 0} (told : Type 0) (Q : Queue) (at : ℕ) (opening front news : List Batch) (a a' b b' : Bool) (v v' : View) where
-  leaves_behind : (result : Result T StepNo) (b : Batch) → Leaves result (opening ++ front) news b v'.now → (more : List Batch) × (news ≡ opening ++ more) × Leaves result front more b v'.now
+  leaves_behind : (result : Result T NodeNo) (b : Batch) → StepLeaves result (opening ++ front) news b v'.now → (more : List Batch) × (news ≡ opening ++ more) × StepLeaves result front more b v'.now
   leaves_behind (Ok done) b l = (front ++ fated Kept l.0 b ∷ [], behind_kept opening front news b v'.now l, (l.0, l.1, l.2, refl))
-  leaves_behind (Err no_step.NoMemory) b l = (front, l, refl)
-  leaves_behind (Err no_step.Lost) b l = (front ++ b ∷ [], l ∙ append_assoc opening front (b ∷ []), refl)
-  leaves_behind (Err no_step.Unsaid) b l = (front ++ fated Kept l.0 b ∷ [], behind_kept opening front news b v'.now l, (l.0, l.1, l.2, refl))
-  leaves_behind (Err no_step.Stopped) b l = ⊎_elim
+  leaves_behind (Err no_node.NoMemory) b l = (front, l, refl)
+  leaves_behind (Err no_node.BothLost) b l = (front ++ b ∷ [], l ∙ append_assoc opening front (b ∷ []), refl)
+  leaves_behind (Err no_node.ConsoleFault) b l = (front ++ fated Kept l.0 b ∷ [], behind_kept opening front news b v'.now l, (l.0, l.1, l.2, refl))
+  leaves_behind (Err no_node.Halted) b l = ⊎_elim
       (λ f. (front ++ b ∷ [], f ∙ append_assoc opening front (b ∷ []), inl refl))
       (λ k. (front ++ fated Kept k.0 b ∷ [], behind_kept opening front news b v'.now k, inr (k.0, k.1, k.2, refl)))
       l
 
-  pub step_behind : (s : Turn) (result : Result T StepNo) → IsStepOf told s Q at (opening ++ front) news a a' b b' v v' result → IsBehind told s Q at opening front news a a' b b' v v' result
-  step_behind (Granted fields) result step =
-      let l = leaves_behind result (begun v.now sysa (deck_entries Q sysa at fields)) step.journal in record {
+  pub step_behind : (s : Turn) (result : Result T NodeNo) → IsStepOf told s Q at (opening ++ front) news a a' b b' v v' result → IsBehind told s Q at opening front news a a' b b' v v' result
+  step_behind (Granted task) result step =
+      let l = leaves_behind result (begun v.now sysa (task_entries Q at task)) step.journal in record {
         more = l.0;
         are = l.1;
         step = record {
@@ -616,15 +644,15 @@ module _ {T : Type 0} (told : Type 0) (Q : Queue) (at : ℕ) (opening front news
           loses = step.loses;
           cause = step.cause;
           journal = l.2;
-          elsewhere = step.elsewhere;
-          console = λ t. tells_behind result (deck_line Q sysa at fields) (HasKept (opening ++ front) news (begun v.now sysa (deck_entries Q sysa at fields)) v'.now) (HasKept front l.0 (begun v.now sysa (deck_entries Q sysa at fields)) v'.now)
-              (console_now v) (console_now v') (kept_behind opening front l.0 news (begun v.now sysa (deck_entries Q sysa at fields)) v'.now l.1) (step.console t);
+          others = step.others;
+          console = λ t. tells_behind result (task_lines Q at task) (HasKept (opening ++ front) news (begun v.now sysa (task_entries Q at task)) v'.now) (HasKept front l.0 (begun v.now sysa (task_entries Q at task)) v'.now)
+              (console_now v) (console_now v') (kept_behind opening front l.0 news (begun v.now sysa (task_entries Q at task)) v'.now l.1) (step.console t);
         };
       }
   step_behind (Denied why) result step = record {
     more = front;
     are = step.same;
-    step = record { not_lost = step.not_lost; course = step.course; loses = step.loses; cause = step.cause; same = refl; elsewhere = step.elsewhere; console = step.console };
+    step = record { not_lost = step.not_lost; course = step.course; loses = step.loses; cause = step.cause; same = refl; others = step.others; console = step.console };
   }
   step_behind (Loss dev) result step = record {
     more = front;

@@ -6,7 +6,6 @@ use Rattle.mas_types.specs.declared.answers.Status.{Status}
 use Rattle.mas_types.specs.declared.answers.Status.TheVariants as status
 use Rattle.mas_types.specs.Lists.{first_some}
 use Rattle.mas_types.specs.Limits.{script_bytes}
-use Rattle.mas_run.specs.Words.{are_cold, are_words}
 use Rattle.mas_types.specs.declared.ids.Dev.TheVariants.{Ckpt1, Ckpt2}
 use Rattle.first_script.specs.declared.asked.BadLine.{BadLine}
 use Rattle.mas_run.specs.Refusals.{said_by, bytes_needed, refused_where, refused_line, refusal_before_play, refused_sizes, Answers, is_refusal, IsAsked, IsPlayedOut}
@@ -14,11 +13,11 @@ use Rattle.spool_disk.specs.View.{View}
 use Rattle.spool_disk.specs.Acts.{Rose}
 use Rattle.mas_run.specs.Statuses.{IsCaused, IsStill, is_of_text}
 
-pub answers_asked : (words : List (List ℕ)) (script : List ℕ) (size1 size2 : ℕ) (asked : List Asked) (answer : Status) → are_words words ≡ true → IsAsked script asked
-    → Answers (are_cold words) (first_some (refused_sizes (are_cold words) size1 size2)) answer → Answers (are_cold words) (refusal_before_play words script size1 size2) answer
-answers_asked words script size1 size2 asked answer are is answered =
+pub answers_asked : (cold : Bool) (script : List ℕ) (size1 size2 : ℕ) (asked : List Asked) (answer : Status) → IsAsked script asked
+    → Answers cold (first_some (refused_sizes cold size1 size2)) answer → Answers cold (refusal_before_play cold script size1 size2) answer
+answers_asked cold script size1 size2 asked answer is answered =
     let few : nat_lt script_bytes (length script) ≡ false = grind (arith, nat_tests, is.few) in
-    rw (are, few, is.says) answered
+    rw (few, is.says) answered
 
 -- what nothing hinders ends with Done, or for want of memory
 pub ends : (cold : Bool) (answer : Status) (before after : ℕ) (old new : View) → is_refusal cold answer ≡ false → (answer ≡ status.SourceFault → Rose before after) → IsCaused answer old new → IsStill before after old new
@@ -34,7 +33,7 @@ ends cold status.TooLong before after old new fine source caused still = absurd 
 ends cold (status.NotFormatted first second) before after old new fine source caused still = fine
 ends cold (status.DeviceSize dev size) before after old new fine source caused still = fine
 
--- a failed source and want of memory answer whatever is refused, but wrong words
+-- a failed source and want of memory answer whatever is refused
 sizes_free : (cold small1 small2 : Bool) (size1 size2 : ℕ) (answer : Status) → (answer ≡ status.SourceFault) ⊎ (answer ≡ status.NoMemory)
     → Answers cold (first_some (if cold then refused_where small1 (status.DeviceSize Ckpt1 size1) ∷ refused_where small2 (status.DeviceSize Ckpt2 size2) ∷ [] else [])) answer
 sizes_free true true small2 size1 size2 answer free = inr free
@@ -48,10 +47,10 @@ free_of cold true said small1 small2 size1 size2 answer free = inr free
 free_of cold false (Err bad) small1 small2 size1 size2 answer free = inr free
 free_of cold false (Ok asked) small1 small2 size1 size2 answer free = sizes_free cold small1 small2 size1 size2 answer free
 
-pub free_answer : (words : List (List ℕ)) (script : List ℕ) (size1 size2 : ℕ) (answer : Status) → are_words words ≡ true → (answer ≡ status.SourceFault) ⊎ (answer ≡ status.NoMemory)
-    → Answers (are_cold words) (refusal_before_play words script size1 size2) answer
-free_answer words script size1 size2 answer are free =
-    rw are (free_of (are_cold words) (nat_lt script_bytes (length script)) (said_by script) (nat_lt size1 bytes_needed) (nat_lt size2 bytes_needed) size1 size2 answer free)
+pub free_answer : (cold : Bool) (script : List ℕ) (size1 size2 : ℕ) (answer : Status) → (answer ≡ status.SourceFault) ⊎ (answer ≡ status.NoMemory)
+    → Answers cold (refusal_before_play cold script size1 size2) answer
+free_answer cold script size1 size2 answer free =
+    free_of cold (nat_lt script_bytes (length script)) (said_by script) (nat_lt size1 bytes_needed) (nat_lt size2 bytes_needed) size1 size2 answer free
 
 -- a warm run's status is no refusal but by what it reads
 pub warm_free : (answer : Status) → is_of_text answer ≡ false → is_refusal false answer ≡ false

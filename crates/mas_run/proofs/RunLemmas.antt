@@ -8,14 +8,18 @@ use Rattle.mas_types.specs.declared.ids.MemberId.{MemberId}
 use Rattle.mas_types.specs.declared.queues.Owner.TheVariants.{Free}
 use Rattle.mas_types.specs.Ids.{same_name}
 use Rattle.mas_types.specs.Owners.{is_members}
-use Rattle.lay_bytes.specs.declared.records.JobRec.{JobRec}
+use Rattle.ckpt_pages.specs.Shape.{HasShape}
+use Rattle.queue_effect.specs.Standing.{AreFit, IsFitJob, IsFitOutput}
+use Rattle.member_node.specs.Calls.{Course, Grows, console_now}
+use Rattle.member_node.proofs.CourseLemmas.{left, lost_later, lost_more}
+use Rattle.member_steps.specs.Saying.{torn}
+use Rattle.member_steps.specs.Steps.{AreAllKept}
 use Rattle.ckpt_pages.specs.declared.tables.Tables.{Tables}
 use Rattle.ckpt_pages.specs.QueueOf.{used}
 use Rattle.ckpt_pages.specs.Starts.{empty_tables}
-use Rattle.first_script.specs.declared.asked.Asked.TheVariants.{Deck, Lose}
+use Rattle.first_script.specs.declared.asked.Asked.TheVariants as asked_of
 use Rattle.first_script.specs.Steps.{IsFitStep}
-use Rattle.mas_run.specs.Between.{AreAllKept}
-use Rattle.mas_run.specs.Entering.{MayEnter, AreBelow}
+use Rattle.mas_run.specs.Entering.{HasNoGroups}
 use Rattle.mas_types.specs.declared.ids.Dev.TheVariants.{Ckpt1, Ckpt2, Spool}
 use Rattle.mas_types.specs.declared.ids.Dev.{Dev}
 use Rattle.first_script.specs.declared.asked.Asked.{Asked}
@@ -30,26 +34,24 @@ use Rattle.spool_disk.specs.View.{View, Line, Disk}
 use Rattle.spool_disk.specs.declared.plant.Part.TheVariants.{Disk as DiskPart, Console}
 use Rattle.spool_disk.specs.Acts.{Goes, Rose, top}
 use Rattle.ckpt_copy.specs.Areas.{reads}
-use Rattle.duplex_pair.specs.Halves.{SomeAlive, IsBothLost, IsCkpt}
+use Rattle.duplex_pair.specs.Halves.{SomeAlive, IsBothLost}
 use Rattle.duplex_pair.specs.Both.{PairActed}
 use Rattle.mas_complex.specs.declared.places.Place.TheVariants.{Before}
 use Rattle.mas_complex.specs.Crash.{setting, CopyAt, copy_of}
 use Rattle.mas_complex.specs.Headline.{Headline, AreToldKept, whole}
-use Rattle.mas_run.specs.declared.running.StepNo.{StepNo}
-use Rattle.mas_run.specs.declared.running.StepNo.TheVariants as no_step
+use Rattle.member_node.specs.declared.member.NodeNo.{NodeNo}
+use Rattle.member_node.specs.declared.member.NodeNo.TheVariants as no_node
 use Rattle.mas_run.specs.Decks.{sysa}
 use Rattle.mas_run.specs.Turns.{Turn}
-use Rattle.mas_run.specs.Steps.{IfDeck, IfLose, output, loses_after}
+use Rattle.mas_run.specs.Steps.{IsFitFor, output, loses_after}
 use Rattle.mas_run.specs.Plays.{Ends, IfNotLost, ArePlayed, HasPlay}
-use Rattle.mas_run.specs.Told.{torn, console_now}
-use Rattle.mas_run.specs.Stops.{Course}
 use Rattle.mas_run.specs.Runs.{AreKept, Adds, HasLost, IsStopped, IsRestart, IsReset, IsPlay, HasSteps}
 use Rattle.mas_types.specs.declared.journals.Batch.{Batch}
 use Rattle.mas_complex.specs.Journals.{kept_all, fated}
 use Rattle.mas_complex.specs.Meaning.{run}
 use Rattle.std.proofs.lemmas.List.{append-nil}
-use Rattle.mas_run.specs.Statuses.{Grows, IsCaused, IsCausedFrom, status_of}
-use Rattle.mas_run.proofs.CourseLemmas.{left, lost_later, lost_more, has_lost_later}
+use Rattle.mas_run.specs.Statuses.{IsCaused, IsCausedFrom, status_of}
+use Rattle.mas_run.proofs.CourseLemmas.{has_lost_later}
 
 abbrev fate_code : Fate → ℕ
 fate_code Kept = 0
@@ -76,12 +78,12 @@ told_of base since J v head t from le by at end telling there k d lt has =
 
 -- THE RUN
 
-not_lost : {T : Type 0} (answer : Result T StepNo) (A : Type 0) → status_of answer ≢ status.BothLost → IfNotLost answer A → A
+not_lost : {T : Type 0} (answer : Result T NodeNo) (A : Type 0) → status_of answer ≢ status.BothLost → IfNotLost answer A → A
 not_lost (Ok done) A ne a = a
-not_lost (Err no_step.NoMemory) A ne a = a
-not_lost (Err no_step.Lost) A ne a = absurd (ne refl)
-not_lost (Err no_step.Unsaid) A ne a = a
-not_lost (Err no_step.Stopped) A ne a = a
+not_lost (Err no_node.NoMemory) A ne a = a
+not_lost (Err no_node.BothLost) A ne a = absurd (ne refl)
+not_lost (Err no_node.ConsoleFault) A ne a = a
+not_lost (Err no_node.Halted) A ne a = a
 
 left_now : (old new : View) (a a' b b' : Bool) → (a ≡ true → old.lost (DiskPart Ckpt1) ≡ false) → (b ≡ true → old.lost (DiskPart Ckpt2) ≡ false) → Course a a' b b' old new → SomeAlive a' b' ⊎ HasLost old new
     → ((new.lost (DiskPart Ckpt1) ≡ false) ⊎ (new.lost (DiskPart Ckpt2) ≡ false)) ⊎ HasLost old new
@@ -89,49 +91,49 @@ left_now old new a a' b b' there1 there2 course some =
     ⊎_elim (λ alive. inl (left a' b' alive (λ is. course.there1 is (there1 (course.alive1 is))) (λ is. course.there2 is (there2 (course.alive2 is))))) inr some
 
 module _ {T : Type 0} (told : Type 0) (asked : List Turn) (base : Queue) (journal : Journal) (old new : View) (a a' b b' : Bool) where
-  settled : (answer : Result T StepNo) (kept closed : ℕ) (A : Type 0) → status_of answer ≢ status.BothLost → Ends answer kept closed (length asked) A a' b' old new → A ⊎ IsStopped old new
+  settled : (answer : Result T NodeNo) (kept closed : ℕ) (A : Type 0) → status_of answer ≢ status.BothLost → Ends answer kept closed (length asked) A a' b' old new → A ⊎ IsStopped old new
   settled (Ok done) kept closed A ne ends = inl ends.2
-  settled (Err no_step.NoMemory) kept closed A ne ends = inl ends.1
-  settled (Err no_step.Lost) kept closed A ne ends = absurd (ne refl)
-  settled (Err no_step.Unsaid) kept closed A ne ends = inl ends.1
-  settled (Err no_step.Stopped) kept closed A ne ends = inr ends
+  settled (Err no_node.NoMemory) kept closed A ne ends = inl ends.1
+  settled (Err no_node.BothLost) kept closed A ne ends = absurd (ne refl)
+  settled (Err no_node.ConsoleFault) kept closed A ne ends = inl ends.1
+  settled (Err no_node.Halted) kept closed A ne ends = inr ends
 
-  finished : (answer : Result T StepNo) (kept closed : ℕ) (A : Type 0) → status_of answer ≡ status.Done → Ends answer kept closed (length asked) A a' b' old new → (closed ≡ length asked) ⊎ IsStopped old new
+  finished : (answer : Result T NodeNo) (kept closed : ℕ) (A : Type 0) → status_of answer ≡ status.Done → Ends answer kept closed (length asked) A a' b' old new → (closed ≡ length asked) ⊎ IsStopped old new
   finished (Ok done) kept closed A e ends = inl ends.1
-  finished (Err no_step.NoMemory) kept closed A e ends = absurd (cc)
-  finished (Err no_step.Lost) kept closed A e ends = absurd (cc)
-  finished (Err no_step.Unsaid) kept closed A e ends = absurd (cc)
-  finished (Err no_step.Stopped) kept closed A e ends = inr ends
+  finished (Err no_node.NoMemory) kept closed A e ends = absurd (cc)
+  finished (Err no_node.BothLost) kept closed A e ends = absurd (cc)
+  finished (Err no_node.ConsoleFault) kept closed A e ends = absurd (cc)
+  finished (Err no_node.Halted) kept closed A e ends = inr ends
 
-  one_unsaid : (answer : Result T StepNo) (kept closed : ℕ) (A : Type 0) → status_of answer ≡ status.ConsoleFault → Ends answer kept closed (length asked) A a' b' old new → kept ≡ closed + 1
+  one_unsaid : (answer : Result T NodeNo) (kept closed : ℕ) (A : Type 0) → status_of answer ≡ status.ConsoleFault → Ends answer kept closed (length asked) A a' b' old new → kept ≡ closed + 1
   one_unsaid (Ok done) kept closed A e ends = absurd (cc)
-  one_unsaid (Err no_step.NoMemory) kept closed A e ends = absurd (cc)
-  one_unsaid (Err no_step.Lost) kept closed A e ends = absurd (cc)
-  one_unsaid (Err no_step.Unsaid) kept closed A e ends = ends.0
-  one_unsaid (Err no_step.Stopped) kept closed A e ends = absurd (cc)
+  one_unsaid (Err no_node.NoMemory) kept closed A e ends = absurd (cc)
+  one_unsaid (Err no_node.BothLost) kept closed A e ends = absurd (cc)
+  one_unsaid (Err no_node.ConsoleFault) kept closed A e ends = ends.0
+  one_unsaid (Err no_node.Halted) kept closed A e ends = absurd (cc)
 
-  none_unplayed : (answer : Result T StepNo) (kept closed : ℕ) (A : Type 0) → status_of answer ≡ status.NoMemory → Ends answer kept closed (length asked) A a' b' old new → kept ≡ closed
+  none_unplayed : (answer : Result T NodeNo) (kept closed : ℕ) (A : Type 0) → status_of answer ≡ status.NoMemory → Ends answer kept closed (length asked) A a' b' old new → kept ≡ closed
   none_unplayed (Ok done) kept closed A e ends = absurd (cc)
-  none_unplayed (Err no_step.NoMemory) kept closed A e ends = ends.0
-  none_unplayed (Err no_step.Lost) kept closed A e ends = absurd (cc)
-  none_unplayed (Err no_step.Unsaid) kept closed A e ends = absurd (cc)
-  none_unplayed (Err no_step.Stopped) kept closed A e ends = absurd (cc)
+  none_unplayed (Err no_node.NoMemory) kept closed A e ends = ends.0
+  none_unplayed (Err no_node.BothLost) kept closed A e ends = absurd (cc)
+  none_unplayed (Err no_node.ConsoleFault) kept closed A e ends = absurd (cc)
+  none_unplayed (Err no_node.Halted) kept closed A e ends = absurd (cc)
 
-  none_unkept : (answer : Result T StepNo) (kept closed : ℕ) (A : Type 0) → status_of answer ≡ status.BothLost → Ends answer kept closed (length asked) A a' b' old new → (kept ≡ closed) × IsBothLost a' b'
+  none_unkept : (answer : Result T NodeNo) (kept closed : ℕ) (A : Type 0) → status_of answer ≡ status.BothLost → Ends answer kept closed (length asked) A a' b' old new → (kept ≡ closed) × IsBothLost a' b'
   none_unkept (Ok done) kept closed A e ends = absurd (cc)
-  none_unkept (Err no_step.NoMemory) kept closed A e ends = absurd (cc)
-  none_unkept (Err no_step.Lost) kept closed A e ends = ends
-  none_unkept (Err no_step.Unsaid) kept closed A e ends = absurd (cc)
-  none_unkept (Err no_step.Stopped) kept closed A e ends = absurd (cc)
+  none_unkept (Err no_node.NoMemory) kept closed A e ends = absurd (cc)
+  none_unkept (Err no_node.BothLost) kept closed A e ends = ends
+  none_unkept (Err no_node.ConsoleFault) kept closed A e ends = absurd (cc)
+  none_unkept (Err no_node.Halted) kept closed A e ends = absurd (cc)
 
-  console_failed : (answer : Result T StepNo) (kept closed : ℕ) (A : Type 0) → status_of answer ≡ status.ConsoleFault → Ends answer kept closed (length asked) A a' b' old new → Rose (old.faults Console) (new.faults Console)
+  console_failed : (answer : Result T NodeNo) (kept closed : ℕ) (A : Type 0) → status_of answer ≡ status.ConsoleFault → Ends answer kept closed (length asked) A a' b' old new → Rose (old.faults Console) (new.faults Console)
   console_failed (Ok done) kept closed A e ends = absurd (cc)
-  console_failed (Err no_step.NoMemory) kept closed A e ends = absurd (cc)
-  console_failed (Err no_step.Lost) kept closed A e ends = absurd (cc)
-  console_failed (Err no_step.Unsaid) kept closed A e ends = ends.2
-  console_failed (Err no_step.Stopped) kept closed A e ends = absurd (cc)
+  console_failed (Err no_node.NoMemory) kept closed A e ends = absurd (cc)
+  console_failed (Err no_node.BothLost) kept closed A e ends = absurd (cc)
+  console_failed (Err no_node.ConsoleFault) kept closed A e ends = ends.2
+  console_failed (Err no_node.Halted) kept closed A e ends = absurd (cc)
 
-  pub caused_by_steps : (rest : List Batch) (answer : Result T StepNo) → ArePlayed told base asked rest a a' b b' old new answer → (a' ≡ false → new.lost (DiskPart Ckpt1) ≡ true) → (b' ≡ false → new.lost (DiskPart Ckpt2) ≡ true)
+  pub caused_by_steps : (rest : List Batch) (answer : Result T NodeNo) → ArePlayed told base asked rest a a' b b' old new answer → (a' ≡ false → new.lost (DiskPart Ckpt1) ≡ true) → (b' ≡ false → new.lost (DiskPart Ckpt2) ≡ true)
       → IsCausedFrom a b (status_of answer) old new
   caused_by_steps rest answer p lost1 lost2 = record {
     lost = λ e. let both = (none_unkept answer p.kept p.closed (AreKept base 1 (take p.kept asked) old.now new.now rest) e p.ends).1 in (lost1 both.0, lost2 both.1);
@@ -142,7 +144,7 @@ module _ {T : Type 0} (told : Type 0) (asked : List Turn) (base : Queue) (journa
 
 -- what was played, from what its steps leave
 pub play_of_steps : {T : Type 0} (told : Type 0) (asked : List Turn) (base : Queue) (front : List Batch) (journal : Journal) (since : ℕ) (old new : View) (a a' b b' : Bool) → (told → ∥ Headline reads base since journal new ∥₁)
-    → (a ≡ true → old.lost (DiskPart Ckpt1) ≡ false) → (b ≡ true → old.lost (DiskPart Ckpt2) ≡ false) → (answer : Result T StepNo)
+    → (a ≡ true → old.lost (DiskPart Ckpt1) ≡ false) → (b ≡ true → old.lost (DiskPart Ckpt2) ≡ false) → (answer : Result T NodeNo)
     → HasPlay told (run base (kept_all front)) asked front journal.batches a a' b b' old new answer → IsPlay told asked (status_of answer) base front journal since old new
 play_of_steps {T = T} told asked base front journal since old new a a' b b' head there1 there2 answer has =
     let p = has.played in
@@ -206,10 +208,11 @@ module _ (entry old new : View) (goes : Goes entry old) where
   stopped_since : IsStopped old new → IsStopped entry new
   stopped_since s = omega (arith, goes.stops sysa.0, s)
 
-  adds_since : (closed kept : List (List ℕ)) → console_now old ≡ console_now entry → Adds closed kept (console_now old) (console_now new) (IsStopped old new) → Adds closed kept (console_now entry) (console_now new) (IsStopped entry new)
-  adds_since closed kept quiet adds = ⊎_elim (λ none. inl (none ∙ ap (λ (ls : List Line). ls ++ map whole closed) quiet))
-      (λ more. ⊎_elim (λ all. inr (inl (all.0 ∙ ap (λ (ls : List Line). ls ++ map whole kept) quiet, stopped_since all.1)))
-      (λ part. inr (inr (part.0, part.1 ∙ ap (λ (ls : List Line). (ls ++ map whole closed) ++ torn part.0 ∷ []) quiet, stopped_since part.2))) more)
+  adds_since : (closed kept : List (List ℕ)) (failed : Type 0) → console_now old ≡ console_now entry → Adds closed kept (console_now old) (console_now new) failed (IsStopped old new) → Adds closed kept (console_now entry) (console_now new) failed (IsStopped entry new)
+  adds_since closed kept failed quiet adds = ⊎_elim (λ none. inl (none ∙ ap (λ (ls : List Line). ls ++ map whole closed) quiet))
+      (λ more. ⊎_elim (λ some. inr (inl (some.0, some.1, some.2, some.3 ∙ ap (λ (ls : List Line). ls ++ map whole (take some.0 kept)) quiet, some.4)))
+      (λ still. ⊎_elim (λ some. inr (inr (inl (some.0, some.1, some.2, some.3 ∙ ap (λ (ls : List Line). ls ++ map whole (take some.0 kept)) quiet, stopped_since some.4))))
+      (λ part. inr (inr (inr (part.0, part.1, part.2, part.3, part.4 ∙ ap (λ (ls : List Line). (ls ++ map whole (take part.0 kept)) ++ torn part.1 ∷ []) quiet, stopped_since part.5)))) still) more)
       adds
 
   pub steps_since : (cold : Bool) (tells : Type 0) (asked : List Turn) (answer : Status) (base : Queue) (journal : Journal) (since : ℕ) (first : Dev → ℕ) → (tells → console_now old ≡ console_now entry)
@@ -230,7 +233,7 @@ module _ (entry old new : View) (goes : Goes entry old) where
     unsaid = r.unsaid;
     unplayed = r.unplayed;
     unkept = r.unkept;
-    said = λ t. adds_since (output (run base (kept_all r.opening)) (take r.closed asked)) (output (run base (kept_all r.opening)) (take r.kept asked)) (quiet t) (r.said t);
+    said = λ t. adds_since (output (run base (kept_all r.opening)) (take r.closed asked)) (output (run base (kept_all r.opening)) (take r.kept asked)) (answer ≡ status.ConsoleFault) (quiet t) (r.said t);
     loses = r.loses;
     crash = r.crash;
     alike = r.alike;
@@ -257,7 +260,7 @@ module _ (entry old new : View) (goes : Goes entry old) where
     unsaid = p.unsaid;
     unplayed = p.unplayed;
     unkept = p.unkept;
-    said = λ t. adds_since (output (run base (kept_all front)) (take p.closed asked)) (output (run base (kept_all front)) (take p.kept asked)) (quiet t) (p.said t);
+    said = λ t. adds_since (output (run base (kept_all front)) (take p.closed asked)) (output (run base (kept_all front)) (take p.kept asked)) (answer ≡ status.ConsoleFault) (quiet t) (p.said t);
     loses = λ d. p.loses d ∙ ap (loses_after d (take p.kept asked)) (same d);
     crash = p.crash;
     alike = p.alike;
@@ -326,33 +329,29 @@ none_of : (by : MemberId) (n : ℕ) → list_any (is_members by) (replicate n Fr
 none_of by zero = refl
 none_of by (suc n) = none_of by n
 
-none_used : (P : JobRec → Type 0) (n : ℕ) → All P (used (replicate n None))
+none_used : {A : Type 0} (P : A → Type 0) (n : ℕ) → All P (used (replicate n None))
 none_used P zero = All-nil P
 none_used P (suc n) = none_used P n
 
-pub below_empty : (t : Tables) → t ≡ empty_tables default_config [] → AreBelow t
-below_empty t is = subst AreBelow (sym is) (none_used (λ job. job.order < 0) 256)
-
-step_may : (s : Asked) → IsFitStep default_config.node s → IfDeck s (MayEnter default_config (replicate 512 Free) sysa)
-step_may (Deck fields) fit = record {
-  node = ap (λ n. same_name n default_config.node) fit.0 ∙ refl;
-  groups = none_of sysa 512;
-  fit = fit.2 (codes "HERE", refl, refl);
+pub fit_empty : (t : Tables) → t ≡ empty_tables default_config [] → HasShape t → AreFit t
+fit_empty t is shape = record {
+  shape = shape;
+  jobs = subst (λ (u : Tables). All (IsFitJob u.order) (used u.jobs)) (sym is) (none_used (IsFitJob 0) 256);
+  outputs = subst (λ (u : Tables). All (IsFitOutput u.order) (used u.outputs)) (sym is) (none_used (IsFitOutput 0) 512);
 }
-step_may (Lose dev) fit = tt
 
-pub all_may : (t : Tables) (asked : List Asked) → t ≡ empty_tables default_config [] → All (IsFitStep default_config.node) asked → All (λ step. IfDeck step (MayEnter t.config t.owners sysa)) asked
-all_may t asked is fits = subst (λ (u : Tables). All (λ step. IfDeck step (MayEnter u.config u.owners sysa)) asked) (sym is)
-    (All-weaker (IsFitStep default_config.node) (λ step. IfDeck step (MayEnter default_config (replicate 512 Free) sysa)) step_may asked fits)
+pub groups_empty : (t : Tables) → t ≡ empty_tables default_config [] → HasNoGroups sysa t.owners
+groups_empty t is = subst (λ (u : Tables). HasNoGroups sysa u.owners) (sym is) (none_of sysa 512)
 
-copy_of_step : (s : Asked) → IsFitStep default_config.node s → IfLose s IsCkpt
-copy_of_step (Deck fields) fit = tt
-copy_of_step (Lose Ckpt1) fit = tt
-copy_of_step (Lose Ckpt2) fit = tt
-copy_of_step (Lose (Spool v)) fit = absurd fit
+step_may : (s : Asked) → IsFitStep default_config.node s → IsFitFor default_config s
+step_may (asked_of.Deck fields) fit = record { node = ap (λ n. same_name n default_config.node) fit.0 ∙ refl; fit = fit.2 (codes "HERE", refl, refl) }
+step_may (asked_of.Lose Ckpt1) fit = tt
+step_may (asked_of.Lose Ckpt2) fit = tt
+step_may (asked_of.Lose (Spool v)) fit = absurd fit
+step_may (asked_of.Command given) fit = fit
 
-pub all_copies : (asked : List Asked) → All (IsFitStep default_config.node) asked → All (λ step. IfLose step IsCkpt) asked
-all_copies asked fits = All-weaker (IsFitStep default_config.node) (λ step. IfLose step IsCkpt) copy_of_step asked fits
+pub all_may : (t : Tables) (asked : List Asked) → t ≡ empty_tables default_config [] → All (IsFitStep default_config.node) asked → All (IsFitFor t.config) asked
+all_may t asked is fits = subst (λ (u : Tables). All (IsFitFor u.config) asked) (sym is) (All-weaker (IsFitStep default_config.node) (IsFitFor default_config) step_may asked fits)
 
 -- CAUSES, THROUGH RESTART AND THE START
 

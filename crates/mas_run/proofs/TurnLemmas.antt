@@ -6,11 +6,12 @@ use Rattle.lock_cycle.specs.Books.{Book, new_book, try_refusal, wakes}
 use Rattle.lock_cycle.specs.Laws.{tries, frees}
 use Rattle.lock_cycle.proofs.Awake.{IsAwake, awake_new, awake_moved_by, awake_tries}
 use Rattle.first_script.specs.declared.asked.Asked.{Asked}
-use Rattle.first_script.specs.declared.asked.Asked.TheVariants.{Deck, Lose}
+use Rattle.first_script.specs.declared.asked.Asked.TheVariants as asked_of
 use Rattle.mas_run.specs.Decks.{sysa}
-use Rattle.mas_run.specs.Locked.{IsOpenTo}
-use Rattle.mas_run.specs.Turns.{Turn, Granted, Loss, deck_turn, turn_at, book_after, turns_from, granted, AreAwake}
-use Rattle.mas_run.proofs.LockLemmas.{refused_so, opens_again, begins_open}
+use Rattle.member_steps.specs.Locked.{IsOpenTo}
+use Rattle.member_steps.proofs.LockLemmas.{refused_so, opens_again}
+use Rattle.mas_run.specs.Turns.{Reads, Gives, Turn, Granted, Loss, task_turn, turn_at, book_after, turns_from, granted, AreAwake}
+use Rattle.mas_run.proofs.LockLemmas.{begins_open}
 
 -- the book before the step at a place
 abbrev pub book_at : Book → List Asked → ℕ → Book
@@ -60,11 +61,15 @@ gets b awake open_to = by_answer (try_refusal b sysa false) refl where
 
 awake_from : (b : Book) (asked : List Asked) → IsAwake b → IsOpenTo b None sysa → turns_from b asked ≡ map granted asked
 awake_from b [] awake open_to = refl
-awake_from b (Lose dev ∷ asked) awake open_to = ap (λ (l : List Turn). Loss dev ∷ l) (awake_from b asked awake open_to)
-awake_from b (Deck fields ∷ asked) awake open_to =
+awake_from b (asked_of.Lose dev ∷ asked) awake open_to = ap (λ (l : List Turn). Loss dev ∷ l) (awake_from b asked awake open_to)
+awake_from b (asked_of.Deck fields ∷ asked) awake open_to =
     let got : try_refusal b sysa false ≡ None = gets b awake open_to in
-    ap (λ (r : Option LockNo). deck_turn r fields ∷ turns_from (book_after b (Deck fields)) asked) got
-    ∙ ap (λ (l : List Turn). Granted fields ∷ l) (awake_from (book_after b (Deck fields)) asked (awake_moved_by b (tries sysa false ∷ frees sysa false ∷ []) awake) (opens_again b None sysa open_to got))
+    ap (λ (r : Option LockNo). task_turn r (Reads fields) ∷ turns_from (book_after b (asked_of.Deck fields)) asked) got
+    ∙ ap (λ (l : List Turn). Granted (Reads fields) ∷ l) (awake_from (book_after b (asked_of.Deck fields)) asked (awake_moved_by b (tries sysa false ∷ frees sysa false ∷ []) awake) (opens_again b None sysa open_to got))
+awake_from b (asked_of.Command given ∷ asked) awake open_to =
+    let got : try_refusal b sysa false ≡ None = gets b awake open_to in
+    ap (λ (r : Option LockNo). task_turn r (Gives given) ∷ turns_from (book_after b (asked_of.Command given)) asked) got
+    ∙ ap (λ (l : List Turn). Granted (Gives given) ∷ l) (awake_from (book_after b (asked_of.Command given)) asked (awake_moved_by b (tries sysa false ∷ frees sysa false ∷ []) awake) (opens_again b None sysa open_to got))
 
 pub all_awake : AreAwake
 all_awake config asked some none =

@@ -1,5 +1,5 @@
 -- A warm run: what its start leaves, and why it doesn't begin.
-use Rattle.std.proofs.Common.{◌≡◌, ◌≢◌, ◌⊎◌, inl, inr, ⊎_elim, ℕ, ◌<◌, ◌≤◌, ◌==◌, nat_lt, nat_le, not, ◌&&◌, ◌||◌, Bool, true, false, List, [], Option, Some, None, refl, sym, ◌∙◌, ap, subst, arith}
+use Rattle.std.proofs.Common.{◌≡◌, ◌≢◌, ◌⊎◌, inl, inr, ⊎_elim, ℕ, ◌≤◌, nat_lt, Bool, true, false, List, refl, sym, ◌∙◌, ap, subst, arith}
 use Rattle.std.proofs.lemmas.Bool.Decides.{nat_tests}
 use Rattle.mas_types.specs.declared.ids.Dev.{Dev}
 use Rattle.mas_types.specs.declared.ids.Dev.TheVariants.{Ckpt1, Ckpt2, Spool}
@@ -8,21 +8,10 @@ use Rattle.mas_types.specs.declared.answers.Status.{Status}
 use Rattle.mas_types.specs.declared.answers.Status.TheVariants as status
 use Rattle.mas_types.specs.declared.queues.Queue.{Queue}
 use Rattle.mas_types.specs.Starts.{no_queue}
-use Rattle.lay_bytes.specs.declared.records.JobRec.{JobRec}
 use Rattle.ckpt_copy.specs.Areas.{reads, areas_size}
 use Rattle.ckpt_copy.specs.Pages.{bytes_of, level}
 use Rattle.ckpt_pages.specs.declared.tables.Tables.{Tables}
 use Rattle.ckpt_pages.specs.Checkpoints.{IsCheckpoint}
-use Rattle.ckpt_pages.specs.Sound.{is_there, is_above, is_wrong_job_slot}
-use Rattle.ckpt_pages.proofs.SlotLists.{all_right, all_used}
-use Rattle.ckpt_pages.proofs.SoundLemmas.{none_wrong}
-use Rattle.lay_bytes.specs.Slots.{IfUsed}
-use Rattle.mas_types.specs.Ids.{same_number, is_somebody}
-use Rattle.mas_types.specs.Owners.{is_deck_of}
-use Rattle.mas_types.specs.Queue.{in_input}
-use Rattle.mas_types.specs.Sound.{may_be_busy}
-use Rattle.std.specs.List.{list_any}
-use Rattle.std.proofs.lemmas.Bool.{or_parts}
 use Rattle.spool_disk.specs.declared.plant.Part.TheVariants.{Console}
 use Rattle.spool_disk.specs.View.{View, World, disk_now}
 use Rattle.spool_disk.specs.Acts.{Goes}
@@ -33,14 +22,14 @@ use Rattle.warm_start.specs.Levels.{levels_of}
 use Rattle.warm_start.specs.Starting.{IsCauseOf, Starts, IsOnce, IsHeld}
 use Rattle.warm_start.specs.Usable.{AreOf, HaveSize}
 use Rattle.warm_start.proofs.LevelLemmas.{their_levels}
-use Rattle.mas_run.specs.Drawn.{AreDrawn}
-use Rattle.mas_run.specs.Entering.{AreBelow}
+use Rattle.member_node.specs.Calls.{Grows}
+use Rattle.member_node.specs.Drawn.{AreDrawn}
+use Rattle.member_node.specs.Standing.{queue_of}
+use Rattle.member_node.proofs.CourseLemmas.{lost_later, lost_more}
+use Rattle.member_node.proofs.DrawnLemmas.{drawn_level}
 use Rattle.mas_run.specs.Runs.{has_begun, Begins, LosesFirst, IsHeldUntil}
-use Rattle.mas_run.specs.Standing.{queue_of}
-use Rattle.mas_run.specs.Statuses.{Grows, IsCaused, IsCausedFrom, is_of_play, is_of_text}
+use Rattle.mas_run.specs.Statuses.{IsCaused, IsCausedFrom, is_of_play, is_of_text}
 use Rattle.mas_run.specs.Unstarted.{status_of_start, IsNotStarted}
-use Rattle.mas_run.proofs.CourseLemmas.{lost_later, lost_more}
-use Rattle.mas_run.proofs.DrawnLemmas.{drawn_level}
 
 -- WHAT IS FOUND
 
@@ -52,31 +41,6 @@ found_drawn pages t levels at are sized leveled is =
     let same : at ≡ c.level = is ∙ drawn_level t c.level c.levels pages drawn in
     let lists : levels ≡ c.levels = leveled ∙ their_levels pages t c in
     subst (λ (n : ℕ). AreDrawn t n levels pages) (sym same) (subst (λ (ls : List ℕ). AreDrawn t c.level ls pages) (sym lists) drawn)
-
-below_next : (next n : ℕ) → nat_le next n ≡ false → n < next
-below_next next n h = grind (arith, nat_tests)
-
--- a job that isn't wrong has an order below the next one
-job_below : (t : Tables) (before : List (Option JobRec)) (slot : Option JobRec) → is_wrong_job_slot t before slot ≡ false → IfUsed (λ j. j.order < t.order) slot
-job_below t before None h = tt
-job_below t before (Some j) h =
-    let number : Bool = is_there (λ (i : JobRec). same_number i.number j.number) before in
-    let order : Bool = is_there (λ (i : JobRec). i.order == j.order) before in
-    let next : Bool = nat_le t.order j.order in
-    let above : Bool = is_above t j.busy in
-    let phase : Bool = is_somebody j.busy && not (may_be_busy j.phase) in
-    let cards : Bool = in_input j.phase && nat_lt 0 j.cards in
-    let group : Bool = nat_lt 0 j.cards && not (list_any (is_deck_of j.number) t.owners) in
-    let g = or_parts (((((number || order) || next) || above) || phase) || cards) group h in
-    let f = or_parts ((((number || order) || next) || above) || phase) cards g.0 in
-    let e = or_parts (((number || order) || next) || above) phase f.0 in
-    let d = or_parts ((number || order) || next) above e.0 in
-    let c = or_parts (number || order) next d.0 in
-    below_next t.order j.order c.1
-
-pub found_below : (pages : List Page) (t : Tables) → AreOf pages t → AreBelow t
-found_below pages t are =
-    all_used (λ j. j.order < t.order) t.jobs (all_right (is_wrong_job_slot t) (IfUsed (λ j. j.order < t.order)) (job_below t) [] 0 t.jobs (none_wrong t are.1.sound).jobs)
 
 -- its queue has members
 pub found_begun : (pages : List Page) (t : Tables) (base : Queue) → AreOf pages t → base ≡ queue_of t → has_begun base ≡ true

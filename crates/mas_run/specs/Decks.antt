@@ -1,4 +1,4 @@
--- What a deck gives: its commands, and the line with which its step closes.
+-- What a deck gives: its commands, and the lines with which its step closes.
 use Rattle.std.specs.Prelude.{ℕ, List, [], ◌∷◌}
 use Rattle.mas_types.specs.declared.ids.MemberId.{MemberId}
 use Rattle.mas_types.specs.declared.jobs.JobFields.{JobFields}
@@ -6,11 +6,11 @@ use Rattle.mas_types.specs.declared.journals.Entry.{Entry}
 use Rattle.mas_types.specs.declared.commands.Command.{Command}
 use Rattle.mas_types.specs.declared.commands.Command.TheVariants.{Begin, Enter}
 use Rattle.mas_types.specs.declared.commands.Reply.{Reply}
-use Rattle.mas_types.specs.declared.commands.Reply.TheVariants.{Plain, Job}
-use Rattle.mas_types.specs.declared.answers.Closing.TheVariants as closing
+use Rattle.mas_types.specs.declared.commands.Reply.TheVariants.{Job}
 use Rattle.mas_types.specs.declared.queues.Queue.{Queue}
-use Rattle.mas_types.specs.Closings.{closing_line}
 use Rattle.mas_complex.specs.Meaning.{step}
+use Rattle.member_node.specs.Batches.{last_reply}
+use Rattle.member_node.specs.Lines.{reply_lines}
 
 -- the first member, whose decks they are
 abbrev pub sysa : MemberId
@@ -35,12 +35,6 @@ entries_of Q by at (c ∷ cs) =
 abbrev pub deck_entries : Queue → MemberId → ℕ → JobFields → List Entry
 deck_entries Q by at fields = entries_of Q by at (deck_commands Q by fields)
 
--- the reply to the last of some entries
-abbrev pub last_reply : List Entry → Reply
-last_reply [] = Plain
-last_reply (e ∷ []) = e.reply
-last_reply (e ∷ next ∷ es) = last_reply (next ∷ es)
-
--- the line with which the deck's step closes
-abbrev pub deck_line : Queue → MemberId → ℕ → JobFields → List ℕ
-deck_line Q by at fields = closing_line by at (closing.Reply (last_reply (deck_entries Q by at fields)))
+-- the lines with which the deck's step closes: that of the reply to its last command
+abbrev pub deck_lines : Queue → MemberId → ℕ → JobFields → List (List ℕ)
+deck_lines Q by at fields = reply_lines by at (last_reply (deck_entries Q by at fields))

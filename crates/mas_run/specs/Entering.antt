@@ -1,5 +1,5 @@
 -- A job that is entered into tables.
-use Rattle.std.specs.Prelude.{◌≡◌, ℕ, ◌+◌, ◌<◌, true, false, List, [], ◌∷◌, All, Some, None, slice_get, slice_set}
+use Rattle.std.specs.Prelude.{◌≡◌, ℕ, ◌+◌, true, false, List, [], ◌∷◌, Some, None, slice_get, slice_set}
 use Rattle.std.specs.List.{list_any}
 use Rattle.mas_types.specs.declared.ids.MemberId.{MemberId}
 use Rattle.mas_types.specs.declared.ids.JobNo.{JobNo}
@@ -17,23 +17,16 @@ use Rattle.mas_types.specs.Fit.{IsJobFields}
 use Rattle.mas_types.specs.Number.{next_number}
 use Rattle.lay_bytes.specs.declared.records.JobRec.{JobRec}
 use Rattle.ckpt_pages.specs.declared.tables.Tables.{Tables}
-use Rattle.ckpt_pages.specs.QueueOf.{used}
-use Rattle.mas_run.specs.Standing.{queue_of}
-
--- a job of these fields may be entered by the member: its node is the own one, and the member has no groups
-pub record MayEnter (config : Config) (owners : List Owner) (by : MemberId) (fields : JobFields) : Type 0 where
-  pub node : same_name fields.node config.node ≡ true
-  pub groups : list_any (is_members by) owners ≡ false
-  pub fit : IsJobFields fields
+use Rattle.member_node.specs.Standing.{queue_of}
 
 -- a job of these fields is one of the configuration's node
 pub record AreFieldsFor (config : Config) (fields : JobFields) : Type 0 where
   pub node : same_name fields.node config.node ≡ true
   pub fit : IsJobFields fields
 
--- each job's order is below the next one
-abbrev pub AreBelow : Tables → Type 0
-AreBelow t = All (λ job. job.order < t.order) (used t.jobs)
+-- the member has no groups
+abbrev pub HasNoGroups : MemberId → List Owner → Type 0
+HasNoGroups by owners = list_any (is_members by) owners ≡ false
 
 -- the number of a new job
 abbrev pub new_number : Tables → JobNo

@@ -8,14 +8,14 @@ use Rattle.spool_disk.specs.View.{View}
 use Rattle.spool_disk.specs.Acts.{Rose}
 use Rattle.duplex_pair.specs.Halves.{IsBothLost, SomeAlive}
 use Rattle.mas_complex.specs.Headline.{whole}
-use Rattle.mas_run.specs.declared.running.StepNo.{StepNo}
-use Rattle.mas_run.specs.declared.running.StepNo.TheVariants as no_step
-use Rattle.mas_run.specs.Crash.{IsOnlyOn}
+use Rattle.member_node.specs.declared.member.NodeNo.{NodeNo}
+use Rattle.member_node.specs.declared.member.NodeNo.TheVariants as no_node
+use Rattle.member_node.specs.Calls.{Course, IsOnlyOn, console_now}
 use Rattle.mas_run.specs.Runs.{AreKept, IsHistory, Adds, IsStopped, HasLost}
 use Rattle.mas_run.specs.Turns.{Turn}
 use Rattle.mas_run.specs.Steps.{output, loses_after}
-use Rattle.mas_run.specs.Stops.{Course}
-use Rattle.mas_run.specs.Told.{console_now}
+use Rattle.mas_run.specs.Statuses.{status_of}
+use Rattle.mas_types.specs.declared.answers.Status.TheVariants as status
 
 -- So many steps have been played, from the first on, since the plant showed `old`.
 pub record HavePlayed (told : Type 0) (base : Queue) (asked : List Turn) (played : ℕ) (batches : List Batch) (was1 is1 was2 is2 : Bool) (old new : View) : Type 0 where
@@ -27,19 +27,19 @@ pub record HavePlayed (told : Type 0) (base : Queue) (asked : List Turn) (played
   pub said : told → console_now new ≡ console_now old ++ map whole (output base (take played asked))
 
 -- what an answer says: how many steps are kept and closed, whether a batch is in flight, and why
-abbrev pub Ends : {T : Type 0} → Result T StepNo → ℕ → ℕ → ℕ → Type 0 → Bool → Bool → View → View → Type 0
+abbrev pub Ends : {T : Type 0} → Result T NodeNo → ℕ → ℕ → ℕ → Type 0 → Bool → Bool → View → View → Type 0
 Ends (Ok done) kept closed all settled one two old new = (kept ≡ all) × (closed ≡ all) × settled
-Ends (Err no_step.NoMemory) kept closed all settled one two old new = (kept ≡ closed) × settled
-Ends (Err no_step.Lost) kept closed all settled one two old new = (kept ≡ closed) × IsBothLost one two
-Ends (Err no_step.Unsaid) kept closed all settled one two old new = (kept ≡ closed + 1) × settled × Rose (old.faults Console) (new.faults Console)
-Ends (Err no_step.Stopped) kept closed all settled one two old new = IsStopped old new
+Ends (Err no_node.NoMemory) kept closed all settled one two old new = (kept ≡ closed) × settled
+Ends (Err no_node.BothLost) kept closed all settled one two old new = (kept ≡ closed) × IsBothLost one two
+Ends (Err no_node.ConsoleFault) kept closed all settled one two old new = (kept ≡ closed + 1) × settled × Rose (old.faults Console) (new.faults Console)
+Ends (Err no_node.Halted) kept closed all settled one two old new = IsStopped old new
 
-abbrev pub IfNotLost : {T : Type 0} → Result T StepNo → Type 0 → Type 0
-IfNotLost (Err no_step.Lost) P = Unit {0}
+abbrev pub IfNotLost : {T : Type 0} → Result T NodeNo → Type 0 → Type 0
+IfNotLost (Err no_node.BothLost) P = Unit {0}
 IfNotLost _ P = P
 
 -- The steps were played up to the end, or to one that ends the run.
-pub record ArePlayed {T : Type 0} (told : Type 0) (base : Queue) (asked : List Turn) (batches : List Batch) (was1 is1 was2 is2 : Bool) (old new : View) (result : Result T StepNo) : Type 0 where
+pub record ArePlayed {T : Type 0} (told : Type 0) (base : Queue) (asked : List Turn) (batches : List Batch) (was1 is1 was2 is2 : Bool) (old new : View) (result : Result T NodeNo) : Type 0 where
   pub kept : ℕ
   pub closed : ℕ
   pub few : (closed ≤ kept) × (kept ≤ closed + 1) × (kept ≤ length asked)
@@ -49,10 +49,10 @@ pub record ArePlayed {T : Type 0} (told : Type 0) (base : Queue) (asked : List T
   pub ends : Ends result kept closed (length asked) (AreKept base 1 (take kept asked) old.now new.now batches) is1 is2 old new
   pub loses : (d : Dev) → new.loses d ≡ loses_after d (take kept asked) (old.loses d)
   pub elsewhere : told → IsOnlyOn old new
-  pub said : told → Adds (output base (take closed asked)) (output base (take kept asked)) (console_now old) (console_now new) (IsStopped old new)
+  pub said : told → Adds (output base (take closed asked)) (output base (take kept asked)) (console_now old) (console_now new) (status_of result ≡ status.ConsoleFault) (IsStopped old new)
 
 -- They were played over a journal that had these batches, and has so many now.
-pub record HasPlay {T : Type 0} (told : Type 0) (base : Queue) (asked : List Turn) (front batches : List Batch) (was1 is1 was2 is2 : Bool) (old new : View) (result : Result T StepNo) : Type 0 where
+pub record HasPlay {T : Type 0} (told : Type 0) (base : Queue) (asked : List Turn) (front batches : List Batch) (was1 is1 was2 is2 : Bool) (old new : View) (result : Result T NodeNo) : Type 0 where
   pub rest : List Batch
   pub batches_are : batches ≡ front ++ rest
   pub played : ArePlayed told base asked rest was1 is1 was2 is2 old new result

@@ -1,5 +1,5 @@
 -- What is refused before anything is played.
-use Rattle.std.specs.Prelude.{◌≡◌, ◌⊎◌, ℕ, ◌≤◌, ◌<◌, nat_lt, Bool, true, false, not, if◌then◌else◌, List, [], ◌∷◌, length, Option, Some, None, Result, Ok, Err}
+use Rattle.std.specs.Prelude.{◌≡◌, ◌⊎◌, ℕ, ◌≤◌, ◌<◌, nat_lt, Bool, true, false, if◌then◌else◌, List, [], ◌∷◌, length, Option, Some, None, Result, Ok, Err}
 use Rattle.mas_types.specs.declared.ids.Dev.{Dev}
 use Rattle.mas_types.specs.declared.ids.Dev.TheVariants.{Ckpt1, Ckpt2, Spool}
 use Rattle.mas_types.specs.declared.answers.Status.{Status}
@@ -12,7 +12,6 @@ use Rattle.first_script.specs.declared.asked.BadLine.{BadLine}
 use Rattle.first_script.specs.Script.{read_as}
 use Rattle.ckpt_copy.specs.Areas.{areas_size}
 use Rattle.ckpt_pages.specs.Shape.{page_count}
-use Rattle.mas_run.specs.Words.{are_cold, are_words}
 
 -- what a script says to the node of the default configuration: the steps that it asks for, or that a line is refused
 abbrev pub said_by : List ℕ → Result (List Asked) BadLine
@@ -39,13 +38,12 @@ refused_devices size1 size2 =
 abbrev pub refused_sizes : Bool → ℕ → ℕ → List (Option Status)
 refused_sizes cold size1 size2 = if cold then refused_devices size1 size2 else []
 
--- the first that applies to the words, the script and the sizes of CKPT1 and CKPT2
-abbrev pub refusal_before_play : List (List ℕ) → List ℕ → ℕ → ℕ → Option Status
-refusal_before_play words script size1 size2 = first_some (
-    refused_where (not (are_words words)) status.Words
-    ∷ refused_where (nat_lt script_bytes (length script)) status.TooLong
+-- the first that applies to the script and the sizes of CKPT1 and CKPT2
+abbrev pub refusal_before_play : Bool → List ℕ → ℕ → ℕ → Option Status
+refusal_before_play cold script size1 size2 = first_some (
+    refused_where (nat_lt script_bytes (length script)) status.TooLong
     ∷ refused_line (said_by script)
-    ∷ refused_sizes (are_cold words) size1 size2)
+    ∷ refused_sizes cold size1 size2)
 
 -- the first device that is too small, with its size
 abbrev pub IsSmall : Dev → ℕ → ℕ → ℕ → Type 0
@@ -66,10 +64,9 @@ is_refusal cold status.Words = true
 is_refusal cold (status.BadLine line cause) = true
 is_refusal cold status.TooLong = true
 
--- A refusal is answered, but where the source failed or memory was wanting. Wrong words come before these.
+-- A refusal is answered, but where the source failed or memory was wanting.
 abbrev pub Answers : Bool → Option Status → Status → Type 0
 Answers cold None answer = is_refusal cold answer ≡ false
-Answers cold (Some status.Words) answer = answer ≡ status.Words
 Answers cold (Some why) answer = (answer ≡ why) ⊎ ((answer ≡ status.SourceFault) ⊎ (answer ≡ status.NoMemory))
 
 -- why a script isn't played: what it says, its length, its source, or want of memory

@@ -1,8 +1,7 @@
 -- What a run did.
-use Rattle.std.specs.Prelude.{◌≡◌, ◌≢◌, ◌⊎◌, ℕ, ◌+◌, ◌≤◌, nat_lt, Bool, true, false, List, [], ◌∷◌, ◌++◌, length, take, drop, map}
+use Rattle.std.specs.Prelude.{◌≡◌, ◌≢◌, ◌⊎◌, ℕ, ◌+◌, ◌≤◌, ◌<◌, nat_lt, Bool, true, false, List, [], ◌∷◌, ◌++◌, length, take, drop, map}
 use Rattle.mas_types.specs.declared.ids.Dev.{Dev}
 use Rattle.mas_types.specs.declared.ids.Dev.TheVariants.{Ckpt1, Ckpt2}
-use Rattle.mas_types.specs.declared.jobs.JobFields.{JobFields}
 use Rattle.mas_types.specs.declared.journals.Batch.{Batch}
 use Rattle.mas_types.specs.declared.journals.Journal.{Journal}
 use Rattle.mas_types.specs.declared.journals.Fate.TheVariants.{Kept, Flying}
@@ -22,14 +21,15 @@ use Rattle.mas_types.specs.Ids.{nobody}
 use Rattle.mas_complex.specs.Journals.{kept_all}
 use Rattle.mas_complex.specs.Meaning.{run}
 use Rattle.warm_start.specs.Usable.{AreOf}
-use Rattle.queue_restart.specs.Restarts.{restart_entries}
+use Rattle.mas_run.specs.Resets.{restart_entries}
 use Rattle.warm_start.specs.Starting.{IsFound, IsUnfit, IsHeld}
-use Rattle.mas_run.specs.Standing.{queue_of}
+use Rattle.member_node.specs.Calls.{console_now}
+use Rattle.member_node.specs.Standing.{queue_of}
+use Rattle.member_steps.specs.Saying.{torn}
 use Rattle.mas_complex.specs.Headline.{whole, IsCrashSafe, AreAlwaysAlike, LeavesQueue, AreToldKept}
-use Rattle.mas_run.specs.Decks.{sysa, deck_entries}
-use Rattle.mas_run.specs.Turns.{Turn, Granted, Denied, Loss, turns_of}
-use Rattle.mas_run.specs.Steps.{after_step, queue_after, output, loses_after}
-use Rattle.mas_run.specs.Told.{torn, console_now}
+use Rattle.mas_run.specs.Decks.{sysa}
+use Rattle.mas_run.specs.Turns.{Task, Turn, Granted, Denied, Loss, turns_of}
+use Rattle.mas_run.specs.Steps.{after_step, queue_after, task_entries, output, loses_after}
 
 -- a run has begun where its first queue has members
 abbrev pub has_begun : Queue → Bool
@@ -51,29 +51,29 @@ pub record IsUnbegun (base : Queue) (journal : Journal) (since now : ℕ) : Type
 
 -- THE HISTORY
 
--- the batch of a deck's step: its entries, begun from a moment on
-pub record IsDeckBatch (Q : Queue) (at : ℕ) (fields : JobFields) (from now : ℕ) (b : Batch) : Type 0 where
+-- the batch of a step: the entries of its task, begun from a moment on
+pub record IsBatchOf (Q : Queue) (at : ℕ) (task : Task) (from now : ℕ) (b : Batch) : Type 0 where
   pub by : b.by ≡ sysa
-  pub entries : b.entries ≡ deck_entries Q sysa at fields
+  pub entries : b.entries ≡ task_entries Q at task
   pub began : (from ≤ b.first) × (b.first ≤ now)
 
--- The batches of steps, of which the first has this number: each deck whose member gets the lock has one, and it was kept before
--- the next began.
+-- The batches of steps, of which the first has this number: each that gets the lock has one, and it was kept before the next
+-- began.
 abbrev pub AreKept : Queue → ℕ → List Turn → ℕ → ℕ → List Batch → Type 0
 AreKept Q at [] from now batches = batches ≡ []
 AreKept Q at (Denied why ∷ steps) from now batches = AreKept (after_step Q at (Denied why)) (at + 1) steps from now batches
 AreKept Q at (Loss dev ∷ steps) from now batches = AreKept (after_step Q at (Loss dev)) (at + 1) steps from now batches
-AreKept Q at (Granted fields ∷ steps) from now [] = ⊥
-AreKept Q at (Granted fields ∷ steps) from now (b ∷ batches) =
-    IsDeckBatch Q at fields from now b × (b.fate ≡ Kept) × (b.first ≤ b.last) × (b.last ≤ now)
-    × AreKept (after_step Q at (Granted fields)) (at + 1) steps b.last now batches
+AreKept Q at (Granted task ∷ steps) from now [] = ⊥
+AreKept Q at (Granted task ∷ steps) from now (b ∷ batches) =
+    IsBatchOf Q at task from now b × (b.fate ≡ Kept) × (b.first ≤ b.last) × (b.last ≤ now)
+    × AreKept (after_step Q at (Granted task)) (at + 1) steps b.last now batches
 
--- the batch of the next step, which is a deck's, in flight to the end
+-- the batch of the next step, which gets the lock, in flight to the end
 abbrev pub IsInFlight : Queue → ℕ → List Turn → ℕ → ℕ → Batch → Type 0
 IsInFlight Q at [] from now b = ⊥
 IsInFlight Q at (Denied why ∷ steps) from now b = ⊥
 IsInFlight Q at (Loss dev ∷ steps) from now b = ⊥
-IsInFlight Q at (Granted fields ∷ steps) from now b = IsDeckBatch Q at fields from now b × (b.fate ≡ Flying) × (b.last ≡ top)
+IsInFlight Q at (Granted task ∷ steps) from now b = IsBatchOf Q at task from now b × (b.fate ≡ Flying) × (b.last ≡ top)
 
 -- so many steps are kept, from the first on, and behind their batches stands at most the one that is in flight
 pub record IsHistory (base : Queue) (asked : List Turn) (kept : ℕ) (since now : ℕ) (batches : List Batch) : Type 0 where
@@ -85,13 +85,15 @@ pub record IsHistory (base : Queue) (asked : List Turn) (kept : ℕ) (since now 
 
 -- THE CONSOLE
 
--- what a run adds: the lines of the steps that are closed; where its member was stopped, perhaps those of all that are kept, or a
--- torn line behind the others
-abbrev pub Adds : List (List ℕ) → List (List ℕ) → List Line → List Line → Type 0 → Type 0
-Adds closed kept was now stopped =
+-- What a run adds, where these are the lines of the steps that are known to be closed, and these those of all that are kept: the first
+-- ones, or where the console failed or the member was stopped perhaps some more of these, and where it was stopped perhaps a torn line
+-- behind them.
+abbrev pub Adds : List (List ℕ) → List (List ℕ) → List Line → List Line → Type 0 → Type 0 → Type 0
+Adds closed kept was now failed stopped =
     (now ≡ was ++ map whole closed)
-    ⊎ ((now ≡ was ++ map whole kept) × stopped)
-    ⊎ ((text : List ℕ) × (now ≡ (was ++ map whole closed) ++ torn text ∷ []) × stopped)
+    ⊎ ((n : ℕ) × (length closed ≤ n) × (n < length kept) × (now ≡ was ++ map whole (take n kept)) × failed)
+    ⊎ ((n : ℕ) × (length closed ≤ n) × (n ≤ length kept) × (now ≡ was ++ map whole (take n kept)) × stopped)
+    ⊎ ((n : ℕ) × (text : List ℕ) × (length closed ≤ n) × (n < length kept) × (now ≡ (was ++ map whole (take n kept)) ++ torn text ∷ []) × stopped)
 
 -- THE RUN
 
@@ -174,7 +176,7 @@ pub record IsPlay (tells : Type 0) (asked : List Turn) (answer : Status) (base :
   pub unsaid : answer ≡ status.ConsoleFault → kept ≡ closed + 1
   pub unplayed : answer ≡ status.NoMemory → kept ≡ closed
   pub unkept : answer ≡ status.BothLost → kept ≡ closed
-  pub said : tells → Adds (output (run base (kept_all front)) (take closed asked)) (output (run base (kept_all front)) (take kept asked)) (console_now old) (console_now new) (IsStopped old new)
+  pub said : tells → Adds (output (run base (kept_all front)) (take closed asked)) (output (run base (kept_all front)) (take kept asked)) (console_now old) (console_now new) (answer ≡ status.ConsoleFault) (IsStopped old new)
   pub loses : (d : Dev) → new.loses d ≡ loses_after d (take kept asked) (old.loses d)
   pub crash : tells → ∥ IsCrashSafe reads base journal since new ∥₁
   pub alike : tells → ∥ AreAlwaysAlike reads base journal since new ∥₁
@@ -202,7 +204,7 @@ pub record HasSteps (cold : Bool) (tells : Type 0) (asked : List Turn) (answer :
   pub unplayed : answer ≡ status.NoMemory → kept ≡ closed
   pub unkept : answer ≡ status.BothLost → kept ≡ closed
   -- its lines are those of the steps that are closed
-  pub said : tells → Adds (output (run base (kept_all opening)) (take closed asked)) (output (run base (kept_all opening)) (take kept asked)) (console_now old) (console_now new) (IsStopped old new)
+  pub said : tells → Adds (output (run base (kept_all opening)) (take closed asked)) (output (run base (kept_all opening)) (take kept asked)) (console_now old) (console_now new) (answer ≡ status.ConsoleFault) (IsStopped old new)
   -- a copy is lost by a call as often as a step that was played says so
   pub loses : (d : Dev) → new.loses d ≡ loses_after d (take kept asked) (first d)
   -- at each moment a crash leaves the queue after what was kept, both copies read the same pages or those on either side of
@@ -224,5 +226,5 @@ pub record IsRun (cold : Bool) (tells : Type 0) (asked : List Asked) (answer : S
   pub fresh : tells → ∥ LeavesQueue reads base since new ∥₁
   pub quiet : tells → (new.world since).console ≡ console_now old
   pub held : tells → IsKeptUntil cold since old new
-  -- and then its steps were played, each deck where the book of the lock gives it to the member
+  -- and then its steps were played, each deck and each command where the book of the lock gives it to the member
   pub steps : HasSteps cold tells (turns_of base.config asked) answer base journal since first old new

@@ -1,22 +1,14 @@
 -- Why a run ends.
-use Rattle.std.specs.Prelude.{◌≡◌, ◌⊎◌, ℕ, Bool, true, false, Result, Ok, Err}
-use Rattle.mas_types.specs.declared.ids.Dev.{Dev}
+use Rattle.std.specs.Prelude.{◌≡◌, ℕ, Bool, true, false, Result, Ok, Err}
 use Rattle.mas_types.specs.declared.ids.Dev.TheVariants.{Ckpt1, Ckpt2}
 use Rattle.mas_types.specs.declared.answers.Status.{Status}
 use Rattle.mas_types.specs.declared.answers.Status.TheVariants as status
 use Rattle.spool_disk.specs.declared.plant.Part.TheVariants.{Disk, Console}
 use Rattle.spool_disk.specs.View.{View}
 use Rattle.spool_disk.specs.Acts.{Rose}
-use Rattle.mas_run.specs.declared.running.StepNo.{StepNo}
-use Rattle.mas_run.specs.declared.running.StepNo.TheVariants as no_step
-
--- a device was lost: its faults rose, or the calls that lose it did
-abbrev pub WasLost : Dev → View → View → Type 0
-WasLost d old new = Rose (old.faults (Disk d)) (new.faults (Disk d)) ⊎ Rose (old.loses d) (new.loses d)
-
--- a count of calls that lose a device, later: the same, or it rose
-abbrev pub Grows : ℕ → ℕ → Type 0
-Grows old new = (new ≡ old) ⊎ Rose old new
+use Rattle.member_node.specs.declared.member.NodeNo.{NodeNo}
+use Rattle.member_node.specs.declared.member.NodeNo.TheVariants as no_node
+use Rattle.member_node.specs.Calls.{WasLost}
 
 -- a part is named only where its faults rose, and both copies only where both are lost, each by a fault or by a call
 pub record IsCaused (answer : Status) (old new : View) : Type 0 where
@@ -32,12 +24,12 @@ pub record IsStill (before after : ℕ) (old new : View) : Type 0 where
   pub console : Rose (old.faults Console) (new.faults Console) → ⊥
 
 -- the status of a run that has begun and ended with this answer of its steps
-abbrev pub status_of : {T : Type 0} → Result T StepNo → Status
+abbrev pub status_of : {T : Type 0} → Result T NodeNo → Status
 status_of (Ok done) = status.Done
-status_of (Err no_step.NoMemory) = status.NoMemory
-status_of (Err no_step.Lost) = status.BothLost
-status_of (Err no_step.Unsaid) = status.ConsoleFault
-status_of (Err no_step.Stopped) = status.Done
+status_of (Err no_node.NoMemory) = status.NoMemory
+status_of (Err no_node.BothLost) = status.BothLost
+status_of (Err no_node.ConsoleFault) = status.ConsoleFault
+status_of (Err no_node.Halted) = status.Done
 
 -- a run that has begun ends with one of these
 abbrev pub is_of_play : Status → Bool

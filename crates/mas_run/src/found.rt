@@ -1,50 +1,51 @@
 //! A script that is played from the queue that is found.
 ghost use Rattle.std.specs.Prelude.{◌≡◌, ◌≢◌, ◌⊎◌, ◌≤◌, ◌<◌, ◌+◌, ◌^◌, [], Bool, true, false, length, All, map, OnOk, None, Some};
-ghost use Rattle.std.specs.List.{list_any};
 ghost use Rattle.mas_types.specs.Starts.{default_config as config_by_default};
-ghost use Rattle.mas_types.specs.Owners.{is_held_by};
-ghost use Rattle.mas_types.specs.Queue.{is_member};
+ghost use Rattle.mas_types.specs.Ids.{nobody};
 ghost use Rattle.mas_types.specs.declared.ids.Dev.TheVariants.{Ckpt1, Ckpt2};
 ghost use Rattle.mas_types.specs.declared.ids.Dev.{Dev};
 ghost use Rattle.spool_disk.specs.declared.plant.Part.TheVariants.{Disk};
 ghost use Rattle.spool_disk.specs.View.{View, disk_now};
 ghost use Rattle.spool_disk.specs.Acts.{Goes};
 ghost use Rattle.ckpt_copy.specs.Areas.{reads, areas_size};
-ghost use Rattle.ckpt_pages.specs.Sound.{AreSound};
 ghost use Rattle.ckpt_pages.specs.Shape.{page_count};
-ghost use Rattle.duplex_pair.specs.Halves.{SomeAlive, IsCkpt};
+ghost use Rattle.duplex_pair.specs.Halves.{SomeAlive};
 ghost use Rattle.first_script.specs.Steps.{IsFitStep};
 ghost use Rattle.mas_complex.specs.Headline.{LeavesQueue};
 ghost use Rattle.warm_start.specs.Starting.{HasStarted, OnlyLooked};
-ghost use Rattle.mas_run.specs.Between.{RestsAt, IsBetween};
-ghost use Rattle.mas_run.specs.Decks.{sysa};
-ghost use Rattle.mas_run.specs.Locked.{IsOpenTo};
-ghost use Rattle.mas_run.specs.Turns.{turns_from};
-ghost use Rattle.mas_run.specs.Steps.{IfDeck, IfLose};
-ghost use Rattle.mas_run.specs.Entering.{AreFieldsFor};
 ghost use Rattle.first_script.specs.Nodes.{at_node as at_node_lem, step_at};
-ghost use Rattle.mas_run.specs.Told.{console_now};
-ghost use Rattle.mas_run.specs.Crash.{IsOnlyOn};
+ghost use Rattle.member_node.specs.Calls.{Grows, IsOnlyOn, console_now};
+ghost use Rattle.member_node.specs.Copies.{RestsAt};
+ghost use Rattle.member_steps.specs.Locked.{IsOpenTo};
+ghost use Rattle.member_steps.specs.Steps.{IsBetween};
+ghost use Rattle.mas_run.specs.Decks.{sysa};
+ghost use Rattle.mas_run.specs.Turns.{turns_from};
+ghost use Rattle.mas_run.specs.Steps.{IsFitFor};
 ghost use Rattle.mas_run.specs.Runs.{has_begun, Begins, IsUnbegun, HasSteps, IsRun};
-ghost use Rattle.mas_run.specs.Statuses.{Grows, IsCaused, IsCausedFrom, is_of_play, is_of_text};
+ghost use Rattle.mas_run.specs.Statuses.{IsCaused, IsCausedFrom, is_of_play, is_of_text};
 ghost use Rattle.mas_run.specs.Unstarted.{status_of_start as status_of_start_lem, IsNotStarted};
 
-use crate::checkpoint::Checkpoint;
 use crate::ended::Ended;
-use crate::play::{ended, play_asked, status_of, unbegun};
+use crate::play::{SYSA, ended, play_asked, status_of, unbegun};
 use crate::running::Running;
 use ckpt_copy::{AreaCopy, Copying};
 use duplex_pair::Pair;
 use first_script::Asked;
-use mas_types::{Dev, JobFields, List, Name8, Status};
+use mas_types::{Dev, List, MemberId, Name8, Status};
+use member_node::{Checkpoint, Member};
+use queue_effect::law_of_fit_tables;
 use spool_disk::Plant;
 use std::alloc::Global;
 use warm_start::{StartNo, Started, Unstarted, warm};
 
+/// The operator, who gives Restart.
+const OPERATOR: MemberId = MemberId(0);
+
 /// The pages of a copy, until it is looked at.
 const PAGES: u16 = 1;
 
-fn status_of_start(why: StartNo) -> Status
+/// The status of a run whose start found no queue.
+pub fn status_of_start(why: StartNo) -> Status
     ensures { result ≡ status_of_start_lem why }
 {
     match why {
@@ -56,16 +57,12 @@ fn status_of_start(why: StartNo) -> Status
 }
 
 // The step at this node.
-fn at_node(step: Asked, node: Name8) -> Asked
-    ensures { result ≡ step_at node step }
+fn at_node(step: &mut Asked, node: Name8)
+    ensures { step.new ≡ step_at node step.old }
 {
-    match step {
-        Asked::Deck(fields) => Asked::Deck(JobFields {
-            node,
-            origin: node,
-            ..fields
-        }),
-        Asked::Lose(dev) => Asked::Lose(dev),
+    if let Asked::Deck(fields) = step {
+        fields.node = node;
+        fields.origin = node;
     }
 }
 
@@ -74,7 +71,7 @@ fn move_to(asked: &mut [Asked], node: Name8)
     ensures { asked.new ≡ at_node_lem node asked.old }
 {
     for step in asked.iter_mut() {
-        *step = at_node(*step, node);
+        at_node(step, node);
     }
 }
 
@@ -86,13 +83,15 @@ fn moved(asked: List<Asked>, node: Name8) -> List<Asked>
     asked
 }
 
-// The run of a warm start.
-fn running_of<P: Plant + Drop>(found: Started<P, AreaCopy>) -> Running<P, AreaCopy>
+// The run of a warm start, at which the operator is first.
+fn running_of<P: Plant + Drop>(alloc: Global, found: Started<P, AreaCopy>) -> Running<P, AreaCopy>
     ensures complex { result.complex ≡ found.complex }
-    ensures tables { result.checkpoint.tables ≡ found.tables }
-    ensures pages { result.checkpoint.pages ≡ found.pages }
-    ensures levels { result.checkpoint.levels ≡ found.levels }
-    ensures level { result.checkpoint.level ≡ found.complex.level }
+    ensures id { result.member.id ≡ nobody }
+    ensures batch { result.member.batch ≡ [] }
+    ensures tables { result.member.checkpoint.tables ≡ found.tables }
+    ensures pages { result.member.checkpoint.pages ≡ found.pages }
+    ensures levels { result.member.checkpoint.levels ≡ found.levels }
+    ensures level { result.member.checkpoint.level ≡ found.complex.level }
 {
     let Started {
         complex,
@@ -100,16 +99,14 @@ fn running_of<P: Plant + Drop>(found: Started<P, AreaCopy>) -> Running<P, AreaCo
         pages,
         levels,
     } = found;
-    let level = complex.level;
-    Running {
-        complex,
-        checkpoint: Checkpoint {
-            tables,
-            level,
-            levels,
-            pages,
-        },
-    }
+    let checkpoint = Checkpoint {
+        tables,
+        level: complex.level,
+        levels,
+        pages,
+    };
+    let member = Member::new(alloc, OPERATOR, checkpoint);
+    Running { complex, member }
 }
 
 // Gives Restart, and then plays what the script asks for.
@@ -120,14 +117,13 @@ fn play_reset<P: Plant + Drop>(
 ) -> Ended<P>
     requires lock { IsOpenTo run.complex.book run.complex.reserved sysa }
     requires few { length asked.now ≤ 16777216 }
-    requires may { All (λ step. IfDeck step (AreFieldsFor run.checkpoint.tables.config)) asked.now }
-    requires copies { All (λ step. IfLose step IsCkpt) asked.now }
-    requires sound { AreSound run.checkpoint.tables }
-    requires between { IsBetween run.complex.base run.complex.journal.batches run.complex.current run.complex.placed run.complex.level run.checkpoint }
-    requires rests1 { RestsAt P.tells run.complex.pair.first.alive run.complex.first (⟦<AreaCopy as Copying>⟧.count run.complex.pair.first.copy) run.checkpoint.pages (reads (disk_now (P.view run.complex.plant) Ckpt1).bytes) }
-    requires rests2 { RestsAt P.tells run.complex.pair.second.alive run.complex.second (⟦<AreaCopy as Copying>⟧.count run.complex.pair.second.copy) run.checkpoint.pages (reads (disk_now (P.view run.complex.plant) Ckpt2).bytes) }
-    requires order { run.checkpoint.tables.order < 2 ^ 62 }
-    requires level { run.checkpoint.level < 2 ^ 62 }
+    requires id { run.member.id ≡ nobody }
+    requires may { All (IsFitFor run.member.checkpoint.tables.config) asked.now }
+    requires between { IsBetween run.complex.base run.complex.journal.batches run.complex.current run.complex.placed run.complex.level run.member.batch run.member.checkpoint }
+    requires rests1 { RestsAt P.tells run.complex.pair.first.alive run.complex.first (⟦<AreaCopy as Copying>⟧.count run.complex.pair.first.copy) run.member.checkpoint.pages (reads (disk_now (P.view run.complex.plant) Ckpt1).bytes) }
+    requires rests2 { RestsAt P.tells run.complex.pair.second.alive run.complex.second (⟦<AreaCopy as Copying>⟧.count run.complex.pair.second.copy) run.member.checkpoint.pages (reads (disk_now (P.view run.complex.plant) Ckpt2).bytes) }
+    requires order { run.member.checkpoint.tables.order < 2 ^ 62 }
+    requires level { run.member.checkpoint.level < 2 ^ 62 }
     requires journal { run.complex.journal.batches ≡ [] }
     requires since { run.complex.since ≡ (P.view run.complex.plant).now }
     requires some { SomeAlive run.complex.pair.first.alive run.complex.pair.second.alive }
@@ -144,7 +140,10 @@ fn play_reset<P: Plant + Drop>(
 {
     let mut run = run;
     match run.restart(alloc) {
-        Ok(()) => play_asked(alloc, asked, run),
+        Ok(()) => {
+            run.member.id = SYSA;
+            play_asked(alloc, asked, run)
+        }
         Err(why) => ended(status_of(&Err(why)), run),
     }
 }
@@ -175,6 +174,7 @@ pub(crate) fn play_warm<P: Plant + Drop>(alloc: Global, asked: List<Asked>, plan
         Ok(found) => found,
         Err(Unstarted { plant, why }) => return unbegun(alloc, status_of_start(why), plant),
     };
+    law_of_fit_tables();
     let asked = moved(asked, found.tables.config.node);
-    play_reset(alloc, asked.as_slice(), running_of(found))
+    play_reset(alloc, asked.as_slice(), running_of(alloc, found))
 }

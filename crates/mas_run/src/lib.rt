@@ -1,8 +1,6 @@
-//! The top call: a script that is played on a plant.
+//! A script that is played on a plant, from an empty queue or from the one that is found.
 #![tactic(auto)]
 
-mod batch;
-mod checkpoint;
 mod deck;
 mod deck_steps;
 mod ended;
@@ -13,9 +11,9 @@ mod queue;
 mod reset;
 mod running;
 mod top;
-mod words;
 
 pub use ended::{Ended, code};
+pub use found::status_of_start;
 pub use laws::law_of_awake_runs;
-pub use top::calm_top;
-pub use words::are_words;
+pub use play::unbegun;
+pub use top::{play_script, play_steps};

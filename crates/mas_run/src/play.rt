@@ -11,27 +11,25 @@ ghost use Rattle.spool_disk.specs.Acts.{Goes};
 ghost use Rattle.ckpt_copy.specs.Areas.{reads};
 ghost use Rattle.ckpt_copy.specs.Pages.{bytes_of};
 ghost use Rattle.ckpt_pages.specs.Starts.{empty_tables};
-ghost use Rattle.duplex_pair.specs.Halves.{SomeAlive, IsCkpt};
+ghost use Rattle.duplex_pair.specs.Halves.{SomeAlive};
 ghost use Rattle.first_script.specs.Steps.{IsFitStep};
 ghost use Rattle.mas_complex.specs.Headline.{Headline};
 ghost use Rattle.mas_complex.specs.Journals.{end_of};
 ghost use Rattle.mas_run.specs.Refusals.{bytes_needed, refused_devices, Answers};
-ghost use Rattle.mas_run.specs.Standing.{queue_of};
-ghost use Rattle.mas_run.specs.Drawn.{AreDrawn};
-ghost use Rattle.mas_run.specs.Entering.{MayEnter};
-ghost use Rattle.mas_run.specs.Between.{RestsAt, IsBetween, AreAllKept};
+ghost use Rattle.member_node.specs.Calls.{Grows, IsOnlyOn, console_now};
+ghost use Rattle.member_node.specs.Copies.{RestsAt};
+ghost use Rattle.member_node.specs.Drawn.{AreDrawn};
+ghost use Rattle.member_steps.specs.Locked.{IsOpenTo};
+ghost use Rattle.member_steps.specs.Steps.{AreAllKept, IsBetween};
 ghost use Rattle.mas_run.specs.Decks.{sysa};
-ghost use Rattle.mas_run.specs.Locked.{IsOpenTo};
+ghost use Rattle.mas_run.specs.Entering.{HasNoGroups};
 ghost use Rattle.mas_run.specs.Turns.{turns_from};
-ghost use Rattle.mas_run.specs.Steps.{IfDeck, IfLose};
-ghost use Rattle.mas_run.specs.Told.{console_now};
-ghost use Rattle.mas_run.specs.Crash.{IsOnlyOn};
+ghost use Rattle.mas_run.specs.Steps.{IsFitFor};
 ghost use Rattle.mas_run.specs.Runs.{has_begun, Begins, IsUnbegun, IsPlay, IsRun};
-ghost use Rattle.mas_run.specs.Statuses.{Grows, IsCaused, IsCausedFrom, status_of as status_of_lem, is_of_play};
+ghost use Rattle.mas_run.specs.Statuses.{IsCaused, IsCausedFrom, status_of as status_of_lem, is_of_play};
 
-use crate::checkpoint::{Checkpoint, blank};
 use crate::ended::Ended;
-use crate::running::{Running, StepNo};
+use crate::running::Running;
 use ckpt_copy::{AreaCopy, Copying};
 use ckpt_pages::page_count;
 use duplex_pair::Pair;
@@ -40,14 +38,18 @@ use mas_complex::Complex;
 use mas_types::{
     Dev, Journal, List, MemberId, NoMemory, Queue, Status, default_config, empty_queue, no_queue,
 };
+use member_node::{Checkpoint, Member, NodeNo, blank};
 use spool_disk::Plant;
 use std::alloc::Global;
 
 /// The operator, who formats the copies.
 const OPERATOR: MemberId = MemberId(0);
 
+/// The first member, whose steps are played.
+pub(crate) const SYSA: MemberId = MemberId(1);
+
 /// The end of a run that has not begun.
-pub(crate) fn unbegun<P: Plant + Drop>(alloc: Global, status: Status, plant: P) -> Ended<P>
+pub fn unbegun<P: Plant + Drop>(alloc: Global, status: Status, plant: P) -> Ended<P>
     ensures status { result.status ≡ status }
     ensures plant { result.plant ≡ plant }
     ensures unbegun { IsUnbegun result.base result.journal result.since (P.view plant).now }
@@ -71,14 +73,14 @@ fn no_journal(alloc: Global) -> Journal
 }
 
 /// What the answer of the steps means for the run.
-pub(crate) fn status_of(answer: &Result<(), StepNo>) -> Status
+pub(crate) fn status_of(answer: &Result<(), NodeNo>) -> Status
     ensures { result ≡ status_of_lem answer.now }
 {
     match answer {
-        Ok(()) | Err(StepNo::Stopped) => Status::Done,
-        Err(StepNo::NoMemory) => Status::NoMemory,
-        Err(StepNo::Lost) => Status::BothLost,
-        Err(StepNo::Unsaid) => Status::ConsoleFault,
+        Ok(()) | Err(NodeNo::Halted) => Status::Done,
+        Err(NodeNo::NoMemory) => Status::NoMemory,
+        Err(NodeNo::BothLost) => Status::BothLost,
+        Err(NodeNo::ConsoleFault) => Status::ConsoleFault,
     }
 }
 
@@ -91,10 +93,7 @@ pub(crate) fn ended<P: Plant + Drop>(status: Status, run: Running<P, AreaCopy>) 
     ensures journal { result.journal.batches ≡ end_of run.complex.placed run.complex.current run.complex.journal.batches }
     ensures headline { P.tells → ∥ Headline reads result.base result.since result.journal (P.view result.plant) ∥₁ }
 {
-    let Running {
-        complex,
-        checkpoint: _,
-    } = run;
+    let Running { complex, member: _ } = run;
     let end = complex.end();
     Ended {
         status,
@@ -111,15 +110,16 @@ pub(crate) fn play_asked<P: Plant + Drop>(
     asked: &[Asked],
     run: Running<P, AreaCopy>,
 ) -> Ended<P>
+    requires id { run.member.id ≡ sysa }
     requires lock { IsOpenTo run.complex.book run.complex.reserved sysa }
     requires few { length asked.now ≤ 16777216 }
-    requires may { All (λ step. IfDeck step (MayEnter run.checkpoint.tables.config run.checkpoint.tables.owners sysa)) asked.now }
-    requires copies { All (λ step. IfLose step IsCkpt) asked.now }
-    requires between { IsBetween run.complex.base run.complex.journal.batches run.complex.current run.complex.placed run.complex.level run.checkpoint }
-    requires rests1 { RestsAt P.tells run.complex.pair.first.alive run.complex.first (⟦<AreaCopy as Copying>⟧.count run.complex.pair.first.copy) run.checkpoint.pages (reads (disk_now (P.view run.complex.plant) Ckpt1).bytes) }
-    requires rests2 { RestsAt P.tells run.complex.pair.second.alive run.complex.second (⟦<AreaCopy as Copying>⟧.count run.complex.pair.second.copy) run.checkpoint.pages (reads (disk_now (P.view run.complex.plant) Ckpt2).bytes) }
-    requires order { run.checkpoint.tables.order < 2 ^ 62 + 64 }
-    requires level { run.checkpoint.level < 2 ^ 62 + 64 }
+    requires may { All (IsFitFor run.member.checkpoint.tables.config) asked.now }
+    requires groups { HasNoGroups sysa run.member.checkpoint.tables.owners }
+    requires between { IsBetween run.complex.base run.complex.journal.batches run.complex.current run.complex.placed run.complex.level run.member.batch run.member.checkpoint }
+    requires rests1 { RestsAt P.tells run.complex.pair.first.alive run.complex.first (⟦<AreaCopy as Copying>⟧.count run.complex.pair.first.copy) run.member.checkpoint.pages (reads (disk_now (P.view run.complex.plant) Ckpt1).bytes) }
+    requires rests2 { RestsAt P.tells run.complex.pair.second.alive run.complex.second (⟦<AreaCopy as Copying>⟧.count run.complex.pair.second.copy) run.member.checkpoint.pages (reads (disk_now (P.view run.complex.plant) Ckpt2).bytes) }
+    requires order { run.member.checkpoint.tables.order < 2 ^ 62 + 64 }
+    requires level { run.member.checkpoint.level < 2 ^ 62 + 64 }
     requires kept { AreAllKept run.complex.journal.batches (P.view run.complex.plant).now }
     requires since { run.complex.since ≤ (P.view run.complex.plant).now }
     requires quiet { P.tells → ((P.view run.complex.plant).world run.complex.since).console ≡ console_now (P.view run.complex.plant) }
@@ -213,12 +213,6 @@ pub(crate) fn play_cold<P: Plant + Drop>(alloc: Global, asked: &[Asked], plant: 
     };
     let level = checkpoint.level;
     let complex = Complex::make(alloc, plant, pair, base, level);
-    play_asked(
-        alloc,
-        asked,
-        Running {
-            complex,
-            checkpoint,
-        },
-    )
+    let member = Member::new(alloc, SYSA, checkpoint);
+    play_asked(alloc, asked, Running { complex, member })
 }

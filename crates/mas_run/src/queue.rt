@@ -4,8 +4,9 @@ ghost use Rattle.ckpt_pages.specs.QueueOf.{used};
 ghost use Rattle.ckpt_pages.specs.Shape.{HasSpelling};
 ghost use Rattle.mas_complex.specs.Meaning.{run};
 ghost use Rattle.mas_run.specs.Decks.{deck_entries};
-ghost use Rattle.mas_run.specs.Standing.{queue_of};
-ghost use Rattle.mas_run.specs.Entering.{MayEnter, AreBelow, HasEntered, with_job, in_convert, new_number, job_entries, full_entries};
+ghost use Rattle.queue_effect.specs.Standing.{AreFit};
+ghost use Rattle.member_node.specs.Standing.{queue_of};
+ghost use Rattle.mas_run.specs.Entering.{AreFieldsFor, HasNoGroups, HasEntered, with_job, new_number, job_entries, full_entries};
 
 use ckpt_pages::Tables;
 use job_queue::next_number;
@@ -57,15 +58,18 @@ fn free_place(tables: &Tables) -> usize
 
 /// Begin and Enter of a deck's job at a member that has no groups, where a slot is free. The job stands in the lowest.
 pub(crate) fn enter_job(tables: &mut Tables, by: MemberId, fields: JobFields) -> JobNo
-    requires may { MayEnter tables.old.config tables.old.owners by fields }
+    requires may { AreFieldsFor tables.old.config fields }
+    requires groups { HasNoGroups by tables.old.owners }
     requires spelling { HasSpelling tables.old }
-    requires below { AreBelow tables.old }
+    requires fit { AreFit tables.old }
     requires room { length (used tables.old.jobs) < length tables.old.jobs }
     requires order { tables.old.order + 1 < 2 ^ 63 }
     ensures job { HasEntered fields result tables.old tables.new }
     ensures number { result ≡ new_number tables.old }
     ensures spelling { HasSpelling tables.new }
-    ensures below { AreBelow tables.new }
+    ensures fit { AreFit tables.new }
+    ensures order { tables.new.order ≡ tables.old.order + 1 }
+    ensures config { tables.new.config ≡ tables.old.config }
     ensures entries { (at : ℕ) → deck_entries (queue_of tables.old) by at fields ≡ job_entries by at fields result }
     ensures effect { (at : ℕ) → run (queue_of tables.old) (deck_entries (queue_of tables.old) by at fields) ≡ queue_of tables.new }
 {
@@ -86,7 +90,8 @@ pub(crate) fn enter_job(tables: &mut Tables, by: MemberId, fields: JobFields) ->
 
 /// Begin of a deck for whose job no slot is free: it is refused, and changes nothing.
 pub(crate) fn law_of_full_queues(tables: &Tables, by: MemberId, fields: JobFields)
-    requires may { MayEnter tables.now.config tables.now.owners by fields }
+    requires may { AreFieldsFor tables.now.config fields }
+    requires groups { HasNoGroups by tables.now.owners }
     requires spelling { HasSpelling tables.now }
     requires full { length (used tables.now.jobs) ≡ length tables.now.jobs }
     ensures entries { (at : ℕ) → deck_entries (queue_of tables.now) by at fields ≡ full_entries by at fields }

@@ -62,10 +62,10 @@ replies_append Q (e ∷ es) fs one two = (one.0, replies_append (step Q e.by e.c
 leveled_too : (t u : Tables) (at : ℕ) (levels : List ℕ) → u.config ≡ t.config → AreLevels t at levels → AreLevels u at levels
 leveled_too t u at levels same is = record { count = is.count ∙ ap page_count (sym same); first = is.first; each = is.each; most = is.most }
 
--- one command more
-pub more_done : (Q : Queue) (entries : List Entry) (k n : Checkpoint) (e : Entry) → HasDone Q entries k → n.pages ≡ k.pages → n.level ≡ k.level → n.levels ≡ k.levels → n.tables.config ≡ k.tables.config
-    → HasSpelling n.tables → AreFit n.tables → e.reply ≡ (step (queue_of k.tables) e.by e.command).1 → queue_of n.tables ≡ (step (queue_of k.tables) e.by e.command).0 → HasDone Q (entries ++ e ∷ []) n
-more_done Q entries k n e done pages level levels config spelling fit reply queue =
+-- commands more, with their replies
+pub all_done : (Q : Queue) (entries more : List Entry) (k n : Checkpoint) → HasDone Q entries k → n.pages ≡ k.pages → n.level ≡ k.level → n.levels ≡ k.levels → n.tables.config ≡ k.tables.config
+    → HasSpelling n.tables → AreFit n.tables → HaveReplies (queue_of k.tables) more → queue_of n.tables ≡ run (queue_of k.tables) more → HasDone Q (entries ++ more) n
+all_done Q entries more k n done pages level levels config spelling fit replied queue =
     let at : queue_of k.tables ≡ run Q entries = done.queue in
     record {
       pages = subst (λ (ps : List Page). StandsFor ps n.level no_deck no_print Q) (sym pages) (subst (λ (l : ℕ). StandsFor k.pages l no_deck no_print Q) (sym level) done.pages);
@@ -74,9 +74,14 @@ more_done Q entries k n e done pages level levels config spelling fit reply queu
       sized = subst (All (λ page. length page.0 ≡ page_bytes)) (sym pages) done.sized;
       spelling = spelling;
       fit = fit;
-      queue = queue ∙ ap (λ (R : Queue). (step R e.by e.command).0) at ∙ sym (run_append Q entries (e ∷ []));
-      replied = replies_append Q entries (e ∷ []) done.replied (reply ∙ ap (λ (R : Queue). (step R e.by e.command).1) at, tt);
+      queue = queue ∙ ap (λ (R : Queue). run R more) at ∙ sym (run_append Q entries more);
+      replied = replies_append Q entries more done.replied (subst (λ (R : Queue). HaveReplies R more) at replied);
     }
+
+-- one command more
+pub more_done : (Q : Queue) (entries : List Entry) (k n : Checkpoint) (e : Entry) → HasDone Q entries k → n.pages ≡ k.pages → n.level ≡ k.level → n.levels ≡ k.levels → n.tables.config ≡ k.tables.config
+    → HasSpelling n.tables → AreFit n.tables → e.reply ≡ (step (queue_of k.tables) e.by e.command).1 → queue_of n.tables ≡ (step (queue_of k.tables) e.by e.command).0 → HasDone Q (entries ++ e ∷ []) n
+more_done Q entries k n e done pages level levels config spelling fit reply queue = all_done Q entries (e ∷ []) k n done pages level levels config spelling fit (reply, tt) queue
 
 -- nothing was done yet
 pub nothing_done : (k : Checkpoint) → AreDrawn k.tables k.level k.levels k.pages → AreFit k.tables → HasDone (queue_of k.tables) [] k

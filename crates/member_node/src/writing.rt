@@ -1,5 +1,5 @@
 //! How a member's batch is written.
-ghost use Rattle.std.specs.Prelude.{◌≡◌, ◌⊎◌, ◌+◌, ◌≤◌, ◌<◌, ◌^◌, ◌++◌, [], ◌∷◌, ℕ, List, Option, Some, None, All, length, true, false, IfOk, OnOk, OnErr, IsSome};
+ghost use Rattle.std.specs.Prelude.{◌≡◌, ◌⊎◌, ◌+◌, ◌≤◌, ◌<◌, ◌^◌, ◌++◌, [], ◌∷◌, ℕ, List, Option, Some, None, All, length, true, false, IfOk, OnOk, OnErr, IsErrOf, IsSome};
 ghost use Rattle.mas_types.specs.declared.ids.Dev.{Dev};
 ghost use Rattle.mas_types.specs.declared.ids.Dev.TheVariants.{Ckpt1, Ckpt2};
 ghost use Rattle.mas_types.specs.declared.ids.MemberId.{MemberId};
@@ -15,6 +15,7 @@ ghost use Rattle.mas_complex.specs.Journals.{begun, end_of, entries_reserved, fa
 ghost use Rattle.mas_complex.specs.Locking.{MayAct, IsUp};
 ghost use Rattle.mas_complex.specs.Meaning.{Closes, run};
 ghost use Rattle.mas_complex.specs.Replies.{HaveReplies};
+ghost use Rattle.member_node.specs.declared.member.NodeNo.TheVariants.{Halted};
 
 use crate::batch::commit;
 use crate::checkpoint::{Draft, redraw};
@@ -85,7 +86,7 @@ impl Member {
     }
 
     /// Writes the batch that was made ready: its pages behind the closed gates of CKPT1 and CKPT2, and then the gates; or it is kept
-    /// without a write where no page changes. Once this answers Ok the batch is kept.
+    /// without a write where no page changes. Once this answers Ok the batch is kept. The operator isn't stopped.
     pub fn write<P: Plant + Drop, C: Steady + Drop>(
         &self,
         complex: &mut Complex<P, C>,
@@ -121,6 +122,7 @@ impl Member {
             front (end_of complex.new.placed complex.new.current complex.new.journal.batches)
             complex.old.pair.first.alive complex.new.pair.first.alive complex.old.pair.second.alive complex.new.pair.second.alive
             (P.view complex.old.plant) (P.view complex.new.plant) result }
+        ensures operator { IsErrOf result Halted → 0 < self.now.id.0 }
     {
         match draft {
             Draft::Same => {

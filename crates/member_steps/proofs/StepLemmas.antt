@@ -170,6 +170,13 @@ level_most (draft.Changed numbers) n = omega arith
 
 -- A STEP BY OTHER NAMES
 
+pub step_named : (told : Type 0) (by by' : MemberId) (lines lines' : List (List ℕ)) (es es' : List Entry) (front batches : List Batch) (was1 is1 was2 is2 : Bool) (old new : View) (r : Result (Unit {0}) NodeNo) → by' ≡ by → lines' ≡ lines → es' ≡ es
+    → IsStep told by'.0 lines' (begun old.now by' es') front batches was1 is1 was2 is2 old new r → IsStep told by.0 lines (begun old.now by es) front batches was1 is1 was2 is2 old new r
+step_named told by by' lines lines' es es' front batches was1 is1 was2 is2 old new r one two three step =
+    subst (λ (m : MemberId). IsStep told m.0 lines (begun old.now m es) front batches was1 is1 was2 is2 old new r) one
+    (subst (λ (l : List (List ℕ)). IsStep told by'.0 l (begun old.now by' es) front batches was1 is1 was2 is2 old new r) two
+    (subst (λ (l : List Entry). IsStep told by'.0 lines' (begun old.now by' l) front batches was1 is1 was2 is2 old new r) three step))
+
 abbrev StepOf : Type 0 → MemberId → ℕ → Command → Result (Unit {0}) NodeNo → List Batch → Bool → Bool → View → Queue → List Batch → Bool → Bool → View → Type 0
 StepOf told by at c r batches is1 is2 new base front was1 was2 old =
     IsStep told by.0 (step_lines (run base (kept_all front)) by at c) (begun old.now by (entry_of (run base (kept_all front)) by at c ∷ [])) front batches was1 is1 was2 is2 old new r

@@ -1,10 +1,11 @@
 -- The lines of one step tell no later one.
-use Rattle.std.proofs.Common.{◌≡◌, ℕ, suc, zero, ◌+◌, ◌-◌, ◌*◌, ◌%◌, ◌^◌, ◌<◌, ◌==◌, Bool, true, false, not, List, [], ◌∷◌, ◌++◌, length, map, drop, replicate, decimal, codes, refl, sym, ◌∙◌, ap, subst, arith}
+use Rattle.std.proofs.Common.{◌≡◌, ℕ, suc, zero, ◌+◌, ◌-◌, ◌*◌, ◌%◌, ◌^◌, ◌<◌, ◌==◌, Bool, true, false, not, List, [], ◌∷◌, ◌++◌, length, map, drop, replicate, decimal, codes, All, refl, sym, ◌∙◌, ap, subst, arith}
 use Rattle.std.specs.List.{list_all, before_first}
 use Rattle.std.proofs.lemmas.Bool.{eqb-true}
 use Rattle.std.proofs.lemmas.Bool.Decides.{nat_tests}
 use Rattle.std.proofs.lemmas.Fmt.{decimal_by_steps}
 use Rattle.std.proofs.lemmas.List.{drop_at, map-append}
+use Rattle.std.proofs.lemmas.List.Elements.{All-nil, All-cons, All-head, All-tail}
 use Rattle.mas_types.specs.declared.ids.MemberId.{MemberId}
 use Rattle.mas_types.specs.declared.answers.Closing.{Closing}
 use Rattle.mas_types.specs.declared.answers.Closing.TheVariants as closing
@@ -114,27 +115,38 @@ line_untold by a k rest e m s less small of at closes = by_test (e.by.0 == m.0)
     (λ two. rw (one, two) refl))
     (λ one. rw one refl)
 
-module _ (by : MemberId) (a k : ℕ) (less : a < k) (small : k < 2 ^ 64) (e : Entry) (of : e.by ≡ by) (at : e.step ≡ k) where
-  details_untold : (shown : List (List ℕ)) → EachTells Closes (map whole (detail_lines by a shown)) (λ m s. has_step m s (e ∷ []) ≡ false)
-  details_untold [] = tt
-  details_untold (text ∷ shown) = ((λ is m s closes. line_untold by a k (codes "-" ++ 32 ∷ text) e m s less small of at closes), details_untold shown)
+-- nor any of its entries
+lines_untold : (by : MemberId) (a k : ℕ) (rest : List ℕ) (es : List Entry) (m : MemberId) (s : ℕ) → a < k → k < 2 ^ 64 → All (λ (e : Entry). (e.by ≡ by) × (e.step ≡ k)) es → Closes (line_of by a rest) m s → has_step m s es ≡ false
+lines_untold by a k rest [] m s less small of closes = refl
+lines_untold by a k rest (e ∷ es) m s less small of closes =
+    let here : (e.by ≡ by) × (e.step ≡ k) = All-head (λ (e : Entry). (e.by ≡ by) × (e.step ≡ k)) e es of in
+    let one : has_step m s (e ∷ []) ≡ false = line_untold by a k rest e m s less small here.0 here.1 closes in
+    let more : has_step m s es ≡ false = lines_untold by a k rest es m s less small (All-tail (λ (e : Entry). (e.by ≡ by) × (e.step ≡ k)) e es of) closes in
+    by_test (e.by.0 == m.0)
+    (λ same. by_test (e.step == s) (λ both. absurd (let told = rw (same, both) at one in cc)) (λ other. rw (same, other) more))
+    (λ other. rw other more)
 
-  both_untold : (xs ys : List Line) → EachTells Closes xs (λ m s. has_step m s (e ∷ []) ≡ false) → EachTells Closes ys (λ m s. has_step m s (e ∷ []) ≡ false) → EachTells Closes (xs ++ ys) (λ m s. has_step m s (e ∷ []) ≡ false)
+module _ (by : MemberId) (a k : ℕ) (less : a < k) (small : k < 2 ^ 64) (es : List Entry) (of : All (λ (e : Entry). (e.by ≡ by) × (e.step ≡ k)) es) where
+  details_untold : (shown : List (List ℕ)) → EachTells Closes (map whole (detail_lines by a shown)) (λ m s. has_step m s es ≡ false)
+  details_untold [] = tt
+  details_untold (text ∷ shown) = ((λ is m s closes. lines_untold by a k (codes "-" ++ 32 ∷ text) es m s less small of closes), details_untold shown)
+
+  pub both_untold : (xs ys : List Line) → EachTells Closes xs (λ m s. has_step m s es ≡ false) → EachTells Closes ys (λ m s. has_step m s es ≡ false) → EachTells Closes (xs ++ ys) (λ m s. has_step m s es ≡ false)
   both_untold [] ys one two = two
   both_untold (x ∷ xs) ys one two = (one.0, both_untold xs ys one.1 two)
 
-  closing_untold : (end : Closing) → EachTells Closes (whole (closing_line by a end) ∷ []) (λ m s. has_step m s (e ∷ []) ≡ false)
-  closing_untold end = ((λ is m s closes. line_untold by a k (closing_text end) e m s less small of at closes), tt)
+  pub closing_untold : (end : Closing) → EachTells Closes (whole (closing_line by a end) ∷ []) (λ m s. has_step m s es ≡ false)
+  closing_untold end = ((λ is m s closes. lines_untold by a k (closing_text end) es m s less small of closes), tt)
 
-  reply_untold : (r : Reply) → EachTells Closes (map whole (reply_lines by a r)) (λ m s. has_step m s (e ∷ []) ≡ false)
+  pub reply_untold : (r : Reply) → EachTells Closes (map whole (reply_lines by a r)) (λ m s. has_step m s es ≡ false)
   reply_untold reply.Plain = closing_untold (closing.Reply reply.Plain)
   reply_untold (reply.Job job) = closing_untold (closing.Reply (reply.Job job))
   reply_untold (reply.Output job index) = closing_untold (closing.Reply (reply.Output job index))
   reply_untold (reply.Count n) = closing_untold (closing.Reply (reply.Count n))
   reply_untold (reply.No why) = closing_untold (closing.Reply (reply.No why))
-  reply_untold (reply.Shown shown) = subst (λ (ls : List Line). EachTells Closes ls (λ m s. has_step m s (e ∷ []) ≡ false))
+  reply_untold (reply.Shown shown) = subst (λ (ls : List Line). EachTells Closes ls (λ m s. has_step m s es ≡ false))
       (sym (map-append whole (detail_lines by a shown) (closing_line by a (closing.Reply (reply.Shown shown)) ∷ [])))
       (both_untold (map whole (detail_lines by a shown)) (whole (closing_line by a (closing.Reply (reply.Shown shown))) ∷ []) (details_untold shown) (closing_untold (closing.Reply (reply.Shown shown))))
 
 pub tell_no_later_step : TellNoLaterStep
-tell_no_later_step Q R by a k c d less small = reply_untold by a k less small (entry_of R by k d) refl refl (reply_to Q by c)
+tell_no_later_step Q R by a k c d less small = reply_untold by a k less small (entry_of R by k d ∷ []) (All-cons (λ (e : Entry). (e.by ≡ by) × (e.step ≡ k)) (entry_of R by k d) [] (refl, refl) (All-nil (λ (e : Entry). (e.by ≡ by) × (e.step ≡ k)))) (reply_to Q by c)

@@ -50,8 +50,8 @@ fn denied_lines(alloc: Global, by: MemberId, step: u32, why: LockNo) -> Result<L
     Ok(lines)
 }
 
-// Says why the member doesn't get the lock.
-fn deny<P: Plant + Drop, C: Steady + Drop>(
+/// Closes a step whose member doesn't get the lock: its line says why, and nothing else is done.
+pub fn deny<P: Plant + Drop, C: Steady + Drop>(
     member: &Member,
     alloc: Global,
     complex: &mut Complex<P, C>,

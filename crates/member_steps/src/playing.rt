@@ -1,86 +1,50 @@
 //! A step that gives a command.
-ghost use Rattle.std.specs.Prelude.{◌≡◌, ◌+◌, ◌≤◌, ◌<◌, ◌^◌, ◌++◌, [], ◌∷◌, ℕ, List, Some, None, All, length, true, false, IfOk, OnOk, OnErr};
+ghost use Rattle.std.specs.Prelude.{◌≡◌, ◌+◌, ◌≤◌, ◌<◌, ◌^◌, [], ◌∷◌, ℕ, None, All, length, true, IfOk, OnOk};
 ghost use Rattle.mas_types.specs.declared.ids.Dev.TheVariants.{Ckpt1, Ckpt2};
-ghost use Rattle.mas_types.specs.declared.journals.Batch.{Batch};
+ghost use Rattle.mas_types.specs.declared.queues.Queue.{Queue};
 ghost use Rattle.mas_types.specs.Fit.{IsFit};
 ghost use Rattle.mas_types.specs.Limits.{members_most};
 ghost use Rattle.spool_disk.specs.View.{disk_now};
+ghost use Rattle.ckpt_pages.specs.Shape.{HasSpelling};
 ghost use Rattle.mas_complex.specs.Crash.{IsUntold, setting};
 ghost use Rattle.mas_complex.specs.Journals.{begun, end_of, kept_all};
 ghost use Rattle.mas_complex.specs.Locking.{MayAct};
 ghost use Rattle.mas_complex.specs.Meaning.{run};
 ghost use Rattle.queue_effect.specs.Standing.{AreFit};
 ghost use Rattle.table_commands.specs.Stored.{IsGiver, is_plain};
-ghost use Rattle.member_node.specs.Batches.{IsDraftOf, level_with};
-ghost use Rattle.member_node.specs.Copies.{IsDraftFor, RestsAt};
-ghost use Rattle.member_node.specs.Drawn.{AreDrawn};
+ghost use Rattle.member_node.specs.Batches.{HasDone};
+ghost use Rattle.member_node.specs.Copies.{RestsAt};
 ghost use Rattle.member_node.specs.Standing.{queue_of};
 ghost use Rattle.member_steps.specs.Steps.{AreAllKept, IsBetween, IsStep, entry_of, step_lines};
 
-use crate::telling::tell_lines;
+use crate::batches::play_batch;
 use mas_complex::{Complex, Steady};
 use mas_types::{Command, Lines, NoMemory};
-use member_node::{Draft, Member, NodeNo, reply_lines};
+use member_node::{Member, NodeNo, reply_lines};
 use spool_disk::Plant;
 use std::alloc::Global;
 
-/// What a step writes and says. No more memory is wanted for it.
-#[derive(Drop)]
-struct Prepared {
-    draft: Draft,
-    lines: Lines,
-}
-
-// Does the command on the member's tables, and takes all memory that its step needs.
-fn prepare<P: Plant + Drop, C: Steady + Drop>(
-    member: &mut Member,
-    alloc: Global,
-    complex: &mut Complex<P, C>,
-    step: u32,
-    command: Command,
-) -> Result<Prepared, NoMemory>
-    requires may { MayAct complex.old.book member.old.id }
+// Does the command on the member's tables, and answers the lines of its reply.
+fn give(member: &mut Member, alloc: Global, step: u32, command: Command) -> Result<Lines, NoMemory>
     requires by { member.old.id.0 ≤ members_most }
     requires plain { is_plain command ≡ true }
     requires command { IsFit command }
     requires giver { IsGiver member.old.id command }
-    requires between { IsBetween complex.old.base complex.old.journal.batches complex.old.current complex.old.placed complex.old.level member.old.batch member.old.checkpoint }
-    requires rests1 { RestsAt P.tells complex.old.pair.first.alive complex.old.first (C.count complex.old.pair.first.copy) member.old.checkpoint.pages (C.reads (disk_now (P.view complex.old.plant) Ckpt1).bytes) }
-    requires rests2 { RestsAt P.tells complex.old.pair.second.alive complex.old.second (C.count complex.old.pair.second.copy) member.old.checkpoint.pages (C.reads (disk_now (P.view complex.old.plant) Ckpt2).bytes) }
+    requires nothing { member.old.batch ≡ [] }
+    requires spelling { HasSpelling member.old.checkpoint.tables }
+    requires fit { AreFit member.old.checkpoint.tables }
     requires order { member.old.checkpoint.tables.order + 32 < 2 ^ 63 }
-    requires level { member.old.checkpoint.level + 1 < 2 ^ 63 }
-    requires room1 { complex.old.pair.first.alive ≡ true → 1 ≤ C.room complex.old.pair.first.copy }
-    requires room2 { complex.old.pair.second.alive ≡ true → 1 ≤ C.room complex.old.pair.second.copy }
-    ensures plant { complex.new.plant ≡ complex.old.plant }
-    ensures pair { complex.new.pair ≡ complex.old.pair }
-    ensures base { complex.new.base ≡ complex.old.base }
-    ensures since { complex.new.since ≡ complex.old.since }
-    ensures book { complex.new.book ≡ complex.old.book }
-    ensures current { complex.new.current ≡ complex.old.current }
-    ensures first { complex.new.first ≡ complex.old.first }
-    ensures second { complex.new.second ≡ complex.old.second }
-    ensures same_level { complex.new.level ≡ complex.old.level }
-    ensures kept { kept_all complex.new.journal.batches ≡ kept_all complex.old.journal.batches }
-    ensures err { OnErr result ((complex.new.journal ≡ complex.old.journal) × (complex.new.placed ≡ complex.old.placed)) }
-    ensures reserved { OnOk result (complex.new.reserved ≡ Some (entry_of (run complex.old.base (kept_all complex.old.journal.batches)) member.old.id step command ∷ [])) }
-    ensures grown { OnOk result ((place : Batch) × (complex.new.journal.batches ≡ complex.old.journal.batches ++ place ∷ [])) }
     ensures id { member.new.id ≡ member.old.id }
-    ensures batch { OnOk result (member.new.batch ≡ []) }
-    ensures config { member.new.checkpoint.tables.config ≡ member.old.checkpoint.tables.config }
+    ensures level { member.new.checkpoint.level ≡ member.old.checkpoint.level }
+    ensures pages { member.new.checkpoint.pages ≡ member.old.checkpoint.pages }
+    ensures entry { OnOk result (member.new.batch ≡ entry_of (queue_of member.old.checkpoint.tables) member.old.id step command ∷ []) }
+    ensures lines { IfOk result (λ lines. lines ≡ step_lines (queue_of member.old.checkpoint.tables) member.old.id step command) }
+    ensures done { OnOk result ((Q : Queue) → HasDone Q member.old.batch member.old.checkpoint → HasDone Q member.new.batch member.new.checkpoint) }
     ensures order { member.new.checkpoint.tables.order ≤ member.old.checkpoint.tables.order + 32 }
-    ensures fit { AreFit member.new.checkpoint.tables }
-    ensures drawn { OnOk result (AreDrawn member.new.checkpoint.tables member.new.checkpoint.level member.new.checkpoint.levels member.new.checkpoint.pages) }
-    ensures effect { OnOk result (queue_of member.new.checkpoint.tables ≡ run (run complex.old.base (kept_all complex.old.journal.batches)) (entry_of (run complex.old.base (kept_all complex.old.journal.batches)) member.old.id step command ∷ [])) }
-    ensures lines { IfOk result (λ prepared. prepared.lines ≡ step_lines (run complex.old.base (kept_all complex.old.journal.batches)) member.old.id step command) }
-    ensures level { IfOk result (λ prepared. member.new.checkpoint.level ≡ level_with prepared.draft member.old.checkpoint.level) }
-    ensures draft { IfOk result (λ prepared. IsDraftOf prepared.draft P.tells (run complex.old.base (kept_all complex.old.journal.batches)) (entry_of (run complex.old.base (kept_all complex.old.journal.batches)) member.old.id step command ∷ []) complex.old.level member.new.checkpoint.pages) }
-    ensures draft1 { IfOk result (λ prepared. IsDraftFor prepared.draft P.tells complex.old.pair.first.alive (C.count complex.old.pair.first.copy) (C.room complex.old.pair.first.copy) member.new.checkpoint.pages (C.reads (disk_now (P.view complex.old.plant) Ckpt1).bytes)) }
-    ensures draft2 { IfOk result (λ prepared. IsDraftFor prepared.draft P.tells complex.old.pair.second.alive (C.count complex.old.pair.second.copy) (C.room complex.old.pair.second.copy) member.new.checkpoint.pages (C.reads (disk_now (P.view complex.old.plant) Ckpt2).bytes)) }
+    ensures config { member.new.checkpoint.tables.config ≡ member.old.checkpoint.tables.config }
 {
     member.do_command(alloc, step, command)?;
-    let lines = reply_lines(alloc, member.id, step, member.last_reply())?;
-    let draft = member.ready(alloc, complex)?;
-    Ok(Prepared { draft, lines })
+    reply_lines(alloc, member.id, step, member.last_reply())
 }
 
 /// Plays a step of the member that holds the lock, or of the operator while nobody does: the command is done on its tables, kept in a
@@ -127,9 +91,8 @@ pub fn play_command<P: Plant + Drop, C: Steady + Drop>(
     ensures order { member.new.checkpoint.tables.order ≤ member.old.checkpoint.tables.order + 32 }
     ensures level { OnOk result (member.new.checkpoint.level ≤ member.old.checkpoint.level + 1) }
 {
-    let Ok(prepared) = prepare(member, alloc, complex, step, command) else {
+    let Ok(lines) = give(member, alloc, step, command) else {
         return Err(NodeNo::NoMemory);
     };
-    member.write(complex, &prepared.draft)?;
-    tell_lines(member, complex, &prepared.lines)
+    play_batch(member, alloc, complex, &lines)
 }

@@ -3,10 +3,10 @@ ghost use Rattle.std.specs.Prelude.{◌≡◌, IfOk};
 ghost use Rattle.spool_disk.specs.Courses.{empty_book};
 ghost use Rattle.spool_disk.specs.MemView.{mem_book};
 
-use mas_run::{Ended, calm_top};
+use mas_run::{Ended, play_script};
 use mas_types::{Dev, List, NoMemory};
 use spool_disk::{MemPlant, MemSource, Plant, Sizes};
-use std::alloc::{AllocError, Global};
+use std::alloc::Global;
 
 /// What a copy of the default configuration needs, in bytes.
 pub const CKPT: u64 = 299_008;
@@ -65,40 +65,30 @@ pub fn halting(alloc: Global, act: u64, keep: u32) -> Result<MemPlant, NoMemory>
     Ok(plant)
 }
 
-fn words(alloc: Global, texts: &[&str]) -> Result<Vec<String>, NoMemory> {
-    let mut words = Vec::new(alloc);
-    for text in texts {
-        let word = String::from_str(alloc, text)?;
-        words.push(word).map_err(AllocError::from)?;
-    }
-    Ok(words)
-}
-
-/// A run with these words, whose source fails at a place if one is given.
+/// A run of a script, whose source fails at a place if one is given.
 pub fn run(
     alloc: Global,
-    texts: &[&str],
+    cold: bool,
     script: &[u8],
     fail_at: Option<u64>,
     plant: MemPlant,
 ) -> Result<Ended<MemPlant>, NoMemory> {
-    let words = words(alloc, texts)?;
     let mut bytes = List::new(alloc);
     for byte in script {
         bytes.push(*byte)?;
     }
     let mut source = MemSource::new(bytes, fail_at);
-    Ok(calm_top(alloc, &words, &mut source, plant))
+    Ok(play_script(alloc, cold, &mut source, plant))
 }
 
 /// A cold run of a script.
 pub fn play(alloc: Global, script: &[u8], plant: MemPlant) -> Result<Ended<MemPlant>, NoMemory> {
-    run(alloc, &["play", "--cold"], script, None, plant)
+    run(alloc, true, script, None, plant)
 }
 
 /// A warm run of a script.
 pub fn start(alloc: Global, script: &[u8], plant: MemPlant) -> Result<Ended<MemPlant>, NoMemory> {
-    run(alloc, &["play"], script, None, plant)
+    run(alloc, false, script, None, plant)
 }
 
 /// A plant that has lost a device from the begin on.

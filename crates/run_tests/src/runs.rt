@@ -32,25 +32,46 @@ fn plays_no_deck(rt: HostRuntime) -> Result<(), Fail> {
     Ok(())
 }
 
-// Other words, a source that fails at once and after the first line, and a device that is a byte too small.
+fn is_held(jobs: &[Job]) -> bool {
+    match jobs {
+        [job] => job.fields.held,
+        _ => false,
+    }
+}
+
+// A deck, a command and a display: each has its batch, and the next start finds what they did.
+#[test]
+fn plays_commands(rt: HostRuntime) -> Result<(), Fail> {
+    let alloc = rt.alloc();
+    let script = b"SYSA DECK\n//HELLO JOB\n++END\nSYSA $HJ1\nSYSA $DJ1\n";
+    let ended = play(alloc, script, plant(alloc)?)?;
+    assert!(rt; ended.status == Status::Done && ended.journal.batches.len() == 3);
+    let lines = ended.plant.console_lines(alloc)?;
+    assert!(rt; lines.len() == 4);
+    assert!(rt; lines.line(1) == b"SYSA 00002 OK JOB00001".as_slice());
+    assert!(rt; lines.line(2) == b"SYSA 00003 - JOB00001 HELLO A 05 CONVERT - HELD".as_slice());
+    assert!(rt; lines.line(3) == b"SYSA 00003 OK 1".as_slice());
+    let now = ended.plant.now();
+    let found = start(alloc, b"", ended.plant.crash_at(alloc, now, Choice::Old)?)?;
+    assert!(rt; found.status == Status::Done && is_held(found.base.jobs.as_slice()));
+    Ok(())
+}
+
+// A source that fails at once and after the first line, and a device that is a byte too small.
 #[test]
 fn refuses_before_it_plays(rt: HostRuntime) -> Result<(), Fail> {
     let alloc = rt.alloc();
-    let cold = ["play", "--cold"];
     let too_small = Status::DeviceSize {
         dev: Dev::Ckpt1,
         size: CKPT - 1,
     };
-    for (texts, ckpt, fail_at, status) in [
-        (["play", "--warm"], CKPT, None, Status::Words),
-        (["race", "--cold"], CKPT, None, Status::Words),
-        (["--cold", "play"], CKPT, None, Status::Words),
-        (cold, CKPT, Some(0), Status::SourceFault),
-        (cold, CKPT, Some(10), Status::SourceFault),
-        (cold, CKPT - 1, None, too_small),
+    for (ckpt, fail_at, status) in [
+        (CKPT, Some(0), Status::SourceFault),
+        (CKPT, Some(10), Status::SourceFault),
+        (CKPT - 1, None, too_small),
     ] {
         let plant = MemPlant::new(alloc, sizes(ckpt), 9, 9)?;
-        let ended = run(alloc, &texts, DECK, fail_at, plant)?;
+        let ended = run(alloc, true, DECK, fail_at, plant)?;
         assert!(rt; ended.status == status && ended.plant.now() == 0);
     }
     Ok(())

@@ -1,7 +1,7 @@
 use Rattle.std.proofs.Common.{◌≡◌, ◌∙◌, length, ap}
 use Rattle.std.proofs.lemmas.List.{length-map}
 use Rattle.first_script.specs.Nodes.{step_at, at_node}
-use Rattle.mas_run.proofs.BatchLemmas.{refilled}
+use Rattle.member_node.proofs.BatchLemmas.{refilled}
 use Rattle.mas_run.proofs.found.moved.Goals as goal
 
 pub returns : goal.returns

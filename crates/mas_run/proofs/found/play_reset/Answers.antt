@@ -5,17 +5,17 @@ use Rattle.ckpt_copy.specs.Areas.{reads}
 use Rattle.ckpt_copy.specs.Moments.{goes_on}
 use Rattle.mas_complex.specs.Headline.{Headline}
 use Rattle.mas_complex.specs.Journals.{begun}
-use Rattle.queue_restart.specs.Restarts.{restart_entries}
+use Rattle.member_node.proofs.CourseLemmas.{only_on}
+use Rattle.member_node.proofs.WriteLemmas.{none_out}
+use Rattle.member_steps.specs.Locked.{IsOpenTo}
+use Rattle.mas_run.specs.Resets.{restart_entries}
 use Rattle.lock_cycle.specs.Books.{Book}
 use Rattle.mas_run.specs.Decks.{sysa}
-use Rattle.mas_run.specs.Locked.{IsOpenTo}
 use Rattle.mas_run.specs.Runs.{IsPlay}
 use Rattle.mas_run.specs.Turns.{turns_from}
-use Rattle.mas_run.proofs.CourseLemmas.{only_on}
-use Rattle.mas_run.proofs.NodeLemmas.{none_left, all_enter}
+use Rattle.mas_run.proofs.NodeLemmas.{none_left}
 use Rattle.mas_run.proofs.ResetLemmas.{reset_ended, reset_caused, one_kept_now}
 use Rattle.mas_run.proofs.RunLemmas.{warm_steps, caused_through, grows_through}
-use Rattle.mas_run.proofs.WriteLemmas.{none_out}
 use Rattle.mas_run.proofs.found.play_reset.Goals as goal
 
 pub returns-in-Err-clause-steps : goal.returns-in-Err-clause-steps
@@ -53,10 +53,13 @@ play_asked-requires-clause-lock g c =
     record { member = open_to.member; holder = open_to.holder; up = open_to.up; none = k.unreserved }
 
 pub play_asked-requires-clause-may : goal.play_asked-requires-clause-may
-play_asked-requires-clause-may g c =
-    let n = c.restart.new.self.checkpoint in
+play_asked-requires-clause-may g c = rw c.in-Ok.ensures.config c.requires.may
+
+pub play_asked-requires-clause-groups : goal.play_asked-requires-clause-groups
+play_asked-requires-clause-groups g c =
+    let n = c.restart.new.self.member.checkpoint in
     let k = c.in-Ok.ensures in
-    all_enter n.tables.config n.tables.owners c.args.asked.now (none_left n.tables.config n.tables.owners k.between.drawn.spelling.shape.config k.groups) (rw k.config c.requires.may)
+    none_left n.tables.config n.tables.owners k.between.drawn.spelling.shape.config k.groups
 
 pub play_asked-requires-clause-kept : goal.play_asked-requires-clause-kept
 play_asked-requires-clause-kept g c =

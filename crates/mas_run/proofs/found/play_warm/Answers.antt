@@ -18,14 +18,14 @@ use Rattle.mas_complex.specs.Meaning.{run}
 use Rattle.warm_start.proofs.Begun.{found_later, kept_later}
 use Rattle.first_script.specs.Nodes.{at_node}
 use Rattle.mas_run.specs.Decks.{sysa}
-use Rattle.mas_run.specs.Told.{console_now}
+use Rattle.member_node.specs.Calls.{console_now}
+use Rattle.member_node.proofs.CourseLemmas.{only_on}
 use Rattle.mas_run.specs.Turns.{turns_of}
 use Rattle.mas_run.proofs.LockLemmas.{begins_open}
 use Rattle.mas_run.specs.Runs.{HasSteps}
-use Rattle.mas_run.proofs.CourseLemmas.{only_on}
-use Rattle.mas_run.proofs.NodeLemmas.{steps_for, copies_at, many_at}
+use Rattle.mas_run.proofs.NodeLemmas.{steps_for, many_at}
 use Rattle.mas_run.proofs.RunLemmas.{steps_since}
-use Rattle.mas_run.proofs.WarmLemmas.{found_drawn, found_below, found_begun, not_source, not_text, play_not_text, play_not_source, play_begins, not_begun, why_not_lost, not_started, start_caused, starts_first, start_causes, held_until, no}
+use Rattle.mas_run.proofs.WarmLemmas.{found_drawn, found_begun, not_source, not_text, play_not_text, play_not_source, play_begins, not_begun, why_not_lost, not_started, start_caused, starts_first, start_causes, held_until, no}
 use Rattle.mas_run.proofs.found.play_warm.Goals as goal
 
 pub returns-in-Err-clause-no_source : goal.returns-in-Err-clause-no_source
@@ -80,12 +80,6 @@ play_reset-requires-clause-may g c =
     let u = c.in-Ok.ensures.started.usable in
     rw (c.as_slice.ensures, c.moved-asked.ensures, c.running_of.ensures.tables) (steps_for default_config.node c.in-Ok.found.tables.config c.args.asked named u.0.fit.shape.config.node c.requires.fits)
 
-pub play_reset-requires-clause-copies : goal.play_reset-requires-clause-copies
-play_reset-requires-clause-copies g c = rw (c.as_slice.ensures, c.moved-asked.ensures) (copies_at default_config.node c.in-Ok.found.tables.config.node c.args.asked c.requires.fits)
-
-pub play_reset-requires-clause-sound : goal.play_reset-requires-clause-sound
-play_reset-requires-clause-sound g c = rw c.running_of.ensures.tables c.in-Ok.ensures.started.usable.1.sound
-
 pub play_reset-requires-clause-between : goal.play_reset-requires-clause-between
 play_reset-requires-clause-between g c =
     let w = c.in-Ok.found in
@@ -98,7 +92,8 @@ play_reset-requires-clause-between g c =
       same_level = rw r.complex (sym r.level);
       drawn = rw (r.tables, r.level, r.levels, r.pages) (found_drawn w.pages w.tables w.levels w.complex.level s.usable s.sized s.leveled s.at_level);
       queue = rw (r.tables, r.complex) (sym s.base_is ∙ ap (λ (bs : List Batch). run w.complex.base (kept_all bs)) (sym f.journal));
-      below = rw r.tables (found_below w.pages w.tables s.usable);
+      nothing = r.batch;
+      fit = rw r.tables (c.law_of_fit_tables.ensures w.tables s.usable.0.fit.shape s.usable.1.sound);
     }
 
 pub play_reset-requires-clause-rests1 : goal.play_reset-requires-clause-rests1

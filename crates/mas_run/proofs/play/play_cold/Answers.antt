@@ -15,18 +15,17 @@ use Rattle.lock_cycle.specs.Books.{Book}
 use Rattle.mas_complex.specs.Journals.{kept_all}
 use Rattle.mas_complex.specs.Locking.{book_of}
 use Rattle.mas_complex.specs.Meaning.{StandFor, run}
-use Rattle.mas_run.specs.Standing.{queue_of}
-use Rattle.mas_run.specs.Told.{console_now}
-use Rattle.mas_run.specs.Crash.{IsOnlyOn}
-use Rattle.mas_run.specs.Between.{AreAllKept}
+use Rattle.member_node.specs.Calls.{IsOnlyOn, console_now}
+use Rattle.member_node.specs.Standing.{queue_of}
+use Rattle.member_node.proofs.CourseLemmas.{only_on}
+use Rattle.member_node.proofs.DrawnLemmas.{drawn_stand, drawn_level}
+use Rattle.member_steps.specs.Steps.{AreAllKept}
 use Rattle.mas_run.specs.Runs.{IsPlay}
 use Rattle.mas_run.specs.Statuses.{IsCausedFrom}
 use Rattle.mas_run.specs.Decks.{sysa}
 use Rattle.mas_run.specs.Turns.{turns_from, turns_of}
 use Rattle.mas_run.proofs.LockLemmas.{begins_open}
-use Rattle.mas_run.proofs.DrawnLemmas.{drawn_stand, drawn_level}
-use Rattle.mas_run.proofs.CourseLemmas.{only_on}
-use Rattle.mas_run.proofs.RunLemmas.{cold_steps, steps_since, none_kept, caused_since, formed_copy, all_may, all_copies, below_empty}
+use Rattle.mas_run.proofs.RunLemmas.{cold_steps, steps_since, none_kept, caused_since, formed_copy, all_may, fit_empty, groups_empty}
 use Rattle.mas_run.proofs.play.play_cold.Goals as goal
 
 pub make-complex-requires-clause-begins : goal.make-complex-requires-clause-begins
@@ -64,7 +63,7 @@ play_asked-requires-clause-rests1 g c =
     let v = g.P.Plant.view c.form.new.plant in
     let n = c.form.new.self.first in
     let m = c.make-complex.ensures in
-    record {
+    rw c.new-member.ensures.checkpoint (record {
       before = m.places.0;
       as_many = λ is.
           let alive : n.alive ≡ true = sym (ap (λ p. p.first.alive) m.pair) ∙ is in
@@ -73,14 +72,14 @@ play_asked-requires-clause-rests1 g c =
           let alive : n.alive ≡ true = sym (ap (λ p. p.first.alive) m.pair) ∙ is in
           ap (λ p. reads (disk_now (g.P.Plant.view p) Ckpt1).bytes) m.plant
           ∙ area_rests_now n.copy.pages n.copy.second n.copy.stale (bytes_of c.in-Ok.checkpoint.pages) (disk_now v Ckpt1) (rw c.as_slice.ensures at (c.in-Ok-form.ensures.formed1 told alive));
-    }
+    })
 
 pub play_asked-requires-clause-rests2 : goal.play_asked-requires-clause-rests2
 play_asked-requires-clause-rests2 g c =
     let v = g.P.Plant.view c.form.new.plant in
     let n = c.form.new.self.second in
     let m = c.make-complex.ensures in
-    record {
+    rw c.new-member.ensures.checkpoint (record {
       before = m.places.1;
       as_many = λ is.
           let alive : n.alive ≡ true = sym (ap (λ p. p.second.alive) m.pair) ∙ is in
@@ -89,13 +88,13 @@ play_asked-requires-clause-rests2 g c =
           let alive : n.alive ≡ true = sym (ap (λ p. p.second.alive) m.pair) ∙ is in
           ap (λ p. reads (disk_now (g.P.Plant.view p) Ckpt2).bytes) m.plant
           ∙ area_rests_now n.copy.pages n.copy.second n.copy.stale (bytes_of c.in-Ok.checkpoint.pages) (disk_now v Ckpt2) (rw c.as_slice.ensures at (c.in-Ok-form.ensures.formed2 told alive));
-    }
+    })
 
 pub play_asked-requires-clause-may : goal.play_asked-requires-clause-may
-play_asked-requires-clause-may g c = all_may c.in-Ok.checkpoint.tables c.args.asked.now c.in-Ok.ensures.tables c.requires.fits
+play_asked-requires-clause-may g c = rw c.new-member.ensures.checkpoint (all_may c.in-Ok.checkpoint.tables c.args.asked.now c.in-Ok.ensures.tables c.requires.fits)
 
-pub play_asked-requires-clause-copies : goal.play_asked-requires-clause-copies
-play_asked-requires-clause-copies g c = all_copies c.args.asked.now c.requires.fits
+pub play_asked-requires-clause-groups : goal.play_asked-requires-clause-groups
+play_asked-requires-clause-groups g c = rw c.new-member.ensures.checkpoint (groups_empty c.in-Ok.checkpoint.tables c.in-Ok.ensures.tables)
 
 pub play_asked-requires-clause-between : goal.play_asked-requires-clause-between
 play_asked-requires-clause-between g c =
@@ -105,10 +104,11 @@ play_asked-requires-clause-between g c =
     record {
       none = m.current;
       unplaced = m.placed;
-      same_level = m.level;
-      drawn = c.in-Ok.ensures.drawn;
-      queue = queue ∙ sym m.base ∙ ap (λ (bs : List Batch). run c.make-complex.result.base (kept_all bs)) (sym m.journal);
-      below = below_empty k.tables c.in-Ok.ensures.tables;
+      same_level = rw c.new-member.ensures.checkpoint m.level;
+      drawn = rw c.new-member.ensures.checkpoint c.in-Ok.ensures.drawn;
+      queue = rw c.new-member.ensures.checkpoint queue ∙ sym m.base ∙ ap (λ (bs : List Batch). run c.make-complex.result.base (kept_all bs)) (sym m.journal);
+      nothing = c.new-member.ensures.batch;
+      fit = rw c.new-member.ensures.checkpoint (fit_empty k.tables c.in-Ok.ensures.tables c.in-Ok.ensures.drawn.spelling.shape);
     }
 
 pub returns-in_default-form-clause-elsewhere : goal.returns-in_default-form-clause-elsewhere

@@ -1,141 +1,42 @@
-use Rattle.std.proofs.Common.{◌≡◌, ◌∙◌, ◌+◌, ◌≤◌, ◌++◌, ℕ, List, [], ◌∷◌, ap, refl, subst, sym, arith}
-use Rattle.std.proofs.lemmas.Result.{err_from_is_err_and}
-use Rattle.mas_types.specs.declared.ids.Dev.TheVariants.{Ckpt1, Ckpt2}
-use Rattle.mas_types.specs.declared.journals.Batch.{Batch}
-use Rattle.mas_types.specs.declared.journals.Fate.TheVariants.{Kept}
-use Rattle.mas_types.specs.declared.journals.Journal.{Journal}
+use Rattle.std.proofs.Common.{◌≡◌, ◌∙◌, [], ◌∷◌, List, ℕ, ap, refl, sym}
+use Rattle.mas_types.specs.declared.journals.Entry.{Entry}
 use Rattle.mas_types.specs.declared.queues.Queue.{Queue}
-use Rattle.mas_complex.specs.Journals.{begun, end_of, entries_reserved, fated, kept_all}
+use Rattle.mas_complex.specs.Journals.{end_of, kept_all}
 use Rattle.mas_complex.specs.Meaning.{run}
-use Rattle.member_node.specs.Batches.{level_with}
-use Rattle.member_node.specs.Standing.{queue_of}
-use Rattle.member_node.proofs.WriteLemmas.{queue_kept}
-use Rattle.member_steps.specs.Steps.{AreAllKept, entry_of, step_lines}
-use Rattle.member_steps.proofs.StepLemmas.{journal_kept, kept_later, kept_push, level_most, ok_of, step_told, step_unwritten}
+use Rattle.member_steps.specs.Steps.{entry_of, step_lines}
+use Rattle.member_steps.proofs.StepLemmas.{between_done, own_of_one, some_of_one, step_named, untold_by}
 use Rattle.member_steps.proofs.playing.play_command.Goals as goal
 
-pub returns-in_err-write-clause-step : goal.returns-in_err-write-clause-step
-returns-in_err-write-clause-step g c =
-    let P = g.P.Plant in
+pub play_batch-requires-clause-done : goal.play_batch-requires-clause-done
+play_batch-requires-clause-done g c =
     let x = c.args.complex.now in
-    let y = c.prepare.new.complex in
-    let z = c.write.new.complex in
-    let e = c.prepare.ensures in
-    let by = c.args.member.now.id in
-    let Q : Queue = run x.base (kept_all x.journal.batches) in
-    let grown = c.in-Ok.ensures.grown in
-    let write = rw (e.id, e.plant, e.pair, c.in-Ok.ensures.reserved) at (c.in_err-write.ensures.write x.journal.batches grown.0 grown.1) in
-    let p = err_from_is_err_and c.from_residual.result c.from_residual.ensures.1 in
-    rw (p.1, p.2) (step_unwritten P.tells by.0 (step_lines Q by c.args.step c.args.command) (begun (P.view x.plant).now by (entry_of Q by c.args.step c.args.command ∷ []))
-    x.journal.batches (end_of z.placed z.current z.journal.batches) x.pair.first.alive z.pair.first.alive x.pair.second.alive z.pair.second.alive (P.view x.plant) (P.view z.plant) _ write)
+    let m = c.args.member.now in
+    c.in-Ok.ensures.done (run x.base (kept_all x.journal.batches)) (between_done x.base x.journal.batches x.current x.placed x.level m.batch m.checkpoint c.requires.between)
 
-pub tell_lines-requires-clause-up : goal.tell_lines-requires-clause-up
-tell_lines-requires-clause-up g c = rw (c.write.ensures.book, c.prepare.ensures.book, c.prepare.ensures.id) c.requires.may.up
+pub play_batch-requires-clause-some : goal.play_batch-requires-clause-some
+play_batch-requires-clause-some g c = some_of_one c.give.new.member.batch _ c.in-Ok.ensures.entry
 
-pub tell_lines-requires-clause-kept : goal.tell_lines-requires-clause-kept
-tell_lines-requires-clause-kept g c =
-    let P = g.P.Plant in
+pub play_batch-requires-clause-own : goal.play_batch-requires-clause-own
+play_batch-requires-clause-own g c = own_of_one c.give.new.member.batch _ c.give.new.member.id c.in-Ok.ensures.entry (sym c.give.ensures.id)
+
+pub play_batch-requires-clause-untold : goal.play_batch-requires-clause-untold
+play_batch-requires-clause-untold g c told =
     let x = c.args.complex.now in
-    let y = c.prepare.new.complex in
-    let z = c.write.new.complex in
-    let e = c.prepare.ensures in
-    let grown = c.in-Ok.ensures.grown in
-    let b : Batch = begun (P.view y.plant).now c.prepare.new.member.id (entries_reserved y.reserved) in
-    let journal : z.journal.batches ≡ x.journal.batches ++ fated Kept (P.view z.plant).now b ∷ [] =
-    journal_kept x.journal.batches y.journal.batches z.journal.batches grown.0 (fated Kept (P.view z.plant).now b) grown.1 c.in_ok-write.ensures.kept in
-    let later : (P.view y.plant).now ≤ (P.view z.plant).now = (c.in_ok-write.ensures.write x.journal.batches grown.0 grown.1).course.goes.later in
-    subst (λ (bs : List Batch). AreAllKept bs (P.view z.plant).now) (sym journal)
-    (kept_push x.journal.batches (P.view x.plant).now (P.view z.plant).now b (omega (arith, later, ap (λ p. (P.view p).now) e.plant)) c.requires.kept)
+    let m = c.args.member.now in
+    let v = g.P.Plant.view x.plant in
+    let here : c.give.new.member.batch ≡ entry_of (run x.base (kept_all x.journal.batches)) m.id c.args.step c.args.command ∷ [] =
+    c.in-Ok.ensures.entry ∙ ap (λ (Q : Queue). let es : List Entry = entry_of Q m.id c.args.step c.args.command ∷ [] in es) c.requires.between.queue in
+    untold_by g.C.Copying.reads x.base x.base x.since x.since v v (entry_of (run x.base (kept_all x.journal.batches)) m.id c.args.step c.args.command ∷ []) c.give.new.member.batch refl refl refl here (c.requires.untold told)
 
 pub returns-clause-step : goal.returns-clause-step
 returns-clause-step g c =
     let P = g.P.Plant in
     let x = c.args.complex.now in
-    let z = c.write.new.complex in
-    let w = c.tell_lines.new.complex in
-    let e = c.prepare.ensures in
-    let t = c.tell_lines.ensures in
-    let by = c.args.member.now.id in
+    let m = c.args.member.now in
+    let z = c.play_batch.new.complex in
     let Q : Queue = run x.base (kept_all x.journal.batches) in
-    let grown = c.in-Ok.ensures.grown in
-    let write = rw (e.id, e.plant, e.pair, c.in-Ok.ensures.reserved) at (c.in_ok-write.ensures.write x.journal.batches grown.0 grown.1) in
-    let said = rw (e.id, c.in-Ok.ensures.lines) at t.said in
-    rw (t.placed, t.current, t.journal, t.pair)
-    (step_told P.tells by.0 (step_lines Q by c.args.step c.args.command) (begun (P.view x.plant).now by (entry_of Q by c.args.step c.args.command ∷ []))
-    x.journal.batches (end_of z.placed z.current z.journal.batches) x.pair.first.alive z.pair.first.alive x.pair.second.alive z.pair.second.alive (P.view x.plant) (P.view z.plant) write (P.view w.plant) c.tell_lines.result said)
-
-pub returns-clause-unreserved : goal.returns-clause-unreserved
-returns-clause-unreserved g c = ok_of c.tell_lines.result (c.tell_lines.ensures.reserved ∙ c.write.ensures.unreserved)
-
-pub returns-clause-between : goal.returns-clause-between
-returns-clause-between g c =
-    let P = g.P.Plant in
-    let x = c.args.complex.now in
-    let y = c.prepare.new.complex in
-    let z = c.write.new.complex in
-    let w = c.tell_lines.new.complex in
-    let n = c.prepare.new.member.checkpoint in
-    let e = c.prepare.ensures in
-    let k = c.in_ok-write.ensures in
-    let t = c.tell_lines.ensures in
-    let by = c.args.member.now.id in
-    let Q : Queue = run x.base (kept_all x.journal.batches) in
-    let grown = c.in-Ok.ensures.grown in
-    let b : Batch = begun (P.view y.plant).now c.prepare.new.member.id (entries_reserved y.reserved) in
-    let journal : w.journal.batches ≡ x.journal.batches ++ fated Kept (P.view z.plant).now b ∷ [] =
-    ap (λ (j : Journal). j.batches) t.journal ∙ journal_kept x.journal.batches y.journal.batches z.journal.batches grown.0 (fated Kept (P.view z.plant).now b) grown.1 k.kept in
-    ok_of c.tell_lines.result (record {
-      none = t.current ∙ k.none;
-      unplaced = t.placed ∙ k.unplaced;
-      same_level = t.level ∙ k.level ∙ ap (level_with c.in-Ok.prepared.draft) (e.same_level ∙ c.requires.between.same_level) ∙ sym c.in-Ok.ensures.level;
-      nothing = c.in-Ok.ensures.batch;
-      drawn = c.in-Ok.ensures.drawn;
-      queue = queue_kept x.base w.base Q (queue_of n.tables) x.journal.batches w.journal.batches (P.view z.plant).now b (entry_of Q by c.args.step c.args.command ∷ [])
-          (t.base ∙ k.base ∙ e.base) refl journal (ap entries_reserved c.in-Ok.ensures.reserved) c.in-Ok.ensures.effect;
-      fit = e.fit;
-    })
-
-pub returns-clause-rests1 : goal.returns-clause-rests1
-returns-clause-rests1 g c =
-    let C = g.C.Copying in
-    let k = c.in_ok-write.ensures in
-    let t = c.tell_lines.ensures in
-    ok_of c.tell_lines.result (record {
-      before = t.first ∙ k.rests1.before;
-      as_many = λ on. k.rests1.as_many (sym (ap (λ p. p.first.alive) t.pair) ∙ on) ∙ sym (ap (λ p. C.count p.first.copy) t.pair);
-      reads = λ told on. ap (λ d. C.reads d.bytes) (t.said.acts.disks told Ckpt1) ∙ k.rests1.reads told (sym (ap (λ p. p.first.alive) t.pair) ∙ on);
-    })
-
-pub returns-clause-rests2 : goal.returns-clause-rests2
-returns-clause-rests2 g c =
-    let C = g.C.Copying in
-    let k = c.in_ok-write.ensures in
-    let t = c.tell_lines.ensures in
-    ok_of c.tell_lines.result (record {
-      before = t.second ∙ k.rests2.before;
-      as_many = λ on. k.rests2.as_many (sym (ap (λ p. p.second.alive) t.pair) ∙ on) ∙ sym (ap (λ p. C.count p.second.copy) t.pair);
-      reads = λ told on. ap (λ d. C.reads d.bytes) (t.said.acts.disks told Ckpt2) ∙ k.rests2.reads told (sym (ap (λ p. p.second.alive) t.pair) ∙ on);
-    })
-
-pub returns-clause-kept : goal.returns-clause-kept
-returns-clause-kept g c =
-    let P = g.P.Plant in
-    let x = c.args.complex.now in
-    let y = c.prepare.new.complex in
-    let z = c.write.new.complex in
-    let w = c.tell_lines.new.complex in
-    let e = c.prepare.ensures in
-    let t = c.tell_lines.ensures in
-    let grown = c.in-Ok.ensures.grown in
-    let b : Batch = begun (P.view y.plant).now c.prepare.new.member.id (entries_reserved y.reserved) in
-    let journal : w.journal.batches ≡ x.journal.batches ++ fated Kept (P.view z.plant).now b ∷ [] =
-    ap (λ (j : Journal). j.batches) t.journal ∙ journal_kept x.journal.batches y.journal.batches z.journal.batches grown.0 (fated Kept (P.view z.plant).now b) grown.1 c.in_ok-write.ensures.kept in
-    let later : (P.view y.plant).now ≤ (P.view z.plant).now = (c.in_ok-write.ensures.write x.journal.batches grown.0 grown.1).course.goes.later in
-    ok_of c.tell_lines.result (subst (λ (bs : List Batch). AreAllKept bs (P.view w.plant).now) (sym journal)
-    (kept_later (x.journal.batches ++ fated Kept (P.view z.plant).now b ∷ []) (P.view z.plant).now (P.view w.plant).now t.said.acts.goes.later
-    (kept_push x.journal.batches (P.view x.plant).now (P.view z.plant).now b (omega (arith, later, ap (λ p. (P.view p).now) e.plant)) c.requires.kept)))
-
-pub returns-clause-level : goal.returns-clause-level
-returns-clause-level g c =
-    let old : ℕ = c.args.member.now.checkpoint.level in
-    ok_of c.tell_lines.result (subst (λ (n : ℕ). n ≤ old + 1) (sym c.in-Ok.ensures.level) (level_most c.in-Ok.prepared.draft old))
+    step_named P.tells m.id c.give.new.member.id (step_lines Q m.id c.args.step c.args.command) _ (entry_of Q m.id c.args.step c.args.command ∷ []) c.give.new.member.batch x.journal.batches (end_of z.placed z.current z.journal.batches)
+    x.pair.first.alive z.pair.first.alive x.pair.second.alive z.pair.second.alive (P.view x.plant) (P.view z.plant) c.play_batch.result c.give.ensures.id
+    (c.in-Ok.ensures.lines ∙ ap (λ (R : Queue). step_lines R m.id c.args.step c.args.command) c.requires.between.queue)
+    (c.in-Ok.ensures.entry ∙ ap (λ (R : Queue). let es : List Entry = entry_of R m.id c.args.step c.args.command ∷ [] in es) c.requires.between.queue)
+    c.play_batch.ensures.step

@@ -1,15 +1,18 @@
-use Rattle.std.proofs.Common.{◌≡◌, ◌∙◌, ◌+◌, [], ℕ, refl, sym, ap, arith, take}
+use Rattle.std.proofs.Common.{◌≡◌, ◌∙◌, ◌+◌, [], ℕ, refl, sym, ap, subst, arith, take}
 use Rattle.std.proofs.lemmas.List.{append-nil}
 use Rattle.std.proofs.lemmas.Result.{err_from_is_err_and}
 use Rattle.mas_types.specs.declared.queues.Queue.{Queue}
 use Rattle.spool_disk.specs.View.{World}
 use Rattle.mas_complex.specs.Journals.{kept_all}
 use Rattle.mas_complex.specs.Meaning.{run}
-use Rattle.duplex_pair.specs.Halves.{IsCkpt}
 use Rattle.mas_run.specs.Turns.{turns_from}
-use Rattle.mas_run.proofs.PlayLemmas.{all_kept, loss_of, may_step, untold_step, step_renamed, played_on, played_out, played_all, played_none, step_behind, queue_behind, all_kept_behind}
-use Rattle.mas_run.proofs.TurnLemmas.{turns_length, at_itself, turn_is, book_then}
-use Rattle.mas_run.proofs.WriteLemmas.{none_out}
+use Rattle.mas_run.proofs.PlayLemmas.{all_kept, kept_run, loss_of, may_step, untold_step, step_renamed, played_on, played_out, played_all, played_none, step_behind, queue_behind, all_kept_behind}
+use Rattle.mas_run.proofs.TurnLemmas.{turns_length, turn_is, book_then}
+use Rattle.member_node.proofs.WriteLemmas.{none_out}
+use Rattle.mas_run.specs.Decks.{sysa}
+use Rattle.mas_run.specs.Entering.{HasNoGroups}
+use Rattle.mas_run.specs.Steps.{IsFitFor}
+use Rattle.mas_run.proofs.GroupLemmas.{none_after}
 use Rattle.mas_run.proofs.running.Running.play_steps.Goals as goal
 
 pub loop-step-init : goal.loop-step-init
@@ -17,6 +20,7 @@ loop-step-init g c =
     let x = c.args.self.now.complex in
     record {
       number = refl;
+      id = c.requires.id;
       base = refl;
       since = refl;
       lock = c.requires.lock;
@@ -25,7 +29,6 @@ loop-step-init g c =
       rests1 = c.requires.rests1;
       rests2 = c.requires.rests2;
       config = refl;
-      owners = refl;
       order = omega arith;
       level = omega arith;
       play = record {
@@ -36,7 +39,23 @@ loop-step-init g c =
     }
 
 pub play_step-requires-clause-may : goal.play_step-requires-clause-may
-play_step-requires-clause-may g c = may_step c.args.asked.now c.loop-step.step-index _ _ _ _ _ c.loop-step.invariant.config c.loop-step.invariant.owners c.requires.may c.loop-step-test.true
+play_step-requires-clause-may g c =
+    let l = c.loop-step in
+    subst (IsFitFor l.self.member.checkpoint.tables.config) (sym c.step-item.is) (may_step c.args.asked.now l.step-index c.step-item.result _ l.self.member.checkpoint.tables.config l.invariant.config c.requires.may c.loop-step-test.true)
+
+pub play_step-requires-clause-groups : goal.play_step-requires-clause-groups
+play_step-requires-clause-groups g c =
+    let x = c.args.self.now.complex in
+    let y = c.loop-step.self.complex in
+    let i = c.loop-step.invariant in
+    let v0 = g.P.Plant.view x.plant in
+    let v = g.P.Plant.view y.plant in
+    let from : Queue = run x.base (kept_all x.journal.batches) in
+    let queue : run y.base (kept_all y.journal.batches) ≡ run from (kept_all i.play.rest) = ap (λ (q : Queue). run q (kept_all y.journal.batches)) i.base ∙ queue_behind x.base x.journal.batches i.play.rest y.journal.batches i.play.batches_are in
+    let kept = kept_run from 1 (take c.loop-step.step-index (turns_from x.book c.args.asked.now)) v0.now v.now i.play.rest i.play.played.kept in
+    subst (λ (q : Queue). HasNoGroups sysa q.owners) (sym (i.between.queue ∙ queue ∙ kept))
+    (none_after c.args.self.now.member.checkpoint.tables.config x.book c.args.asked.now c.loop-step.step-index 1 from c.requires.may
+    (subst (λ (q : Queue). HasNoGroups sysa q.owners) c.requires.between.queue c.requires.groups))
 
 pub play_step-requires-clause-untold : goal.play_step-requires-clause-untold
 play_step-requires-clause-untold g c told =
@@ -78,24 +97,24 @@ loop-step-preserved g c =
     (rw i.play.batches_are at (step_renamed P.tells _ _ _ _ _ y.journal.batches _ _ _ _ _ _ _ _ _ queue next out e.step)) in
     record {
       number = omega (arith, i.number);
+      id = c.play_step.ensures.id ∙ i.id;
       base = e.base ∙ i.base;
       since = e.since ∙ i.since;
       lock = e.lock;
-      book = book_then x.book y.book z.book c.args.asked.now c.loop-step.step-index _ i.book (at_itself c.args.asked.now c.loop-step.step-index _ c.loop-step-test.true) c.loop-step-test.true e.book;
+      book = book_then x.book y.book z.book c.args.asked.now c.loop-step.step-index _ i.book c.step-item.is c.loop-step-test.true e.book;
       between = e.between;
       rests1 = e.rests1;
       rests2 = e.rests2;
-      config = e.config ∙ i.config;
-      owners = e.owners ∙ i.owners;
-      order = omega (arith, e.order, i.order);
+      config = c.play_step.ensures.config ∙ i.config;
+      order = omega (arith, c.play_step.ensures.order, i.order);
       level = omega (arith, e.level, i.level);
       play = record {
         rest = behind.more;
         batches_are = behind.are;
         played = played_on P.tells from (turns_from x.book c.args.asked.now) c.loop-step.step-index _ (omega (arith, turns_length x.book c.args.asked.now, c.loop-step-test.true))
-            (turn_is x.book y.book c.args.asked.now c.loop-step.step-index _ i.book (at_itself c.args.asked.now c.loop-step.step-index _ c.loop-step-test.true) c.loop-step-test.true) i.play.rest
+            (turn_is x.book y.book c.args.asked.now c.loop-step.step-index _ i.book c.step-item.is c.loop-step-test.true) i.play.rest
             x.pair.first.alive y.pair.first.alive z.pair.first.alive x.pair.second.alive y.pair.second.alive z.pair.second.alive v0 v w i.play.played tt behind.more
-            (loss_of y.book _ IsCkpt (c.requires.copies c.loop-step.step-index _ c.loop-step-test.true)) behind.step;
+            (loss_of c.args.self.now.member.checkpoint.tables.config y.book c.step-item.result (subst (IsFitFor c.args.self.now.member.checkpoint.tables.config) (sym c.step-item.is) (c.requires.may c.loop-step.step-index c.step-item.result c.loop-step-test.true))) behind.step;
       };
     }
 
@@ -120,7 +139,7 @@ returns-in_err-play_step-clause-played g c =
       rest = behind.more;
       batches_are = behind.are;
       played = played_out P.tells from (turns_from x.book c.args.asked.now) c.loop-step.step-index _ (omega (arith, turns_length x.book c.args.asked.now, c.loop-step-test.true))
-          (turn_is x.book y.book c.args.asked.now c.loop-step.step-index _ i.book (at_itself c.args.asked.now c.loop-step.step-index _ c.loop-step-test.true) c.loop-step-test.true) i.play.rest
+          (turn_is x.book y.book c.args.asked.now c.loop-step.step-index _ i.book c.step-item.is c.loop-step-test.true) i.play.rest
           x.pair.first.alive y.pair.first.alive z.pair.first.alive x.pair.second.alive y.pair.second.alive z.pair.second.alive v0 v w i.play.played _ behind.more behind.step;
     })
 

@@ -1,4 +1,4 @@
-use Rattle.std.proofs.Common.{◌∙◌, ◌++◌, ap, sym, subst, Err}
+use Rattle.std.proofs.Common.{◌∙◌, ◌++◌, ap, sym, subst, Err, refl}
 use Rattle.mas_types.specs.declared.journals.Journal.{Journal}
 use Rattle.mas_types.specs.declared.queues.Queue.{Queue}
 use Rattle.ckpt_copy.specs.Pages.{bytes_of}
@@ -57,3 +57,6 @@ returns-in-Err-Halted-clause-write g c front place one =
     let k = c.in-Err-Halted.ensures in
     write_stopped (Unit {0}) P.tells c.args.self.now.id (entries_reserved x.reserved) front x.journal.batches z.journal.batches place one z.placed z.current x.pair.first.alive x.pair.second.alive (P.view x.plant)
     z.pair.first.alive z.pair.second.alive (P.view z.plant) k.apart (rw c.in-Err-Halted.field-0-is at k.acted) (ap (λ (j : Journal). j.batches) k.journal) k.flying
+
+pub returns-in-Err-Halted-clause-operator : goal.returns-in-Err-Halted-clause-operator
+returns-in-Err-Halted-clause-operator g c halts = (rw c.in-Err-Halted.field-0-is at c.in-Err-Halted.ensures.acted).not_operator refl

@@ -1,6 +1,0 @@
-use Rattle.std.proofs.Common.{◌≡◌, take}
-use Rattle.mas_run.specs.Drawn.{raised}
-use Rattle.mas_run.proofs.checkpoint.raise.Given as goal
-
-abbrev pub invariant-loop-page : goal.invariant-loop-page
-invariant-loop-page l = l.levels ≡ raised (take l.page-index l.pages) l.level l.initial.levels

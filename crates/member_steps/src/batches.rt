@@ -1,0 +1,66 @@
+//! A step whose commands are done: they are written, and its lines are said.
+ghost use Rattle.std.specs.Prelude.{◌≡◌, ◌+◌, ◌≤◌, ◌<◌, ◌^◌, All, None, length, true, false, OnOk};
+ghost use Rattle.mas_types.specs.declared.ids.Dev.TheVariants.{Ckpt1, Ckpt2};
+ghost use Rattle.spool_disk.specs.View.{disk_now};
+ghost use Rattle.mas_complex.specs.Crash.{IsUntold, setting};
+ghost use Rattle.mas_complex.specs.Journals.{begun, end_of, kept_all};
+ghost use Rattle.mas_complex.specs.Locking.{MayAct};
+ghost use Rattle.mas_complex.specs.Meaning.{run};
+ghost use Rattle.member_node.specs.Batches.{HasDone};
+ghost use Rattle.member_node.specs.Copies.{RestsAt};
+ghost use Rattle.member_steps.specs.Steps.{AreAllKept, IsBetween, IsStep};
+
+use crate::telling::tell_lines;
+use mas_complex::{Complex, Steady};
+use mas_types::Lines;
+use member_node::{Member, NodeNo};
+use spool_disk::Plant;
+use std::alloc::Global;
+
+/// Writes the commands that a member has done, as one batch, to both copies, and says lines then. The member holds the lock, or is
+/// the operator while nobody does. All memory is taken before the first write.
+///
+/// NoMemory leaves the shared value's journal and the copies as they were, BothLost and Halted perhaps the batch in flight. After any of
+/// the four errors the member can't go on: its tables may be ahead of the copies.
+pub fn play_batch<P: Plant + Drop, C: Steady + Drop>(
+    member: &mut Member,
+    alloc: Global,
+    complex: &mut Complex<P, C>,
+    lines: &Lines,
+) -> Result<(), NodeNo>
+    requires may { MayAct complex.old.book member.old.id }
+    requires some { 1 ≤ length member.old.batch }
+    requires own { All (λ e. e.by ≡ member.old.id) member.old.batch }
+    requires none { complex.old.current ≡ None }
+    requires unplaced { complex.old.placed ≡ false }
+    requires same_level { complex.old.level ≡ member.old.checkpoint.level }
+    requires done { HasDone (run complex.old.base (kept_all complex.old.journal.batches)) member.old.batch member.old.checkpoint }
+    requires rests1 { RestsAt P.tells complex.old.pair.first.alive complex.old.first (C.count complex.old.pair.first.copy) member.old.checkpoint.pages (C.reads (disk_now (P.view complex.old.plant) Ckpt1).bytes) }
+    requires rests2 { RestsAt P.tells complex.old.pair.second.alive complex.old.second (C.count complex.old.pair.second.copy) member.old.checkpoint.pages (C.reads (disk_now (P.view complex.old.plant) Ckpt2).bytes) }
+    requires kept { AreAllKept complex.old.journal.batches (P.view complex.old.plant).now }
+    requires untold { P.tells → IsUntold (setting C.reads complex.old.base complex.old.since) (P.view complex.old.plant) member.old.batch }
+    requires level { member.old.checkpoint.level + 1 < 2 ^ 63 }
+    requires room1 { complex.old.pair.first.alive ≡ true → 1 ≤ C.room complex.old.pair.first.copy }
+    requires room2 { complex.old.pair.second.alive ≡ true → 1 ≤ C.room complex.old.pair.second.copy }
+    ensures base { complex.new.base ≡ complex.old.base }
+    ensures since { complex.new.since ≡ complex.old.since }
+    ensures book { complex.new.book ≡ complex.old.book }
+    ensures id { member.new.id ≡ member.old.id }
+    ensures tables { member.new.checkpoint.tables ≡ member.old.checkpoint.tables }
+    ensures step { IsStep P.tells member.old.id.0 lines.now (begun (P.view complex.old.plant).now member.old.id member.old.batch)
+        complex.old.journal.batches (end_of complex.new.placed complex.new.current complex.new.journal.batches)
+        complex.old.pair.first.alive complex.new.pair.first.alive complex.old.pair.second.alive complex.new.pair.second.alive
+        (P.view complex.old.plant) (P.view complex.new.plant) result }
+    ensures unreserved { OnOk result (complex.new.reserved ≡ None) }
+    ensures between { OnOk result (IsBetween complex.new.base complex.new.journal.batches complex.new.current complex.new.placed complex.new.level member.new.batch member.new.checkpoint) }
+    ensures rests1 { OnOk result (RestsAt P.tells complex.new.pair.first.alive complex.new.first (C.count complex.new.pair.first.copy) member.new.checkpoint.pages (C.reads (disk_now (P.view complex.new.plant) Ckpt1).bytes)) }
+    ensures rests2 { OnOk result (RestsAt P.tells complex.new.pair.second.alive complex.new.second (C.count complex.new.pair.second.copy) member.new.checkpoint.pages (C.reads (disk_now (P.view complex.new.plant) Ckpt2).bytes)) }
+    ensures kept { OnOk result (AreAllKept complex.new.journal.batches (P.view complex.new.plant).now) }
+    ensures level { OnOk result (member.new.checkpoint.level ≤ member.old.checkpoint.level + 1) }
+{
+    let Ok(draft) = member.ready(alloc, complex) else {
+        return Err(NodeNo::NoMemory);
+    };
+    member.write(complex, &draft)?;
+    tell_lines(member, complex, lines)
+}
