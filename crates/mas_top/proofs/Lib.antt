@@ -1,0 +1,4 @@
+pub mod TaskLemmas
+pub mod SayLemmas
+pub mod ReportLemmas
+pub mod PlayLemmas

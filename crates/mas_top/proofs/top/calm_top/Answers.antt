@@ -1,0 +1,135 @@
+use Rattle.std.proofs.Common.{◌≡◌, ◌∙◌, Bool, true, [], Ok, Some, map, inr, refl, sym, ap, subst}
+use Rattle.std.specs.Prelude.{string_bytes}
+use Rattle.mas_types.specs.declared.ids.Dev.TheVariants.{Ckpt1, Ckpt2}
+use Rattle.first_script.specs.Script.{read_as}
+use Rattle.mas_run.specs.Refusals.{is_of_script, refusal_before_play}
+use Rattle.mas_run.specs.Runs.{has_begun}
+use Rattle.mas_top.specs.declared.tasks.Task.TheVariants as task
+use Rattle.mas_top.specs.Formats.{refusal_of_format}
+use Rattle.mas_top.specs.Plays.{IsPlayed, source_of}
+use Rattle.mas_top.specs.Tasks.{task_asked}
+use Rattle.mas_top.proofs.PlayLemmas.{free_answer, not_played}
+use Rattle.mas_top.proofs.ReportLemmas.{not_reported}
+use Rattle.mas_top.proofs.TaskLemmas.{none_some, play_same, play_not_report, play_not_format, report_not_format, none_words, words_or_memory, some_memory, memory_not_source, words_caused, words_begins}
+use Rattle.mas_top.proofs.top.calm_top.Goals as goal
+
+-- A SCRIPT IS PLAYED
+
+pub returns-in-Play-clause-words : goal.returns-in-Play-clause-words
+returns-in-Play-clause-words g c e = absurd (c.play_script.ensures.words e)
+
+pub returns-in-Play-clause-refused : goal.returns-in-Play-clause-refused
+returns-in-Play-clause-refused g c none = absurd (none_some (task_asked (map string_bytes c.args.words.now)) (task.Play c.in-Play.cold) none (c.in-Ok.ensures ∙ ap Some c.in-Play.is))
+
+pub returns-in-Play-clause-unread : goal.returns-in-Play-clause-unread
+returns-in-Play-clause-unread g c none = absurd (none_some (task_asked (map string_bytes c.args.words.now)) (task.Play c.in-Play.cold) none (c.in-Ok.ensures ∙ ap Some c.in-Play.is))
+
+pub returns-in-Play-clause-play : goal.returns-in-Play-clause-play
+returns-in-Play-clause-play g c cold is =
+    let P = g.P.Plant in
+    let S = g.S.Source in
+    let old = P.view c.args.plant in
+    let left = S.left c.args.script.now in
+    let r = c.play_script.result in
+    let e = c.play_script.ensures in
+    let same : c.in-Play.cold ≡ cold = play_same (task_asked (map string_bytes c.args.words.now)) c.in-Play.cold cold (c.in-Ok.ensures ∙ ap Some c.in-Play.is) is in
+    subst (λ (x : Bool). IsPlayed x (source_of S.tells (S.faults c.args.script.now) (S.faults c.play_script.new.script) (S.left c.play_script.new.script)) (refusal_before_play x left (old.size Ckpt1) (old.size Ckpt2)) (λ base asked. read_as base.config.node left ≡ Ok asked)
+    P.tells (r.plant ≡ c.args.plant) r.status r.base r.journal r.since old (P.view r.plant)) same
+    (record { refused = e.refused; words = e.words; device = e.device; formatted = e.formatted; unstarted = e.unstarted; faulted = e.source; untouched = e.untouched; loses = e.loses; room = e.room; read = e.read; run = e.run; complete = e.complete })
+
+pub returns-in-Play-clause-report : goal.returns-in-Play-clause-report
+returns-in-Play-clause-report g c is = absurd (play_not_report (task_asked (map string_bytes c.args.words.now)) c.in-Play.cold (c.in-Ok.ensures ∙ ap Some c.in-Play.is) is)
+
+pub returns-in-Play-clause-format : goal.returns-in-Play-clause-format
+returns-in-Play-clause-format g c is = absurd (play_not_format (task_asked (map string_bytes c.args.words.now)) c.in-Play.cold (c.in-Ok.ensures ∙ ap Some c.in-Play.is) is)
+
+-- A REPORT
+
+pub returns-in-Report-clause-words : goal.returns-in-Report-clause-words
+returns-in-Report-clause-words g c e = absurd (c.report_queue.ensures.words e)
+
+pub returns-in-Report-clause-refused : goal.returns-in-Report-clause-refused
+returns-in-Report-clause-refused g c none = absurd (none_some (task_asked (map string_bytes c.args.words.now)) task.Report none (c.in-Ok.ensures ∙ ap Some c.in-Report.is))
+
+pub returns-in-Report-clause-unread : goal.returns-in-Report-clause-unread
+returns-in-Report-clause-unread g c none = absurd (none_some (task_asked (map string_bytes c.args.words.now)) task.Report none (c.in-Ok.ensures ∙ ap Some c.in-Report.is))
+
+pub returns-in-Report-clause-play : goal.returns-in-Report-clause-play
+returns-in-Report-clause-play g c cold is = absurd (play_not_report (task_asked (map string_bytes c.args.words.now)) cold is (c.in-Ok.ensures ∙ ap Some c.in-Report.is))
+
+pub returns-in-Report-clause-report : goal.returns-in-Report-clause-report
+returns-in-Report-clause-report g c is = (refl, c.report_queue.ensures.report)
+
+pub returns-in-Report-clause-format : goal.returns-in-Report-clause-format
+returns-in-Report-clause-format g c is = absurd (report_not_format (task_asked (map string_bytes c.args.words.now)) (c.in-Ok.ensures ∙ ap Some c.in-Report.is) is)
+
+-- A FORMAT
+
+pub returns-in-Format-clause-words : goal.returns-in-Format-clause-words
+returns-in-Format-clause-words g c e = absurd (c.format_checkpoint.ensures.played.words e)
+
+pub returns-in-Format-clause-refused : goal.returns-in-Format-clause-refused
+returns-in-Format-clause-refused g c none = absurd (none_some (task_asked (map string_bytes c.args.words.now)) task.Format none (c.in-Ok.ensures ∙ ap Some c.in-Format.is))
+
+pub returns-in-Format-clause-unread : goal.returns-in-Format-clause-unread
+returns-in-Format-clause-unread g c none = absurd (none_some (task_asked (map string_bytes c.args.words.now)) task.Format none (c.in-Ok.ensures ∙ ap Some c.in-Format.is))
+
+pub returns-in-Format-clause-play : goal.returns-in-Format-clause-play
+returns-in-Format-clause-play g c cold is = absurd (play_not_format (task_asked (map string_bytes c.args.words.now)) cold is (c.in-Ok.ensures ∙ ap Some c.in-Format.is))
+
+pub returns-in-Format-clause-report : goal.returns-in-Format-clause-report
+returns-in-Format-clause-report g c is = absurd (report_not_format (task_asked (map string_bytes c.args.words.now)) is (c.in-Ok.ensures ∙ ap Some c.in-Format.is))
+
+pub returns-in-Format-clause-format : goal.returns-in-Format-clause-format
+returns-in-Format-clause-format g c is = c.format_checkpoint.ensures.played
+
+-- WORDS THAT AREN'T READ
+
+pub returns-in-Err-clause-words : goal.returns-in-Err-clause-words
+returns-in-Err-clause-words g c e = none_words (task_asked (map string_bytes c.args.words.now)) c.in-Err.why c.in-Err.ensures (sym (c.unbegun.ensures.status ∙ c.status_of_no.ensures) ∙ e)
+
+pub returns-in-Err-clause-refused : goal.returns-in-Err-clause-refused
+returns-in-Err-clause-refused g c none = rw (c.unbegun.ensures.status, c.status_of_no.ensures) (words_or_memory c.in-Err.why)
+
+pub returns-in-Err-clause-unread : goal.returns-in-Err-clause-unread
+returns-in-Err-clause-unread g c none = (refl, c.unbegun.ensures.plant, ap has_begun c.unbegun.ensures.unbegun.queue)
+
+pub returns-in-Err-clause-play : goal.returns-in-Err-clause-play
+returns-in-Err-clause-play g c cold is =
+    let P = g.P.Plant in
+    let S = g.S.Source in
+    let old = P.view c.args.plant in
+    let left = S.left c.args.script.now in
+    let u = c.unbegun.result in
+    let e = c.unbegun.ensures in
+    let memory = e.status ∙ c.status_of_no.ensures ∙ some_memory (task_asked (map string_bytes c.args.words.now)) (task.Play cold) c.in-Err.why c.in-Err.ensures is in
+    not_played cold (source_of S.tells (S.faults c.args.script.now) (S.faults c.args.script.now) left) (refusal_before_play cold left (old.size Ckpt1) (old.size Ckpt2)) (λ base asked. read_as base.config.node left ≡ Ok asked)
+    P.tells (u.plant ≡ c.args.plant) u.status u.base u.journal u.since old (P.view u.plant) e.unbegun.queue e.plant (ap P.view e.plant)
+    (λ told. free_answer cold (refusal_before_play cold left (old.size Ckpt1) (old.size Ckpt2)) u.status (inr memory)) (ap is_of_script memory) (λ f. absurd (memory_not_source u.status memory f))
+
+pub returns-in-Err-clause-report : goal.returns-in-Err-clause-report
+returns-in-Err-clause-report g c is =
+    let P = g.P.Plant in
+    let u = c.unbegun.result in
+    let e = c.unbegun.ensures in
+    let memory = e.status ∙ c.status_of_no.ensures ∙ some_memory (task_asked (map string_bytes c.args.words.now)) task.Report c.in-Err.why c.in-Err.ensures is in
+    (refl, rw (memory, e.plant) (not_reported P.tells u.base u.journal u.since (P.view c.args.plant) e.unbegun.queue))
+
+pub returns-in-Err-clause-format : goal.returns-in-Err-clause-format
+returns-in-Err-clause-format g c is =
+    let P = g.P.Plant in
+    let S = g.S.Source in
+    let old = P.view c.args.plant in
+    let left = S.left c.args.script.now in
+    let u = c.unbegun.result in
+    let e = c.unbegun.ensures in
+    let memory = e.status ∙ c.status_of_no.ensures ∙ some_memory (task_asked (map string_bytes c.args.words.now)) task.Format c.in-Err.why c.in-Err.ensures is in
+    not_played true (source_of S.tells (S.faults c.args.script.now) (S.faults c.args.script.now) left) (refusal_of_format left (old.size Ckpt1) (old.size Ckpt2)) (λ base asked. asked ≡ [])
+    P.tells (u.plant ≡ c.args.plant) u.status u.base u.journal u.since old (P.view u.plant) e.unbegun.queue e.plant (ap P.view e.plant)
+    (λ told. free_answer true (refusal_of_format left (old.size Ckpt1) (old.size Ckpt2)) u.status (inr memory)) (ap is_of_script memory) (λ f. absurd (memory_not_source u.status memory f))
+
+pub returns-in-Err-clause-cause : goal.returns-in-Err-clause-cause
+returns-in-Err-clause-cause g c = rw (c.unbegun.ensures.status, c.status_of_no.ensures) (words_caused c.in-Err.why (g.P.Plant.view c.args.plant) (g.P.Plant.view c.unbegun.result.plant))
+
+pub returns-in-Err-clause-begun : goal.returns-in-Err-clause-begun
+returns-in-Err-clause-begun g c = rw (c.unbegun.ensures.status, c.status_of_no.ensures) (words_begins c.in-Err.why c.unbegun.result.base c.unbegun.ensures.unbegun.queue)

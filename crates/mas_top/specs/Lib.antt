@@ -1,0 +1,5 @@
+pub mod Tasks
+pub mod Saying
+pub mod Reports
+pub mod Formats
+pub mod Plays

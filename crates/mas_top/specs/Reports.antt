@@ -1,0 +1,64 @@
+-- What a report does.
+use Rattle.std.specs.Prelude.{◌≡◌, ◌≢◌, ◌⊎◌, ◌≤◌, ℕ, ◌<◌, Bool, true, false, List, [], ◌++◌, length, take, map}
+use Rattle.mas_types.specs.declared.ids.Dev.{Dev}
+use Rattle.mas_types.specs.declared.ids.Dev.TheVariants.{Ckpt1, Ckpt2}
+use Rattle.mas_types.specs.declared.journals.Journal.{Journal}
+use Rattle.mas_types.specs.declared.queues.Queue.{Queue}
+use Rattle.mas_types.specs.declared.answers.Status.{Status}
+use Rattle.mas_types.specs.declared.answers.Status.TheVariants as status
+use Rattle.spool_disk.specs.declared.plant.Part.{Part}
+use Rattle.spool_disk.specs.declared.plant.Part.TheVariants.{Disk, Console}
+use Rattle.spool_disk.specs.View.{View, Line, disk_at, disk_now, Throughout}
+use Rattle.spool_disk.specs.Acts.{Goes, Rose}
+use Rattle.ckpt_copy.specs.Areas.{reads, areas_size}
+use Rattle.ckpt_copy.specs.Changes.{NoMore}
+use Rattle.mas_complex.specs.Headline.{whole}
+use Rattle.warm_start.specs.declared.choosing.StartNo.{StartNo}
+use Rattle.warm_start.specs.Inspecting.{HasFailed, HasFound, FindsNone}
+use Rattle.queue_report.specs.Reports.{report_lines}
+use Rattle.mas_run.specs.Runs.{has_begun}
+use Rattle.member_node.specs.Calls.{console_now}
+use Rattle.mas_run.specs.Unstarted.{status_of_start}
+
+-- At each moment no byte of a device has changed, and no device is lost but a copy of the checkpoint on which an act failed.
+pub record ChangesNoDevice (tells : Type 0) (old new : View) : Type 0 where
+  pub first : tells → Throughout old.now new.now (λ t. NoMore (disk_now old Ckpt1) (disk_at new t Ckpt1))
+  pub second : tells → Throughout old.now new.now (λ t. NoMore (disk_now old Ckpt2) (disk_at new t Ckpt2))
+  pub others : tells → Throughout old.now new.now (λ t. (d : Dev) → d ≢ Ckpt1 → d ≢ Ckpt2 → disk_at new t d ≡ disk_now old d)
+  pub loses : (d : Dev) → new.loses d ≡ old.loses d
+  pub stops : (m : ℕ) → new.stops m ≡ old.stops m
+  pub lost1 : (new.lost (Disk Ckpt1) ≡ old.lost (Disk Ckpt1)) ⊎ HasFailed Ckpt1 old new
+  pub lost2 : (new.lost (Disk Ckpt2) ≡ old.lost (Disk Ckpt2)) ⊎ HasFailed Ckpt2 old new
+  pub else_lost : (p : Part) → p ≢ Disk Ckpt1 → p ≢ Disk Ckpt2 → p ≢ Console → new.lost p ≡ old.lost p
+
+-- the lines up to one for which the console failed
+pub record SaysSome (tells : Type 0) (lines : List (List ℕ)) (old new : View) : Type 0 where
+  pub said : ℕ
+  pub few : said < length lines
+  pub console : tells → console_now new ≡ console_now old ++ map whole (take said lines)
+  pub failed : Rose (old.faults Console) (new.faults Console)
+
+-- the lines that a report of the queue says
+abbrev pub SaysQueue : Type 0 → Status → Queue → View → View → Type 0
+SaysQueue tells status.Done Q old new = tells → console_now new ≡ console_now old ++ map whole (report_lines Q)
+SaysQueue tells status.ConsoleFault Q old new = SaysSome tells (report_lines Q) old new
+SaysQueue tells _ Q old new = ⊥
+
+-- A report that found a queue: the one that a start would find. Nothing is given to it.
+pub record HasReported (tells : Type 0) (answer : Status) (base : Queue) (journal : Journal) (since : ℕ) (old new : View) : Type 0 where
+  pub found : HasFound reads tells areas_size old new base
+  pub batches : journal.batches ≡ []
+  pub moment : since ≡ old.now
+  pub said : SaysQueue tells answer base old new
+
+-- A report that says nothing, and why: there is no queue to be found, or there was no memory.
+pub record ReportsNone (tells : Type 0) (answer : Status) (old new : View) : Type 0 where
+  pub why : StartNo
+  pub is : answer ≡ status_of_start why
+  pub cause : FindsNone reads tells areas_size old new why
+
+-- A report, on a plant that showed `old` before and `new` after it.
+pub record IsReport (tells : Type 0) (answer : Status) (base : Queue) (journal : Journal) (since : ℕ) (old new : View) : Type 0 where
+  pub devices : ChangesNoDevice tells old new
+  pub reported : has_begun base ≡ true → HasReported tells answer base journal since old new
+  pub unfound : has_begun base ≡ false → ReportsNone tells answer old new

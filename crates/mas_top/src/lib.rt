@@ -1,0 +1,11 @@
+//! The top call: what the words of the program ask for is done on a plant.
+#![tactic(auto)]
+
+mod formatting;
+mod reporting;
+mod saying;
+mod tasks;
+mod top;
+
+pub use tasks::{Task, task_of};
+pub use top::calm_top;

@@ -1,0 +1,52 @@
+//! What the program does.
+ghost use Rattle.std.specs.Prelude.{◌≡◌, map, string_bytes};
+ghost use Rattle.command_words.specs.Words.{Reads};
+ghost use Rattle.mas_top.specs.Tasks.{status_of_no as status_of_no_lem, task_asked, task_of as task_of_lem};
+
+use command_words::{Verb, Words, WordsNo, read_words};
+use mas_types::Status;
+use std::alloc::Global;
+
+/// What the program does, of what is built.
+#[derive(Clone, Copy, Debug, PartialEq, Eq)]
+pub enum Task {
+    /// Plays a script, cold where true: from an empty queue. Else from the queue that is found.
+    Play(bool),
+    /// Says the queue that is found.
+    Report,
+    /// Formats the checkpoint.
+    Format,
+}
+
+/// What the words ask for. None where that isn't built yet.
+pub fn task_of(words: &Words) -> Option<Task>
+    ensures { result ≡ task_of_lem words.now }
+{
+    match words.verb {
+        Verb::Play => Some(Task::Play(words.cold)),
+        Verb::Report => Some(Task::Report),
+        Verb::Format => Some(Task::Format),
+        Verb::Race | Verb::Check | Verb::Generate(_) => None,
+    }
+}
+
+/// Reads what the words ask for: `Words` where they aren't the program's, or ask for what isn't built yet.
+pub(crate) fn read_task(alloc: Global, words: &[String]) -> Result<Task, WordsNo>
+    ensures { Reads (task_asked (map string_bytes words.now)) result }
+{
+    let read = read_words(alloc, words)?;
+    match task_of(&read) {
+        Some(task) => Ok(task),
+        None => Err(WordsNo::Words),
+    }
+}
+
+/// The status of a run whose words aren't read.
+pub(crate) fn status_of_no(why: WordsNo) -> Status
+    ensures { result ≡ status_of_no_lem why }
+{
+    match why {
+        WordsNo::Words => Status::Words,
+        WordsNo::NoMemory => Status::NoMemory,
+    }
+}
