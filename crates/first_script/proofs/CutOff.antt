@@ -3,7 +3,7 @@ use Rattle.std.proofs.Common.{◌≡◌, ◌∙◌, sym, ap, subst, inl, inr, �
 use Rattle.std.specs.List.{list_any, list_all}
 use Rattle.std.proofs.lemmas.Slice.Eq.{bytes_eq-Decides}
 use Rattle.mas_types.specs.declared.answers.LineCause.{LineCause}
-use Rattle.mas_types.specs.declared.answers.LineCause.TheVariants.{End, NotBuilt, Text, Verb, Command as BadCommand}
+use Rattle.mas_types.specs.declared.answers.LineCause.TheVariants.{End, NotBuilt, Text, Verb}
 use Rattle.std.specs.Prelude.{Result}
 use Rattle.mas_types.specs.declared.commands.Command.{Command as AnyCommand}
 use Rattle.mas_types.specs.declared.ids.Dev.{Dev}

@@ -1,10 +1,9 @@
 -- The first line with which no script that is played may begin.
-use Rattle.std.proofs.Common.{◌≡◌, ◌∙◌, sym, ap, inl, inr, ℕ, suc, ◌+◌, ◌-◌, ◌<◌, ◌≤◌, subst, Err, ◌⊎◌, false, None, Ok, List, [], ◌∷◌, ◌++◌, length, take, codes, refl, arith}
+use Rattle.std.proofs.Common.{◌≡◌, ◌∙◌, sym, ap, inl, inr, ℕ, suc, ◌+◌, ◌-◌, ◌<◌, ◌≤◌, subst, ◌⊎◌, false, None, Ok, List, [], ◌∷◌, ◌++◌, length, take, codes, refl, arith}
 use Rattle.std.specs.List.{list_any}
 use Rattle.mas_types.specs.declared.answers.LineCause.{LineCause}
 use Rattle.mas_types.specs.declared.answers.LineCause.TheVariants.{End, NotBuilt}
-use Rattle.std.specs.Prelude.{Result, slice_index_or}
-use Rattle.mas_types.specs.declared.commands.Command.{Command as AnyCommand}
+use Rattle.std.specs.Prelude.{slice_index_or}
 use Rattle.mas_types.specs.declared.ids.Dev.TheVariants.{Ckpt1, Ckpt2}
 use Rattle.mas_types.specs.declared.ids.Name8.{Name8}
 use Rattle.first_script.specs.declared.asked.Asked.{Asked}
@@ -17,7 +16,7 @@ use Rattle.first_script.specs.Cards.{class_a, job_of, is_last_card}
 use Rattle.first_script.specs.Commands.{given_by, is_command_line}
 use Rattle.first_script.specs.Grammar.{IsFirstOutside}
 use Rattle.first_script.specs.Laws.{GivesNone}
-use Rattle.first_script.specs.Script.{Said, is_deck_end, is_deck_line, is_blank_line, is_lose_line, said_at, misplaced, with_command, with_step, fields_of, refused}
+use Rattle.first_script.specs.Script.{Said, is_deck_end, is_deck_line, is_blank_line, is_lose_line, said_at, misplaced, with_step, fields_of, refused}
 use Rattle.first_script.proofs.Forms.{split_if, card_case, given_case, not_ok, misplaced_not_ok, with_job, with_no_job, IsAhead, ahead, said_form, form_said}
 use Rattle.first_script.proofs.CutOff.{same_refusal, bad_ahead}
 

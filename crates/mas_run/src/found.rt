@@ -1,18 +1,17 @@
 //! A script that is played from the queue that is found.
-ghost use Rattle.std.specs.Prelude.{◌≡◌, ◌≢◌, ◌⊎◌, ◌≤◌, ◌<◌, ◌+◌, ◌^◌, [], Bool, true, false, length, All, map, OnOk, None, Some};
+ghost use Rattle.std.specs.Prelude.{◌≡◌, ◌≢◌, ◌⊎◌, ◌≤◌, ◌<◌, ◌+◌, ◌^◌, [], true, false, length, All};
 ghost use Rattle.mas_types.specs.Starts.{default_config as config_by_default};
 ghost use Rattle.mas_types.specs.Ids.{nobody};
 ghost use Rattle.mas_types.specs.declared.ids.Dev.TheVariants.{Ckpt1, Ckpt2};
 ghost use Rattle.mas_types.specs.declared.ids.Dev.{Dev};
 ghost use Rattle.spool_disk.specs.declared.plant.Part.TheVariants.{Disk};
-ghost use Rattle.spool_disk.specs.View.{View, disk_now};
+ghost use Rattle.spool_disk.specs.View.{disk_now};
 ghost use Rattle.spool_disk.specs.Acts.{Goes};
 ghost use Rattle.ckpt_copy.specs.Areas.{reads, areas_size};
 ghost use Rattle.ckpt_pages.specs.Shape.{page_count};
 ghost use Rattle.duplex_pair.specs.Halves.{SomeAlive};
 ghost use Rattle.first_script.specs.Steps.{IsFitStep};
-ghost use Rattle.mas_complex.specs.Headline.{LeavesQueue};
-ghost use Rattle.warm_start.specs.Starting.{HasStarted, OnlyLooked};
+ghost use Rattle.warm_start.specs.Starting.{OnlyLooked};
 ghost use Rattle.first_script.specs.Nodes.{at_node as at_node_lem, step_at};
 ghost use Rattle.member_node.specs.Calls.{Grows, IsOnlyOn, console_now};
 ghost use Rattle.member_node.specs.Copies.{RestsAt};

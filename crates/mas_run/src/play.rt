@@ -9,7 +9,6 @@ ghost use Rattle.spool_disk.specs.declared.plant.Part.TheVariants.{Disk};
 ghost use Rattle.spool_disk.specs.View.{disk_now};
 ghost use Rattle.spool_disk.specs.Acts.{Goes};
 ghost use Rattle.ckpt_copy.specs.Areas.{reads};
-ghost use Rattle.ckpt_copy.specs.Pages.{bytes_of};
 ghost use Rattle.ckpt_pages.specs.Starts.{empty_tables};
 ghost use Rattle.duplex_pair.specs.Halves.{SomeAlive};
 ghost use Rattle.first_script.specs.Steps.{IsFitStep};

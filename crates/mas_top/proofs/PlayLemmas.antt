@@ -10,7 +10,7 @@ use Rattle.script_lang.specs.declared.types.ScriptNo.TheVariants as no
 use Rattle.script_lang.specs.Script.{said}
 use Rattle.mas_top.specs.Formats.{is_line_end, is_mark, marked_line, only_formats, refusal_of_format, refusal_of_script, refused_said}
 use Rattle.mas_types.specs.declared.ids.Dev.{Dev}
-use Rattle.mas_types.specs.declared.ids.Dev.TheVariants.{Ckpt1, Ckpt2, Spool}
+use Rattle.mas_types.specs.declared.ids.Dev.TheVariants.{Ckpt1, Ckpt2}
 use Rattle.mas_types.specs.declared.journals.Journal.{Journal}
 use Rattle.mas_types.specs.declared.queues.Queue.{Queue}
 use Rattle.mas_types.specs.declared.answers.CopyState.{CopyState}

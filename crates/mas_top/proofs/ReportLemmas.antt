@@ -7,7 +7,6 @@ use Rattle.mas_types.specs.declared.journals.Journal.{Journal}
 use Rattle.mas_types.specs.declared.queues.Queue.{Queue}
 use Rattle.mas_types.specs.declared.answers.Status.{Status}
 use Rattle.mas_types.specs.declared.answers.Status.TheVariants as status
-use Rattle.spool_disk.specs.declared.plant.Part.{Part}
 use Rattle.spool_disk.specs.declared.plant.Part.TheVariants.{Disk as DiskPart, Console}
 use Rattle.mas_types.specs.Starts.{no_queue}
 use Rattle.mas_complex.specs.Headline.{whole}

@@ -1,5 +1,5 @@
 -- What is refused before the checkpoint is formatted.
-use Rattle.std.specs.Prelude.{ℕ, ◌+◌, ◌==◌, Bool, true, false, not, ◌||◌, List, [], ◌∷◌, take, count_by, position, Option, Some, None, option_map, Result, Ok, Err}
+use Rattle.std.specs.Prelude.{ℕ, ◌+◌, ◌==◌, Bool, true, false, not, ◌||◌, List, [], ◌∷◌, take, count_by, position, Option, Some, None, option_map, Ok, Err}
 use Rattle.mas_types.specs.declared.answers.LineCause.TheVariants.{NotBuilt}
 use Rattle.mas_types.specs.declared.answers.Status.{Status}
 use Rattle.mas_types.specs.declared.answers.Status.TheVariants as status

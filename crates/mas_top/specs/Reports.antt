@@ -1,5 +1,5 @@
 -- What a report does.
-use Rattle.std.specs.Prelude.{◌≡◌, ◌≢◌, ◌⊎◌, ◌≤◌, ℕ, ◌<◌, Bool, true, false, List, [], ◌++◌, length, take, map}
+use Rattle.std.specs.Prelude.{◌≡◌, ◌≢◌, ◌⊎◌, ℕ, ◌<◌, true, false, List, [], ◌++◌, length, take, map}
 use Rattle.mas_types.specs.declared.ids.Dev.{Dev}
 use Rattle.mas_types.specs.declared.ids.Dev.TheVariants.{Ckpt1, Ckpt2}
 use Rattle.mas_types.specs.declared.journals.Journal.{Journal}
@@ -8,8 +8,8 @@ use Rattle.mas_types.specs.declared.answers.Status.{Status}
 use Rattle.mas_types.specs.declared.answers.Status.TheVariants as status
 use Rattle.spool_disk.specs.declared.plant.Part.{Part}
 use Rattle.spool_disk.specs.declared.plant.Part.TheVariants.{Disk, Console}
-use Rattle.spool_disk.specs.View.{View, Line, disk_at, disk_now, Throughout}
-use Rattle.spool_disk.specs.Acts.{Goes, Rose}
+use Rattle.spool_disk.specs.View.{View, disk_at, disk_now, Throughout}
+use Rattle.spool_disk.specs.Acts.{Rose}
 use Rattle.ckpt_copy.specs.Areas.{reads, areas_size}
 use Rattle.ckpt_copy.specs.Changes.{NoMore}
 use Rattle.mas_complex.specs.Headline.{whole}

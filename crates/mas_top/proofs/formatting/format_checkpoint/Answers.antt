@@ -7,7 +7,7 @@ use Rattle.mas_run.specs.Refusals.{refused_devices}
 use Rattle.mas_run.specs.Runs.{IsRun}
 use Rattle.mas_top.specs.Formats.{refusal_of_format, refusal_of_script}
 use Rattle.mas_top.specs.Plays.{source_of}
-use Rattle.mas_top.proofs.PlayLemmas.{after_none, first_refused, not_played, plays_nothing}
+use Rattle.mas_top.proofs.PlayLemmas.{first_refused, not_played, plays_nothing}
 use Rattle.mas_top.proofs.formatting.format_checkpoint.Goals as goal
 
 pub returns-in-Ok-clause-played : goal.returns-in-Ok-clause-played

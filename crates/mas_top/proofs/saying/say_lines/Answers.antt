@@ -1,4 +1,4 @@
-use Rattle.std.proofs.Common.{◌++◌, ◌∷◌, ℕ, List, [], take, sym, subst}
+use Rattle.std.proofs.Common.{ℕ, List, take, sym, subst}
 use Rattle.cmd_report.proofs.Pieces.{take-one_more}
 use Rattle.mas_top.specs.Saying.{Adds}
 use Rattle.mas_top.proofs.SayLemmas.{adds_more}
