@@ -5,12 +5,12 @@ use Rattle.spool_disk.specs.declared.health.Health.{Health}
 use Rattle.spool_disk.specs.declared.plant.Part.{Part}
 use Rattle.spool_disk.specs.declared.plant.Part.TheVariants.{Disk}
 use Rattle.spool_disk.specs.declared.plant.Act.TheVariants.{Done, Failed}
-use Rattle.spool_disk.specs.Acts.{Acts, Arms, Loses, next, top}
-use Rattle.spool_disk.specs.Health.{health_at, failed_after, lost_after}
+use Rattle.spool_disk.specs.Acts.{Acts, Arms, Loses, next, top, Renews}
+use Rattle.spool_disk.specs.Health.{health_at, failed_after, lost_after, renewed_after}
 use Rattle.spool_disk.specs.Places.{slot_of, place_of}
 use Rattle.spool_disk.proofs.Acting.{slot_apart, place_same, health_same, health_other, health_each}
 use Rattle.plant_files.specs.Lost.{lost_part}
-use Rattle.plant_files.specs.FileView.{Shown, view_of, done_by, failed_by, lost_by, armed_by, counted}
+use Rattle.plant_files.specs.FileView.{Shown, view_of, done_by, failed_by, lost_by, renewed_by, armed_by, counted}
 
 disk_part : (d e : Dev) → Disk d ≡ Disk e → d ≡ e
 disk_part d e same = cc
@@ -81,6 +81,27 @@ lost_loses s dev there counted_there small =
       counted = λ d is. let at : slot_of d ≡ slot_of dev = ap slot_of (disk_part d dev is) in
           subst (λ (n : ℕ). slice_index (counted s.loses (slot_of dev)) n ≡ next (slice_index s.loses n)) (sym at) (get_or-set_same s.loses (slot_of dev) _ 0 counted_there);
       else_counted = λ d ne. get_or-set_other s.loses (slot_of dev) (slot_of d) _ 0 (λ same. ne (ap Disk (slot_apart d dev same)));
+      arms = λ m. refl;
+    }
+
+pub renewed_renews : (s : Shown) (dev : Dev) → place_of (Disk dev) < length s.parts → s.now < top → Renews dev (view_of s) (view_of (renewed_by dev s)) Done
+renewed_renews s dev there below =
+    let place = place_of (Disk dev) in
+    let new = renewed_after (health_at s.parts place) in
+    record {
+      time = omega (arith, below);
+      later = omega arith;
+      past = λ t le. refl;
+      size = λ d. refl;
+      faults = λ p. health_each s.parts place new there (λ n g. (health_at s.parts n).faults ≤ g.faults) (omega arith) (λ n. omega arith) (place_of p);
+      failed = λ f. absurd (cc);
+      is_lost = λ f. absurd (cc);
+      is_there = λ f. ap (λ (g : Health). g.lost) (health_same s.parts place new there place refl);
+      else_lost = λ p ne. ap (λ (g : Health). g.lost) (health_other s.parts place new there (place_of p) (λ same. ne (place_same p (Disk dev) same)));
+      no_halt = λ f. absurd (cc);
+      stops = λ m. refl;
+      last = λ at. absurd (omega (arith, at, below));
+      loses = λ d. refl;
       arms = λ m. refl;
     }
 

@@ -6,7 +6,7 @@ use Rattle.spool_disk.specs.declared.health.Health.{Health}
 use Rattle.spool_disk.specs.declared.plant.Part.{Part}
 use Rattle.spool_disk.specs.declared.plant.Part.TheVariants.{Disk}
 use Rattle.spool_disk.specs.Acts.{next}
-use Rattle.spool_disk.specs.Health.{health_at, failed_after, lost_after}
+use Rattle.spool_disk.specs.Health.{health_at, failed_after, lost_after, renewed_after}
 use Rattle.spool_disk.specs.Places.{slot_of, place_of}
 use Rattle.spool_disk.specs.View.{View, World}
 use Rattle.plant_files.specs.declared.tally.Tally.{Tally}
@@ -52,7 +52,7 @@ tally_view t = view_of (shown_of t)
 abbrev pub counted : List ℕ → ℕ → List ℕ
 counted counts at = slice_set counts at (next (slice_index counts at))
 
--- an act that was done, one on a part that failed, a call that lost a device, and one that armed a stop
+-- an act that was done, one on a part that failed, a call that lost a device, one that renewed it, and one that armed a stop
 abbrev pub done_by : Shown → Shown
 done_by s = record { now = s.now + 1; parts = s.parts; stops = s.stops; loses = s.loses; arms = s.arms }
 
@@ -71,6 +71,15 @@ lost_by dev s = record {
   parts = slice_set s.parts (place_of (Disk dev)) (lost_after (health_at s.parts (place_of (Disk dev))) s.now);
   stops = s.stops;
   loses = counted s.loses (slot_of dev);
+  arms = s.arms;
+}
+
+abbrev pub renewed_by : Dev → Shown → Shown
+renewed_by dev s = record {
+  now = s.now + 1;
+  parts = slice_set s.parts (place_of (Disk dev)) (renewed_after (health_at s.parts (place_of (Disk dev))));
+  stops = s.stops;
+  loses = s.loses;
   arms = s.arms;
 }
 

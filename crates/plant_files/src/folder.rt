@@ -1,7 +1,7 @@
 // The files of a folder.
 ghost use Rattle.std.specs.Prelude.{◌≡◌, ◌≤◌, length, IfOk};
 
-use crate::files::{append, append_line, read_at, read_next, write_at};
+use crate::files::{append, append_line, empty, read_at, read_next, write_at};
 use mas_types::{Dev, MemberId};
 use spool_disk::Part;
 use std::alloc::{AllocError, Global};
@@ -12,10 +12,11 @@ use std::rt::Files;
 // The volumes, printers and lines that have files, from 1 on.
 pub(crate) const EACH_MOST: u8 = 8;
 
-// A file, where it could be opened, and the path of the mark beside it that says that it is lost.
+// A file, where it could be opened, its path, and the path of the mark beside it that says that it is lost.
 #[derive(Drop)]
 pub(crate) struct Marked<F: Drop> {
     pub(crate) file: Option<F>,
+    path: String,
     mark: String,
 }
 
@@ -72,6 +73,7 @@ fn open_marked<R: Files>(
     };
     Ok(Marked {
         file: opened.ok(),
+        path,
         mark,
     })
 }
@@ -195,6 +197,21 @@ impl<F: Read + Write + Seek + OpenFile + Drop> Folder<F> {
         ensures { IfOk result (λ n. n ≤ length into.new) }
     {
         read_next(of_number(&mut self.lines_in, line)?, into)
+    }
+
+    // Empties a device's file, and takes away the mark that says that it is lost.
+    pub(crate) fn renew<R: Files<File = F>>(&mut self, rt: &R, dev: Dev) -> io::Result<()> {
+        let Some(marked) = self.marked(dev) else {
+            return Err(not_there());
+        };
+        let file = open_or_make(rt, marked.path.as_str())?;
+        empty(&file)?;
+        match fs::remove_file(rt, marked.mark.as_str()) {
+            Err(error) if error.kind() != ErrorKind::NotFound => return Err(error),
+            _ => {}
+        }
+        marked.file = Some(file);
+        sync_folder(rt, self.path.as_str())
     }
 
     // Puts the mark beside a device's file that says that it is lost.

@@ -192,6 +192,14 @@ impl<R: Files + Print + Drop> Plant for FilePlant<R> {
         self.tally.arm(member);
     }
 
+    fn renew(&mut self, dev: Dev) -> Act {
+        if !self.tally.may_renew() {
+            return self.tally.end_renewal(dev, false);
+        }
+        let done = self.folder.renew(&self.rt, dev).is_ok();
+        self.tally.end_renewal(dev, done)
+    }
+
     fn lose(&mut self, dev: Dev) {
         // Where no mark can be put, the device is lost in this run alone.
         let _ = self.folder.mark_lost(&self.rt, dev);

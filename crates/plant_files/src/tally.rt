@@ -1,6 +1,6 @@
 // The moment, and what is counted.
 ghost use Rattle.std.specs.Prelude.{◌≡◌, ◌<◌, ◌≤◌, ℕ, length, IfOk, map, slice_index, true, false};
-ghost use Rattle.spool_disk.specs.Acts.{Acts, Arms, Loses, top};
+ghost use Rattle.spool_disk.specs.Acts.{Acts, Arms, Loses, Renews, top};
 ghost use Rattle.spool_disk.specs.declared.plant.Act.TheVariants.{Done, Failed};
 ghost use Rattle.spool_disk.specs.declared.plant.Part.TheVariants.{Disk};
 ghost use Rattle.spool_disk.specs.Health.{health_at};
@@ -31,7 +31,7 @@ fn parts_by(alloc: Global, lost: &[bool]) -> Result<Vec<Health>, AllocError>
 }
 
 impl Tally {
-    ghost use Rattle.plant_files.specs.FileView.{tally_view, IsFresh, shown_of, done_by, failed_by, lost_by, armed_by};
+    ghost use Rattle.plant_files.specs.FileView.{tally_view, IsFresh, shown_of, done_by, failed_by, lost_by, renewed_by, armed_by};
 
     // No act was made, and these parts are lost, by their places.
     pub(crate) fn new(alloc: Global, lost: &[bool]) -> Result<Tally, AllocError>
@@ -97,6 +97,37 @@ impl Tally {
         ensures few { member.0 < 256 }
     {
         self.counts.arm(member.0 as usize);
+    }
+
+    // A renewal may be tried now.
+    pub(crate) fn may_renew(&self) -> bool
+        ensures { result ≡ true → (tally_view self.now).now < top }
+    {
+        self.moment < u64::MAX
+    }
+
+    // Another device came in a device's place.
+    fn note_renewal(&mut self, dev: Dev)
+        requires { self.old.moment < top }
+        ensures shown { shown_of self.new ≡ renewed_by dev (shown_of self.old) }
+        ensures few { slot_of dev < 258 }
+    {
+        self.counts.renew(slot_number(dev));
+        self.moment += 1;
+    }
+
+    // Ends a renewal, which was done or else failed.
+    pub(crate) fn end_renewal(&mut self, dev: Dev, done: bool) -> Act
+        requires { done ≡ true → (tally_view self.old).now < top }
+        ensures { Renews dev (tally_view self.old) (tally_view self.new) result }
+    {
+        if done {
+            self.note_renewal(dev);
+            Act::Done
+        } else {
+            self.fail(Part::Disk(dev));
+            Act::Failed
+        }
     }
 
     // A stop of a member is armed, which only is counted.

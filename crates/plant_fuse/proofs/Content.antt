@@ -1,6 +1,6 @@
 -- What acts that are passed on do to the world that a plant with fuses shows.
 use Rattle.std.proofs.Common.{◌≡◌, ◌≢◌, ◌⊎◌, inl, inr, ⊎_elim, ℕ, ◌+◌, ◌≤◌, ◌<◌, true, false, List, [], ◌∷◌, ◌++◌, length, take, drop, refl, sym, subst, ◌∙◌, ap, arith, length-append}
-use Rattle.std.specs.Prelude.{All, slice_index_or}
+use Rattle.std.specs.Prelude.{All, Bool, slice_index_or}
 use Rattle.std.proofs.lemmas.List.{length-take, take-take, take_all, append-nil}
 use Rattle.std.proofs.lemmas.List.Elements.{All-nil, All-cons, All-append}
 use Rattle.mas_types.specs.declared.ids.Dev.{Dev}
@@ -11,14 +11,14 @@ use Rattle.spool_disk.specs.declared.plant.Took.TheVariants.{Bytes as TookBytes,
 use Rattle.spool_disk.specs.View.{View, Line, disk_now, taken_now, given_now}
 use Rattle.spool_disk.specs.declared.plant.Part.{Part}
 use Rattle.spool_disk.specs.declared.plant.Part.TheVariants.{Console}
-use Rattle.spool_disk.specs.Acts.{Goes, Acts, SamePaper, SameWires, OnDevice, Reads, Writes, Syncs, Said, Says, Prints, Given, GivesOn, FitsInto, TookFrom, Takes, LosesThere, act_of, top}
+use Rattle.spool_disk.specs.Acts.{Goes, Acts, SamePaper, SameWires, OnDevice, Reads, Writes, Syncs, Said, Says, Prints, Given, GivesOn, FitsInto, TookFrom, Takes, LosesThere, Renews, RenewsThere, act_of, top}
 use Rattle.spool_disk.proofs.Acting.{same_or_not}
 use Rattle.spool_disk.proofs.Restart.{split}
 use Rattle.plant_fuse.specs.Torn.{Halved, is_torn, lines_at}
 use Rattle.plant_fuse.specs.Closing.{Closes, halved_by}
 use Rattle.plant_fuse.specs.FuseViews.{consoles, papers, fused_view, IsWithin, AreWithin}
 use Rattle.plant_fuse.proofs.Marks.{lines_same, lines_added, lines_torn, lines_elsewhere, torn_here, torn_nothing}
-use Rattle.plant_fuse.proofs.Passing.{each_before, old_console, old_paper}
+use Rattle.plant_fuse.proofs.Passing.{each_before, old_console, old_paper, with_lost, renews_goes}
 
 on_console : (v : View) (hs : List Halved) → AreWithin v hs → All (λ h. h.0 ≡ 0 → length (consoles v.world h.1) < length (consoles v.world (h.1 + 1)) → length (consoles v.world h.1) < length (consoles v.world v.now)) hs
 on_console v hs within k d lt = (within k d lt).console
@@ -323,6 +323,24 @@ module _ (old new : View) (goes : Goes old new) (grows : Grows old new) where
   within_halved p hs Halted one within = All-append (IsWithin new) hs ((p, old.now) ∷ []) (still_within hs within) (All-cons (IsWithin new) (p, old.now) [] (last p (one (λ f. absurd (cc)))) (All-nil (IsWithin new))) where
     last : (p : ℕ) → new.now ≡ old.now + 1 → IsWithin new (p, old.now)
     last p one = record { before = omega (arith, one); console = λ at more. subst (λ (t : ℕ). length (consoles new.world old.now) < length (consoles new.world t)) (sym one) more; paper = λ m at more. subst (λ (t : ℕ). length (papers new.world m old.now) < length (papers new.world m t)) (sym one) more }
+
+-- a renewal
+keeps_lost : (dev : Dev) (old new : View) (lost : Part → Bool) → OnDevice dev old new → OnDevice dev old (with_lost new lost)
+keeps_lost dev old new lost x = record { others = x.others; console = x.console; paper = x.paper; wires = record { waiting = x.wires.waiting; taken = x.wires.taken; given = x.wires.given } }
+
+module _ (dev : Dev) (old new : View) (hs : List Halved) (result : Act) (act : Renews dev old new result) (within : AreWithin old hs) (x : RenewsThere dev old new result) where
+  pub renews_passed : (s a : List ℕ) → RenewsThere dev (fused_view old hs s a) (fused_view new hs s a) result
+  renews_passed s a = record {
+    disk = x.disk;
+    lost = x.lost;
+    only = keeps_lost dev (fused_view old hs s a) (fused_view (with_lost new old.lost) hs s a) new.lost
+        (device_passed old (with_lost new old.lost) hs s a s a (renews_goes dev old new result act) within dev (keeps_lost dev old new old.lost x.only));
+  }
+
+  pub renews_within : AreWithin new hs
+  renews_within k d lt = record { before = w.before; console = w.console; paper = w.paper } where
+    w : IsWithin (with_lost new old.lost) (slice_index_or hs k d)
+    w = still_within old (with_lost new old.lost) (renews_goes dev old new result act) (grows_device dev old (with_lost new old.lost) (keeps_lost dev old new old.lost x.only)) hs within k d lt
 
 -- a plant that made one moment, unless it failed
 pub made_one : (by : ℕ) (part : Part) (old new : View) (passed : Act) → Acts by part old new passed → old.now ≤ top → passed ≢ Failed → new.now ≡ old.now + 1

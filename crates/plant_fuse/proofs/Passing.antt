@@ -1,13 +1,14 @@
 -- Acts that are passed on.
 use Rattle.std.proofs.Common.{◌≡◌, inr, ⊎_elim, ℕ, ◌+◌, ◌≤◌, ◌<◌, List, [], ◌∷◌, ◌++◌, length, slice_index, replicate, refl, sym, subst, ◌∙◌, ap, arith, get_or-set_same, get_or-set_other}
-use Rattle.std.specs.Prelude.{All}
+use Rattle.std.specs.Prelude.{All, Bool}
 use Rattle.std.proofs.lemmas.List.Elements.{All-nil}
 use Rattle.std.proofs.Math.Path.{fun_ext}
+use Rattle.mas_types.specs.declared.ids.Dev.{Dev}
 use Rattle.spool_disk.specs.declared.plant.Part.{Part}
 use Rattle.spool_disk.specs.declared.plant.Act.{Act}
 use Rattle.spool_disk.specs.declared.plant.Act.TheVariants.{Done, Failed, Halted}
 use Rattle.spool_disk.specs.View.{View, World, Line}
-use Rattle.spool_disk.specs.Acts.{Goes, Acts, Loses, Arms, next, top}
+use Rattle.spool_disk.specs.Acts.{Goes, Acts, Loses, Arms, Renews, next, top}
 use Rattle.spool_disk.proofs.Acting.{rises}
 use Rattle.spool_disk.proofs.Restart.{zero_at}
 use Rattle.plant_fuse.specs.Counted.{counted}
@@ -135,6 +136,31 @@ passed_loses part old new hs stops arms act = record {
   stops = λ m. ap (λ (k : ℕ). k + slice_index stops m) (act.stops m);
   counted = act.counted;
   else_counted = act.else_counted;
+  arms = λ m. refl;
+}
+
+-- a view with other parts lost: what a renewal leaves but for its device's loss goes on from what was
+abbrev pub with_lost : View → (Part → Bool) → View
+with_lost v lost = record { now = v.now; world = v.world; size = v.size; lost = lost; faults = v.faults; stops = v.stops; loses = v.loses; waiting = v.waiting; arms = v.arms }
+
+pub renews_goes : (dev : Dev) (old new : View) (result : Act) → Renews dev old new result → Goes old (with_lost new old.lost)
+renews_goes dev old new result act = record { later = act.later; past = act.past; size = act.size; faults = act.faults; stops = λ m. omega (arith, act.stops m); lost = λ p was. was }
+
+pub passed_renews : (dev : Dev) (old new : View) (hs : List Halved) (stops arms : List ℕ) (result : Act) → Renews dev old new result → Renews dev (fused_view old hs stops arms) (fused_view new hs stops arms) result
+passed_renews dev old new hs stops arms result act = record {
+  time = act.time;
+  later = act.later;
+  past = past_same old (with_lost new old.lost) (renews_goes dev old new result act) hs;
+  size = act.size;
+  faults = act.faults;
+  failed = act.failed;
+  is_lost = act.is_lost;
+  is_there = act.is_there;
+  else_lost = act.else_lost;
+  no_halt = act.no_halt;
+  stops = λ m. ap (λ (k : ℕ). k + slice_index stops m) (act.stops m);
+  last = act.last;
+  loses = act.loses;
   arms = λ m. refl;
 }
 

@@ -102,7 +102,7 @@ impl<P: Plant + Drop> Fused<P> {
 }
 
 impl<P: Plant + Drop> Plant for Fused<P> {
-    ghost use Rattle.spool_disk.specs.Acts.{Acts, Reads, Writes, Syncs, Says, Prints, GivesOn, Takes, FitsInto, Arms};
+    ghost use Rattle.spool_disk.specs.Acts.{Acts, Reads, Writes, Syncs, Says, Prints, GivesOn, Takes, FitsInto, Arms, Renews, RenewsThere};
     ghost use Rattle.spool_disk.specs.Fuses.{burnt, to_halt, with_fuse};
     ghost use Rattle.spool_disk.specs.declared.plant.Act.{Act};
     ghost use Rattle.spool_disk.specs.declared.plant.Part.TheVariants.{Disk, Console, Printer, Wire};
@@ -250,6 +250,14 @@ impl<P: Plant + Drop> Plant for Fused<P> {
     {
         self.arms.count(member);
         self.fuses.arm(member, fuse, n);
+    }
+
+    fn renew(&mut self, dev: Dev) -> Act
+        ensures acts { Renews dev (fused_view (P.view self.old.inner) self.old.halved.items self.old.stops.counts self.old.arms.counts) (fused_view (P.view self.new.inner) self.new.halved.items self.new.stops.counts self.new.arms.counts) result }
+        ensures content { P.tells → RenewsThere dev (fused_view (P.view self.old.inner) self.old.halved.items self.old.stops.counts self.old.arms.counts) (fused_view (P.view self.new.inner) self.new.halved.items self.new.stops.counts self.new.arms.counts) result }
+        ensures armed { armed_of self.new.fuses ≡ armed_of self.old.fuses }
+    {
+        self.inner.renew(dev)
     }
 
     fn lose(&mut self, dev: Dev) {

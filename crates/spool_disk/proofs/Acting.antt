@@ -1,7 +1,7 @@
 -- What the acts of a plant in memory show.
-use Rattle.std.proofs.Common.{◌≡◌, ◌≢◌, ◌⊎◌, inl, inr, ⊎_elim, ℕ, zero, suc, ◌+◌, ◌*◌, ◌≤◌, ◌<◌, ◌==◌, nat_lt, nat_le, Bool, true, false, if◌then◌else◌, Option, Some, None, List, [], ◌∷◌, ◌++◌, length, take, set, slice_index, append_assoc, refl, subst, sym, ◌∙◌, ap, arith, get_or-set_same, get_or-set_other}
+use Rattle.std.proofs.Common.{◌≡◌, ◌≢◌, ◌⊎◌, inl, inr, ⊎_elim, ℕ, zero, suc, ◌+◌, ◌*◌, ◌≤◌, ◌<◌, ◌==◌, nat_lt, nat_le, ◌&&◌, drop, Bool, true, false, if◌then◌else◌, Option, Some, None, List, [], ◌∷◌, ◌++◌, length, take, set, slice_index, append_assoc, refl, subst, sym, ◌∙◌, ap, arith, get_or-set_same, get_or-set_other}
 use Rattle.std.proofs.lemmas.Bool.Decides.{nat_tests}
-use Rattle.std.proofs.lemmas.List.{take_all, take-append-le, append-nil}
+use Rattle.std.proofs.lemmas.List.{take_all, take-append-le, drop_all, drop-append-le, append-nil}
 use Rattle.std.proofs.lemmas.Grind.{common_steps}
 use Rattle.std.proofs.Math.Path.{fun_ext}
 use Rattle.mas_types.specs.declared.ids.Dev.{Dev}
@@ -10,14 +10,15 @@ use Rattle.spool_disk.specs.declared.plant.Part.{Part}
 use Rattle.spool_disk.specs.declared.plant.Part.TheVariants.{Disk as DiskPart, Console, Printer, Wire}
 use Rattle.spool_disk.specs.declared.plant.Act.TheVariants.{Done, Halted}
 use Rattle.spool_disk.specs.declared.health.Health.{Health}
-use Rattle.spool_disk.specs.View.{Disk, Line, disk_now}
-use Rattle.spool_disk.specs.Acts.{Goes, Acts, SamePaper, SameWires, next, top}
+use Rattle.spool_disk.specs.View.{Disk, Line, World, disk_now}
+use Rattle.spool_disk.specs.Acts.{Goes, Acts, Renews, SamePaper, SameWires, next, top}
 use Rattle.spool_disk.specs.Places.{slot_of, place_of}
-use Rattle.spool_disk.specs.Health.{sound, health_at, was_lost, since_of, lost_from}
+use Rattle.spool_disk.specs.Health.{sound, health_at, was_lost, since_of, lost_from, renewed_after}
 use Rattle.spool_disk.specs.Kept.{fresh, size_at}
-use Rattle.spool_disk.specs.Deeds.{Deed, Idle, effect, after, gather, line_on, lines_of, moved, idled}
+use Rattle.spool_disk.specs.Deeds.{Deed, Idle, Wrote, Synced, Said, Passed, Fetched, Renewed, effect, after, gather, line_on, lines_of, moved, idled}
 use Rattle.spool_disk.specs.DeedLaws.{after_push, gather_append}
-use Rattle.spool_disk.specs.State.{State, shown, disk_in, first_lines, lines_in, moved_in, world_in, view_of, counted, recorded}
+use Rattle.spool_disk.specs.Renewals.{known_before, since_then}
+use Rattle.spool_disk.specs.State.{State, shown, lost_in, disk_in, first_lines, lines_in, moved_in, world_in, view_of, counted, recorded, renewed}
 
 -- no two devices have one slot, and no two parts one place
 pub slot_apart : (d e : Dev) → slot_of d ≡ slot_of e → d ≡ e
@@ -146,27 +147,85 @@ idled_gather adds none acts es k = by_test (nat_lt (length es) acts) where
   by_test true = idle_gather adds none es k
   by_test false = refl
 
+-- what was known of losses
+pub since_append : (place : ℕ) (es fs : List Deed) (x : Option ℕ) → since_then place (es ++ fs) x ≡ since_then place es (since_then place fs x)
+since_append place [] fs x = refl
+since_append place (e ∷ es) fs x = ap (known_before place e) (since_append place es fs x)
+
+pub since_late : (place t : ℕ) (es : List Deed) (x : Option ℕ) → length es ≤ t → since_then place (drop t es) x ≡ x
+since_late place t es x le = ap (λ (l : List Deed). since_then place l x) (drop_all t es le)
+
+idle_since : (place : ℕ) (es : List Deed) (k : ℕ) (x : Option ℕ) → since_then place (drop k (es ++ Idle ∷ [])) x ≡ since_then place (drop k es) x
+idle_since place [] zero x = refl
+idle_since place [] (suc zero) x = refl
+idle_since place [] (suc (suc k)) x = refl
+idle_since place (e ∷ es) zero x = ap (known_before place e) (since_append place es (Idle ∷ []) x)
+idle_since place (e ∷ es) (suc k) x = idle_since place es k x
+
+idled_since : (place acts : ℕ) (es : List Deed) (k : ℕ) (x : Option ℕ) → since_then place (drop k (idled acts es)) x ≡ since_then place (drop k es) x
+idled_since place acts es k x = by_test (nat_lt (length es) acts) where
+  by_test : (b : Bool) → since_then place (drop k (if b then es ++ Idle ∷ [] else es)) x ≡ since_then place (drop k es) x
+  by_test true = idle_since place es k x
+  by_test false = refl
+
+-- where the same is known after acts, the same was known before them
+before_same : (place : ℕ) (e : Deed) (t : ℕ) (x y : Option ℕ) → was_lost x t ≡ was_lost y t → was_lost (known_before place e x) t ≡ was_lost (known_before place e y) t
+before_same place Idle t x y same = same
+before_same place (Wrote s at len bytes) t x y same = same
+before_same place (Synced s) t x y same = same
+before_same place (Said p text whole) t x y same = same
+before_same place (Passed given w m bytes) t x y same = same
+before_same place (Fetched s) t x y same = same
+before_same place (Renewed s since) t x y same = by_test (4 * s == place && nat_lt s 258) where
+  by_test : (b : Bool) → was_lost (if b then since else x) t ≡ was_lost (if b then since else y) t
+  by_test true = refl
+  by_test false = same
+
+since_same : (place : ℕ) (es : List Deed) (t : ℕ) (x y : Option ℕ) → was_lost x t ≡ was_lost y t → was_lost (since_then place es x) t ≡ was_lost (since_then place es y) t
+since_same place [] t x y same = same
+since_same place (e ∷ es) t x y same = before_same place e t (since_then place es x) (since_then place es y) (since_same place es t x y same)
+
+-- an act that is no renewal
+abbrev pub Keeps : Deed → Type 0
+Keeps e = (place : ℕ) (x : Option ℕ) → known_before place e x ≡ x
+
 -- an act that is recorded
 module _ (s : State) (full : length s.deeds ≡ s.now) (by_now : (k : ℕ) → since_of (health_at s.parts k).since ≤ s.now) where
-  pub past_recorded : (e : Deed) (stops : List ℕ) (t : ℕ) → t ≤ s.now → world_in (recorded s e stops) t ≡ world_in s t
-  past_recorded e stops t le =
+  -- a world, by the acts up to its moment, and what was lost by then
+  abbrev world_by : List Deed → (Dev → Bool) → World
+  world_by l gone = record {
+    disk = λ d. shown (after (slot_of d) (fresh s.base (slot_of d)) l) (gone d);
+    console = first_lines s.base 1 ++ lines_of 1 l;
+    paper = λ m. first_lines s.base (4 * m + 2) ++ lines_of (4 * m + 2) l;
+    taken = λ w m. gather (moved false w m) l;
+    given = λ w m. gather (moved true w m) l;
+  }
+
+  lost_past : (e : Deed) (t place : ℕ) (x : Option ℕ) → t ≤ s.now → since_then place (drop t (s.deeds ++ e ∷ [])) x ≡ since_then place (drop t s.deeds) (known_before place e x)
+  lost_past e t place x le =
       let short : t ≤ length s.deeds = omega arith in
-      ap
-      (λ (l : List Deed). record {
-        disk = λ d. shown (after (slot_of d) (fresh s.base (slot_of d)) l) (was_lost (health_at s.parts (4 * slot_of d)).since t);
-        console = first_lines s.base 1 ++ lines_of 1 l;
-        paper = λ m. first_lines s.base (4 * m + 2) ++ lines_of (4 * m + 2) l;
-        taken = λ w m. gather (moved false w m) l;
-        given = λ w m. gather (moved true w m) l;
-      })
-      (take-append-le t s.deeds (e ∷ []) short)
+      ap (λ (l : List Deed). since_then place l x) (drop-append-le t s.deeds (e ∷ []) short) ∙ since_append place (drop t s.deeds) (e ∷ []) x
+
+  pub past_recorded : (e : Deed) (stops : List ℕ) → Keeps e → (t : ℕ) → t ≤ s.now → world_in (recorded s e stops) t ≡ world_in s t
+  past_recorded e stops keeps t le =
+      let short : t ≤ length s.deeds = omega arith in
+      let gone : (λ d. lost_in (recorded s e stops) t (4 * slot_of d)) ≡ (λ d. lost_in s t (4 * slot_of d)) =
+      fun_ext (λ d. ap (λ (o : Option ℕ). was_lost o t) (lost_past e t (4 * slot_of d) (health_at s.parts (4 * slot_of d)).since le ∙ ap (since_then (4 * slot_of d) (drop t s.deeds)) (keeps (4 * slot_of d) (health_at s.parts (4 * slot_of d)).since))) in
+      ap (world_by (take t (s.deeds ++ e ∷ []))) gone
+      ∙ ap (λ (l : List Deed). world_by l (λ d. lost_in s t (4 * slot_of d))) (take-append-le t s.deeds (e ∷ []) short)
+
+  pub lost_now : (place : ℕ) → lost_in s s.now place ≡ was_lost (health_at s.parts place).since s.now
+  lost_now place = ap (λ (o : Option ℕ). was_lost o s.now) (since_late place s.now s.deeds (health_at s.parts place).since (omega arith))
 
   pub disk_old : (slot : ℕ) → disk_in s s.now slot ≡ shown (after slot (fresh s.base slot) s.deeds) (was_lost (health_at s.parts (4 * slot)).since s.now)
-  disk_old slot = ap (λ (l : List Deed). shown (after slot (fresh s.base slot) l) (was_lost (health_at s.parts (4 * slot)).since s.now)) (take_all s.now s.deeds (omega arith))
+  disk_old slot =
+      ap (shown (after slot (fresh s.base slot) (take s.now s.deeds))) (lost_now (4 * slot))
+      ∙ ap (λ (l : List Deed). shown (after slot (fresh s.base slot) l) (was_lost (health_at s.parts (4 * slot)).since s.now)) (take_all s.now s.deeds (omega arith))
 
   pub disk_new : (slot : ℕ) (e : Deed) (stops : List ℕ) → disk_in (recorded s e stops) (s.now + 1) slot ≡ shown (effect slot (after slot (fresh s.base slot) s.deeds) e) (was_lost (health_at s.parts (4 * slot)).since s.now)
   disk_new slot e stops =
-      ap (λ (l : List Deed). shown (after slot (fresh s.base slot) l) (was_lost (health_at s.parts (4 * slot)).since (s.now + 1))) (take_all (s.now + 1) (s.deeds ++ e ∷ []) (grind (arith, common_steps)))
+      ap (λ (o : Option ℕ). shown (after slot (fresh s.base slot) (take (s.now + 1) (s.deeds ++ e ∷ []))) (was_lost o (s.now + 1))) (since_late (4 * slot) (s.now + 1) (s.deeds ++ e ∷ []) (health_at s.parts (4 * slot)).since (grind (arith, common_steps)))
+      ∙ ap (λ (l : List Deed). shown (after slot (fresh s.base slot) l) (was_lost (health_at s.parts (4 * slot)).since (s.now + 1))) (take_all (s.now + 1) (s.deeds ++ e ∷ []) (grind (arith, common_steps)))
       ∙ ap (λ (d : Disk). shown d (was_lost (health_at s.parts (4 * slot)).since (s.now + 1))) (after_push slot (fresh s.base slot) s.deeds e)
       ∙ ap (shown (effect slot (after slot (fresh s.base slot) s.deeds) e)) (lost_on (health_at s.parts (4 * slot)).since s.now (s.now + 1) (by_now (4 * slot)) (omega arith))
 
@@ -188,20 +247,20 @@ module _ (s : State) (full : length s.deeds ≡ s.now) (by_now : (k : ℕ) → s
   pub lines_same : (place : ℕ) (e : Deed) (stops : List ℕ) → lines_of place (e ∷ []) ≡ [] → lines_in (recorded s e stops) (s.now + 1) place ≡ lines_in s s.now place
   lines_same place e stops none = ap (λ (l : List Line). first_lines s.base place ++ l) (none_new (line_on place) e none)
 
-  pub goes_recorded : (e : Deed) (stops : List ℕ) (waiting : ℕ → List ℕ) → s.now < top → ((m : ℕ) → slice_index s.stops m ≤ slice_index stops m) → Goes (view_of s) (view_of (record (recorded s e stops) { waiting = waiting }))
-  goes_recorded e stops waiting below more = record {
+  pub goes_recorded : (e : Deed) (stops : List ℕ) (waiting : ℕ → List ℕ) → Keeps e → s.now < top → ((m : ℕ) → slice_index s.stops m ≤ slice_index stops m) → Goes (view_of s) (view_of (record (recorded s e stops) { waiting = waiting }))
+  goes_recorded e stops waiting keeps below more = record {
     later = omega arith;
-    past = λ t le. past_recorded e stops t le;
+    past = λ t le. past_recorded e stops keeps t le;
     size = λ d. refl;
     faults = λ p. omega arith;
     stops = more;
     lost = λ p is. is;
   }
 
-  pub acts_done : (by : ℕ) (part : Part) (e : Deed) (waiting : ℕ → List ℕ) → s.now < top → (health_at s.parts (place_of part)).lost ≡ false → Acts by part (view_of s) (view_of (record (recorded s e s.stops) { waiting = waiting })) Done
-  acts_done by part e waiting below whole = record {
+  pub acts_done : (by : ℕ) (part : Part) (e : Deed) (waiting : ℕ → List ℕ) → Keeps e → s.now < top → (health_at s.parts (place_of part)).lost ≡ false → Acts by part (view_of s) (view_of (record (recorded s e s.stops) { waiting = waiting })) Done
+  acts_done by part e waiting keeps below whole = record {
     time = omega arith;
-    goes = goes_recorded e s.stops waiting below (λ m. omega arith);
+    goes = goes_recorded e s.stops waiting keeps below (λ m. omega arith);
     failed = λ f. absurd (cc);
     is_lost = λ f. absurd (cc);
     stays_lost = λ was f. absurd (cc);
@@ -214,10 +273,10 @@ module _ (s : State) (full : length s.deeds ≡ s.now) (by_now : (k : ℕ) → s
     arms = λ m. refl;
   }
 
-  pub acts_halted : (by : ℕ) (part : Part) (e : Deed) → s.now < top → slice_index s.stops by ≤ top → 0 < by → by < length s.stops → Acts by part (view_of s) (view_of (recorded s e (counted s.stops by))) Halted
-  acts_halted by part e below fits member there = record {
+  pub acts_halted : (by : ℕ) (part : Part) (e : Deed) → Keeps e → s.now < top → slice_index s.stops by ≤ top → 0 < by → by < length s.stops → Acts by part (view_of s) (view_of (recorded s e (counted s.stops by))) Halted
+  acts_halted by part e keeps below fits member there = record {
     time = omega arith;
-    goes = goes_recorded e (counted s.stops by) s.waiting below (λ m. rises s.stops by m fits there);
+    goes = goes_recorded e (counted s.stops by) s.waiting keeps below (λ m. rises s.stops by m fits there);
     failed = λ f. absurd (cc);
     is_lost = λ f. absurd (cc);
     stays_lost = λ was f. absurd (cc);
@@ -229,6 +288,71 @@ module _ (s : State) (full : length s.deeds ≡ s.now) (by_now : (k : ℕ) → s
     loses = λ d. refl;
     arms = λ m. refl;
   }
+
+  -- another device in a device's place
+  module _ (dev : Dev) (few : slot_of dev < 258) (there : place_of (DiskPart dev) < length s.parts) where
+    abbrev place : ℕ
+    place = place_of (DiskPart dev)
+
+    abbrev deed : Deed
+    deed = Renewed (slot_of dev) (health_at s.parts place).since
+
+    abbrev parts : List Health
+    parts = set s.parts place (renewed_after (health_at s.parts place))
+
+    known_renewed : (p : ℕ) → known_before p deed (health_at parts p).since ≡ (health_at s.parts p).since
+    known_renewed p = ⊎_elim
+        (λ same. subst (λ (q : ℕ). known_before q deed (health_at parts q).since ≡ (health_at s.parts q).since) (sym same)
+        (ap (λ (b : Bool). if b && nat_lt (slot_of dev) 258 then (health_at s.parts place).since else (health_at parts place).since) (same_test place)
+        ∙ ap (λ (b : Bool). if b then (health_at s.parts place).since else (health_at parts place).since) in_range))
+        (λ ne.
+        ap (λ (b : Bool). if b && nat_lt (slot_of dev) 258 then (health_at s.parts place).since else (health_at parts p).since) (other_test place p (λ same. ne (sym same)))
+        ∙ ap (λ (g : Health). g.since) (health_other s.parts place (renewed_after (health_at s.parts place)) there p ne))
+        (same_or_not p place)
+      where
+        in_range : nat_lt (slot_of dev) 258 ≡ true
+        in_range = grind (arith, nat_tests)
+
+    past_renewed : (t : ℕ) → t ≤ s.now → world_in (renewed s dev) t ≡ world_in s t
+    past_renewed t le =
+        let short : t ≤ length s.deeds = omega arith in
+        let gone : (λ d. lost_in (renewed s dev) t (4 * slot_of d)) ≡ (λ d. lost_in s t (4 * slot_of d)) =
+        fun_ext (λ d. ap (λ (o : Option ℕ). was_lost o t) (lost_past deed t (4 * slot_of d) (health_at parts (4 * slot_of d)).since le ∙ ap (since_then (4 * slot_of d) (drop t s.deeds)) (known_renewed (4 * slot_of d)))) in
+        ap (world_by (take t (s.deeds ++ deed ∷ []))) gone
+        ∙ ap (λ (l : List Deed). world_by l (λ d. lost_in s t (4 * slot_of d))) (take-append-le t s.deeds (deed ∷ []) short)
+
+    pub renewed_acts : s.now < top → Renews dev (view_of s) (view_of (renewed s dev)) Done
+    renewed_acts below = record {
+      time = omega arith;
+      later = omega arith;
+      past = past_renewed;
+      size = λ d. refl;
+      faults = λ p. health_each s.parts place (renewed_after (health_at s.parts place)) there (λ n g. (health_at s.parts n).faults ≤ g.faults) (omega arith) (λ n. omega arith) (place_of p);
+      failed = λ f. absurd (cc);
+      is_lost = λ f. absurd (cc);
+      is_there = λ f. ap (λ (g : Health). g.lost) (health_same s.parts place (renewed_after (health_at s.parts place)) there place refl);
+      else_lost = λ p ne. ap (λ (g : Health). g.lost) (health_other s.parts place (renewed_after (health_at s.parts place)) there (place_of p) (λ same. ne (place_same p (DiskPart dev) same)));
+      no_halt = λ f. absurd (cc);
+      stops = λ m. refl;
+      last = λ at. absurd (omega arith);
+      loses = λ d. refl;
+      arms = λ m. refl;
+    }
+
+    pub renewed_disk : (slot : ℕ) → disk_in (renewed s dev) (s.now + 1) slot ≡ shown (effect slot (after slot (fresh s.base slot) s.deeds) deed) (was_lost (health_at parts (4 * slot)).since (s.now + 1))
+    renewed_disk slot =
+        ap (λ (o : Option ℕ). shown (after slot (fresh s.base slot) (take (s.now + 1) (s.deeds ++ deed ∷ []))) (was_lost o (s.now + 1))) (since_late (4 * slot) (s.now + 1) (s.deeds ++ deed ∷ []) (health_at parts (4 * slot)).since (grind (arith, common_steps)))
+        ∙ ap (λ (l : List Deed). shown (after slot (fresh s.base slot) l) (was_lost (health_at parts (4 * slot)).since (s.now + 1))) (take_all (s.now + 1) (s.deeds ++ deed ∷ []) (grind (arith, common_steps)))
+        ∙ ap (λ (d : Disk). shown d (was_lost (health_at parts (4 * slot)).since (s.now + 1))) (after_push slot (fresh s.base slot) s.deeds deed)
+
+    -- the device is there, and others are as lost as they were
+    pub renewed_is_there : was_lost (health_at parts place).since (s.now + 1) ≡ false
+    renewed_is_there = ap (λ (g : Health). was_lost g.since (s.now + 1)) (health_same s.parts place (renewed_after (health_at s.parts place)) there place refl)
+
+    pub renewed_else : (d : Dev) → d ≢ dev → was_lost (health_at parts (4 * slot_of d)).since (s.now + 1) ≡ was_lost (health_at s.parts (4 * slot_of d)).since s.now
+    renewed_else d ne =
+        ap (λ (g : Health). was_lost g.since (s.now + 1)) (health_other s.parts place (renewed_after (health_at s.parts place)) there (4 * slot_of d) (λ same. ne (slot_apart d dev (omega arith))))
+        ∙ lost_on (health_at s.parts (4 * slot_of d)).since s.now (s.now + 1) (by_now (4 * slot_of d)) (omega arith)
 
 -- an act in which nothing is done, and a part is lost
 module _ (acts : ℕ) (s s' : State) (part : Part) (h : Health) (small : s.now ≤ top) (short : length s.deeds ≤ s.now) (by_now : (k : ℕ) → since_of (health_at s.parts k).since ≤ s.now) (there : place_of part < length s.parts)
@@ -255,10 +379,22 @@ module _ (acts : ℕ) (s s' : State) (part : Part) (h : Health) (small : s.now �
       (ap (λ (o : Option ℕ). was_lost o t) since ∙ lost_before (health_at s.parts (place_of part)).since s.now t le)
       (λ n. refl) k
 
+  -- what is known at a moment is what was known of the earlier acts
+  known_then : (place t : ℕ) → lost_in s' t place ≡ was_lost (since_then place (drop t s.deeds) (health_at s'.parts place).since) t
+  known_then place t =
+      ap (λ (l : List Deed). was_lost (since_then place (drop t l) (health_at s'.parts place).since) t) deeds
+      ∙ ap (λ (o : Option ℕ). was_lost o t) (idled_since place acts s.deeds t (health_at s'.parts place).since)
+
+  same_lost : (place t : ℕ) → t ≤ s.now → lost_in s' t place ≡ lost_in s t place
+  same_lost place t le = known_then place t ∙ since_same place (drop t s.deeds) t (health_at s'.parts place).since (health_at s.parts place).since (same_since place t le)
+
+  known_now : (place : ℕ) → lost_in s' s'.now place ≡ was_lost (health_at s'.parts place).since s'.now
+  known_now place = known_then place s'.now ∙ ap (λ (o : Option ℕ). was_lost o s'.now) (since_late place s'.now s.deeds (health_at s'.parts place).since (omega (arith, small, time, short)))
+
   past_disk : (t : ℕ) → t ≤ s.now → (d : Dev) → disk_in s' t (slot_of d) ≡ disk_in s t (slot_of d)
   past_disk t le d =
-      ap (λ (x : Disk). shown x (was_lost (health_at s'.parts (4 * slot_of d)).since t)) (same_after (slot_of d) t)
-      ∙ ap (shown (after (slot_of d) (fresh s.base (slot_of d)) (take t s.deeds))) (same_since (4 * slot_of d) t le)
+      ap (λ (x : Disk). shown x (lost_in s' t (4 * slot_of d))) (same_after (slot_of d) t)
+      ∙ ap (shown (after (slot_of d) (fresh s.base (slot_of d)) (take t s.deeds))) (same_lost (4 * slot_of d) t le)
 
   pub past_idled : (t : ℕ) → t ≤ s.now → world_in s' t ≡ world_in s t
   past_idled t le =
@@ -298,9 +434,11 @@ module _ (acts : ℕ) (s s' : State) (part : Part) (h : Health) (small : s.now �
 
   pub fails_others : (d : Dev) → (DiskPart d ≡ part → ⊥) → disk_now (view_of s') d ≡ disk_now (view_of s) d
   fails_others d ne =
-      ap (λ (x : Disk). shown x (was_lost (health_at s'.parts (4 * slot_of d)).since s'.now)) (whole_after (slot_of d))
+      ap (shown (after (slot_of d) (fresh s'.base (slot_of d)) (take s'.now s'.deeds))) (known_now (4 * slot_of d))
+      ∙ ap (λ (x : Disk). shown x (was_lost (health_at s'.parts (4 * slot_of d)).since s'.now)) (whole_after (slot_of d))
       ∙ ap (λ (g : Health). shown (after (slot_of d) (fresh s.base (slot_of d)) (take s.now s.deeds)) (was_lost g.since s'.now)) (else_same (DiskPart d) ne)
       ∙ ap (shown (after (slot_of d) (fresh s.base (slot_of d)) (take s.now s.deeds))) (lost_on (health_at s.parts (4 * slot_of d)).since s.now s'.now (by_now (4 * slot_of d)) (omega (arith, small, time)))
+      ∙ sym (ap (λ (o : Option ℕ). shown (after (slot_of d) (fresh s.base (slot_of d)) (take s.now s.deeds)) (was_lost o s.now)) (since_late (4 * slot_of d) s.now s.deeds (health_at s.parts (4 * slot_of d)).since short))
 
   fails_gather : {T : Type 0} (adds : Deed → List T) → adds Idle ≡ [] → gather adds (take s'.now s'.deeds) ≡ gather adds (take s.now s.deeds)
   fails_gather adds none = same_gather adds none s'.now ∙ ap (gather adds) (take_all s'.now s.deeds (omega (arith, small, time)) ∙ sym (take_all s.now s.deeds short))
@@ -325,7 +463,8 @@ module _ (acts : ℕ) (s s' : State) (part : Part) (h : Health) (small : s.now �
 
   pub fails_lost : s.now < top → (d : Dev) → part ≡ DiskPart d → (disk_now (view_of s') d).lost ≡ true
   fails_lost below d is =
-      ap (λ (l : List Health). was_lost (health_at l (4 * slot_of d)).since s'.now) parts
+      known_now (4 * slot_of d)
+      ∙ ap (λ (l : List Health). was_lost (health_at l (4 * slot_of d)).since s'.now) parts
       ∙ ap (λ (g : Health). was_lost g.since s'.now) (health_same s.parts (place_of part) h there (4 * slot_of d) (sym (ap place_of is)))
       ∙ ap (λ (o : Option ℕ). was_lost o s'.now) since
       ∙ ap (was_lost (lost_from (health_at s.parts (place_of part)).since s.now)) time

@@ -1,21 +1,22 @@
 -- The content of each act of a plant in memory that is done, or that halts.
-use Rattle.std.proofs.Common.{◌≡◌, ◌≢◌, ◌⊎◌, ℕ, ◌+◌, ◌*◌, ◌≤◌, ◌==◌, nat_le, if◌then◌else◌, Bool, true, false, List, [], ◌∷◌, ◌++◌, inl, inr, length, take, refl, subst, sym, ◌∙◌, ap, arith}
+use Rattle.std.proofs.Common.{◌≡◌, ◌≢◌, ◌⊎◌, ℕ, ◌+◌, ◌*◌, ◌≤◌, ◌==◌, nat_le, if◌then◌else◌, Bool, true, false, List, [], ◌∷◌, ◌++◌, inl, inr, length, take, replicate, ◌<◌, refl, subst, sym, ◌∙◌, ap, arith}
 use Rattle.std.proofs.lemmas.List.{append-nil}
 use Rattle.mas_types.specs.declared.ids.Dev.{Dev}
+use Rattle.spool_disk.specs.declared.plant.Part.TheVariants.{Disk as DiskPart}
 use Rattle.spool_disk.specs.declared.plant.Act.{Act}
 use Rattle.spool_disk.specs.declared.plant.Act.TheVariants.{Done, Halted}
 use Rattle.spool_disk.specs.declared.plant.Took.TheVariants.{Halted as TookHalted}
 use Rattle.spool_disk.specs.View.{Disk, Line, disk_now, slice}
-use Rattle.spool_disk.specs.Acts.{SamePaper, SameWires, OnDevice, Dirtied, Writes, Syncs, Reads, Said, Says, Prints, Takes}
+use Rattle.spool_disk.specs.Acts.{SamePaper, SameWires, OnDevice, Dirtied, Writes, Syncs, Reads, RenewsThere, Said, Says, Prints, Takes}
 use Rattle.spool_disk.specs.Courses.{left_of, deed_left}
-use Rattle.spool_disk.specs.Places.{slot_of}
+use Rattle.spool_disk.specs.Places.{slot_of, place_of}
 use Rattle.spool_disk.specs.Health.{health_at, was_lost, since_of}
 use Rattle.spool_disk.specs.Kept.{fresh, size_at}
-use Rattle.spool_disk.specs.Deeds.{Deed, Idle, Wrote, Synced, Said as DeedSaid, Passed, Fetched, overwrite, effect, after, gather, lines_of, same_side, moved}
+use Rattle.spool_disk.specs.Deeds.{Deed, Idle, Wrote, Synced, Said as DeedSaid, Passed, Fetched, Renewed as RenewedDeed, overwrite, effect, after, gather, lines_of, same_side, moved}
 use Rattle.spool_disk.specs.DeedLaws.{length-after}
-use Rattle.spool_disk.specs.State.{State, shown, lines_in, moved_in, view_of, recorded}
-use Rattle.spool_disk.proofs.Acting.{slot_apart, disk_old, disk_new, all_old, all_new, none_new, lines_new, lines_same}
-use Rattle.spool_disk.proofs.Effects.{wrote_dirtied, wrote_bytes, slice_put, sync_bytes, sync_unsynced, IsOf, wrote_is_of, sync_is_of, IsLineOf, said_is_line, line_there, moved_there, moved_else, moved_other}
+use Rattle.spool_disk.specs.State.{State, renewed, shown, lines_in, moved_in, view_of, recorded}
+use Rattle.spool_disk.proofs.Acting.{slot_apart, disk_old, disk_new, all_old, all_new, none_new, lines_new, lines_same, renewed_disk, renewed_is_there, renewed_else}
+use Rattle.spool_disk.proofs.Effects.{wrote_dirtied, wrote_bytes, slice_put, sync_bytes, sync_unsynced, IsOf, wrote_is_of, sync_is_of, IsLineOf, said_is_line, line_there, moved_there, moved_else, moved_other, renew_there, renew_is_of}
 
 module _ (s : State) (stops : List ℕ) (full : length s.deeds ≡ s.now) (by_now : (k : ℕ) → since_of (health_at s.parts k).since ≤ s.now) where
   was : (d : Dev) → disk_now (view_of s) d ≡ shown (after (slot_of d) (fresh s.base (slot_of d)) s.deeds) (was_lost (health_at s.parts (4 * slot_of d)).since s.now)
@@ -205,3 +206,47 @@ module _ (s : State) (stops : List ℕ) (waiting : ℕ → List ℕ) (side : Boo
 
   pub passed_other_side : (other : Bool) (w m : ℕ) → same_side other side ≡ false → moved_in new (s.now + 1) other w m ≡ moved_in s s.now other w m
   passed_other_side other w m ne = none_new s full by_now (moved other w m) deed (moved_other other side wire member w m bytes ne)
+
+-- another device in a device's place
+module _ (s : State) (full : length s.deeds ≡ s.now) (by_now : (k : ℕ) → since_of (health_at s.parts k).since ≤ s.now) (dev : Dev) (few : slot_of dev < 258) (there : place_of (DiskPart dev) < length s.parts) where
+  abbrev before : ℕ → Disk
+  before slot = after slot (fresh s.base slot) s.deeds
+
+  abbrev renewal : Deed
+  renewal = RenewedDeed (slot_of dev) (health_at s.parts (place_of (DiskPart dev))).since
+
+  here : disk_now (view_of (renewed s dev)) dev ≡ record { bytes = replicate (length (before (slot_of dev)).bytes) 0; unsynced = []; lost = false }
+  here =
+      renewed_disk s full by_now dev few there (slot_of dev)
+      ∙ ap (shown (effect (slot_of dev) (before (slot_of dev)) renewal)) (renewed_is_there s full by_now dev few there)
+      ∙ ap (λ (x : Disk). shown x false) (renew_there (slot_of dev) (health_at s.parts (place_of (DiskPart dev))).since (before (slot_of dev)))
+
+  long : length (before (slot_of dev)).bytes ≡ size_at s.base (slot_of dev)
+  long = length-after (slot_of dev) (fresh s.base (slot_of dev)) s.deeds ∙ s.base.whole (slot_of dev)
+
+  elsewhere_renewed : (d : Dev) → d ≢ dev → disk_now (view_of (renewed s dev)) d ≡ disk_now (view_of s) d
+  elsewhere_renewed d ne =
+      renewed_disk s full by_now dev few there (slot_of d)
+      ∙ ap (shown (effect (slot_of d) (before (slot_of d)) renewal)) (renewed_else s full by_now dev few there d ne)
+      ∙ ap (λ (x : Disk). shown x (was_lost (health_at s.parts (4 * slot_of d)).since s.now)) (renew_is_of (slot_of dev) (health_at s.parts (place_of (DiskPart dev))).since (slot_of d) (before (slot_of d)) (λ same. ne (slot_apart d dev (sym same))))
+      ∙ sym (disk_old s full by_now (slot_of d))
+
+  pub renewed_there : RenewsThere dev (view_of s) (view_of (renewed s dev)) Done
+  renewed_there = record {
+    disk = (
+      ap (λ (x : Disk). x.bytes) here ∙ ap (λ (n : ℕ). replicate n 0) long,
+      ap (λ (x : Disk). x.unsynced) here,
+      ap (λ (x : Disk). x.lost) here,
+    );
+    lost = λ f. absurd (cc);
+    only = record {
+      others = elsewhere_renewed;
+      console = lines_same s full by_now 1 renewal s.stops refl;
+      paper = λ m. lines_same s full by_now (4 * m + 2) renewal s.stops refl;
+      wires = record {
+        waiting = λ w. refl;
+        taken = λ w m. none_new s full by_now (moved false w m) renewal refl;
+        given = λ w m. none_new s full by_now (moved true w m) renewal refl;
+      };
+    };
+  }

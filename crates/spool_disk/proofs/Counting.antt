@@ -3,7 +3,7 @@ use Rattle.std.proofs.Common.{◌≡◌, ℕ, zero, suc, Bool, true, false, if�
 use Rattle.std.proofs.lemmas.List.{drop-append-le}
 use Rattle.std.proofs.lemmas.List.Elements.{filter-append}
 use Rattle.spool_disk.specs.declared.entry.Entry.{Entry}
-use Rattle.spool_disk.specs.declared.entry.Entry.TheVariants.{Idle as EntryIdle, Wrote as EntryWrote, Synced as EntrySynced, Said as EntrySaid, Passed as EntryPassed, Fetched as EntryFetched}
+use Rattle.spool_disk.specs.declared.entry.Entry.TheVariants.{Idle as EntryIdle, Wrote as EntryWrote, Synced as EntrySynced, Said as EntrySaid, Passed as EntryPassed, Fetched as EntryFetched, Renewed as EntryRenewed}
 use Rattle.spool_disk.specs.Deeds.{Deed, is_read}
 use Rattle.spool_disk.specs.Entries.{kept_by, deed_of, deeds_of, reads_at}
 
@@ -14,6 +14,7 @@ reads_same slot (EntrySynced s) bytes = refl
 reads_same slot (EntrySaid place kept whole) bytes = refl
 reads_same slot (EntryPassed given wire member kept) bytes = refl
 reads_same slot (EntryFetched s) bytes = refl
+reads_same slot (EntryRenewed s since) bytes = refl
 
 count_deeds : (slot : ℕ) (log : List Entry) (arena : List ℕ) → length (filter (is_read slot) (deeds_of log arena)) ≡ length (filter (reads_at slot) log)
 count_deeds slot [] arena = refl

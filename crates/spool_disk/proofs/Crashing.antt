@@ -1,20 +1,19 @@
 -- What a crash leaves of a device.
-use Rattle.std.proofs.Common.{◌≡◌, ◌⊎◌, inl, inr, ℕ, ◌+◌, ◌-◌, ◌≤◌, ◌<◌, ◌==◌, nat_le, nat_lt, ◌&&◌, ◌||◌, max, Bool, true, false, if◌then◌else◌, List, [], ◌∷◌, ◌++◌, length, take, drop, slice_index, refl, subst, sym, ◌∙◌, ap, arith}
+use Rattle.std.proofs.Common.{◌≡◌, ◌⊎◌, inl, inr, ℕ, ◌+◌, ◌-◌, ◌≤◌, ◌<◌, ◌==◌, nat_le, nat_lt, ◌&&◌, ◌||◌, max, Bool, true, false, if◌then◌else◌, List, [], ◌∷◌, ◌++◌, length, take, drop, replicate, slice_index, refl, subst, sym, ◌∙◌, ap, arith}
 use Rattle.std.proofs.lemmas.Bool.Decides.{nat_tests}
 use Rattle.std.proofs.lemmas.List.{get_or-take, get_or-drop}
 use Rattle.spool_disk.specs.declared.choice.Choice.{Choice}
 use Rattle.spool_disk.specs.declared.choice.Choice.TheVariants.{Old, New, Ones}
 use Rattle.spool_disk.specs.declared.entry.Entry.{Entry}
-use Rattle.spool_disk.specs.declared.entry.Entry.TheVariants.{Idle as EntryIdle, Wrote as EntryWrote, Synced as EntrySynced, Said as EntrySaid, Passed as EntryPassed, Fetched as EntryFetched}
+use Rattle.spool_disk.specs.declared.entry.Entry.TheVariants.{Idle as EntryIdle, Wrote as EntryWrote, Synced as EntrySynced, Said as EntrySaid, Passed as EntryPassed, Fetched as EntryFetched, Renewed as EntryRenewed}
 use Rattle.spool_disk.specs.View.{Disk, Stretch}
 use Rattle.spool_disk.specs.Acts.{DiffersIn}
-use Rattle.spool_disk.specs.Deeds.{Deed, Idle, Wrote, Synced, Said, Passed, Fetched, overwrite, effect, after}
+use Rattle.spool_disk.specs.Deeds.{Deed, Idle, Wrote, Synced, Said, Passed, Fetched, Renewed, overwrite, effect, after}
 use Rattle.spool_disk.specs.DeedLaws.{after_append, length-overwrite, length-effect, length-after}
-use Rattle.spool_disk.specs.Entries.{kept_in, deed_of, deeds_of}
+use Rattle.spool_disk.specs.Entries.{kept_by, kept_in, deed_of, deeds_of}
 use Rattle.spool_disk.specs.Crash.{IsOnes, is_in, is_unsynced}
-use Rattle.spool_disk.specs.Settled.{synced_by, last_synced, Leaves, IsQuiet, EndsSynced}
-use Rattle.spool_disk.proofs.Acting.{same_test}
-use Rattle.spool_disk.proofs.Effects.{differs_over, effect_there, sync_there}
+use Rattle.spool_disk.specs.Settled.{synced_by, last_synced, Leaves, is_sync, IsQuiet, EndsSynced}
+use Rattle.spool_disk.proofs.Effects.{differs_over, effect_there}
 use Rattle.spool_disk.proofs.Replaying.{deeds_parts, deeds_split}
 
 differs_none : (at len : ℕ) (l : List ℕ) → DiffersIn at len l l
@@ -76,6 +75,8 @@ quiet_synced slot (EntrySynced s ∷ es) arena bytes d quiet =
 quiet_synced slot (EntrySaid place kept whole ∷ es) arena bytes d quiet = quiet_synced slot es (drop kept arena) bytes d quiet.1
 quiet_synced slot (EntryPassed given wire member kept ∷ es) arena bytes d quiet = quiet_synced slot es (drop kept arena) bytes d quiet.1
 quiet_synced slot (EntryFetched s ∷ es) arena bytes d quiet = quiet_synced slot es arena bytes d quiet.1
+quiet_synced slot (EntryRenewed s since ∷ es) arena bytes d quiet =
+    ap (λ (b : Bool). last_synced slot (if b then replicate (length d.bytes) 0 else bytes) (effect slot d (Renewed s since)) (deeds_of es arena)) quiet.0 ∙ quiet_synced slot es arena bytes (effect slot d (Renewed s since)) quiet.1
 
 synced_append : (slot : ℕ) (bytes : List ℕ) (d : Disk) (es fs : List Deed) → last_synced slot bytes d (es ++ fs) ≡ last_synced slot (last_synced slot bytes d es) (after slot d es) fs
 synced_append slot bytes d [] fs = refl
@@ -86,23 +87,30 @@ record IsClean (d : Disk) (bytes : List ℕ) : Type 0 where
   same : bytes ≡ d.bytes
   clean : d.unsynced ≡ []
 
+-- an act that leaves nothing of a slot unsynced
+clean_one : (slot : ℕ) (e : Entry) (bytes synced : List ℕ) (d : Disk) → is_sync slot e ≡ true → IsClean (effect slot d (deed_of e bytes)) (synced_by slot synced d (deed_of e bytes))
+clean_one slot EntryIdle bytes synced d is = absurd (cc)
+clean_one slot (EntryWrote s at len kept) bytes synced d is = absurd (cc)
+clean_one slot (EntrySynced s) bytes synced d is =
+    subst (λ (b : Bool). IsClean (if b then record { bytes = d.bytes; unsynced = []; lost = d.lost } else d) (if b then d.bytes else synced)) (sym is) (record { same = refl; clean = refl })
+clean_one slot (EntrySaid place kept whole) bytes synced d is = absurd (cc)
+clean_one slot (EntryPassed given wire member kept) bytes synced d is = absurd (cc)
+clean_one slot (EntryFetched s) bytes synced d is = absurd (cc)
+clean_one slot (EntryRenewed s since) bytes synced d is =
+    subst (λ (b : Bool). IsClean (if b then record { bytes = replicate (length d.bytes) 0; unsynced = []; lost = d.lost } else d) (if b then replicate (length d.bytes) 0 else synced)) (sym is) (record { same = refl; clean = refl })
+
+clean_last : (slot : ℕ) (front : List Deed) (e : Entry) (bytes : List ℕ) (d : Disk) → is_sync slot e ≡ true → IsClean (after slot d (front ++ deed_of e bytes ∷ [])) (last_synced slot d.bytes d (front ++ deed_of e bytes ∷ []))
+clean_last slot front e bytes d sync =
+    subst (λ (x : Disk). IsClean x (last_synced slot d.bytes d (front ++ deed_of e bytes ∷ []))) (sym (after_append slot d front (deed_of e bytes ∷ [])))
+    (subst (λ (l : List ℕ). IsClean (effect slot (after slot d front) (deed_of e bytes)) l) (sym (synced_append slot d.bytes d front (deed_of e bytes ∷ [])))
+    (clean_one slot e bytes (last_synced slot d.bytes d front) (after slot d front) sync))
+
 clean_at : (slot : ℕ) (es : List Entry) (arena : List ℕ) (d : Disk) → EndsSynced slot es → d.unsynced ≡ [] → IsClean (after slot d (deeds_of es arena)) (last_synced slot d.bytes d (deeds_of es arena))
 clean_at slot es arena d (inl none) clean = subst (λ (l : List Entry). IsClean (after slot d (deeds_of l arena)) (last_synced slot d.bytes d (deeds_of l arena))) (sym none) (record { same = refl; clean = clean })
-clean_at slot es arena d (inr (front, is)) clean =
+clean_at slot es arena d (inr (front, (e, (sync, is)))) clean =
     subst (λ (l : List Entry). IsClean (after slot d (deeds_of l arena)) (last_synced slot d.bytes d (deeds_of l arena))) (sym is)
-    (subst (λ (l : List Deed). IsClean (after slot d l) (last_synced slot d.bytes d l)) (sym (deeds_split front (EntrySynced slot ∷ []) arena)) at_sync)
-  where
-    last_is : synced_by slot (last_synced slot d.bytes d (deeds_of front arena)) (after slot d (deeds_of front arena)) (Synced slot) ≡ (after slot d (deeds_of front arena)).bytes
-    last_is = rw (same_test slot) refl
-
-    at_sync : IsClean (after slot d (deeds_of front arena ++ Synced slot ∷ [])) (last_synced slot d.bytes d (deeds_of front arena ++ Synced slot ∷ []))
-    at_sync = record {
-      same =
-          synced_append slot d.bytes d (deeds_of front arena) (Synced slot ∷ [])
-          ∙ last_is
-          ∙ sym (ap (λ (x : Disk). x.bytes) (after_append slot d (deeds_of front arena) (Synced slot ∷ []) ∙ sync_there slot (after slot d (deeds_of front arena))));
-      clean = ap (λ (x : Disk). x.unsynced) (after_append slot d (deeds_of front arena) (Synced slot ∷ []) ∙ sync_there slot (after slot d (deeds_of front arena)));
-    }
+    (subst (λ (l : List Deed). IsClean (after slot d l) (last_synced slot d.bytes d l)) (sym (deeds_split front (e ∷ []) arena))
+    (clean_last slot (deeds_of front arena) e (take (kept_by e) (drop (kept_in front) arena)) d sync))
 
 -- the parts of a record: up to the last sync, and after it
 module _ (slot n : ℕ) (log : List Entry) (arena : List ℕ) (d : Disk) (clean : d.unsynced ≡ []) (ends : EndsSynced slot (take n log)) (quiet : IsQuiet slot (drop n log)) where
@@ -142,6 +150,10 @@ length-synced_by slot bytes d (Synced s) same = by_test (s == slot) where
 length-synced_by slot bytes d (Said place text whole) same = same
 length-synced_by slot bytes d (Passed given wire member some) same = same
 length-synced_by slot bytes d (Fetched s) same = same
+length-synced_by slot bytes d (Renewed s since) same = by_test (s == slot) where
+  by_test : (b : Bool) → length (if b then replicate (length d.bytes) 0 else bytes) ≡ length (if b then record { bytes = replicate (length d.bytes) 0; unsynced = []; lost = d.lost } else d).bytes
+  by_test true = refl
+  by_test false = same
 
 pub length-synced : (slot : ℕ) (bytes : List ℕ) (d : Disk) (es : List Deed) → length bytes ≡ length d.bytes → length (last_synced slot bytes d es) ≡ length (after slot d es).bytes
 length-synced slot bytes d [] same = same

@@ -1,11 +1,11 @@
 -- The present bytes stay those of the record.
-use Rattle.std.proofs.Common.{◌≡◌, ℕ, ◌<◌, ◌==◌, Bool, true, false, if◌then◌else◌, List, [], ◌∷◌, ◌++◌, length, Vec, refl, sym, ◌∙◌, ap}
+use Rattle.std.proofs.Common.{◌≡◌, ℕ, ◌<◌, ◌==◌, Bool, true, false, if◌then◌else◌, List, [], ◌∷◌, ◌++◌, length, replicate, Option, Vec, refl, sym, ◌∙◌, ap}
 use Rattle.std.specs.declared.alloc.Global.{Global}
 use Rattle.spool_disk.specs.declared.base.Base.{Base}
 use Rattle.spool_disk.specs.View.{Disk}
 use Rattle.spool_disk.specs.Standing.{bytes_at}
 use Rattle.spool_disk.specs.Kept.{AreCurrent, fresh, size_at}
-use Rattle.spool_disk.specs.Deeds.{Deed, Idle, Wrote, Synced, Said, Passed, Fetched, overwrite, effect, after}
+use Rattle.spool_disk.specs.Deeds.{Deed, Idle, Wrote, Synced, Said, Passed, Fetched, Renewed, overwrite, effect, after}
 use Rattle.spool_disk.specs.DeedLaws.{after_push, length-after}
 
 -- an act that changes no byte
@@ -50,6 +50,20 @@ current_write base disks later deeds new s at len bytes now put added slot lt =
     ∙ ap (λ (l : List ℕ). if s == slot then overwrite at bytes l else l) (now slot lt)
     ∙ sym (written_bytes (s == slot) at len bytes d)
     ∙ sym (ap (λ (x : Disk). x.bytes) (ap (after slot (fresh base slot)) added ∙ after_push slot (fresh base slot) deeds (Wrote s at len bytes)))
+
+cleared_bytes : (b : Bool) (d : Disk) → (if b then record { bytes = replicate (length d.bytes) 0; unsynced = []; lost = d.lost } else d).bytes ≡ (if b then replicate (length d.bytes) 0 else d.bytes)
+cleared_bytes true d = refl
+cleared_bytes false d = refl
+
+pub current_renewal : (base : Base) (disks later : List (Vec ℕ Global)) (deeds new : List Deed) (s : ℕ) (since : Option ℕ) → AreCurrent base disks deeds
+    → ((slot : ℕ) → bytes_at later slot ≡ (if s == slot then replicate (length (bytes_at disks slot)) 0 else bytes_at disks slot))
+    → new ≡ deeds ++ Renewed s since ∷ [] → AreCurrent base later new
+current_renewal base disks later deeds new s since now put added slot lt =
+    let d = after slot (fresh base slot) deeds in
+    put slot
+    ∙ ap (λ (l : List ℕ). if s == slot then replicate (length l) 0 else l) (now slot lt)
+    ∙ sym (cleared_bytes (s == slot) d)
+    ∙ sym (ap (λ (x : Disk). x.bytes) (ap (after slot (fresh base slot)) added ∙ after_push slot (fresh base slot) deeds (Renewed s since)))
 
 -- the present bytes of a device are as many as its size
 pub current_size : (base : Base) (disks : List (Vec ℕ Global)) (deeds : List Deed) (slot : ℕ) → AreCurrent base disks deeds → slot < 258 → length (bytes_at disks slot) ≡ size_at base slot

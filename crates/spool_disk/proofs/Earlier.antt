@@ -1,9 +1,9 @@
 -- The bytes as before the unsynced writes.
-use Rattle.std.proofs.Common.{◌≡◌, ⊎_elim, ℕ, zero, suc, ◌+◌, ◌≤◌, ◌<◌, ◌==◌, Bool, true, false, if◌then◌else◌, List, [], ◌∷◌, ◌++◌, length, take, get_or, refl, subst, sym, ◌∙◌, ap, arith}
+use Rattle.std.proofs.Common.{◌≡◌, ⊎_elim, ℕ, zero, suc, ◌+◌, ◌≤◌, ◌<◌, ◌==◌, Bool, true, false, if◌then◌else◌, List, [], ◌∷◌, ◌++◌, length, take, replicate, get_or, refl, subst, sym, ◌∙◌, ap, arith}
 use Rattle.std.proofs.lemmas.List.{take_all, take_more}
 use Rattle.mas_types.specs.declared.ids.Dev.{Dev}
 use Rattle.spool_disk.specs.View.{Disk, Stretch}
-use Rattle.spool_disk.specs.Deeds.{Deed, Idle, Wrote, Synced, Said, Passed, Fetched, overwrite, effect, after}
+use Rattle.spool_disk.specs.Deeds.{Deed, Idle, Wrote, Synced, Said, Passed, Fetched, Renewed, overwrite, effect, after}
 use Rattle.spool_disk.specs.DeedLaws.{after_push}
 use Rattle.spool_disk.specs.Crash.{or_earlier, before_writes}
 use Rattle.spool_disk.specs.Settled.{synced_by, last_synced}
@@ -36,6 +36,11 @@ one_more slot synced d (Synced s) clean = by_test (s == slot) where
 one_more slot synced d (Said place text whole) clean = nothing_more synced d clean
 one_more slot synced d (Passed given wire member bytes) clean = nothing_more synced d clean
 one_more slot synced d (Fetched s) clean = nothing_more synced d clean
+one_more slot synced d (Renewed s since) clean = by_test (s == slot) where
+  by_test : (b : Bool) → or_earlier (if b then record { bytes = replicate (length d.bytes) 0; unsynced = []; lost = d.lost } else d).unsynced (if b then record { bytes = replicate (length d.bytes) 0; unsynced = []; lost = d.lost } else d).bytes synced
+      ≡ (if b then replicate (length d.bytes) 0 else synced)
+  by_test true = refl
+  by_test false = nothing_more synced d clean
 
 true_on : (slot : ℕ) (synced : List ℕ) (d : Disk) (e : Deed) → IsTrueAt synced d → IsTrueAt (synced_by slot synced d e) (effect slot d e)
 true_on slot synced d Idle clean = clean
@@ -50,6 +55,10 @@ true_on slot synced d (Synced s) clean = by_test (s == slot) where
 true_on slot synced d (Said place text whole) clean = clean
 true_on slot synced d (Passed given wire member bytes) clean = clean
 true_on slot synced d (Fetched s) clean = clean
+true_on slot synced d (Renewed s since) clean = by_test (s == slot) where
+  by_test : (b : Bool) → IsTrueAt (if b then replicate (length d.bytes) 0 else synced) (if b then record { bytes = replicate (length d.bytes) 0; unsynced = []; lost = d.lost } else d)
+  by_test true = λ none. refl
+  by_test false = clean
 
 true_after : (slot : ℕ) (synced : List ℕ) (d : Disk) (es : List Deed) → IsTrueAt synced d → IsTrueAt (last_synced slot synced d es) (after slot d es)
 true_after slot synced d [] clean = clean

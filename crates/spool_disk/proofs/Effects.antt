@@ -1,10 +1,10 @@
 -- What each act does to a device.
-use Rattle.std.proofs.Common.{◌≡◌, ℕ, ◌+◌, ◌-◌, ◌≤◌, ◌==◌, ◌≢◌, ◌⊎◌, ⊎_elim, ◌&&◌, nat_le, if◌then◌else◌, Bool, true, false, List, [], ◌∷◌, ◌++◌, length, take, drop, refl, subst, sym, ◌∙◌, ap, arith, append_assoc, length-append}
+use Rattle.std.proofs.Common.{◌≡◌, ℕ, ◌+◌, ◌-◌, ◌≤◌, ◌==◌, ◌≢◌, ◌⊎◌, ⊎_elim, ◌&&◌, nat_le, if◌then◌else◌, Bool, true, false, List, [], ◌∷◌, ◌++◌, length, take, drop, replicate, Option, refl, subst, sym, ◌∙◌, ap, arith, append_assoc, length-append}
 use Rattle.std.proofs.lemmas.Bool.Decides.{nat_tests}
 use Rattle.std.proofs.lemmas.List.{take_at, drop_at, drop-drop, length-take-le, append-nil}
 use Rattle.spool_disk.specs.View.{Disk, slice}
 use Rattle.spool_disk.specs.Acts.{DiffersIn, Dirtied}
-use Rattle.spool_disk.specs.Deeds.{Deed, Idle, Wrote, Synced, Said, Passed, overwrite, effect, gather, lines_of, same_side, moved}
+use Rattle.spool_disk.specs.Deeds.{Deed, Idle, Wrote, Synced, Said, Passed, Renewed, overwrite, effect, gather, lines_of, same_side, moved}
 use Rattle.spool_disk.specs.DeedLaws.{length-overwrite}
 use Rattle.spool_disk.specs.State.{shown}
 use Rattle.spool_disk.proofs.Acting.{same_test, other_test}
@@ -131,3 +131,10 @@ moved_else side wire member w m bytes ne =
 
 pub moved_other : (other side : Bool) (wire member w m : ℕ) (bytes : List ℕ) → same_side other side ≡ false → gather (moved other w m) (Passed side wire member bytes ∷ []) ≡ []
 moved_other other side wire member w m bytes ne = ap (λ (b : Bool). (if b && (wire == w && member == m) then bytes else []) ++ []) ne
+
+-- another device in a device's place
+pub renew_there : (slot : ℕ) (since : Option ℕ) (d : Disk) → effect slot d (Renewed slot since) ≡ record { bytes = replicate (length d.bytes) 0; unsynced = []; lost = d.lost }
+renew_there slot since d = rw (same_test slot) refl
+
+pub renew_is_of : (s : ℕ) (since : Option ℕ) → IsOf s (Renewed s since)
+renew_is_of s since slot d ne = rw (other_test s slot ne) refl

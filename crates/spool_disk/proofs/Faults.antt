@@ -1,6 +1,6 @@
 -- Acts of a plant in memory that lose their part.
 use Rattle.std.proofs.lemmas.List.{append-nil}
-use Rattle.std.proofs.Common.{◌≡◌, inr, ⊎_elim, ℕ, ◌≤◌, ◌<◌, List, length, set, slice_index, refl, subst, sym, ◌∙◌, ap, arith, get_or-set_same, get_or-set_other}
+use Rattle.std.proofs.Common.{◌≡◌, inl, inr, ⊎_elim, ℕ, ◌≤◌, ◌<◌, List, length, set, slice_index, refl, subst, sym, ◌∙◌, ap, arith, get_or-set_same, get_or-set_other}
 use Rattle.mas_types.specs.declared.ids.Dev.{Dev}
 use Rattle.mas_types.specs.declared.ids.MemberId.{MemberId}
 use Rattle.spool_disk.specs.declared.plant.Part.{Part}
@@ -9,7 +9,7 @@ use Rattle.spool_disk.specs.declared.plant.Act.TheVariants.{Failed}
 use Rattle.spool_disk.specs.declared.plant.Took.TheVariants.{Failed as TookFailed}
 use Rattle.spool_disk.specs.declared.health.Health.{Health}
 use Rattle.spool_disk.specs.View.{View, given_now}
-use Rattle.spool_disk.specs.Acts.{Acts, Loses, LosesThere, next, top, OnDevice, Writes, Syncs, Reads, Says, Prints, GivesOn, Takes}
+use Rattle.spool_disk.specs.Acts.{Acts, Loses, LosesThere, next, top, OnDevice, Renews, RenewsThere, Writes, Syncs, Reads, Says, Prints, GivesOn, Takes}
 use Rattle.spool_disk.specs.Failing.{FailsAlone}
 use Rattle.spool_disk.specs.Places.{slot_of, place_of}
 use Rattle.spool_disk.specs.Health.{health_at, since_of, lost_after, failed_after}
@@ -102,6 +102,27 @@ fails_write dev at bytes old new fails = record { disk = inr (fails.bytes dev); 
 
 pub fails_sync : (dev : Dev) (old new : View) → FailsAlone (DiskPart dev) old new → Syncs dev old new Failed
 fails_sync dev old new fails = record { disk = fails.bytes dev; lost = λ f below. fails.lost below dev refl; only = fails_on dev old new fails }
+
+pub fails_renewal : (dev : Dev) (old new : View) → Acts 0 (DiskPart dev) old new Failed → Renews dev old new Failed
+fails_renewal dev old new act = record {
+  time = act.time;
+  later = act.goes.later;
+  past = act.goes.past;
+  size = act.goes.size;
+  faults = act.goes.faults;
+  failed = act.failed;
+  is_lost = act.is_lost;
+  is_there = λ f. absurd (cc);
+  else_lost = λ p ne. act.else_lost p (inl ne);
+  no_halt = λ f. absurd (cc);
+  stops = λ m. act.no_other_stop m (inr (λ f. absurd (cc)));
+  last = λ at. refl;
+  loses = act.loses;
+  arms = act.arms;
+}
+
+pub fails_renewal_there : (dev : Dev) (old new : View) → FailsAlone (DiskPart dev) old new → RenewsThere dev old new Failed
+fails_renewal_there dev old new fails = record { disk = fails.bytes dev; lost = λ f below. fails.lost below dev refl; only = fails_on dev old new fails }
 
 pub fails_read : (dev : Dev) (at : ℕ) (into : List ℕ) (old new : View) → FailsAlone (DiskPart dev) old new → Reads dev at old new into Failed
 fails_read dev at into old new fails = record { disk = fails.bytes dev; lost = λ f below. fails.lost below dev refl; only = fails_on dev old new fails }

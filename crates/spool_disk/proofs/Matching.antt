@@ -1,11 +1,11 @@
 -- What a crash leaves is an image.
-use Rattle.std.proofs.Common.{◌≡◌, inl, inr, ⊎_elim, ℕ, ◌+◌, ◌-◌, ◌≤◌, ◌<◌, ◌==◌, nat_le, nat_lt, ◌&&◌, ◌||◌, min, max, Bool, true, false, if◌then◌else◌, List, [], ◌∷◌, length, take, drop, slice_index, refl, subst, sym, ◌∙◌, ap, arith}
+use Rattle.std.proofs.Common.{◌≡◌, inl, inr, ⊎_elim, ℕ, ◌+◌, ◌-◌, ◌≤◌, ◌<◌, ◌==◌, nat_le, nat_lt, ◌&&◌, ◌||◌, min, max, Bool, true, false, if◌then◌else◌, List, [], ◌∷◌, length, take, drop, replicate, slice_index, refl, subst, sym, ◌∙◌, ap, arith}
 use Rattle.std.proofs.lemmas.Bool.Decides.{nat_tests}
 use Rattle.std.proofs.lemmas.List.{get_or-take, get_or-drop, length-take, length-drop, ext_get_or}
 use Rattle.spool_disk.specs.declared.choice.Choice.{Choice}
 use Rattle.spool_disk.specs.declared.choice.Choice.TheVariants.{Old, New, Ones}
 use Rattle.spool_disk.specs.declared.entry.Entry.{Entry}
-use Rattle.spool_disk.specs.declared.entry.Entry.TheVariants.{Idle as EntryIdle, Wrote as EntryWrote, Synced as EntrySynced, Said as EntrySaid, Passed as EntryPassed, Fetched as EntryFetched}
+use Rattle.spool_disk.specs.declared.entry.Entry.TheVariants.{Idle as EntryIdle, Wrote as EntryWrote, Synced as EntrySynced, Said as EntrySaid, Passed as EntryPassed, Fetched as EntryFetched, Renewed as EntryRenewed}
 use Rattle.spool_disk.specs.View.{Disk, Stretch, Apart, Avoids, slice}
 use Rattle.spool_disk.specs.Acts.{DiffersIn}
 use Rattle.spool_disk.specs.Deeds.{overwrite, effect, after}
@@ -78,6 +78,10 @@ module _ (slot : ℕ) where
   step synced d (EntrySaid place kept whole) bytes few was = was
   step synced d (EntryPassed given wire member kept) bytes few was = was
   step synced d (EntryFetched s) bytes few was = was
+  step synced d (EntryRenewed s since) bytes few was = by_test (s == slot) where
+    by_test : (b : Bool) → Matches (if b then replicate (length d.bytes) 0 else synced) (if b then record { bytes = replicate (length d.bytes) 0; unsynced = []; lost = d.lost } else d)
+    by_test true = matches_self (replicate (length d.bytes) 0) (record { bytes = replicate (length d.bytes) 0; unsynced = []; lost = d.lost }) refl
+    by_test false = was
 
   synced_match : (log : List Entry) (arena synced : List ℕ) (d : Disk) → Matches synced d → Matches (last_synced slot synced d (deeds_of log arena)) (after slot d (deeds_of log arena))
   synced_match [] arena synced d was = was

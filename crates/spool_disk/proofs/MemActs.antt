@@ -10,19 +10,19 @@ use Rattle.spool_disk.specs.declared.plant.Part.TheVariants.{Disk as DiskPart}
 use Rattle.spool_disk.specs.declared.plant.Act.TheVariants.{Done, Failed, Halted}
 use Rattle.spool_disk.specs.declared.plant.Took.TheVariants.{Bytes as TookBytes, Halted as TookHalted}
 use Rattle.spool_disk.specs.View.{disk_now, given_now, slice}
-use Rattle.spool_disk.specs.Acts.{Acts, Loses, LosesThere, Writes, Syncs, Reads, Says, Prints, GivesOn, Takes, top}
+use Rattle.spool_disk.specs.Acts.{Acts, Renews, RenewsThere, Loses, LosesThere, Writes, Syncs, Reads, Says, Prints, GivesOn, Takes, top}
 use Rattle.spool_disk.specs.Places.{slot_of, place_of}
 use Rattle.spool_disk.specs.Health.{health_at}
 use Rattle.spool_disk.specs.Kept.{fresh, size_at}
 use Rattle.spool_disk.specs.Deeds.{Deed, Idle, Wrote, Synced, Said, Passed, Fetched, overwrite, after}
 use Rattle.spool_disk.specs.Entries.{deeds_of}
-use Rattle.spool_disk.specs.State.{State, lines_in, moved_in, view_of, counted, recorded, failed, lost}
+use Rattle.spool_disk.specs.State.{State, lines_in, moved_in, view_of, counted, recorded, failed, lost, renewed}
 use Rattle.spool_disk.specs.Courses.{left_of, deed_left}
 use Rattle.spool_disk.specs.Failing.{FailsAlone}
 use Rattle.spool_disk.specs.MemView.{state_of, mem_view}
 use Rattle.spool_disk.proofs.Entering.{length-deeds}
-use Rattle.spool_disk.proofs.Acting.{acts_done, acts_halted}
-use Rattle.spool_disk.proofs.Contents.{wrote, write_done, write_halted, sync_done, sync_halted, read_done, read_halted, says_of, prints_of, said_done, said_halted, line_halted, take_halted, passed_disks, passed_lines, passed_there, passed_else, passed_other_side}
+use Rattle.spool_disk.proofs.Acting.{Keeps, acts_done, acts_halted, renewed_acts}
+use Rattle.spool_disk.proofs.Contents.{renewed_there, wrote, write_done, write_halted, sync_done, sync_halted, read_done, read_halted, says_of, prints_of, said_done, said_halted, line_halted, take_halted, passed_disks, passed_lines, passed_there, passed_else, passed_other_side}
 use Rattle.spool_disk.proofs.Effects.{IsLineOf, idle_is_line, said_is_line}
 use Rattle.spool_disk.proofs.Faults.{acts_failed, fails_alone, loses, loses_there}
 
@@ -35,8 +35,8 @@ halted_state s s1 s2 e by first then_stop = then_stop ∙ ap (λ (x : State). re
 
 module _ (m m' : MemPlant) (e : Deed) (below : m.moment < m.kept.acts) (below_top : m.moment < top) where
   module _ (is : state_of m' ≡ recorded (state_of m) e (state_of m).stops) where
-    pub done_acts : (by : ℕ) (part : Part) → (mem_view m).lost part ≡ false → Acts by part (mem_view m) (mem_view m') Done
-    done_acts by part whole = subst (λ (x : State). Acts by part (mem_view m) (view_of x) Done) (sym is) (acts_done (state_of m) (in_full m below) m.lost_by_now by part e (state_of m).waiting below_top whole)
+    pub done_acts : Keeps e → (by : ℕ) (part : Part) → (mem_view m).lost part ≡ false → Acts by part (mem_view m) (mem_view m') Done
+    done_acts keeps by part whole = subst (λ (x : State). Acts by part (mem_view m) (view_of x) Done) (sym is) (acts_done (state_of m) (in_full m below) m.lost_by_now by part e (state_of m).waiting keeps below_top whole)
 
 pub done_write : (m m' : MemPlant) (dev : Dev) (at slot : ℕ) (bytes : List ℕ) → m.moment < m.kept.acts → slot ≡ slot_of dev → at + length bytes ≤ size_at m.kept.base (slot_of dev)
     → state_of m' ≡ recorded (state_of m) (Wrote slot at (length bytes) bytes) (state_of m).stops → Writes dev at bytes (mem_view m) (mem_view m') Done
@@ -79,10 +79,10 @@ module _ (m m1 m2 : MemPlant) (e : Deed) (by : ℕ) (below : m.moment < m.kept.a
   same_stops : (state_of m1).stops ≡ (state_of m).stops
   same_stops = ap (λ (x : State). x.stops) first
 
-  pub halted_acts : (part : Part) → m.moment < top → slice_index (state_of m1).stops by ≤ top → by < length (state_of m1).stops → 0 < by → Acts by part (mem_view m) (mem_view m2) Halted
-  halted_acts part below_top fits there member =
+  pub halted_acts : Keeps e → (part : Part) → m.moment < top → slice_index (state_of m1).stops by ≤ top → by < length (state_of m1).stops → 0 < by → Acts by part (mem_view m) (mem_view m2) Halted
+  halted_acts keeps part below_top fits there member =
       subst (λ (x : State). Acts by part (mem_view m) (view_of x) Halted) (sym both)
-      (acts_halted (state_of m) (in_full m below) m.lost_by_now by part e below_top (subst (λ (l : List ℕ). slice_index l by ≤ top) same_stops fits) member (subst (λ (l : List ℕ). by < length l) same_stops there))
+      (acts_halted (state_of m) (in_full m below) m.lost_by_now by part e keeps below_top (subst (λ (l : List ℕ). slice_index l by ≤ top) same_stops fits) member (subst (λ (l : List ℕ). by < length l) same_stops there))
 
 module _ (m m1 m2 : MemPlant) (by : ℕ) (below : m.moment < m.kept.acts) (first : state_of m1 ≡ recorded (state_of m) Idle (state_of m).stops)
     (next_is : state_of m2 ≡ record (state_of m1) { stops = counted (state_of m1).stops by }) where
@@ -130,6 +130,13 @@ module _ (m m1 m2 : MemPlant) (by : ℕ) (below : m.moment < m.kept.acts) (place
     by_test true c = said_is_line place line true
     by_test false true = idle_is_line place
     by_test false false = said_is_line place (take keep line) false
+
+  pub left_keeps : Keeps (deed_left place keep line)
+  left_keeps = by_test (nat_le (length line) keep) (keep == 0) where
+    by_test : (b c : Bool) → Keeps (if b then Said place line true else (if c then Idle else Said place (take keep line) false))
+    by_test true c = λ p x. refl
+    by_test false true = λ p x. refl
+    by_test false false = λ p x. refl
 
   pub halted_say : place ≡ 1 → Says line (mem_view m) (mem_view m2) Halted
   halted_say at =
@@ -183,7 +190,7 @@ module _ (m m' : MemPlant) (wire member : ℕ) (bytes : List ℕ) (below : m.mom
     pub take_acts : (by : ℕ) (part : Part) → m.moment < top → (mem_view m).lost part ≡ false → Acts by part (mem_view m) (mem_view m') Done
     take_acts by part below_top whole =
         subst (λ (x : State). Acts by part (mem_view m) (view_of x) Done) (sym is)
-        (acts_done (state_of m) (in_full m below) m.lost_by_now by part (Passed false wire member bytes) waiting below_top whole)
+        (acts_done (state_of m) (in_full m below) m.lost_by_now by part (Passed false wire member bytes) waiting (λ place x. refl) below_top whole)
 
     pub done_take : (n : ℕ) (into : List ℕ) → n ≤ length ((state_of m).waiting wire) → take n into ≡ take n ((state_of m).waiting wire) → bytes ≡ take n ((state_of m).waiting wire) → waiting wire ≡ drop n ((state_of m).waiting wire)
         → ((w : ℕ) → w ≢ wire → waiting w ≡ (state_of m).waiting w) → (n ≡ 0 → ((state_of m).waiting wire ≡ []) ⊎ (into ≡ [])) → Takes wire member (mem_view m) (mem_view m') into (TookBytes n)
@@ -266,3 +273,15 @@ module _ (m m' : MemPlant) (small : m.moment ≤ top) where
   lost_there dev few is =
       subst (λ (x : State). LosesThere dev (mem_view m) (view_of x)) (sym is)
       (loses_there m.kept.acts (state_of m) dev small short m.lost_by_now (omega (arith, few, m.counts.parts_len)))
+
+-- another device in a device's place
+module _ (m m' : MemPlant) (dev : Dev) (below : m.moment < m.kept.acts) (few : slot_of dev < 258) (is : state_of m' ≡ renewed (state_of m) dev) where
+  pub done_renewal : m.moment < top → Renews dev (mem_view m) (mem_view m') Done
+  done_renewal below_top =
+      subst (λ (x : State). Renews dev (mem_view m) (view_of x) Done) (sym is)
+      (renewed_acts (state_of m) (in_full m below) m.lost_by_now dev few (omega (arith, few, m.counts.parts_len)) below_top)
+
+  pub done_renewal_there : RenewsThere dev (mem_view m) (mem_view m') Done
+  done_renewal_there =
+      subst (λ (x : State). RenewsThere dev (mem_view m) (view_of x) Done) (sym is)
+      (renewed_there (state_of m) (in_full m below) m.lost_by_now dev few (omega (arith, few, m.counts.parts_len)))

@@ -2,12 +2,10 @@
 use Rattle.std.proofs.Common.{◌≡◌, inr, ℕ, zero, suc, ◌+◌, ◌-◌, ◌≤◌, ◌<◌, Bool, true, false, if◌then◌else◌, List, [], ◌∷◌, ◌++◌, length, take, drop, get_or, refl, subst, sym, ◌∙◌, ap, arith, length-append}
 use Rattle.std.proofs.lemmas.List.{drop_all, take_more, drop-drop, drop-append-le, length-take-le, take-append-drop}
 use Rattle.spool_disk.specs.declared.entry.Entry.{Entry}
-use Rattle.spool_disk.specs.declared.entry.Entry.TheVariants.{Idle as EntryIdle, Wrote as EntryWrote, Synced as EntrySynced, Said as EntrySaid, Passed as EntryPassed, Fetched as EntryFetched}
 use Rattle.spool_disk.specs.View.{Disk, slice}
 use Rattle.spool_disk.specs.Deeds.{Deed, effect, after, gather, lines_of, line_on}
 use Rattle.spool_disk.specs.DeedLaws.{after_push, gather_append}
 use Rattle.spool_disk.specs.Entries.{kept_by, kept_in, deed_of, deeds_of}
-use Rattle.std.proofs.lemmas.Bool.Decides.{nat_tests}
 use Rattle.spool_disk.specs.Settled.{is_sync, IsQuiet, EndsSynced}
 use Rattle.spool_disk.proofs.Entering.{kept_push, deeds_push}
 
@@ -71,17 +69,9 @@ quiet_at slot i [] none quiet below = absurd (omega arith)
 quiet_at slot zero (e ∷ es) none quiet below = quiet.0
 quiet_at slot (suc i) (e ∷ es) none quiet below = quiet_at slot i es none quiet.1 (omega arith)
 
-sync_is : (slot : ℕ) (e : Entry) → is_sync slot e ≡ true → e ≡ EntrySynced slot
-sync_is slot EntryIdle is = absurd (cc)
-sync_is slot (EntryWrote s at len kept) is = absurd (cc)
-sync_is slot (EntrySynced s) is = let same : s ≡ slot = grind (arith, nat_tests) in ap EntrySynced same
-sync_is slot (EntrySaid place kept whole) is = absurd (cc)
-sync_is slot (EntryPassed given wire member kept) is = absurd (cc)
-sync_is slot (EntryFetched s) is = absurd (cc)
-
 module _ (slot : ℕ) (log : List Entry) (i : ℕ) (none : Entry) (below : i < length log) where
   pub ends_here : is_sync slot (get_or log i none) ≡ true → EndsSynced slot (take (i + 1) log)
-  ends_here is = inr (take i log, take_more log i none below ∙ ap (λ (x : Entry). take i log ++ x ∷ []) (sync_is slot (get_or log i none) is))
+  ends_here is = inr (take i log, (get_or log i none, (is, take_more log i none below)))
 
   pub quiet_here : IsQuiet slot (drop (i + 1) (take (i + 1) log))
   quiet_here = subst (IsQuiet slot) (sym (drop_none (i + 1) (take (i + 1) log) (omega (arith, length-take-le (i + 1) log (omega arith))))) tt where

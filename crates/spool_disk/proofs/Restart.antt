@@ -1,5 +1,5 @@
 -- A plant begun anew, and after a crash.
-use Rattle.std.proofs.Common.{subst, ◌≡◌, ◌⊎◌, inl, inr, ⊎_elim, ℕ, suc, zero, ◌+◌, ◌*◌, ◌≤◌, ◌<◌, nat_le, Bool, true, false, if◌then◌else◌, Some, None, is_some, List, [], ◌∷◌, ◌++◌, length, take, slice_index, map, replicate, Vec, refl, sym, ◌∙◌, ap, arith}
+use Rattle.std.proofs.Common.{subst, ◌≡◌, ◌⊎◌, inl, inr, ⊎_elim, ℕ, suc, zero, ◌+◌, ◌*◌, ◌≤◌, ◌<◌, nat_le, Bool, true, false, if◌then◌else◌, Some, None, is_some, List, [], ◌∷◌, ◌++◌, length, take, drop, slice_index, map, replicate, Vec, refl, sym, ◌∙◌, ap, arith}
 use Rattle.std.proofs.lemmas.Bool.Decides.{nat_tests}
 use Rattle.std.specs.declared.alloc.Global.{Global}
 use Rattle.spool_disk.specs.declared.base.Base.{Base}
@@ -14,6 +14,7 @@ use Rattle.spool_disk.specs.Sizes.{size_in}
 use Rattle.spool_disk.specs.Deeds.{Deed, after, gather, line_on, lines_of, moved}
 use Rattle.spool_disk.specs.Entries.{deeds_of}
 use Rattle.spool_disk.specs.Health.{sound, health_at, was_lost, since_of}
+use Rattle.spool_disk.specs.Renewals.{since_then}
 use Rattle.spool_disk.specs.Places.{slot_of, place_of}
 use Rattle.spool_disk.specs.State.{State, shown, disk_in, first_lines, lines_in, view_of}
 use Rattle.spool_disk.specs.Begins.{BeginsWith, IsBlank, restarted}
@@ -97,6 +98,7 @@ module _ (base : Base) (parts : List Health) (s : State) (now : s.now ≡ 0) (ba
   first_disk : (slot : ℕ) → disk_in s s.now slot ≡ shown (fresh base slot) (was_lost (health_at parts (4 * slot)).since 0)
   first_disk slot =
       ap (λ (n : ℕ). disk_in s n slot) now
+      ∙ ap (λ (l : List Deed). shown (after slot (fresh s.base slot) (take 0 s.deeds)) (was_lost (since_then (4 * slot) (drop 0 l) (health_at s.parts (4 * slot)).since) 0)) deeds
       ∙ ap (λ (l : List Deed). shown (after slot (fresh s.base slot) (take 0 l)) (was_lost (health_at s.parts (4 * slot)).since 0)) deeds
       ∙ ap (λ b. shown (fresh b slot) (was_lost (health_at s.parts (4 * slot)).since 0)) based
       ∙ ap (λ (l : List Health). shown (fresh base slot) (was_lost (health_at l (4 * slot)).since 0)) part

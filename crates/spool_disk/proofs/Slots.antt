@@ -1,5 +1,5 @@
 -- The bytes at a slot.
-use Rattle.std.proofs.Common.{◌≡◌, ℕ, ◌+◌, ◌<◌, ◌==◌, Bool, true, false, if◌then◌else◌, List, [], ◌∷◌, ◌++◌, ◌⊎◌, inl, inr, ⊎_elim, nat_le, ◌≤◌, length, length-append, get_or, set, Vec, suc, zero, refl, subst, sym, ◌∙◌, ap, arith}
+use Rattle.std.proofs.Common.{◌≡◌, ℕ, ◌+◌, ◌<◌, ◌==◌, Bool, true, false, if◌then◌else◌, List, [], ◌∷◌, ◌++◌, ◌⊎◌, inl, inr, ⊎_elim, nat_le, ◌≤◌, length, replicate, length-append, get_or, set, Vec, suc, zero, refl, subst, sym, ◌∙◌, ap, arith}
 use Rattle.std.specs.Prelude.{Result, Ok, Err, is_ok, IfOk, IfErr}
 use Rattle.std.specs.declared.alloc.AllocError.{AllocError}
 use Rattle.std.specs.declared.alloc.Global.{Global}
@@ -31,6 +31,15 @@ after_put vs slot at bytes d w lt was is s = by_test (slot == s) refl where
   by_test true e =
       let same : slot ≡ s = grind (arith, nat_tests) in
       subst (λ (k : ℕ). bytes_at (set vs slot w) k ≡ overwrite at bytes (bytes_at vs k)) same (at_set_same vs slot w lt ∙ is ∙ ap (overwrite at bytes) was)
+  by_test false e = at_set_other vs slot s w (λ same. let f : (slot == slot) ≡ false = subst (λ (k : ℕ). (slot == k) ≡ false) same e in grind (arith, nat_tests))
+
+pub after_clear : (vs : List (Vec ℕ Global)) (slot : ℕ) (d w : Vec ℕ Global) → slot < length vs → d.items ≡ bytes_at vs slot → w.items ≡ replicate (length d.items) 0
+    → (s : ℕ) → bytes_at (set vs slot w) s ≡ (if slot == s then replicate (length (bytes_at vs s)) 0 else bytes_at vs s)
+after_clear vs slot d w lt was is s = by_test (slot == s) refl where
+  by_test : (b : Bool) → (slot == s) ≡ b → bytes_at (set vs slot w) s ≡ (if b then replicate (length (bytes_at vs s)) 0 else bytes_at vs s)
+  by_test true e =
+      let same : slot ≡ s = grind (arith, nat_tests) in
+      subst (λ (k : ℕ). bytes_at (set vs slot w) k ≡ replicate (length (bytes_at vs k)) 0) same (at_set_same vs slot w lt ∙ is ∙ ap (λ (l : List ℕ). replicate (length l) 0) was)
   by_test false e = at_set_other vs slot s w (λ same. let f : (slot == slot) ≡ false = subst (λ (k : ℕ). (slot == k) ≡ false) same e in grind (arith, nat_tests))
 
 -- one device more

@@ -1,5 +1,5 @@
 -- What an act does to what a plant shows.
-use Rattle.std.specs.Prelude.{◌≡◌, ◌≢◌, ◌⊎◌, ℕ, ◌+◌, ◌-◌, ◌≤◌, ◌<◌, ◌^◌, min, true, false, List, [], ◌∷◌, ◌++◌, length, take, drop}
+use Rattle.std.specs.Prelude.{◌≡◌, ◌≢◌, ◌⊎◌, ℕ, ◌+◌, ◌-◌, ◌≤◌, ◌<◌, ◌^◌, min, true, false, List, [], ◌∷◌, ◌++◌, length, take, drop, replicate}
 use Rattle.mas_types.specs.declared.ids.Dev.{Dev}
 use Rattle.spool_disk.specs.declared.plant.Part.{Part}
 use Rattle.spool_disk.specs.declared.plant.Part.TheVariants.{Disk as DiskPart}
@@ -187,6 +187,34 @@ pub record Takes (wire member : ℕ) (old new : View) (into : List ℕ) (result 
   pub disks : (d : Dev) → disk_now new d ≡ disk_now old d
   pub console : (new.world new.now).console ≡ (old.world old.now).console
   pub paper : SamePaper old new
+
+-- What renewing a device does, by whatever hand, with this answer: the operator's, who never halts.
+pub record Renews (dev : Dev) (old new : View) (result : Act) : Type 0 where
+  pub time : new.now ≡ next old.now
+  pub later : old.now ≤ new.now
+  pub past : (t : ℕ) → t ≤ old.now → new.world t ≡ old.world t
+  pub size : (d : Dev) → new.size d ≡ old.size d
+  pub faults : (p : Part) → old.faults p ≤ new.faults p
+  pub failed : result ≡ Failed → Rose (old.faults (DiskPart dev)) (new.faults (DiskPart dev))
+  pub is_lost : result ≡ Failed → new.lost (DiskPart dev) ≡ true
+  pub is_there : result ≡ Done → new.lost (DiskPart dev) ≡ false
+  pub else_lost : (p : Part) → p ≢ DiskPart dev → new.lost p ≡ old.lost p
+  pub no_halt : result ≢ Halted
+  pub stops : (m : ℕ) → new.stops m ≡ old.stops m
+  pub last : old.now ≡ top → result ≡ Failed
+  pub loses : (d : Dev) → new.loses d ≡ old.loses d
+  pub arms : (m : ℕ) → new.arms m ≡ old.arms m
+
+-- a device of so many bytes after a renewal: another one of zeros, which isn't lost
+abbrev pub Renewed : ℕ → Disk → Disk → Act → Type 0
+Renewed size old new Done = (new.bytes ≡ replicate size 0) × (new.unsynced ≡ []) × (new.lost ≡ false)
+Renewed size old new Failed = Untouched old new
+Renewed size old new Halted = new ≡ old
+
+pub record RenewsThere (dev : Dev) (old new : View) (result : Act) : Type 0 where
+  pub disk : Renewed (old.size dev) (disk_now old dev) (disk_now new dev) result
+  pub lost : IsLostAfter dev old new result
+  pub only : OnDevice dev old new
 
 -- A stop of a member is armed: nothing that the plant shows changes but the count of such calls.
 pub record Arms (member : ℕ) (old new : View) : Type 0 where

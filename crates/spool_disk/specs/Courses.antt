@@ -1,5 +1,5 @@
 -- What is planned of acts, and what becomes of them.
-use Rattle.std.specs.Prelude.{ℕ, ◌-◌, ◌/◌, min, nat_lt, nat_le, ◌==◌, ◌&&◌, if◌then◌else◌, Bool, true, false, List, [], ◌∷◌, ◌++◌, length, take, Option, Some, None, option_map, find}
+use Rattle.std.specs.Prelude.{ℕ, ◌-◌, ◌/◌, min, nat_lt, nat_le, ◌==◌, ◌&&◌, not, if◌then◌else◌, Bool, true, false, List, [], ◌∷◌, ◌++◌, length, take, Option, Some, None, option_map, find}
 use Rattle.spool_disk.specs.declared.plan.Plan.{Plan}
 use Rattle.spool_disk.specs.declared.plan.Planned.{Planned}
 use Rattle.spool_disk.specs.declared.plan.Planned.TheVariants.{Fails, Halts}
@@ -52,6 +52,16 @@ is_print (Wire n) = false
 abbrev pub course_of : Book → View → ℕ → Part → ℕ → Course
 course_of book v by part len =
     if nat_lt v.now book.acts && nat_le len book.left then as_planned (plan_at book.plans v.now) (halts_next book.armed by (is_print part)) len by (v.lost part) else Fail
+
+-- a planned act fails
+abbrev pub is_fault : Option Planned → Bool
+is_fault None = false
+is_fault (Some Fails) = true
+is_fault (Some (Halts keep)) = false
+
+-- a renewal is done where it fits and no fault is planned. Nobody makes it, so a plan to halt is passed over
+abbrev pub renews_now : Book → View → Bool
+renews_now book v = nat_lt v.now book.acts && not (is_fault (plan_at book.plans v.now))
 
 -- a member has made an act on a part
 abbrev pub acted : ℕ → Part → Book → Book

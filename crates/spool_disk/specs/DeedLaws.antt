@@ -1,9 +1,10 @@
 -- Laws of what acts come to.
-use Rattle.std.proofs.Common.{◌≡◌, ℕ, ◌+◌, ◌≤◌, ◌==◌, Bool, true, false, if◌then◌else◌, List, [], ◌∷◌, ◌++◌, length, take, drop, append_assoc, refl, sym, ◌∙◌, ap, arith, nat_le}
+use Rattle.std.proofs.Common.{◌≡◌, ℕ, ◌+◌, ◌≤◌, ◌==◌, Bool, true, false, if◌then◌else◌, List, [], ◌∷◌, ◌++◌, length, take, drop, replicate, append_assoc, refl, sym, ◌∙◌, ap, arith, nat_le}
+use Rattle.std.proofs.lemmas.List.{length-replicate}
 use Rattle.std.proofs.lemmas.Bool.Decides.{nat_tests}
 use Rattle.std.proofs.lemmas.Grind.{common_steps}
 use Rattle.spool_disk.specs.View.{Disk}
-use Rattle.spool_disk.specs.Deeds.{Deed, Idle, Wrote, Synced, Said, Passed, Fetched, overwrite, effect, after, gather}
+use Rattle.spool_disk.specs.Deeds.{Deed, Idle, Wrote, Synced, Said, Passed, Fetched, Renewed, overwrite, effect, after, gather}
 
 pub after_push : (slot : ℕ) (d : Disk) (es : List Deed) (e : Deed) → after slot d (es ++ e ∷ []) ≡ effect slot (after slot d es) e
 after_push slot d [] e = refl
@@ -32,6 +33,10 @@ length-effect slot d (Synced s) = by_test (s == slot) where
 length-effect slot d (Said place text whole) = refl
 length-effect slot d (Passed given wire member bytes) = refl
 length-effect slot d (Fetched s) = refl
+length-effect slot d (Renewed s since) = by_test (s == slot) where
+  by_test : (b : Bool) → length (if b then record { bytes = replicate (length d.bytes) 0; unsynced = []; lost = d.lost } else d).bytes ≡ length d.bytes
+  by_test true = length-replicate (length d.bytes) 0
+  by_test false = refl
 
 pub length-after : (slot : ℕ) (d : Disk) (es : List Deed) → length (after slot d es).bytes ≡ length d.bytes
 length-after slot d [] = refl

@@ -1,9 +1,10 @@
 -- What acts come to.
-use Rattle.std.specs.Prelude.{ℕ, ◌+◌, nat_le, nat_lt, ◌==◌, ◌&&◌, not, if◌then◌else◌, Bool, true, false, List, [], ◌∷◌, ◌++◌, length, take, drop}
+use Rattle.std.specs.Prelude.{ℕ, ◌+◌, nat_le, nat_lt, ◌==◌, ◌&&◌, not, if◌then◌else◌, Bool, true, false, List, [], ◌∷◌, ◌++◌, length, take, drop, replicate, Option}
 use Rattle.spool_disk.specs.View.{Disk, Line}
 
 -- An act that a plant recorded. A write has a stretch of a slot, and the bytes that came there; a line has the place of the
--- console or printer that it stands on; bytes on a wire were given or taken by a member.
+-- console or printer that it stands on; bytes on a wire were given or taken by a member. A
+-- renewed device was lost since a moment, or wasn't.
 pub data Deed : Type 0 where
   Idle : Deed
   Wrote : (slot at len : ℕ) (bytes : List ℕ) → Deed
@@ -11,6 +12,7 @@ pub data Deed : Type 0 where
   Said : (place : ℕ) (text : List ℕ) (whole : Bool) → Deed
   Passed : (given : Bool) (wire member : ℕ) (bytes : List ℕ) → Deed
   Fetched : (slot : ℕ) → Deed
+  Renewed : (slot : ℕ) (since : Option ℕ) → Deed
 
 -- these bytes put over what is there, if they fit
 abbrev pub overwrite : ℕ → List ℕ → List ℕ → List ℕ
@@ -25,6 +27,7 @@ effect slot d (Synced s) = if s == slot then record { bytes = d.bytes; unsynced 
 effect slot d (Said place text whole) = d
 effect slot d (Passed given wire member bytes) = d
 effect slot d (Fetched s) = d
+effect slot d (Renewed s since) = if s == slot then record { bytes = replicate (length d.bytes) 0; unsynced = []; lost = d.lost } else d
 
 -- and after all of them
 abbrev pub after : ℕ → Disk → List Deed → Disk
@@ -44,6 +47,7 @@ line_on place (Synced s) = []
 line_on place (Said p text whole) = if p == place then record { text = text; whole = whole } ∷ [] else []
 line_on place (Passed given wire member bytes) = []
 line_on place (Fetched s) = []
+line_on place (Renewed s since) = []
 
 -- the lines that stand on a place
 abbrev pub lines_of : ℕ → List Deed → List Line
@@ -61,6 +65,7 @@ moved side wire member (Synced s) = []
 moved side wire member (Said p text whole) = []
 moved side wire member (Passed given w m bytes) = if same_side side given && (w == wire && m == member) then bytes else []
 moved side wire member (Fetched s) = []
+moved side wire member (Renewed s since) = []
 
 -- and the bytes that an act of anybody gives on it
 abbrev pub gives : ℕ → Deed → List ℕ
@@ -70,6 +75,7 @@ gives wire (Synced s) = []
 gives wire (Said p text whole) = []
 gives wire (Passed given w m bytes) = if given && w == wire then bytes else []
 gives wire (Fetched s) = []
+gives wire (Renewed s since) = []
 
 -- an act is a read of a slot
 abbrev pub is_read : ℕ → Deed → Bool
@@ -79,6 +85,7 @@ is_read slot (Synced s) = false
 is_read slot (Said p text whole) = false
 is_read slot (Passed given w m bytes) = false
 is_read slot (Fetched s) = s == slot
+is_read slot (Renewed s since) = false
 
 -- a moment passes, in which nothing is done. It is recorded where there is room
 abbrev pub idled : ℕ → List Deed → List Deed

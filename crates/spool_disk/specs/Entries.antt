@@ -1,8 +1,8 @@
 -- The entries of a record, and the acts that they stand for.
 use Rattle.std.specs.Prelude.{ℕ, ◌+◌, ◌==◌, max, Bool, false, List, [], ◌∷◌, take, drop}
 use Rattle.spool_disk.specs.declared.entry.Entry.{Entry}
-use Rattle.spool_disk.specs.declared.entry.Entry.TheVariants.{Idle as EntryIdle, Wrote as EntryWrote, Synced as EntrySynced, Said as EntrySaid, Passed as EntryPassed, Fetched as EntryFetched}
-use Rattle.spool_disk.specs.Deeds.{Deed, Idle, Wrote, Synced, Said, Passed, Fetched}
+use Rattle.spool_disk.specs.declared.entry.Entry.TheVariants.{Idle as EntryIdle, Wrote as EntryWrote, Synced as EntrySynced, Said as EntrySaid, Passed as EntryPassed, Fetched as EntryFetched, Renewed as EntryRenewed}
+use Rattle.spool_disk.specs.Deeds.{Deed, Idle, Wrote, Synced, Said, Passed, Fetched, Renewed}
 
 -- how many of the record's bytes are an entry's
 abbrev pub kept_by : Entry → ℕ
@@ -12,6 +12,7 @@ kept_by (EntrySynced slot) = 0
 kept_by (EntrySaid place kept whole) = kept
 kept_by (EntryPassed given wire member kept) = kept
 kept_by (EntryFetched slot) = 0
+kept_by (EntryRenewed slot since) = 0
 
 -- and how many are those of all entries
 abbrev pub kept_in : List Entry → ℕ
@@ -26,6 +27,7 @@ deed_of (EntrySynced slot) bytes = Synced slot
 deed_of (EntrySaid place kept whole) bytes = Said place bytes whole
 deed_of (EntryPassed given wire member kept) bytes = Passed given wire member bytes
 deed_of (EntryFetched slot) bytes = Fetched slot
+deed_of (EntryRenewed slot since) bytes = Renewed slot since
 
 -- the acts of a record
 abbrev pub deeds_of : List Entry → List ℕ → List Deed
@@ -40,3 +42,4 @@ reads_at slot (EntrySynced s) = false
 reads_at slot (EntrySaid place kept whole) = false
 reads_at slot (EntryPassed given wire member kept) = false
 reads_at slot (EntryFetched s) = s == slot
+reads_at slot (EntryRenewed s since) = false

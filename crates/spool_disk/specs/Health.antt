@@ -25,6 +25,10 @@ lost_after h now = record { faults = h.faults; since = lost_from h.since now; lo
 abbrev pub failed_after : Health → ℕ → Health
 failed_after h now = record { faults = next h.faults; since = lost_from h.since now; lost = true }
 
+-- a part that was put in another's place
+abbrev pub renewed_after : Health → Health
+renewed_after h = record { faults = h.faults; since = None; lost = false }
+
 -- the moment from which a part is lost, or 0
 abbrev pub since_of : Option ℕ → ℕ
 since_of None = 0

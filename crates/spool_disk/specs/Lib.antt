@@ -10,6 +10,8 @@ pub mod Added
 pub mod DeedLaws
 pub mod Places
 pub mod Fuses
+pub mod Renewals
+pub mod Known
 pub mod FuseView
 pub mod Waiting
 pub mod State

@@ -5,9 +5,8 @@ use Rattle.spool_disk.specs.declared.memory.MemPlant.{MemPlant}
 use Rattle.mas_types.specs.declared.ids.Dev.{Dev}
 use Rattle.spool_disk.specs.Deeds.{gather, gives, is_read}
 use Rattle.spool_disk.specs.Entries.{deeds_of}
-use Rattle.spool_disk.specs.Health.{health_at, was_lost}
 use Rattle.spool_disk.specs.Places.{slot_of, place_of}
-use Rattle.spool_disk.specs.State.{State, view_of}
+use Rattle.spool_disk.specs.State.{State, lost_in, view_of}
 use Rattle.spool_disk.specs.Courses.{Book}
 use Rattle.spool_disk.specs.FuseView.{armed_of}
 use Rattle.spool_disk.specs.View.{View}
@@ -33,7 +32,7 @@ mem_book m = record { acts = m.kept.acts; bytes = m.kept.room; left = m.kept.roo
 
 -- a part was lost by a moment
 abbrev pub mem_lost : MemPlant → ℕ → Part → Bool
-mem_lost m t part = was_lost (health_at m.counts.parts.items (place_of part)).since t
+mem_lost m t part = lost_in (state_of m) t (place_of part)
 
 -- how many reads of a device were done since a moment
 abbrev pub mem_reads : MemPlant → Dev → ℕ → ℕ

@@ -1,16 +1,17 @@
 -- What stands behind a plant in memory, and what it shows.
-use Rattle.std.specs.Prelude.{ℕ, ◌+◌, ◌*◌, Bool, List, [], ◌∷◌, ◌++◌, take, true, false, slice_index, slice_set}
+use Rattle.std.specs.Prelude.{ℕ, ◌+◌, ◌*◌, Bool, List, [], ◌∷◌, ◌++◌, take, drop, true, false, slice_index, slice_set}
 use Rattle.mas_types.specs.declared.ids.Dev.{Dev}
 use Rattle.spool_disk.specs.declared.base.Base.{Base}
 use Rattle.spool_disk.specs.declared.health.Health.{Health}
 use Rattle.spool_disk.specs.declared.plant.Part.{Part}
 use Rattle.spool_disk.specs.declared.plant.Part.TheVariants.{Disk as DiskPart}
 use Rattle.spool_disk.specs.Acts.{next}
-use Rattle.spool_disk.specs.Deeds.{Deed, after, gather, lines_of, moved, idled}
+use Rattle.spool_disk.specs.Deeds.{Deed, Renewed, after, gather, lines_of, moved, idled}
 use Rattle.spool_disk.specs.Entries.{deeds_of}
-use Rattle.spool_disk.specs.Health.{was_lost, health_at, lost_after, failed_after}
+use Rattle.spool_disk.specs.Health.{was_lost, health_at, lost_after, failed_after, renewed_after}
 use Rattle.spool_disk.specs.Kept.{fresh, size_at}
 use Rattle.spool_disk.specs.Places.{slot_of, place_of}
+use Rattle.spool_disk.specs.Renewals.{since_then}
 use Rattle.spool_disk.specs.View.{View, World, Disk, Line}
 
 pub record State : Type 0 where
@@ -27,8 +28,12 @@ pub record State : Type 0 where
 abbrev pub shown : Disk → Bool → Disk
 shown d lost = record { bytes = d.bytes; unsynced = d.unsynced; lost = lost }
 
+-- a part was lost by a moment, by its place
+abbrev pub lost_in : State → ℕ → ℕ → Bool
+lost_in s t place = was_lost (since_then place (drop t s.deeds) (health_at s.parts place).since) t
+
 abbrev pub disk_in : State → ℕ → ℕ → Disk
-disk_in s t slot = shown (after slot (fresh s.base slot) (take t s.deeds)) (was_lost (health_at s.parts (4 * slot)).since t)
+disk_in s t slot = shown (after slot (fresh s.base slot) (take t s.deeds)) (lost_in s t (4 * slot))
 
 -- the lines that a place held at first
 abbrev pub first_lines : Base → ℕ → List Line
@@ -90,6 +95,19 @@ lost acts s dev = record {
   parts = slice_set s.parts (place_of (DiskPart dev)) (lost_after (health_at s.parts (place_of (DiskPart dev))) s.now);
   stops = s.stops;
   loses = counted s.loses (slot_of dev);
+  arms = s.arms;
+  waiting = s.waiting;
+}
+
+-- a device was put in another's place
+abbrev pub renewed : State → Dev → State
+renewed s dev = record {
+  now = s.now + 1;
+  base = s.base;
+  deeds = s.deeds ++ Renewed (slot_of dev) (health_at s.parts (place_of (DiskPart dev))).since ∷ [];
+  parts = slice_set s.parts (place_of (DiskPart dev)) (renewed_after (health_at s.parts (place_of (DiskPart dev))));
+  stops = s.stops;
+  loses = s.loses;
   arms = s.arms;
   waiting = s.waiting;
 }

@@ -12,7 +12,7 @@ ghost use Rattle.spool_disk.specs.LeavesAt.{LeavesAt};
 use crate::base::Base;
 use crate::choice::Choice;
 use crate::entry::Entry;
-use crate::record::copy;
+use crate::record::{clear, copy};
 use std::alloc::{AllocError, Global};
 
 // Puts bytes over others, if they fit.
@@ -41,7 +41,7 @@ pub(crate) fn bytes_of(entry: &Entry) -> usize
     match *entry {
         Entry::Wrote(_, _, _, kept) | Entry::Said(_, kept, _) | Entry::Passed(_, _, _, kept) =>
             kept,
-        Entry::Idle | Entry::Synced(_) | Entry::Fetched(_) => 0,
+        Entry::Idle | Entry::Synced(_) | Entry::Fetched(_) | Entry::Renewed(_, _) => 0,
     }
 }
 
@@ -51,6 +51,7 @@ fn redo(entry: &Entry, bytes: &[u8], slot: usize, disk: &mut [u8])
 {
     match *entry {
         Entry::Wrote(place, at, _, _) if place == slot => over(disk, at, bytes),
+        Entry::Renewed(place, _) if place == slot => clear(disk),
         _ => {}
     }
 }
@@ -92,17 +93,17 @@ fn paint(log: &[Entry], slot: usize, image: &mut [u8])
     }
 }
 
-// The later place where an entry is a sync of a slot, and else the earlier one.
+// The later place where an entry is a sync of a slot or its renewal, and else the earlier one.
 fn latest(entry: &Entry, slot: usize, earlier: usize, later: usize) -> usize
     ensures { result ≡ (if is_sync slot entry.now then later else earlier) }
 {
     match *entry {
-        Entry::Synced(place) if place == slot => later,
+        Entry::Synced(place) | Entry::Renewed(place, _) if place == slot => later,
         _ => earlier,
     }
 }
 
-// How many entries there are up to the last sync of a slot.
+// How many entries there are up to the last sync of a slot, or its last renewal.
 fn last_sync(log: &[Entry], slot: usize) -> usize
     ensures within { result ≤ length log.now }
     ensures ends { EndsSynced slot (take result log.now) }

@@ -14,4 +14,6 @@ pub(crate) enum Entry {
     Passed(bool, u8, u8, usize),
     // A read of a slot.
     Fetched(usize),
+    // Another device in the place of a slot's, which was lost since a moment, if it was.
+    Renewed(usize, Option<u64>),
 }

@@ -1,9 +1,11 @@
 // What is known of each part, and counts.
-ghost use Rattle.std.specs.Prelude.{◌≡◌, ◌+◌, ◌*◌, ◌<◌, ◌≤◌, length, slice_set, slice_index, IfOk, map, replicate};
+ghost use Rattle.std.specs.Prelude.{◌≡◌, ◌+◌, ◌*◌, ◌<◌, ◌≤◌, ◌∷◌, [], ℕ, length, slice_set, slice_index, IfOk, map, replicate};
 ghost use Rattle.spool_disk.specs.Acts.{next, top};
 ghost use Rattle.spool_disk.specs.Begins.{restarted};
-ghost use Rattle.spool_disk.specs.Health.{sound, health_at, lost_from, lost_after, failed_after};
+ghost use Rattle.spool_disk.specs.Known.{known_health};
+ghost use Rattle.spool_disk.specs.Health.{sound, health_at, lost_from, lost_after, failed_after, renewed_after};
 
+use crate::entry::Entry;
 use crate::places::PLACES;
 use std::alloc::{AllocError, Global};
 
@@ -96,6 +98,18 @@ impl Counts {
         self.loses[slot] = self.loses[slot].saturating_add(1);
     }
 
+    /// Another device comes in the place of a slot's.
+    pub fn renew(&mut self, slot: usize)
+        requires { slot < 258 }
+        ensures parts { self.new.parts.items ≡ slice_set self.old.parts.items (4 * slot) (renewed_after (health_at self.old.parts.items (4 * slot))) }
+        ensures stops { self.new.stops.items ≡ self.old.stops.items }
+        ensures loses { self.new.loses.items ≡ self.old.loses.items }
+        ensures arms { self.new.arms.items ≡ self.old.arms.items }
+    {
+        let health = self.parts[4 * slot];
+        self.parts[4 * slot] = health.renewing();
+    }
+
     /// A stop of a member.
     pub fn stop(&mut self, by: usize)
         requires { by < 256 }
@@ -154,6 +168,17 @@ pub(crate) fn sound_parts(alloc: Global) -> Result<Vec<Health>, AllocError>
 }
 
 impl Health {
+    // The same part, which has another in its place.
+    fn renewing(self) -> Health
+        ensures { result ≡ renewed_after self }
+    {
+        Health {
+            faults: self.faults,
+            since: None,
+            lost: false,
+        }
+    }
+
     // The same part after a crash at a moment.
     fn restarting(self, t: u64) -> Health
         ensures { result ≡ restarted t self }
@@ -170,13 +195,53 @@ impl Health {
     }
 }
 
-// The parts after a crash at a moment.
-pub(crate) fn crashed_parts(
-    alloc: Global,
-    parts: &[Health],
-    t: u64,
-) -> Result<Vec<Health>, AllocError>
+// A part as it was known before an entry.
+fn forget(parts: &mut [Health], entry: &Entry)
+    requires { length parts.old ≡ 1032 }
+    ensures len { length parts.new ≡ 1032 }
+    ensures each { (place : ℕ) → health_at parts.new place ≡ known_health place (entry.now ∷ []) (health_at parts.old place) }
+{
+    match *entry {
+        Entry::Renewed(slot, since) if slot < 258 => parts[4 * slot].since = since,
+        _ => {}
+    }
+}
+
+// The parts as they were known before entries.
+fn forget_all(parts: &mut [Health], later: &[Entry])
+    requires { length parts.old ≡ 1032 }
+    ensures len { length parts.new ≡ 1032 }
+    ensures each { (place : ℕ) → health_at parts.new place ≡ known_health place later.now (health_at parts.old place) }
+{
+    for back in 0..later.len() {
+        forget(parts, &later[later.len() - 1 - back]);
+    }
+}
+
+fn copy_parts(alloc: Global, parts: &[Health]) -> Result<Vec<Health>, AllocError>
+    ensures { IfOk result (λ v. v.items ≡ parts.now) }
+{
+    parts.to_vec(alloc)
+}
+
+fn restarted_parts(alloc: Global, parts: &[Health], t: u64) -> Result<Vec<Health>, AllocError>
     ensures { IfOk result (λ v. v.items ≡ map (restarted t) parts.now) }
 {
     parts.iter().map(|part| part.restarting(t)).collect(alloc)
+}
+
+// The parts after a crash at a moment, behind which these entries stand.
+pub(crate) fn crashed_parts(
+    alloc: Global,
+    parts: &[Health],
+    later: &[Entry],
+    t: u64,
+) -> Result<Vec<Health>, AllocError>
+    requires { length parts.now ≡ 1032 }
+    ensures len { IfOk result (λ v. length v.items ≡ 1032) }
+    ensures each { IfOk result (λ v. (place : ℕ) → health_at v.items place ≡ restarted t (known_health place later.now (health_at parts.now place))) }
+{
+    let mut then = copy_parts(alloc, parts)?;
+    forget_all(&mut then, later);
+    restarted_parts(alloc, &then, t)
 }

@@ -1,5 +1,5 @@
 // A plant in memory, which keeps a record of all acts.
-ghost use Rattle.std.specs.Prelude.{◌≡◌, ◌+◌, ◌-◌, ◌≤◌, ◌<◌, ◌∷◌, ◌++◌, ℕ, length, min, slice_index, false, true, is_some, take, vec_capacity, IfOk, IfErr};
+ghost use Rattle.std.specs.Prelude.{◌≡◌, ◌+◌, ◌-◌, ◌≤◌, ◌<◌, ◌∷◌, ◌++◌, ℕ, length, min, slice_index, false, true, is_some, take, vec_capacity, IfOk, IfErr, if◌then◌else◌};
 ghost use Rattle.spool_disk.specs.Places.{slot_of, place_of};
 ghost use Rattle.spool_disk.specs.Acts.{next, top};
 ghost use Rattle.spool_disk.specs.Health.{health_at, since_of};
@@ -74,11 +74,11 @@ impl MemPlant {
     ghost use Rattle.spool_disk.specs.declared.plan.Course.TheVariants.{Go, Halt};
     ghost use Rattle.spool_disk.specs.MemView.{mem_view, mem_book, state_of};
     ghost use Rattle.spool_disk.specs.Deeds.{Idle, Wrote, Synced, Said, Passed, Fetched, idled};
-    ghost use Rattle.spool_disk.specs.State.{recorded, counted, failed, lost};
+    ghost use Rattle.spool_disk.specs.State.{recorded, counted, failed, lost, renewed};
     ghost use Rattle.spool_disk.specs.Acts.{Acts};
     ghost use Rattle.spool_disk.specs.Failing.{FailsAlone};
     ghost use Rattle.spool_disk.specs.declared.plant.Act.TheVariants.{Failed};
-    ghost use Rattle.spool_disk.specs.Courses.{spent};
+    ghost use Rattle.spool_disk.specs.Courses.{spent, renews_now};
 
     // What becomes of an act with so many bytes to record.
     fn course(&self, by: MemberId, part: Part, len: usize) -> Course
@@ -146,6 +146,29 @@ impl MemPlant {
     {
         self.kept.add_write(slot, at, len, bytes);
         self.moment += 1;
+    }
+
+    // Another device in a device's place.
+    fn note_renewal(&mut self, dev: Dev)
+        requires { self.old.moment < self.old.kept.acts }
+        ensures state { state_of self.new ≡ renewed (state_of self.old) dev }
+        ensures book { mem_book self.new ≡ mem_book self.old }
+        ensures few { slot_of dev < 258 }
+    {
+        let slot = slot_number(dev);
+        let since = self.counts.parts[4 * slot].since;
+        self.kept.add_renewal(slot, since);
+        self.counts.renew(slot);
+        self.moment += 1;
+    }
+
+    // A renewal that fits, and of which no fault is planned.
+    fn may_renew(&self) -> bool
+        ensures course { result ≡ renews_now (mem_book self.now) (mem_view self.now) }
+        ensures small { result ≡ true → (self.now.moment < self.now.kept.acts) × (self.now.moment < top) }
+    {
+        self.moment < self.kept.acts as u64
+            && !matches!(planned_at(&self.plans, self.moment), Some(Planned::Fails))
     }
 
     // Bytes given on a wire, or else taken from it.
@@ -338,9 +361,9 @@ impl MemPlant {
         ensures book { IfOk result (λ p. mem_book p ≡ empty_book (mem_book self.now).acts (mem_book self.now).bytes) }
     {
         let end = (t as usize).min(self.kept.log.len());
-        let (log, _) = self.kept.log.split_at(end);
+        let (log, later) = self.kept.log.split_at(end);
         let base = crashed_base(alloc, &self.kept.base, log, &self.kept.arena, choice)?;
-        let parts = crashed_parts(alloc, &self.counts.parts, t)?;
+        let parts = crashed_parts(alloc, &self.counts.parts, later, t)?;
         Ok(MemPlant::begin(alloc, base, parts, self.kept.acts, self.kept.room)?)
     }
 
@@ -404,11 +427,12 @@ impl Plant for MemPlant {
     ghost use Rattle.spool_disk.specs.MemView.{mem_view, mem_book, mem_reads};
     ghost use Rattle.spool_disk.specs.Took.{IsRead, IfTook};
     ghost use Rattle.spool_disk.specs.MemLaws.{mem_sized, mem_there};
-    ghost use Rattle.spool_disk.specs.Courses.{course_of, answer, spent_by, acted, left_of, with_stop};
-    ghost use Rattle.spool_disk.specs.Acts.{Acts, Reads, Writes, Syncs, Says, Prints, GivesOn, Takes, FitsInto, act_of, Arms, Loses, LosesThere};
+    ghost use Rattle.spool_disk.specs.Courses.{course_of, answer, spent_by, acted, left_of, with_stop, renews_now};
+    ghost use Rattle.spool_disk.specs.Acts.{Acts, Reads, Writes, Syncs, Says, Prints, GivesOn, Takes, FitsInto, act_of, Arms, Renews, RenewsThere, Loses, LosesThere};
     ghost use Rattle.spool_disk.specs.View.{View, disk_now, paper_now, given_now};
     ghost use Rattle.spool_disk.specs.Deeds.{overwrite};
     ghost use Rattle.spool_disk.specs.declared.plan.Course.TheVariants.{Go, Fail, Halt};
+    ghost use Rattle.spool_disk.specs.declared.plant.Act.TheVariants.{Done, Failed};
     ghost use Rattle.spool_disk.specs.declared.plant.Part.TheVariants.{Disk, Console, Printer, Wire};
 
     ghost tells = { Unit {0} };
@@ -633,6 +657,21 @@ impl Plant for MemPlant {
     {
         self.counts.arm(member.0 as usize);
         self.fuses.arm(member, fuse, n);
+    }
+
+    fn renew(&mut self, dev: Dev) -> Act
+        ensures acts { Renews dev (mem_view self.old) (mem_view self.new) result }
+        ensures content { RenewsThere dev (mem_view self.old) (mem_view self.new) result }
+        ensures course { result ≡ (if renews_now (mem_book self.old) (mem_view self.old) then Done else Failed) }
+        ensures book { mem_book self.new ≡ mem_book self.old }
+    {
+        if self.may_renew() {
+            self.note_renewal(dev);
+            Act::Done
+        } else {
+            self.fail(Part::Disk(dev));
+            Act::Failed
+        }
     }
 
     fn lose(&mut self, dev: Dev)

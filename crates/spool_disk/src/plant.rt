@@ -3,7 +3,7 @@ ghost use Rattle.std.specs.Prelude.{◌≡◌, ◌+◌, ◌≤◌, length, IsTru
 ghost use Rattle.std.specs.Prelude.{ℕ, false};
 ghost use Rattle.mas_types.specs.declared.ids.Dev.{Dev};
 ghost use Rattle.spool_disk.specs.View.{View, disk_at, disk_now};
-ghost use Rattle.spool_disk.specs.Acts.{Acts, Reads, Writes, Syncs, Says, Prints, GivesOn, Takes, FitsInto, act_of, Arms, Loses, LosesThere};
+ghost use Rattle.spool_disk.specs.Acts.{Acts, Reads, Writes, Syncs, Says, Prints, GivesOn, Takes, FitsInto, act_of, Arms, Renews, RenewsThere, Loses, LosesThere};
 ghost use Rattle.spool_disk.specs.declared.plant.Part.TheVariants.{Disk, Console, Printer, Wire};
 
 use mas_types::{Dev, MemberId};
@@ -119,6 +119,11 @@ pub trait Plant {
     /// members. An `n` of 0 arms nothing. It is no act, and the operator never halts.
     fn arm(&mut self, member: MemberId, fuse: Fuse, n: u32)
         ensures { Arms member.0 (view self.old) (view self.new) };
+
+    /// Puts a device of zeros in a device's place, whether that was lost or not. Nobody makes it, so it never halts.
+    fn renew(&mut self, dev: Dev) -> Act
+        ensures acts { Renews dev (view self.old) (view self.new) result }
+        ensures content { tells → RenewsThere dev (view self.old) (view self.new) result };
 
     /// Loses a device. No fault is counted.
     fn lose(&mut self, dev: Dev)

@@ -1,6 +1,6 @@
 // A record of acts, and the bytes that they come to.
-ghost use Rattle.std.specs.Prelude.{◌≡◌, ◌+◌, ◌≤◌, ◌<◌, ◌++◌, ◌∷◌, [], ◌==◌, ℕ, length, IfOk, vec_len, vec_capacity, if◌then◌else◌, nat_lt};
-ghost use Rattle.spool_disk.specs.Deeds.{Idle, Wrote, Synced, Said, Passed, Fetched, overwrite, after, idled};
+ghost use Rattle.std.specs.Prelude.{◌≡◌, ◌+◌, ◌≤◌, ◌<◌, ◌++◌, ◌∷◌, [], ◌==◌, ℕ, length, replicate, IfOk, vec_len, vec_capacity, if◌then◌else◌, nat_lt};
+ghost use Rattle.spool_disk.specs.Deeds.{Idle, Wrote, Synced, Said, Passed, Fetched, Renewed, overwrite, after, idled};
 ghost use Rattle.spool_disk.specs.Entries.{kept_by, kept_in, deed_of, deeds_of};
 ghost use Rattle.spool_disk.specs.Standing.{bytes_at};
 ghost use Rattle.spool_disk.specs.Kept.{AreCurrent, fresh, size_at};
@@ -27,6 +27,28 @@ fn put_at(disks: &mut Vec<Vec<u8>>, slot: usize, at: usize, bytes: &[u8])
 {
     let disk = &mut disks[slot];
     put_over(disk, at, bytes);
+}
+
+// Makes zeros of all bytes.
+pub(crate) fn clear(disk: &mut [u8])
+    ensures { disk.new ≡ replicate (length disk.old) 0 }
+{
+    disk.fill(0);
+}
+
+fn clear_all(disk: &mut Vec<u8>)
+    ensures { disk.new.items ≡ replicate (length disk.old.items) 0 }
+{
+    clear(disk);
+}
+
+fn clear_at(disks: &mut Vec<Vec<u8>>, slot: usize)
+    requires { slot < vec_len disks.old }
+    ensures len { vec_len disks.new ≡ vec_len disks.old }
+    ensures bytes { (s : ℕ) → bytes_at disks.new.items s ≡ (if slot == s then replicate (length (bytes_at disks.old.items s)) 0 else bytes_at disks.old.items s) }
+{
+    let disk = &mut disks[slot];
+    clear_all(disk);
 }
 
 fn copy_part(bytes: &[u8], at: usize, into: &mut [u8])
@@ -143,6 +165,21 @@ impl Record {
         ensures { Added (Fetched slot) 0 self.old self.new }
     {
         append(&mut self.log, &mut self.arena, Entry::Fetched(slot), &[]);
+    }
+
+    // Another device of zeros in the place of a slot's, which was lost since a moment, if it was.
+    pub(crate) fn add_renewal(&mut self, slot: usize, since: Option<u64>)
+        requires acts { length self.old.log.items < self.old.acts }
+        requires there { slot < 258 }
+        ensures { Added (Renewed slot since) 0 self.old self.new }
+    {
+        clear_at(&mut self.disks, slot);
+        append(
+            &mut self.log,
+            &mut self.arena,
+            Entry::Renewed(slot, since),
+            &[],
+        );
     }
 
     // A write of so many bytes, of which these came.

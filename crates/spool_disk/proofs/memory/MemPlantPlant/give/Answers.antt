@@ -1,4 +1,4 @@
-use Rattle.std.proofs.Common.{◌≡◌, ℕ, true, subst, take, ◌++◌}
+use Rattle.std.proofs.Common.{◌≡◌, ℕ, true, subst, take, ◌++◌, refl}
 use Rattle.spool_disk.specs.declared.plant.Part.TheVariants.{Wire}
 use Rattle.spool_disk.specs.Deeds.{Passed}
 use Rattle.spool_disk.specs.MemView.{mem_view}
@@ -17,7 +17,7 @@ returns-in-Halt-clause-kept c keep planned =
 pub returns-in-Go-clause-acts : goal.returns-in-Go-clause-acts
 returns-in-Go-clause-acts c =
     let go = c.course-course.ensures.go c.in-Go.is in
-    done_acts c.args.self.now c.note_passed.new.self (Passed true c.args.wire c.args.by.0 c.args.bytes.now) go.0 go.1 c.note_passed.ensures.state c.args.by.0 (Wire c.args.wire) go.3
+    done_acts c.args.self.now c.note_passed.new.self (Passed true c.args.wire c.args.by.0 c.args.bytes.now) go.0 go.1 c.note_passed.ensures.state (λ place x. refl) c.args.by.0 (Wire c.args.wire) go.3
 
 pub returns-in-Go-clause-content : goal.returns-in-Go-clause-content
 returns-in-Go-clause-content c =
@@ -27,7 +27,7 @@ returns-in-Go-clause-content c =
 pub returns-in-Halt-clause-acts : goal.returns-in-Halt-clause-acts
 returns-in-Halt-clause-acts c =
     let halt = c.course-course.ensures.halt c.in-Halt.keep c.in-Halt.is in
-    halted_acts c.args.self.now c.note_passed-in-Halt.new.self c.stop.new.self (Passed true c.args.wire c.args.by.0 c.first.result.now) c.args.by.0 halt.0 c.note_passed-in-Halt.ensures.state c.stop.ensures.state (Wire c.args.wire) halt.1 c.stop.ensures.fits c.stop.ensures.there halt.3
+    halted_acts c.args.self.now c.note_passed-in-Halt.new.self c.stop.new.self (Passed true c.args.wire c.args.by.0 c.first.result.now) c.args.by.0 halt.0 c.note_passed-in-Halt.ensures.state c.stop.ensures.state (λ place x. refl) (Wire c.args.wire) halt.1 c.stop.ensures.fits c.stop.ensures.there halt.3
 
 pub returns-in-Halt-clause-content : goal.returns-in-Halt-clause-content
 returns-in-Halt-clause-content c =

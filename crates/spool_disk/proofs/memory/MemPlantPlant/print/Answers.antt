@@ -1,10 +1,10 @@
-use Rattle.std.proofs.Common.{◌≡◌, ℕ, ◌+◌, ◌*◌, true, subst, ◌++◌}
+use Rattle.std.proofs.Common.{◌≡◌, ℕ, ◌+◌, ◌*◌, true, subst, ◌++◌, refl}
 use Rattle.spool_disk.specs.declared.plant.Part.TheVariants.{Printer}
 use Rattle.spool_disk.specs.Deeds.{Said}
 use Rattle.spool_disk.specs.Courses.{deed_left, left_of}
 use Rattle.spool_disk.specs.MemView.{mem_view}
 use Rattle.spool_disk.specs.View.{paper_now}
-use Rattle.spool_disk.proofs.MemActs.{done_acts, halted_acts, done_print, halted_print, halted_line}
+use Rattle.spool_disk.proofs.MemActs.{done_acts, halted_acts, done_print, halted_print, halted_line, left_keeps}
 use Rattle.spool_disk.proofs.Faults.{fails_print}
 use Rattle.spool_disk.proofs.memory.MemPlantPlant.print.Goals as goal
 
@@ -18,7 +18,7 @@ returns-in-Halt-clause-kept c keep planned =
 pub returns-in-Go-clause-acts : goal.returns-in-Go-clause-acts
 returns-in-Go-clause-acts c =
     let go = c.course-course.ensures.go c.in-Go.is in
-    done_acts c.args.self.now c.note_line.new.self (Said c.place_number-place.result c.args.line.now true) go.0 go.1 c.note_line.ensures.state c.args.by.0 (Printer c.args.by) go.3
+    done_acts c.args.self.now c.note_line.new.self (Said c.place_number-place.result c.args.line.now true) go.0 go.1 c.note_line.ensures.state (λ place x. refl) c.args.by.0 (Printer c.args.by) go.3
 
 pub returns-in-Go-clause-content : goal.returns-in-Go-clause-content
 returns-in-Go-clause-content c =
@@ -28,7 +28,7 @@ returns-in-Go-clause-content c =
 pub returns-in-Halt-clause-acts : goal.returns-in-Halt-clause-acts
 returns-in-Halt-clause-acts c =
     let halt = c.course-course.ensures.halt c.in-Halt.keep c.in-Halt.is in
-    halted_acts c.args.self.now c.note_part.new.self c.stop.new.self (deed_left c.place_number-place.result c.in-Halt.keep c.args.line.now) c.args.by.0 halt.0 c.note_part.ensures.state c.stop.ensures.state (Printer c.args.by) halt.1 c.stop.ensures.fits c.stop.ensures.there halt.3
+    halted_acts c.args.self.now c.note_part.new.self c.stop.new.self (deed_left c.place_number-place.result c.in-Halt.keep c.args.line.now) c.args.by.0 halt.0 c.note_part.ensures.state c.stop.ensures.state (left_keeps c.args.self.now c.note_part.new.self c.stop.new.self c.args.by.0 halt.0 c.place_number-place.result c.in-Halt.keep c.args.line.now c.note_part.ensures.state c.stop.ensures.state) (Printer c.args.by) halt.1 c.stop.ensures.fits c.stop.ensures.there halt.3
 
 pub returns-in-Halt-clause-content : goal.returns-in-Halt-clause-content
 returns-in-Halt-clause-content c =

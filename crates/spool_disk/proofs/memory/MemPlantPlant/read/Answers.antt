@@ -1,4 +1,4 @@
-use Rattle.std.proofs.Common.{length, ◌≤◌, ◌==◌, ◌∙◌, ap, arith, ℕ, drop, filter, subst, sym, ◌+◌}
+use Rattle.std.proofs.Common.{length, ◌≤◌, ◌==◌, ◌∙◌, ap, arith, ℕ, drop, filter, subst, sym, ◌+◌, refl}
 use Rattle.spool_disk.specs.Kept.{size_at}
 use Rattle.spool_disk.specs.declared.plant.Part.TheVariants.{Disk as DiskPart}
 use Rattle.spool_disk.specs.Deeds.{Idle, Fetched, is_read}
@@ -18,7 +18,7 @@ read-requires-clause-within c =
 pub returns-in-Go-clause-acts : goal.returns-in-Go-clause-acts
 returns-in-Go-clause-acts c =
     let go = c.course-course.ensures.go c.in-Go.is in
-    done_acts c.args.self.now c.note_read.new.self (Fetched c.slot_number-slot.result) go.0 go.1 c.note_read.ensures.state c.args.by.0 (DiskPart c.args.dev) go.3
+    done_acts c.args.self.now c.note_read.new.self (Fetched c.slot_number-slot.result) go.0 go.1 c.note_read.ensures.state (λ place x. refl) c.args.by.0 (DiskPart c.args.dev) go.3
 
 pub returns-in-Go-clause-content : goal.returns-in-Go-clause-content
 returns-in-Go-clause-content c =
@@ -28,7 +28,7 @@ returns-in-Go-clause-content c =
 pub returns-in-Halt-clause-acts : goal.returns-in-Halt-clause-acts
 returns-in-Halt-clause-acts c =
     let halt = c.course-course.ensures.halt c.in-Halt.field-0 c.in-Halt.is in
-    halted_acts c.args.self.now c.note_idle.new.self c.stop.new.self (Idle) c.args.by.0 halt.0 c.note_idle.ensures.state c.stop.ensures.state (DiskPart c.args.dev) halt.1 c.stop.ensures.fits c.stop.ensures.there halt.3
+    halted_acts c.args.self.now c.note_idle.new.self c.stop.new.self (Idle) c.args.by.0 halt.0 c.note_idle.ensures.state c.stop.ensures.state (λ place x. refl) (DiskPart c.args.dev) halt.1 c.stop.ensures.fits c.stop.ensures.there halt.3
 
 pub returns-in-Halt-clause-content : goal.returns-in-Halt-clause-content
 returns-in-Halt-clause-content c =

@@ -1,4 +1,4 @@
-use Rattle.std.proofs.Common.{arith, sym, ◌∙◌, ap, ◌≡◌, ◌++◌, ℕ, Bool, List, length, length-append, length-drop, take, drop, min, if◌then◌else◌}
+use Rattle.std.proofs.Common.{arith, sym, ◌∙◌, ap, ◌≡◌, ◌++◌, ℕ, Bool, List, length, length-append, length-drop, take, drop, min, if◌then◌else◌, refl}
 use Rattle.std.proofs.lemmas.List.{take_at, length-take-le}
 use Rattle.spool_disk.specs.declared.plant.Part.TheVariants.{Wire}
 use Rattle.spool_disk.specs.Deeds.{Idle}
@@ -35,7 +35,7 @@ returns-in-Go-clause-content c =
 pub returns-in-Halt-clause-acts : goal.returns-in-Halt-clause-acts
 returns-in-Halt-clause-acts c =
     let halt = c.course-course.ensures.halt c.in-Halt.field-0 c.in-Halt.is in
-    halted_acts c.args.self.now c.note_idle.new.self c.stop.new.self (Idle) c.args.by.0 halt.0 c.note_idle.ensures.state c.stop.ensures.state (Wire c.args.wire) halt.1 c.stop.ensures.fits c.stop.ensures.there halt.3
+    halted_acts c.args.self.now c.note_idle.new.self c.stop.new.self (Idle) c.args.by.0 halt.0 c.note_idle.ensures.state c.stop.ensures.state (λ place x. refl) (Wire c.args.wire) halt.1 c.stop.ensures.fits c.stop.ensures.there halt.3
 
 pub returns-in-Halt-clause-content : goal.returns-in-Halt-clause-content
 returns-in-Halt-clause-content c =

@@ -1,4 +1,4 @@
-use Rattle.std.proofs.Common.{arith, length, ◌≡◌, ◌≤◌, ap, List, ℕ, subst, sym, ◌+◌, take}
+use Rattle.std.proofs.Common.{arith, length, ◌≡◌, ◌≤◌, ap, List, ℕ, subst, sym, ◌+◌, take, refl}
 use Rattle.std.proofs.lemmas.List.{length-take}
 use Rattle.spool_disk.specs.Kept.{size_at}
 use Rattle.spool_disk.specs.View.{disk_now}
@@ -28,7 +28,7 @@ returns-in-Halt-clause-kept c keep planned =
 pub returns-in-Go-clause-acts : goal.returns-in-Go-clause-acts
 returns-in-Go-clause-acts c =
     let go = c.course-course.ensures.go c.in-Go.is in
-    done_acts c.args.self.now c.note_write.new.self (Wrote c.slot_number.result c.args.at (length c.args.bytes.now) c.args.bytes.now) go.0 go.1 c.note_write.ensures.state c.args.by.0 (DiskPart c.args.dev) go.3
+    done_acts c.args.self.now c.note_write.new.self (Wrote c.slot_number.result c.args.at (length c.args.bytes.now) c.args.bytes.now) go.0 go.1 c.note_write.ensures.state (λ place x. refl) c.args.by.0 (DiskPart c.args.dev) go.3
 
 pub returns-in-Go-clause-content : goal.returns-in-Go-clause-content
 returns-in-Go-clause-content c =
@@ -38,7 +38,7 @@ returns-in-Go-clause-content c =
 pub returns-in-Halt-clause-acts : goal.returns-in-Halt-clause-acts
 returns-in-Halt-clause-acts c =
     let halt = c.course-course.ensures.halt c.in-Halt.keep c.in-Halt.is in
-    halted_acts c.args.self.now c.note_write-in-Halt.new.self c.stop.new.self (Wrote c.slot_number-in-Halt.result c.args.at (length c.args.bytes.now) c.first-some.result.now) c.args.by.0 halt.0 c.note_write-in-Halt.ensures.state c.stop.ensures.state (DiskPart c.args.dev) halt.1 c.stop.ensures.fits c.stop.ensures.there halt.3
+    halted_acts c.args.self.now c.note_write-in-Halt.new.self c.stop.new.self (Wrote c.slot_number-in-Halt.result c.args.at (length c.args.bytes.now) c.first-some.result.now) c.args.by.0 halt.0 c.note_write-in-Halt.ensures.state c.stop.ensures.state (λ place x. refl) (DiskPart c.args.dev) halt.1 c.stop.ensures.fits c.stop.ensures.there halt.3
 
 pub returns-in-Halt-clause-content : goal.returns-in-Halt-clause-content
 returns-in-Halt-clause-content c =
