@@ -62,6 +62,11 @@ pub fn give(
     ends(rt, plant, act, wanted);
 }
 
+pub fn renew(rt: &impl Abort, plant: &mut MemPlant, dev: Dev, wanted: Act) {
+    let act = plant.renew(dev);
+    ends(rt, plant, act, wanted);
+}
+
 /// Takes up to four bytes from a wire.
 pub fn take(rt: &impl Abort, plant: &mut MemPlant, wire: u8, wanted: &[u8]) {
     let mut into = [0; 4];

@@ -1,5 +1,5 @@
 // Acts, plans, a record that is full, and crashes, with what they leave written out.
-use crate::acts::{OPERATOR, SIZES, SYSA, console, crash, plant, read, say, sync, write};
+use crate::acts::{OPERATOR, SIZES, SYSA, console, crash, plant, read, renew, say, sync, write};
 use mas_types::Dev;
 use spool_disk::{Act, Choice, MemPlant, Part, Plant};
 use std::test::Fail;
@@ -97,4 +97,38 @@ fn crashes_at_each_moment(rt: HostRuntime) -> Result<(), Fail> {
         &crash(&rt, alloc, &left, 1, Choice::Old)?,
         &["A", "B"],
     )
+}
+
+#[test]
+fn renews_a_device(rt: HostRuntime) -> Result<(), Fail> {
+    let alloc = rt.alloc();
+    let mut plant = plant(alloc)?;
+    plant.halt_at(3, 1);
+    plant.fail_at(5);
+    write(&rt, &mut plant, Dev::Ckpt1, 0, &[1, 2], Act::Done);
+    sync(&rt, &mut plant, SYSA, Dev::Ckpt1, Act::Done);
+    plant.lose(Dev::Ckpt1);
+    renew(&rt, &mut plant, Dev::Ckpt1, Act::Done);
+    assert!(rt; !plant.lost(Part::Disk(Dev::Ckpt1)));
+    read(&rt, &mut plant, Dev::Ckpt1, [0; 4]);
+    renew(&rt, &mut plant, Dev::Ckpt1, Act::Failed);
+    renew(&rt, &mut plant, Dev::Ckpt2, Act::Done);
+    assert!(rt; plant.now() == 7);
+    for (t, lost) in [(2, false), (3, true), (4, false), (6, true)] {
+        let left = crash(&rt, alloc, &plant, t, Choice::Old)?;
+        assert!(rt; left.lost(Part::Disk(Dev::Ckpt1)) == lost, "at {t}");
+    }
+    read(
+        &rt,
+        &mut crash(&rt, alloc, &plant, 2, Choice::Old)?,
+        Dev::Ckpt1,
+        [1, 2, 0, 0],
+    );
+    read(
+        &rt,
+        &mut crash(&rt, alloc, &plant, 4, Choice::Ones)?,
+        Dev::Ckpt1,
+        [0; 4],
+    );
+    Ok(())
 }

@@ -54,11 +54,27 @@ fn second_run(rt: &HostRuntime) -> Result<()> {
     Ok(())
 }
 
+fn third_run(rt: &HostRuntime) -> Result<()> {
+    let plant = FilePlant::open(*rt, rt.alloc(), FOLDER)?;
+    let mut fused = Fused::new(plant);
+    println!(rt;
+        "renewed {:?} {:?} {:?}",
+        fused.renew(Dev::Spool(1)),
+        fused.renew(Dev::Ckpt1),
+        fused.renew(Dev::Spool(9))
+    )?;
+    println!(rt; "lost {}", fused.lost(Part::Disk(Dev::Spool(1))))?;
+    println!(rt; "spool1 {:?}", read_back(&mut fused, Dev::Spool(1)))?;
+    println!(rt; "ckpt1 {:?}", read_back(&mut fused, Dev::Ckpt1))?;
+    Ok(())
+}
+
 fn main(rt: HostRuntime) -> Result<()> {
     let _ = fs::remove_dir_all(&rt, "trial");
     read_source(&rt)?;
     first_run(&rt)?;
     second_run(&rt)?;
+    third_run(&rt)?;
     let paper = fs::read_to_string(&rt, "trial/below/PRT1")?;
     println!(rt; "paper {:?}", paper.as_str())?;
     let given = fs::read_to_string(&rt, "trial/below/LINE1.OUT")?;
