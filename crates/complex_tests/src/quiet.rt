@@ -58,6 +58,10 @@ impl Plant for Quiet {
         self.plant.arm(member, fuse, n);
     }
 
+    fn renew(&mut self, dev: Dev) -> Act {
+        self.plant.renew(dev)
+    }
+
     fn lose(&mut self, dev: Dev) {
         self.plant.lose(dev);
     }

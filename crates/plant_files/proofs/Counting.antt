@@ -58,8 +58,8 @@ module _ (s : Shown) (part : Part) (there : place_of part < length s.parts) (sma
         arms = λ m. refl;
       }
 
-pub lost_loses : (s : Shown) (dev : Dev) → place_of (Disk dev) < length s.parts → slot_of dev < length s.loses → s.now ≤ top → Loses (Disk dev) (view_of s) (view_of (lost_by dev s))
-lost_loses s dev there counted_there small =
+pub lost_loses : (s : Shown) (dev : Dev) → place_of (Disk dev) < length s.parts → slot_of dev < length s.loses → slice_index s.loses (slot_of dev) ≤ top → s.now ≤ top → Loses (Disk dev) (view_of s) (view_of (lost_by dev s))
+lost_loses s dev there counted_there fits small =
     let place = place_of (Disk dev) in
     let new = lost_after (health_at s.parts place) s.now in
     let faults : (p : Part) → (health_at (set s.parts place new) (place_of p)).faults ≡ (health_at s.parts (place_of p)).faults =
@@ -80,6 +80,7 @@ lost_loses s dev there counted_there small =
       stops = λ m. refl;
       counted = λ d is. let at : slot_of d ≡ slot_of dev = ap slot_of (disk_part d dev is) in
           subst (λ (n : ℕ). slice_index (counted s.loses (slot_of dev)) n ≡ next (slice_index s.loses n)) (sym at) (get_or-set_same s.loses (slot_of dev) _ 0 counted_there);
+      small = λ d is. subst (λ (n : ℕ). slice_index s.loses n ≤ top) (sym (ap slot_of (disk_part d dev is))) fits;
       else_counted = λ d ne. get_or-set_other s.loses (slot_of dev) (slot_of d) _ 0 (λ same. ne (ap Disk (slot_apart d dev same)));
       arms = λ m. refl;
     }

@@ -135,6 +135,7 @@ passed_loses part old new hs stops arms act = record {
   faults = act.faults;
   stops = λ m. ap (λ (k : ℕ). k + slice_index stops m) (act.stops m);
   counted = act.counted;
+  small = act.small;
   else_counted = act.else_counted;
   arms = λ m. refl;
 }

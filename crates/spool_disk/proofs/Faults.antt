@@ -65,6 +65,7 @@ module _ (acts : ℕ) (s : State) (dev : Dev) (small : s.now ≤ top) (short : l
         stops = λ m. refl;
         counted = λ d is. let at : slot_of d ≡ slot_of dev = ap slot_of (disk_part d dev is) in
             subst (λ (n : ℕ). slice_index (counted s.loses (slot_of dev)) n ≡ next (slice_index s.loses n)) (sym at) (get_or-set_same s.loses (slot_of dev) _ 0 counted_there);
+        small = λ d is. subst (λ (n : ℕ). slice_index s.loses n ≤ top) (sym (ap slot_of (disk_part d dev is))) fits;
         arms = λ m. refl;
         else_counted = λ d ne. get_or-set_other s.loses (slot_of dev) (slot_of d) _ 0 (λ same. ne (ap DiskPart (slot_apart d dev same)));
       }

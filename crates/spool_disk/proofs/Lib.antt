@@ -15,3 +15,4 @@ pub mod Earlier
 pub mod Crashed
 pub mod Wholes
 pub mod Counting
+pub mod ReadCounts

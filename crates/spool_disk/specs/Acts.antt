@@ -222,7 +222,7 @@ pub record Arms (member : ℕ) (old new : View) : Type 0 where
   pub counted : new.arms member ≡ next (old.arms member)
   pub else_counted : (m : ℕ) → m ≢ member → new.arms m ≡ old.arms m
 
--- A part is lost by a call that has no answer.
+-- A part is lost by a call that has no answer. A device's count of such calls rises, up to the greatest.
 pub record Loses (part : Part) (old new : View) : Type 0 where
   pub time : new.now ≡ next old.now
   pub goes : Goes old new
@@ -231,6 +231,7 @@ pub record Loses (part : Part) (old new : View) : Type 0 where
   pub faults : (p : Part) → new.faults p ≡ old.faults p
   pub stops : (m : ℕ) → new.stops m ≡ old.stops m
   pub counted : (d : Dev) → DiskPart d ≡ part → new.loses d ≡ next (old.loses d)
+  pub small : (d : Dev) → DiskPart d ≡ part → old.loses d ≤ top
   pub else_counted : (d : Dev) → DiskPart d ≢ part → new.loses d ≡ old.loses d
   pub arms : (m : ℕ) → new.arms m ≡ old.arms m
 

@@ -1,5 +1,5 @@
 -- What a plant in memory shows, what it has room for, and what is planned of it.
-use Rattle.std.specs.Prelude.{ℕ, ◌-◌, Bool, List, drop, filter, length}
+use Rattle.std.specs.Prelude.{◌≡◌, ℕ, ◌-◌, ◌≤◌, Bool, List, drop, filter, length}
 use Rattle.spool_disk.specs.declared.plant.Part.{Part}
 use Rattle.spool_disk.specs.declared.memory.MemPlant.{MemPlant}
 use Rattle.mas_types.specs.declared.ids.Dev.{Dev}
@@ -37,6 +37,10 @@ mem_lost m t part = lost_in (state_of m) t (place_of part)
 -- how many reads of a device were done since a moment
 abbrev pub mem_reads : MemPlant → Dev → ℕ → ℕ
 mem_reads m dev t = length (filter (is_read (slot_of dev)) (drop t (state_of m).deeds))
+
+-- since each moment up to then as many reads of a device were done
+abbrev pub SameReads : Dev → MemPlant → MemPlant → Type 0
+SameReads dev old new = (t : ℕ) → t ≤ (mem_view old).now → mem_reads new dev t ≡ mem_reads old dev t
 
 -- what was given on a wire
 abbrev pub mem_given : MemPlant → ℕ → List ℕ

@@ -1,5 +1,6 @@
 // A plant in memory, which keeps a record of all acts.
-ghost use Rattle.std.specs.Prelude.{◌≡◌, ◌+◌, ◌-◌, ◌≤◌, ◌<◌, ◌∷◌, ◌++◌, ℕ, length, min, slice_index, false, true, is_some, take, vec_capacity, IfOk, IfErr, if◌then◌else◌};
+ghost use Rattle.std.specs.Prelude.{◌≡◌, ◌≢◌, ◌⊎◌, ◌+◌, ◌-◌, ◌≤◌, ◌<◌, ◌∷◌, ◌++◌, ℕ, length, min, slice_index, false, true, is_some, take, vec_capacity, IfOk, IfErr, if◌then◌else◌};
+ghost use Rattle.mas_types.specs.declared.ids.Dev.{Dev};
 ghost use Rattle.spool_disk.specs.Places.{slot_of, place_of};
 ghost use Rattle.spool_disk.specs.Acts.{next, top};
 ghost use Rattle.spool_disk.specs.Health.{health_at, since_of};
@@ -72,7 +73,7 @@ fn prints(part: Part) -> bool
 impl MemPlant {
     ghost use Rattle.spool_disk.specs.Courses.{course_of};
     ghost use Rattle.spool_disk.specs.declared.plan.Course.TheVariants.{Go, Halt};
-    ghost use Rattle.spool_disk.specs.MemView.{mem_view, mem_book, state_of};
+    ghost use Rattle.spool_disk.specs.MemView.{mem_view, mem_book, state_of, SameReads};
     ghost use Rattle.spool_disk.specs.Deeds.{Idle, Wrote, Synced, Said, Passed, Fetched, idled};
     ghost use Rattle.spool_disk.specs.State.{recorded, counted, failed, lost, renewed};
     ghost use Rattle.spool_disk.specs.Acts.{Acts};
@@ -237,6 +238,7 @@ impl MemPlant {
         ensures acts { (by : ℕ) → Acts by part (mem_view self.old) (mem_view self.new) Failed }
         ensures alone { FailsAlone part (mem_view self.old) (mem_view self.new) }
         ensures book { mem_book self.new ≡ mem_book self.old }
+        ensures reads { (d : Dev) → SameReads d self.old self.new }
     {
         self.pass_failing(part);
     }
@@ -274,7 +276,7 @@ impl MemPlant {
 }
 
 impl MemPlant {
-    ghost use Rattle.spool_disk.specs.MemView.{mem_view, mem_book, mem_lost, mem_reads, mem_given, state_of};
+    ghost use Rattle.spool_disk.specs.MemView.{mem_view, mem_book, mem_lost, mem_reads, mem_given, state_of, SameReads};
     ghost use Rattle.spool_disk.specs.View.{paper_now};
     ghost use Rattle.spool_disk.specs.State.{lines_in};
     ghost use Rattle.spool_disk.specs.CameIn.{CameIn};
@@ -330,6 +332,7 @@ impl MemPlant {
         requires { length (mem_book self.old).plans < PLANS_MOST }
         ensures view { mem_view self.new ≡ mem_view self.old }
         ensures book { mem_book self.new ≡ with_plan (record { moment = act; planned = Fails }) (mem_book self.old) }
+        ensures reads { (d : Dev) → SameReads d self.old self.new }
     {
         self.plans.push_reserved(Plan {
             moment: act,
@@ -344,6 +347,7 @@ impl MemPlant {
         requires { length (mem_book self.old).plans < PLANS_MOST }
         ensures view { mem_view self.new ≡ mem_view self.old }
         ensures book { mem_book self.new ≡ with_plan (record { moment = act; planned = Halts keep }) (mem_book self.old) }
+        ensures reads { (d : Dev) → SameReads d self.old self.new }
     {
         self.plans.push_reserved(Plan {
             moment: act,
@@ -410,6 +414,7 @@ impl MemPlant {
         ensures added { IfOk result (λ u. CameIn wire bytes.now (mem_view self.old) (mem_view self.new)) }
         ensures none { IfErr result (λ e. mem_view self.new ≡ mem_view self.old) }
         ensures book { mem_book self.new ≡ mem_book self.old }
+        ensures reads { (d : Dev) → SameReads d self.old self.new }
     {
         self.incoming.add(wire, bytes)?;
         Ok(())
@@ -424,7 +429,7 @@ impl MemPlant {
 }
 
 impl Plant for MemPlant {
-    ghost use Rattle.spool_disk.specs.MemView.{mem_view, mem_book, mem_reads};
+    ghost use Rattle.spool_disk.specs.MemView.{mem_view, mem_book, mem_reads, SameReads};
     ghost use Rattle.spool_disk.specs.Took.{IsRead, IfTook};
     ghost use Rattle.spool_disk.specs.MemLaws.{mem_sized, mem_there};
     ghost use Rattle.spool_disk.specs.Courses.{course_of, answer, spent_by, acted, left_of, with_stop, renews_now};
@@ -462,6 +467,7 @@ impl Plant for MemPlant {
         ensures course { result ≡ answer (course_of (mem_book self.old) (mem_view self.old) by.0 (Disk dev) 0) }
         ensures book { mem_book self.new ≡ acted by.0 (Disk dev) (mem_book self.old) }
         ensures reads { IsRead result → (t : ℕ) → t ≤ (mem_view self.old).now → mem_reads self.new dev t ≡ mem_reads self.old dev t + 1 }
+        ensures else_reads { (d : Dev) → (d ≢ dev) ⊎ (result ≢ Done) → SameReads d self.old self.new }
     {
         let course = self.course(by, Part::Disk(dev), 0);
         self.fuses.burn(by, false);
@@ -492,6 +498,7 @@ impl Plant for MemPlant {
         ensures kept { (keep : ℕ) → course_of (mem_book self.old) (mem_view self.old) by.0 (Disk dev) (length bytes.now) ≡ Halt keep
             → (disk_now (mem_view self.new) dev).bytes ≡ overwrite at (take keep bytes.now) (disk_now (mem_view self.old) dev).bytes }
         ensures book { mem_book self.new ≡ acted by.0 (Disk dev) (spent_by (course_of (mem_book self.old) (mem_view self.old) by.0 (Disk dev) (length bytes.now)) (length bytes.now) (mem_book self.old)) }
+        ensures reads { (d : Dev) → SameReads d self.old self.new }
     {
         let course = self.course(by, Part::Disk(dev), bytes.len());
         self.fuses.burn(by, false);
@@ -518,6 +525,7 @@ impl Plant for MemPlant {
         ensures content { Syncs dev (mem_view self.old) (mem_view self.new) result }
         ensures course { result ≡ answer (course_of (mem_book self.old) (mem_view self.old) by.0 (Disk dev) 0) }
         ensures book { mem_book self.new ≡ acted by.0 (Disk dev) (mem_book self.old) }
+        ensures reads { (d : Dev) → SameReads d self.old self.new }
     {
         let course = self.course(by, Part::Disk(dev), 0);
         self.fuses.burn(by, false);
@@ -545,6 +553,7 @@ impl Plant for MemPlant {
         ensures kept { (keep : ℕ) → course_of (mem_book self.old) (mem_view self.old) by.0 Console (length line.now) ≡ Halt keep
             → ((mem_view self.new).world (mem_view self.new).now).console ≡ ((mem_view self.old).world (mem_view self.old).now).console ++ left_of keep line.now }
         ensures book { mem_book self.new ≡ acted by.0 Console (spent_by (course_of (mem_book self.old) (mem_view self.old) by.0 Console (length line.now)) (length line.now) (mem_book self.old)) }
+        ensures reads { (d : Dev) → SameReads d self.old self.new }
     {
         let course = self.course(by, Part::Console, line.len());
         self.fuses.burn(by, false);
@@ -573,6 +582,7 @@ impl Plant for MemPlant {
         ensures kept { (keep : ℕ) → course_of (mem_book self.old) (mem_view self.old) by.0 (Printer by) (length line.now) ≡ Halt keep
             → paper_now (mem_view self.new) by.0 ≡ paper_now (mem_view self.old) by.0 ++ left_of keep line.now }
         ensures book { mem_book self.new ≡ acted by.0 (Printer by) (spent_by (course_of (mem_book self.old) (mem_view self.old) by.0 (Printer by) (length line.now)) (length line.now) (mem_book self.old)) }
+        ensures reads { (d : Dev) → SameReads d self.old self.new }
     {
         let part = Part::Printer(by);
         let course = self.course(by, part, line.len());
@@ -602,6 +612,7 @@ impl Plant for MemPlant {
         ensures kept { (keep : ℕ) → course_of (mem_book self.old) (mem_view self.old) by.0 (Wire wire) (length bytes.now) ≡ Halt keep
             → given_now (mem_view self.new) wire by.0 ≡ given_now (mem_view self.old) wire by.0 ++ take keep bytes.now }
         ensures book { mem_book self.new ≡ acted by.0 (Wire wire) (spent_by (course_of (mem_book self.old) (mem_view self.old) by.0 (Wire wire) (length bytes.now)) (length bytes.now) (mem_book self.old)) }
+        ensures reads { (d : Dev) → SameReads d self.old self.new }
     {
         let course = self.course(by, Part::Wire(wire), bytes.len());
         self.fuses.burn(by, false);
@@ -628,6 +639,7 @@ impl Plant for MemPlant {
         ensures content { Takes wire by.0 (mem_view self.old) (mem_view self.new) into.new result }
         ensures course { act_of result ≡ answer (course_of (mem_book self.old) (mem_view self.old) by.0 (Wire wire) (min (length ((mem_view self.old).waiting wire)) (length into.old))) }
         ensures all { IfTook result (λ n. n ≡ min (length ((mem_view self.old).waiting wire)) (length into.old)) }
+        ensures reads { (d : Dev) → SameReads d self.old self.new }
     {
         let n = self.incoming.count(wire).min(into.len());
         let course = self.course(by, Part::Wire(wire), n);
@@ -654,6 +666,7 @@ impl Plant for MemPlant {
     fn arm(&mut self, member: MemberId, fuse: Fuse, n: u32)
         ensures arms { Arms member.0 (mem_view self.old) (mem_view self.new) }
         ensures book { mem_book self.new ≡ with_stop member.0 fuse n (mem_book self.old) }
+        ensures reads { (d : Dev) → SameReads d self.old self.new }
     {
         self.counts.arm(member.0 as usize);
         self.fuses.arm(member, fuse, n);
@@ -664,6 +677,7 @@ impl Plant for MemPlant {
         ensures content { RenewsThere dev (mem_view self.old) (mem_view self.new) result }
         ensures course { result ≡ (if renews_now (mem_book self.old) (mem_view self.old) then Done else Failed) }
         ensures book { mem_book self.new ≡ mem_book self.old }
+        ensures reads { (d : Dev) → SameReads d self.old self.new }
     {
         if self.may_renew() {
             self.note_renewal(dev);
@@ -678,6 +692,7 @@ impl Plant for MemPlant {
         ensures acts { Loses (Disk dev) (mem_view self.old) (mem_view self.new) }
         ensures content { LosesThere dev (mem_view self.old) (mem_view self.new) }
         ensures book { mem_book self.new ≡ mem_book self.old }
+        ensures reads { (d : Dev) → SameReads d self.old self.new }
     {
         self.pass_losing(dev);
     }

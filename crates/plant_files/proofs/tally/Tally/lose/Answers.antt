@@ -9,4 +9,4 @@ pub returns : goal.returns
 returns c =
     let s = c.args.self.now in
     subst (λ (x : Shown). Loses (Disk c.args.dev) (tally_view s) (view_of x)) (sym c.count_loss.ensures.shown)
-    (lost_loses (shown_of s) c.args.dev (omega (arith, c.count_loss.ensures.few, s.counts.parts_len)) (omega (arith, c.count_loss.ensures.few, s.counts.loses_len)) c.count_loss.ensures.small)
+    (lost_loses (shown_of s) c.args.dev (omega (arith, c.count_loss.ensures.few, s.counts.parts_len)) (omega (arith, c.count_loss.ensures.few, s.counts.loses_len)) c.count_loss.ensures.fits c.count_loss.ensures.small)

@@ -1,10 +1,12 @@
-use Rattle.std.proofs.Common.{◌≡◌, ℕ, true, subst, take, ◌++◌, refl}
+use Rattle.std.proofs.Common.{◌≡◌, ℕ, true, subst, take, ◌++◌, refl, ap}
 use Rattle.spool_disk.specs.declared.plant.Part.TheVariants.{Wire}
 use Rattle.spool_disk.specs.Deeds.{Passed}
 use Rattle.spool_disk.specs.MemView.{mem_view}
 use Rattle.spool_disk.specs.View.{given_now}
 use Rattle.spool_disk.proofs.MemActs.{done_acts, halted_acts, done_give, halted_give, halted_bytes_given}
 use Rattle.spool_disk.proofs.Faults.{fails_give}
+use Rattle.spool_disk.specs.State.{State}
+use Rattle.spool_disk.proofs.ReadCounts.{reads_recorded, reads_halted}
 use Rattle.spool_disk.proofs.memory.MemPlantPlant.give.Goals as goal
 
 pub returns-in-Halt-clause-kept : goal.returns-in-Halt-clause-kept
@@ -39,3 +41,11 @@ returns-in-Fail-clause-acts c = c.fail.ensures.acts c.args.by.0
 
 pub returns-in-Fail-clause-content : goal.returns-in-Fail-clause-content
 returns-in-Fail-clause-content c = fails_give c.args.wire c.args.by.0 c.args.bytes.now _ _ c.fail.ensures.alone
+
+pub returns-in-Go-clause-reads : goal.returns-in-Go-clause-reads
+returns-in-Go-clause-reads c d =
+    reads_recorded c.args.self.now c.note_passed.new.self (Passed true c.args.wire c.args.by.0 c.args.bytes.now) d (c.course-course.ensures.go c.in-Go.is).0 (ap (λ (x : State). x.deeds) c.note_passed.ensures.state) refl
+
+pub returns-in-Halt-clause-reads : goal.returns-in-Halt-clause-reads
+returns-in-Halt-clause-reads c d =
+    reads_halted c.args.self.now c.note_passed-in-Halt.new.self c.stop.new.self (Passed true c.args.wire c.args.by.0 c.first.result.now) c.args.by.0 d (c.course-course.ensures.halt c.in-Halt.keep c.in-Halt.is).0 c.note_passed-in-Halt.ensures.state c.stop.ensures.state refl

@@ -1,14 +1,15 @@
-use Rattle.std.proofs.Common.{length, ◌≤◌, ◌==◌, ◌∙◌, ap, arith, ℕ, drop, filter, subst, sym, ◌+◌, refl}
+use Rattle.std.proofs.Common.{length, ◌≡◌, ⊎_elim, false, ◌≤◌, ◌==◌, ◌∙◌, ap, arith, ℕ, drop, filter, subst, sym, ◌+◌, refl}
 use Rattle.spool_disk.specs.Kept.{size_at}
 use Rattle.spool_disk.specs.declared.plant.Part.TheVariants.{Disk as DiskPart}
 use Rattle.spool_disk.specs.Deeds.{Idle, Fetched, is_read}
 use Rattle.spool_disk.specs.MemView.{state_of}
 use Rattle.spool_disk.specs.Places.{slot_of}
 use Rattle.spool_disk.specs.State.{State}
-use Rattle.spool_disk.proofs.Acting.{same_test}
+use Rattle.spool_disk.proofs.Acting.{same_test, other_test, slot_apart}
 use Rattle.spool_disk.proofs.Counting.{count_push}
 use Rattle.spool_disk.proofs.MemActs.{in_full, done_acts, halted_acts, done_read, halted_read}
 use Rattle.spool_disk.proofs.Faults.{fails_read}
+use Rattle.spool_disk.proofs.ReadCounts.{reads_recorded, reads_halted}
 use Rattle.spool_disk.proofs.memory.MemPlantPlant.read.Goals as goal
 
 pub read-requires-clause-within : goal.read-requires-clause-within
@@ -49,3 +50,14 @@ returns-in-Go-clause-reads c done t le =
     let is = ap (λ (n : ℕ). n == slot) c.slot_number-slot.ensures.slot ∙ same_test slot in
     ap (λ (x : State). length (filter (is_read slot) (drop t x.deeds))) c.note_read.ensures.state
     ∙ count_push slot t (state_of s).deeds (Fetched c.slot_number-slot.result) (omega (arith, le, in_full s go.0)) is
+
+pub returns-in-Go-clause-else_reads : goal.returns-in-Go-clause-else_reads
+returns-in-Go-clause-else_reads c d why =
+    let slot = slot_of d in
+    let other : (slot_of c.args.dev == slot) ≡ false = ⊎_elim (λ ne. other_test (slot_of c.args.dev) slot (λ same. ne (slot_apart d c.args.dev (sym same)))) (λ not. absurd (not refl)) why in
+    reads_recorded c.args.self.now c.note_read.new.self (Fetched c.slot_number-slot.result) d (c.course-course.ensures.go c.in-Go.is).0 (ap (λ (x : State). x.deeds) c.note_read.ensures.state)
+    (ap (λ (n : ℕ). n == slot) c.slot_number-slot.ensures.slot ∙ other)
+
+pub returns-in-Halt-clause-else_reads : goal.returns-in-Halt-clause-else_reads
+returns-in-Halt-clause-else_reads c d why =
+    reads_halted c.args.self.now c.note_idle.new.self c.stop.new.self Idle c.args.by.0 d (c.course-course.ensures.halt c.in-Halt.field-0 c.in-Halt.is).0 c.note_idle.ensures.state c.stop.ensures.state refl

@@ -1,10 +1,13 @@
-use Rattle.std.proofs.Common.{◌≡◌, ℕ, true, subst, ◌++◌, refl}
+use Rattle.std.proofs.Common.{◌≡◌, ℕ, true, subst, ◌++◌, refl, ap}
 use Rattle.spool_disk.specs.declared.plant.Part.TheVariants.{Console}
 use Rattle.spool_disk.specs.Deeds.{Said}
 use Rattle.spool_disk.specs.Courses.{deed_left, left_of}
 use Rattle.spool_disk.specs.MemView.{mem_view}
 use Rattle.spool_disk.proofs.MemActs.{done_acts, halted_acts, done_say, halted_say, halted_line, left_keeps}
 use Rattle.spool_disk.proofs.Faults.{fails_say}
+use Rattle.spool_disk.specs.State.{State}
+use Rattle.spool_disk.specs.Places.{slot_of}
+use Rattle.spool_disk.proofs.ReadCounts.{reads_recorded, reads_halted, line_reads}
 use Rattle.spool_disk.proofs.memory.MemPlantPlant.say.Goals as goal
 
 pub returns-in-Halt-clause-kept : goal.returns-in-Halt-clause-kept
@@ -39,3 +42,11 @@ returns-in-Fail-clause-acts c = c.fail.ensures.acts c.args.by.0
 
 pub returns-in-Fail-clause-content : goal.returns-in-Fail-clause-content
 returns-in-Fail-clause-content c = fails_say c.args.line.now _ _ c.fail.ensures.alone
+
+pub returns-in-Go-clause-reads : goal.returns-in-Go-clause-reads
+returns-in-Go-clause-reads c d =
+    reads_recorded c.args.self.now c.note_line.new.self (Said c.place_number-place.result c.args.line.now true) d (c.course-course.ensures.go c.in-Go.is).0 (ap (λ (x : State). x.deeds) c.note_line.ensures.state) refl
+
+pub returns-in-Halt-clause-reads : goal.returns-in-Halt-clause-reads
+returns-in-Halt-clause-reads c d =
+    reads_halted c.args.self.now c.note_part.new.self c.stop.new.self (deed_left c.place_number-place.result c.in-Halt.keep c.args.line.now) c.args.by.0 d (c.course-course.ensures.halt c.in-Halt.keep c.in-Halt.is).0 c.note_part.ensures.state c.stop.ensures.state (line_reads (slot_of d) c.place_number-place.result c.in-Halt.keep c.args.line.now)

@@ -1,8 +1,10 @@
-use Rattle.std.proofs.Common.{refl}
+use Rattle.std.proofs.Common.{refl, ap}
 use Rattle.spool_disk.specs.declared.plant.Part.TheVariants.{Disk as DiskPart}
 use Rattle.spool_disk.specs.Deeds.{Idle, Synced}
 use Rattle.spool_disk.proofs.MemActs.{done_acts, halted_acts, done_sync, halted_sync}
 use Rattle.spool_disk.proofs.Faults.{fails_sync}
+use Rattle.spool_disk.specs.State.{State}
+use Rattle.spool_disk.proofs.ReadCounts.{reads_recorded, reads_halted}
 use Rattle.spool_disk.proofs.memory.MemPlantPlant.sync.Goals as goal
 
 pub returns-in-Go-clause-acts : goal.returns-in-Go-clause-acts
@@ -30,3 +32,11 @@ returns-in-Fail-clause-acts c = c.fail.ensures.acts c.args.by.0
 
 pub returns-in-Fail-clause-content : goal.returns-in-Fail-clause-content
 returns-in-Fail-clause-content c = fails_sync c.args.dev _ _ c.fail.ensures.alone
+
+pub returns-in-Go-clause-reads : goal.returns-in-Go-clause-reads
+returns-in-Go-clause-reads c d =
+    reads_recorded c.args.self.now c.note_sync.new.self (Synced c.slot_number.result) d (c.course-course.ensures.go c.in-Go.is).0 (ap (λ (x : State). x.deeds) c.note_sync.ensures.state) refl
+
+pub returns-in-Halt-clause-reads : goal.returns-in-Halt-clause-reads
+returns-in-Halt-clause-reads c d =
+    reads_halted c.args.self.now c.note_idle.new.self c.stop.new.self Idle c.args.by.0 d (c.course-course.ensures.halt c.in-Halt.field-0 c.in-Halt.is).0 c.note_idle.ensures.state c.stop.ensures.state refl

@@ -1,11 +1,13 @@
-use Rattle.std.proofs.Common.{arith, sym, ◌∙◌, ap, ◌≡◌, ◌++◌, ℕ, Bool, List, length, length-append, length-drop, take, drop, min, if◌then◌else◌, refl}
+use Rattle.std.proofs.Common.{arith, sym, ◌∙◌, ap, ◌≡◌, ◌++◌, ℕ, Bool, List, length, length-append, length-drop, take, drop, min, if◌then◌else◌, refl, false}
 use Rattle.std.proofs.lemmas.List.{take_at, length-take-le}
 use Rattle.spool_disk.specs.declared.plant.Part.TheVariants.{Wire}
-use Rattle.spool_disk.specs.Deeds.{Idle}
+use Rattle.spool_disk.specs.Deeds.{Idle, Passed}
 use Rattle.spool_disk.specs.Waiting.{waiting_on}
 use Rattle.spool_disk.proofs.Acting.{same_test, other_test}
 use Rattle.spool_disk.proofs.MemActs.{take_acts, done_take, halted_acts, halted_take, none_left}
 use Rattle.spool_disk.proofs.Faults.{fails_take}
+use Rattle.spool_disk.specs.State.{State}
+use Rattle.spool_disk.proofs.ReadCounts.{reads_recorded, reads_halted}
 use Rattle.spool_disk.proofs.memory.MemPlantPlant.take.Goals as goal
 
 pub returns-in-Go-clause-acts : goal.returns-in-Go-clause-acts
@@ -47,3 +49,11 @@ returns-in-Fail-clause-acts c = c.fail.ensures.acts c.args.by.0
 
 pub returns-in-Fail-clause-content : goal.returns-in-Fail-clause-content
 returns-in-Fail-clause-content c = fails_take c.args.wire c.args.by.0 c.args.into.now _ _ c.fail.ensures.alone
+
+pub returns-in-Go-clause-reads : goal.returns-in-Go-clause-reads
+returns-in-Go-clause-reads c d =
+    reads_recorded c.args.self.now c.note_passed.new.self (Passed false c.args.wire c.args.by.0 c.take.new.into) d (c.course-course.ensures.go c.in-Go.is).0 (ap (λ (x : State). x.deeds) c.note_passed.ensures.state) refl
+
+pub returns-in-Halt-clause-reads : goal.returns-in-Halt-clause-reads
+returns-in-Halt-clause-reads c d =
+    reads_halted c.args.self.now c.note_idle.new.self c.stop.new.self Idle c.args.by.0 d (c.course-course.ensures.halt c.in-Halt.field-0 c.in-Halt.is).0 c.note_idle.ensures.state c.stop.ensures.state refl

@@ -7,6 +7,8 @@ use Rattle.spool_disk.specs.declared.plant.Part.TheVariants.{Disk as DiskPart}
 use Rattle.spool_disk.specs.Deeds.{Wrote, overwrite}
 use Rattle.spool_disk.proofs.MemActs.{done_acts, halted_acts, done_write, halted_write, halted_bytes}
 use Rattle.spool_disk.proofs.Faults.{fails_write}
+use Rattle.spool_disk.specs.State.{State}
+use Rattle.spool_disk.proofs.ReadCounts.{reads_recorded, reads_halted}
 use Rattle.spool_disk.proofs.memory.MemPlantPlant.write.Goals as goal
 
 pub note_write-requires-clause-within : goal.note_write-requires-clause-within
@@ -50,3 +52,11 @@ returns-in-Fail-clause-acts c = c.fail.ensures.acts c.args.by.0
 
 pub returns-in-Fail-clause-content : goal.returns-in-Fail-clause-content
 returns-in-Fail-clause-content c = fails_write c.args.dev c.args.at c.args.bytes.now _ _ c.fail.ensures.alone
+
+pub returns-in-Go-clause-reads : goal.returns-in-Go-clause-reads
+returns-in-Go-clause-reads c d =
+    reads_recorded c.args.self.now c.note_write.new.self (Wrote c.slot_number.result c.args.at (length c.args.bytes.now) c.args.bytes.now) d (c.course-course.ensures.go c.in-Go.is).0 (ap (λ (x : State). x.deeds) c.note_write.ensures.state) refl
+
+pub returns-in-Halt-clause-reads : goal.returns-in-Halt-clause-reads
+returns-in-Halt-clause-reads c d =
+    reads_halted c.args.self.now c.note_write-in-Halt.new.self c.stop.new.self (Wrote c.slot_number-in-Halt.result c.args.at (length c.args.bytes.now) c.first-some.result.now) c.args.by.0 d (c.course-course.ensures.halt c.in-Halt.keep c.in-Halt.is).0 c.note_write-in-Halt.ensures.state c.stop.ensures.state refl
