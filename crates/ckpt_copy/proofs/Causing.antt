@@ -23,6 +23,7 @@ caused_then by dev old mid new answer first then = record {
   not_operator = then.not_operator;
   no_other_stop = λ m else. then.no_other_stop m else ∙ first.no_other_stop m (inr (λ is. cc));
   loses = λ d. then.loses d ∙ first.loses d;
+  arms = λ m. then.arms m ∙ first.arms m;
 }
 
 pub caused_none : (by : ℕ) (dev : Dev) (v : View) → Caused by dev v v Done
@@ -35,4 +36,5 @@ caused_none by dev v = record {
   not_operator = λ is. absurd (cc);
   no_other_stop = λ m else. refl;
   loses = λ d. refl;
+  arms = λ m. refl;
 }

@@ -36,7 +36,7 @@ answer_found (Err NoMemory) = Done
 
 -- A call of a member that acts on one device alone, with this answer: Failed is answered only where the device's faults
 -- rose, and the device is lost then; Halted only where the member's stops rose; else no part is lost and
--- nobody is stopped by it.
+-- nobody is stopped by it. It arms nothing.
 pub record Caused (by : ℕ) (dev : Dev) (old new : View) (answer : Act) : Type 0 where
   pub goes : Goes old new
   pub failed : answer ≡ Failed → Rose (old.faults (DiskPart dev)) (new.faults (DiskPart dev))
@@ -46,6 +46,7 @@ pub record Caused (by : ℕ) (dev : Dev) (old new : View) (answer : Act) : Type 
   pub not_operator : answer ≡ Halted → 0 < by
   pub no_other_stop : (m : ℕ) → (m ≢ by) ⊎ (answer ≢ Halted) → new.stops m ≡ old.stops m
   pub loses : (d : Dev) → new.loses d ≡ old.loses d
+  pub arms : (m : ℕ) → new.arms m ≡ old.arms m
 
 -- once an act failed, the device is lost in the world
 abbrev pub IsOut : Dev → View → Act → Type 0

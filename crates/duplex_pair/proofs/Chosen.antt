@@ -33,6 +33,8 @@ more_then old mid new x y =
       second = λ t from le. no_more_then (disk_now old Ckpt2) (disk_now mid Ckpt2) ((new.world t).disk Ckpt2) two (y.second t from le);
       others = y.others;
       console = y.console;
+      sides = y.sides;
+      waiting = y.waiting;
     })
 
 module _ {C : Type 0} (count room : C → ℕ) (room_most : ℕ) (ready : C → View → Type 0) (reads : List ℕ → Option (List ℕ)) (rests : C → List ℕ → Disk → Type 0) (tells : Type 0) where
@@ -104,6 +106,18 @@ module _ {C : Type 0} (count room : C → ℕ) (room_most : ℕ) (ready : C → 
   none_first dev v w was copy alive alive' Unread (Pages two) err seen less is told disk = absurd (cc)
   none_first dev v w was copy alive alive' Unread Lost err seen less is told disk = subst (λ (d : Disk). IsNone reads d) (sym (disk refl)) (seen.none told)
   none_first dev v w was copy alive alive' Unread Unread err seen less is told disk = subst (λ (d : Disk). IsNone reads d) (sym (disk refl)) (seen.none told)
+
+-- where none reads, whichever copy is named first
+pub none_swapped : (one two : Look) → IsErrOf (chosen one two) NotValid → IsErrOf (chosen two one) NotValid
+none_swapped (Pages one) (Pages two) err = absurd (cc)
+none_swapped (Pages one) Lost err = absurd (cc)
+none_swapped (Pages one) Unread err = absurd (cc)
+none_swapped Lost (Pages two) err = absurd (cc)
+none_swapped Lost Lost err = err
+none_swapped Lost Unread err = err
+none_swapped Unread (Pages two) err = absurd (cc)
+none_swapped Unread Lost err = err
+none_swapped Unread Unread err = err
 
 -- a copy that counts as alive, but for those that go
 pub alive_goes : (a c x : Bool) → x ≡ (a && not c) → c ≡ true → x ≡ false

@@ -8,7 +8,7 @@ use Rattle.spool_disk.specs.View.{View, World, Disk, disk_now}
 use Rattle.spool_disk.specs.Acts.{Rose}
 use Rattle.ckpt_copy.specs.Changes.{NoMore}
 use Rattle.ckpt_copy.specs.Meanwhile.{Meanwhile}
-use Rattle.ckpt_copy.specs.Moments.{either_way, goes_on, meanwhile_end}
+use Rattle.ckpt_copy.specs.Moments.{either_way, goes_on, meanwhile_end, sides_on}
 use Rattle.ckpt_copy.specs.Reading.{EachForms}
 use Rattle.duplex_pair.specs.Halves.{Acted, IsGone}
 use Rattle.duplex_pair.specs.Both.{PairActed, Touched, BothMeanwhile}
@@ -54,6 +54,7 @@ module _ (by : ℕ) (old new : View) (a a' b : Bool) (stopped : Bool) where
         stands = λ is. or_left a' b (x.stands is);
         no_other_stop = x.no_other_stop;
         loses = x.loses;
+        arms = x.arms;
       }
 
   pub acted_second : (dev : Dev) → dev ≡ Ckpt2 → Acted by dev a a' stopped old new → PairActed by b b a a' stopped old new
@@ -72,6 +73,7 @@ module _ (by : ℕ) (old new : View) (a a' b : Bool) (stopped : Bool) where
         stands = λ is. or_right b a' (x.stands is);
         no_other_stop = x.no_other_stop;
         loses = x.loses;
+        arms = x.arms;
       }
 
 rose_later : (x y z : ℕ) → x ≤ y → Rose y z → Rose x z
@@ -96,6 +98,7 @@ module _ (by : ℕ) (old mid new : View) (a a' a'' b b' b'' stopped : Bool) wher
     stands = y.stands;
     no_other_stop = λ m why. y.no_other_stop m why ∙ x.no_other_stop m (inr refl);
     loses = λ d. y.loses d ∙ x.loses d;
+    arms = λ m. y.arms m ∙ x.arms m;
   } where
     failed : (d : Dev) (m : Bool) → (m ≡ false → Rose (old.faults (DiskPart d)) (mid.faults (DiskPart d))) → (m ≡ true → Rose (mid.faults (DiskPart d)) (new.faults (DiskPart d))) → Rose (old.faults (DiskPart d)) (new.faults (DiskPart d))
     failed d true first then = rose_later (old.faults (DiskPart d)) (mid.faults (DiskPart d)) (new.faults (DiskPart d)) (x.goes.faults (DiskPart d)) (then refl)
@@ -122,6 +125,8 @@ module _ (P Q : Disk → Type 0) where
         second = λ t le ge. subst Q (sym (m.others t le ge Ckpt2 ne21)) q;
         others = λ t le ge d one two. m.others t le ge d one;
         console = m.console;
+        sides = m.sides;
+        waiting = m.waiting;
       }
 
   pub both_second : (dev : Dev) (old new : View) → dev ≡ Ckpt2 → Meanwhile dev Q old new → P (disk_now old Ckpt1) → BothMeanwhile P Q old new
@@ -132,6 +137,8 @@ module _ (P Q : Disk → Type 0) where
         second = m.here;
         others = λ t le ge d one two. m.others t le ge d two;
         console = m.console;
+        sides = m.sides;
+        waiting = m.waiting;
       }
 
   pub both_then : (old mid new : View) → BothMeanwhile P Q old mid → BothMeanwhile P Q mid new → BothMeanwhile P Q old new
@@ -147,6 +154,8 @@ module _ (P Q : Disk → Type 0) where
         (λ h. ap (λ (w : World). w.console) (y.goes.past t h) ∙ x.console t le h)
         (λ h. y.console t (omega arith) ge ∙ x.console mid.now x.goes.later (omega arith))
         (either_way t mid.now);
+    sides = sides_on old mid new x.goes y.goes x.sides y.sides;
+    waiting = λ w. y.waiting w ∙ x.waiting w;
   }
 
 -- the disk of the other copy after a call on one

@@ -6,6 +6,7 @@ use Rattle.spool_disk.specs.declared.plant.Part.{Part}
 use Rattle.spool_disk.specs.declared.plant.Part.TheVariants.{Disk as DiskPart}
 use Rattle.spool_disk.specs.View.{View, Disk, disk_at, disk_now, Throughout}
 use Rattle.spool_disk.specs.Acts.{Goes, Rose}
+use Rattle.ckpt_copy.specs.Meanwhile.{SameSides}
 
 -- A call of a member on the pair: which copies counted as alive before and count so after, and whether the member was
 -- stopped in it. A copy is lost exactly where an act on it failed: the device's faults rose then, and it is lost.
@@ -24,6 +25,7 @@ pub record PairActed (by : ℕ) (was1 is1 was2 is2 stopped : Bool) (old new : Vi
   pub stands : stopped ≡ true → (is1 || is2) ≡ true
   pub no_other_stop : (m : ℕ) → (m ≢ by) ⊎ (stopped ≡ false) → new.stops m ≡ old.stops m
   pub loses : (d : Dev) → new.loses d ≡ old.loses d
+  pub arms : (m : ℕ) → new.arms m ≡ old.arms m
 
 -- a copy that counts as lost isn't touched; of the other P holds
 abbrev pub Touched : Bool → (Disk → Type 0) → Disk → Disk → Type 0
@@ -37,3 +39,5 @@ pub record BothMeanwhile (P Q : Disk → Type 0) (old new : View) : Type 0 where
   pub second : Throughout old.now new.now (λ t. Q (disk_at new t Ckpt2))
   pub others : Throughout old.now new.now (λ t. (d : Dev) → d ≢ Ckpt1 → d ≢ Ckpt2 → disk_at new t d ≡ disk_now old d)
   pub console : Throughout old.now new.now (λ t. (new.world t).console ≡ (old.world old.now).console)
+  pub sides : Throughout old.now new.now (λ t. SameSides (old.world old.now) (new.world t))
+  pub waiting : (w : ℕ) → new.waiting w ≡ old.waiting w

@@ -39,6 +39,7 @@ pub record Acted (by : ℕ) (dev : Dev) (was is stopped : Bool) (old new : View)
   pub stands : stopped ≡ true → is ≡ true
   pub no_other_stop : (m : ℕ) → (m ≢ by) ⊎ (stopped ≡ false) → new.stops m ≡ old.stops m
   pub loses : (d : Dev) → new.loses d ≡ old.loses d
+  pub arms : (m : ℕ) → new.arms m ≡ old.arms m
 
 -- a copy that a call took away is lost in the world
 abbrev pub IsGone : Dev → Bool → Bool → View → Type 0

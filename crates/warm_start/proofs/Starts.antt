@@ -236,6 +236,8 @@ both_weaker P Q R S old new f h x = record {
   second = λ t le ge. h ((new.world t).disk Ckpt2) (x.second t le ge);
   others = x.others;
   console = x.console;
+  sides = x.sides;
+  waiting = x.waiting;
 }
 
 pub less_then : (a b c : Disk) → IsLess a b → IsLess b c → IsLess a c

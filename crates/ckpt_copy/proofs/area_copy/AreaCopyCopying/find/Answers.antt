@@ -60,3 +60,7 @@ returns-clause-during g c told =
     (calm_on c.args.self.now.dev _ _ _ (calm_first c.args.self.now.dev _ _ (c.sync_act.ensures.during told)) (c.read_head.ensures.during told))
     (c.choose_area.ensures.during told))
     (c.read_pages.ensures.during told)
+
+pub returns-in_err-head-clause-during : goal.returns-in_err-head-clause-during
+returns-in_err-head-clause-during g c told =
+    calm_on c.args.self.now.dev _ _ _ (calm_first c.args.self.now.dev _ _ (c.sync_act.ensures.during told)) (c.read_head.ensures.during told)

@@ -9,7 +9,7 @@ use Rattle.duplex_pair.specs.declared.errors.PairFindNo.{PairFindNo}
 use Rattle.duplex_pair.specs.declared.errors.PairFindNo.TheVariants.{NotValid}
 use Rattle.ckpt_copy.specs.Changes.{NoMore}
 use Rattle.duplex_pair.proofs.Composing.{both_calls, ne12, ne21, other_disk}
-use Rattle.duplex_pair.proofs.Chosen.{more_then, none_first, after_seen, chosen_found, alive_goes, alive_stays, alive_less, part12, part21}
+use Rattle.duplex_pair.proofs.Chosen.{more_then, none_first, none_swapped, after_seen, chosen_found, alive_goes, alive_stays, alive_less, part12, part21}
 use Rattle.duplex_pair.proofs.pair.Pair.find.Goals as goal
 
 pub returns-in_err-second-clause-during : goal.returns-in_err-second-clause-during
@@ -40,6 +40,18 @@ returns-clause-none1 g c err told is =
     (subst (λ (r : Result (List Page) PairFindNo). IsErrOf r NotValid) c.chosen_of.ensures err) c.in_ok-first.ensures.seen
     (λ now. subst (λ h. h.alive ≡ true) c.look-2.ensures.other (alive_less c.look-2.new.self.first.alive c.is_to_go-first_goes.result c.lose_where.new.self.first.alive c.lose_where.ensures.alive (subst (λ h. h.alive ≡ true) c.lose_where-2.ensures.other now))) is told
     (λ stays. other_disk Ckpt2 Ckpt1 (NoMore (disk_now three Ckpt2)) three new ne12 (c.lose_where-2.ensures.during told) ∙ ap (λ p. disk_now (view p) Ckpt1) (c.lose_where.ensures.idle (c.is_to_go-first_goes.ensures ∙ stays)) ∙ other_disk Ckpt2 Ckpt1 (NoMore (disk_now one Ckpt2)) one two ne12 (c.look-2.ensures.during told))
+
+pub returns-clause-none2 : goal.returns-clause-none2
+returns-clause-none2 g c err told is =
+    let C = g.C.Copying in
+    let view = g.P.Plant.view in
+    let two = view c.look-2.new.plant in
+    let three = view c.lose_where.new.plant in
+    let new = view c.lose_where-2.new.plant in
+    none_first C.count C.room C.room_most C.ready C.reads C.rests g.P.Plant.tells Ckpt2 two new c.look.new.self.second.copy c.look-2.new.self.second.copy c.look-2.new.self.second.alive c.lose_where-2.new.self.second.alive c.in_ok-second.second c.in_ok-first.first
+    (none_swapped c.in_ok-first.first c.in_ok-second.second (subst (λ (r : Result (List Page) PairFindNo). IsErrOf r NotValid) c.chosen_of.ensures err)) c.in_ok-second.ensures.seen
+    (λ now. subst (λ h. h.alive ≡ true) c.lose_where.ensures.other (alive_less c.lose_where.new.self.second.alive c.is_to_go-second_goes.result c.lose_where-2.new.self.second.alive c.lose_where-2.ensures.alive now)) is told
+    (λ stays. ap (λ p. disk_now (view p) Ckpt2) (c.lose_where-2.ensures.idle (c.is_to_go-second_goes.ensures ∙ stays)) ∙ other_disk Ckpt1 Ckpt2 (NoMore (disk_now two Ckpt1)) two three ne21 (c.lose_where.ensures.during told))
 
 pub returns-clause-found : goal.returns-clause-found
 returns-clause-found g c =
