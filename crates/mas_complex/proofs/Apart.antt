@@ -1,11 +1,15 @@
 -- What a call on one copy leaves as it was, said of plain data.
-use Rattle.std.proofs.Common.{ℕ, Bool, List, refl}
+use Rattle.std.proofs.Common.{ℕ, Bool, List, refl, ◌∙◌, arith}
 use Rattle.std.proofs.Math.Logic.{∥∥₁_elim}
 use Rattle.std.specs.Coded.{Coded, Coded-set, coded_list, coded_ℕ, coded_bool, coded×, code_by}
 use Rattle.mas_types.specs.declared.ids.Dev.{Dev}
+use Rattle.mas_types.specs.declared.ids.Dev.TheVariants.{Ckpt1, Ckpt2, Spool}
 use Rattle.spool_disk.specs.View.{View, Disk, Line, Stretch}
+use Rattle.spool_disk.specs.Acts.{Goes}
 use Rattle.ckpt_copy.specs.Meanwhile.{Meanwhile}
-use Rattle.mas_complex.specs.Elsewhere.{Elsewhere}
+use Rattle.duplex_pair.specs.Halves.{IsCkpt}
+use Rattle.duplex_pair.specs.Both.{BothMeanwhile}
+use Rattle.mas_complex.specs.Elsewhere.{Elsewhere, OnCopies}
 
 abbrev coded_stretch : Coded Stretch
 coded_stretch = code_by (ℕ × ℕ) (coded× coded_ℕ coded_ℕ) (λ s. (s.from, s.len)) (λ p. record { from = p.0; len = p.1 }) (λ _. refl)
@@ -26,4 +30,27 @@ pub elsewhere_is : (dev : Dev) (old new : View) → ∥ Elsewhere dev old new �
 elsewhere_is dev old new some = record {
   others = λ t from le d ne. ∥∥₁_elim some (Coded-set coded_disk _ _) (λ e. e.others t from le d ne);
   console = λ t from le. ∥∥₁_elim some (Coded-set (coded_list coded_line) _ _) (λ e. e.console t from le);
+}
+
+-- CALLS ONE AFTER ANOTHER
+
+pub on_none : (v : View) → OnCopies v v
+on_none v = record { volumes = λ d one two. refl; console = refl }
+
+pub on_then : (old mid new : View) → OnCopies old mid → OnCopies mid new → OnCopies old new
+on_then old mid new x y = record { volumes = λ d one two. y.volumes d one two ∙ x.volumes d one two; console = y.console ∙ x.console }
+
+pub on_one : (dev : Dev) → IsCkpt dev → (old new : View) → Goes old new → Elsewhere dev old new → OnCopies old new
+on_one Ckpt1 ckpt old new goes e = record { volumes = λ d one two. e.others new.now goes.later (omega arith) d one; console = e.console new.now goes.later (omega arith) }
+on_one Ckpt2 ckpt old new goes e = record { volumes = λ d one two. e.others new.now goes.later (omega arith) d two; console = e.console new.now goes.later (omega arith) }
+on_one (Spool n) ckpt old new goes e = absurd ckpt
+
+pub on_both : (P Q : Disk → Type 0) (old new : View) → BothMeanwhile P Q old new → OnCopies old new
+on_both P Q old new m = record { volumes = m.others new.now m.goes.later (omega arith); console = m.console new.now m.goes.later (omega arith) }
+
+-- these equations need no choice either
+pub on_is : (old new : View) → ∥ OnCopies old new ∥₁ → OnCopies old new
+on_is old new some = record {
+  volumes = λ d one two. ∥∥₁_elim some (Coded-set coded_disk _ _) (λ e. e.volumes d one two);
+  console = ∥∥₁_elim some (Coded-set (coded_list coded_line) _ _) (λ e. e.console);
 }

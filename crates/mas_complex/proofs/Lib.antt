@@ -24,3 +24,4 @@ pub mod Spooled
 pub mod Texting
 pub mod SpoolActs
 pub mod Quotients
+pub mod Counted

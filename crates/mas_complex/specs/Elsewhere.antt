@@ -1,9 +1,15 @@
--- What a call on one copy leaves as it was.
+-- What calls on the copies leave as it was.
 use Rattle.std.specs.Prelude.{◌≡◌, ◌≢◌}
 use Rattle.mas_types.specs.declared.ids.Dev.{Dev}
+use Rattle.mas_types.specs.declared.ids.Dev.TheVariants.{Ckpt1, Ckpt2}
 use Rattle.spool_disk.specs.View.{View, disk_at, disk_now, Throughout}
 
 -- at each moment of the call every other device and the console are as before it
 pub record Elsewhere (dev : Dev) (old new : View) : Type 0 where
   pub others : Throughout old.now new.now (λ t. (d : Dev) → d ≢ dev → disk_at new t d ≡ disk_now old d)
   pub console : Throughout old.now new.now (λ t. (new.world t).console ≡ (old.world old.now).console)
+
+-- after the call every volume and the console are as before it
+pub record OnCopies (old new : View) : Type 0 where
+  pub volumes : (d : Dev) → d ≢ Ckpt1 → d ≢ Ckpt2 → disk_now new d ≡ disk_now old d
+  pub console : (new.world new.now).console ≡ (old.world old.now).console

@@ -10,6 +10,7 @@ pub mod Steady
 pub mod Elsewhere
 pub mod Seen
 pub mod Fits
+pub mod CallCounts
 pub mod Recovers
 pub mod Locking
 pub mod Changed

@@ -1,4 +1,5 @@
 -- Why nothing is recovered.
+use Rattle.std.specs.Prelude.{Bool, true, false, Result, Ok, Err}
 use Rattle.duplex_pair.specs.declared.errors.PairNo.{PairNo}
 use Rattle.duplex_pair.specs.declared.errors.PairNo.TheVariants.{BothLost as PairBothLost, Halted as PairHalted}
 use Rattle.duplex_pair.specs.declared.errors.LookNo.{LookNo}
@@ -10,6 +11,13 @@ use Rattle.mas_complex.specs.declared.recover.RecoverNo.TheVariants.{BothLost, H
 abbrev pub recover_no_seen : LookNo → RecoverNo
 recover_no_seen LookHalted = Halted
 recover_no_seen LookNoMemory = NoMemory
+
+-- the member was stopped in a recovery
+abbrev pub recover_stopped : {T : Type 0} → Result T RecoverNo → Bool
+recover_stopped (Ok value) = false
+recover_stopped (Err BothLost) = false
+recover_stopped (Err Halted) = true
+recover_stopped (Err NoMemory) = false
 
 -- where a call on the pair was
 abbrev pub recover_no : PairNo → RecoverNo

@@ -16,12 +16,12 @@ ghost use Rattle.duplex_pair.specs.Halves.{IsCkpt, pick, other, IsBothLost, Some
 ghost use Rattle.duplex_pair.specs.Both.{PairActed};
 ghost use Rattle.duplex_pair.specs.Outcomes.{pair_stopped};
 ghost use Rattle.mas_complex.specs.declared.places.Place.TheVariants.{Before as AtBefore, Put as AtPut, Opened as AtOpened, Unsure as AtUnsure};
-ghost use Rattle.mas_complex.specs.Journals.{coming, kept_all, entries_in, entries_reserved, in_flight, StepIsKept, begun, fated, HasPlace, with_last, end_of, IsKeptAt};
+ghost use Rattle.mas_complex.specs.Journals.{coming, kept_all, entries_in, entries_reserved, in_flight, StepIsKept, begun, fated, HasPlace, IsPlace, with_last, end_of, IsKeptAt};
 ghost use Rattle.mas_complex.specs.Meaning.{StandFor, run, Closes};
 ghost use Rattle.mas_complex.specs.Places.{IsPlaceAfter, HasNoOther, all_open};
 ghost use Rattle.mas_complex.specs.Crash.{Keeps, setting, copy_of, BeginsWith, IsUntold};
 ghost use Rattle.mas_complex.specs.Headline.{Headline, LeavesQueue};
-ghost use Rattle.mas_complex.specs.Elsewhere.{Elsewhere};
+ghost use Rattle.mas_complex.specs.Elsewhere.{Elsewhere, OnCopies};
 ghost use Rattle.mas_complex.specs.Changed.{NamesOnly};
 ghost use Rattle.mas_complex.specs.Replies.{HaveReplies, AreReplied};
 ghost use Rattle.mas_complex.specs.Locking.{book_of, MayAct, IsUp, IsOwn};
@@ -156,7 +156,7 @@ impl<P: Plant + Drop, C: Steady + Drop> Complex<P, C> {
         ensures kept { kept_all self.new.journal.batches ≡ kept_all self.old.journal.batches }
         ensures err { OnErr result ((self.new.journal ≡ self.old.journal) × (self.new.placed ≡ self.old.placed)) }
         ensures placed { OnOk result (self.new.placed ≡ true) }
-        ensures grown { OnOk result ((place : Batch) × (self.new.journal.batches ≡ self.old.journal.batches ++ place ∷ [])) }
+        ensures grown { OnOk result ((place : Batch) × (self.new.journal.batches ≡ self.old.journal.batches ++ place ∷ []) × IsPlace place) }
     {
         let place = empty_place(alloc, self.plant.now());
         self.journal.batches.push(place)?;
@@ -186,7 +186,8 @@ impl<P: Plant + Drop, C: Steady + Drop> Complex<P, C> {
         ensures err { OnErr result ((self.new.journal ≡ self.old.journal) × (self.new.reserved ≡ self.old.reserved)) }
         ensures reserved { OnOk result (self.new.reserved ≡ Some entries) }
         ensures placed { OnOk result (self.new.placed ≡ true) }
-        ensures grown { OnOk result (self.old.placed ≡ false → (place : Batch) × (self.new.journal.batches ≡ self.old.journal.batches ++ place ∷ [])) }
+        ensures grown { OnOk result (self.old.placed ≡ false → (place : Batch) × (self.new.journal.batches ≡ self.old.journal.batches ++ place ∷ []) × IsPlace place) }
+        ensures same { self.old.placed ≡ true → self.new.journal ≡ self.old.journal }
         ensures unplaced { OnErr result (self.new.placed ≡ self.old.placed) }
     {
         if !self.placed {
@@ -801,6 +802,7 @@ impl<P: Plant + Drop, C: Steady + Drop> Complex<P, C> {
         ensures room1 { OnOk result (self.new.pair.first.alive ≡ true → C.room self.new.pair.first.copy ≡ C.room_most) }
         ensures room2 { OnOk result (self.new.pair.second.alive ≡ true → C.room self.new.pair.second.copy ≡ C.room_most) }
         ensures acted { PairActed by.0 self.old.pair.first.alive self.new.pair.first.alive self.old.pair.second.alive self.new.pair.second.alive (pair_stopped result) (P.view self.old.plant) (P.view self.new.plant) }
+        ensures apart { P.tells → OnCopies (P.view self.old.plant) (P.view self.new.plant) }
         ensures both { IsErrOf result PairNoBothLost → IsBothLost self.new.pair.first.alive self.new.pair.second.alive }
         ensures ok { OnOk result (SomeAlive self.new.pair.first.alive self.new.pair.second.alive) }
     {
@@ -833,6 +835,7 @@ impl<P: Plant + Drop, C: Steady + Drop> Complex<P, C> {
         ensures read { OnOk result (P.tells → (was : List ℕ) → (self.new.pair.first.alive ≡ true → C.rests self.old.pair.first.copy was (disk_now (P.view self.old.plant) Ckpt1))
             → (self.new.pair.first.alive ≡ false → C.rests self.old.pair.second.copy was (disk_now (P.view self.old.plant) Ckpt2)) → into.new.0 ≡ page_in page was) }
         ensures acted { PairActed by.0 self.old.pair.first.alive self.new.pair.first.alive self.old.pair.second.alive self.new.pair.second.alive (pair_stopped result) (P.view self.old.plant) (P.view self.new.plant) }
+        ensures apart { P.tells → OnCopies (P.view self.old.plant) (P.view self.new.plant) }
         ensures both { IsErrOf result PairNoBothLost → IsBothLost self.new.pair.first.alive self.new.pair.second.alive }
         ensures ok { OnOk result (SomeAlive self.new.pair.first.alive self.new.pair.second.alive) }
     {

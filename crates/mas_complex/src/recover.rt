@@ -13,11 +13,13 @@ ghost use Rattle.duplex_pair.specs.Halves.{IsCkpt, pick, other, Acted, IsBothLos
 ghost use Rattle.duplex_pair.specs.Outcomes.{pair_stopped};
 ghost use Rattle.mas_complex.specs.declared.places.Place.TheVariants.{Before as AtBefore, Opened as AtOpened};
 ghost use Rattle.mas_complex.specs.declared.recover.RecoverNo.TheVariants.{BothLost as RecoverNoBothLost, Halted as RecoverNoHalted};
+ghost use Rattle.mas_complex.specs.CallCounts.{KeepsCounts};
+ghost use Rattle.mas_complex.specs.Elsewhere.{OnCopies};
 ghost use Rattle.mas_complex.specs.Journals.{kept_all, entries_in};
 ghost use Rattle.mas_complex.specs.Meaning.{StandFor, run};
 ghost use Rattle.mas_complex.specs.Places.{IsAtLevel};
 ghost use Rattle.mas_complex.specs.Seen.{IsOneSeen, ReadsSeen, Stays, HasFound, Chosen, IsNextOr, IsFatedBy, IsUnfit, WasUnfit};
-ghost use Rattle.mas_complex.specs.Recovers.{recover_no, recover_no_seen};
+ghost use Rattle.mas_complex.specs.Recovers.{recover_no, recover_no_seen, recover_stopped};
 ghost use Rattle.mas_complex.specs.Fits.{can_stay};
 ghost use Rattle.mas_complex.specs.Locking.{MayAct, IsOfOther};
 
@@ -83,6 +85,7 @@ fn may_stay(place: Place, room: u8, found: &[Page], other: &[Page]) -> bool
 impl<P: Plant + Drop, C: Steady + Drop> Complex<P, C> {
     fn lose_unless(&mut self, dev: Dev, stays: bool)
         requires ckpt { IsCkpt dev }
+        requires alive { (pick dev self.old.pair.first self.old.pair.second).alive ≡ true }
         ensures base { self.new.base ≡ self.old.base }
         ensures since { self.new.since ≡ self.old.since }
         ensures book { self.new.book ≡ self.old.book }
@@ -99,7 +102,9 @@ impl<P: Plant + Drop, C: Steady + Drop> Complex<P, C> {
         ensures copy { (pick dev self.new.pair.first self.new.pair.second).copy ≡ (pick dev self.old.pair.first self.old.pair.second).copy }
         ensures only { (pick dev self.old.pair.first self.old.pair.second).alive ≡ true → (pick dev self.new.pair.first self.new.pair.second).alive ≡ false → stays ≡ false }
         ensures goes { Goes (P.view self.old.plant) (P.view self.new.plant) }
+        ensures counts { (by : ℕ) → KeepsCounts by self.old.pair.first.alive self.new.pair.first.alive self.old.pair.second.alive self.new.pair.second.alive false (P.view self.old.plant) (P.view self.new.plant) }
         ensures bytes { P.tells → (d : Dev) → (disk_now (P.view self.new.plant) d).bytes ≡ (disk_now (P.view self.old.plant) d).bytes }
+        ensures apart { P.tells → OnCopies (P.view self.old.plant) (P.view self.new.plant) }
     {
         if !stays {
             self.lose(dev);
@@ -121,6 +126,8 @@ impl<P: Plant + Drop, C: Steady + Drop> Complex<P, C> {
         ensures placed { self.new.placed ≡ self.old.placed }
         ensures level { self.new.level ≡ self.old.level }
         ensures goes { Goes (P.view self.old.plant) (P.view self.new.plant) }
+        ensures apart { P.tells → OnCopies (P.view self.old.plant) (P.view self.new.plant) }
+        ensures counts { (by : ℕ) → KeepsCounts by self.old.pair.first.alive self.new.pair.first.alive self.old.pair.second.alive self.new.pair.second.alive false (P.view self.old.plant) (P.view self.new.plant) }
         ensures chosen { Chosen C.reads P.tells (run self.old.base (kept_all self.old.journal.batches ++ entries_in self.old.current)) (entries_in self.old.current) self.old.level self.new.pair.first.alive (C.count self.new.pair.first.copy) (C.room self.new.pair.first.copy) self.new.first (disk_now (P.view self.new.plant) Ckpt1).bytes self.new.pair.second.alive (C.count self.new.pair.second.copy) (C.room self.new.pair.second.copy) self.new.second (disk_now (P.view self.new.plant) Ckpt2).bytes result }
         ensures copy1 { self.new.pair.first.copy ≡ self.old.pair.first.copy }
         ensures copy2 { self.new.pair.second.copy ≡ self.old.pair.second.copy }
@@ -140,6 +147,7 @@ impl<P: Plant + Drop, C: Steady + Drop> Complex<P, C> {
     }
 
     // The pages found where a copy has some.
+    #[tactic(auto, using(crate::proofs::Counted::counts_none, crate::proofs::Apart::on_none))]
     fn choose_any(
         &mut self,
         first: Option<List<Page>>,
@@ -158,6 +166,8 @@ impl<P: Plant + Drop, C: Steady + Drop> Complex<P, C> {
         ensures placed { self.new.placed ≡ self.old.placed }
         ensures level { self.new.level ≡ self.old.level }
         ensures goes { Goes (P.view self.old.plant) (P.view self.new.plant) }
+        ensures apart { P.tells → OnCopies (P.view self.old.plant) (P.view self.new.plant) }
+        ensures counts { (by : ℕ) → KeepsCounts by self.old.pair.first.alive self.new.pair.first.alive self.old.pair.second.alive self.new.pair.second.alive false (P.view self.old.plant) (P.view self.new.plant) }
         ensures none { result ≡ None → IsBothLost self.new.pair.first.alive self.new.pair.second.alive }
         ensures neither { result ≡ None → (first ≡ None) × (second ≡ None) }
         ensures chosen { IfSome result (λ found. Chosen C.reads P.tells (run self.old.base (kept_all self.old.journal.batches ++ entries_in self.old.current)) (entries_in self.old.current) self.old.level self.new.pair.first.alive (C.count self.new.pair.first.copy) (C.room self.new.pair.first.copy) self.new.first (disk_now (P.view self.new.plant) Ckpt1).bytes self.new.pair.second.alive (C.count self.new.pair.second.copy) (C.room self.new.pair.second.copy) self.new.second (disk_now (P.view self.new.plant) Ckpt2).bytes found) }
@@ -202,6 +212,7 @@ impl<P: Plant + Drop, C: Steady + Drop> Complex<P, C> {
         ensures place { OnOk result (pick dev self.new.first self.new.second ≡ AtOpened) }
         ensures reads { OnOk result (P.tells → (pick dev self.new.pair.first self.new.pair.second).alive ≡ true → C.reads (disk_now (P.view self.new.plant) dev).bytes ≡ Some (bytes_of found.now)) }
         ensures others { P.tells → (d : Dev) → d ≢ dev → (disk_now (P.view self.new.plant) d).bytes ≡ (disk_now (P.view self.old.plant) d).bytes }
+        ensures apart { P.tells → OnCopies (P.view self.old.plant) (P.view self.new.plant) }
         ensures both { IsErrOf result PairNoBothLost → IsBothLost self.new.pair.first.alive self.new.pair.second.alive }
         ensures ok { OnOk result (SomeAlive self.new.pair.first.alive self.new.pair.second.alive) }
     {
@@ -212,6 +223,7 @@ impl<P: Plant + Drop, C: Steady + Drop> Complex<P, C> {
     }
 
     // Each copy that counts as alive gets the pages found.
+    #[tactic(auto, using(crate::proofs::Counted::counts_none, crate::proofs::Counted::counts_first, crate::proofs::Counted::counts_second, crate::proofs::Apart::on_none))]
     fn bring(&mut self, by: MemberId, found: &[Page]) -> Result<(), PairNo>
         requires chosen { Chosen C.reads P.tells (run self.old.base (kept_all self.old.journal.batches ++ entries_in self.old.current)) (entries_in self.old.current) self.old.level self.old.pair.first.alive (C.count self.old.pair.first.copy) (C.room self.old.pair.first.copy) self.old.first (disk_now (P.view self.old.plant) Ckpt1).bytes self.old.pair.second.alive (C.count self.old.pair.second.copy) (C.room self.old.pair.second.copy) self.old.second (disk_now (P.view self.old.plant) Ckpt2).bytes found.now }
         ensures base { self.new.base ≡ self.old.base }
@@ -223,6 +235,8 @@ impl<P: Plant + Drop, C: Steady + Drop> Complex<P, C> {
         ensures placed { self.new.placed ≡ self.old.placed }
         ensures level { self.new.level ≡ self.old.level }
         ensures goes { Goes (P.view self.old.plant) (P.view self.new.plant) }
+        ensures apart { P.tells → OnCopies (P.view self.old.plant) (P.view self.new.plant) }
+        ensures counts { KeepsCounts by.0 self.old.pair.first.alive self.new.pair.first.alive self.old.pair.second.alive self.new.pair.second.alive (pair_stopped result) (P.view self.old.plant) (P.view self.new.plant) }
         ensures halted { IsErrOf result PairNoHalted → Rose ((P.view self.old.plant).stops by.0) ((P.view self.new.plant).stops by.0) }
         ensures both { IsErrOf result PairNoBothLost → IsBothLost self.new.pair.first.alive self.new.pair.second.alive }
         ensures ok { OnOk result (SomeAlive self.new.pair.first.alive self.new.pair.second.alive) }
@@ -315,6 +329,8 @@ impl<P: Plant + Drop, C: Steady + Drop> Complex<P, C> {
         ensures book { self.new.book ≡ self.old.book }
         ensures reserved { self.new.reserved ≡ None }
         ensures goes { Goes (P.view self.old.plant) (P.view self.new.plant) }
+        ensures apart { P.tells → OnCopies (P.view self.old.plant) (P.view self.new.plant) }
+        ensures counts { KeepsCounts by.0 self.old.pair.first.alive self.new.pair.first.alive self.old.pair.second.alive self.new.pair.second.alive (recover_stopped result) (P.view self.old.plant) (P.view self.new.plant) }
         ensures halted { IsErrOf result RecoverNoHalted → Rose ((P.view self.old.plant).stops by.0) ((P.view self.new.plant).stops by.0) }
         ensures both { IsErrOf result RecoverNoBothLost → IsBothLost self.new.pair.first.alive self.new.pair.second.alive }
         ensures err { OnErr result ((self.new.journal ≡ self.old.journal) × (self.new.current ≡ self.old.current) × (self.new.level ≡ self.old.level)) }

@@ -6,6 +6,8 @@ ghost use Rattle.spool_disk.specs.View.{View, disk_now};
 ghost use Rattle.duplex_pair.specs.Halves.{Acted};
 ghost use Rattle.duplex_pair.specs.Looks.{WasSeen};
 ghost use Rattle.duplex_pair.specs.Outcomes.{look_stopped};
+ghost use Rattle.mas_complex.specs.CallCounts.{KeepsCounts};
+ghost use Rattle.mas_complex.specs.Elsewhere.{OnCopies};
 ghost use Rattle.mas_complex.specs.Journals.{kept_all, entries_in};
 ghost use Rattle.mas_complex.specs.Meaning.{run};
 ghost use Rattle.spool_disk.specs.Acts.{Goes, Rose};
@@ -38,6 +40,7 @@ impl<P: Plant + Drop, C: Steady + Drop> Complex<P, C> {
         ensures seen { IfOk result (λ look. WasSeen C.count C.room C.room_most C.ready C.reads C.rests P.tells Ckpt1 (P.view self.new.plant) self.old.pair.first.copy self.new.pair.first.copy self.new.pair.first.alive look) }
         ensures next { IfOk result (λ look. P.tells → HasNext (run self.old.base (kept_all self.old.journal.batches ++ entries_in self.old.current)) (entries_in self.old.current) self.old.level self.new.first look) }
         ensures bytes { P.tells → (d : Dev) → (disk_now (P.view self.new.plant) d).bytes ≡ (disk_now (P.view self.old.plant) d).bytes }
+        ensures apart { P.tells → OnCopies (P.view self.old.plant) (P.view self.new.plant) }
     {
         let done = self.pair.look(alloc, &mut self.plant, by, Dev::Ckpt1);
         self.first = place_seen(&done, self.level);
@@ -60,12 +63,14 @@ impl<P: Plant + Drop, C: Steady + Drop> Complex<P, C> {
         ensures seen { IfOk result (λ look. WasSeen C.count C.room C.room_most C.ready C.reads C.rests P.tells Ckpt2 (P.view self.new.plant) self.old.pair.second.copy self.new.pair.second.copy self.new.pair.second.alive look) }
         ensures next { IfOk result (λ look. P.tells → HasNext (run self.old.base (kept_all self.old.journal.batches ++ entries_in self.old.current)) (entries_in self.old.current) self.old.level self.new.second look) }
         ensures bytes { P.tells → (d : Dev) → (disk_now (P.view self.new.plant) d).bytes ≡ (disk_now (P.view self.old.plant) d).bytes }
+        ensures apart { P.tells → OnCopies (P.view self.old.plant) (P.view self.new.plant) }
     {
         let done = self.pair.look(alloc, &mut self.plant, by, Dev::Ckpt2);
         self.second = place_seen(&done, self.level);
         done
     }
 
+    #[tactic(auto, using(crate::proofs::Counted::counts_first))]
     pub(crate) fn see_first(
         &mut self,
         alloc: Global,
@@ -87,7 +92,9 @@ impl<P: Plant + Drop, C: Steady + Drop> Complex<P, C> {
         ensures reads { IfOk result (λ pages. P.tells → ReadsSeen C.reads (disk_now (P.view self.new.plant) Ckpt1).bytes pages) }
         ensures unseen { IfOk result (λ pages. P.tells → pages ≡ None → self.old.pair.first.alive ≡ true → Rose ((P.view self.old.plant).faults (Disk Ckpt1)) ((P.view self.new.plant).faults (Disk Ckpt1))) }
         ensures was_alive { self.new.pair.first.alive ≡ true → self.old.pair.first.alive ≡ true }
+        ensures counts { KeepsCounts by.0 self.old.pair.first.alive self.new.pair.first.alive self.old.pair.second.alive self.new.pair.second.alive (look_stopped result) (P.view self.old.plant) (P.view self.new.plant) }
         ensures bytes { P.tells → (d : Dev) → (disk_now (P.view self.new.plant) d).bytes ≡ (disk_now (P.view self.old.plant) d).bytes }
+        ensures apart { P.tells → OnCopies (P.view self.old.plant) (P.view self.new.plant) }
     {
         match self.look_first(alloc, by)? {
             Look::Pages(pages) => Ok(Some(pages)),
@@ -99,6 +106,7 @@ impl<P: Plant + Drop, C: Steady + Drop> Complex<P, C> {
         }
     }
 
+    #[tactic(auto, using(crate::proofs::Counted::counts_second))]
     pub(crate) fn see_second(
         &mut self,
         alloc: Global,
@@ -120,7 +128,9 @@ impl<P: Plant + Drop, C: Steady + Drop> Complex<P, C> {
         ensures reads { IfOk result (λ pages. P.tells → ReadsSeen C.reads (disk_now (P.view self.new.plant) Ckpt2).bytes pages) }
         ensures unseen { IfOk result (λ pages. P.tells → pages ≡ None → self.old.pair.second.alive ≡ true → Rose ((P.view self.old.plant).faults (Disk Ckpt2)) ((P.view self.new.plant).faults (Disk Ckpt2))) }
         ensures was_alive { self.new.pair.second.alive ≡ true → self.old.pair.second.alive ≡ true }
+        ensures counts { KeepsCounts by.0 self.old.pair.first.alive self.new.pair.first.alive self.old.pair.second.alive self.new.pair.second.alive (look_stopped result) (P.view self.old.plant) (P.view self.new.plant) }
         ensures bytes { P.tells → (d : Dev) → (disk_now (P.view self.new.plant) d).bytes ≡ (disk_now (P.view self.old.plant) d).bytes }
+        ensures apart { P.tells → OnCopies (P.view self.old.plant) (P.view self.new.plant) }
     {
         match self.look_second(alloc, by)? {
             Look::Pages(pages) => Ok(Some(pages)),

@@ -35,3 +35,8 @@ invariant_of-self-2-clause-replied g c told =
     let s = c.args.self.now in
     let place = is_place c.empty_place-place.result c.now.result (record { 0 = 0 }) c.empty_place-place.ensures in
     ∥∥₁_map (s.replied told) (λ are. rw (c.in_ok-push.ensures.ok) (placed_replied s.base s.journal.batches (in_flight s.current) c.empty_place-place.result place.0 are))
+
+pub returns-clause-grown : goal.returns-clause-grown
+returns-clause-grown g c =
+    let place = is_place c.empty_place-place.result c.now.result (record { 0 = 0 }) c.empty_place-place.ensures in
+    (c.empty_place-place.result, c.in_ok-push.ensures.ok, place.0)

@@ -16,6 +16,7 @@ use Rattle.ckpt_copy.specs.Pages.{bytes_of}
 use Rattle.mas_complex.specs.Seen.{HasNext}
 use Rattle.mas_complex.proofs.Sides.{no}
 use Rattle.mas_complex.proofs.Looking.{look_side, look_next, look_stands, some_entries}
+use Rattle.mas_complex.proofs.Apart.{elsewhere_of, on_one}
 use Rattle.mas_complex.proofs.complex.Complex.look_first.Goals as goal
 
 pub invariant_of-self-clause-kept : goal.invariant_of-self-clause-kept
@@ -87,3 +88,8 @@ returns-clause-next g c =
             ∥∥₁_map (s.kept told) (λ kk. (look_stands S s.journal.batches s.current s.level first second old kk (bytes_of pages) (look_next S kk.was kk.coming Ckpt1 old new first.rests first.holds first.place first'.place first.alive first'.alive C.count C.room C.room_most C.ready C.rests C.holds s.pair.first.copy p.first.copy kk.first_at e.acted.goes e.acted.alive (λ dead. ap g.P.Plant.view (e.idle dead)) (e.gone told) g.P.Plant.tells told (λ l. g.met.P.Plant.there c.look-done.new.plant told Ckpt1 l) c.look-done.result (e.during told) e.seen s.level (kept_all s.journal.batches) (entries_in s.current) kk.stands kk.comes c.place_seen-self.ensures (λ pages d r. g.met.C.Copying.rests_reads s.pair.first.copy pages d r) (λ was next d r. g.met.C.Copying.holds_reads s.pair.first.copy was next d r) (λ pages d r. g.met.C.Copying.rests_reads p.first.copy pages d r) pages is opened)).0.queue),
             some_entries (entries_in s.current) (∥∥₁_map (s.kept told) (λ kk. (look_stands S s.journal.batches s.current s.level first second old kk (bytes_of pages) (look_next S kk.was kk.coming Ckpt1 old new first.rests first.holds first.place first'.place first.alive first'.alive C.count C.room C.room_most C.ready C.rests C.holds s.pair.first.copy p.first.copy kk.first_at e.acted.goes e.acted.alive (λ dead. ap g.P.Plant.view (e.idle dead)) (e.gone told) g.P.Plant.tells told (λ l. g.met.P.Plant.there c.look-done.new.plant told Ckpt1 l) c.look-done.result (e.during told) e.seen s.level (kept_all s.journal.batches) (entries_in s.current) kk.stands kk.comes c.place_seen-self.ensures (λ pages d r. g.met.C.Copying.rests_reads s.pair.first.copy pages d r) (λ was next d r. g.met.C.Copying.holds_reads s.pair.first.copy was next d r) (λ pages d r. g.met.C.Copying.rests_reads p.first.copy pages d r) pages is opened)).1)),
           )
+
+pub returns-clause-apart : goal.returns-clause-apart
+returns-clause-apart g c told =
+    let e = c.look-done.ensures in
+    on_one Ckpt1 tt (g.P.Plant.view c.args.self.now.plant) (g.P.Plant.view c.look-done.new.plant) e.acted.goes (elsewhere_of Ckpt1 _ _ _ (e.during told))

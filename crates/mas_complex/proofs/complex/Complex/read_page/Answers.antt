@@ -6,6 +6,7 @@ use Rattle.mas_complex.specs.Crash.{Setting, setting, copy_of}
 use Rattle.ckpt_copy.specs.Changes.{NoMore}
 use Rattle.mas_complex.proofs.Calm.{both_keep, more_reads, read_copy}
 use Rattle.mas_complex.proofs.Shows.{read_bytes}
+use Rattle.mas_complex.proofs.Apart.{on_both}
 use Rattle.mas_complex.proofs.Lost.{pair_lost}
 use Rattle.mas_complex.proofs.complex.Complex.read_page.Goals as goal
 
@@ -44,3 +45,6 @@ invariant_of-self-clause-second_lost g c dead =
 
 pub returns-clause-bytes : goal.returns-clause-bytes
 returns-clause-bytes g c told = read_bytes (g.P.Plant.view c.args.self.now.plant) (g.P.Plant.view c.read_page.new.plant) (c.read_page.ensures.during told)
+
+pub returns-clause-apart : goal.returns-clause-apart
+returns-clause-apart g c told = on_both _ _ (g.P.Plant.view c.args.self.now.plant) (g.P.Plant.view c.read_page.new.plant) (c.read_page.ensures.during told)

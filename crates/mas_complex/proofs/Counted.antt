@@ -1,0 +1,138 @@
+-- What is counted over the calls of a recovery.
+use Rattle.std.proofs.Common.{◌≡◌, ◌≢◌, ◌⊎◌, inl, inr, ⊎_elim, ℕ, ◌+◌, ◌≤◌, Bool, true, false, Result, Ok, Err, refl, sym, ◌∙◌, ap, subst, arith}
+use Rattle.mas_types.specs.declared.ids.Dev.{Dev}
+use Rattle.mas_types.specs.declared.ids.Dev.TheVariants.{Ckpt1, Ckpt2, Spool}
+use Rattle.spool_disk.specs.declared.plant.Part.TheVariants.{Disk as DiskPart}
+use Rattle.spool_disk.specs.View.{View}
+use Rattle.spool_disk.specs.Acts.{Loses, next, top}
+use Rattle.ckpt_copy.specs.Moments.{either_way, goes_on, goes_none}
+use Rattle.duplex_pair.specs.declared.errors.LookNo.{LookNo}
+use Rattle.duplex_pair.specs.declared.errors.LookNo.TheVariants.{Halted as LookHalted, NoMemory as LookNoMemory}
+use Rattle.duplex_pair.specs.declared.errors.PairNo.{PairNo}
+use Rattle.duplex_pair.specs.declared.errors.PairNo.TheVariants.{BothLost as PairBothLost, Halted as PairHalted}
+use Rattle.duplex_pair.specs.Halves.{IsCkpt, pick, other, Acted}
+use Rattle.duplex_pair.specs.Both.{PairActed}
+use Rattle.duplex_pair.specs.Outcomes.{look_stopped, pair_stopped}
+use Rattle.mas_complex.specs.CallCounts.{IsLostOnce, KeepsCounts}
+use Rattle.mas_complex.specs.Recovers.{recover_no, recover_no_seen, recover_stopped}
+
+not_both : (b : Bool) → b ≡ true → b ≡ false → ⊥
+not_both b p q = cc
+
+dev12 : Ckpt1 ≢ Ckpt2
+dev12 e = absurd (cc)
+
+dev21 : Ckpt2 ≢ Ckpt1
+dev21 e = absurd (cc)
+
+disk_dev : (d e : Dev) → DiskPart d ≡ DiskPart e → d ≡ e
+disk_dev d e same = cc
+
+-- once more, or at the greatest count
+more : (was is : Bool) (before after : ℕ) → was ≡ true → is ≡ false → after ≡ next before → before ≤ top → IsLostOnce was is before after
+more was is before after alive dead counted small = ⊎_elim (λ late. inl (omega (arith, counted, small, late))) (λ below. inr (alive, dead, omega (arith, counted, below))) (either_way top before)
+
+once_then : (a b c : Bool) (k l m : ℕ) → (b ≡ true → a ≡ true) → (c ≡ true → b ≡ true) → IsLostOnce a b k l → IsLostOnce b c l m → IsLostOnce a c k m
+once_then a b c k l m f g (inl x) (inl y) = inl (y ∙ x)
+once_then a b c k l m f g (inl x) (inr y) = inr (f y.0, y.1, y.2 ∙ ap (λ (n : ℕ). n + 1) x)
+once_then a b c k l m f g (inr x) (inl y) = inr (x.0, gone c g x.1, y ∙ x.2) where
+  gone : (c : Bool) → (c ≡ true → b ≡ true) → b ≡ false → c ≡ false
+  gone false h dead = refl
+  gone true h dead = absurd (not_both b (h refl) dead)
+once_then a b c k l m f g (inr x) (inr y) = absurd (not_both b y.0 x.1)
+
+pub counts_none : (by : ℕ) (a b : Bool) (v : View) → KeepsCounts by a a b b false v v
+counts_none by a b v = record {
+  goes = goes_none v;
+  alive1 = λ is. is;
+  alive2 = λ is. is;
+  no_other_stop = λ m why. refl;
+  arms = λ m. refl;
+  once1 = inl refl;
+  once2 = inl refl;
+  else_loses = λ d one two. refl;
+}
+
+pub counts_then : (by : ℕ) (a a1 a2 b b1 b2 stopped : Bool) (old mid new : View) → KeepsCounts by a a1 b b1 false old mid → KeepsCounts by a1 a2 b1 b2 stopped mid new → KeepsCounts by a a2 b b2 stopped old new
+counts_then by a a1 a2 b b1 b2 stopped old mid new x y = record {
+  goes = goes_on old mid new x.goes y.goes;
+  alive1 = λ is. x.alive1 (y.alive1 is);
+  alive2 = λ is. x.alive2 (y.alive2 is);
+  no_other_stop = λ m why. y.no_other_stop m why ∙ x.no_other_stop m (inr refl);
+  arms = λ m. y.arms m ∙ x.arms m;
+  once1 = once_then a a1 a2 (old.loses Ckpt1) (mid.loses Ckpt1) (new.loses Ckpt1) x.alive1 y.alive1 x.once1 y.once1;
+  once2 = once_then b b1 b2 (old.loses Ckpt2) (mid.loses Ckpt2) (new.loses Ckpt2) x.alive2 y.alive2 x.once2 y.once2;
+  else_loses = λ d one two. y.else_loses d one two ∙ x.else_loses d one two;
+}
+
+-- acts on one copy, or on both
+pub counts_first : (by : ℕ) (a a' b b' stopped : Bool) (old new : View) → b' ≡ b → Acted by Ckpt1 a a' stopped old new → KeepsCounts by a a' b b' stopped old new
+counts_first by a a' b b' stopped old new same acted = record {
+  goes = acted.goes;
+  alive1 = acted.alive;
+  alive2 = λ is. sym same ∙ is;
+  no_other_stop = acted.no_other_stop;
+  arms = acted.arms;
+  once1 = inl (acted.loses Ckpt1);
+  once2 = inl (acted.loses Ckpt2);
+  else_loses = λ d one two. acted.loses d;
+}
+
+pub counts_second : (by : ℕ) (a a' b b' stopped : Bool) (old new : View) → a' ≡ a → Acted by Ckpt2 b b' stopped old new → KeepsCounts by a a' b b' stopped old new
+counts_second by a a' b b' stopped old new same acted = record {
+  goes = acted.goes;
+  alive1 = λ is. sym same ∙ is;
+  alive2 = acted.alive;
+  no_other_stop = acted.no_other_stop;
+  arms = acted.arms;
+  once1 = inl (acted.loses Ckpt1);
+  once2 = inl (acted.loses Ckpt2);
+  else_loses = λ d one two. acted.loses d;
+}
+
+pub counts_both : (by : ℕ) (a a' b b' stopped : Bool) (old new : View) → PairActed by a a' b b' stopped old new → KeepsCounts by a a' b b' stopped old new
+counts_both by a a' b b' stopped old new acted = record {
+  goes = acted.goes;
+  alive1 = acted.alive1;
+  alive2 = acted.alive2;
+  no_other_stop = acted.no_other_stop;
+  arms = acted.arms;
+  once1 = inl (acted.loses Ckpt1);
+  once2 = inl (acted.loses Ckpt2);
+  else_loses = λ d one two. acted.loses d;
+}
+
+-- a copy that counted as alive is lost by a call
+module _ {H : Type 0} (alive : H → Bool) (one two one' two' : H) (by : ℕ) (old new : View) where
+  pub counts_lost : (dev : Dev) → IsCkpt dev → alive (pick dev one two) ≡ true → alive (pick dev one' two') ≡ false → other dev one' two' ≡ other dev one two → Loses (DiskPart dev) old new
+      → KeepsCounts by (alive one) (alive one') (alive two) (alive two') false old new
+  counts_lost Ckpt1 ckpt was dead same loses = record {
+    goes = loses.goes;
+    alive1 = λ is. was;
+    alive2 = λ is. sym (ap alive same) ∙ is;
+    no_other_stop = λ m why. loses.stops m;
+    arms = loses.arms;
+    once1 = more (alive one) (alive one') (old.loses Ckpt1) (new.loses Ckpt1) was dead (loses.counted Ckpt1 refl) (loses.small Ckpt1 refl);
+    once2 = inl (loses.else_counted Ckpt2 (λ e. dev21 (disk_dev Ckpt2 Ckpt1 e)));
+    else_loses = λ d first second. loses.else_counted d (λ e. first (disk_dev d Ckpt1 e));
+  }
+  counts_lost Ckpt2 ckpt was dead same loses = record {
+    goes = loses.goes;
+    alive1 = λ is. sym (ap alive same) ∙ is;
+    alive2 = λ is. was;
+    no_other_stop = λ m why. loses.stops m;
+    arms = loses.arms;
+    once1 = inl (loses.else_counted Ckpt1 (λ e. dev12 (disk_dev Ckpt1 Ckpt2 e)));
+    once2 = more (alive two) (alive two') (old.loses Ckpt2) (new.loses Ckpt2) was dead (loses.counted Ckpt2 refl) (loses.small Ckpt2 refl);
+    else_loses = λ d first second. loses.else_counted d (λ e. second (disk_dev d Ckpt2 e));
+  }
+  counts_lost (Spool n) ckpt was dead same loses = absurd ckpt
+
+-- who was stopped in a call of a recovery was stopped in it
+pub seen_stopped : {A B : Type 0} (why : LookNo) → recover_stopped {T = A} (Err (recover_no_seen why)) ≡ look_stopped {T = B} (Err why)
+seen_stopped LookHalted = refl
+seen_stopped LookNoMemory = refl
+
+pub brought_stopped : {A B : Type 0} (why : PairNo) → recover_stopped {T = A} (Err (recover_no why)) ≡ pair_stopped {T = B} (Err why)
+brought_stopped PairBothLost = refl
+brought_stopped PairHalted = refl

@@ -1,0 +1,23 @@
+use Rattle.mas_complex.proofs.Apart.{on_one, on_none}
+use Rattle.mas_complex.proofs.Counted.{counts_none, counts_lost}
+use Rattle.mas_complex.proofs.complex.Complex.lose_unless.Goals as goal
+
+pub returns-then-not-stays-clause-counts : goal.returns-then-not-stays-clause-counts
+returns-then-not-stays-clause-counts g c by =
+    let P = g.P.Plant in
+    let s = c.args.self.now in
+    let n = c.lose.new.self in
+    counts_lost (λ h. h.alive) s.pair.first s.pair.second n.pair.first n.pair.second by (P.view s.plant) (P.view n.plant) c.args.dev c.requires.ckpt c.requires.alive c.lose.ensures.dead c.lose.ensures.other c.lose.ensures.loses
+
+pub returns-then-not-stays-clause-apart : goal.returns-then-not-stays-clause-apart
+returns-then-not-stays-clause-apart g c told =
+    let P = g.P.Plant in
+    on_one c.args.dev c.requires.ckpt (P.view c.args.self.now.plant) (P.view c.lose.new.self.plant) c.lose.ensures.loses.goes (c.lose.ensures.elsewhere told)
+
+pub returns-else-not-stays-clause-counts : goal.returns-else-not-stays-clause-counts
+returns-else-not-stays-clause-counts g c by =
+    let s = c.args.self.now in
+    counts_none by s.pair.first.alive s.pair.second.alive (g.P.Plant.view s.plant)
+
+pub returns-else-not-stays-clause-apart : goal.returns-else-not-stays-clause-apart
+returns-else-not-stays-clause-apart g c told = on_none (g.P.Plant.view c.args.self.now.plant)
