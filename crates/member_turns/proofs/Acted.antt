@@ -30,7 +30,7 @@ use Rattle.member_turns.specs.Laws.{with_view, HasBegun, SaysMayGoBack}
 use Rattle.member_turns.proofs.Seats.{each_seat}
 
 -- what holds of each item holds at each place
-at_map : {X : Type 0} (R : ℕ → ℕ → Type 0) (f g : X → ℕ) (d : ℕ) → R d d → ((x : X) → R (f x) (g x)) → (xs : List X) (k : ℕ) → R (slice_index_or (map f xs) k d) (slice_index_or (map g xs) k d)
+pub at_map : {X : Type 0} (R : ℕ → ℕ → Type 0) (f g : X → ℕ) (d : ℕ) → R d d → ((x : X) → R (f x) (g x)) → (xs : List X) (k : ℕ) → R (slice_index_or (map f xs) k d) (slice_index_or (map g xs) k d)
 at_map R f g d none each [] k = none
 at_map R f g d none each (x ∷ xs) zero = each x
 at_map R f g d none each (x ∷ xs) (suc k) = at_map R f g d none each xs k

@@ -32,13 +32,13 @@ use Rattle.member_turns.proofs.Seats.{each_seat}
 use Rattle.member_turns.proofs.BookLemmas.{holder_is}
 use Rattle.member_turns.proofs.Booked.{same_hold}
 
-begun_append : (m : MemberId) (js ks : List Batch) → begun_by m (js ++ ks) ≡ begun_by m js ++ begun_by m ks
+pub begun_append : (m : MemberId) (js ks : List Batch) → begun_by m (js ++ ks) ≡ begun_by m js ++ begun_by m ks
 begun_append m [] ks = refl
 begun_append m (b ∷ js) ks = ap (λ es. (if same_member b.by m then b.entries else []) ++ es) (begun_append m js ks) ∙ sym (append_assoc (if same_member b.by m then b.entries else []) (begun_by m js) (begun_by m ks))
 
 -- a journal whose last place is taken by a batch that is kept
 module _ (b : Batch) (kept : b.fate ≡ Kept) (js : List Batch) (ends : ∥ EndsInPlace js ∥₁) where
-  kept_more : kept_all (with_last b js) ≡ kept_all js ++ b.entries
+  pub kept_more : kept_all (with_last b js) ≡ kept_all js ++ b.entries
   kept_more = ∥∥₁_elim ends (entries_set (kept_all (with_last b js)) (kept_all js ++ b.entries)) (λ p.
       ap (λ l. kept_all (with_last b l)) p.is
       ∙ (ap kept_all (with_last-append b p.before p.place)
@@ -62,11 +62,11 @@ module _ (b : Batch) (kept : b.fate ≡ Kept) (js : List Batch) (ends : ∥ Ends
         none true es e = e
         none false es e = refl
 
-own_each : (by : MemberId) (stopped : Entry → Type 0) (es : List Entry) → All (λ e. e.by ≡ by) es → EachOf (λ e. (e.by.0 ≡ by.0) ⊎ stopped e) es
+pub own_each : (by : MemberId) (stopped : Entry → Type 0) (es : List Entry) → All (λ e. e.by ≡ by) es → EachOf (λ e. (e.by.0 ≡ by.0) ⊎ stopped e) es
 own_each by stopped [] all = tt
 own_each by stopped (e ∷ es) all = (inl (ap (λ (m : MemberId). m.0) (All-head (λ (d : Entry). d.by ≡ by) e es all)), own_each by stopped es (All-tail (λ (d : Entry). d.by ≡ by) e es all))
 
-same_groups : (a b : List Group) → a ≡ b → SyncedGroups a b
+pub same_groups : (a b : List Group) → a ≡ b → SyncedGroups a b
 same_groups a b e = subst (λ c. SyncedGroups a c) e (synced_refl (record { hold = no_hold; printed = 0; told = 0; groups = a })).groups
 
 pub keeps_may : KeepsMayGoBack

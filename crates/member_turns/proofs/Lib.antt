@@ -9,3 +9,5 @@ pub mod TellLemmas
 pub mod SpoolActed
 pub mod EntrySet
 pub mod KeptSame
+pub mod Called
+pub mod LeftGroups

@@ -1,28 +1,37 @@
 -- What calls of a shared value leave to the others, so that it may be given back.
-use Rattle.std.specs.Prelude.{◌≡◌, ℕ, ◌^◌, ◌<◌, ◌≤◌, ◌↔◌, Bool, true, false, List, ◌++◌, length, Option, Some, None, All}
+use Rattle.std.specs.Prelude.{◌≡◌, ◌≢◌, ◌⊎◌, ℕ, ◌^◌, ◌<◌, ◌≤◌, ◌↔◌, Bool, true, false, List, [], ◌∷◌, ◌++◌, length, Option, Some, None, All}
 use Rattle.mas_types.specs.declared.ids.MemberId.{MemberId}
 use Rattle.mas_types.specs.declared.ids.GroupNo.{GroupNo}
 use Rattle.mas_types.specs.declared.ids.Page.{Page}
-use Rattle.mas_types.specs.declared.ids.Dev.TheVariants.{Spool}
+use Rattle.mas_types.specs.declared.ids.Dev.TheVariants.{Ckpt1, Ckpt2, Spool}
 use Rattle.mas_types.specs.declared.journals.Entry.{Entry}
+use Rattle.mas_types.specs.declared.journals.Batch.{Batch}
 use Rattle.mas_types.specs.declared.journals.Fate.TheVariants.{Kept}
 use Rattle.mas_types.specs.declared.answers.Closing.{Closing}
 use Rattle.mas_types.specs.Closings.{closing_line}
-use Rattle.mas_types.specs.Limits.{page_bytes}
+use Rattle.mas_types.specs.Ids.{same_member}
+use Rattle.mas_types.specs.Limits.{members_most, page_bytes}
 use Rattle.spool_disk.specs.declared.plant.Act.{Act}
 use Rattle.spool_disk.specs.declared.plant.Part.TheVariants.{Disk, Console}
 use Rattle.spool_disk.specs.View.{View, disk_now}
-use Rattle.spool_disk.specs.Acts.{Acts, Syncs, Says}
+use Rattle.spool_disk.specs.Acts.{Acts, Syncs, Says, Loses}
+use Rattle.duplex_pair.specs.Halves.{Acted}
+use Rattle.duplex_pair.specs.Both.{PairActed}
+use Rattle.queue_laws.specs.Laws.{resets}
 use Rattle.lock_cycle.specs.Books.{Book, IsMember, is_holder, after_try, after_free, after_stop, after_seize, after_spend}
 use Rattle.gate_facts.specs.declared.facts.Facts.{Facts}
 use Rattle.gate_facts.specs.Values.{marked_at}
 use Rattle.gate_facts.specs.Memory.{MayGiveBack}
-use Rattle.mas_complex.specs.Journals.{kept_all, entries_reserved, begun, fated, with_last, EndsInPlace}
+use Rattle.mas_complex.specs.CallCounts.{KeepsCounts}
+use Rattle.mas_complex.specs.Elsewhere.{OnCopies}
+use Rattle.mas_complex.specs.Journals.{kept_all, entries_reserved, begun, fated, with_last, IsPlace, EndsInPlace}
 use Rattle.mas_complex.specs.Meaning.{run, is_telling, Closes}
 use Rattle.mas_complex.specs.Spool.{IsHeldBy, device_of, ReadsGroup, WritesGroup}
 use Rattle.mas_complex.specs.Texts.{spools_at, IsSynced}
-use Rattle.mas_complex.specs.Locking.{reserved_after_stop}
-use Rattle.member_turns.specs.Desks.{group_on}
+use Rattle.mas_complex.specs.Locking.{IsOwn, reserved_after_stop}
+use Rattle.mas_complex.specs.Seen.{IsFatedBy}
+use Rattle.member_turns.specs.Desks.{group_on, groups_from}
+use Rattle.member_turns.specs.Seats.{shows_stopped}
 use Rattle.member_turns.specs.Parts.{Shown}
 use Rattle.member_turns.specs.Words.{speaker}
 use Rattle.member_turns.specs.Told.{step_told, IsShort}
@@ -112,6 +121,94 @@ WritesMayGoBack = (x : Shown) (view : View) (by : MemberId) (group : GroupNo) (b
     → length bytes.0 ≡ page_bytes → (told ≡ true → IsHeldBy by group (run x.base (kept_all x.batches)))
     → (told ≡ true → HasBegun x) → marked_at cares by.0 ≡ true
     → MayGiveBack by.0 cares (facts_of told x) (facts_of told (with_view x view))
+
+-- CALLS ON THE COPIES
+
+-- the value after a call, which changes all but base, first moment and book to what another one has
+abbrev pub with_call : Shown → Shown → Shown
+with_call x c = record c { reads = x.reads; book = x.book; base = x.base; since = x.since }
+
+-- what acts on one copy count, or on both, and what the loss of one that counted as alive
+abbrev pub CopyActsCount : Type 0
+CopyActsCount = (by : ℕ) (was is other stopped : Bool) (old new : View) →
+    (Acted by Ckpt1 was is stopped old new → KeepsCounts by was is other other stopped old new) × (Acted by Ckpt2 was is stopped old new → KeepsCounts by other other was is stopped old new)
+
+abbrev pub PairActsCount : Type 0
+PairActsCount = (by : ℕ) (was1 is1 was2 is2 stopped : Bool) (old new : View) → PairActed by was1 is1 was2 is2 stopped old new → KeepsCounts by was1 is1 was2 is2 stopped old new
+
+abbrev pub LossesCount : Type 0
+LossesCount = (by : ℕ) (other : Bool) (old new : View) →
+    (Loses (Disk Ckpt1) old new → KeepsCounts by true false other other false old new) × (Loses (Disk Ckpt2) old new → KeepsCounts by other other true false false old new)
+
+-- the member holds the lock, or is the operator while nobody does, and its call leaves so much of what is counted, of the
+-- volumes and of the console
+pub record IsCall (by : MemberId) (stopped told : Bool) (x c : Shown) : Type 0 where
+  pub holds : x.book.holder ≡ by
+  pub counts : KeepsCounts by.0 x.first_alive c.first_alive x.second_alive c.second_alive stopped x.view c.view
+  pub apart : told ≡ true → OnCopies x.view c.view
+  pub begun : told ≡ true → HasBegun x
+
+-- entries that are kept leave the groups of each other member that isn't stopped
+abbrev pub LeavesGroups : MemberId → Shown → List Entry → Type 0
+LeavesGroups by x entries = (m : MemberId) → m.0 ≢ by.0 → shows_stopped x.book m ≡ false
+    → groups_from m 0 (run x.base (kept_all x.batches ++ entries)).owners ≡ groups_from m 0 (run x.base (kept_all x.batches)).owners
+
+-- an entry is of another member than this one, and doesn't reset it
+abbrev pub Passes : MemberId → Entry → Type 0
+Passes m e = (same_member m e.by ≡ false) × (resets m e.command ≡ false)
+
+-- entries that pass by each other member that isn't stopped leave its groups
+abbrev pub PassingLeavesGroups : Type 0
+PassingLeavesGroups = (x : Shown) (by : MemberId) (entries : List Entry) → ((m : MemberId) → m.0 ≢ by.0 → shows_stopped x.book m ≡ false → All (Passes m) entries) → LeavesGroups by x entries
+
+-- after it read a page, settled the copies or lost one
+abbrev pub CallsMayGoBack : Type 0
+CallsMayGoBack = (x c : Shown) (by : MemberId) (stopped told : Bool) (cares : List Bool) → IsCall by stopped told x c → marked_at cares by.0 ≡ true
+    → c.batches ≡ x.batches → c.current ≡ x.current
+    → MayGiveBack by.0 cares (facts_of told x) (facts_of told (with_call x c))
+
+-- after it put pages of its batch on a copy, or opened the first of two gates
+abbrev pub PutsMayGoBack : Type 0
+PutsMayGoBack = (x c : Shown) (by : MemberId) (stopped told : Bool) (cares : List Bool) → IsCall by stopped told x c → marked_at cares by.0 ≡ true
+    → c.batches ≡ x.batches → IsOwn x.current by → IsOwn c.current by
+    → MayGiveBack by.0 cares (facts_of told x) (facts_of told (with_call x c))
+
+-- after it opened the gate with which its batch is kept
+abbrev pub OpensMayGoBack : Type 0
+OpensMayGoBack = (x c : Shown) (by : MemberId) (stopped told : Bool) (cares : List Bool) (now : ℕ) (b : Batch) → IsCall by stopped told x c → marked_at cares by.0 ≡ true
+    → x.current ≡ Some b → All (λ e. e.by ≡ by) b.entries → ∥ EndsInPlace x.batches ∥₁ → c.batches ≡ with_last (fated Kept now b) x.batches → c.current ≡ None
+    → (told ≡ true → LeavesGroups by x b.entries)
+    → MayGiveBack by.0 cares (facts_of told x) (facts_of told (with_call x c))
+
+-- the batch in flight, if there is one, is of a stopped member, with each of its entries
+abbrev pub IsOfStopped : Shown → Option Batch → Type 0
+IsOfStopped x None = Unit {0}
+IsOfStopped x (Some b) = (shows_stopped x.book b.by ≡ true) × (b.by.0 ≤ members_most) × All (λ e. e.by ≡ b.by) b.entries × ∥ EndsInPlace x.batches ∥₁
+
+abbrev pub BatchLeavesGroups : MemberId → Shown → Option Batch → Type 0
+BatchLeavesGroups by x None = Unit {0}
+BatchLeavesGroups by x (Some b) = LeavesGroups by x b.entries
+
+-- after it found out what became of a stopped member's batch
+abbrev pub RecoversMayGoBack : Type 0
+RecoversMayGoBack = (x c : Shown) (by : MemberId) (stopped told : Bool) (cares : List Bool) (now found : ℕ) → IsCall by stopped told x c → marked_at cares by.0 ≡ true
+    → IsOfStopped x x.current → IsFatedBy found x.level now x.current x.batches c.batches → c.current ≡ None
+    → (told ≡ true → BatchLeavesGroups by x x.current)
+    → MayGiveBack by.0 cares (facts_of told x) (facts_of told (with_call x c))
+
+-- the value with a batch reserved
+abbrev pub with_reserved : Shown → List Batch → Option (List Entry) → Shown
+with_reserved x batches reserved = record x { batches = batches; reserved = reserved }
+
+-- the same batches, or with the place of one to come behind them
+abbrev pub HasGrown : List Batch → List Batch → Type 0
+HasGrown was is = (is ≡ was) ⊎ ((place : Batch) × (is ≡ was ++ place ∷ []) × IsPlace place)
+
+-- after it reserved a batch
+abbrev pub ReservesMayGoBack : Type 0
+ReservesMayGoBack = (x : Shown) (by : MemberId) (batches : List Batch) (reserved : Option (List Entry)) (told : Bool) (cares : List Bool) →
+    x.book.holder ≡ by → HasGrown x.batches batches
+    → MayGiveBack by.0 cares (facts_of told x) (facts_of told (with_reserved x batches reserved))
 
 -- a group counts as unsynced at a desk unless no byte of its page is
 abbrev pub UnsyncedAsTheyAre : Type 0

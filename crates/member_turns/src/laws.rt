@@ -1,6 +1,6 @@
 //! What calls of the shared value leave to the others.
 ghost use Rattle.member_turns.specs.Examples.{LinesAreTheirs};
-ghost use Rattle.member_turns.specs.Laws.{ItselfMayGoBack, OneByOne, TriesMayGoBack, FreesMayGoBack, StopsMayGoBack, SeizesMayGoBack, SpendsMayGoBack, KeepsMayGoBack, SaysMayGoBack, ReadsMayGoBack, SyncsMayGoBack, WritesMayGoBack, UnsyncedAsTheyAre, HasBegun, ClosingsTell, OnlyClosingsTell};
+ghost use Rattle.member_turns.specs.Laws.{ItselfMayGoBack, OneByOne, TriesMayGoBack, FreesMayGoBack, StopsMayGoBack, SeizesMayGoBack, SpendsMayGoBack, KeepsMayGoBack, ReservesMayGoBack, CopyActsCount, PairActsCount, LossesCount, PassingLeavesGroups, CallsMayGoBack, PutsMayGoBack, OpensMayGoBack, RecoversMayGoBack, SaysMayGoBack, ReadsMayGoBack, SyncsMayGoBack, WritesMayGoBack, UnsyncedAsTheyAre, HasBegun, ClosingsTell, OnlyClosingsTell};
 ghost use Rattle.member_turns.specs.Parts.{shown_of};
 
 use mas_complex::{Complex, Steady};
@@ -24,6 +24,26 @@ pub fn law_of_lock_calls()
 /// After a batch of its own is kept without a write a member may give the value back.
 pub fn law_of_kept_batches()
     ensures { KeepsMayGoBack }
+{}
+
+/// After each call on the copies, but for one that keeps a batch, the member that holds the lock may give the value back; also after
+/// it reserved a batch.
+pub fn law_of_copy_calls()
+    ensures copy { CopyActsCount }
+    ensures pair { PairActsCount }
+    ensures losses { LossesCount }
+    ensures reserves { ReservesMayGoBack }
+    ensures calls { CallsMayGoBack }
+    ensures puts { PutsMayGoBack }
+{}
+
+/// After the member that holds the lock kept a batch of its own, or gave that of a stopped member its fate, it may give the value
+/// back, where the batch leaves the groups of each other member that isn't stopped. So it does where no entry is of such a member or
+/// resets it.
+pub fn law_of_fates()
+    ensures passing { PassingLeavesGroups }
+    ensures opens { OpensMayGoBack }
+    ensures recovers { RecoversMayGoBack }
 {}
 
 /// After it said a line that begins with its own name a member may give the value back.

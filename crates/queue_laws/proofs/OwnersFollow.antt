@@ -41,7 +41,7 @@ module _ (m : MemberId) (is_reset : MemberId → Bool) where
   abbrev Follows : List Owner → List Owner → Type 0
   Follows = AllZip (OwnerChange m is_reset)
 
-  stay : (gs : List Owner) → Follows gs gs
+  pub stay : (gs : List Owner) → Follows gs gs
   stay [] = tt
   stay (g ∷ gs) = (Stays g, stay gs)
 
@@ -117,7 +117,7 @@ outputs_no_members n i (s ∷ specs) =
     All-append (λ x. is_no_members x ≡ true) (output_places n (record { 0 = i }) (groups_needed s.text)) (places_of_outputs n (i + 1) specs)
     (block-All (λ x. is_no_members x ≡ true) (λ p. owner.Output n (record { 0 = i }) p) 0 (groups_needed s.text) (λ q. refl)) (outputs_no_members n (i + 1) specs)
 
-effect_follows : (Q : Queue) (m : MemberId) (c : Command) → AllZip (OwnerChange m (λ h. resets h c)) Q.owners (row_of Q m c).effect.owners
+pub effect_follows : (Q : Queue) (m : MemberId) (c : Command) → AllZip (OwnerChange m (λ h. resets h c)) Q.owners (row_of Q m c).effect.owners
 effect_follows Q m (command.Begin fields) = stay m _ Q.owners
 effect_follows Q m (command.Take want) = follow_taken m _ want Q.owners
 effect_follows Q m (command.Drop job) =
