@@ -8,10 +8,11 @@ ghost use Rattle.script_lang.specs.Asks.{member_of as member_of_lem, member_in a
 
 use crate::config::{byte_in, number_in};
 use crate::lines::{count_words, word};
-use crate::types::{Ask, Fuse, Run, Step};
+use crate::types::{Ask, Run, Step};
 use mas_types::limits::{VOLUMES_MOST, WIRES_MOST};
 use mas_types::{Dev, LineCause, Lines, MemberId, NoMemory, read_member};
 use operator_cmds::{CommandNo, read_command};
+use spool_disk::Fuse;
 use std::alloc::Global;
 
 /// The greatest number of work units that a step asks for.

@@ -9,4 +9,4 @@ mod script;
 mod types;
 
 pub use script::read_script;
-pub use types::{Ask, Fuse, Script, ScriptNo, Step};
+pub use types::{Ask, Script, ScriptNo, Step};

@@ -3,16 +3,8 @@ ghost use Rattle.std.specs.Prelude.{◌≡◌};
 ghost use Rattle.script_lang.specs.declared.types.ScriptNo.TheVariants.{NoMemory as no_memory};
 
 use mas_types::{Command, Config, Dev, LineCause, Lines, List, MemberId, NoMemory, Route};
+use spool_disk::Fuse;
 use thiserror::Error;
-
-/// What counts down to a member's stop.
-#[derive(Clone, Copy, Debug, PartialEq, Eq)]
-pub enum Fuse {
-    /// Its acts.
-    Any,
-    /// Its prints.
-    Print,
-}
 
 /// What a step asks for.
 #[derive(Debug, Drop)]

@@ -1,5 +1,6 @@
 use mas_types::{Command, Dev, LineCause, List, Name8, NoMemory, default_config};
-use script_lang::{Ask, Fuse, Script, ScriptNo, Step, read_script};
+use script_lang::{Ask, Script, ScriptNo, Step, read_script};
+use spool_disk::Fuse;
 use std::alloc::Global;
 use std::test::Fail;
 
