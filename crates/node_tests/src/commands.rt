@@ -14,7 +14,7 @@ use queue_effect::law_of_fit_tables;
 use queue_laws::fitness::is_fit;
 use std::alloc::Global;
 use std::test::Fail;
-use table_commands::{carry_out, is_plain};
+use table_commands::{give, is_plain};
 
 const ONE: JobNo = JobNo(1);
 
@@ -129,7 +129,7 @@ fn a_display_has_its_lines_before_the_closing_line(rt: HostRuntime) -> Result<()
     Ok(())
 }
 
-// Carries out a command, and gives the number of its reply, 0 for another one.
+// Gives a command, and answers the number of its reply, 0 for another one.
 fn carried(alloc: Global, tables: &mut Tables, command: &Command) -> u32
     requires fit { AreFit tables.old }
     requires spelling { HasSpelling tables.old }
@@ -139,7 +139,7 @@ fn carried(alloc: Global, tables: &mut Tables, command: &Command) -> u32
     if tables.order > 1_000_000 || !is_fit(command) || matches!(command, Command::Restart) {
         return 0;
     }
-    match carry_out(alloc, tables, MemberId(1), command) {
+    match give(alloc, tables, MemberId(1), command) {
         Ok(Reply::Job(job)) => job.0,
         Ok(Reply::Count(count)) => count,
         _ => 0,

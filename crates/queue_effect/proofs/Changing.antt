@@ -39,7 +39,7 @@ use Rattle.output_queue.specs.Outputs as outputs
 use Rattle.queue_effect.specs.Resets.{is_one_of, job_reset, output_reset}
 use Rattle.queue_effect.specs.declared.members.Who.{Who}
 use Rattle.queue_effect.specs.Slots.{emptied_where, changed_where, count_changed}
-use Rattle.queue_effect.specs.Standing.{StandFor}
+use Rattle.table_queues.specs.Telling.{Tell}
 use Rattle.queue_effect.proofs.SlotLemmas.{emptied_told, changed_told}
 
 -- the record of a job with its text
@@ -51,8 +51,8 @@ entered_rec node r lines = record r {
 }
 
 -- a job gets its text
-pub job_entered : (t : Tables) (Q : Queue) (m : MemberId) (n : JobNo) (text : List (List ℕ)) (at : ℕ) (x : JobRec) → StandFor t Q → HasJob (has_number n) t.jobs Q.jobs at x
-    → StandFor (record t { jobs = set t.jobs at (Some (entered_rec t.config.node x (length text))); owners = handed_out m (first_places (thing.Deck n) (groups_needed text)) t.owners }) (entered m n text Q)
+pub job_entered : (t : Tables) (Q : Queue) (m : MemberId) (n : JobNo) (text : List (List ℕ)) (at : ℕ) (x : JobRec) → Tell t Q → HasJob (has_number n) t.jobs Q.jobs at x
+    → Tell (record t { jobs = set t.jobs at (Some (entered_rec t.config.node x (length text))); owners = handed_out m (first_places (thing.Deck n) (groups_needed text)) t.owners }) (entered m n text Q)
 job_entered t Q m n text at x stands has =
     let node : Q.config.node ≡ t.config.node = ap (λ c. c.node) stands.config in
     let told : unordered (entered_rec t.config.node x (length text)) ≡ entered_rec Q.config.node (rec_of has.item) (length text) =
@@ -84,8 +84,8 @@ rec_over false j = refl
 abbrev pub over_rec : Queue → JobRec → JobRec
 over_rec Q r = record r { phase = if in_hardcopy r.phase && not (has_output r.number Q) then phase.Purge else r.phase }
 
-pub job_over : (t : Tables) (Q : Queue) (n : JobNo) (at : ℕ) (x : JobRec) → StandFor t Q → HasJob (has_number n) t.jobs Q.jobs at x
-    → StandFor (record t { jobs = set t.jobs at (Some (over_rec Q x)) }) (with_job_over n Q)
+pub job_over : (t : Tables) (Q : Queue) (n : JobNo) (at : ℕ) (x : JobRec) → Tell t Q → HasJob (has_number n) t.jobs Q.jobs at x
+    → Tell (record t { jobs = set t.jobs at (Some (over_rec Q x)) }) (with_job_over n Q)
 job_over t Q n at x stands has =
     let told : unordered (over_rec Q x) ≡ rec_of (outputs_over Q has.item) =
     ap (over_rec Q) (sym has.is) ∙ sym (rec_over (in_hardcopy has.item.phase && not (has_output has.item.number Q)) has.item) in
@@ -100,7 +100,7 @@ job_over t Q n at x stands has =
       last = stands.last;
     }
 
-pub no_job_over : (t : Tables) (Q : Queue) (n : JobNo) → StandFor t Q → find (has_number n) Q.jobs ≡ None → StandFor t (with_job_over n Q)
+pub no_job_over : (t : Tables) (Q : Queue) (n : JobNo) → Tell t Q → find (has_number n) Q.jobs ≡ None → Tell t (with_job_over n Q)
 no_job_over t Q n stands none = record {
   config = stands.config;
   jobs = rw (change_none (has_number n) (outputs_over Q) Q.jobs none) stands.jobs;
@@ -124,8 +124,8 @@ pub outputs_reset : (who : Who) (slots : List (Option OutRec)) (os : List Output
 outputs_reset who slots os are =
     changed_told outputs.order_of outputs.unordered outputs.rec_of (λ (r : OutRec). is_one_of who r.busy) output_reset reset_output (λ a. refl) (λ a b same. ap output_reset same) slots os are
 
-pub members_reset : (t : Tables) (Q : Queue) (who : Who) → StandFor t Q
-    → StandFor (record t { jobs = map (changed_where (λ (r : JobRec). is_one_of who r.busy) job_reset) t.jobs; outputs = map (changed_where (λ (r : OutRec). is_one_of who r.busy) output_reset) t.outputs; owners = freed (is_held_by (is_one_of who)) t.owners }) (reset (is_one_of who) Q)
+pub members_reset : (t : Tables) (Q : Queue) (who : Who) → Tell t Q
+    → Tell (record t { jobs = map (changed_where (λ (r : JobRec). is_one_of who r.busy) job_reset) t.jobs; outputs = map (changed_where (λ (r : OutRec). is_one_of who r.busy) output_reset) t.outputs; owners = freed (is_held_by (is_one_of who)) t.owners }) (reset (is_one_of who) Q)
 members_reset t Q who stands = record {
   config = stands.config;
   jobs = jobs_reset who t.jobs Q.jobs stands.jobs;
@@ -139,8 +139,8 @@ members_reset t Q who stands = record {
 
 -- OUTPUTS OF A JOB
 
-pub outputs_dropped : (t : Tables) (Q : Queue) (n : JobNo) → StandFor t Q
-    → StandFor (record t { outputs = map (emptied_where (λ (r : OutRec). same_number r.job n)) t.outputs; owners = freed (is_of_any (filter (is_of n) Q.outputs)) t.owners }) (without_outputs_of n Q)
+pub outputs_dropped : (t : Tables) (Q : Queue) (n : JobNo) → Tell t Q
+    → Tell (record t { outputs = map (emptied_where (λ (r : OutRec). same_number r.job n)) t.outputs; owners = freed (is_of_any (filter (is_of n) Q.outputs)) t.owners }) (without_outputs_of n Q)
 outputs_dropped t Q n stands = record {
   config = stands.config;
   jobs = stands.jobs;
@@ -152,8 +152,8 @@ outputs_dropped t Q n stands = record {
   last = stands.last;
 }
 
-pub outputs_released : (t : Tables) (Q : Queue) (n : JobNo) → StandFor t Q
-    → StandFor (record t { outputs = map (changed_where (λ (r : OutRec). same_number r.job n && r.held) (λ (r : OutRec). record r { held = false })) t.outputs }) (record Q { outputs = change (is_held_of n) released Q.outputs })
+pub outputs_released : (t : Tables) (Q : Queue) (n : JobNo) → Tell t Q
+    → Tell (record t { outputs = map (changed_where (λ (r : OutRec). same_number r.job n && r.held) (λ (r : OutRec). record r { held = false })) t.outputs }) (record Q { outputs = change (is_held_of n) released Q.outputs })
 outputs_released t Q n stands = record {
   config = stands.config;
   jobs = stands.jobs;
@@ -205,8 +205,8 @@ module _ {A : Type 0} (a b : Option A) (rest : List (Option A)) where
 
 -- OUTPUTS THAT GO
 
-pub output_taken : (t : Tables) (Q : Queue) (n : JobNo) (i : OutNo) (at : ℕ) (x : OutRec) → StandFor t Q → HasOutput (has_key n i) t.outputs Q.outputs at x
-    → StandFor (record t { outputs = set t.outputs at None; owners = freed (is_things (thing.Output n i)) t.owners }) (output_removed n i Q)
+pub output_taken : (t : Tables) (Q : Queue) (n : JobNo) (i : OutNo) (at : ℕ) (x : OutRec) → Tell t Q → HasOutput (has_key n i) t.outputs Q.outputs at x
+    → Tell (record t { outputs = set t.outputs at None; owners = freed (is_things (thing.Output n i)) t.owners }) (output_removed n i Q)
 output_taken t Q n i at x stands has = record {
   config = stands.config;
   jobs = stands.jobs;
@@ -220,7 +220,7 @@ output_taken t Q n i at x stands has = record {
 
 -- LINES
 
-pub line_changed : (t : Tables) (Q : Queue) (l : ℕ) (f : LineCount → LineCount) → StandFor t Q → StandFor (record t { lines = count_changed l f t.lines }) (change_wire l f Q)
+pub line_changed : (t : Tables) (Q : Queue) (l : ℕ) (f : LineCount → LineCount) → Tell t Q → Tell (record t { lines = count_changed l f t.lines }) (change_wire l f Q)
 line_changed t Q l f stands = record {
   config = stands.config;
   jobs = stands.jobs;
@@ -257,17 +257,17 @@ find_never test [] never = refl
 find_never test (x ∷ xs) never = rw (never x) (find_never test xs never)
 
 module _ (t : Tables) (l : ℕ) where
-  pub current_some : (count : LineCount) (o : Option (Found JobRec)) → ((Q : Queue) → StandFor t Q → wire_at Q l ≡ Some count)
+  pub current_some : (count : LineCount) (o : Option (Found JobRec)) → ((Q : Queue) → Tell t Q → wire_at Q l ≡ Some count)
       → IfSome o (λ f. StandsFirst order_of (sending count.current) t.jobs f.at f.item)
-      → IfSome o (λ f. (Q : Queue) → StandFor t Q → HasJob (is_current_on Q l) t.jobs Q.jobs f.at f.item)
+      → IfSome o (λ f. (Q : Queue) → Tell t Q → HasJob (is_current_on Q l) t.jobs Q.jobs f.at f.item)
   current_some count None wired h = tt
   current_some count (Some f) wired h = λ Q stands.
       let told = first_told {B = Job} order_of unordered rec_of t.jobs (Some f) (sending count.current) h Q.jobs stands.jobs in
       subst (λ (p : Job → Bool). HasJob p t.jobs Q.jobs f.at f.item) (current_test Q l count (wired Q stands)) told
 
-  pub current_none : (count : LineCount) (o : Option (Found JobRec)) → ((Q : Queue) → StandFor t Q → wire_at Q l ≡ Some count)
+  pub current_none : (count : LineCount) (o : Option (Found JobRec)) → ((Q : Queue) → Tell t Q → wire_at Q l ≡ Some count)
       → IfNone o (find (sending count.current) (listed order_of t.jobs) ≡ None)
-      → IfNone o ((Q : Queue) → StandFor t Q → find (is_current_on Q l) Q.jobs ≡ None)
+      → IfNone o ((Q : Queue) → Tell t Q → find (is_current_on Q l) Q.jobs ≡ None)
   current_none count (Some f) wired h = tt
   current_none count None wired h = λ Q stands.
       let told = none_told {B = Job} order_of unordered rec_of t.jobs None (sending count.current) h Q.jobs stands.jobs in
@@ -310,7 +310,7 @@ module _ (slots : List (Option JobRec)) (counts : List LineCount) (routes : List
 -- WHAT IS FOUND AMONG OUTPUTS
 
 pub found_outputs : (t : Tables) (test : Output → Bool) (o : Option (Found OutRec)) → IfSome o (λ f. (os : List Output) → AreOutputs t.outputs os → HasOutput test t.outputs os f.at f.item)
-    → IfSome o (λ f. (Q : Queue) → StandFor t Q → HasOutput test t.outputs Q.outputs f.at f.item)
+    → IfSome o (λ f. (Q : Queue) → Tell t Q → HasOutput test t.outputs Q.outputs f.at f.item)
 found_outputs t test None h = tt
 found_outputs t test (Some f) h = λ Q stands. h Q.outputs stands.outputs
 
@@ -332,7 +332,7 @@ abbrev pub is_elsewhere_of : MemberId → JobNo → Output → Bool
 is_elsewhere_of m n o = is_of n o && is_somebody o.busy && not (same_member o.busy m)
 
 -- Cancel is refused for an output that is busy elsewhere
-pub cancel_elsewhere : (t : Tables) (Q : Queue) (m : MemberId) (n : JobNo) (at other : ℕ) (x : JobRec) (y : OutRec) → StandFor t Q → HasJob (has_number n) t.jobs Q.jobs at x
+pub cancel_elsewhere : (t : Tables) (Q : Queue) (m : MemberId) (n : JobNo) (at other : ℕ) (x : JobRec) (y : OutRec) → Tell t Q → HasJob (has_number n) t.jobs Q.jobs at x
     → HasOutput (is_elsewhere_of m n) t.outputs Q.outputs other y
     → (in_purge x.phase || (in_xmit x.phase && list_any (λ count. same_number count.current x.number) t.lines)) ≡ false
     → first_some (cancel_row Q m n).refusals ≡ Some (refusal.InUse y.busy)

@@ -27,15 +27,16 @@ use Rattle.output_queue.proofs.OutputLemmas.{length-outputs}
 use Rattle.track_groups.specs.Groups.{given}
 use Rattle.track_groups.specs.Laws.{AreNoMembers, TextsAreNoMembers, GivesInTurn, HandsOut}
 use Rattle.job_queue.specs.Jobs.{HasJob}
-use Rattle.queue_effect.specs.Standing.{StandFor, Leaves}
+use Rattle.table_queues.specs.Telling.{Tell}
+use Rattle.queue_effect.specs.Standing.{Leaves}
 use Rattle.queue_effect.specs.Working.{in_stage, not_at_work}
 use Rattle.queue_effect.specs.declared.working.Stage.TheVariants as stage
 use Rattle.queue_effect.proofs.Changing.{three_none, three_some}
 use Rattle.queue_effect.proofs.Leaving.{done_row, refused}
 
 -- no outputs
-pub none_added : (t : Tables) (Q : Queue) (m : MemberId) (n : JobNo) (i : ℕ) → StandFor t Q
-    → StandFor t (record Q { outputs = Q.outputs ++ new_outputs n i []; owners = given m (places_of_outputs n i []) Q.owners })
+pub none_added : (t : Tables) (Q : Queue) (m : MemberId) (n : JobNo) (i : ℕ) → Tell t Q
+    → Tell t (record Q { outputs = Q.outputs ++ new_outputs n i []; owners = given m (places_of_outputs n i []) Q.owners })
 none_added t Q m n i stands = rw (append-nil Q.outputs, given_none m Q.owners) stands
   where
     given_none : (m : MemberId) (gs : List Owner) → given m [] gs ≡ gs
@@ -44,8 +45,8 @@ none_added t Q m n i stands = rw (append-nil Q.outputs, given_none m Q.owners) s
 
 -- a first output and then the others
 pub more_added : (texts : TextsAreNoMembers) (turns : GivesInTurn) (t : Tables) (Q : Queue) (m : MemberId) (n : JobNo) (i : ℕ) (s : OutSpec) (specs : List OutSpec)
-    → StandFor t (record Q { outputs = (Q.outputs ++ new_output n i s ∷ []) ++ new_outputs n (i + 1) specs; owners = given m (places_of_outputs n (i + 1) specs) (given m (output_places n (record { 0 = i }) (groups_needed s.text)) Q.owners) })
-    → StandFor t (record Q { outputs = Q.outputs ++ new_outputs n i (s ∷ specs); owners = given m (places_of_outputs n i (s ∷ specs)) Q.owners })
+    → Tell t (record Q { outputs = (Q.outputs ++ new_output n i s ∷ []) ++ new_outputs n (i + 1) specs; owners = given m (places_of_outputs n (i + 1) specs) (given m (output_places n (record { 0 = i }) (groups_needed s.text)) Q.owners) })
+    → Tell t (record Q { outputs = Q.outputs ++ new_outputs n i (s ∷ specs); owners = given m (places_of_outputs n i (s ∷ specs)) Q.owners })
 more_added texts turns t Q m n i s specs stands =
     let together = turns m (output_places n (record { 0 = i }) (groups_needed s.text)) (places_of_outputs n (i + 1) specs) Q.owners (texts m (thing.Output n (record { 0 = i })) (groups_needed s.text)) in
     record {
@@ -75,8 +76,8 @@ abbrev pub ended_rec : JobRec → JobRec
 ended_rec r = record r { phase = if r.cancelled then phase.Purge else phase.Output; busy = nobody }
 
 -- the job has ended
-pub job_ended : (t : Tables) (Q : Queue) (n : JobNo) (at : ℕ) (x : JobRec) → StandFor t Q → HasJob (has_number n) t.jobs Q.jobs at x
-    → StandFor (record t { jobs = set t.jobs at (Some (ended_rec x)) }) (change_job n ended Q)
+pub job_ended : (t : Tables) (Q : Queue) (n : JobNo) (at : ℕ) (x : JobRec) → Tell t Q → HasJob (has_number n) t.jobs Q.jobs at x
+    → Tell (record t { jobs = set t.jobs at (Some (ended_rec x)) }) (change_job n ended Q)
 job_ended t Q n at x stands has = record {
   config = stands.config;
   jobs = has.changed (ended_rec x) ended refl (ap ended_rec (sym has.is));
@@ -90,8 +91,8 @@ job_ended t Q n at x stands has = record {
 
 -- what the member has of groups beyond those of the outputs becomes free
 pub rest_freed : (texts : TextsAreNoMembers) (all : HandsOut) (t : Tables) (Q : Queue) (m : MemberId) (n : JobNo) (specs : List OutSpec)
-    → StandFor t (record Q { outputs = Q.outputs ++ new_outputs n 1 specs; owners = given m (places_of_outputs n 1 specs) Q.owners })
-    → StandFor (record t { owners = freed (is_members m) t.owners }) (with_outputs m n specs Q)
+    → Tell t (record Q { outputs = Q.outputs ++ new_outputs n 1 specs; owners = given m (places_of_outputs n 1 specs) Q.owners })
+    → Tell (record t { owners = freed (is_members m) t.owners }) (with_outputs m n specs Q)
 rest_freed texts all t Q m n specs stands = record {
   config = stands.config;
   jobs = stands.jobs;
@@ -108,7 +109,7 @@ rest_freed texts all t Q m n specs stands = record {
 abbrev NotAtWork : Queue → MemberId → JobNo → Option Refusal
 NotAtWork Q m n = first_some (not_at_work Q m n (in_stage stage.Run))
 
-module _ (t : Tables) (Q : Queue) (m : MemberId) (n : JobNo) (specs : List OutSpec) (stands : StandFor t Q) where
+module _ (t : Tables) (Q : Queue) (m : MemberId) (n : JobNo) (specs : List OutSpec) (stands : Tell t Q) where
   abbrev no_job : Option Refusal
   no_job = none_such refusal.NoJob (job_at Q n)
 
@@ -131,7 +132,7 @@ module _ (t : Tables) (Q : Queue) (m : MemberId) (n : JobNo) (specs : List OutSp
     same_flag : has.item.cancelled ≡ x.cancelled
     same_flag = ap (λ (r : JobRec). r.cancelled) has.is
 
-    pub ends_cancelled : x.cancelled ≡ true → StandFor new (with_outputs m n [] (change_job n ended Q)) → Leaves new Q (ended_row Q m n specs) (reply.Count 0)
+    pub ends_cancelled : x.cancelled ≡ true → Tell new (with_outputs m n [] (change_job n ended Q)) → Leaves new Q (ended_row Q m n specs) (reply.Count 0)
     ends_cancelled was after =
         let flag : has.item.cancelled ≡ true = same_flag ∙ was in
         let free : first_some others ≡ None = rw (has.found, flag) refl in
@@ -151,18 +152,18 @@ module _ (t : Tables) (Q : Queue) (m : MemberId) (n : JobNo) (specs : List OutSp
           let first : first_some others ≡ Some refusal.Nothing = rw (has.found, flag, room, lacks) refl in
           refused t Q (ended_row Q m n specs) refusal.Nothing stands (three_none no_job phase_wrong elsewhere others allowed ∙ first)
 
-      pub ends : are_outputs_full Q specs ≡ false → lacks_groups Q m specs ≡ false → StandFor new (with_outputs m n specs (change_job n ended Q)) → Leaves new Q (ended_row Q m n specs) (reply.Count (length specs))
+      pub ends : are_outputs_full Q specs ≡ false → lacks_groups Q m specs ≡ false → Tell new (with_outputs m n specs (change_job n ended Q)) → Leaves new Q (ended_row Q m n specs) (reply.Count (length specs))
       ends room groups after =
           let free : first_some others ≡ None = rw (has.found, flag, room, groups) refl in
           done_row new Q (ended_row Q m n specs) (reply.Count (length specs)) (three_none no_job phase_wrong elsewhere others allowed ∙ free) (rw (has.found, flag) after) (rw (has.found, flag) refl)
 
 -- what tables tell of full slots and of groups that are lacking
-pub full_told : (t : Tables) (Q : Queue) (specs : List OutSpec) → StandFor t Q → are_outputs_full Q specs ≡ nat_lt t.config.outputs (length (used t.outputs) + length specs)
+pub full_told : (t : Tables) (Q : Queue) (specs : List OutSpec) → Tell t Q → are_outputs_full Q specs ≡ nat_lt t.config.outputs (length (used t.outputs) + length specs)
 full_told t Q specs stands =
     ap (λ (c : Config). nat_lt c.outputs (length Q.outputs + length specs)) stands.config
     ∙ ap (λ (k : ℕ). nat_lt t.config.outputs (k + length specs)) (sym (length-outputs t.outputs Q.outputs stands.outputs))
 
-pub lacks_told : (t : Tables) (Q : Queue) (m : MemberId) (specs : List OutSpec) → StandFor t Q → lacks_groups Q m specs ≡ nat_lt (member_count m t.owners) (groups_of_outputs specs)
+pub lacks_told : (t : Tables) (Q : Queue) (m : MemberId) (specs : List OutSpec) → Tell t Q → lacks_groups Q m specs ≡ nat_lt (member_count m t.owners) (groups_of_outputs specs)
 lacks_told t Q m specs stands = ap (λ (gs : List Owner). nat_lt (member_count m gs) (groups_of_outputs specs)) stands.owners
 
 pub no_items : (xs : List OutSpec) → length xs ≡ 0 → xs ≡ []

@@ -19,34 +19,35 @@ use Rattle.mas_types.specs.Queue.{printing_at}
 use Rattle.mas_types.specs.Selection.{is_for_printer}
 use Rattle.mas_types.specs.Commands.Printing.{pick_row, picked_by}
 use Rattle.ckpt_pages.specs.declared.tables.Tables.{Tables}
-use Rattle.queue_effect.specs.Standing.{StandFor, Leaves}
+use Rattle.table_queues.specs.Telling.{Tell}
+use Rattle.queue_effect.specs.Standing.{Leaves}
 
 -- a refused row leaves all as it was
-pub refused : (t : Tables) (Q : Queue) (row : Row) (why : Refusal) → StandFor t Q → first_some row.refusals ≡ Some why → Leaves t Q row (reply.No why)
+pub refused : (t : Tables) (Q : Queue) (row : Row) (why : Refusal) → Tell t Q → first_some row.refusals ≡ Some why → Leaves t Q row (reply.No why)
 refused t Q row why stands is = record { stands = rw is stands; reply = rw is refl }
 
 -- a row that isn't refused has its effect
-pub done_row : (t : Tables) (Q : Queue) (row : Row) (r : Reply) → first_some row.refusals ≡ None → StandFor t row.effect → row.answer ≡ r → Leaves t Q row r
+pub done_row : (t : Tables) (Q : Queue) (row : Row) (r : Reply) → first_some row.refusals ≡ None → Tell t row.effect → row.answer ≡ r → Leaves t Q row r
 done_row t Q row r is stands answer = record { stands = rw is stands; reply = rw (is, answer) refl }
 
 -- a job of the tables is changed as that of the queue
-pub job_changed : (t : Tables) (Q : Queue) (test : Job → Bool) (at : ℕ) (x y : JobRec) (f : Job → Job) (g : JobRec → JobRec) → StandFor t Q → HasJob test t.jobs Q.jobs at x
+pub job_changed : (t : Tables) (Q : Queue) (test : Job → Bool) (at : ℕ) (x y : JobRec) (f : Job → Job) (g : JobRec → JobRec) → Tell t Q → HasJob test t.jobs Q.jobs at x
     → ((j : Job) → rec_of j ≡ unordered x → rec_of (f j) ≡ g (rec_of j)) → y.order ≡ x.order → unordered y ≡ g (unordered x)
-    → StandFor (record t { jobs = set t.jobs at (Some y) }) (record Q { jobs = change_first test f Q.jobs })
+    → Tell (record t { jobs = set t.jobs at (Some y) }) (record Q { jobs = change_first test f Q.jobs })
 job_changed t Q test at x y f g stands has moves same shows =
     let told : unordered y ≡ rec_of (f has.item) = shows ∙ ap g (sym has.is) ∙ sym (moves has.item has.is) in
     record { config = stands.config; jobs = has.changed y f same told; outputs = stands.outputs; owners = stands.owners; members = stands.members; routes = stands.routes; lines = stands.lines; last = stands.last }
 
 -- an output of the tables is changed as that of the queue
-pub output_changed : (t : Tables) (Q : Queue) (test : Output → Bool) (at : ℕ) (x y : OutRec) (f : Output → Output) (g : OutRec → OutRec) → StandFor t Q → HasOutput test t.outputs Q.outputs at x
+pub output_changed : (t : Tables) (Q : Queue) (test : Output → Bool) (at : ℕ) (x y : OutRec) (f : Output → Output) (g : OutRec → OutRec) → Tell t Q → HasOutput test t.outputs Q.outputs at x
     → ((o : Output) → outputs.rec_of o ≡ outputs.unordered x → outputs.rec_of (f o) ≡ g (outputs.rec_of o)) → y.order ≡ x.order → outputs.unordered y ≡ g (outputs.unordered x)
-    → StandFor (record t { outputs = set t.outputs at (Some y) }) (record Q { outputs = change_first test f Q.outputs })
+    → Tell (record t { outputs = set t.outputs at (Some y) }) (record Q { outputs = change_first test f Q.outputs })
 output_changed t Q test at x y f g stands has moves same shows =
     let told : outputs.unordered y ≡ outputs.rec_of (f has.item) = shows ∙ ap g (sym has.is) ∙ sym (moves has.item has.is) in
     record { config = stands.config; jobs = stands.jobs; outputs = has.changed y f same told; owners = stands.owners; members = stands.members; routes = stands.routes; lines = stands.lines; last = stands.last }
 
 -- the output that is selected becomes busy at the member
-pub picked : (t : Tables) (Q : Queue) (m : MemberId) (at : ℕ) (x : OutRec) → StandFor t Q → printing_at Q m ≡ None → HasOutput (is_for_printer Q m) t.outputs Q.outputs at x
+pub picked : (t : Tables) (Q : Queue) (m : MemberId) (at : ℕ) (x : OutRec) → Tell t Q → printing_at Q m ≡ None → HasOutput (is_for_printer Q m) t.outputs Q.outputs at x
     → Leaves (record t { outputs = set t.outputs at (Some (record x { busy = m })) }) Q (pick_row Q m) (reply.Output x.job x.index)
 picked t Q m at x stands none has =
     let job : has.item.job ≡ x.job = ap (λ (r : OutRec). r.job) has.is in

@@ -28,7 +28,8 @@ use Rattle.ckpt_pages.specs.QueueOf.{used}
 use Rattle.cmd_report.specs.Named.{IsNamed}
 use Rattle.slot_order.proofs.Rising.{All-in_order}
 use Rattle.output_queue.specs.Outputs.{AreOutputs}
-use Rattle.queue_effect.specs.Standing.{StandFor, Leaves, AreFit, IsFitJob, IsFitOutput}
+use Rattle.table_queues.specs.Telling.{Tell}
+use Rattle.queue_effect.specs.Standing.{Leaves, AreFit, IsFitJob, IsFitOutput}
 use Rattle.lay_bytes.specs.declared.records.JobRec.{JobRec}
 use Rattle.lay_bytes.specs.declared.records.OutRec.{OutRec}
 use Rattle.slot_order.specs.Listed.{listed}
@@ -126,7 +127,7 @@ module _ (t : Tables) (fit : AreFit t) where
   pub part_named : (gs : List Owner) (ps : List Job) (qs : List Output) (ss : List Setting) → All (λ j. j.busy.0 ≤ members_most) ps → All (λ o. o.busy.0 ≤ members_most) qs → length ss ≤ members_most → IsNamed (part ps qs gs ss)
   part_named gs ps qs ss a b c = record { jobs = a; outputs = b; members = c }
 
-  module _ (Q : Queue) (stands : StandFor t Q) where
+  module _ (Q : Queue) (stands : Tell t Q) where
     jobs_alike : map jobs.rec_of js ≡ map jobs.rec_of Q.jobs
     jobs_alike = told_jobs (listed jobs.order_of t.jobs) ∙ stands.jobs
 
@@ -155,8 +156,8 @@ same_queue Q answer None = refl
 same_queue Q answer (Some why) = refl
 
 -- a display changes nothing
-pub shown_leaves : (t : Tables) (Q : Queue) (w : What) (r : Reply) → StandFor t Q → (done Q (show_row Q w)).1 ≡ r → Leaves t Q (show_row Q w) r
+pub shown_leaves : (t : Tables) (Q : Queue) (w : What) (r : Reply) → Tell t Q → (done Q (show_row Q w)).1 ≡ r → Leaves t Q (show_row Q w) r
 shown_leaves t Q w r stands says = record {
-  stands = subst (StandFor t) (sym (same_queue Q (reply.Shown (shown Q w)) (first_some (shown_of_none Q w)))) stands;
+  stands = subst (Tell t) (sym (same_queue Q (reply.Shown (shown Q w)) (first_some (shown_of_none Q w)))) stands;
   reply = says;
 }

@@ -1,4 +1,4 @@
--- Which queues tables stand for, and what a command on tables comes to.
+-- What a command on tables comes to, and which tables may be given one.
 use Rattle.std.specs.Prelude.{◌≡◌, ◌≤◌, ◌<◌, ℕ, All}
 use Rattle.mas_types.specs.declared.queues.Queue.{Queue}
 use Rattle.mas_types.specs.declared.commands.Reply.{Reply}
@@ -10,28 +10,16 @@ use Rattle.lay_bytes.specs.declared.records.OutRec.{OutRec}
 use Rattle.ckpt_pages.specs.declared.tables.Tables.{Tables}
 use Rattle.ckpt_pages.specs.QueueOf.{used}
 use Rattle.ckpt_pages.specs.Shape.{HasShape}
-use Rattle.job_queue.specs.Jobs.{AreJobs}
-use Rattle.output_queue.specs.Outputs.{AreOutputs}
+use Rattle.table_queues.specs.Telling.{Tell}
 
--- the tables tell all of the queue but its texts, of which they tell the numbers of lines
-pub record StandFor (t : Tables) (Q : Queue) : Type 0 where
-  pub config : Q.config ≡ t.config
-  pub jobs : AreJobs t.jobs Q.jobs
-  pub outputs : AreOutputs t.outputs Q.outputs
-  pub owners : Q.owners ≡ t.owners
-  pub members : Q.members ≡ t.members
-  pub routes : Q.routes ≡ t.routes
-  pub lines : Q.lines ≡ t.lines
-  pub last : Q.last ≡ t.last
-
--- the tables stand for what the row leaves of the queue, and the reply is the row's
+-- the tables tell what the row leaves of the queue, and the reply is the row's
 pub record Leaves (t : Tables) (Q : Queue) (row : Row) (r : Reply) : Type 0 where
-  pub stands : StandFor t (done Q row).0
+  pub stands : Tell t (done Q row).0
   pub reply : (done Q row).1 ≡ r
 
--- so for each queue that the tables stood for
+-- so for each queue that the tables told
 abbrev pub Plays : Tables → Tables → (Queue → Row) → Reply → Type 0
-Plays old new row r = (Q : Queue) → StandFor old Q → Leaves new Q (row Q) r
+Plays old new row r = (Q : Queue) → Tell old Q → Leaves new Q (row Q) r
 
 -- it holds where the reply is a refusal
 abbrev pub IfRefused : Reply → Type 0 → Type 0

@@ -17,7 +17,7 @@ use ckpt_pages::Tables;
 use mas_types::{Command, MemberId, NoMemory, Reply};
 use std::alloc::Global;
 
-/// Gives a command of a member: for each queue that the tables stand for, they stand for what the command leaves of it, and the
+/// Gives a command of a member: for each queue that the tables tell, they tell what the command leaves of it, and the
 /// reply is the command's. A refused command changes nothing, and neither does one for which there is no memory.
 ///
 /// The tables have their shape, their orders are below the next one, which is below 2^63 - 32, and what is busy is so at nobody

@@ -7,7 +7,8 @@ ghost use Rattle.ckpt_pages.specs.QueueOf.{used};
 ghost use Rattle.job_queue.specs.Jobs.{order_of as job_order};
 ghost use Rattle.output_queue.specs.Outputs.{order_of as output_order};
 ghost use Rattle.cmd_report.specs.Named.{IsNamed};
-ghost use Rattle.queue_effect.specs.Standing.{StandFor, Plays, AreFit};
+ghost use Rattle.table_queues.specs.Telling.{Tell};
+ghost use Rattle.queue_effect.specs.Standing.{Plays, AreFit};
 ghost use Rattle.queue_effect.specs.Gone.{job_of as job_of_lem, output_of as output_of_lem, SaysAs};
 
 use ckpt_pages::Tables;
@@ -154,7 +155,7 @@ fn groups_part(alloc: Global, tables: &Tables, owners: List<Owner>, members: Lis
 fn queue_part(alloc: Global, tables: &Tables) -> Result<Queue, NoMemory>
     requires { AreFit tables.now }
     ensures named { IfOk result IsNamed }
-    ensures same { IfOk result (λ part. (Q : Queue) → StandFor tables.now Q → SaysAs What.Queue part Q) }
+    ensures same { IfOk result (λ part. (Q : Queue) → Tell tables.now Q → SaysAs What.Queue part Q) }
 {
     let jobs = listed_jobs(alloc, tables.jobs.as_slice())?;
     let none = List::new(alloc);
@@ -165,7 +166,7 @@ fn queue_part(alloc: Global, tables: &Tables) -> Result<Queue, NoMemory>
 fn job_part(alloc: Global, tables: &Tables, job: JobNo) -> Result<Queue, NoMemory>
     requires { AreFit tables.now }
     ensures named { IfOk result IsNamed }
-    ensures same { IfOk result (λ part. (Q : Queue) → StandFor tables.now Q → SaysAs (What.Job job) part Q) }
+    ensures same { IfOk result (λ part. (Q : Queue) → Tell tables.now Q → SaysAs (What.Job job) part Q) }
 {
     let jobs = listed_jobs(alloc, tables.jobs.as_slice())?;
     let outputs = listed_outputs(alloc, tables.outputs.as_slice())?;
@@ -176,7 +177,7 @@ fn job_part(alloc: Global, tables: &Tables, job: JobNo) -> Result<Queue, NoMemor
 fn outputs_part(alloc: Global, tables: &Tables) -> Result<Queue, NoMemory>
     requires { AreFit tables.now }
     ensures named { IfOk result IsNamed }
-    ensures same { IfOk result (λ part. (Q : Queue) → StandFor tables.now Q → SaysAs What.Outputs part Q) }
+    ensures same { IfOk result (λ part. (Q : Queue) → Tell tables.now Q → SaysAs What.Outputs part Q) }
 {
     let none = List::new(alloc);
     let outputs = listed_outputs(alloc, tables.outputs.as_slice())?;
@@ -187,7 +188,7 @@ fn outputs_part(alloc: Global, tables: &Tables) -> Result<Queue, NoMemory>
 fn spool_part(alloc: Global, tables: &Tables) -> Result<Queue, NoMemory>
     requires { AreFit tables.now }
     ensures named { IfOk result IsNamed }
-    ensures same { IfOk result (λ part. (Q : Queue) → StandFor tables.now Q → SaysAs What.Spool part Q) }
+    ensures same { IfOk result (λ part. (Q : Queue) → Tell tables.now Q → SaysAs What.Spool part Q) }
 {
     let owners = tables.owners.copy(alloc)?;
     let none = List::new(alloc);
@@ -198,7 +199,7 @@ fn spool_part(alloc: Global, tables: &Tables) -> Result<Queue, NoMemory>
 fn members_part(alloc: Global, tables: &Tables) -> Result<Queue, NoMemory>
     requires { AreFit tables.now }
     ensures named { IfOk result IsNamed }
-    ensures same { IfOk result (λ part. (Q : Queue) → StandFor tables.now Q → SaysAs What.Members part Q) }
+    ensures same { IfOk result (λ part. (Q : Queue) → Tell tables.now Q → SaysAs What.Members part Q) }
 {
     let members = tables.members.copy(alloc)?;
     let none = List::new(alloc);
@@ -209,7 +210,7 @@ fn members_part(alloc: Global, tables: &Tables) -> Result<Queue, NoMemory>
 fn shown_part(alloc: Global, tables: &Tables, what: What) -> Result<Queue, NoMemory>
     requires { AreFit tables.now }
     ensures named { IfOk result IsNamed }
-    ensures same { IfOk result (λ part. (Q : Queue) → StandFor tables.now Q → SaysAs what part Q) }
+    ensures same { IfOk result (λ part. (Q : Queue) → Tell tables.now Q → SaysAs what part Q) }
 {
     match what {
         What::Queue => queue_part(alloc, tables),

@@ -10,7 +10,8 @@ ghost use Rattle.mas_types.specs.Commands.Life.{ended_row, ended, with_outputs, 
 ghost use Rattle.track_groups.specs.Groups.{given};
 ghost use Rattle.job_queue.specs.Jobs.{HasJob};
 ghost use Rattle.ckpt_pages.specs.QueueOf.{used};
-ghost use Rattle.queue_effect.specs.Standing.{StandFor, Plays, IfRefused, AreFit, IsFitJob};
+ghost use Rattle.table_queues.specs.Telling.{Tell};
+ghost use Rattle.queue_effect.specs.Standing.{Plays, IfRefused, AreFit, IsFitJob};
 
 use crate::groups::{free_members, give_groups};
 use crate::life::purge_if;
@@ -64,7 +65,7 @@ fn add_output(tables: &mut Tables, by: MemberId, job: JobNo, index: OutNo, outpu
     requires slot { length (used tables.old.outputs) < length tables.old.outputs }
     requires groups { groups_needed_lem output.now.text ≤ member_count_lem by tables.old.owners }
     requires order { tables.old.order < 2 ^ 63 }
-    ensures stands { (Q : Queue) → StandFor tables.old Q → StandFor tables.new (record Q { outputs = Q.outputs ++ new_outputs job index.0 (output.now ∷ []); owners = given by (output_places job index (groups_needed_lem output.now.text)) Q.owners }) }
+    ensures stands { (Q : Queue) → Tell tables.old Q → Tell tables.new (record Q { outputs = Q.outputs ++ new_outputs job index.0 (output.now ∷ []); owners = given by (output_places job index (groups_needed_lem output.now.text)) Q.owners }) }
     ensures left { member_count_lem by tables.new.owners + groups_needed_lem output.now.text ≡ member_count_lem by tables.old.owners }
     ensures slots { length tables.new.outputs ≡ length tables.old.outputs }
     ensures used { length (used tables.new.outputs) ≡ length (used tables.old.outputs) + 1 }
@@ -92,7 +93,7 @@ fn add_outputs(tables: &mut Tables, by: MemberId, job: JobNo, first: u8, outputs
     requires slots { length (used tables.old.outputs) + length outputs.now ≤ length tables.old.outputs }
     requires groups { groups_of_outputs outputs.now ≤ member_count_lem by tables.old.owners }
     requires order { tables.old.order + length outputs.now ≤ 2 ^ 63 }
-    ensures stands { (Q : Queue) → StandFor tables.old Q → StandFor tables.new (record Q { outputs = Q.outputs ++ new_outputs job first outputs.now; owners = given by (places_of_outputs job first outputs.now) Q.owners }) }
+    ensures stands { (Q : Queue) → Tell tables.old Q → Tell tables.new (record Q { outputs = Q.outputs ++ new_outputs job first outputs.now; owners = given by (places_of_outputs job first outputs.now) Q.owners }) }
     ensures order { tables.new.order ≡ tables.old.order + length outputs.now }
     ensures fits { AreFit tables.new }
 {
@@ -119,7 +120,7 @@ fn end_with(
     requires slots { length (used tables.old.outputs) + length outputs.now ≤ length tables.old.outputs }
     requires groups { groups_of_outputs outputs.now ≤ member_count_lem by tables.old.owners }
     requires order { tables.old.order + length outputs.now ≤ 2 ^ 63 }
-    ensures stands { (Q : Queue) → StandFor tables.old Q → HasJob (has_number job) tables.old.jobs Q.jobs found.now.at found.now.item → StandFor tables.new (with_outputs by job outputs.now (change_job job ended Q)) }
+    ensures stands { (Q : Queue) → Tell tables.old Q → HasJob (has_number job) tables.old.jobs Q.jobs found.now.at found.now.item → Tell tables.new (with_outputs by job outputs.now (change_job job ended Q)) }
     ensures order { tables.new.order ≡ tables.old.order + length outputs.now }
     ensures fits { AreFit tables.new }
 {

@@ -11,7 +11,8 @@ ghost use Rattle.mas_types.specs.Owners.{groups_needed as groups_needed_lem, mem
 ghost use Rattle.mas_types.specs.Queue.{has_number, knows_node as knows_node_lem};
 ghost use Rattle.mas_types.specs.Commands.Input.{begun, begin_row, take_row, drop_row, enter_row, entered, not_entered};
 ghost use Rattle.job_queue.specs.Jobs.{HasJob};
-ghost use Rattle.queue_effect.specs.Standing.{StandFor, Plays, IfRefused, AreFit, IsFitJob};
+ghost use Rattle.table_queues.specs.Telling.{Tell};
+ghost use Rattle.queue_effect.specs.Standing.{Plays, IfRefused, AreFit, IsFitJob};
 
 use crate::groups::{free_members, hand_out, take_groups};
 use crate::lookups::{put_job, take_job};
@@ -32,7 +33,7 @@ fn has_route(routes: &[Route], node: &Name8) -> bool
 }
 
 fn knows_node(tables: &Tables, node: &Name8) -> bool
-    ensures { (Q : Queue) → StandFor tables.now Q → result ≡ knows_node_lem Q node.now }
+    ensures { (Q : Queue) → Tell tables.now Q → result ≡ knows_node_lem Q node.now }
 {
     same_name(node, &tables.config.node) || has_route(tables.routes.as_slice(), node)
 }
@@ -41,10 +42,10 @@ fn add_job(tables: &mut Tables, by: MemberId, fields: &JobFields) -> Result<JobN
     requires fit { AreFit tables.old }
     requires order { tables.old.order < 2 ^ 63 }
     requires member { by.0 ≤ members_most }
-    ensures number { IfOk result (λ n. (Q : Queue) → StandFor tables.old Q → n ≡ next_number Q.jobs Q.last) }
-    ensures added { IfOk result (λ n. (Q : Queue) → StandFor tables.old Q → StandFor tables.new (begun by n fields.now Q)) }
-    ensures room { OnOk result ((Q : Queue) → StandFor tables.old Q → length Q.jobs < Q.config.jobs) }
-    ensures full { OnErr result ((Q : Queue) → StandFor tables.old Q → length Q.jobs ≡ Q.config.jobs) }
+    ensures number { IfOk result (λ n. (Q : Queue) → Tell tables.old Q → n ≡ next_number Q.jobs Q.last) }
+    ensures added { IfOk result (λ n. (Q : Queue) → Tell tables.old Q → Tell tables.new (begun by n fields.now Q)) }
+    ensures room { OnOk result ((Q : Queue) → Tell tables.old Q → length Q.jobs < Q.config.jobs) }
+    ensures full { OnErr result ((Q : Queue) → Tell tables.old Q → length Q.jobs ≡ Q.config.jobs) }
     ensures unchanged { OnErr result (tables.new ≡ tables.old) }
     ensures order { OnOk result (tables.new.order ≡ tables.old.order + 1) }
     ensures fits { OnOk result (AreFit tables.new) }
@@ -149,10 +150,10 @@ pub fn entering(
     requires text { AreLines text.now }
     requires fit { AreFit tables.now }
     ensures here { IfOk result (λ f. slice_get tables.now.jobs f.at ≡ Some (Some f.item)) }
-    ensures some { IfOk result (λ f. (Q : Queue) → StandFor tables.now Q → HasJob (has_number job) tables.now.jobs Q.jobs f.at f.item) }
+    ensures some { IfOk result (λ f. (Q : Queue) → Tell tables.now Q → HasJob (has_number job) tables.now.jobs Q.jobs f.at f.item) }
     ensures room { OnOk result (groups_needed_lem text.now ≤ member_count_lem by tables.now.owners) }
-    ensures allowed { OnOk result ((Q : Queue) → StandFor tables.now Q → first_some (not_entered Q by job text.now) ≡ None) }
-    ensures refused { IfErr result (λ why. (Q : Queue) → StandFor tables.now Q → first_some (not_entered Q by job text.now) ≡ Some why) }
+    ensures allowed { OnOk result ((Q : Queue) → Tell tables.now Q → first_some (not_entered Q by job text.now) ≡ None) }
+    ensures refused { IfErr result (λ why. (Q : Queue) → Tell tables.now Q → first_some (not_entered Q by job text.now) ≡ Some why) }
 {
     let found = job_at_work(tables, by, job, Stage::Input)?;
     if member_count(tables.owners.as_slice(), by) < groups_needed(text) {
@@ -166,7 +167,7 @@ pub fn enter_job(tables: &mut Tables, found: &Found<JobRec>, by: MemberId, job: 
     requires text { AreLines text.now }
     requires here { slice_get tables.old.jobs found.now.at ≡ Some (Some found.now.item) }
     requires room { groups_needed_lem text.now ≤ member_count_lem by tables.old.owners }
-    ensures stands { (Q : Queue) → StandFor tables.old Q → HasJob (has_number job) tables.old.jobs Q.jobs found.now.at found.now.item → StandFor tables.new (entered by job text.now Q) }
+    ensures stands { (Q : Queue) → Tell tables.old Q → HasJob (has_number job) tables.old.jobs Q.jobs found.now.at found.now.item → Tell tables.new (entered by job text.now Q) }
     ensures fit { AreFit tables.old → AreFit tables.new }
     ensures order { tables.new.order ≡ tables.old.order }
     ensures lines { tables.new.lines ≡ tables.old.lines }

@@ -17,6 +17,6 @@ mod wire;
 mod working;
 
 pub use applying::apply;
-pub use laws::{law_of_fit_tables, law_of_standing};
+pub use laws::law_of_fit_tables;
 pub use mas_types::Unit;
 pub use units::unit;

@@ -7,7 +7,8 @@ ghost use Rattle.mas_types.specs.Queue.{is_in, first_in as first_in_lem, has_out
 ghost use Rattle.mas_types.specs.Selection.{is_for_convert, for_convert as for_convert_lem, is_for_execute, for_execute as for_execute_lem};
 ghost use Rattle.mas_types.specs.Commands.Life.{take_convert_row, take_exec_row, converted_row, gather_row, purge_row};
 ghost use Rattle.job_queue.specs.Jobs.{HasJob, in_phase};
-ghost use Rattle.queue_effect.specs.Standing.{StandFor, Plays, IfRefused, AreFit, IsFitJob};
+ghost use Rattle.table_queues.specs.Telling.{Tell};
+ghost use Rattle.queue_effect.specs.Standing.{Plays, IfRefused, AreFit, IsFitJob};
 
 use crate::groups::free_groups;
 use crate::lookups::{put_job, setting, take_job};
@@ -21,16 +22,16 @@ use slot_order::Found;
 
 fn for_convert(tables: &Tables) -> Option<Found<JobRec>>
     ensures here { IfSome result (λ f. slice_get tables.now.jobs f.at ≡ Some (Some f.item)) }
-    ensures some { IfSome result (λ f. (Q : Queue) → StandFor tables.now Q → HasJob (is_for_convert Q) tables.now.jobs Q.jobs f.at f.item) }
-    ensures none { IfNone result ((Q : Queue) → StandFor tables.now Q → for_convert_lem Q ≡ None) }
+    ensures some { IfSome result (λ f. (Q : Queue) → Tell tables.now Q → HasJob (is_for_convert Q) tables.now.jobs Q.jobs f.at f.item) }
+    ensures none { IfNone result ((Q : Queue) → Tell tables.now Q → for_convert_lem Q ≡ None) }
 {
     find_convert(tables.jobs.as_slice())
 }
 
 fn for_execute(tables: &Tables, by: MemberId) -> Option<Found<JobRec>>
     ensures here { IfSome result (λ f. slice_get tables.now.jobs f.at ≡ Some (Some f.item)) }
-    ensures some { IfSome result (λ f. (Q : Queue) → StandFor tables.now Q → HasJob (is_for_execute Q by) tables.now.jobs Q.jobs f.at f.item) }
-    ensures none { IfNone result ((Q : Queue) → StandFor tables.now Q → for_execute_lem Q by ≡ None) }
+    ensures some { IfSome result (λ f. (Q : Queue) → Tell tables.now Q → HasJob (is_for_execute Q by) tables.now.jobs Q.jobs f.at f.item) }
+    ensures none { IfNone result ((Q : Queue) → Tell tables.now Q → for_execute_lem Q by ≡ None) }
 {
     match setting(tables, by) {
         Some(setting) => find_exec(tables.jobs.as_slice(), &setting.init),
@@ -40,8 +41,8 @@ fn for_execute(tables: &Tables, by: MemberId) -> Option<Found<JobRec>>
 
 fn first_job_in(tables: &Tables, phase: Phase) -> Option<Found<JobRec>>
     ensures here { IfSome result (λ f. slice_get tables.now.jobs f.at ≡ Some (Some f.item)) }
-    ensures some { IfSome result (λ f. (Q : Queue) → StandFor tables.now Q → HasJob (is_in (in_phase phase)) tables.now.jobs Q.jobs f.at f.item) }
-    ensures none { IfNone result ((Q : Queue) → StandFor tables.now Q → first_in_lem (in_phase phase) Q ≡ None) }
+    ensures some { IfSome result (λ f. (Q : Queue) → Tell tables.now Q → HasJob (is_in (in_phase phase)) tables.now.jobs Q.jobs f.at f.item) }
+    ensures none { IfNone result ((Q : Queue) → Tell tables.now Q → first_in_lem (in_phase phase) Q ≡ None) }
 {
     find_in(tables.jobs.as_slice(), phase)
 }
@@ -92,7 +93,7 @@ pub fn take_exec(tables: &mut Tables, by: MemberId) -> Reply
 }
 
 fn outputs_phase(tables: &Tables, job: JobNo) -> Phase
-    ensures { (Q : Queue) → StandFor tables.now Q → result ≡ (if has_output_lem job Q then Phase.Hardcopy else Phase.Purge) }
+    ensures { (Q : Queue) → Tell tables.now Q → result ≡ (if has_output_lem job Q then Phase.Hardcopy else Phase.Purge) }
 {
     if has_output(tables.outputs.as_slice(), job) {
         Phase::Hardcopy

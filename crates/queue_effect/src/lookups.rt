@@ -7,7 +7,8 @@ ghost use Rattle.mas_types.specs.Queue.{setting_of, has_number, has_key, prints_
 ghost use Rattle.mas_types.specs.Queue.{printing_at as printing_at_lem};
 ghost use Rattle.job_queue.specs.Jobs.{HasJob};
 ghost use Rattle.output_queue.specs.Outputs.{HasOutput};
-ghost use Rattle.queue_effect.specs.Standing.{StandFor, AreFit, IsFitJob, IsFitOutput};
+ghost use Rattle.table_queues.specs.Telling.{Tell};
+ghost use Rattle.queue_effect.specs.Standing.{AreFit, IsFitJob, IsFitOutput};
 
 use ckpt_pages::Tables;
 use job_queue::find_job;
@@ -18,7 +19,7 @@ use slot_order::Found;
 
 /// The setting of a member; none of nobody, and of a member that isn't there.
 pub fn setting(tables: &Tables, by: MemberId) -> Option<&Setting>
-    ensures { (Q : Queue) → StandFor tables.now Q → setting_of Q by ≡ option_copied result }
+    ensures { (Q : Queue) → Tell tables.now Q → setting_of Q by ≡ option_copied result }
 {
     if by.0 == 0 {
         return None;
@@ -28,7 +29,7 @@ pub fn setting(tables: &Tables, by: MemberId) -> Option<&Setting>
 
 /// What went over a line; none of a line that isn't there.
 pub fn wire(tables: &Tables, line: u8) -> Option<LineCount>
-    ensures { (Q : Queue) → StandFor tables.now Q → wire_at Q line ≡ result }
+    ensures { (Q : Queue) → Tell tables.now Q → wire_at Q line ≡ result }
 {
     if line == 0 {
         return None;
@@ -39,8 +40,8 @@ pub fn wire(tables: &Tables, line: u8) -> Option<LineCount>
 /// The job with a number.
 pub fn job_at(tables: &Tables, job: JobNo) -> Option<Found<JobRec>>
     ensures here { IfSome result (λ f. slice_get tables.now.jobs f.at ≡ Some (Some f.item)) }
-    ensures some { IfSome result (λ f. (Q : Queue) → StandFor tables.now Q → HasJob (has_number job) tables.now.jobs Q.jobs f.at f.item) }
-    ensures none { IfNone result ((Q : Queue) → StandFor tables.now Q → job_at_lem Q job ≡ None) }
+    ensures some { IfSome result (λ f. (Q : Queue) → Tell tables.now Q → HasJob (has_number job) tables.now.jobs Q.jobs f.at f.item) }
+    ensures none { IfNone result ((Q : Queue) → Tell tables.now Q → job_at_lem Q job ≡ None) }
 {
     find_job(tables.jobs.as_slice(), job)
 }
@@ -48,8 +49,8 @@ pub fn job_at(tables: &Tables, job: JobNo) -> Option<Found<JobRec>>
 /// The output of a job with an index.
 pub fn output_at(tables: &Tables, job: JobNo, index: OutNo) -> Option<Found<OutRec>>
     ensures here { IfSome result (λ f. slice_get tables.now.outputs f.at ≡ Some (Some f.item)) }
-    ensures some { IfSome result (λ f. (Q : Queue) → StandFor tables.now Q → HasOutput (has_key job index) tables.now.outputs Q.outputs f.at f.item) }
-    ensures none { IfNone result ((Q : Queue) → StandFor tables.now Q → output_at_lem Q job index ≡ None) }
+    ensures some { IfSome result (λ f. (Q : Queue) → Tell tables.now Q → HasOutput (has_key job index) tables.now.outputs Q.outputs f.at f.item) }
+    ensures none { IfNone result ((Q : Queue) → Tell tables.now Q → output_at_lem Q job index ≡ None) }
 {
     find_output(tables.outputs.as_slice(), job, index)
 }
@@ -57,9 +58,9 @@ pub fn output_at(tables: &Tables, job: JobNo, index: OutNo) -> Option<Found<OutR
 /// The output that is busy at a member; none at nobody.
 pub fn printing_at(tables: &Tables, by: MemberId) -> Option<Found<OutRec>>
     ensures here { IfSome result (λ f. slice_get tables.now.outputs f.at ≡ Some (Some f.item)) }
-    ensures some { IfSome result (λ f. (Q : Queue) → StandFor tables.now Q → HasOutput (prints_at by) tables.now.outputs Q.outputs f.at f.item) }
+    ensures some { IfSome result (λ f. (Q : Queue) → Tell tables.now Q → HasOutput (prints_at by) tables.now.outputs Q.outputs f.at f.item) }
     ensures somebody { IfSome result (λ f. is_somebody by ≡ true) }
-    ensures none { IfNone result ((Q : Queue) → StandFor tables.now Q → printing_at_lem Q by ≡ None) }
+    ensures none { IfNone result ((Q : Queue) → Tell tables.now Q → printing_at_lem Q by ≡ None) }
 {
     if by.0 == 0 {
         return None;

@@ -8,7 +8,8 @@ ghost use Rattle.mas_types.specs.Reset.{reset as reset_lem, phase_reset as phase
 ghost use Rattle.mas_types.specs.Commands.Members.{set_init_row, set_prt_row, reset_row, restart_row};
 ghost use Rattle.queue_effect.specs.Resets.{is_one_of as is_one_of_lem, job_reset, output_reset};
 ghost use Rattle.queue_effect.specs.Slots.{changed_where, setting_changed};
-ghost use Rattle.queue_effect.specs.Standing.{StandFor, Plays, IfRefused, AreFit};
+ghost use Rattle.table_queues.specs.Telling.{Tell};
+ghost use Rattle.queue_effect.specs.Standing.{Plays, IfRefused, AreFit};
 
 use ckpt_pages::Tables;
 use lay_bytes::{JobRec, OutRec};
@@ -225,7 +226,7 @@ fn reset_owners(tables: &mut Tables, who: Who)
 
 /// What is busy at one of the members becomes free of it, and its groups become free.
 fn reset_members(tables: &mut Tables, who: Who)
-    ensures stands { (Q : Queue) → StandFor tables.old Q → StandFor tables.new (reset_lem (is_one_of_lem who) Q) }
+    ensures stands { (Q : Queue) → Tell tables.old Q → Tell tables.new (reset_lem (is_one_of_lem who) Q) }
     ensures fit { AreFit tables.old → AreFit tables.new }
     ensures order { tables.new.order ≡ tables.old.order }
 {

@@ -9,7 +9,8 @@ ghost use Rattle.std.specs.List.{list_any};
 ghost use Rattle.mas_types.specs.Commands.Operator.{held_row, set_prio_row, set_class_row, set_out_row, cancel_row, out_row, is_held_of, released as released_lem, printing_elsewhere as printing_elsewhere_lem, without_outputs_of, has_yet_to_run as has_yet_to_run_lem};
 ghost use Rattle.output_queue.specs.Outputs.{HasOutput};
 ghost use Rattle.queue_effect.specs.Slots.{emptied_where, changed_where};
-ghost use Rattle.queue_effect.specs.Standing.{StandFor, Plays, IfRefused, AreFit, IsFitJob, IsFitOutput};
+ghost use Rattle.table_queues.specs.Telling.{Tell};
+ghost use Rattle.queue_effect.specs.Standing.{Plays, IfRefused, AreFit, IsFitJob, IsFitOutput};
 
 use crate::groups::free_prints;
 use crate::life::in_phase_of;
@@ -174,7 +175,7 @@ fn empty_outputs(tables: &mut Tables, job: JobNo)
 
 /// The outputs of the job go, and their groups become free.
 fn drop_outputs(tables: &mut Tables, job: JobNo)
-    ensures stands { (Q : Queue) → StandFor tables.old Q → StandFor tables.new (without_outputs_of job Q) }
+    ensures stands { (Q : Queue) → Tell tables.old Q → Tell tables.new (without_outputs_of job Q) }
     ensures jobs { tables.new.jobs ≡ tables.old.jobs }
     ensures fit { AreFit tables.old → AreFit tables.new }
     ensures order { tables.new.order ≡ tables.old.order }
@@ -185,8 +186,8 @@ fn drop_outputs(tables: &mut Tables, job: JobNo)
 
 /// The first output of the job that is busy at another than the member.
 fn printing_elsewhere(tables: &Tables, by: MemberId, job: JobNo) -> Option<Found<OutRec>>
-    ensures some { IfSome result (λ f. (Q : Queue) → StandFor tables.now Q → HasOutput (λ o. is_of job o && is_somebody o.busy && not (same_member o.busy by)) tables.now.outputs Q.outputs f.at f.item) }
-    ensures none { IfNone result ((Q : Queue) → StandFor tables.now Q → printing_elsewhere_lem Q by job ≡ None) }
+    ensures some { IfSome result (λ f. (Q : Queue) → Tell tables.now Q → HasOutput (λ o. is_of job o && is_somebody o.busy && not (same_member o.busy by)) tables.now.outputs Q.outputs f.at f.item) }
+    ensures none { IfNone result ((Q : Queue) → Tell tables.now Q → printing_elsewhere_lem Q by job ≡ None) }
 {
     find_elsewhere(tables.outputs.as_slice(), job, by)
 }
@@ -265,14 +266,14 @@ fn held_count(outputs: &[Option<OutRec>], job: JobNo) -> u32
 
 fn held_outputs(tables: &Tables, job: JobNo) -> u32
     requires { AreFit tables.now }
-    ensures { (Q : Queue) → StandFor tables.now Q → result ≡ count_by (is_held_of job) Q.outputs }
+    ensures { (Q : Queue) → Tell tables.now Q → result ≡ count_by (is_held_of job) Q.outputs }
 {
     held_count(tables.outputs.as_slice(), job)
 }
 
 fn release_outputs(tables: &mut Tables, job: JobNo)
     ensures value { tables.new ≡ record tables.old { outputs = map (changed_where (λ r. same_number r.job job && r.held) (λ r. record r { held = Bool.false })) tables.old.outputs } }
-    ensures stands { (Q : Queue) → StandFor tables.old Q → StandFor tables.new (record Q { outputs = change (is_held_of job) released_lem Q.outputs }) }
+    ensures stands { (Q : Queue) → Tell tables.old Q → Tell tables.new (record Q { outputs = change (is_held_of job) released_lem Q.outputs }) }
     ensures fit { AreFit tables.old → AreFit tables.new }
 {
     release_slots(tables.outputs.as_mut_slice(), job);

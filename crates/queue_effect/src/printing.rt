@@ -8,7 +8,8 @@ ghost use Rattle.mas_types.specs.Selection.{is_for_printer, for_printer as for_p
 ghost use Rattle.mas_types.specs.Commands.Printing.{pick_row, mark_row, done_row, back_row, forward_row, output_gone, with_job_over};
 ghost use Rattle.mas_types.specs.Commands.Operator.{cancel_out_row};
 ghost use Rattle.output_queue.specs.Outputs.{HasOutput};
-ghost use Rattle.queue_effect.specs.Standing.{StandFor, Plays, IfRefused, AreFit, IsFitOutput};
+ghost use Rattle.table_queues.specs.Telling.{Tell};
+ghost use Rattle.queue_effect.specs.Standing.{Plays, IfRefused, AreFit, IsFitOutput};
 
 use crate::groups::free_groups;
 use crate::life::in_phase_of;
@@ -23,8 +24,8 @@ use slot_order::Found;
 fn for_printer(tables: &Tables, by: MemberId) -> Option<Found<OutRec>>
     requires { by.0 ≤ members_most }
     ensures here { IfSome result (λ f. slice_get tables.now.outputs f.at ≡ Some (Some f.item)) }
-    ensures some { IfSome result (λ f. (Q : Queue) → StandFor tables.now Q → HasOutput (is_for_printer Q by) tables.now.outputs Q.outputs f.at f.item) }
-    ensures none { IfNone result ((Q : Queue) → StandFor tables.now Q → for_printer_lem Q by ≡ None) }
+    ensures some { IfSome result (λ f. (Q : Queue) → Tell tables.now Q → HasOutput (is_for_printer Q by) tables.now.outputs Q.outputs f.at f.item) }
+    ensures none { IfNone result ((Q : Queue) → Tell tables.now Q → for_printer_lem Q by ≡ None) }
 {
     match setting(tables, by) {
         Some(setting) => find_for_printer(
@@ -127,7 +128,7 @@ pub fn set_forward(tables: &mut Tables, by: MemberId, lines: u32) -> Reply
 }
 
 fn phase_over(tables: &Tables, job: &JobRec) -> Phase
-    ensures { (Q : Queue) → StandFor tables.now Q → result ≡ (if in_hardcopy job.now.phase && not (has_output_lem job.now.number Q) then Phase.Purge else job.now.phase) }
+    ensures { (Q : Queue) → Tell tables.now Q → result ≡ (if in_hardcopy job.now.phase && not (has_output_lem job.now.number Q) then Phase.Purge else job.now.phase) }
 {
     if matches!(job.phase, Phase::Hardcopy) && !has_output(tables.outputs.as_slice(), job.number) {
         Phase::Purge
@@ -138,7 +139,7 @@ fn phase_over(tables: &Tables, job: &JobRec) -> Phase
 
 /// A job in Hardcopy that has no output any more goes to Purge.
 fn close_job(tables: &mut Tables, job: JobNo)
-    ensures stands { (Q : Queue) → StandFor tables.old Q → StandFor tables.new (with_job_over job Q) }
+    ensures stands { (Q : Queue) → Tell tables.old Q → Tell tables.new (with_job_over job Q) }
     ensures fit { AreFit tables.old → AreFit tables.new }
     ensures order { tables.new.order ≡ tables.old.order }
 {
@@ -152,7 +153,7 @@ fn close_job(tables: &mut Tables, job: JobNo)
 /// The output goes, its groups become free, and its job goes to Purge where it was the last one.
 fn remove_output(tables: &mut Tables, found: &Found<OutRec>, job: JobNo, index: OutNo)
     requires { slice_get tables.old.outputs found.now.at ≡ Some (Some found.now.item) }
-    ensures stands { (Q : Queue) → StandFor tables.old Q → HasOutput (has_key job index) tables.old.outputs Q.outputs found.now.at found.now.item → StandFor tables.new (output_gone job index Q) }
+    ensures stands { (Q : Queue) → Tell tables.old Q → HasOutput (has_key job index) tables.old.outputs Q.outputs found.now.at found.now.item → Tell tables.new (output_gone job index Q) }
     ensures fit { AreFit tables.old → AreFit tables.new }
     ensures order { tables.new.order ≡ tables.old.order }
 {

@@ -6,7 +6,7 @@ ghost use Rattle.mas_types.specs.Queue.{first_in, printing_at};
 ghost use Rattle.mas_types.specs.Selection.{for_convert, for_execute, for_printer};
 ghost use Rattle.mas_types.specs.Units.{unit_of, print_unit as print_unit_lem, working_at};
 ghost use Rattle.job_queue.specs.Jobs.{in_phase};
-ghost use Rattle.queue_effect.specs.Standing.{StandFor};
+ghost use Rattle.table_queues.specs.Telling.{Tell};
 
 use crate::lookups::setting;
 use ckpt_pages::Tables;
@@ -18,7 +18,7 @@ use output_queue::{find_for_printer, find_printing};
 /// The next unit of a member: the first that applies, Idle where none does.
 pub fn unit(tables: &Tables, by: MemberId) -> Unit
     requires { by.0 ≤ members_most }
-    ensures { (Q : Queue) → StandFor tables.now Q → result ≡ unit_of Q by }
+    ensures { (Q : Queue) → Tell tables.now Q → result ≡ unit_of Q by }
 {
     if let Some(unit) = printing(tables, by) {
         return unit;
@@ -58,7 +58,7 @@ fn print_unit(output: &OutRec) -> Unit
 }
 
 fn printing(tables: &Tables, by: MemberId) -> Option<Unit>
-    ensures { (Q : Queue) → StandFor tables.now Q → result ≡ option_map print_unit_lem (printing_at Q by) }
+    ensures { (Q : Queue) → Tell tables.now Q → result ≡ option_map print_unit_lem (printing_at Q by) }
 {
     if by.0 == 0 {
         return None;
@@ -71,7 +71,7 @@ fn printing(tables: &Tables, by: MemberId) -> Option<Unit>
 
 fn may_pick(tables: &Tables, by: MemberId) -> bool
     requires { by.0 ≤ members_most }
-    ensures { (Q : Queue) → StandFor tables.now Q → result ≡ is_some (for_printer Q by) }
+    ensures { (Q : Queue) → Tell tables.now Q → result ≡ is_some (for_printer Q by) }
 {
     match setting(tables, by) {
         Some(setting) => find_for_printer(
@@ -86,13 +86,13 @@ fn may_pick(tables: &Tables, by: MemberId) -> bool
 }
 
 fn any_in(tables: &Tables, phase: Phase) -> bool
-    ensures { (Q : Queue) → StandFor tables.now Q → result ≡ is_some (first_in (in_phase phase) Q) }
+    ensures { (Q : Queue) → Tell tables.now Q → result ≡ is_some (first_in (in_phase phase) Q) }
 {
     find_in(tables.jobs.as_slice(), phase).is_some()
 }
 
 fn working(tables: &Tables, by: MemberId, phase: Phase) -> Option<JobNo>
-    ensures { (Q : Queue) → StandFor tables.now Q → result ≡ option_map (λ j. j.number) (working_at Q by (in_phase phase)) }
+    ensures { (Q : Queue) → Tell tables.now Q → result ≡ option_map (λ j. j.number) (working_at Q by (in_phase phase)) }
 {
     if by.0 == 0 {
         return None;
@@ -104,7 +104,7 @@ fn working(tables: &Tables, by: MemberId, phase: Phase) -> Option<JobNo>
 }
 
 fn may_execute(tables: &Tables, by: MemberId) -> bool
-    ensures { (Q : Queue) → StandFor tables.now Q → result ≡ is_some (for_execute Q by) }
+    ensures { (Q : Queue) → Tell tables.now Q → result ≡ is_some (for_execute Q by) }
 {
     match setting(tables, by) {
         Some(setting) => find_exec(tables.jobs.as_slice(), &setting.init).is_some(),

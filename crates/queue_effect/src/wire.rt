@@ -10,7 +10,8 @@ ghost use Rattle.mas_types.specs.Selection.{is_for_wire, for_wire as for_wire_le
 ghost use Rattle.mas_types.specs.Commands.Wire.{load_row, sent_row, got_row, either, again, gap, sent_on, got_on};
 ghost use Rattle.job_queue.specs.Jobs.{AreJobs, HasJob};
 ghost use Rattle.queue_effect.specs.Slots.{count_changed};
-ghost use Rattle.queue_effect.specs.Standing.{StandFor, Plays, IfRefused, AreFit};
+ghost use Rattle.table_queues.specs.Telling.{Tell};
+ghost use Rattle.queue_effect.specs.Standing.{Plays, IfRefused, AreFit};
 
 use crate::input::{enter_job, entering};
 use crate::life::in_phase_of;
@@ -71,8 +72,8 @@ fn leads_to(routes: &[Route], line: u8, node: &Name8) -> bool
 /// The job that is current on a line.
 fn current_on(tables: &Tables, line: u8) -> Option<Found<JobRec>>
     ensures here { IfSome result (λ f. slice_get tables.now.jobs f.at ≡ Some (Some f.item)) }
-    ensures some { IfSome result (λ f. (Q : Queue) → StandFor tables.now Q → HasJob (is_current_on Q line) tables.now.jobs Q.jobs f.at f.item) }
-    ensures none { IfNone result ((Q : Queue) → StandFor tables.now Q → current_on_lem Q line ≡ None) }
+    ensures some { IfSome result (λ f. (Q : Queue) → Tell tables.now Q → HasJob (is_current_on Q line) tables.now.jobs Q.jobs f.at f.item) }
+    ensures none { IfNone result ((Q : Queue) → Tell tables.now Q → current_on_lem Q line ≡ None) }
 {
     match wire(tables, line) {
         Some(count) => first_slot(tables.jobs.as_slice(), &Sending(count.current)),
@@ -100,8 +101,8 @@ fn find_for_line(
 
 /// The job selected for a line.
 fn for_line(tables: &Tables, line: u8) -> Option<Found<JobRec>>
-    ensures some { IfSome result (λ f. (Q : Queue) → StandFor tables.now Q → HasJob (is_for_wire Q line) tables.now.jobs Q.jobs f.at f.item) }
-    ensures none { IfNone result ((Q : Queue) → StandFor tables.now Q → for_wire_lem Q line ≡ None) }
+    ensures some { IfSome result (λ f. (Q : Queue) → Tell tables.now Q → HasJob (is_for_wire Q line) tables.now.jobs Q.jobs f.at f.item) }
+    ensures none { IfNone result ((Q : Queue) → Tell tables.now Q → for_wire_lem Q line ≡ None) }
 {
     find_for_line(
         tables.jobs.as_slice(),
@@ -113,7 +114,7 @@ fn for_line(tables: &Tables, line: u8) -> Option<Found<JobRec>>
 
 /// The number of the job that is current on a line, or else of the one selected for it.
 fn loaded(tables: &Tables, line: u8) -> Option<JobNo>
-    ensures { (Q : Queue) → StandFor tables.now Q → result ≡ option_map (λ j. j.number) (either (current_on_lem Q line) (for_wire_lem Q line)) }
+    ensures { (Q : Queue) → Tell tables.now Q → result ≡ option_map (λ j. j.number) (either (current_on_lem Q line) (for_wire_lem Q line)) }
 {
     if let Some(found) = current_on(tables, line) {
         return Some(found.item.number);
@@ -163,7 +164,7 @@ fn refusal_of_number(kept: u32, number: u32) -> Option<Refusal>
 }
 
 fn sent(tables: &Tables, line: u8) -> u32
-    ensures { (Q : Queue) → StandFor tables.now Q → result ≡ sent_on Q line }
+    ensures { (Q : Queue) → Tell tables.now Q → result ≡ sent_on Q line }
 {
     match wire(tables, line) {
         Some(count) => count.sent,
@@ -172,7 +173,7 @@ fn sent(tables: &Tables, line: u8) -> u32
 }
 
 fn got(tables: &Tables, line: u8) -> u32
-    ensures { (Q : Queue) → StandFor tables.now Q → result ≡ got_on Q line }
+    ensures { (Q : Queue) → Tell tables.now Q → result ≡ got_on Q line }
 {
     match wire(tables, line) {
         Some(count) => count.got,

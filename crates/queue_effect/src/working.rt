@@ -4,7 +4,7 @@ ghost use Rattle.mas_types.specs.declared.queues.Queue.{Queue};
 ghost use Rattle.mas_types.specs.Lists.{first_some};
 ghost use Rattle.mas_types.specs.Queue.{has_number};
 ghost use Rattle.job_queue.specs.Jobs.{HasJob};
-ghost use Rattle.queue_effect.specs.Standing.{StandFor};
+ghost use Rattle.table_queues.specs.Telling.{Tell};
 ghost use Rattle.queue_effect.specs.Working.{in_stage, not_at_work};
 
 use crate::lookups::job_at;
@@ -43,9 +43,9 @@ pub fn job_at_work(
     stage: Stage,
 ) -> Result<Found<JobRec>, Refusal>
     ensures here { IfOk result (λ f. slice_get tables.now.jobs f.at ≡ Some (Some f.item)) }
-    ensures some { IfOk result (λ f. (Q : Queue) → StandFor tables.now Q → HasJob (has_number job) tables.now.jobs Q.jobs f.at f.item) }
-    ensures allowed { OnOk result ((Q : Queue) → StandFor tables.now Q → first_some (not_at_work Q by job (in_stage stage)) ≡ None) }
-    ensures refused { IfErr result (λ why. (Q : Queue) → StandFor tables.now Q → first_some (not_at_work Q by job (in_stage stage)) ≡ Some why) }
+    ensures some { IfOk result (λ f. (Q : Queue) → Tell tables.now Q → HasJob (has_number job) tables.now.jobs Q.jobs f.at f.item) }
+    ensures allowed { OnOk result ((Q : Queue) → Tell tables.now Q → first_some (not_at_work Q by job (in_stage stage)) ≡ None) }
+    ensures refused { IfErr result (λ why. (Q : Queue) → Tell tables.now Q → first_some (not_at_work Q by job (in_stage stage)) ≡ Some why) }
 {
     let Some(found) = job_at(tables, job) else {
         return Err(Refusal::NoJob);

@@ -1,5 +1,5 @@
 -- What a command on tables leaves.
-use Rattle.std.proofs.Common.{◌≡◌, ℕ, ◌<◌, ◌≤◌, ◌^◌, nat_le, true, List, [], ◌∷◌, map, replicate, Option, Some, None, All, refl, sym, ◌∙◌, ap, subst, arith}
+use Rattle.std.proofs.Common.{◌≡◌, ℕ, ◌<◌, ◌≤◌, ◌^◌, nat_le, true, slice_index_or, List, [], ◌∷◌, map, replicate, Option, Some, None, All, refl, sym, ◌∙◌, ap, subst, arith}
 use Rattle.std.proofs.lemmas.List.{length-replicate}
 use Rattle.std.proofs.lemmas.List.Elements.{All-nil, All-cons, All-head, All-tail, All-weaker, All-map}
 use Rattle.mas_types.specs.declared.ids.MemberId.{MemberId}
@@ -16,24 +16,26 @@ use Rattle.mas_types.specs.declared.queues.Queue.{Queue}
 use Rattle.mas_types.specs.Closings.{IsReplyNamed}
 use Rattle.mas_types.specs.Fit.{IsFit}
 use Rattle.mas_types.specs.Queue.{line_count}
-use Rattle.mas_types.specs.Step.{row_of, step}
+use Rattle.mas_types.specs.Step.{may_give, row_of, step}
 use Rattle.lay_bytes.specs.declared.records.JobRec.{JobRec}
 use Rattle.lay_bytes.specs.declared.records.OutRec.{OutRec}
 use Rattle.lay_bytes.specs.Slots.{IsJobRec, IsOutRec, IsOwner, IfUsed}
 use Rattle.ckpt_pages.specs.declared.tables.Tables.{Tables}
-use Rattle.ckpt_pages.specs.QueueOf.{used, insert_by, in_order, job_with, output_with}
+use Rattle.ckpt_pages.specs.QueueOf.{used, insert_by, in_order, job_with, output_with, queue_of}
 use Rattle.ckpt_pages.specs.Shape.{HasSpelling, IsRoute, IsLineCount}
 use Rattle.slot_order.specs.Listed.{listed}
 use Rattle.slot_order.proofs.Rising.{All-in_order}
 use Rattle.job_queue.specs.Jobs as jobs
 use Rattle.output_queue.specs.Outputs as outputs
-use Rattle.queue_effect.specs.Laws.{HaveLines, StandForTheirQueue, GiveTheirQueue}
-use Rattle.queue_effect.specs.Standing.{StandFor, Leaves, Plays, AreFit, IsFitJob, IsFitOutput}
+use Rattle.table_queues.specs.Laws.{HaveLines, TellTheirQueue}
+use Rattle.table_queues.specs.Telling.{Tell, TellSound}
+use Rattle.queue_effect.specs.Standing.{Leaves, Plays, AreFit, IsFitJob, IsFitOutput}
 use Rattle.queue_laws.proofs.Configuration.{keeps_configuration}
 use Rattle.queue_laws.proofs.Done.{done_keeps}
 use Rattle.queue_laws.proofs.Finds.{test_cases}
-use Rattle.table_commands.specs.Stored.{AreTexts, IsGiver, IsInRange, deck_of, print_of, queue_with, is_plain}
-use Rattle.table_commands.proofs.StoredLemmas.{IsStored, IsStoredJob, IsStoredOutput, AreTextsBrought, effect_stored}
+use Rattle.queue_laws.proofs.SoundAll.{keeps_sound}
+use Rattle.table_commands.specs.Given.{IsGiver, IsInRange}
+use Rattle.table_commands.proofs.StoredLemmas.{IsStored, IsStoredJob, IsStoredOutput, effect_stored}
 use Rattle.table_commands.proofs.NamedLemmas.{step_named}
 
 -- LISTS
@@ -79,94 +81,53 @@ job_ordered r is lt = record { class = is.class; prio = is.prio; busy = is.busy;
 output_ordered : (r : OutRec) → IsOutRec (outputs.unordered r) → r.order < 2 ^ 64 → IsOutRec r
 output_ordered r is lt = record { class = is.class; busy = is.busy; job = is.job; index = is.index; copies = is.copies; lines = is.lines; mark = is.mark; order = lt; dest = is.dest; forms = is.forms }
 
--- THE QUEUE OF TABLES
+-- THE QUEUE OF TABLES, with texts of empty lines
 
-module _ (deck : JobNo → ℕ → Text) (print : JobNo → OutNo → ℕ → Text) (texts : AreTexts deck print) where
-  -- a text is the one that is told by its number of lines
-  abbrev told_deck : JobNo → Text → Type 0
-  told_deck n text = text ≡ deck n (line_count text)
+abbrev blank_deck : JobRec → Text
+blank_deck r = Whole (replicate r.cards [])
 
-  abbrev told_print : JobNo → OutNo → Text → Type 0
-  told_print n i text = text ≡ print n i (line_count text)
+abbrev blank_print : OutRec → Text
+blank_print r = Whole (replicate r.lines [])
 
-  have_lines : (t : Tables) → HaveLines t (deck_of deck) (print_of print)
-  have_lines t = record { decks = decks (used t.jobs); prints = prints (used t.outputs) } where
-    decks : (rs : List JobRec) → All (λ r. line_count (deck_of deck r) ≡ r.cards) rs
-    decks [] = All-nil (λ r. line_count (deck_of deck r) ≡ r.cards)
-    decks (r ∷ rs) = All-cons (λ r. line_count (deck_of deck r) ≡ r.cards) r rs (texts.cards r.number r.cards) (decks rs)
+abbrev blank_queue : Tables → Queue
+blank_queue t = queue_of t blank_deck blank_print
 
-    prints : (rs : List OutRec) → All (λ r. line_count (print_of print r) ≡ r.lines) rs
-    prints [] = All-nil (λ r. line_count (print_of print r) ≡ r.lines)
-    prints (r ∷ rs) = All-cons (λ r. line_count (print_of print r) ≡ r.lines) r rs (texts.lines r.job r.index r.lines) (prints rs)
+as_many : (count : ℕ) → line_count (Whole (replicate count [])) ≡ count
+as_many count = length-replicate {A = List ℕ} count []
 
-  -- a job with its text can be spelled, and has its text
-  job_stored : (r : JobRec) → IsJobRec r → IsStoredJob told_deck (job_with (deck_of deck) r)
-  job_stored r is = let count = texts.cards r.number r.cards in record {
-    spelled = record { class = is.class; prio = is.prio; busy = is.busy; msgclass = is.msgclass; cards = omega (arith, is.cards, count); number = is.number; order = omega arith; name = is.name; dest = is.dest; node = is.node; origin = is.origin };
-    text = ap (deck r.number) (sym count);
-  }
+have_lines : (t : Tables) → HaveLines t blank_deck blank_print
+have_lines t = record { decks = λ k d lt. as_many (slice_index_or (used t.jobs) k d).cards; prints = λ k d lt. as_many (slice_index_or (used t.outputs) k d).lines }
 
-  output_stored : (r : OutRec) → IsOutRec r → IsStoredOutput told_print (output_with (print_of print) r)
-  output_stored r is = let count = texts.lines r.job r.index r.lines in record {
-    spelled = record { class = is.class; busy = is.busy; job = is.job; index = is.index; copies = is.copies; lines = (omega (arith, is.lines.0, count), omega (arith, is.lines.1, count)); mark = is.mark; order = omega arith; dest = is.dest; forms = is.forms };
-    text = ap (print r.job r.index) (sym count);
-  }
+job_stored : (r : JobRec) → IsJobRec r → IsStoredJob (job_with blank_deck r)
+job_stored r is = record { class = is.class; prio = is.prio; busy = is.busy; msgclass = is.msgclass; cards = omega (arith, is.cards, as_many r.cards); number = is.number; order = omega arith; name = is.name; dest = is.dest; node = is.node; origin = is.origin }
 
-  queue_stored : (t : Tables) → HasSpelling t → IsStored told_deck told_print (queue_with deck print t)
-  queue_stored t s = record {
-    jobs = All-map (IsStoredJob told_deck) (job_with (deck_of deck)) (listed jobs.order_of t.jobs)
-        (All-weaker IsJobRec (λ r. IsStoredJob told_deck (job_with (deck_of deck) r)) job_stored (listed jobs.order_of t.jobs) (All-in_order jobs.order_of IsJobRec (used t.jobs) (all_used IsJobRec t.jobs s.jobs)));
-    outputs = All-map (IsStoredOutput told_print) (output_with (print_of print)) (listed outputs.order_of t.outputs)
-        (All-weaker IsOutRec (λ r. IsStoredOutput told_print (output_with (print_of print) r)) output_stored (listed outputs.order_of t.outputs) (All-in_order outputs.order_of IsOutRec (used t.outputs) (all_used IsOutRec t.outputs s.outputs)));
-    owners = s.owners;
-    routes = s.routes;
-    lines = s.lines;
-  }
+output_stored : (r : OutRec) → IsOutRec r → IsStoredOutput (output_with blank_print r)
+output_stored r is = let count = as_many r.lines in
+    record { class = is.class; busy = is.busy; job = is.job; index = is.index; copies = is.copies; lines = (omega (arith, is.lines.0, count), omega (arith, is.lines.1, count)); mark = is.mark; order = omega arith; dest = is.dest; forms = is.forms }
 
-  -- the texts of records are those of the jobs that they are told of
-  deck_texts : (rs : List JobRec) (js : List Job) → map jobs.unordered rs ≡ map jobs.rec_of js → All (IsStoredJob told_deck) js → map (deck_of deck) rs ≡ map (λ j. j.text) js
-  deck_texts [] [] e all = refl
-  deck_texts [] (j ∷ js) e all = absurd (cc)
-  deck_texts (r ∷ rs) [] e all = absurd (cc)
-  deck_texts (r ∷ rs) (j ∷ js) e all =
-      let here : jobs.unordered r ≡ jobs.rec_of j = cc in
-      let rest : map jobs.unordered rs ≡ map jobs.rec_of js = cc in
-      let one : deck_of deck r ≡ j.text = ap (deck_of deck) here ∙ sym (All-head (IsStoredJob told_deck) j js all).text in
-      let more : map (deck_of deck) rs ≡ map (λ k. k.text) js = deck_texts rs js rest (All-tail (IsStoredJob told_deck) j js all) in
-      cc
+queue_stored : (t : Tables) → HasSpelling t → IsStored (blank_queue t)
+queue_stored t s = record {
+  jobs = All-map IsStoredJob (job_with blank_deck) (listed jobs.order_of t.jobs)
+      (All-weaker IsJobRec (λ r. IsStoredJob (job_with blank_deck r)) job_stored (listed jobs.order_of t.jobs) (All-in_order jobs.order_of IsJobRec (used t.jobs) (all_used IsJobRec t.jobs s.jobs)));
+  outputs = All-map IsStoredOutput (output_with blank_print) (listed outputs.order_of t.outputs)
+      (All-weaker IsOutRec (λ r. IsStoredOutput (output_with blank_print r)) output_stored (listed outputs.order_of t.outputs) (All-in_order outputs.order_of IsOutRec (used t.outputs) (all_used IsOutRec t.outputs s.outputs)));
+  owners = s.owners;
+  routes = s.routes;
+  lines = s.lines;
+}
 
-  print_texts : (rs : List OutRec) (os : List Output) → map outputs.unordered rs ≡ map outputs.rec_of os → All (IsStoredOutput told_print) os → map (print_of print) rs ≡ map (λ o. o.text) os
-  print_texts [] [] e all = refl
-  print_texts [] (o ∷ os) e all = absurd (cc)
-  print_texts (r ∷ rs) [] e all = absurd (cc)
-  print_texts (r ∷ rs) (o ∷ os) e all =
-      let here : outputs.unordered r ≡ outputs.rec_of o = cc in
-      let rest : map outputs.unordered rs ≡ map outputs.rec_of os = cc in
-      let one : print_of print r ≡ o.text = ap (print_of print) here ∙ sym (All-head (IsStoredOutput told_print) o os all).text in
-      let more : map (print_of print) rs ≡ map (λ k. k.text) os = print_texts rs os rest (All-tail (IsStoredOutput told_print) o os all) in
-      cc
-
-  -- tables that stand for a stored queue give it
-  gives : GiveTheirQueue → (t : Tables) (Q : Queue) → StandFor t Q → IsStored told_deck told_print Q → queue_with deck print t ≡ Q
-  gives give t Q stands s = give t Q (deck_of deck) (print_of print) stands (record {
-    decks = deck_texts (listed jobs.order_of t.jobs) Q.jobs stands.jobs s.jobs;
-    prints = print_texts (listed outputs.order_of t.outputs) Q.outputs stands.outputs s.outputs;
-  })
-
--- and have a spelling, where they are fit and their order is small
-spelled : (Deck : JobNo → Text → Type 0) (Print : JobNo → OutNo → Text → Type 0) (t : Tables) (Q : Queue) → StandFor t Q → IsStored Deck Print Q → AreFit t → t.order < 2 ^ 63 → HasSpelling t
-spelled Deck Print t Q stands s fits small = record {
+-- tables that tell a stored queue have a spelling, where they are fit and their order is small
+spelled : (t : Tables) (Q : Queue) → Tell t Q → IsStored Q → AreFit t → t.order < 2 ^ 63 → HasSpelling t
+spelled t Q stands s fits small = record {
   shape = fits.shape;
   order = small;
   jobs = all_slots IsJobRec t.jobs (all_both (λ (j : JobRec). IsJobRec (jobs.unordered j)) (IsFitJob t.order) IsJobRec (used t.jobs) (λ j is fit. job_ordered j is (omega (arith, fit.below, small)))
       (all_ordered jobs.order_of (λ (j : JobRec). IsJobRec (jobs.unordered j)) (used t.jobs)
-      (all_unmap IsJobRec jobs.unordered (listed jobs.order_of t.jobs) (subst (All IsJobRec) (sym stands.jobs)
-      (All-map IsJobRec jobs.rec_of Q.jobs (All-weaker (IsStoredJob Deck) (λ j. IsJobRec (jobs.rec_of j)) (λ j is. is.spelled) Q.jobs s.jobs)))))
+      (all_unmap IsJobRec jobs.unordered (listed jobs.order_of t.jobs) (subst (All IsJobRec) (sym stands.jobs) (All-map IsJobRec jobs.rec_of Q.jobs s.jobs))))
       fits.jobs);
   outputs = all_slots IsOutRec t.outputs (all_both (λ (o : OutRec). IsOutRec (outputs.unordered o)) (IsFitOutput t.order) IsOutRec (used t.outputs) (λ o is fit. output_ordered o is (omega (arith, fit.below, small)))
       (all_ordered outputs.order_of (λ (o : OutRec). IsOutRec (outputs.unordered o)) (used t.outputs)
-      (all_unmap IsOutRec outputs.unordered (listed outputs.order_of t.outputs) (subst (All IsOutRec) (sym stands.outputs)
-      (All-map IsOutRec outputs.rec_of Q.outputs (All-weaker (IsStoredOutput Print) (λ o. IsOutRec (outputs.rec_of o)) (λ o is. is.spelled) Q.outputs s.outputs)))))
+      (all_unmap IsOutRec outputs.unordered (listed outputs.order_of t.outputs) (subst (All IsOutRec) (sym stands.outputs) (All-map IsOutRec outputs.rec_of Q.outputs s.outputs))))
       fits.outputs);
   owners = subst (All IsOwner) stands.owners s.owners;
   routes = subst (All IsRoute) stands.routes s.routes;
@@ -179,86 +140,24 @@ pub giver_few : (m : MemberId) (c : Command) → IsGiver m c → m.0 ≤ 8
 giver_few m command.Restart giver = omega (arith, giver)
 giver_few m _ giver = giver.1
 
--- a plain command carries no number of lines, and no text
-pub plain_range : (c : Command) → is_plain c ≡ true → IsInRange c
-plain_range (command.Ended job specs) plain = absurd (cc)
-plain_range (command.Sent line number) plain = absurd (cc)
-plain_range (command.Got line number job text) plain = absurd (cc)
-plain_range _ plain = tt
-
-plain_texts : (Deck : JobNo → Text → Type 0) (Print : JobNo → OutNo → Text → Type 0) (c : Command) → is_plain c ≡ true → AreTextsBrought Deck Print c
-plain_texts Deck Print (command.Enter job text) plain = absurd (cc)
-plain_texts Deck Print (command.Ended job specs) plain = absurd (cc)
-plain_texts Deck Print (command.Got line number job text) plain = absurd (cc)
-plain_texts Deck Print _ plain = tt
-
--- nothing is said of a text
-abbrev any_deck : JobNo → Text → Type 0
-any_deck n text = Unit {0}
-
-abbrev any_print : JobNo → OutNo → Text → Type 0
-any_print n i text = Unit {0}
-
-any_texts : (c : Command) → AreTextsBrought any_deck any_print c
-any_texts (command.Enter job text) = tt
-any_texts (command.Ended job specs) = λ k d lt index. tt
-any_texts (command.Got line number job text) = tt
-any_texts _ = tt
-
-any_stored : (Deck : JobNo → Text → Type 0) (Print : JobNo → OutNo → Text → Type 0) (Q : Queue) → IsStored Deck Print Q → IsStored any_deck any_print Q
-any_stored Deck Print Q s = record {
-  jobs = All-weaker (IsStoredJob Deck) (IsStoredJob any_deck) (λ j is. record { spelled = is.spelled; text = tt }) Q.jobs s.jobs;
-  outputs = All-weaker (IsStoredOutput Print) (IsStoredOutput any_print) (λ o is. record { spelled = is.spelled; text = tt }) Q.outputs s.outputs;
-  owners = s.owners;
-  routes = s.routes;
-  lines = s.lines;
-}
-
--- texts of empty lines
-abbrev blank_deck : JobNo → ℕ → Text
-blank_deck n count = Whole (replicate count [])
-
-abbrev blank_print : JobNo → OutNo → ℕ → Text
-blank_print n i count = Whole (replicate count [])
-
-blank_texts : AreTexts blank_deck blank_print
-blank_texts = record {
-  cards = λ n count. length-replicate {A = List ℕ} count [];
-  lines = λ n i count. length-replicate {A = List ℕ} count [];
-  empty = λ n. refl;
-}
-
 module _ (old new : Tables) (by : MemberId) (c : Command) (giver : IsGiver by c) (range : IsInRange c) (fit : IsFit c) (spelling : HasSpelling old)
-    (stand : StandForTheirQueue) (give : GiveTheirQueue) (r : Reply) (plays : Plays old new (λ Q. row_of Q by c) r) where
-  step_stored : (Deck : JobNo → Text → Type 0) (Print : JobNo → OutNo → Text → Type 0) → ((n : JobNo) → Deck n (Whole [])) → AreTextsBrought Deck Print c → (Q : Queue) → IsStored Deck Print Q → IsStored Deck Print (step Q by c).0
-  step_stored Deck Print empty texts Q s =
-      done_keeps Q (row_of Q by c) (IsStored Deck Print) s (λ none. effect_stored Deck Print empty Q by (giver_few by c giver) c giver range texts fit none s)
+    (stand : TellTheirQueue) (r : Reply) (plays : Plays old new (λ Q. row_of Q by c) r) where
+  left : Leaves new (blank_queue old) (row_of (blank_queue old) by c) r
+  left = plays (blank_queue old) (stand old blank_deck blank_print (have_lines old))
 
-  module _ (deck : JobNo → ℕ → Text) (print : JobNo → OutNo → ℕ → Text) (texts : AreTexts deck print) where
-    left : Leaves new (queue_with deck print old) (row_of (queue_with deck print old) by c) r
-    left = plays (queue_with deck print old) (stand old (deck_of deck) (print_of print) (have_lines deck print texts old))
-
-    pub given_reply : r ≡ (step (queue_with deck print old) by c).1
-    given_reply = sym left.reply
-
-    pub given_queue : is_plain c ≡ true → queue_with deck print new ≡ (step (queue_with deck print old) by c).0
-    given_queue plain = let Q = queue_with deck print old in
-        gives deck print texts give new (step Q by c).0 left.stands
-        (step_stored (told_deck deck print texts) (told_print deck print texts) (λ n. sym (texts.empty n)) (plain_texts (told_deck deck print texts) (told_print deck print texts) c plain) Q (queue_stored deck print texts old spelling))
-
-  -- the queue of the old tables with blank texts
-  abbrev before : Queue
-  before = queue_with blank_deck blank_print old
-
-  before_stored : IsStored any_deck any_print before
-  before_stored = any_stored (told_deck blank_deck blank_print blank_texts) (told_print blank_deck blank_print blank_texts) before (queue_stored blank_deck blank_print blank_texts old spelling)
+  left_stored : IsStored (step (blank_queue old) by c).0
+  left_stored = let Q = blank_queue old in let s = queue_stored old spelling in
+      done_keeps Q (row_of Q by c) IsStored s (λ none. effect_stored Q by (giver_few by c giver) c giver range fit none s)
 
   pub given_named : IsReplyNamed r
-  given_named = subst IsReplyNamed (left blank_deck blank_print blank_texts).reply (step_named any_deck any_print before before_stored by (giver_few by c giver) c)
+  given_named = subst IsReplyNamed left.reply (step_named (blank_queue old) (queue_stored old spelling) by (giver_few by c giver) c)
 
   pub given_spelling : AreFit new → new.order < 2 ^ 63 → HasSpelling new
-  given_spelling fits small =
-      spelled any_deck any_print new (step before by c).0 (left blank_deck blank_print blank_texts).stands (step_stored any_deck any_print (λ n. tt) (any_texts c) before before_stored) fits small
+  given_spelling fits small = spelled new (step (blank_queue old) by c).0 left.stands left_stored fits small
 
   pub given_config : new.config ≡ old.config
-  given_config = sym (left blank_deck blank_print blank_texts).stands.config ∙ (keeps_configuration before by c).config
+  given_config = sym left.stands.config ∙ (keeps_configuration (blank_queue old) by c).config
+
+-- a command that its giver may give keeps the sound parts
+pub given_sound : (old new : Tables) (by : MemberId) (c : Command) (r : Reply) → IsFit c → Plays old new (λ Q. row_of Q by c) r → (s : TellSound old) → may_give s.queue by c ≡ true → TellSound new
+given_sound old new by c r fit plays s may = record { queue = (step s.queue by c).0; told = (plays s.queue s.told).stands; sound = keeps_sound s.queue by c s.sound fit may }

@@ -91,15 +91,15 @@ all_printed (Some x) = where_holds (nat_lt x.mark (total x)) refusal.Nothing tt
 
 -- ROWS
 
-module _ (Deck : JobNo → Text → Type 0) (Print : JobNo → OutNo → Text → Type 0) (Q : Queue) (s : IsStored Deck Print Q) where
+module _ (Q : Queue) (s : IsStored Q) where
   job_few : (n : JobNo) (j : Job) → job_at Q n ≡ Some j → j.busy.0 ≤ 8
-  job_few n j found = (find-All (IsStoredJob Deck) (has_number n) Q.jobs j s.jobs found).0.spelled.busy
+  job_few n j found = (find-All IsStoredJob (has_number n) Q.jobs j s.jobs found).0.busy
 
   output_few : (n : JobNo) (i : OutNo) (o : Output) → output_at Q n i ≡ Some o → o.busy.0 ≤ 8
-  output_few n i o found = (find-All (IsStoredOutput Print) (has_key n i) Q.outputs o s.outputs found).0.spelled.busy
+  output_few n i o found = (find-All IsStoredOutput (has_key n i) Q.outputs o s.outputs found).0.busy
 
   elsewhere_few : (m : MemberId) (n : JobNo) (o : Output) → printing_elsewhere Q m n ≡ Some o → o.busy.0 ≤ 8
-  elsewhere_few m n o found = (find-All (IsStoredOutput Print) (λ x. is_of n x && is_somebody x.busy && not (same_member x.busy m)) Q.outputs o s.outputs found).0.spelled.busy
+  elsewhere_few m n o found = (find-All IsStoredOutput (λ x. is_of n x && is_somebody x.busy && not (same_member x.busy m)) Q.outputs o s.outputs found).0.busy
 
   input_named : (m : MemberId) (n : JobNo) → AreNamed (not_in_input Q m n)
   input_named m n = (without_such refusal.NoJob tt (job_at Q n), (in_phase in_input (job_at Q n), (job_at_member m (job_at Q n) (job_few n), tt)))

@@ -1,6 +1,6 @@
 use Rattle.std.proofs.Common.{◌≤◌, All, take}
 use Rattle.lay_bytes.specs.Limits.{copies_most}
-use Rattle.table_commands.proofs.carrying.read_copies.Given as goal
+use Rattle.table_commands.proofs.giving.read_copies.Given as goal
 
 -- those that were read are within the range
 abbrev pub invariant-loop-output : goal.invariant-loop-output

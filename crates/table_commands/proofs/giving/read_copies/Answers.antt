@@ -3,7 +3,7 @@ use Rattle.std.proofs.lemmas.List.{take_more, take_all}
 use Rattle.std.proofs.lemmas.List.Elements.{All-push}
 use Rattle.mas_types.specs.declared.jobs.OutSpec.{OutSpec}
 use Rattle.lay_bytes.specs.Limits.{copies_most}
-use Rattle.table_commands.proofs.carrying.read_copies.Goals as goal
+use Rattle.table_commands.proofs.giving.read_copies.Goals as goal
 
 abbrev FewCopies : OutSpec → Type 0
 FewCopies s = s.copies ≤ copies_most
