@@ -18,11 +18,15 @@ const MEMBER: MemberId = MemberId(1);
 /// A first block and two areas of 36 pages.
 pub(crate) const SIZE: u64 = 299_008;
 
-pub(crate) fn plant(alloc: Global) -> Result<MemPlant, Fail> {
+/// The groups of a volume of the default configuration.
+pub(crate) const ROOM: u64 = 2_097_152;
+
+/// Devices that were never written, and a volume of so many bytes.
+pub(crate) fn plant(alloc: Global, volume: u64) -> Result<MemPlant, Fail> {
     let sizes = Sizes {
         ckpt: SIZE,
-        volumes: 0,
-        volume: 0,
+        volumes: 1,
+        volume,
     };
     Ok(MemPlant::new(alloc, sizes, 1_000, 1_000_000)?)
 }

@@ -1,7 +1,7 @@
 // What is found on two copies.
 ghost use Rattle.std.specs.Prelude.{◌≤◌};
 
-use crate::copies::{OPERATOR, SIZE, format, pages, plant, write_first, write_second};
+use crate::copies::{OPERATOR, ROOM, SIZE, format, pages, plant, write_first, write_second};
 use duplex_pair::pages_level;
 use mas_types::{CopyState, Dev};
 use spool_disk::{Act, Choice, MemPlant, Part, Plant};
@@ -25,7 +25,7 @@ fn level_seen(alloc: Global, plant: &mut MemPlant) -> Result<u64, StartNo> {
 
 // A plant whose copies have pages of level 1 and last number 3, and then one of them pages of level 2 and last number 5.
 fn ahead(rt: &impl Abort, alloc: Global, on_first: bool) -> Result<MemPlant, Fail> {
-    let mut plant = plant(alloc)?;
+    let mut plant = plant(alloc, ROOM)?;
     let first = pages(alloc, 3, 1)?;
     let second = pages(alloc, 5, 2)?;
     assert!(rt; plant.size(Dev::Ckpt1) >= SIZE);
@@ -38,9 +38,9 @@ fn ahead(rt: &impl Abort, alloc: Global, on_first: bool) -> Result<MemPlant, Fai
     Ok(plant)
 }
 
-// A plant whose copies both have pages of level 1 and last number 3.
-fn equal(rt: &impl Abort, alloc: Global) -> Result<MemPlant, Fail> {
-    let mut plant = plant(alloc)?;
+// A plant whose copies both have pages of level 1 and last number 3, and a volume of so many bytes.
+fn equal(rt: &impl Abort, alloc: Global, volume: u64) -> Result<MemPlant, Fail> {
+    let mut plant = plant(alloc, volume)?;
     let both = pages(alloc, 3, 1)?;
     assert!(rt; plant.size(Dev::Ckpt1) >= SIZE);
     assert!(rt; plant.size(Dev::Ckpt2) >= SIZE);
@@ -60,7 +60,7 @@ fn write(rt: &impl Abort, plant: &mut MemPlant, dev: Dev, at: u64, byte: u8) {
 #[test]
 fn nothing_formatted(rt: HostRuntime) -> Result<(), Fail> {
     let alloc = rt.alloc();
-    let mut plant = plant(alloc)?;
+    let mut plant = plant(alloc, ROOM)?;
     assert!(rt;
         matches!(
             last_found(alloc, &mut plant),
@@ -106,7 +106,7 @@ fn a_level_apart(rt: HostRuntime) -> Result<(), Fail> {
 #[test]
 fn a_faulty_page(rt: HostRuntime) -> Result<(), Fail> {
     let alloc = rt.alloc();
-    let mut plant = equal(&rt, alloc)?;
+    let mut plant = equal(&rt, alloc, ROOM)?;
     write(&rt, &mut plant, Dev::Ckpt1, PAGE + 48, 1);
     assert!(rt; matches!(last_found(alloc, &mut plant), Ok(3)));
     assert!(rt; !plant.lost(Part::Disk(Dev::Ckpt1)));
@@ -135,5 +135,21 @@ fn a_torn_gate(rt: HostRuntime) -> Result<(), Fail> {
         let mut plant = ended.crash_at(alloc, amid, choice)?;
         assert!(rt; matches!(last_found(alloc, &mut plant), Ok(found) if found == last));
     }
+    Ok(())
+}
+
+// A volume without room for its groups is refused, unless it is lost.
+#[test]
+fn a_small_volume(rt: HostRuntime) -> Result<(), Fail> {
+    let alloc = rt.alloc();
+    let mut plant = equal(&rt, alloc, ROOM - 1)?;
+    assert!(rt;
+        matches!(
+            last_found(alloc, &mut plant),
+            Err(StartNo::DeviceSize { dev: Dev::Spool(1), size }) if size == ROOM - 1
+        )
+    );
+    plant.lose(Dev::Spool(1));
+    assert!(rt; matches!(last_found(alloc, &mut plant), Ok(3)));
     Ok(())
 }

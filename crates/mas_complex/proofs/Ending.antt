@@ -135,8 +135,8 @@ module _ (reads : List ℕ → Option (List ℕ)) (base : Queue) (since : ℕ) (
       crash = λ t from le one two left right some. after_kept t (found S one two)
           (alike_found S (kept (js ++ in_flight c) t) (flying (js ++ in_flight c) t) (left_at v t Ckpt1) (left_at v t Ckpt2) (at_any t from le) one two left right some);
       alike = λ t from le. are_alike t (at_any t from le);
-      texts = λ began t from le volumes left.
-          let at = keeps.texts (lost_now v) (λ n lost. lost) began t from le in
+      texts = λ t from le volumes left.
+          let at = keeps.texts t from le in
           let images = λ (n : ℕ) (there : lost_now v n ≡ false). image_left (t == top) (lost_now v n) (spools_at v t n) (volumes n) there (keeps.sunk t from le n) (left n) in (
             subst (λ (l : List Entry). GivesTexts (lost_now v) volumes base.config.groups (run base l)) (kept_is (js ++ in_flight c) t)
                 (gives_texts (lost_now v) volumes (spools_at v t) base.config.groups images (run base (kept (js ++ in_flight c) t)) at.after_kept),

@@ -9,6 +9,7 @@ use Rattle.ckpt_copy.specs.Reading.{AllRead}
 use Rattle.mas_complex.specs.declared.places.Place.TheVariants.{Before, Opened}
 use Rattle.mas_complex.specs.Journals.{kept_all, IsPlace, EndsInPlace, HasPlace, with_last}
 use Rattle.mas_complex.specs.Crash.{Setting, Copy, copy_of, Keeps, IsUntold}
+use Rattle.mas_complex.specs.Texts.{spools_at, lost_now, HasTexts}
 use Rattle.mas_complex.proofs.BatchEnds.{with_last-append}
 use Rattle.mas_complex.proofs.Batches.{placed_all}
 use Rattle.mas_complex.proofs.Moves.{unplace_keeps}
@@ -47,10 +48,13 @@ module _ (S : Setting) (reached : ℕ) (first second : Copy) (v : View)
       (dropped_keeps S p.before b c reached first second v (without (Some b) keeps) same_first same_entries last rests_reads1 holds_reads1 rests_reads2 holds_reads2 fate one two)
 
   pub same_placed : (b : Batch) → Keeps S J None reached first second v → b.fate ≡ Flying → b.first ≡ v.now → IsUntold S v b.entries
-      → c.fate ≡ Kept → c.first ≡ b.first → c.entries ≡ b.entries → c.last ≡ v.now → S.run S.base (kept_all J ++ b.entries) ≡ S.run S.base (kept_all J)
+      → c.fate ≡ Kept → c.first ≡ b.first → c.entries ≡ b.entries → c.last ≡ v.now
+      → ((pages : List ℕ) → S.stand (S.run S.base (kept_all J)) pages → S.stand (S.run S.base (kept_all J ++ b.entries)) pages)
+      → HasTexts (lost_now v) (spools_at v v.now) S.base.config.groups (S.run S.base (kept_all J ++ b.entries))
       → Keeps S (with_last c J) None reached first second v
-  same_placed b keeps flies begins untold fate same_first same_entries last same_queue =
+  same_placed b keeps flies begins untold fate same_first same_entries last alike has =
       let all : kept_all J ≡ kept_all p.before = ap kept_all p.is ∙ placed_all p.place p.free p.before in
       subst (λ (l : List Batch). Keeps S l None reached first second v) (sym with_it)
       (same_keeps S reached first second v rests_reads1 holds_reads1 rests_reads2 holds_reads2 p.before b c (without None keeps) flies begins untold fate same_first same_entries last
-      (subst (λ (l : List Entry). S.run S.base (l ++ b.entries) ≡ S.run S.base l) all same_queue))
+      (subst (λ (l : List Entry). (pages : List ℕ) → S.stand (S.run S.base l) pages → S.stand (S.run S.base (l ++ b.entries)) pages) all alike)
+      (subst (λ (l : List Entry). HasTexts (lost_now v) (spools_at v v.now) S.base.config.groups (S.run S.base (l ++ b.entries))) all has))

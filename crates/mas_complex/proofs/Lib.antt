@@ -22,6 +22,7 @@ pub mod Others
 pub mod Replied
 pub mod Spooled
 pub mod Texting
+pub mod ToldAlike
 pub mod SpoolActs
 pub mod Quotients
 pub mod Counted

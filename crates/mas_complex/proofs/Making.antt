@@ -6,7 +6,6 @@ use Rattle.mas_types.specs.declared.ids.Dev.TheVariants.{Ckpt1, Ckpt2, Spool}
 use Rattle.spool_disk.specs.View.{View, Disk, Line, disk_at, disk_now}
 use Rattle.ckpt_copy.specs.Reading.{AllRead}
 use Rattle.mas_types.specs.declared.ids.MemberId.{MemberId}
-use Rattle.mas_types.specs.declared.queues.Queue.{Queue}
 use Rattle.mas_types.specs.declared.journals.Batch.{Batch}
 use Rattle.mas_types.specs.declared.journals.Entry.{Entry}
 use Rattle.mas_types.specs.declared.journals.Fate.TheVariants.{Kept, Flying}
@@ -17,7 +16,7 @@ use Rattle.mas_complex.proofs.Batches.{kept_all_append}
 use Rattle.mas_complex.proofs.Present.{copy_reads}
 use Rattle.mas_complex.proofs.Moves.{begins_keep, fate_keeps}
 use Rattle.mas_complex.proofs.Fates.{one_kept}
-use Rattle.mas_complex.specs.Texts.{lost_now}
+use Rattle.mas_complex.specs.Texts.{spools_at, lost_now, HasTexts}
 use Rattle.mas_complex.proofs.Texting.{make_texts}
 
 -- what is shown as lost is lost
@@ -52,7 +51,7 @@ module _ (S : Setting) (reached : ℕ) (first second : Copy) (v : View)
         subst (λ (m : ℕ). EachTells S.closes (drop (length (v.world S.since).console) (v.world m).console) (StepIsKept [] t)) e (none_said S.closes (v.world S.since).console (StepIsKept [] t));
     grows = λ t from le. let e : v.now ≡ t = omega (arith, since) in
         record { more = []; is = ap (λ (m : ℕ). (v.world m).console) e ∙ sym (append-nil (v.world t).console) };
-    texts = make_texts S v since;
+    texts = make_texts S v since begins.texts;
     sunk = λ t from le n lost. let e : t ≡ v.now = omega (arith, since) in sunk n (subst (λ (m : ℕ). (disk_at v m (Spool n)).lost ≡ true) e lost);
     was = begins.pages;
     coming = None;
@@ -66,17 +65,18 @@ module _ (S : Setting) (reached : ℕ) (first second : Copy) (v : View)
   module _ (js : List Batch) (b c : Batch) (keeps : Keeps S js None reached first second v) (flies : b.fate ≡ Flying) (b_first : b.first ≡ v.now)
       (untold : IsUntold S v b.entries)
       (fate : c.fate ≡ Kept) (same_first : c.first ≡ b.first) (same_entries : c.entries ≡ b.entries) (last : c.last ≡ v.now)
-      (same_queue : S.run S.base (kept_all js ++ b.entries) ≡ S.run S.base (kept_all js)) where
+      (alike : (pages : List ℕ) → S.stand (S.run S.base (kept_all js)) pages → S.stand (S.run S.base (kept_all js ++ b.entries)) pages)
+      (has : HasTexts (lost_now v) (spools_at v v.now) S.base.config.groups (S.run S.base (kept_all js ++ b.entries))) where
     all : kept_all (js ++ c ∷ []) ≡ kept_all js ++ b.entries
     all = kept_all_append js (c ∷ []) ∙ ap (λ (l : List Entry). kept_all js ++ l) (one_kept c fate ∙ same_entries)
 
     pub same_keeps : Keeps S (js ++ c ∷ []) None reached first second v
     same_keeps =
-        let flying = begins_keep S js b reached first second v keeps flies b_first untold in
+        let flying = begins_keep S js b reached first second v keeps flies b_first untold has in
         let x : CopyAt S keeps.was None first v.now (disk_now v Ckpt1) = subst (λ (n : Option (List ℕ)). CopyAt S keeps.was n first v.now (disk_now v Ckpt1)) (keeps.none refl) keeps.first_at in
         let y : CopyAt S keeps.was None second v.now (disk_now v Ckpt2) = subst (λ (n : Option (List ℕ)). CopyAt S keeps.was n second v.now (disk_now v Ckpt2)) (keeps.none refl) keeps.second_at in
         fate_keeps S js b c reached reached first second first second v flying (ap is_flying fate) same_first same_entries last keeps.was
-        (record { at_level = keeps.stands.at_level; queue = subst (λ (q : Queue). S.stand q keeps.was) (sym same_queue ∙ ap (S.run S.base) (sym all)) keeps.stands.queue })
+        (record { at_level = keeps.stands.at_level; queue = subst (λ (l : List Entry). S.stand (S.run S.base l) keeps.was) (sym all) (alike keeps.was keeps.stands.queue) })
         (λ lt. (
           copy_reads S keeps.was first.rests first.holds rests_reads1 holds_reads1 None first.place first.alive v.now (disk_now v Ckpt1) lt x,
           copy_reads S keeps.was second.rests second.holds rests_reads2 holds_reads2 None second.place second.alive v.now (disk_now v Ckpt2) lt y,

@@ -14,8 +14,8 @@ use Rattle.mas_types.specs.Journal.{is_flying}
 use Rattle.mas_complex.specs.Crash.{Setting, Stands, IsNext, Alike, CrashAt, EachTells, said, ToldAt, ReadsOne, Copy, CopyAt, Keeps}
 use Rattle.mas_complex.proofs.Batches.{now_kept, now_flying, settled_later, settled_push, begun_later, begins_kept, begins_flying, fated_kept, fated_flying, step_later, step_push, step_fate, placed_kept, placed_flying, placed_all, placed_step, unplaced_step, placed_settled, unplaced_settled}
 use Rattle.mas_complex.proofs.Present.{alike_as, alike_none}
-use Rattle.mas_complex.specs.Texts.{FoundTexts}
-use Rattle.mas_complex.proofs.Texting.{Stays, acts_texts, acts_sunk, begins_texts, fated_texts, same_texts, found_place, found_unplace}
+use Rattle.mas_complex.specs.Texts.{spools_at, lost_now, HasTexts}
+use Rattle.mas_complex.proofs.Texting.{Stays, acts_texts, acts_sunk, begins_texts, fated_texts, same_texts}
 use Rattle.mas_complex.proofs.Lines.{each_map, each_both, each_more, each_less}
 
 abbrev console_at : View → ℕ → List Line
@@ -109,15 +109,16 @@ module _ (S : Setting) (js : List Batch) (b : Batch) (reached : ℕ) (first seco
       (each_less S.closes (length (v.world S.since).console) (v.world t).console g.more (λ m s. has_step m s b.entries ≡ false)
       (subst (λ (l : List Line). EachTells S.closes (drop (length (v.world S.since).console) l) (λ m s. has_step m s b.entries ≡ false)) g.is untold))
 
-  pub begins_keep : Keeps S js None reached first second v → b.fate ≡ Flying → b.first ≡ v.now → EachTells S.closes (said S v v.now) (λ m s. has_step m s b.entries ≡ false) → Keeps S js (Some b) reached first second v
-  begins_keep keeps fate begun untold = record {
+  pub begins_keep : Keeps S js None reached first second v → b.fate ≡ Flying → b.first ≡ v.now → EachTells S.closes (said S v v.now) (λ m s. has_step m s b.entries ≡ false)
+      → HasTexts (lost_now v) (spools_at v v.now) S.base.config.groups (S.run S.base (kept_all js ++ b.entries)) → Keeps S js (Some b) reached first second v
+  begins_keep keeps fate begun untold has = record {
     started = keeps.started;
     settled = keeps.settled;
     begun = (fate, omega (arith, begun));
     crash = λ t from le lt. begins_after t keeps.settled fate begun le (keeps.crash t from le lt);
     told = λ t from le. begins_told t keeps untold from le;
     grows = keeps.grows;
-    texts = begins_texts S js b v keeps.settled fate begun keeps.texts;
+    texts = begins_texts S js b v keeps.settled fate begun has keeps.texts;
     sunk = keeps.sunk;
     was = keeps.was;
     coming = None;
@@ -180,8 +181,8 @@ module _ (S : Setting) (js : List Batch) (b c : Batch) (reached reached' : ℕ) 
 module _ (S : Setting) (js ks : List Batch) (c : Option Batch) (reached : ℕ) (first second : Copy) (v : View) where
   pub same_keep : Keeps S js c reached first second v → AreSettled ks v.now → ((t : ℕ) → kept (ks ++ in_flight c) t ≡ kept (js ++ in_flight c) t) → ((t : ℕ) → flying (ks ++ in_flight c) t ≡ flying (js ++ in_flight c) t)
       → ((t : ℕ) (m : MemberId) (s : ℕ) → StepIsKept (js ++ in_flight c) t m s → StepIsKept (ks ++ in_flight c) t m s) → kept_all ks ≡ kept_all js
-      → ((gone : ℕ → Bool) → FoundTexts gone (S.run S.base) S.base.config.groups v [] (ks ++ in_flight c) → FoundTexts gone (S.run S.base) S.base.config.groups v [] (js ++ in_flight c)) → Keeps S ks c reached first second v
-  same_keep keeps settled same_kept same_flying same_step same_all found = record {
+      → Keeps S ks c reached first second v
+  same_keep keeps settled same_kept same_flying same_step same_all = record {
     started = keeps.started;
     settled = settled;
     begun = keeps.begun;
@@ -190,7 +191,7 @@ module _ (S : Setting) (js ks : List Batch) (c : Option Batch) (reached : ℕ) (
         (same_kept t) (same_flying t) (keeps.crash t from le lt);
     told = λ t from le. each_map S.closes (said S v t) (StepIsKept (js ++ in_flight c) t) (StepIsKept (ks ++ in_flight c) t) (λ m s. same_step t m s) (keeps.told t from le);
     grows = keeps.grows;
-    texts = same_texts S (js ++ in_flight c) (ks ++ in_flight c) v found same_kept same_flying keeps.texts;
+    texts = same_texts S (js ++ in_flight c) (ks ++ in_flight c) v same_kept same_flying keeps.texts;
     sunk = keeps.sunk;
     was = keeps.was;
     coming = keeps.coming;
@@ -205,8 +206,8 @@ module _ (S : Setting) (js ks : List Batch) (c : Option Batch) (reached : ℕ) (
 module _ (S : Setting) (js : List Batch) (b : Batch) (c : Option Batch) (reached : ℕ) (first second : Copy) (v : View) (place : IsPlace b) where
   pub place_keeps : b.first ≤ b.last → b.last ≤ v.now → Keeps S js c reached first second v → Keeps S (js ++ b ∷ []) c reached first second v
   place_keeps ends past keeps = same_keep S js (js ++ b ∷ []) c reached first second v keeps (placed_settled b place js v.now keeps.settled ends past) (placed_kept b place js (in_flight c)) (placed_flying b place js (in_flight c))
-      (placed_step b place js (in_flight c)) (placed_all b place js) (found_unplace S b place js (in_flight c) v)
+      (placed_step b place js (in_flight c)) (placed_all b place js)
 
   pub unplace_keeps : Keeps S (js ++ b ∷ []) c reached first second v → Keeps S js c reached first second v
   unplace_keeps keeps = same_keep S (js ++ b ∷ []) js c reached first second v keeps (unplaced_settled js b v.now keeps.settled) (λ t. sym (placed_kept b place js (in_flight c) t)) (λ t. sym (placed_flying b place js (in_flight c) t))
-      (unplaced_step b place js (in_flight c)) (sym (placed_all b place js)) (found_place S b place js (in_flight c) v)
+      (unplaced_step b place js (in_flight c)) (sym (placed_all b place js))

@@ -238,6 +238,23 @@ module _ (v : ℕ) (old new : View) (quiet : Quiet (disk_now old (Spool v)) (dis
     by_volume true e = subst (λ (m : ℕ). Quiet (spools_at old old.now m) (spools_at new new.now m)) (sym (eqb-true n v e)) quiet
     by_volume false e = quiet_same (spools_at old old.now n) (spools_at new new.now n) (only.others (Spool n) (λ same. eqb-false n v e (cc same)))
 
+-- MORE VOLUMES ARE LOST
+
+fewer : (gone more : GroupNo → Bool) (gs : List GroupNo) → ((g : GroupNo) → gone g ≡ true → more g ≡ true) → list_any more gs ≡ false → list_any gone gs ≡ false
+fewer gone more [] grows none = refl
+fewer gone more (g ∷ gs) grows none = both (gone g) (more g) (list_any gone gs) (list_any more gs) (grows g) (λ later. fewer gone more gs grows later) none where
+  both : (a b c d : Bool) → (a ≡ true → b ≡ true) → (d ≡ false → c ≡ false) → (b || d) ≡ false → (a || c) ≡ false
+  both true true c d grows later none = absurd (true≢false none)
+  both true false c d grows later none = absurd (true≢false (sym (grows refl)))
+  both false true c d grows later none = absurd (true≢false none)
+  both false false c d grows later none = later none
+
+pub texts_fewer : (gone more : ℕ → Bool) (disks : Spools) (per : ℕ) (Q : Queue) → ((n : ℕ) → gone n ≡ true → more n ≡ true) → HasTexts gone disks per Q → HasTexts more disks per Q
+texts_fewer gone more disks per Q grows has = record {
+  decks = λ k d lt none. has.decks k d lt (fewer (λ g. gone (volume_of per g)) (λ g. more (volume_of per g)) (groups_of (Deck (slice_index_or Q.jobs k d).number) Q.owners) (λ g. grows (volume_of per g)) none);
+  outputs = λ k d lt none. has.outputs k d lt (fewer (λ g. gone (volume_of per g)) (λ g. more (volume_of per g)) (groups_of (Output (slice_index_or Q.outputs k d).job (slice_index_or Q.outputs k d).index) Q.owners) (λ g. grows (volume_of per g)) none);
+}
+
 -- WHAT A CRASH LEAVES
 
 none_gone : (test : GroupNo → Bool) (gs : List GroupNo) → list_any test gs ≡ false → All (λ (g : GroupNo). test g ≡ false) gs

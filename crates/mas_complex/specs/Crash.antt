@@ -14,7 +14,7 @@ use Rattle.mas_types.specs.declared.ids.MemberId.{MemberId}
 use Rattle.mas_types.specs.declared.queues.Queue.{Queue}
 use Rattle.duplex_pair.specs.Finds.{best}
 use Rattle.mas_complex.specs.Meaning.{StandFor, run, Closes}
-use Rattle.mas_complex.specs.Texts.{spools_at, lost_now, HasTexts, BeganWithTexts, AreGone}
+use Rattle.mas_complex.specs.Texts.{spools_at, lost_now, HasTexts}
 use Rattle.mas_complex.specs.Journals.{kept, flying, kept_all, in_flight, entries_in, StepIsKept, has_step, AreSettled, IsBegun}
 
 -- what pages, entries and lines mean, and where the value began
@@ -154,15 +154,14 @@ abbrev pub setting : (List ℕ → Option (List ℕ)) → Queue → ℕ → Sett
 setting reads base since = record { reads = reads; stand = StandFor; run = run; closes = Closes; base = base; since = since }
 
 -- The texts that stand on the spool volumes at a moment: those of the queue after the kept entries, and those of the
--- queue with the entries in flight.
-pub record TextsAt (S : Setting) (gone : ℕ → Bool) (J : List Batch) (v : View) (t : ℕ) : Type 0 where
-  pub after_kept : HasTexts gone (spools_at v t) S.base.config.groups (S.run S.base (kept J t))
-  pub after_coming : HasTexts gone (spools_at v t) S.base.config.groups (S.run S.base (kept J t ++ flying J t))
+-- queue with the entries in flight, but for texts with a group on a volume that is lost now.
+pub record TextsAt (S : Setting) (J : List Batch) (v : View) (t : ℕ) : Type 0 where
+  pub after_kept : HasTexts (lost_now v) (spools_at v t) S.base.config.groups (S.run S.base (kept J t))
+  pub after_coming : HasTexts (lost_now v) (spools_at v t) S.base.config.groups (S.run S.base (kept J t ++ flying J t))
 
--- so at each moment, where the texts of the base stood at first, and those of each batch's queue as it began
+-- so at each moment
 abbrev pub KeepsTexts : Setting → List Batch → View → Type 0
-KeepsTexts S J v = (gone : ℕ → Bool) → AreGone gone v → BeganWithTexts gone (S.run S.base) S.base.config.groups S.since v J
-    → (t : ℕ) → S.since ≤ t → t ≤ v.now → TextsAt S gone J v t
+KeepsTexts S J v = (t : ℕ) → S.since ≤ t → t ≤ v.now → TextsAt S J v t
 
 -- a volume that the world shows as lost is lost now
 abbrev pub AreSunk : Setting → View → Type 0
@@ -188,9 +187,10 @@ pub record Keeps (S : Setting) (js : List Batch) (current : Option Batch) (reach
   pub second_at : CopyAt S was coming second v.now (disk_now v Ckpt2)
 
 -- Both copies, before any batch, as a shared value begins with them: there are pages of this level that stand for its
--- base, and each copy that counts as alive is at rest with these.
+-- base, and each copy that counts as alive is at rest with these. The texts of the base stand on the spool volumes.
 pub record BeginsWith (S : Setting) (l : ℕ) (first second : Copy) (v : View) : Type 0 where
   pub pages : List ℕ
   pub stands : Stands S l [] pages
+  pub texts : HasTexts (lost_now v) (spools_at v v.now) S.base.config.groups (S.run S.base [])
   pub first_at : CopyAt S pages None first v.now (disk_now v Ckpt1)
   pub second_at : CopyAt S pages None second v.now (disk_now v Ckpt2)

@@ -14,7 +14,7 @@ use Rattle.duplex_pair.specs.Finds.{best}
 use Rattle.mas_complex.specs.Meaning.{run, StandFor, is_telling}
 use Rattle.mas_complex.specs.Journals.{has_step}
 use Rattle.spool_volumes.specs.Volumes.{Volumes}
-use Rattle.mas_complex.specs.Texts.{lost_now, GivesTexts, BeganWithTexts}
+use Rattle.mas_complex.specs.Texts.{lost_now, GivesTexts}
 use Rattle.mas_complex.specs.Crash.{IsLeft, SomeLeft, read_left, left_at, IsOneOf}
 
 -- pages are found, which stand for the queue
@@ -72,11 +72,9 @@ AreToldKept J since v = Throughout since v.now (λ t.
     → Contains (added v since t) (whole (closing_line by at end)) → IsStepKept J t by at)
 
 -- At each moment, whatever a crash leaves of the spool volumes: each text of the queue after the kept entries is read from
--- it, and each of the queue with those in flight, unless one of its groups lies on a volume that is lost now. So where the
--- texts of the base stood at first, and those of the queue with each batch as it began.
+-- it, and each of the queue with those in flight, unless one of its groups lies on a volume that is lost now.
 abbrev pub AreTextsLeft : Queue → ℕ → Journal → View → Type 0
-AreTextsLeft base since J v = BeganWithTexts (lost_now v) (run base) base.config.groups since v J.batches
-    → (t : ℕ) → since ≤ t → t ≤ v.now → (volumes : Volumes) → ((n : ℕ) → IsLeft (left_at v t (Spool n)) (volumes n))
+AreTextsLeft base since J v = (t : ℕ) → since ≤ t → t ≤ v.now → (volumes : Volumes) → ((n : ℕ) → IsLeft (left_at v t (Spool n)) (volumes n))
     → GivesTexts (lost_now v) volumes base.config.groups (run base (kept_at J t)) × GivesTexts (lost_now v) volumes base.config.groups (run base (kept_at J t ++ flying_at J t))
 
 -- all of it

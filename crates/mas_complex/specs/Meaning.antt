@@ -1,12 +1,10 @@
 -- What the bytes of a copy's pages stand for, what entries do, and what closing lines tell.
 --
--- As long as texts aren't spooled, a text with lines is gone, and a deck takes no track groups. So Enter isn't refused for want
--- of groups here, where the table of commands refuses it with Nothing; every other command and refusal is the table's.
-use Rattle.std.specs.Prelude.{◌≡◌, ℕ, ◌==◌, Bool, true, false, if◌then◌else◌, List, [], ◌∷◌}
+-- As long as a deck takes no track groups, Enter isn't refused for want of them here, where the table of commands refuses it with
+-- Nothing; every other command and refusal is the table's.
+use Rattle.std.specs.Prelude.{◌≡◌, ℕ, Bool, true, false, List, [], ◌∷◌}
 use Rattle.mas_types.specs.declared.ids.MemberId.{MemberId}
 use Rattle.mas_types.specs.declared.ids.Page.{Page}
-use Rattle.mas_types.specs.declared.jobs.Text.{Text}
-use Rattle.mas_types.specs.declared.jobs.Text.TheVariants.{Whole, Gone}
 use Rattle.mas_types.specs.declared.queues.Queue.{Queue}
 use Rattle.mas_types.specs.declared.journals.Entry.{Entry}
 use Rattle.mas_types.specs.declared.commands.Command.{Command}
@@ -18,10 +16,8 @@ use Rattle.mas_types.specs.Row.{done}
 use Rattle.mas_types.specs.Commands.Input.{enter_row, not_in_input}
 use Rattle.mas_types.specs.Step as table
 use Rattle.mas_types.specs.Closings.{closing_line}
-use Rattle.lay_bytes.specs.declared.records.JobRec.{JobRec}
-use Rattle.lay_bytes.specs.declared.records.OutRec.{OutRec}
 use Rattle.ckpt_copy.specs.Pages.{bytes_of}
-use Rattle.ckpt_pages.specs.StandsFor.{StandsFor}
+use Rattle.table_queues.specs.Telling.{PagesTell}
 
 -- one command of a member: the queue that it leaves, and its reply
 abbrev pub step : Queue → MemberId → Command → Queue × Reply
@@ -38,23 +34,13 @@ abbrev pub replies : Queue → List Entry → List Reply
 replies Q [] = []
 replies Q (e ∷ es) = (step Q e.by e.command).1 ∷ replies (step Q e.by e.command).0 es
 
--- a text of so many lines: one without lines is there, any other is gone
-abbrev pub unspooled : ℕ → Text
-unspooled lines = if lines == 0 then Whole [] else Gone (record { 0 = 0 }) lines
-
-abbrev pub no_deck : JobRec → Text
-no_deck job = unspooled job.cards
-
-abbrev pub no_print : OutRec → Text
-no_print output = unspooled output.lines
-
--- The bytes are the pages of a checkpoint, which stands for the queue. This is the one place where the queue of pages
--- is compared with a queue.
+-- The bytes are the pages of a checkpoint, whose tables tell the queue: all of it but its texts, of which they tell the numbers
+-- of lines. This is the one place where the pages are compared with a queue; which texts it has is said of the spool volumes.
 pub record StandFor (Q : Queue) (bytes : List ℕ) : Type 0 where
   pub pages : List Page
   pub level : ℕ
   pub joined : bytes_of pages ≡ bytes
-  pub stand : StandsFor pages level no_deck no_print Q
+  pub tell : PagesTell pages level Q
 
 -- a step that closes so is told: its member was not stopped
 abbrev pub is_telling : Closing → Bool

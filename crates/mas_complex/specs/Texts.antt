@@ -7,9 +7,6 @@ use Rattle.mas_types.specs.declared.jobs.Text.{Text}
 use Rattle.mas_types.specs.declared.queues.Thing.{Thing}
 use Rattle.mas_types.specs.declared.queues.Thing.TheVariants.{Deck, Output}
 use Rattle.mas_types.specs.declared.queues.Queue.{Queue}
-use Rattle.mas_types.specs.declared.journals.Batch.{Batch}
-use Rattle.mas_types.specs.declared.journals.Entry.{Entry}
-use Rattle.mas_types.specs.Journal.{is_kept}
 use Rattle.mas_types.specs.Limits.{page_bytes}
 use Rattle.mas_types.specs.Queue.{line_count}
 use Rattle.spool_disk.specs.declared.plant.Part.TheVariants.{Disk as DiskPart}
@@ -64,20 +61,3 @@ IsReadUnless gone volumes per text groups = lies_on gone per groups ≡ false �
 pub record GivesTexts (gone : ℕ → Bool) (volumes : Volumes) (per : ℕ) (Q : Queue) : Type 0 where
   pub decks : All (λ j. IsReadUnless gone volumes per j.text (groups_of (Deck j.number) Q.owners)) Q.jobs
   pub outputs : All (λ o. IsReadUnless gone volumes per o.text (groups_of (Output o.job o.index) Q.owners)) Q.outputs
-
--- Each batch that has an entry found the texts of the queue with it standing, at the moment at which it began: this queue
--- is what the entries give that were kept before it, with its own.
-abbrev pub FoundTexts : (ℕ → Bool) → (List Entry → Queue) → ℕ → View → List Entry → List Batch → Type 0
-FoundTexts gone run per v before [] = Unit {0}
-FoundTexts gone run per v before (b ∷ bs) =
-    (b.entries ≢ [] → HasTexts gone (spools_at v b.first) per (run (before ++ b.entries)))
-    × FoundTexts gone run per v (before ++ (if is_kept b.fate then b.entries else [])) bs
-
--- so did the batches of a journal, and the base's texts stood at the first moment
-pub record BeganWithTexts (gone : ℕ → Bool) (run : List Entry → Queue) (per since : ℕ) (v : View) (batches : List Batch) : Type 0 where
-  pub base : HasTexts gone (spools_at v since) per (run [])
-  pub each : FoundTexts gone run per v [] batches
-
--- volumes that are lost count as gone
-abbrev pub AreGone : (ℕ → Bool) → View → Type 0
-AreGone gone v = (n : ℕ) → lost_now v n ≡ true → gone n ≡ true

@@ -15,6 +15,7 @@ ghost use Rattle.duplex_pair.specs.declared.errors.PairNo.TheVariants.{Halted as
 ghost use Rattle.duplex_pair.specs.Halves.{IsCkpt, pick, other, IsBothLost, SomeAlive, Acted, AreReady};
 ghost use Rattle.duplex_pair.specs.Both.{PairActed};
 ghost use Rattle.duplex_pair.specs.Outcomes.{pair_stopped};
+ghost use Rattle.table_queues.specs.Telling.{AreToldAlike};
 ghost use Rattle.mas_complex.specs.declared.places.Place.TheVariants.{Before as AtBefore, Put as AtPut, Opened as AtOpened, Unsure as AtUnsure};
 ghost use Rattle.mas_complex.specs.Journals.{coming, kept_all, entries_in, entries_reserved, in_flight, StepIsKept, begun, fated, HasPlace, IsPlace, with_last, end_of, IsKeptAt};
 ghost use Rattle.mas_complex.specs.Meaning.{StandFor, run, Closes};
@@ -23,6 +24,7 @@ ghost use Rattle.mas_complex.specs.Crash.{Keeps, setting, copy_of, BeginsWith, I
 ghost use Rattle.mas_complex.specs.Headline.{Headline, LeavesQueue};
 ghost use Rattle.mas_complex.specs.Elsewhere.{Elsewhere, OnCopies};
 ghost use Rattle.mas_complex.specs.Changed.{NamesOnly};
+ghost use Rattle.mas_complex.specs.Texts.{HasTexts, spools_at, lost_now};
 ghost use Rattle.mas_complex.specs.Replies.{HaveReplies, AreReplied};
 ghost use Rattle.mas_complex.specs.Locking.{book_of, MayAct, IsUp, IsOwn};
 
@@ -204,6 +206,7 @@ impl<P: Plant + Drop, C: Steady + Drop> Complex<P, C> {
         requires first { self.old.pair.first.alive ≡ true → self.old.first ≡ AtBefore }
         requires second { self.old.pair.second.alive ≡ true → self.old.second ≡ AtBefore }
         requires untold { P.tells → IsUntold (setting C.reads self.old.base self.old.since) (P.view self.old.plant) (entries_reserved self.old.reserved) }
+        requires texts { P.tells → ∥ HasTexts (lost_now (P.view self.old.plant)) (spools_at (P.view self.old.plant) (P.view self.old.plant).now) self.old.base.config.groups (run self.old.base (kept_all self.old.journal.batches ++ entries_reserved self.old.reserved)) ∥₁ }
         ensures plant { self.new.plant ≡ self.old.plant }
         ensures pair { self.new.pair ≡ self.old.pair }
         ensures base { self.new.base ≡ self.old.base }
@@ -501,8 +504,8 @@ impl<P: Plant + Drop, C: Steady + Drop> Complex<P, C> {
         self.plant.say(by, line)
     }
 
-    /// Keeps the reserved batch without a write: the queue is the same with it, and its entries, each of the member that
-    /// acts, have their replies.
+    /// Keeps the reserved batch without a write: pages that stand for the queue stand for it with the batch too, whose texts stand on
+    /// the spool volumes as `log` asks it, and its entries, each of the member that acts, have their replies.
     pub fn keep_same(&mut self, by: MemberId)
         requires may { MayAct self.old.book by }
         requires own { All (λ e. e.by ≡ by) (entries_reserved self.old.reserved) }
@@ -512,7 +515,8 @@ impl<P: Plant + Drop, C: Steady + Drop> Complex<P, C> {
         requires first { self.old.pair.first.alive ≡ true → self.old.first ≡ AtBefore }
         requires second { self.old.pair.second.alive ≡ true → self.old.second ≡ AtBefore }
         requires untold { P.tells → IsUntold (setting C.reads self.old.base self.old.since) (P.view self.old.plant) (entries_reserved self.old.reserved) }
-        requires queue { P.tells → run self.old.base (kept_all self.old.journal.batches ++ entries_reserved self.old.reserved) ≡ run self.old.base (kept_all self.old.journal.batches) }
+        requires texts { P.tells → ∥ HasTexts (lost_now (P.view self.old.plant)) (spools_at (P.view self.old.plant) (P.view self.old.plant).now) self.old.base.config.groups (run self.old.base (kept_all self.old.journal.batches ++ entries_reserved self.old.reserved)) ∥₁ }
+        requires queue { P.tells → AreToldAlike (run self.old.base (kept_all self.old.journal.batches)) (run self.old.base (kept_all self.old.journal.batches ++ entries_reserved self.old.reserved)) }
         ensures plant { self.new.plant ≡ self.old.plant }
         ensures pair { self.new.pair ≡ self.old.pair }
         ensures base { self.new.base ≡ self.old.base }
@@ -619,6 +623,7 @@ impl<P: Plant + Drop, C: Steady + Drop> Complex<P, C> {
         requires second { self.old.current ≡ None → self.old.pair.second.alive ≡ true → self.old.second ≡ AtBefore }
         requires replied { P.tells → self.old.current ≡ None → HaveReplies (run self.old.base (kept_all self.old.journal.batches)) (entries_reserved self.old.reserved) }
         requires untold { P.tells → self.old.current ≡ None → IsUntold (setting C.reads self.old.base self.old.since) (P.view self.old.plant) (entries_reserved self.old.reserved) }
+        requires texts { P.tells → self.old.current ≡ None → ∥ HasTexts (lost_now (P.view self.old.plant)) (spools_at (P.view self.old.plant) (P.view self.old.plant).now) self.old.base.config.groups (run self.old.base (kept_all self.old.journal.batches ++ entries_reserved self.old.reserved)) ∥₁ }
         ensures plant { self.new.plant ≡ self.old.plant }
         ensures pair { self.new.pair ≡ self.old.pair }
         ensures base { self.new.base ≡ self.old.base }
@@ -646,6 +651,7 @@ impl<P: Plant + Drop, C: Steady + Drop> Complex<P, C> {
     ///
     /// The entries have the replies that the commands give at their places, after the kept ones.
     /// The pages stand for the queue with the batch, which has an entry, and have the level after the one of the kept pages.
+    /// The texts of that queue stand on the spool volumes, all of them synced, but for those with a group on a volume that is lost.
     /// `changed` are the numbers of page 0 and of just those that differ from what the copy reads. Both copies are given the same pages: where
     /// the other one counts as alive, these wait behind its gate if others than the kept ones do.
     pub fn log(
@@ -669,6 +675,7 @@ impl<P: Plant + Drop, C: Steady + Drop> Complex<P, C> {
         requires first { self.old.current ≡ None → self.old.pair.first.alive ≡ true → self.old.first ≡ AtBefore }
         requires second { self.old.current ≡ None → self.old.pair.second.alive ≡ true → self.old.second ≡ AtBefore }
         requires untold { P.tells → self.old.current ≡ None → IsUntold (setting C.reads self.old.base self.old.since) (P.view self.old.plant) (entries_reserved self.old.reserved) }
+        requires texts { P.tells → self.old.current ≡ None → ∥ HasTexts (lost_now (P.view self.old.plant)) (spools_at (P.view self.old.plant) (P.view self.old.plant).now) self.old.base.config.groups (run self.old.base (kept_all self.old.journal.batches ++ entries_reserved self.old.reserved)) ∥₁ }
         requires queue { P.tells → ∥ StandFor (run self.old.base (kept_all self.old.journal.batches ++ coming self.old.current self.old.reserved)) (bytes_of pages.now) ∥₁ }
         requires some { 1 ≤ length (coming self.old.current self.old.reserved) }
         requires replied { P.tells → self.old.current ≡ None → HaveReplies (run self.old.base (kept_all self.old.journal.batches)) (entries_reserved self.old.reserved) }

@@ -9,6 +9,7 @@ ghost use Rattle.mas_complex.specs.Journals.{kept_all, entries_in};
 ghost use Rattle.mas_complex.specs.Locking.{IsUp};
 ghost use Rattle.mas_complex.specs.Meaning.{run};
 ghost use Rattle.mas_complex.specs.Spool.{IsGroupOf, IsVolumeOf, IsHeldBy, device_of, is_within, ReadsGroup, WritesGroup};
+ghost use Rattle.mas_complex.specs.Texts.{HasTexts, lost_now, spools_at};
 ghost use Rattle.mas_complex.specs.TextExamples.{WorkedTexts};
 ghost use Rattle.spool_volumes.specs.Volumes.{volume_of, start_of};
 
@@ -182,4 +183,11 @@ impl<P: Plant + Drop, C: Steady + Drop> Complex<P, C> {
     {
         self.plant.sync(by, Dev::Spool(volume))
     }
+
+    /// The texts of the queue after the kept batches stand on the spool volumes, all of them synced, but for those with a group on a
+    /// volume that is lost; and so do those of the queue with the batch in flight.
+    pub fn kept_texts(&self)
+        ensures kept { P.tells → ∥ HasTexts (lost_now (P.view self.now.plant)) (spools_at (P.view self.now.plant) (P.view self.now.plant).now) self.now.base.config.groups (run self.now.base (kept_all self.now.journal.batches)) ∥₁ }
+        ensures coming { P.tells → ∥ HasTexts (lost_now (P.view self.now.plant)) (spools_at (P.view self.now.plant) (P.view self.now.plant).now) self.now.base.config.groups (run self.now.base (kept_all self.now.journal.batches ++ entries_in self.now.current)) ∥₁ }
+    {}
 }

@@ -153,7 +153,7 @@ none_again n y (z ∷ zs) at_n none =
     let parts = or_false (same_number y.number z.number) (list_any (λ b. same_number y.number b.number) zs) none in
     All-cons (λ j. has_number n j ≡ false) z zs (number_other n y z at_n parts.0) (none_again n y zs at_n parts.1)
 
-others_left : (n : JobNo) (js : List Job) → AreDistinct (λ a b. same_number a.number b.number) js → All (λ j. has_number n j ≡ false) (without_first (has_number n) js)
+pub others_left : (n : JobNo) (js : List Job) → AreDistinct (λ a b. same_number a.number b.number) js → All (λ j. has_number n j ≡ false) (without_first (has_number n) js)
 others_left n [] d = All-nil (λ j. has_number n j ≡ false)
 others_left n (y ∷ ys) d =
     test_cases (has_number n y) (All (λ j. has_number n j ≡ false) (without_first (has_number n) (y ∷ ys)))

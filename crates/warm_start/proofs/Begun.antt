@@ -5,31 +5,27 @@ use Rattle.mas_types.specs.declared.ids.Dev.TheVariants.{Ckpt1, Ckpt2}
 use Rattle.mas_types.specs.declared.ids.Page.{Page}
 use Rattle.mas_types.specs.declared.queues.Queue.{Queue}
 use Rattle.spool_disk.specs.declared.plant.Part.TheVariants.{Disk as DiskPart}
-use Rattle.spool_disk.specs.View.{View, Disk, disk_now}
+use Rattle.spool_disk.specs.View.{View, Disk}
 use Rattle.spool_disk.specs.Acts.{Goes, top}
-use Rattle.ckpt_copy.specs.Changes.{NoMore}
 use Rattle.ckpt_copy.specs.Pages.{bytes_of}
 use Rattle.ckpt_pages.specs.declared.tables.Tables.{Tables}
 use Rattle.ckpt_pages.specs.Checkpoints.{IsCheckpoint}
-use Rattle.ckpt_pages.specs.QueueOf.{queue_of}
 use Rattle.duplex_pair.specs.declared.errors.PairNo.{PairNo}
 use Rattle.duplex_pair.specs.declared.errors.PairNo.TheVariants.{BothLost, Halted}
 use Rattle.duplex_pair.specs.Halves.{IsBothLost}
-use Rattle.duplex_pair.specs.Both.{BothMeanwhile}
-use Rattle.duplex_pair.proofs.Composing.{both_then}
 use Rattle.mas_complex.specs.declared.places.Place.TheVariants.{Before}
 use Rattle.mas_complex.specs.Crash.{setting, CopyAt, copy_of}
-use Rattle.mas_complex.specs.Meaning.{StandFor, no_deck, no_print}
-use Rattle.warm_start.specs.Starting.{IsSeen, IsFound, IsUnfit, IsHeld, OnlyLooked, HeldBack}
-use Rattle.warm_start.proofs.Starts.{less_more, less_held, held_since, both_weaker, first_now, second_now}
+use Rattle.table_queues.specs.Telling.{Tell}
+use Rattle.mas_complex.specs.Meaning.{StandFor}
+use Rattle.warm_start.specs.Starting.{IsSeen, IsFound, IsUnfit}
 
--- the pages stand for the base
-pub stand_of : (base : Queue) (pages : List Page) (t : Tables) → IsCheckpoint pages t → base ≡ queue_of t no_deck no_print → StandFor base (bytes_of pages)
-stand_of base pages t is base_is = record {
+-- the pages stand for a queue that their tables tell
+pub stand_of : (base : Queue) (pages : List Page) (t : Tables) → IsCheckpoint pages t → Tell t base → StandFor base (bytes_of pages)
+stand_of base pages t is told = record {
   pages = pages;
   level = is.level;
   joined = refl;
-  stand = record { tables = t; levels = is.levels; fit = is.fit; ages = is.ages; spell = is.spell; is = sym base_is };
+  tell = record { tables = t; levels = is.levels; fit = is.fit; ages = is.ages; spell = is.spell; tell = told };
 }
 
 -- a copy that rests these pages, or is lost
@@ -64,28 +60,6 @@ pub kept : (reads : List ℕ → Option (List ℕ)) (dev : Dev) (old mid new : V
     → (to_go ≡ true → IsUnfit reads dev old mid found) → (new.loses dev ≡ old.loses dev) ⊎ IsUnfit reads dev old new found
 kept reads dev old mid new found true goes looked stays unfit = inr (unfit_later reads dev old mid new found goes (unfit refl))
 kept reads dev old mid new found false goes looked stays unfit = inl (stays refl ∙ looked)
-
--- images, from the looks on
-pub held_looked : (reads : List ℕ → Option (List ℕ)) (found : List ℕ) (old new : View) → OnlyLooked old new → BothMeanwhile (IsHeld reads (disk_now old Ckpt1) found) (IsHeld reads (disk_now old Ckpt2) found) old new
-held_looked reads found old new looked =
-    both_weaker (NoMore (disk_now old Ckpt1)) (NoMore (disk_now old Ckpt2)) (IsHeld reads (disk_now old Ckpt1) found) (IsHeld reads (disk_now old Ckpt2) found) old new
-    (λ d more. less_held reads (disk_now old Ckpt1) d found (less_more (disk_now old Ckpt1) d more)) (λ d more. less_held reads (disk_now old Ckpt2) d found (less_more (disk_now old Ckpt2) d more)) looked
-
-pub held_all : (reads : List ℕ → Option (List ℕ)) (found : List ℕ) (old mid new : View) → OnlyLooked old mid → BothMeanwhile (IsHeld reads (disk_now mid Ckpt1) found) (IsHeld reads (disk_now mid Ckpt2) found) mid new
-    → BothMeanwhile (IsHeld reads (disk_now old Ckpt1) found) (IsHeld reads (disk_now old Ckpt2) found) old new
-held_all reads found old mid new looked held =
-    let d1 = disk_now old Ckpt1 in
-    let d2 = disk_now old Ckpt2 in
-    let m1 = disk_now mid Ckpt1 in
-    let m2 = disk_now mid Ckpt2 in
-    both_then (IsHeld reads d1 found) (IsHeld reads d2 found) old mid new (held_looked reads found old mid looked)
-    (both_weaker (IsHeld reads m1 found) (IsHeld reads m2 found) (IsHeld reads d1 found) (IsHeld reads d2 found) mid new
-    (λ d h. held_since reads d1 m1 d found (less_more d1 m1 (first_now (NoMore d1) (NoMore d2) old mid looked)) h)
-    (λ d h. held_since reads d2 m2 d found (less_more d2 m2 (second_now (NoMore d1) (NoMore d2) old mid looked)) h)
-    held)
-
-pub held_back : (reads : List ℕ → Option (List ℕ)) (found : List ℕ) (old mid new : View) → OnlyLooked old mid → BothMeanwhile (IsHeld reads (disk_now mid Ckpt1) found) (IsHeld reads (disk_now mid Ckpt2) found) mid new → HeldBack reads old new
-held_back reads found old mid new looked held = record { found = found; held = held_all reads found old mid new looked held }
 
 -- both are lost where the operator's call isn't done
 pub lost_both : (no : PairNo) (a b : Bool) → (no ≡ BothLost → IsBothLost a b) → (no ≡ Halted → ⊥) → IsBothLost a b

@@ -1,9 +1,13 @@
 -- Which copy counts, and what becomes of the other one.
-use Rattle.std.proofs.Common.{◌≡◌, ◌⊎◌, inl, inr, ℕ, ◌+◌, ◌<◌, ◌≤◌, nat_le, ◌==◌, ◌&&◌, not, if◌then◌else◌, Bool, true, false, List, length, Option, Some, Ok, IfOk, IfErr, refl, sym, ◌∙◌, subst, arith}
+use Rattle.std.proofs.Common.{◌≡◌, ◌⊎◌, inl, inr, ℕ, ◌+◌, ◌*◌, ◌<◌, ◌≤◌, nat_le, ◌==◌, ◌&&◌, not, if◌then◌else◌, Bool, true, false, List, length, Option, Some, Result, Ok, Err, IfOk, IfErr, refl, sym, ◌∙◌, subst, arith}
 use Rattle.std.proofs.lemmas.Bool.{and_parts}
 use Rattle.std.proofs.lemmas.Bool.Decides.{nat_tests}
 use Rattle.mas_types.specs.declared.ids.Dev.{Dev}
-use Rattle.mas_types.specs.declared.ids.Dev.TheVariants.{Ckpt1, Ckpt2}
+use Rattle.mas_types.specs.declared.ids.Dev.TheVariants.{Ckpt1, Ckpt2, Spool}
+use Rattle.mas_types.specs.declared.queues.Config.{Config}
+use Rattle.mas_types.specs.Limits.{page_bytes}
+use Rattle.spool_disk.specs.declared.plant.Part.TheVariants.{Disk as DiskPart}
+use Rattle.ckpt_pages.specs.declared.tables.Tables.{Tables}
 use Rattle.mas_types.specs.declared.ids.Page.{Page}
 use Rattle.mas_types.specs.declared.answers.CopyState.{CopyState}
 use Rattle.mas_types.specs.declared.answers.CopyState.TheVariants as state
@@ -22,7 +26,7 @@ use Rattle.warm_start.specs.Usable.{AreOf, HaveSize, AreUsable}
 use Rattle.warm_start.specs.Choosing.{IsFew, HasFew, is_lower, started, neither, chosen}
 use Rattle.warm_start.specs.Judging.{Has}
 use Rattle.warm_start.specs.Inspecting.{HasState, FindsNone}
-use Rattle.warm_start.specs.Starting.{IsFound, Fitting, Chosen, IsCauseOf, IsSmall, IsSmallAt, IsState}
+use Rattle.warm_start.specs.Starting.{IsFound, Fitting, Chosen, IsCauseOf, IsSmall, IsSmallAt, IsSmallVolumeAt, IsState}
 use Rattle.warm_start.proofs.Seeing.{Judges, Seeing, state_of, same_pages}
 
 some_is : (x y : List ℕ) → Some x ≡ Some y → x ≡ y
@@ -252,10 +256,26 @@ module _ {C : Type 0} (count room : C → ℕ) (room_most : ℕ) (ready : C → 
       by_states state.Unsound state.Unread s t = (has_state Ckpt1 alive1 state.Unsound s, has_state Ckpt2 alive2 state.Unread t, tt)
       by_states state.Unsound state.Unsound s t = (has_state Ckpt1 alive1 state.Unsound s, has_state Ckpt2 alive2 state.Unsound t, tt)
 
--- a device that is too small for the pages found
-pub small_cause : (reads : List ℕ → Option (List ℕ)) (tells : Type 0) (needs : ℕ → ℕ) (old v : View) (alive1 alive2 : Bool) (pages : List Page) (needed : ℕ) → needed ≡ needs (length pages) → (tells → IsFound reads old v (bytes_of pages))
-    → (why : StartNo) → IsSmallAt needed v why → IsCauseOf reads tells needs old v alive1 alive2 why
-small_cause reads tells needs old v alive1 alive2 pages needed is found (no_start.DeviceSize dev size) small = (pages, found, subst (λ (n : ℕ). IsSmall n dev size v) is small)
-small_cause reads tells needs old v alive1 alive2 pages needed is found (no_start.NotFormatted first second) small = absurd small
-small_cause reads tells needs old v alive1 alive2 pages needed is found no_start.BothLost small = absurd small
-small_cause reads tells needs old v alive1 alive2 pages needed is found no_start.NoMemory small = absurd small
+-- a device that is too small for the pages found, or for the groups of their configuration
+pub small_cause : (reads : List ℕ → Option (List ℕ)) (tells : Type 0) (needs : ℕ → ℕ) (old v : View) (alive1 alive2 : Bool) (pages : List Page) (t : Tables) (needed : ℕ) → needed ≡ needs (length pages) → AreOf pages t → (tells → IsFound reads old v (bytes_of pages))
+    → (why : StartNo) → IsSmallAt needed t.config v why → IsCauseOf reads tells needs old v alive1 alive2 why
+small_cause reads tells needs old v alive1 alive2 pages t needed is are found (no_start.DeviceSize dev size) small = (pages, t, are, found, subst (λ (n : ℕ). IsSmall n t.config dev size v) is small)
+small_cause reads tells needs old v alive1 alive2 pages t needed is are found (no_start.NotFormatted first second) small = absurd small
+small_cause reads tells needs old v alive1 alive2 pages t needed is are found no_start.BothLost small = absurd small
+small_cause reads tells needs old v alive1 alive2 pages t needed is are found no_start.NoMemory small = absurd small
+
+-- a volume that is too small
+pub small_volume : (config : Config) (n size needed : ℕ) (v : View) (why : StartNo) → needed ≡ page_bytes * config.groups → 1 ≤ n → n ≤ config.volumes → (why ≡ no_start.DeviceSize (Spool n) size) × (size < needed) × (v.lost (DiskPart (Spool n)) ≡ false) → size ≡ v.size (Spool n)
+    → ((m : ℕ) → 1 ≤ m → m < n → v.lost (DiskPart (Spool m)) ≡ false → page_bytes * config.groups ≤ v.size (Spool m)) → IsSmallVolumeAt config v why
+small_volume config n size needed v why need some few is at before =
+    subst (IsSmallVolumeAt config v) (sym is.0) (at, record { some = some; few = few; there = is.2; small = omega (arith, is.1, at, need); before = before })
+
+-- behind copies that are large enough
+pub small_behind : (needed : ℕ) (config : Config) (v : View) (r : Result (Unit {0}) StartNo) → needed ≤ v.size Ckpt1 → needed ≤ v.size Ckpt2 → IfErr r (IsSmallVolumeAt config v) → IfErr r (IsSmallAt needed config v)
+small_behind needed config v (Ok done) one two small = tt
+small_behind needed config v (Err (no_start.DeviceSize (Spool n) size)) one two small = (small.0, small.1, one, two)
+small_behind needed config v (Err (no_start.DeviceSize Ckpt1 size)) one two small = absurd small
+small_behind needed config v (Err (no_start.DeviceSize Ckpt2 size)) one two small = absurd small
+small_behind needed config v (Err (no_start.NotFormatted first second)) one two small = absurd small
+small_behind needed config v (Err no_start.BothLost) one two small = absurd small
+small_behind needed config v (Err no_start.NoMemory) one two small = absurd small

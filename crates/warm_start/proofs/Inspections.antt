@@ -1,5 +1,6 @@
 -- A look at both copies: what it gives, and what it leaves.
-use Rattle.std.proofs.Common.{◌≡◌, ◌⊎◌, inl, inr, ⊎_elim, ℕ, ◌≤◌, nat_lt, if◌then◌else◌, Bool, true, false, List, length, Option, Some, None, Result, Ok, Err, IfOk, IfErr, OnOk, refl, subst}
+use Rattle.std.proofs.Common.{◌≡◌, ◌⊎◌, inl, inr, ⊎_elim, ℕ, ◌≤◌, nat_lt, if◌then◌else◌, Bool, true, false, List, length, Option, Some, None, Result, Ok, Err, IfOk, IfErr, OnOk, refl, subst, sym}
+use Rattle.table_queues.specs.Telling.{Tell}
 use Rattle.mas_types.specs.declared.ids.Dev.TheVariants.{Ckpt1, Ckpt2}
 use Rattle.mas_types.specs.declared.ids.Page.{Page}
 use Rattle.mas_types.specs.declared.queues.Queue.{Queue}
@@ -11,10 +12,12 @@ use Rattle.duplex_pair.specs.declared.errors.Look.{Look}
 use Rattle.duplex_pair.specs.declared.errors.Look.TheVariants.{Lost, Unread, Pages}
 use Rattle.duplex_pair.specs.Both.{PairActed}
 use Rattle.duplex_pair.proofs.Chosen.{part12, part21}
-use Rattle.mas_complex.specs.Meaning.{no_deck, no_print}
+use Rattle.warm_start.specs.Bare.{bare_deck, bare_print}
+use Rattle.warm_start.proofs.Bared.{bare_told}
 use Rattle.warm_start.specs.declared.choosing.Start.{Start}
 use Rattle.warm_start.specs.declared.choosing.StartNo.{StartNo}
 use Rattle.warm_start.specs.declared.choosing.StartNo.TheVariants as no_start
+use Rattle.warm_start.specs.Spooled.{AreRoomy}
 use Rattle.warm_start.specs.Usable.{HaveSize}
 use Rattle.warm_start.specs.Starting.{IsSeen, Chosen, IsSmall, IsSmallAt, OnlyLooked}
 use Rattle.warm_start.specs.Inspecting.{HasFailed, Looks, SomeThere, HasFound, FindsNone, HasLooked, SeesNone, greatest}
@@ -99,28 +102,31 @@ module _ {C : Type 0} (count room : C → ℕ) (room_most : ℕ) (ready : C → 
   there_of : (start : Start) → Chose start → SomeThere v
   there_of start chosen = ⊎_elim (λ x. inl x.1.was.there) (λ y. inr y.1.was.there) chosen.one
 
-  pub queue_found : (needs : ℕ → ℕ) (start : Start) (Q : Queue) → Chose start → Q ≡ queue_of start.found.tables no_deck no_print → needs (length start.found.pages) ≤ v.size Ckpt1 → needs (length start.found.pages) ≤ v.size Ckpt2
-      → HasFound reads tells needs old v Q
-  queue_found needs start Q chosen is large1 large2 = record {
+  pub queue_found : (needs : ℕ → ℕ) (start : Start) (Q : Queue) → Chose start → Q ≡ queue_of start.found.tables bare_deck bare_print → needs (length start.found.pages) ≤ v.size Ckpt1 → needs (length start.found.pages) ≤ v.size Ckpt2
+      → AreRoomy v start.found.tables.config → HasFound reads tells needs old v Q
+  queue_found needs start Q chosen is large1 large2 roomy = record {
     pages = start.found.pages;
     tables = start.found.tables;
     usable = chosen.usable;
     sized = chosen.sized;
     is = is;
+    tell = subst (Tell start.found.tables) (sym is) (bare_told start.found.tables);
     found = chosen.found;
     there = there_of start chosen;
     large1 = large1;
     large2 = large2;
+    roomy = roomy;
   }
 
-  pub too_small : (needs : ℕ → ℕ) (start : Start) (needed : ℕ) → Chose start → needed ≡ needs (length start.found.pages) → (why : StartNo) → IsSmallAt needed v why → FindsNone reads tells needs old v why
+  pub too_small : (needs : ℕ → ℕ) (start : Start) (needed : ℕ) → Chose start → needed ≡ needs (length start.found.pages) → (why : StartNo) → IsSmallAt needed start.found.tables.config v why → FindsNone reads tells needs old v why
   too_small needs start needed chosen is (no_start.DeviceSize dev size) small = record {
     pages = start.found.pages;
-    usable = (start.found.tables, chosen.usable);
+    tables = start.found.tables;
+    usable = chosen.usable;
     sized = chosen.sized;
     found = chosen.found;
     there = there_of start chosen;
-    small = subst (λ (n : ℕ). IsSmall n dev size v) is small;
+    small = subst (λ (n : ℕ). IsSmall n start.found.tables.config dev size v) is small;
   }
   too_small needs start needed chosen is (no_start.NotFormatted one two) small = absurd small
   too_small needs start needed chosen is no_start.BothLost small = absurd small

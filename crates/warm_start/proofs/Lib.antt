@@ -1,4 +1,5 @@
 pub mod Orders
+pub mod Bared
 pub mod LevelLemmas
 pub mod Seeing
 pub mod Finding
@@ -6,4 +7,5 @@ pub mod Starts
 pub mod Inspections
 pub mod Again
 pub mod Begun
+pub mod Prepared
 mod Spooling

@@ -34,11 +34,12 @@ use Rattle.spool_volumes.specs.Volumes.{Volumes, volume_of, start_of, IsPlaced}
 use Rattle.spool_volumes.specs.Texts.{held, records_on, text_of}
 use Rattle.spool_volumes.specs.Looks.{lie_on_lost, OnlyLooksAt, LooksAt}
 use Rattle.spool_volumes.proofs.LookLemmas.{looks_then, still}
-use Rattle.mas_complex.specs.Meaning.{unspooled, no_deck, no_print}
+use Rattle.job_queue.specs.Jobs as jobs
+use Rattle.output_queue.specs.Outputs as outputs
 use Rattle.mas_complex.specs.Texts.{lost_now, spools_at, bytes_on, IsThereUnless, IsReadUnless, HasTexts}
 use Rattle.mas_complex.proofs.Quotients.{few_quotient}
 use Rattle.mas_complex.proofs.Spooled.{same_text}
-use Rattle.warm_start.specs.Spooled.{bare_job, bare_output, AreRoomy}
+use Rattle.warm_start.specs.Spooled.{AreRoomy}
 
 -- LOST VOLUMES
 
@@ -161,35 +162,35 @@ shown_same old new only n = ap Some (still old new only n).bytes
 pub read_unless : (v : View) (shown : Volumes) (per count : ℕ) (text : Text) (gs : List GroupNo) → line_count text ≡ count → (lie_on_lost v per gs ≡ false → text ≡ text_of (records_on shown per) count gs) → IsReadUnless (lost_now v) shown per text gs
 read_unless v shown per count text gs counted left none = ap (λ (n : ℕ). text_of (records_on shown per) n gs) counted ∙ sym (left none)
 
--- a job and an output without their texts, which have as many lines as their records count
-pub bare_record : (r : JobRec) (text : Text) → line_count text ≡ r.cards → bare_job (job_with (λ s. text) r) ≡ job_with no_deck r
-bare_record r text counted = ap (λ (n : ℕ). job_with (λ s. unspooled n) r) counted
+-- what records tell of a job and of an output, whose texts have as many lines as the records count
+pub told_job : (r : JobRec) (text : Text) → line_count text ≡ r.cards → jobs.rec_of (job_with (λ s. text) r) ≡ jobs.unordered r
+told_job r text counted = ap (λ (n : ℕ). record (jobs.unordered r) { cards = n }) counted
 
-pub bare_print : (r : OutRec) (text : Text) → line_count text ≡ r.lines → bare_output (output_with (λ s. text) r) ≡ output_with no_print r
-bare_print r text counted = ap (λ (n : ℕ). output_with (λ s. unspooled n) r) counted
+pub told_output : (r : OutRec) (text : Text) → line_count text ≡ r.lines → outputs.rec_of (output_with (λ s. text) r) ≡ outputs.unordered r
+told_output r text counted = ap (λ (n : ℕ). record (outputs.unordered r) { lines = n }) counted
 
 -- records that were read so far, as the things of a queue
-module _ {R X : Type 0} (drawn : R → X) (bare : X → X) (text : X → Text) (groups : X → List GroupNo) (tells : Type 0) (per : ℕ) where
+module _ {R X C : Type 0} (shown : R → C) (shows : X → C) (text : X → Text) (groups : X → List GroupNo) (tells : Type 0) (per : ℕ) where
   abbrev pub IsReadOf : View → View → X → Type 0
   IsReadOf first now x = IsReadUnless (lost_now now) (bytes_on (spools_at first first.now)) per (text x) (groups x)
 
   pub record HaveTexts (first now : View) (records : List R) (things : List X) : Type 0 where
     pub looks : LooksAt tells 0 first now
-    pub same : map bare things ≡ map drawn records
+    pub same : map shown records ≡ map shows things
     pub texts : tells → All (IsReadOf first now) things
 
-  pub one_more : (first now new : View) (records : List R) (things : List X) (r : R) (x : X) → HaveTexts first now records things → LooksAt tells 0 now new → bare x ≡ drawn r → (tells → IsReadOf now new x)
+  pub one_more : (first now new : View) (records : List R) (things : List X) (r : R) (x : X) → HaveTexts first now records things → LooksAt tells 0 now new → shows x ≡ shown r → (tells → IsReadOf now new x)
       → HaveTexts first new (records ++ r ∷ []) (things ++ x ∷ [])
   one_more first now new records things r x have looks is read = record {
     looks = looks_then first now new tells 0 have.looks looks;
-    same = map-append bare things (x ∷ []) ∙ ap (λ (xs : List X). xs ++ bare x ∷ []) have.same ∙ ap (λ (y : X). map drawn records ++ y ∷ []) is ∙ sym (map-append drawn records (r ∷ []));
+    same = map-append shown records (r ∷ []) ∙ ap (λ (cs : List C). cs ++ shown r ∷ []) have.same ∙ ap (λ (y : C). map shows things ++ y ∷ []) (sym is) ∙ sym (map-append shows things (x ∷ []));
     texts = λ told. All-append (IsReadOf first new) things (x ∷ [])
         (All-weaker (IsReadOf first now) (IsReadOf first new) (λ y was. read_later first now new first per (text y) (groups y) (λ n. refl) looks.goes was) things (have.texts told))
         (All-cons (IsReadOf first new) x [] (read_later now new new first per (text x) (groups x) (λ n. sym (shown_same first now (have.looks.during told) n)) (goes_none new) (read told)) (All-nil (IsReadOf first new)));
   }
 
   -- the record at a place
-  pub next_one : (first now new : View) (records : List R) (at : ℕ) (d : R) (things : List X) (x : X) → at < length records → HaveTexts first now (take at records) things → LooksAt tells 0 now new → bare x ≡ drawn (get_or records at d) → (tells → IsReadOf now new x)
+  pub next_one : (first now new : View) (records : List R) (at : ℕ) (d : R) (things : List X) (x : X) → at < length records → HaveTexts first now (take at records) things → LooksAt tells 0 now new → shows x ≡ shown (get_or records at d) → (tells → IsReadOf now new x)
       → HaveTexts first new (take (at + 1) records) (things ++ x ∷ [])
   next_one first now new records at d things x lt have looks is read =
       subst (λ (rs : List R). HaveTexts first new rs (things ++ x ∷ [])) (sym (take_more records at d lt)) (one_more first now new (take at records) things (get_or records at d) x have looks is read)

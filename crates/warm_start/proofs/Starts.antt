@@ -1,7 +1,7 @@
 -- What a start does to the copies, call by call.
-use Rattle.std.proofs.Common.{◌≡◌, inl, inr, ⊎_elim, ℕ, ◌<◌, ◌≤◌, ◌&&◌, not, Bool, true, false, List, [], length, Option, Some, refl, sym, ◌∙◌, ap, subst, arith}
+use Rattle.std.proofs.Common.{◌≡◌, ◌≢◌, inl, inr, ⊎_elim, ℕ, ◌<◌, ◌≤◌, ◌&&◌, not, Bool, true, false, List, [], length, Option, Some, refl, sym, ◌∙◌, ap, subst, arith}
 use Rattle.mas_types.specs.declared.ids.Dev.{Dev}
-use Rattle.mas_types.specs.declared.ids.Dev.TheVariants.{Ckpt1, Ckpt2}
+use Rattle.mas_types.specs.declared.ids.Dev.TheVariants.{Ckpt1, Ckpt2, Spool}
 use Rattle.mas_types.specs.declared.ids.Page.{Page}
 use Rattle.spool_disk.specs.declared.plant.Part.TheVariants.{Disk as DiskPart}
 use Rattle.spool_disk.specs.View.{View, Disk, Stretch, IsImage, Avoids, slice, disk_now}
@@ -11,6 +11,7 @@ use Rattle.ckpt_copy.specs.Moments.{goes_on, goes_none}
 use Rattle.ckpt_copy.specs.Pages.{bytes_of, level}
 use Rattle.ckpt_copy.specs.Reading.{EachReads}
 use Rattle.ckpt_copy.specs.Staying.{no_more_image}
+use Rattle.spool_volumes.specs.Looks.{LooksAt}
 use Rattle.duplex_pair.specs.Halves.{IsGone, SameOrLost}
 use Rattle.duplex_pair.specs.Both.{PairActed, Touched, BothMeanwhile}
 use Rattle.duplex_pair.specs.Lagging.{Lags}
@@ -33,6 +34,13 @@ rose_more x y z rose le = omega (arith, le, rose)
 still_dead : (a a' : Bool) → (a' ≡ true → a ≡ true) → a ≡ false → a' ≡ false
 still_dead a true f dead = absurd (no a (f refl) dead)
 still_dead a false f dead = refl
+
+-- a copy is no volume
+pub no_volume1 : (n : ℕ) → DiskPart Ckpt1 ≢ DiskPart (Spool n)
+no_volume1 n e = absurd (cc)
+
+pub no_volume2 : (n : ℕ) → DiskPart Ckpt2 ≢ DiskPart (Spool n)
+no_volume2 n e = absurd (cc)
 
 -- LOOKS, AND A MEND
 
@@ -71,6 +79,22 @@ module _ (old v w : View) where
     taken2 = λ dead. by_copy b (λ was. inl (rose_later (old.faults (DiskPart Ckpt2)) (v.faults (DiskPart Ckpt2)) (w.faults (DiskPart Ckpt2)) (s.goes.faults (DiskPart Ckpt2)) (x.failed2 was dead))) (λ was. taken_same Ckpt2 (s.taken2 was) x.goes (omega (arith, x.loses Ckpt2)));
     once1 = once_same Ckpt1 a a' s.once1 x.alive1 (x.loses Ckpt1);
     once2 = once_same Ckpt2 b b' s.once2 x.alive2 (x.loses Ckpt2);
+    else_once = λ d one two. x.loses d ∙ s.else_once d one two;
+    stops = λ m. x.no_other_stop m (inr refl) ∙ s.stops m;
+  }
+
+  -- a look at the spool volumes
+  pub starts_read : (tells : Type 0) (a b : Bool) → Starts a b old v → LooksAt tells 0 v w → Starts a b old w
+  starts_read tells a b s x = record {
+    goes = goes_on old v w s.goes x.goes;
+    there1 = λ is. x.else_lost (DiskPart Ckpt1) no_volume1 ∙ s.there1 is;
+    there2 = λ is. x.else_lost (DiskPart Ckpt2) no_volume2 ∙ s.there2 is;
+    lost1 = λ dead. x.goes.lost (DiskPart Ckpt1) (s.lost1 dead);
+    lost2 = λ dead. x.goes.lost (DiskPart Ckpt2) (s.lost2 dead);
+    taken1 = λ dead. taken_same Ckpt1 (s.taken1 dead) x.goes (omega (arith, x.loses Ckpt1));
+    taken2 = λ dead. taken_same Ckpt2 (s.taken2 dead) x.goes (omega (arith, x.loses Ckpt2));
+    once1 = once_same Ckpt1 a a s.once1 (λ is. is) (x.loses Ckpt1);
+    once2 = once_same Ckpt2 b b s.once2 (λ is. is) (x.loses Ckpt2);
     else_once = λ d one two. x.loses d ∙ s.else_once d one two;
     stops = λ m. x.no_other_stop m (inr refl) ∙ s.stops m;
   }

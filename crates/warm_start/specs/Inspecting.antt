@@ -13,14 +13,16 @@ use Rattle.spool_disk.specs.Acts.{Goes, Rose}
 use Rattle.ckpt_copy.specs.Pages.{bytes_of}
 use Rattle.ckpt_pages.specs.declared.tables.Tables.{Tables}
 use Rattle.ckpt_pages.specs.QueueOf.{queue_of}
+use Rattle.table_queues.specs.Telling.{Tell}
 use Rattle.duplex_pair.specs.declared.errors.Look.{Look}
 use Rattle.duplex_pair.specs.declared.errors.Look.TheVariants as look
 use Rattle.duplex_pair.specs.Finds.{best}
 use Rattle.duplex_pair.specs.Founds.{better}
-use Rattle.mas_complex.specs.Meaning.{no_deck, no_print}
+use Rattle.warm_start.specs.Bare.{bare_deck, bare_print}
 use Rattle.warm_start.specs.declared.choosing.StartNo.{StartNo}
 use Rattle.warm_start.specs.declared.choosing.StartNo.TheVariants as no_start
-use Rattle.warm_start.specs.Usable.{AreOf, IsUsable, AreUsable, HaveSize}
+use Rattle.warm_start.specs.Spooled.{AreRoomy}
+use Rattle.warm_start.specs.Usable.{AreOf, AreUsable, HaveSize}
 use Rattle.warm_start.specs.Starting.{IsSeen, IsFound, IsSmall, AreNotLost, OnlyLooked}
 
 -- WHAT A LOOK LEAVES
@@ -53,26 +55,29 @@ HasState reads tells dev v state.Unsound =
 
 -- THE QUEUE THAT A START WOULD FIND
 
--- The queue of the pages that count, of a copy that isn't lost. Both devices are large enough for them.
+-- The queue of the pages that count, of a copy that isn't lost, without its texts. The devices are large enough for them.
 pub record HasFound (reads : List ℕ → Option (List ℕ)) (tells : Type 0) (needs : ℕ → ℕ) (old new : View) (Q : Queue) : Type 0 where
   pub pages : List Page
   pub tables : Tables
   pub usable : AreOf pages tables
   pub sized : HaveSize pages
-  pub is : Q ≡ queue_of tables no_deck no_print
+  pub is : Q ≡ queue_of tables bare_deck bare_print
+  pub tell : Tell tables Q
   pub found : tells → IsFound reads old new (bytes_of pages)
   pub there : SomeThere new
   pub large1 : needs (length pages) ≤ new.size Ckpt1
   pub large2 : needs (length pages) ≤ new.size Ckpt2
+  pub roomy : AreRoomy new tables.config
 
--- a device is too small for the pages that count, the first such
+-- a device is too small for the pages that count or for the groups of their configuration, the first such
 pub record IsTooSmall (reads : List ℕ → Option (List ℕ)) (tells : Type 0) (needs : ℕ → ℕ) (old new : View) (dev : Dev) (size : ℕ) : Type 0 where
   pub pages : List Page
-  pub usable : IsUsable pages
+  pub tables : Tables
+  pub usable : AreOf pages tables
   pub sized : HaveSize pages
   pub found : tells → IsFound reads old new (bytes_of pages)
   pub there : SomeThere new
-  pub small : IsSmall (needs (length pages)) dev size new
+  pub small : IsSmall (needs (length pages)) tables.config dev size new
 
 -- why no queue is found
 abbrev pub FindsNone : (List ℕ → Option (List ℕ)) → Type 0 → (ℕ → ℕ) → View → View → StartNo → Type 0

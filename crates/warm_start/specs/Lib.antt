@@ -1,3 +1,4 @@
+pub mod Bare
 pub mod Usable
 pub mod Levels
 pub mod Choosing

@@ -1,28 +1,31 @@
 -- What a start finds and does.
-use Rattle.std.specs.Prelude.{◌≡◌, ◌≢◌, ◌⊎◌, ℕ, ◌+◌, ◌≤◌, ◌<◌, Bool, true, false, List, length, Option, Some, None}
+use Rattle.std.specs.Prelude.{◌≡◌, ◌≢◌, ◌⊎◌, ℕ, ◌+◌, ◌*◌, ◌≤◌, ◌<◌, Bool, true, false, List, length, Option, Some, None}
 use Rattle.mas_types.specs.declared.ids.Dev.{Dev}
 use Rattle.mas_types.specs.declared.ids.Dev.TheVariants.{Ckpt1, Ckpt2, Spool}
 use Rattle.mas_types.specs.declared.ids.Page.{Page}
 use Rattle.mas_types.specs.declared.answers.CopyState.{CopyState}
 use Rattle.mas_types.specs.declared.answers.CopyState.TheVariants as state
+use Rattle.mas_types.specs.declared.queues.Config.{Config}
 use Rattle.mas_types.specs.declared.queues.Queue.{Queue}
+use Rattle.mas_types.specs.Limits.{page_bytes}
 use Rattle.spool_disk.specs.declared.plant.Part.TheVariants.{Disk as DiskPart}
-use Rattle.spool_disk.specs.View.{View, Disk, IsImage, LeavesOnly, disk_now}
+use Rattle.spool_disk.specs.View.{View, Disk, IsImage, LeavesOnly, Throughout, disk_at, disk_now}
 use Rattle.spool_disk.specs.Acts.{Goes, Rose, next}
 use Rattle.ckpt_copy.specs.Pages.{bytes_of, level}
 use Rattle.ckpt_pages.specs.declared.tables.Tables.{Tables}
-use Rattle.ckpt_pages.specs.QueueOf.{queue_of}
 use Rattle.duplex_pair.specs.Halves.{SomeAlive}
 use Rattle.duplex_pair.specs.Looks.{WasLost}
-use Rattle.mas_complex.specs.Meaning.{no_deck, no_print}
+use Rattle.table_queues.specs.Telling.{Tell}
 use Rattle.ckpt_copy.specs.Changes.{NoMore}
 use Rattle.duplex_pair.specs.Both.{BothMeanwhile}
 use Rattle.warm_start.specs.declared.choosing.Start.{Start}
 use Rattle.warm_start.specs.declared.choosing.StartNo.{StartNo}
 use Rattle.warm_start.specs.declared.choosing.StartNo.TheVariants as no_start
 use Rattle.mas_complex.specs.Fits.{fits}
+use Rattle.mas_complex.specs.Texts.{HasTexts, lost_now, spools_at}
 use Rattle.warm_start.specs.Usable.{AreOf, IsUsable, AreUsable, HaveSize}
 use Rattle.warm_start.specs.Levels.{levels_of}
+use Rattle.warm_start.specs.Spooled.{AreRoomy}
 use Rattle.warm_start.specs.Choosing.{goes}
 use Rattle.warm_start.specs.Judging.{Has, IsUnread}
 
@@ -134,15 +137,29 @@ abbrev pub AreNotLost : CopyState → CopyState → Type 0
 AreNotLost state.Lost state.Lost = ⊥
 AreNotLost _ _ = Unit {0}
 
--- a device of the checkpoint is too small for the pages found, the first such
-abbrev pub IsSmall : ℕ → Dev → ℕ → View → Type 0
-IsSmall needed Ckpt1 size v = (size ≡ v.size Ckpt1) × (size < needed)
-IsSmall needed Ckpt2 size v = (size ≡ v.size Ckpt2) × (size < needed) × (needed ≤ v.size Ckpt1)
-IsSmall needed (Spool n) size v = ⊥
+-- a volume of the configuration that isn't lost has no room for its groups, the first such
+pub record IsSmallVolume (config : Config) (n : ℕ) (v : View) : Type 0 where
+  pub some : 1 ≤ n
+  pub few : n ≤ config.volumes
+  pub there : v.lost (DiskPart (Spool n)) ≡ false
+  pub small : v.size (Spool n) < page_bytes * config.groups
+  pub before : (m : ℕ) → 1 ≤ m → m < n → v.lost (DiskPart (Spool m)) ≡ false → page_bytes * config.groups ≤ v.size (Spool m)
 
-abbrev pub IsSmallAt : ℕ → View → StartNo → Type 0
-IsSmallAt needed v (no_start.DeviceSize dev size) = IsSmall needed dev size v
-IsSmallAt needed v _ = ⊥
+-- a device is too small for the pages found, or for the groups of their configuration, the first such: CKPT1, CKPT2, and then the
+-- volumes by their numbers
+abbrev pub IsSmall : ℕ → Config → Dev → ℕ → View → Type 0
+IsSmall needed config Ckpt1 size v = (size ≡ v.size Ckpt1) × (size < needed)
+IsSmall needed config Ckpt2 size v = (size ≡ v.size Ckpt2) × (size < needed) × (needed ≤ v.size Ckpt1)
+IsSmall needed config (Spool n) size v = (size ≡ v.size (Spool n)) × IsSmallVolume config n v × (needed ≤ v.size Ckpt1) × (needed ≤ v.size Ckpt2)
+
+abbrev pub IsSmallAt : ℕ → Config → View → StartNo → Type 0
+IsSmallAt needed config v (no_start.DeviceSize dev size) = IsSmall needed config dev size v
+IsSmallAt needed config v _ = ⊥
+
+-- the answer names the first such volume
+abbrev pub IsSmallVolumeAt : Config → View → StartNo → Type 0
+IsSmallVolumeAt config v (no_start.DeviceSize (Spool n) size) = (size ≡ v.size (Spool n)) × IsSmallVolume config n v
+IsSmallVolumeAt config v _ = ⊥
 
 -- the cause of each answer, where these copies count as alive then
 abbrev pub IsCauseOf : (List ℕ → Option (List ℕ)) → Type 0 → (ℕ → ℕ) → View → View → Bool → Bool → StartNo → Type 0
@@ -150,36 +167,52 @@ IsCauseOf reads tells needs old new alive1 alive2 (no_start.NotFormatted first s
     IsState reads tells Ckpt1 new alive1 first × IsState reads tells Ckpt2 new alive2 second × AreNotLost first second
 IsCauseOf reads tells needs old new alive1 alive2 no_start.BothLost = (alive1 ≡ false) × (alive2 ≡ false)
 IsCauseOf reads tells needs old new alive1 alive2 (no_start.DeviceSize dev size) =
-    (found : List Page) × (tells → IsFound reads old new (bytes_of found)) × IsSmall (needs (length found)) dev size new
+    (found : List Page) × (t : Tables) × AreOf found t × (tells → IsFound reads old new (bytes_of found)) × IsSmall (needs (length found)) t.config dev size new
 IsCauseOf reads tells needs old new alive1 alive2 no_start.NoMemory = Unit {0}
 
--- a start that only looked: no byte of a copy changed
+-- a look at the copies: no byte of them changed
 abbrev pub OnlyLooked : View → View → Type 0
 OnlyLooked old new = BothMeanwhile (NoMore (disk_now old Ckpt1)) (NoMore (disk_now old Ckpt2)) old new
+
+-- At each moment of a start P holds of CKPT1 and Q of CKPT2, no byte of a spool volume has changed and nothing more of it is
+-- unsynced, and the console is as it was.
+pub record WhileStarting (P Q : Disk → Type 0) (old new : View) : Type 0 where
+  pub goes : Goes old new
+  pub first : Throughout old.now new.now (λ t. P (disk_at new t Ckpt1))
+  pub second : Throughout old.now new.now (λ t. Q (disk_at new t Ckpt2))
+  pub volumes : Throughout old.now new.now (λ t. (n : ℕ) → NoMore (disk_now old (Spool n)) (disk_at new t (Spool n)))
+  pub console : Throughout old.now new.now (λ t. (new.world t).console ≡ (old.world old.now).console)
+
+-- a start that only looked: no byte of a device changed
+abbrev pub OnlyLookedAtAll : View → View → Type 0
+OnlyLookedAtAll old new = WhileStarting (NoMore (disk_now old Ckpt1)) (NoMore (disk_now old Ckpt2)) old new
 
 -- during a start that gave nothing an image of a copy is one of before, or reads as the copy did or as usable pages of one copy
 pub record HeldBack (reads : List ℕ → Option (List ℕ)) (old new : View) : Type 0 where
   pub found : List ℕ
-  pub held : BothMeanwhile (IsHeld reads (disk_now old Ckpt1) found) (IsHeld reads (disk_now old Ckpt2) found) old new
+  pub held : WhileStarting (IsHeld reads (disk_now old Ckpt1) found) (IsHeld reads (disk_now old Ckpt2) found) old new
 
 -- A START
 
--- The copies that count as alive have the pages found, which spell these tables; the base is their queue.
+-- The copies that count as alive have the pages found, which spell these tables; these tell the base, whose texts stand on the spool
+-- volumes, all of them synced, but for those with a group on a volume that is lost.
 pub record HasStarted {C : Type 0} (count : C → ℕ) (needs : ℕ → ℕ) (reads : List ℕ → Option (List ℕ)) (tells : Type 0) (base : Queue) (t : Tables) (pages : List Page) (levels : List ℕ) (at : ℕ) (first : C) (alive1 : Bool) (second : C) (alive2 : Bool) (old new : View) : Type 0 where
   pub usable : AreOf pages t
   pub sized : HaveSize pages
   pub leveled : levels ≡ levels_of pages
-  pub base_is : base ≡ queue_of t no_deck no_print
+  pub tells_base : Tell t base
+  pub texts : tells → HasTexts (lost_now new) (spools_at new new.now) t.config.groups base
   pub at_level : at ≡ level (bytes_of pages)
   pub found : tells → IsFound reads old new (bytes_of pages)
   pub starts : Starts alive1 alive2 old new
   pub some : SomeAlive alive1 alive2
   pub large1 : needs (length pages) ≤ old.size Ckpt1
   pub large2 : needs (length pages) ≤ old.size Ckpt2
+  pub roomy : AreRoomy new t.config
   pub as_many1 : alive1 ≡ true → length pages ≡ count first
   pub as_many2 : alive2 ≡ true → length pages ≡ count second
   pub reads1 : tells → alive1 ≡ true → reads (disk_now new Ckpt1).bytes ≡ Some (bytes_of pages)
   pub reads2 : tells → alive2 ≡ true → reads (disk_now new Ckpt2).bytes ≡ Some (bytes_of pages)
-  pub held : tells → BothMeanwhile (IsHeld reads (disk_now old Ckpt1) (bytes_of pages)) (IsHeld reads (disk_now old Ckpt2) (bytes_of pages)) old new
+  pub held : tells → WhileStarting (IsHeld reads (disk_now old Ckpt1) (bytes_of pages)) (IsHeld reads (disk_now old Ckpt2) (bytes_of pages)) old new
   pub kept1 : tells → (new.loses Ckpt1 ≡ old.loses Ckpt1) ⊎ IsUnfit reads Ckpt1 old new pages
   pub kept2 : tells → (new.loses Ckpt2 ≡ old.loses Ckpt2) ⊎ IsUnfit reads Ckpt2 old new pages

@@ -5,9 +5,10 @@ use Rattle.mas_types.specs.Limits.{page_bytes}
 use Rattle.ckpt_copy.specs.Pages.{bytes_of, level}
 use Rattle.ckpt_pages.specs.declared.tables.Tables.{Tables}
 use Rattle.ckpt_pages.specs.Checkpoints.{IsCheckpoint}
-use Rattle.ckpt_pages.specs.QueueOf.{queue_of}
 use Rattle.ckpt_pages.specs.Sound.{AreSound}
-use Rattle.mas_complex.specs.Meaning.{StandFor, no_deck, no_print}
+use Rattle.mas_types.specs.declared.queues.Queue.{Queue}
+use Rattle.table_queues.specs.Telling.{Tell}
+use Rattle.mas_complex.specs.Meaning.{StandFor}
 
 -- the tables have no fault, and a run finds levels and orders enough above theirs
 pub record MayStart (pages : List Page) (t : Tables) : Type 0 where
@@ -34,6 +35,6 @@ pub record AreUsable (bytes : List ℕ) : Type 0 where
   pub joined : bytes_of pages ≡ bytes
   pub usable : IsUsable pages
 
--- pages stand for the queue of the tables that they spell
-abbrev pub StandForTheirQueue : Type 0
-StandForTheirQueue = (pages : List Page) (t : Tables) → IsCheckpoint pages t → StandFor (queue_of t no_deck no_print) (bytes_of pages)
+-- pages stand for each queue that the tables tell which they spell
+abbrev pub StandForWhatIsTold : Type 0
+StandForWhatIsTold = (pages : List Page) (t : Tables) (Q : Queue) → IsCheckpoint pages t → Tell t Q → StandFor Q (bytes_of pages)

@@ -79,7 +79,8 @@ fn find_queue<P: Plant, C: Steady + Drop>(
     ensures looks { Looks P.tells (P.view plant.old) (P.view plant.new) }
 {
     let start = choose_copy(alloc, plant, pair)?;
-    refuse_small(plant, C::size_for(start.found.pages.len() as u16))?;
+    let needed = C::size_for(start.found.pages.len() as u16);
+    refuse_small(plant, needed, &start.found.tables.config)?;
     let Ok(queue) = queue_of(alloc, &start.found.tables) else {
         return Err(StartNo::NoMemory);
     };
@@ -104,13 +105,14 @@ fn find_pages<P: Plant, C: Steady + Drop>(
     greatest(first, second)
 }
 
-/// The queue that a warm start would find: that of the usable copy of greatest level, CKPT1 on a tie.
+/// The queue that a warm start would find, without its texts: that of the usable copy of greatest level, CKPT1 on a tie.
 ///
 /// Both copies are synced and read. No byte is changed and no copy is lost by a call; an act that fails loses its device, as
 /// ever. Restart isn't given.
 ///
 /// NotFormatted comes where no copy can be used while one isn't lost, with the state of each; BothLost where an act on each
-/// copy failed; DeviceSize where a device is too small for the pages found, the first such; NoMemory for want of memory.
+/// copy failed; DeviceSize where a device is too small for the pages found, or a volume that isn't lost for the groups of their
+/// configuration, the first such; NoMemory for want of memory.
 pub fn found<P: Plant>(alloc: Global, plant: &mut P) -> Result<Queue, StartNo>
     ensures queue { IfOk result (HasFound reads P.tells areas_size (P.view plant.old) (P.view plant.new)) }
     ensures none { IfErr result (FindsNone reads P.tells areas_size (P.view plant.old) (P.view plant.new)) }

@@ -1,10 +1,10 @@
-//! The queue that tables stand for, as long as texts aren't spooled.
+//! The queue of tables without its texts.
 ghost use Rattle.std.specs.Prelude.{◌≡◌, List, Option, IfOk, map};
 ghost use Rattle.lay_bytes.specs.declared.records.JobRec.{JobRec as JobRecLem};
 ghost use Rattle.lay_bytes.specs.declared.records.OutRec.{OutRec as OutRecLem};
 ghost use Rattle.ckpt_pages.specs.QueueOf.{used, in_order, job_with, output_with, queue_of as queue_of_lem};
-ghost use Rattle.mas_complex.specs.Meaning.{no_deck, no_print, unspooled};
-ghost use Rattle.warm_start.specs.Usable.{StandForTheirQueue};
+ghost use Rattle.warm_start.specs.Bare.{bare_text, bare_deck, bare_print};
+ghost use Rattle.warm_start.specs.Usable.{StandForWhatIsTold};
 
 use ckpt_pages::Tables;
 use lay_bytes::{JobRec, OutRec};
@@ -51,7 +51,7 @@ pub(crate) fn outputs_in_order(
 
 // A text of so many lines, which is gone where it has any.
 fn text_of(alloc: Global, lines: u16) -> Text
-    ensures { result ≡ unspooled lines }
+    ensures { result ≡ bare_text lines }
 {
     if lines == 0 {
         Text::Whole(Lines::new(alloc))
@@ -62,7 +62,7 @@ fn text_of(alloc: Global, lines: u16) -> Text
 
 // The jobs of the slots, whose texts are gone.
 fn jobs_of(alloc: Global, slots: &[Option<JobRec>]) -> Result<List<Job>, NoMemory>
-    ensures { IfOk result (λ jobs. jobs ≡ map (job_with no_deck) (in_order (λ r. r.order) (used slots.now))) }
+    ensures { IfOk result (λ jobs. jobs ≡ map (job_with bare_deck) (in_order (λ r. r.order) (used slots.now))) }
 {
     let records = jobs_in_order(alloc, slots)?;
     let mut jobs = List::new(alloc);
@@ -81,7 +81,7 @@ fn jobs_of(alloc: Global, slots: &[Option<JobRec>]) -> Result<List<Job>, NoMemor
 
 // The outputs of the slots, whose texts are gone.
 fn outputs_of(alloc: Global, slots: &[Option<OutRec>]) -> Result<List<Output>, NoMemory>
-    ensures { IfOk result (λ outputs. outputs ≡ map (output_with no_print) (in_order (λ r. r.order) (used slots.now))) }
+    ensures { IfOk result (λ outputs. outputs ≡ map (output_with bare_print) (in_order (λ r. r.order) (used slots.now))) }
 {
     let records = outputs_in_order(alloc, slots)?;
     let mut outputs = List::new(alloc);
@@ -105,7 +105,7 @@ fn outputs_of(alloc: Global, slots: &[Option<OutRec>]) -> Result<List<Output>, N
 /// The queue of tables: jobs and outputs by ascending order, whose texts are gone where they have lines, and all else as the
 /// tables have it.
 pub fn queue_of(alloc: Global, tables: &Tables) -> Result<Queue, NoMemory>
-    ensures { IfOk result (λ queue. queue ≡ queue_of_lem tables.now no_deck no_print) }
+    ensures { IfOk result (λ queue. queue ≡ queue_of_lem tables.now bare_deck bare_print) }
 {
     Ok(Queue {
         config: tables.config,
@@ -119,7 +119,7 @@ pub fn queue_of(alloc: Global, tables: &Tables) -> Result<Queue, NoMemory>
     })
 }
 
-/// Pages stand for the queue of the tables that they spell.
+/// Pages stand for each queue that the tables tell which they spell.
 pub fn law_of_found_queues()
-    ensures stand { StandForTheirQueue }
+    ensures stand { StandForWhatIsTold }
 {}

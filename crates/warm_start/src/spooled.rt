@@ -1,5 +1,5 @@
 //! The queue of tables with the texts that the spool volumes give.
-ghost use Rattle.std.specs.Prelude.{◌≡◌, ◌≤◌, ◌<◌, ◌^◌, ℕ, false, [], All, List, map, length, IfOk};
+ghost use Rattle.std.specs.Prelude.{◌≡◌, ◌≤◌, ◌<◌, ◌^◌, ℕ, false, [], All, List, length, IfOk};
 ghost use Rattle.lay_bytes.specs.declared.records.JobRec.{JobRec as JobRecLem};
 ghost use Rattle.lay_bytes.specs.declared.records.OutRec.{OutRec as OutRecLem};
 ghost use Rattle.mas_types.specs.declared.ids.Dev.TheVariants.{Spool};
@@ -12,10 +12,11 @@ ghost use Rattle.spool_volumes.specs.Volumes.{volume_of};
 ghost use Rattle.spool_volumes.specs.Looks.{lie_on_lost, LooksAt};
 ghost use Rattle.track_groups.specs.Places.{groups_of as groups_of_lem};
 ghost use Rattle.ckpt_pages.specs.Shape.{HasSpelling};
-ghost use Rattle.ckpt_pages.specs.QueueOf.{used, in_order, job_with, output_with};
-ghost use Rattle.mas_complex.specs.Meaning.{no_deck, no_print};
+ghost use Rattle.job_queue.specs.Jobs.{AreJobs};
+ghost use Rattle.output_queue.specs.Outputs.{AreOutputs};
+ghost use Rattle.table_queues.specs.Telling.{Tell};
 ghost use Rattle.mas_complex.specs.Texts.{lost_now, spools_at, bytes_on, IsReadUnless, HasTexts};
-ghost use Rattle.warm_start.specs.Spooled.{bare_job, bare_output, IsQueueOf, AreRoomy};
+ghost use Rattle.warm_start.specs.Spooled.{AreRoomy};
 
 use crate::looking::OPERATOR;
 use crate::queues::{jobs_in_order, outputs_in_order};
@@ -100,7 +101,7 @@ fn jobs_on<P: Plant>(alloc: Global, plant: &mut P, tables: &Tables) -> Result<Li
     requires spelling { HasSpelling tables.now }
     requires roomy { AreRoomy (P.view plant.old) tables.now.config }
     ensures looks { LooksAt P.tells 0 (P.view plant.old) (P.view plant.new) }
-    ensures jobs { IfOk result (λ jobs. map bare_job jobs ≡ map (job_with no_deck) (in_order (λ r. r.order) (used tables.now.jobs))) }
+    ensures jobs { IfOk result (λ jobs. AreJobs tables.now.jobs jobs) }
     ensures texts { IfOk result (λ jobs. P.tells → All (λ j. IsReadUnless (lost_now (P.view plant.new)) (bytes_on (spools_at (P.view plant.old) (P.view plant.old).now)) tables.now.config.groups j.text (groups_of_lem (Deck j.number) tables.now.owners)) jobs) }
 {
     let records = jobs_in_order(alloc, tables.jobs.as_slice())?;
@@ -134,7 +135,7 @@ fn outputs_on<P: Plant>(
     requires spelling { HasSpelling tables.now }
     requires roomy { AreRoomy (P.view plant.old) tables.now.config }
     ensures looks { LooksAt P.tells 0 (P.view plant.old) (P.view plant.new) }
-    ensures outputs { IfOk result (λ outputs. map bare_output outputs ≡ map (output_with no_print) (in_order (λ r. r.order) (used tables.now.outputs))) }
+    ensures outputs { IfOk result (λ outputs. AreOutputs tables.now.outputs outputs) }
     ensures texts { IfOk result (λ outputs. P.tells → All (λ o. IsReadUnless (lost_now (P.view plant.new)) (bytes_on (spools_at (P.view plant.old) (P.view plant.old).now)) tables.now.config.groups o.text (groups_of_lem (OutputOf o.job o.index) tables.now.owners)) outputs) }
 {
     let records = outputs_in_order(alloc, tables.outputs.as_slice())?;
@@ -174,7 +175,7 @@ pub fn spooled_queue<P: Plant>(
     requires spelling { HasSpelling tables.now }
     requires roomy { AreRoomy (P.view plant.old) tables.now.config }
     ensures looks { LooksAt P.tells 0 (P.view plant.old) (P.view plant.new) }
-    ensures queue { IfOk result (IsQueueOf tables.now) }
+    ensures tell { IfOk result (Tell tables.now) }
     ensures texts { IfOk result (λ queue. P.tells → HasTexts (lost_now (P.view plant.new)) (spools_at (P.view plant.new) (P.view plant.new).now) tables.now.config.groups queue) }
 {
     law_of_places();

@@ -1,37 +1,39 @@
 //! A warm start: what the copies hold is found, and each copy that is left gets it.
 ghost use Rattle.std.specs.Prelude.{◌≡◌, ◌≢◌, ◌⊎◌, ◌&&◌, ◌<◌, ◌≤◌, Bool, not, [], None, length, IfOk, IfErr, OnOk, IsErrOf, true, false};
-ghost use Rattle.mas_types.specs.declared.ids.Dev.{Dev};
-ghost use Rattle.mas_types.specs.declared.ids.Dev.TheVariants.{Ckpt1, Ckpt2};
+ghost use Rattle.mas_types.specs.declared.ids.Dev.{Dev as DevLem};
+ghost use Rattle.mas_types.specs.declared.ids.Dev.TheVariants.{Ckpt1, Ckpt2, Spool};
 ghost use Rattle.mas_types.specs.Limits.{pages_most};
 ghost use Rattle.spool_disk.specs.declared.plant.Part.TheVariants.{Disk};
 ghost use Rattle.spool_disk.specs.View.{View, disk_now};
 ghost use Rattle.spool_disk.specs.Acts.{Goes, top};
 ghost use Rattle.ckpt_copy.specs.Pages.{bytes_of, level};
 ghost use Rattle.ckpt_copy.specs.Meanwhile.{Meanwhile};
-ghost use Rattle.ckpt_pages.specs.QueueOf.{queue_of as queue_of_lem};
 ghost use Rattle.duplex_pair.specs.declared.errors.PairNo.TheVariants.{BothLost as PairNoBothLost, Halted as PairNoHalted};
 ghost use Rattle.duplex_pair.specs.Halves.{IsCkpt, pick, other, IsGone, SameOrLost, SomeAlive, IsBothLost};
 ghost use Rattle.duplex_pair.specs.Both.{PairActed, BothMeanwhile};
 ghost use Rattle.mas_complex.specs.declared.places.Place.TheVariants.{Before as AtBefore};
 ghost use Rattle.mas_complex.specs.Locking.{book_of};
 ghost use Rattle.mas_complex.specs.Headline.{LeavesQueue};
-ghost use Rattle.mas_complex.specs.Meaning.{no_deck, no_print};
+ghost use Rattle.table_queues.specs.Telling.{Tell};
 ghost use Rattle.warm_start.specs.Levels.{levels_of as levels_given};
 ghost use Rattle.warm_start.specs.Choosing.{IsFew, goes as goes_lem};
 ghost use Rattle.warm_start.specs.Judging.{Has};
 ghost use Rattle.warm_start.specs.Inspecting.{FindsNone};
-ghost use Rattle.warm_start.specs.Starting.{Chosen, Fitting, MayLose, Starts, IsHeld, IsCauseOf, IsSmallAt, OnlyLooked, HasStarted, HeldBack};
+ghost use Rattle.mas_complex.specs.Texts.{HasTexts, lost_now, spools_at};
+ghost use Rattle.warm_start.specs.Spooled.{AreRoomy};
+ghost use Rattle.warm_start.specs.Starting.{Chosen, Fitting, MayLose, Starts, IsHeld, IsCauseOf, IsSmallAt, IsSmallVolumeAt, OnlyLooked, OnlyLookedAtAll, HasStarted, HeldBack};
 
 use crate::choosing::{Good, Start, StartNo, choose, is_to_go};
 use crate::levels::levels_of;
 use crate::looking::{OPERATOR, judge_both};
-use crate::queues::queue_of;
+use crate::spooled::spooled_queue;
 use ckpt_copy::Copying;
 use ckpt_pages::Tables;
 use duplex_pair::{Pair, PairNo, pages_level};
 use mas_complex::{Complex, Steady};
-use mas_types::{Dev, Level, List, Page, Queue};
-use spool_disk::Plant;
+use mas_types::limits::PAGE_BYTES;
+use mas_types::{Config, Dev, Level, List, Page, Queue};
+use spool_disk::{Part, Plant};
 use std::alloc::Global;
 
 /// What a run goes on with after a warm start.
@@ -54,6 +56,13 @@ pub struct Unstarted<P: Drop> {
     pub why: StartNo,
 }
 
+// What was found on the copies.
+#[derive(Drop)]
+struct Found {
+    start: Start,
+    levels: List<Level>,
+}
+
 // What was found, and all else that takes memory.
 #[derive(Drop)]
 struct Ready {
@@ -74,13 +83,39 @@ fn refuse_if_small<P: Plant>(plant: &P, dev: Dev, needed: u64) -> Result<(), Sta
     }
 }
 
-/// Refuses the first device that is too small.
-pub(crate) fn refuse_small<P: Plant>(plant: &P, needed: u64) -> Result<(), StartNo>
-    ensures small { IfErr result (IsSmallAt needed (P.view plant.now)) }
+// Refuses a volume that isn't lost and is too small.
+fn refuse_small_volume<P: Plant>(plant: &P, volume: u8, needed: u64) -> Result<(), StartNo>
+    ensures small { IfErr result (λ why. (why ≡ StartNo.DeviceSize (Spool volume) ((P.view plant.now).size (Spool volume))) × ((P.view plant.now).size (Spool volume) < needed) × ((P.view plant.now).lost (Disk (Spool volume)) ≡ false)) }
+    ensures large { OnOk result ((P.view plant.now).lost (Disk (Spool volume)) ≡ false → needed ≤ (P.view plant.now).size (Spool volume)) }
+{
+    let dev = Dev::Spool(volume);
+    if plant.lost(Part::Disk(dev)) {
+        return Ok(());
+    }
+    refuse_if_small(plant, dev, needed)
+}
+
+// Refuses the first volume of the configuration that isn't lost and has no room for its groups.
+fn refuse_small_volumes<P: Plant>(plant: &P, config: &Config) -> Result<(), StartNo>
+    ensures small { IfErr result (IsSmallVolumeAt config.now (P.view plant.now)) }
+    ensures roomy { OnOk result (AreRoomy (P.view plant.now) config.now) }
+{
+    let needed = PAGE_BYTES as u64 * config.groups as u64;
+    for volume in 0..config.volumes {
+        refuse_small_volume(plant, volume + 1, needed)?;
+    }
+    Ok(())
+}
+
+/// Refuses the first device that is too small: CKPT1, CKPT2, and then each volume of the configuration that isn't lost.
+pub(crate) fn refuse_small<P: Plant>(plant: &P, needed: u64, config: &Config) -> Result<(), StartNo>
+    ensures small { IfErr result (IsSmallAt needed config.now (P.view plant.now)) }
     ensures large { OnOk result ((needed ≤ (P.view plant.now).size Ckpt1) × (needed ≤ (P.view plant.now).size Ckpt2)) }
+    ensures roomy { OnOk result (AreRoomy (P.view plant.now) config.now) }
 {
     refuse_if_small(plant, Dev::Ckpt1, needed)?;
-    refuse_if_small(plant, Dev::Ckpt2, needed)
+    refuse_if_small(plant, Dev::Ckpt2, needed)?;
+    refuse_small_volumes(plant, config)
 }
 
 /// Which copy counts, and whether the other one stays. Nothing is written.
@@ -109,12 +144,12 @@ pub(crate) fn choose_copy<P: Plant, C: Steady + Drop>(
     choose(first, first_room, second, second_room)
 }
 
-// Which copy counts, and the memory that the start takes. Nothing is written.
+// Which copy counts, and the levels of its pages. Nothing is written.
 fn find<P: Plant, C: Steady + Drop>(
     alloc: Global,
     plant: &mut P,
     pair: &mut Pair<C>,
-) -> Result<Ready, StartNo>
+) -> Result<Found, StartNo>
     requires alive1 { pair.old.first.alive ≡ true }
     requires alive2 { pair.old.second.alive ≡ true }
     ensures acted { PairActed 0 true pair.new.first.alive true pair.new.second.alive false (P.view plant.old) (P.view plant.new) }
@@ -123,22 +158,50 @@ fn find<P: Plant, C: Steady + Drop>(
     ensures during { P.tells → OnlyLooked (P.view plant.old) (P.view plant.new) }
     ensures starts { OnOk result (Starts pair.new.first.alive pair.new.second.alive (P.view plant.old) (P.view plant.new)) }
     ensures cause { IfErr result (IsCauseOf C.reads P.tells C.needs (P.view plant.old) (P.view plant.new) pair.new.first.alive pair.new.second.alive) }
-    ensures large { IfOk result (λ ready. (C.needs (length ready.start.found.pages) ≤ (P.view plant.new).size Ckpt1) × (C.needs (length ready.start.found.pages) ≤ (P.view plant.new).size Ckpt2)) }
-    ensures levels { IfOk result (λ ready. ready.levels ≡ levels_given ready.start.found.pages) }
-    ensures base { IfOk result (λ ready. ready.base ≡ queue_of_lem ready.start.found.tables no_deck no_print) }
-    ensures chosen { IfOk result (λ ready. Chosen C.count C.room C.room_most C.ready C.reads C.rests P.tells (P.view plant.old) (P.view plant.new) pair.new.first.copy pair.new.second.copy pair.new.first.alive pair.new.second.alive pair.new.first.found pair.new.second.found ready.start) }
+    ensures large { IfOk result (λ found. (C.needs (length found.start.found.pages) ≤ (P.view plant.new).size Ckpt1) × (C.needs (length found.start.found.pages) ≤ (P.view plant.new).size Ckpt2)) }
+    ensures roomy { IfOk result (λ found. AreRoomy (P.view plant.new) found.start.found.tables.config) }
+    ensures levels { IfOk result (λ found. found.levels ≡ levels_given found.start.found.pages) }
+    ensures chosen { IfOk result (λ found. Chosen C.count C.room C.room_most C.ready C.reads C.rests P.tells (P.view plant.old) (P.view plant.new) pair.new.first.copy pair.new.second.copy pair.new.first.alive pair.new.second.alive pair.new.first.found pair.new.second.found found.start) }
 {
     let start = choose_copy(alloc, plant, pair)?;
-    refuse_small(plant, C::size_for(start.found.pages.len() as u16))?;
+    let needed = C::size_for(start.found.pages.len() as u16);
+    refuse_small(plant, needed, &start.found.tables.config)?;
     let Ok(levels) = levels_of(alloc, start.found.pages.as_slice()) else {
         return Err(StartNo::NoMemory);
     };
-    let Ok(base) = queue_of(alloc, &start.found.tables) else {
+    Ok(Found { start, levels })
+}
+
+// Which copy counts, the queue that its tables tell with its texts, and with it all that the start takes of memory. Nothing is
+// written.
+fn prepare<P: Plant, C: Steady + Drop>(
+    alloc: Global,
+    plant: &mut P,
+    pair: &mut Pair<C>,
+) -> Result<Ready, StartNo>
+    requires alive1 { pair.old.first.alive ≡ true }
+    requires alive2 { pair.old.second.alive ≡ true }
+    ensures goes { Goes (P.view plant.old) (P.view plant.new) }
+    ensures loses { (d : DevLem) → (P.view plant.new).loses d ≡ (P.view plant.old).loses d }
+    ensures gone1 { P.tells → IsGone Ckpt1 true pair.new.first.alive (P.view plant.new) }
+    ensures gone2 { P.tells → IsGone Ckpt2 true pair.new.second.alive (P.view plant.new) }
+    ensures during { P.tells → OnlyLookedAtAll (P.view plant.old) (P.view plant.new) }
+    ensures starts { OnOk result (Starts pair.new.first.alive pair.new.second.alive (P.view plant.old) (P.view plant.new)) }
+    ensures cause { IfErr result (IsCauseOf C.reads P.tells C.needs (P.view plant.old) (P.view plant.new) pair.new.first.alive pair.new.second.alive) }
+    ensures large { IfOk result (λ ready. (C.needs (length ready.start.found.pages) ≤ (P.view plant.new).size Ckpt1) × (C.needs (length ready.start.found.pages) ≤ (P.view plant.new).size Ckpt2)) }
+    ensures roomy { IfOk result (λ ready. AreRoomy (P.view plant.new) ready.start.found.tables.config) }
+    ensures levels { IfOk result (λ ready. ready.levels ≡ levels_given ready.start.found.pages) }
+    ensures tell { IfOk result (λ ready. Tell ready.start.found.tables ready.base) }
+    ensures texts { IfOk result (λ ready. P.tells → HasTexts (lost_now (P.view plant.new)) (spools_at (P.view plant.new) (P.view plant.new).now) ready.start.found.tables.config.groups ready.base) }
+    ensures chosen { IfOk result (λ ready. Chosen C.count C.room C.room_most C.ready C.reads C.rests P.tells (P.view plant.old) (P.view plant.new) pair.new.first.copy pair.new.second.copy pair.new.first.alive pair.new.second.alive pair.new.first.found pair.new.second.found ready.start) }
+{
+    let found = find(alloc, plant, pair)?;
+    let Ok(base) = spooled_queue(alloc, plant, &found.start.found.tables) else {
         return Err(StartNo::NoMemory);
     };
     Ok(Ready {
-        start,
-        levels,
+        start: found.start,
+        levels: found.levels,
         base,
     })
 }
@@ -170,6 +233,7 @@ fn lose_unfit<P: Plant, C: Steady + Drop>(plant: &mut P, pair: &mut Pair<C>, sta
     requires fits2 { goes_lem Ckpt2 start.now ≡ false → pair.old.second.alive ≡ true → Fitting C.count C.room C.room_most C.ready C.rests P.tells Ckpt2 (P.view plant.old) pair.old.second.copy pair.old.second.alive pair.old.second.found start.now.found.pages }
     requires one { ((goes_lem Ckpt1 start.now ≡ false) × Has C.count C.room C.room_most C.ready C.rests P.tells Ckpt1 (P.view plant.old) pair.old.first.copy pair.old.first.alive pair.old.first.found start.now.found.pages)
         ⊎ ((goes_lem Ckpt2 start.now ≡ false) × Has C.count C.room C.room_most C.ready C.rests P.tells Ckpt2 (P.view plant.old) pair.old.second.copy pair.old.second.alive pair.old.second.found start.now.found.pages) }
+    ensures goes { Goes (P.view plant.old) (P.view plant.new) }
     ensures starts { (old : View) → Starts pair.old.first.alive pair.old.second.alive old (P.view plant.old) → Starts pair.new.first.alive pair.new.second.alive old (P.view plant.new) }
     ensures gone1 { P.tells → IsGone Ckpt1 true pair.old.first.alive (P.view plant.old) → IsGone Ckpt1 true pair.new.first.alive (P.view plant.new) }
     ensures gone2 { P.tells → IsGone Ckpt2 true pair.old.second.alive (P.view plant.old) → IsGone Ckpt2 true pair.new.second.alive (P.view plant.new) }
@@ -194,6 +258,7 @@ fn bring<P: Plant, C: Steady + Drop>(
     requires fits2 { goes_lem Ckpt2 start.now ≡ false → pair.old.second.alive ≡ true → Fitting C.count C.room C.room_most C.ready C.rests P.tells Ckpt2 (P.view plant.old) pair.old.second.copy pair.old.second.alive pair.old.second.found start.now.found.pages }
     requires one { ((goes_lem Ckpt1 start.now ≡ false) × Has C.count C.room C.room_most C.ready C.rests P.tells Ckpt1 (P.view plant.old) pair.old.first.copy pair.old.first.alive pair.old.first.found start.now.found.pages)
         ⊎ ((goes_lem Ckpt2 start.now ≡ false) × Has C.count C.room C.room_most C.ready C.rests P.tells Ckpt2 (P.view plant.old) pair.old.second.copy pair.old.second.alive pair.old.second.found start.now.found.pages) }
+    ensures goes { Goes (P.view plant.old) (P.view plant.new) }
     ensures starts { (old : View) → Starts pair.old.first.alive pair.old.second.alive old (P.view plant.old) → Starts pair.new.first.alive pair.new.second.alive old (P.view plant.new) }
     ensures gone1 { P.tells → IsGone Ckpt1 true pair.old.first.alive (P.view plant.old) → IsGone Ckpt1 true pair.new.first.alive (P.view plant.new) }
     ensures gone2 { P.tells → IsGone Ckpt2 true pair.old.second.alive (P.view plant.old) → IsGone Ckpt2 true pair.new.second.alive (P.view plant.new) }
@@ -218,12 +283,13 @@ fn bring<P: Plant, C: Steady + Drop>(
 ///
 /// The operator looks at both copies. The one that counts is the usable one of greater level, CKPT1 on a tie: its pages spell
 /// tables without a fault. The other one is lost by a call where it can't be used or doesn't fit, and else it gets the pages of
-/// the one that counts, if it lags one level behind. The shared value then begins with the queue that these stand for, and nobody
-/// holds its lock.
+/// the one that counts, if it lags one level behind. Before that it syncs the spool volumes and reads the texts of the queue from
+/// them. The shared value then begins with the queue that the pages and the volumes give, and nobody holds its lock.
 ///
 /// NotFormatted comes where no copy can be used while one isn't lost, with the state of each; DeviceSize where a device is
-/// too small for the pages found, the first such; BothLost only where both copies count as lost at the end. After an error
-/// other than BothLost nothing was written, and no copy was lost by a call.
+/// too small for the pages found, or a volume that isn't lost for the groups of their configuration, the first such; BothLost only
+/// where both copies count as lost at the end. After an error other than BothLost nothing was written, and no copy was lost by a
+/// call.
 pub fn warm<P: Plant + Drop, C: Steady + Drop>(
     alloc: Global,
     plant: P,
@@ -240,14 +306,14 @@ pub fn warm<P: Plant + Drop, C: Steady + Drop>(
     ensures unreserved { IfOk result (λ w. w.complex.reserved ≡ None) }
     ensures book { IfOk result (λ w. w.complex.book ≡ book_of w.complex.base.config) }
     ensures cause { IfErr result (λ u. (alive1 alive2 : Bool) × IsCauseOf C.reads P.tells C.needs (P.view plant) (P.view u.plant) alive1 alive2 u.why) }
-    ensures looked { IfErr result (λ u. u.why ≢ StartNo.BothLost → (P.tells → OnlyLooked (P.view plant) (P.view u.plant)) × ((d : Dev) → (P.view u.plant).loses d ≡ (P.view plant).loses d)) }
+    ensures looked { IfErr result (λ u. u.why ≢ StartNo.BothLost → (P.tells → OnlyLookedAtAll (P.view plant) (P.view u.plant)) × ((d : DevLem) → (P.view u.plant).loses d ≡ (P.view plant).loses d)) }
     ensures lost { IfErr result (λ u. u.why ≡ StartNo.BothLost → Starts false false (P.view plant) (P.view u.plant)) }
     ensures goes { IfErr result (λ u. Goes (P.view plant) (P.view u.plant)) }
     ensures held { IfErr result (λ u. P.tells → HeldBack C.reads (P.view plant) (P.view u.plant)) }
 {
     let mut plant = plant;
     let mut pair = pair;
-    let ready = match find(alloc, &mut plant, &mut pair) {
+    let ready = match prepare(alloc, &mut plant, &mut pair) {
         Ok(ready) => ready,
         Err(why) => return Err(Unstarted { plant, why }),
     };

@@ -2,12 +2,11 @@ use Rattle.std.proofs.Common.{List, All, subst, sym}
 use Rattle.mas_types.specs.declared.jobs.Job.{Job}
 use Rattle.mas_types.specs.declared.queues.Thing.TheVariants.{Deck, Output}
 use Rattle.track_groups.specs.Places.{groups_of}
-use Rattle.ckpt_pages.specs.QueueOf.{job_with, output_with}
-use Rattle.mas_complex.specs.Meaning.{no_deck, no_print}
+use Rattle.job_queue.specs.Jobs as jobs
+use Rattle.output_queue.specs.Outputs as outputs
 use Rattle.mas_complex.specs.Texts.{lost_now, spools_at, bytes_on, IsReadUnless}
 use Rattle.ckpt_copy.specs.Moments.{goes_none}
 use Rattle.spool_volumes.proofs.LookLemmas.{looks_then}
-use Rattle.warm_start.specs.Spooled.{bare_job, bare_output}
 use Rattle.warm_start.proofs.Spooling.{clean_later, later_texts, has_texts}
 use Rattle.warm_start.proofs.spooled.spooled_queue.Goals as goal
 
@@ -69,8 +68,8 @@ returns-clause-texts g c told =
     let two = c.outputs_on.ensures.looks in
     let all = looks_then first mid new P.tells 0 c.jobs_on.ensures.looks two in
     let clean = clean_later first new t.config.volumes (all.during told) (c.sync_volumes.ensures.synced told) in
-    let jobs = later_texts (job_with no_deck) bare_job (λ j. j.text) (λ j. groups_of (Deck j.number) t.owners) P.tells t.config.groups first mid new c.in_ok-jobs.jobs (all.during told) two.goes (c.in_ok-jobs.ensures.texts told) in
-    let outputs = later_texts (output_with no_print) bare_output (λ o. o.text) (λ o. groups_of (Output o.job o.index) t.owners) P.tells t.config.groups mid new new c.in_ok-outputs.outputs (two.during told) (goes_none new) (c.in_ok-outputs.ensures.texts told) in
+    let read_jobs = later_texts jobs.unordered jobs.rec_of (λ j. j.text) (λ j. groups_of (Deck j.number) t.owners) P.tells t.config.groups first mid new c.in_ok-jobs.jobs (all.during told) two.goes (c.in_ok-jobs.ensures.texts told) in
+    let read_outputs = later_texts outputs.unordered outputs.rec_of (λ o. o.text) (λ o. groups_of (Output o.job o.index) t.owners) P.tells t.config.groups mid new new c.in_ok-outputs.outputs (two.during told) (goes_none new) (c.in_ok-outputs.ensures.texts told) in
     has_texts t.config shape.config t.owners c.law_of_places.ensures.own shape.owners new clean _ c.in_ok-copy.ensures
-    (subst (λ (js : List Job). All (λ (j : Job). IsReadUnless (lost_now new) (bytes_on (spools_at new new.now)) t.config.groups j.text (groups_of (Deck j.number) t.owners)) js) (sym c.jobs.view_is) jobs)
-    outputs
+    (subst (λ (js : List Job). All (λ (j : Job). IsReadUnless (lost_now new) (bytes_on (spools_at new new.now)) t.config.groups j.text (groups_of (Deck j.number) t.owners)) js) (sym c.jobs.view_is) read_jobs)
+    read_outputs

@@ -2,6 +2,7 @@ use Rattle.std.proofs.Common.{List, ℕ, ◌∙◌, arith}
 use Rattle.mas_types.specs.declared.ids.Dev.TheVariants.{Ckpt1, Ckpt2}
 use Rattle.spool_disk.specs.View.{disk_now}
 use Rattle.ckpt_copy.specs.Pages.{bytes_of}
+use Rattle.ckpt_copy.specs.Moments.{goes_on}
 use Rattle.ckpt_copy.specs.Reading.{EachReads}
 use Rattle.duplex_pair.specs.Halves.{SameOrLost}
 use Rattle.duplex_pair.specs.Both.{Touched}
@@ -10,6 +11,11 @@ use Rattle.mas_complex.proofs.Shows.{on_ok}
 use Rattle.warm_start.specs.Starting.{IsHeld}
 use Rattle.warm_start.proofs.Starts.{starts_acted, acted_unstopped, gone_on, both_weaker, own_of, own_lags, less_lost, less_held, held_since, held_touched, first_now, second_now}
 use Rattle.warm_start.proofs.starting.bring.Goals as goal
+
+pub returns-clause-goes : goal.returns-clause-goes
+returns-clause-goes g c =
+    let view = g.P.Plant.view in
+    goes_on (view c.args.plant.now) (view c.lose_unfit.new.plant) (view c.mend.new.plant) c.lose_unfit.ensures.goes c.mend.ensures.acted.goes
 
 pub returns-clause-starts : goal.returns-clause-starts
 returns-clause-starts g c = λ old s.

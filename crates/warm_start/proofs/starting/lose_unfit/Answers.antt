@@ -8,6 +8,11 @@ use Rattle.duplex_pair.proofs.Chosen.{alive_stays}
 use Rattle.warm_start.proofs.Starts.{starts_first, starts_second, gone_lost, fits_later, stayed}
 use Rattle.warm_start.proofs.starting.lose_unfit.Goals as goal
 
+pub returns-clause-goes : goal.returns-clause-goes
+returns-clause-goes g c =
+    let view = g.P.Plant.view in
+    goes_on (view c.args.plant.now) (view c.lose_where.new.plant) (view c.lose_where-2.new.plant) c.lose_where.ensures.lost.goes c.lose_where-2.ensures.lost.goes
+
 pub returns-clause-starts : goal.returns-clause-starts
 returns-clause-starts g c = λ old s.
     let view = g.P.Plant.view in

@@ -3,8 +3,12 @@ use Rattle.mas_types.specs.declared.ids.Dev.TheVariants.{Ckpt1, Ckpt2}
 use Rattle.spool_disk.specs.View.{disk_now}
 use Rattle.ckpt_copy.specs.Pages.{bytes_of, level}
 use Rattle.warm_start.specs.Choosing.{goes}
-use Rattle.warm_start.specs.Starting.{Starts}
-use Rattle.warm_start.proofs.Begun.{stand_of, rested_copy, found_later, kept, held_all, held_back, lost_both}
+use Rattle.mas_types.specs.declared.queues.Config.{Config}
+use Rattle.mas_complex.specs.Texts.{HasTexts, lost_now, spools_at}
+use Rattle.warm_start.specs.Starting.{IsHeld, Starts}
+use Rattle.warm_start.proofs.Begun.{stand_of, rested_copy, found_later, kept, lost_both}
+use Rattle.warm_start.proofs.Prepared.{held_all, held_back, texts_left}
+use Rattle.warm_start.proofs.Spooling.{roomy_later}
 use Rattle.warm_start.proofs.starting.warm.Goals as goal
 
 pub returns-in_default-clause-lost : goal.returns-in_default-clause-lost
@@ -18,23 +22,26 @@ returns-in_default-clause-lost g c = λ why.
 pub returns-in_default-clause-held : goal.returns-in_default-clause-held
 returns-in_default-clause-held g c = λ told.
     let view = g.P.Plant.view in
-    held_back g.C.Copying.reads (bytes_of c.in-Ok.ready.start.found.pages) (view c.args.plant) (view c.find.new.plant) (view c.bring.new.plant) (c.find.ensures.during told) (c.bring.ensures.during told)
+    held_back g.C.Copying.reads (bytes_of c.in-Ok.ready.start.found.pages) (view c.args.plant) (view c.prepare.new.plant) (view c.bring.new.plant) (c.prepare.ensures.during told) (c.bring.ensures.during told)
 
 pub make-complex-requires-clause-begins : goal.make-complex-requires-clause-begins
 make-complex-requires-clause-begins g c told =
     let C = g.C.Copying in
     let v = g.P.Plant.view c.bring.new.plant in
+    let mid = g.P.Plant.view c.prepare.new.plant in
     let n = c.bring.new.pair in
     let F = c.in-Ok.ready.start.found in
     let base = c.in-Ok.ready.base in
     let pages = bytes_of F.pages in
     let first = rested_copy C.reads base v.now (C.rests n.first.copy) (C.holds n.first.copy) n.first.alive (disk_now v Ckpt1) pages
-    (λ is. c.in-Ok-bring.ensures.rests1 told is) (λ dead lt. c.bring.ensures.gone1 told (c.find.ensures.gone1 told) refl dead lt) in
+    (λ is. c.in-Ok-bring.ensures.rests1 told is) (λ dead lt. c.bring.ensures.gone1 told (c.prepare.ensures.gone1 told) refl dead lt) in
     let second = rested_copy C.reads base v.now (C.rests n.second.copy) (C.holds n.second.copy) n.second.alive (disk_now v Ckpt2) pages
-    (λ is. c.in-Ok-bring.ensures.rests2 told is) (λ dead lt. c.bring.ensures.gone2 told (c.find.ensures.gone2 told) refl dead lt) in
+    (λ is. c.in-Ok-bring.ensures.rests2 told is) (λ dead lt. c.bring.ensures.gone2 told (c.prepare.ensures.gone2 told) refl dead lt) in
     let at_level = sym (c.pages_level-level.ensures ∙ ap (λ ps. level (bytes_of ps)) c.as_slice.ensures) in
-    let queue = stand_of base F.pages F.tables c.in-Ok.ensures.chosen.usable.0 c.in-Ok.ensures.base in
-    ∣ record { pages = pages; stands = record { at_level = at_level; queue = queue }; first_at = first; second_at = second } ∣₁
+    let queue = stand_of base F.pages F.tables c.in-Ok.ensures.chosen.usable.0 c.in-Ok.ensures.tell in
+    let texts = subst (λ (cfg : Config). HasTexts (lost_now v) (spools_at v v.now) cfg.groups base) (sym c.in-Ok.ensures.tell.config)
+    (texts_left F.tables.config.groups base (IsHeld C.reads (disk_now mid Ckpt1) pages) (IsHeld C.reads (disk_now mid Ckpt2) pages) mid v (c.bring.ensures.during told) (c.in-Ok.ensures.texts told)) in
+    ∣ record { pages = pages; stands = record { at_level = at_level; queue = queue }; texts = texts; first_at = first; second_at = second } ∣₁
 
 pub returns-clause-fresh : goal.returns-clause-fresh
 returns-clause-fresh g c told =
@@ -46,19 +53,21 @@ returns-clause-started g c =
     let C = g.C.Copying in
     let view = g.P.Plant.view in
     let old = view c.args.plant in
-    let mid = view c.find.new.plant in
+    let mid = view c.prepare.new.plant in
     let new = view c.bring.new.plant in
     let n = c.bring.new.pair in
     let F = c.in-Ok.ready.start.found in
     let e = c.in-Ok.ensures in
     let k = c.in-Ok-bring.ensures in
     let m = c.make-complex.ensures in
-    let size = c.find.ensures.acted.goes.size in
+    let size = c.prepare.ensures.goes.size in
     rw (m.plant, m.pair, m.base, m.level) (record {
       usable = e.chosen.usable;
       sized = e.chosen.sized;
       leveled = e.levels;
-      base_is = e.base;
+      tells_base = e.tell;
+      texts = λ told. texts_left F.tables.config.groups c.in-Ok.ready.base (IsHeld C.reads (disk_now mid Ckpt1) (bytes_of F.pages)) (IsHeld C.reads (disk_now mid Ckpt2) (bytes_of F.pages)) mid new (c.bring.ensures.during told) (e.texts told);
+      roomy = roomy_later mid new F.tables.config c.bring.ensures.goes e.roomy;
       at_level = c.pages_level-level.ensures ∙ ap (λ ps. level (bytes_of ps)) c.as_slice.ensures;
       found = λ told. found_later C.reads old mid new (bytes_of F.pages) (c.bring.ensures.during told).goes (e.chosen.found told);
       starts = c.bring.ensures.starts old e.starts;
@@ -69,7 +78,7 @@ returns-clause-started g c =
       as_many2 = c.bring.ensures.as_many2;
       reads1 = λ told is. g.met.C.Copying.rests_now n.first.copy (bytes_of F.pages) (disk_now new Ckpt1) (k.rests1 told is);
       reads2 = λ told is. g.met.C.Copying.rests_now n.second.copy (bytes_of F.pages) (disk_now new Ckpt2) (k.rests2 told is);
-      kept1 = λ told. kept C.reads Ckpt1 old mid new F.pages (goes Ckpt1 c.in-Ok.ready.start) (c.bring.ensures.during told).goes (c.find.ensures.acted.loses Ckpt1) c.bring.ensures.kept1 (e.chosen.unfit1 told);
-      kept2 = λ told. kept C.reads Ckpt2 old mid new F.pages (goes Ckpt2 c.in-Ok.ready.start) (c.bring.ensures.during told).goes (c.find.ensures.acted.loses Ckpt2) c.bring.ensures.kept2 (e.chosen.unfit2 told);
-      held = λ told. held_all C.reads (bytes_of F.pages) old mid new (c.find.ensures.during told) (c.bring.ensures.during told);
+      kept1 = λ told. kept C.reads Ckpt1 old mid new F.pages (goes Ckpt1 c.in-Ok.ready.start) (c.bring.ensures.during told).goes (c.prepare.ensures.loses Ckpt1) c.bring.ensures.kept1 (e.chosen.unfit1 told);
+      kept2 = λ told. kept C.reads Ckpt2 old mid new F.pages (goes Ckpt2 c.in-Ok.ready.start) (c.bring.ensures.during told).goes (c.prepare.ensures.loses Ckpt2) c.bring.ensures.kept2 (e.chosen.unfit2 told);
+      held = λ told. held_all C.reads (bytes_of F.pages) old mid new (c.prepare.ensures.during told) (c.bring.ensures.during told);
     })

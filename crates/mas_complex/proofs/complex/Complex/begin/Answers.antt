@@ -1,5 +1,6 @@
 use Rattle.std.proofs.Common.{refl, subst, sym, ◌≡◌, ◌∙◌, ap, List, Option, ◌-◌, ◌^◌}
-use Rattle.std.proofs.Math.Logic.{∥∥₁_map}
+use Rattle.std.proofs.Math.Logic.{∥∥₁_map, ∥∥₁_elim, ∥∥₁_prop}
+use Rattle.mas_complex.specs.Texts.{spools_at, lost_now, HasTexts}
 use Rattle.mas_types.specs.declared.journals.Batch.{Batch}
 use Rattle.mas_types.specs.declared.journals.Entry.{Entry}
 use Rattle.mas_types.specs.declared.journals.Fate.TheVariants.{Flying}
@@ -24,9 +25,10 @@ invariant_of-self-clause-kept g c told =
     let old = g.P.Plant.view s.plant in
     let es = c.in-Some.entries in
     let e : entries_reserved s.reserved ≡ es = ap entries_reserved (sym c.take.ensures.value ∙ c.in-Some.is) in
-    ∥∥₁_map (s.kept told) (λ k. begins_keep S s.journal.batches (record { first = c.now-first.result; last = 2 ^ 64 - 1; by = c.args.by; fate = Flying; entries = es }) s.level first second old
+    ∥∥₁_elim (s.kept told) ∥∥₁_prop (λ k. ∥∥₁_map (c.requires.texts told) (λ has. begins_keep S s.journal.batches (record { first = c.now-first.result; last = 2 ^ 64 - 1; by = c.args.by; fate = Flying; entries = es }) s.level first second old
     (subst (λ (x : Option Batch). Keeps S s.journal.batches x s.level first second old) c.requires.none k) refl c.now-first.ensures
-    (subst (λ (l : List Entry). IsUntold S old l) e (c.requires.untold told)))
+    (subst (λ (l : List Entry). IsUntold S old l) e (c.requires.untold told))
+    (subst (λ (l : List Entry). HasTexts (lost_now old) (spools_at old old.now) s.base.config.groups (run s.base (kept_all s.journal.batches ++ l))) e has)))
 
 pub invariant_of-self-clause-replied : goal.invariant_of-self-clause-replied
 invariant_of-self-clause-replied g c told =

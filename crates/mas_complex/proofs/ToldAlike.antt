@@ -1,0 +1,13 @@
+-- Pages that stand for one queue stand for another that is told alike.
+use Rattle.std.proofs.Common.{ℕ, List}
+use Rattle.mas_types.specs.declared.queues.Queue.{Queue}
+use Rattle.table_queues.specs.Telling.{AreToldAlike}
+use Rattle.mas_complex.specs.Meaning.{StandFor}
+
+pub stand_alike : (Q R : Queue) (pages : List ℕ) → AreToldAlike Q R → StandFor Q pages → StandFor R pages
+stand_alike Q R pages alike stand = let x = stand.tell in record {
+  pages = stand.pages;
+  level = stand.level;
+  joined = stand.joined;
+  tell = record { tables = x.tables; levels = x.levels; fit = x.fit; ages = x.ages; spell = x.spell; tell = alike x.tables x.tell };
+}
