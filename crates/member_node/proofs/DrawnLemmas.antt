@@ -22,9 +22,10 @@ use Rattle.mas_types.specs.Fit.{IsConfig}
 use Rattle.ckpt_pages.specs.Shape.{IsRoute}
 use Rattle.ckpt_pages.specs.Starts.{empty_tables, first_levels}
 use Rattle.ckpt_pages.specs.Laws.{EmptyHasSpelling, AreFirstLevels}
+use Rattle.mas_types.specs.declared.queues.Queue.{Queue}
+use Rattle.table_queues.specs.Telling.{Tell, PagesTell}
 use Rattle.mas_complex.specs.Meaning.{StandFor}
 use Rattle.mas_complex.specs.Changed.{NamesOnly}
-use Rattle.member_node.specs.Standing.{queue_of}
 use Rattle.member_node.specs.Drawn.{AreDrawn, raised}
 
 -- PAGES AS BYTES
@@ -65,13 +66,12 @@ drawn_level t at levels pages drawn =
       first_is [] at is = absurd (cc)
       first_is (l ∷ levels) at is = cc
 
-pub drawn_stand : (t : Tables) (at : ℕ) (levels : List ℕ) (pages : List Page) → AreDrawn t at levels pages → StandFor (queue_of t) (bytes_of pages)
-drawn_stand t at levels pages drawn = record {
-  pages = pages;
-  level = at;
-  joined = refl;
-  stand = record { tables = t; levels = levels; fit = drawn.spelling; ages = drawn.leveled; spell = drawn.spelled; is = refl };
-}
+-- drawn pages stand for each queue that their tables tell
+pub drawn_tell : (t : Tables) (at : ℕ) (levels : List ℕ) (pages : List Page) (Q : Queue) → AreDrawn t at levels pages → Tell t Q → PagesTell pages at Q
+drawn_tell t at levels pages Q drawn told = record { tables = t; levels = levels; fit = drawn.spelling; ages = drawn.leveled; spell = drawn.spelled; tell = told }
+
+pub drawn_stand : (t : Tables) (at : ℕ) (levels : List ℕ) (pages : List Page) (Q : Queue) → AreDrawn t at levels pages → Tell t Q → StandFor Q (bytes_of pages)
+drawn_stand t at levels pages Q drawn told = record { pages = pages; level = at; joined = refl; tell = drawn_tell t at levels pages Q drawn told }
 
 -- THE LEVELS
 

@@ -1,30 +1,27 @@
 -- An entry that a batch gets, and what a plain command is in the shared value.
-use Rattle.std.proofs.Common.{◌≡◌, ℕ, suc, zero, ◌+◌, ◌-◌, ◌==◌, Bool, true, false, List, [], ◌∷◌, ◌++◌, length, slice_get, slice_set, Some, refl, sym, ◌∙◌, ap, subst, arith, All, append-nil}
+use Rattle.std.proofs.Common.{◌≡◌, ℕ, suc, zero, ◌+◌, ◌-◌, true, List, [], ◌∷◌, ◌++◌, length, slice_get, slice_set, Some, refl, sym, ◌∙◌, ap, subst, arith, All, append-nil}
 use Rattle.std.specs.List.{remove}
 use Rattle.std.proofs.lemmas.List.Edits.{remove-append_right}
-use Rattle.std.proofs.lemmas.Bool.{eqb-true}
 use Rattle.mas_types.specs.declared.ids.MemberId.{MemberId}
-use Rattle.mas_types.specs.declared.ids.JobNo.{JobNo}
-use Rattle.mas_types.specs.declared.ids.OutNo.{OutNo}
 use Rattle.mas_types.specs.declared.ids.Page.{Page}
 use Rattle.mas_types.specs.Limits.{page_bytes}
-use Rattle.mas_types.specs.Queue.{line_count}
 use Rattle.mas_types.specs.declared.commands.Command.{Command}
 use Rattle.mas_types.specs.declared.commands.Command.TheVariants as command
+use Rattle.mas_types.specs.declared.commands.Reply.{Reply}
 use Rattle.mas_types.specs.declared.journals.Entry.{Entry}
 use Rattle.mas_types.specs.declared.queues.Queue.{Queue}
 use Rattle.mas_types.specs.Step as table
 use Rattle.ckpt_pages.specs.declared.tables.Tables.{Tables}
 use Rattle.ckpt_pages.specs.Shape.{HasSpelling, AreLevels, page_count}
-use Rattle.ckpt_pages.specs.StandsFor.{StandsFor}
-use Rattle.queue_effect.specs.Standing.{AreFit}
-use Rattle.mas_complex.specs.Meaning.{step, run, unspooled, no_deck, no_print}
+use Rattle.table_queues.specs.Telling.{Tell, PagesTell}
+use Rattle.queue_effect.specs.Standing.{AreFit, Plays}
+use Rattle.mas_complex.specs.Meaning.{step, run}
 use Rattle.mas_complex.specs.Replies.{HaveReplies}
-use Rattle.table_commands.specs.Stored.{AreTexts, is_plain}
+use Rattle.table_commands.specs.Given.{is_plain}
 use Rattle.member_node.specs.declared.checkpoint.Checkpoint.{Checkpoint}
 use Rattle.member_node.specs.Batches.{HasDone, last_reply}
 use Rattle.member_node.specs.Drawn.{AreDrawn}
-use Rattle.member_node.specs.Standing.{queue_of}
+use Rattle.member_node.proofs.DrawnLemmas.{drawn_tell}
 use Rattle.member_node.proofs.WriteLemmas.{run_append}
 
 -- the last item written anew
@@ -64,49 +61,35 @@ leveled_too t u at levels same is = record { count = is.count ∙ ap page_count 
 
 -- commands more, with their replies
 pub all_done : (Q : Queue) (entries more : List Entry) (k n : Checkpoint) → HasDone Q entries k → n.pages ≡ k.pages → n.level ≡ k.level → n.levels ≡ k.levels → n.tables.config ≡ k.tables.config
-    → HasSpelling n.tables → AreFit n.tables → HaveReplies (queue_of k.tables) more → queue_of n.tables ≡ run (queue_of k.tables) more → HasDone Q (entries ++ more) n
-all_done Q entries more k n done pages level levels config spelling fit replied queue =
-    let at : queue_of k.tables ≡ run Q entries = done.queue in
-    record {
-      pages = subst (λ (ps : List Page). StandsFor ps n.level no_deck no_print Q) (sym pages) (subst (λ (l : ℕ). StandsFor k.pages l no_deck no_print Q) (sym level) done.pages);
-      leveled = leveled_too k.tables n.tables n.level n.levels config (subst (λ (l : ℕ). AreLevels k.tables l n.levels) (sym level) (subst (AreLevels k.tables k.level) (sym levels) done.leveled));
-      as_many = ap length pages ∙ done.as_many ∙ ap page_count (sym config);
-      sized = subst (All (λ page. length page.0 ≡ page_bytes)) (sym pages) done.sized;
-      spelling = spelling;
-      fit = fit;
-      queue = queue ∙ ap (λ (R : Queue). run R more) at ∙ sym (run_append Q entries more);
-      replied = replies_append Q entries more done.replied (subst (λ (R : Queue). HaveReplies R more) at replied);
-    }
+    → HasSpelling n.tables → AreFit n.tables → HaveReplies (run Q entries) more → Tell n.tables (run (run Q entries) more) → HasDone Q (entries ++ more) n
+all_done Q entries more k n done pages level levels config spelling fit replied queue = record {
+  pages = subst (λ (ps : List Page). PagesTell ps n.level Q) (sym pages) (subst (λ (l : ℕ). PagesTell k.pages l Q) (sym level) done.pages);
+  leveled = leveled_too k.tables n.tables n.level n.levels config (subst (λ (l : ℕ). AreLevels k.tables l n.levels) (sym level) (subst (AreLevels k.tables k.level) (sym levels) done.leveled));
+  as_many = ap length pages ∙ done.as_many ∙ ap page_count (sym config);
+  sized = subst (All (λ page. length page.0 ≡ page_bytes)) (sym pages) done.sized;
+  spelling = spelling;
+  fit = fit;
+  queue = subst (Tell n.tables) (sym (run_append Q entries more)) queue;
+  replied = replies_append Q entries more done.replied replied;
+}
 
 -- one command more
 pub more_done : (Q : Queue) (entries : List Entry) (k n : Checkpoint) (e : Entry) → HasDone Q entries k → n.pages ≡ k.pages → n.level ≡ k.level → n.levels ≡ k.levels → n.tables.config ≡ k.tables.config
-    → HasSpelling n.tables → AreFit n.tables → e.reply ≡ (step (queue_of k.tables) e.by e.command).1 → queue_of n.tables ≡ (step (queue_of k.tables) e.by e.command).0 → HasDone Q (entries ++ e ∷ []) n
+    → HasSpelling n.tables → AreFit n.tables → e.reply ≡ (step (run Q entries) e.by e.command).1 → Tell n.tables (step (run Q entries) e.by e.command).0 → HasDone Q (entries ++ e ∷ []) n
 more_done Q entries k n e done pages level levels config spelling fit reply queue = all_done Q entries (e ∷ []) k n done pages level levels config spelling fit (reply, tt) queue
 
 -- nothing was done yet
-pub nothing_done : (k : Checkpoint) → AreDrawn k.tables k.level k.levels k.pages → AreFit k.tables → HasDone (queue_of k.tables) [] k
-nothing_done k drawn fit = record {
-  pages = record { tables = k.tables; levels = k.levels; fit = drawn.spelling; ages = drawn.leveled; spell = drawn.spelled; is = refl };
+pub nothing_done : (Q : Queue) (k : Checkpoint) → AreDrawn k.tables k.level k.levels k.pages → AreFit k.tables → Tell k.tables Q → HasDone Q [] k
+nothing_done Q k drawn fit told = record {
+  pages = drawn_tell k.tables k.level k.levels k.pages Q drawn told;
   leveled = drawn.leveled;
   as_many = drawn.spelled.count;
   sized = drawn.sized;
   spelling = drawn.spelling;
   fit = fit;
-  queue = refl;
+  queue = told;
   replied = tt;
 }
-
--- TEXTS THAT AREN'T SPOOLED
-
-by_test : {A : Type 0} (b : Bool) → (b ≡ true → A) → (b ≡ false → A) → A
-by_test true f g = f refl
-by_test false f g = g refl
-
-unspooled_lines : (n : ℕ) → line_count (unspooled n) ≡ n
-unspooled_lines n = by_test (n == 0) (λ e. rw e (sym (eqb-true n 0 e))) (λ e. rw e refl)
-
-pub unspooled_texts : AreTexts (λ (n : JobNo). unspooled) (λ (n : JobNo) (i : OutNo). unspooled)
-unspooled_texts = record { cards = λ n count. unspooled_lines count; lines = λ n i count. unspooled_lines count; empty = λ n. refl }
 
 -- a plain command is the table's
 pub plain_step : (Q : Queue) (m : MemberId) (c : Command) → is_plain c ≡ true → step Q m c ≡ table.step Q m c
@@ -141,3 +124,10 @@ plain_step Q m command.Restart plain = refl
 plain_step Q m (command.Load line) plain = refl
 plain_step Q m (command.Sent line number) plain = refl
 plain_step Q m (command.Got line number job text) plain = refl
+
+-- so it comes to what was played on tables
+pub given_reply : (old new : Tables) (m : MemberId) (c : Command) (r : Reply) → is_plain c ≡ true → Plays old new (λ Q. table.row_of Q m c) r → (Q : Queue) → Tell old Q → r ≡ (step Q m c).1
+given_reply old new m c r plain plays Q told = sym (plays Q told).reply ∙ ap (λ (p : Queue × Reply). p.1) (sym (plain_step Q m c plain))
+
+pub given_tells : (old new : Tables) (m : MemberId) (c : Command) (r : Reply) → is_plain c ≡ true → Plays old new (λ Q. table.row_of Q m c) r → (Q : Queue) → Tell old Q → Tell new (step Q m c).0
+given_tells old new m c r plain plays Q told = subst (λ (p : Queue × Reply). Tell new p.0) (sym (plain_step Q m c plain)) (plays Q told).stands

@@ -5,4 +5,5 @@ pub mod DrawnLemmas
 pub mod EntryLemmas
 pub mod ReadyLemmas
 pub mod StepLemmas
+pub mod TextLemmas
 pub mod WriteLemmas

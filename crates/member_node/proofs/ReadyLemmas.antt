@@ -1,13 +1,14 @@
 -- A draft of a member's pages.
-use Rattle.std.proofs.Common.{◌≡◌, ℕ, ◌+◌, ◌≤◌, ◌<◌, ◌^◌, Bool, true, List, length, Option, Some, refl, sym, ◌∙◌, ap, subst, arith}
+use Rattle.std.proofs.Common.{◌≡◌, ℕ, ◌+◌, ◌≤◌, ◌<◌, ◌^◌, Bool, true, List, length, Option, Some, sym, ◌∙◌, ap, subst, arith}
 use Rattle.mas_types.specs.declared.ids.Page.{Page}
 use Rattle.mas_types.specs.declared.journals.Entry.{Entry}
 use Rattle.mas_types.specs.declared.queues.Queue.{Queue}
 use Rattle.ckpt_copy.specs.Pages.{bytes_of, ArePages}
 use Rattle.ckpt_pages.specs.declared.tables.Tables.{Tables}
 use Rattle.ckpt_pages.specs.Shape.{page_count}
-use Rattle.ckpt_pages.specs.StandsFor.{StandsFor, StandsForOneAtMost}
-use Rattle.mas_complex.specs.Meaning.{StandFor, no_deck, no_print}
+use Rattle.table_queues.specs.Laws.{PagesTellAlike}
+use Rattle.table_queues.specs.Telling.{Tell, PagesTell}
+use Rattle.mas_complex.specs.Meaning.{run}
 use Rattle.mas_complex.specs.declared.places.Place.{Place}
 use Rattle.member_node.specs.declared.checkpoint.Checkpoint.{Checkpoint}
 use Rattle.member_node.specs.declared.checkpoint.Draft.{Draft}
@@ -16,29 +17,29 @@ use Rattle.member_node.specs.Batches.{HasDone, IsDraftOf, level_with}
 use Rattle.member_node.specs.Copies.{IsDraftFor, RestsAt}
 use Rattle.member_node.specs.Drawn.{AreDrawn}
 use Rattle.member_node.specs.Redrawn.{IsRedrawn}
-use Rattle.member_node.specs.Standing.{queue_of}
-use Rattle.member_node.proofs.DrawnLemmas.{drawn_level, drawn_stand}
+use Rattle.member_node.proofs.DrawnLemmas.{drawn_level, drawn_stand, drawn_tell}
 use Rattle.member_node.proofs.WriteLemmas.{covers_read, names_read}
-
--- drawn pages stand for the queue of their tables
-drawn_stands : (t : Tables) (at : ℕ) (levels : List ℕ) (pages : List Page) → AreDrawn t at levels pages → StandsFor pages at no_deck no_print (queue_of t)
-drawn_stands t at levels pages drawn = record { tables = t; levels = levels; fit = drawn.spelling; ages = drawn.leveled; spell = drawn.spelled; is = refl }
 
 pub ready_level : (d : Draft) (was is : ℕ) (old new : List Page) → IsRedrawn d was old is new → is ≡ level_with d was
 ready_level draft.Same was is old new drawn = drawn.0
 ready_level (draft.Changed numbers) was is old new drawn = drawn.level
 
 -- the tables were drawn again
-pub ready_draft : StandsForOneAtMost → (d : Draft) (told : Type 0) (Q : Queue) (entries : List Entry) (k n : Checkpoint) (reached : ℕ) → HasDone Q entries k → reached ≡ k.level → k.level + 1 < 2 ^ 63
+pub ready_draft : PagesTellAlike → (d : Draft) (told : Type 0) (Q : Queue) (entries : List Entry) (k n : Checkpoint) (reached : ℕ) → HasDone Q entries k → reached ≡ k.level → k.level + 1 < 2 ^ 63
     → n.tables ≡ k.tables → AreDrawn n.tables n.level n.levels n.pages → IsRedrawn d k.level k.pages n.level n.pages → IsDraftOf d told Q entries reached n.pages
-ready_draft one draft.Same told Q entries k n reached done at small same drawn redrawn =
-    let here : StandsFor k.pages n.level no_deck no_print (queue_of n.tables) = subst (λ (ps : List Page). StandsFor ps n.level no_deck no_print (queue_of n.tables)) redrawn.1 (drawn_stands n.tables n.level n.levels n.pages drawn) in
-    sym done.queue ∙ ap queue_of (sym same) ∙ (one k.pages n.level k.level no_deck no_print (queue_of n.tables) Q here done.pages).0
-ready_draft one (draft.Changed numbers) told Q entries k n reached done at small same drawn redrawn = (
-  drawn_level n.tables n.level n.levels n.pages drawn ∙ redrawn.level ∙ ap (λ (l : ℕ). l + 1) (sym at),
-  omega (arith, at, small),
-  subst (λ (R : Queue). StandFor R (bytes_of n.pages)) (ap queue_of same ∙ done.queue) (drawn_stand n.tables n.level n.levels n.pages drawn),
-)
+ready_draft alike d told Q entries k n reached done at small same drawn redrawn = by_draft d redrawn where
+  after : Tell n.tables (run Q entries)
+  after = subst (λ (t : Tables). Tell t (run Q entries)) (sym same) done.queue
+
+  by_draft : (e : Draft) → IsRedrawn e k.level k.pages n.level n.pages → IsDraftOf e told Q entries reached n.pages
+  by_draft draft.Same redrawn =
+      let here : PagesTell k.pages n.level (run Q entries) = subst (λ (ps : List Page). PagesTell ps n.level (run Q entries)) redrawn.1 (drawn_tell n.tables n.level n.levels n.pages (run Q entries) drawn after) in
+      (alike k.pages k.level n.level Q (run Q entries) done.pages here).0
+  by_draft (draft.Changed numbers) redrawn = (
+    drawn_level n.tables n.level n.levels n.pages drawn ∙ redrawn.level ∙ ap (λ (l : ℕ). l + 1) (sym at),
+    omega (arith, at, small),
+    drawn_stand n.tables n.level n.levels n.pages (run Q entries) drawn after,
+  )
 
 -- as many as before
 pub ready_count : (Q : Queue) (entries : List Entry) (k n : Checkpoint) → HasDone Q entries k → n.tables ≡ k.tables → AreDrawn n.tables n.level n.levels n.pages → length n.pages ≡ length k.pages

@@ -9,14 +9,13 @@ use Rattle.mas_types.specs.Limits.{page_bytes}
 use Rattle.spool_disk.specs.Acts.{top}
 use Rattle.ckpt_copy.specs.Pages.{bytes_of, level}
 use Rattle.ckpt_pages.specs.Shape.{HasSpelling, AreLevels, page_count}
-use Rattle.ckpt_pages.specs.StandsFor.{StandsFor}
-use Rattle.mas_complex.specs.Meaning.{StandFor, no_deck, no_print, run}
+use Rattle.table_queues.specs.Telling.{Tell, PagesTell, AreToldAlike}
+use Rattle.mas_complex.specs.Meaning.{StandFor, run}
 use Rattle.mas_complex.specs.Replies.{HaveReplies}
 use Rattle.queue_effect.specs.Standing.{AreFit}
 use Rattle.member_node.specs.declared.checkpoint.Checkpoint.{Checkpoint}
 use Rattle.member_node.specs.declared.checkpoint.Draft.{Draft}
 use Rattle.member_node.specs.declared.checkpoint.Draft.TheVariants as draft
-use Rattle.member_node.specs.Standing.{queue_of}
 
 -- the reply to the last of some entries
 abbrev pub last_reply : List Entry → Reply
@@ -24,16 +23,16 @@ last_reply [] = Plain
 last_reply (e ∷ []) = e.reply
 last_reply (e ∷ next ∷ es) = last_reply (next ∷ es)
 
--- The pages of a checkpoint stand for the queue, and its tables for the queue after the entries, which have the replies that the
+-- The pages of a checkpoint stand for the queue, and its tables tell the queue after the entries, which have the replies that the
 -- commands give at their places. The tables can be spelled and given commands.
 pub record HasDone (Q : Queue) (entries : List Entry) (k : Checkpoint) : Type 0 where
-  pub pages : StandsFor k.pages k.level no_deck no_print Q
+  pub pages : PagesTell k.pages k.level Q
   pub leveled : AreLevels k.tables k.level k.levels
   pub as_many : length k.pages ≡ page_count k.tables.config
   pub sized : All (λ page. length page.0 ≡ page_bytes) k.pages
   pub spelling : HasSpelling k.tables
   pub fit : AreFit k.tables
-  pub queue : queue_of k.tables ≡ run Q entries
+  pub queue : Tell k.tables (run Q entries)
   pub replied : HaveReplies Q entries
 
 -- the level of a checkpoint with its draft
@@ -41,9 +40,9 @@ abbrev pub level_with : Draft → ℕ → ℕ
 level_with draft.Same reached = reached
 level_with (draft.Changed numbers) reached = reached + 1
 
--- A draft of a batch's pages: where no page changes the entries leave the queue as it is, and else the pages have the next level
--- and stand for the queue after the entries.
+-- A draft of a batch's pages: where no page changes the queue after the entries is told alike, and else the pages have the next level
+-- and stand for it.
 abbrev pub IsDraftOf : Draft → Type 0 → Queue → List Entry → ℕ → List Page → Type 0
-IsDraftOf draft.Same tells Q entries reached pages = run Q entries ≡ Q
+IsDraftOf draft.Same tells Q entries reached pages = AreToldAlike Q (run Q entries)
 IsDraftOf (draft.Changed numbers) tells Q entries reached pages =
     (level (bytes_of pages) ≡ reached + 1) × (reached < top) × StandFor (run Q entries) (bytes_of pages)

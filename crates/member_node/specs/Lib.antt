@@ -1,4 +1,3 @@
-pub mod Standing
 pub mod Drawn
 pub mod Redrawn
 pub mod Calls

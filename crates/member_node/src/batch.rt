@@ -17,6 +17,7 @@ ghost use Rattle.mas_complex.specs.Replies.{HaveReplies};
 ghost use Rattle.mas_complex.specs.Locking.{MayAct, IsOwn};
 ghost use Rattle.mas_complex.specs.Journals.{begun, entries_reserved, fated, kept_all, with_last};
 ghost use Rattle.mas_complex.specs.Meaning.{StandFor, run};
+ghost use Rattle.mas_complex.specs.Texts.{HasTexts, lost_now, spools_at};
 ghost use Rattle.member_node.specs.Calls.{Apart};
 
 use duplex_pair::PairNo;
@@ -52,6 +53,7 @@ fn log_both<P: Plant + Drop, C: Steady + Drop>(
     requires level { P.tells → level (bytes_of pages.now) ≡ complex.old.level + 1 }
     requires untold { P.tells → IsUntold (setting C.reads complex.old.base complex.old.since) (P.view complex.old.plant) (entries_reserved complex.old.reserved) }
     requires queue { P.tells → ∥ StandFor (run complex.old.base (kept_all complex.old.journal.batches ++ entries_reserved complex.old.reserved)) (bytes_of pages.now) ∥₁ }
+    requires texts { P.tells → ∥ HasTexts (lost_now (P.view complex.old.plant)) (spools_at (P.view complex.old.plant) (P.view complex.old.plant).now) complex.old.base.config.groups (run complex.old.base (kept_all complex.old.journal.batches ++ entries_reserved complex.old.reserved)) ∥₁ }
     ensures base { complex.new.base ≡ complex.old.base }
     ensures book { complex.new.book ≡ complex.old.book }
     ensures unreserved { complex.new.reserved ≡ None }
@@ -149,6 +151,7 @@ pub(crate) fn commit<P: Plant + Drop, C: Steady + Drop>(
     requires small { complex.old.level < top }
     requires untold { P.tells → IsUntold (setting C.reads complex.old.base complex.old.since) (P.view complex.old.plant) (entries_reserved complex.old.reserved) }
     requires queue { P.tells → ∥ StandFor (run complex.old.base (kept_all complex.old.journal.batches ++ entries_reserved complex.old.reserved)) (bytes_of pages.now) ∥₁ }
+    requires texts { P.tells → ∥ HasTexts (lost_now (P.view complex.old.plant)) (spools_at (P.view complex.old.plant) (P.view complex.old.plant).now) complex.old.base.config.groups (run complex.old.base (kept_all complex.old.journal.batches ++ entries_reserved complex.old.reserved)) ∥₁ }
     ensures base { complex.new.base ≡ complex.old.base }
     ensures book { complex.new.book ≡ complex.old.book }
     ensures unreserved { complex.new.reserved ≡ None }

@@ -4,9 +4,11 @@ ghost use Rattle.mas_types.specs.declared.queues.Queue.{Queue};
 ghost use Rattle.mas_types.specs.Closings.{IsReplyNamed};
 ghost use Rattle.mas_types.specs.Fit.{IsFit};
 ghost use Rattle.ckpt_pages.specs.Shape.{HasSpelling};
+ghost use Rattle.mas_types.specs.Step.{may_give};
+ghost use Rattle.table_queues.specs.Telling.{Tell, TellSound};
 ghost use Rattle.mas_complex.specs.Meaning.{step as step_of};
 ghost use Rattle.queue_effect.specs.Standing.{AreFit, IfRefused};
-ghost use Rattle.table_commands.specs.Stored.{IsGiver, is_plain};
+ghost use Rattle.table_commands.specs.Given.{IsGiver, is_plain};
 
 use crate::checkpoint::Checkpoint;
 use mas_types::{Command, Entry, List, MemberId, NoMemory, Reply};
@@ -61,7 +63,6 @@ fn put_entry(batch: &mut List<Entry>, at: usize, entry: Entry)
 
 impl Member {
     ghost use Rattle.member_node.specs.Batches.{HasDone, last_reply as last_of};
-    ghost use Rattle.member_node.specs.Standing.{queue_of};
 
     /// A member with this checkpoint, which has done nothing.
     pub fn new(alloc: Global, id: MemberId, checkpoint: Checkpoint) -> Member
@@ -76,8 +77,8 @@ impl Member {
         }
     }
 
-    /// Does a command on its tables, one that brings no text and is of no line to another node: the batch has one entry more, the
-    /// command with the reply that it has at the queue of the tables, and the tables' queue is the one that it leaves.
+    /// Does a command on its tables, one that brings no text and is of no line to another node: for each queue that the tables tell,
+    /// the batch has one entry more, the command with the reply that it has there, and the tables tell the queue that it leaves.
     ///
     /// NoMemory leaves the member as it was.
     pub fn do_command(&mut self, alloc: Global, step: u32, command: Command) -> Result<(), NoMemory>
@@ -91,10 +92,11 @@ impl Member {
         ensures level { self.new.checkpoint.level ≡ self.old.checkpoint.level }
         ensures levels { self.new.checkpoint.levels ≡ self.old.checkpoint.levels }
         ensures pages { self.new.checkpoint.pages ≡ self.old.checkpoint.pages }
-        ensures entry { OnOk result (self.new.batch ≡ self.old.batch ++ record { by = self.old.id; step = step; command = command; reply = (step_of (queue_of self.old.checkpoint.tables) self.old.id command).1 } ∷ []) }
-        ensures effect { OnOk result (queue_of self.new.checkpoint.tables ≡ (step_of (queue_of self.old.checkpoint.tables) self.old.id command).0) }
-        ensures named { OnOk result (IsReplyNamed (step_of (queue_of self.old.checkpoint.tables) self.old.id command).1) }
-        ensures refused { OnOk result (IfRefused (step_of (queue_of self.old.checkpoint.tables) self.old.id command).1 (self.new.checkpoint.tables ≡ self.old.checkpoint.tables)) }
+        ensures entry { OnOk result ((Q : Queue) → Tell self.old.checkpoint.tables Q → self.new.batch ≡ self.old.batch ++ record { by = self.old.id; step = step; command = command; reply = (step_of Q self.old.id command).1 } ∷ []) }
+        ensures effect { OnOk result ((Q : Queue) → Tell self.old.checkpoint.tables Q → Tell self.new.checkpoint.tables (step_of Q self.old.id command).0) }
+        ensures sound { OnOk result ((s : TellSound self.old.checkpoint.tables) → may_give s.queue self.old.id command ≡ true → TellSound self.new.checkpoint.tables) }
+        ensures named { OnOk result ((Q : Queue) → Tell self.old.checkpoint.tables Q → IsReplyNamed (step_of Q self.old.id command).1) }
+        ensures refused { OnOk result ((Q : Queue) → Tell self.old.checkpoint.tables Q → IfRefused (step_of Q self.old.id command).1 (self.new.checkpoint.tables ≡ self.old.checkpoint.tables)) }
         ensures own { OnOk result (All (λ e. e.by ≡ self.old.id) self.old.batch → All (λ e. e.by ≡ self.old.id) self.new.batch) }
         ensures done { OnOk result ((Q : Queue) → HasDone Q self.old.batch self.old.checkpoint → HasDone Q self.new.batch self.new.checkpoint) }
         ensures err { OnErr result (self.new ≡ self.old) }

@@ -14,6 +14,7 @@ ghost use Rattle.mas_complex.specs.Crash.{IsUntold, setting};
 ghost use Rattle.mas_complex.specs.Journals.{begun, end_of, entries_reserved, fated, in_flight, kept_all, with_last, StepIsKept};
 ghost use Rattle.mas_complex.specs.Locking.{MayAct, IsUp};
 ghost use Rattle.mas_complex.specs.Meaning.{Closes, run};
+ghost use Rattle.mas_complex.specs.Texts.{HasTexts, lost_now, spools_at};
 ghost use Rattle.mas_complex.specs.Replies.{HaveReplies};
 ghost use Rattle.member_node.specs.declared.member.NodeNo.TheVariants.{Halted};
 
@@ -30,7 +31,6 @@ impl Member {
     ghost use Rattle.member_node.specs.Batches.{HasDone, IsDraftOf, level_with};
     ghost use Rattle.member_node.specs.Copies.{IsDraftFor, RestsAt, room_with};
     ghost use Rattle.member_node.specs.Drawn.{AreDrawn};
-    ghost use Rattle.member_node.specs.Standing.{queue_of};
     ghost use Rattle.member_node.specs.Lines.{said_as, IsAnswerOfSay};
     ghost use Rattle.member_node.specs.Writes.{IsWrite};
 
@@ -87,6 +87,8 @@ impl Member {
 
     /// Writes the batch that was made ready: its pages behind the closed gates of CKPT1 and CKPT2, and then the gates; or it is kept
     /// without a write where no page changes. Once this answers Ok the batch is kept. The operator isn't stopped.
+    ///
+    /// The texts of the queue with the batch stand on the spool volumes, but for those with a group on a volume that is lost.
     pub fn write<P: Plant + Drop, C: Steady + Drop>(
         &self,
         complex: &mut Complex<P, C>,
@@ -101,6 +103,7 @@ impl Member {
         requires first { complex.old.first ≡ AtBefore }
         requires second { complex.old.second ≡ AtBefore }
         requires untold { P.tells → IsUntold (setting C.reads complex.old.base complex.old.since) (P.view complex.old.plant) (entries_reserved complex.old.reserved) }
+        requires texts { P.tells → ∥ HasTexts (lost_now (P.view complex.old.plant)) (spools_at (P.view complex.old.plant) (P.view complex.old.plant).now) complex.old.base.config.groups (run complex.old.base (kept_all complex.old.journal.batches ++ entries_reserved complex.old.reserved)) ∥₁ }
         requires draft { IsDraftOf draft.now P.tells (run complex.old.base (kept_all complex.old.journal.batches)) (entries_reserved complex.old.reserved) complex.old.level self.now.checkpoint.pages }
         requires draft1 { IsDraftFor draft.now P.tells complex.old.pair.first.alive (C.count complex.old.pair.first.copy) (C.room complex.old.pair.first.copy) self.now.checkpoint.pages (C.reads (disk_now (P.view complex.old.plant) Ckpt1).bytes) }
         requires draft2 { IsDraftFor draft.now P.tells complex.old.pair.second.alive (C.count complex.old.pair.second.copy) (C.room complex.old.pair.second.copy) self.now.checkpoint.pages (C.reads (disk_now (P.view complex.old.plant) Ckpt2).bytes) }

@@ -1,11 +1,20 @@
 -- A step that gives a command, by how it ended.
-use Rattle.std.proofs.Common.{OnOk, ◌≡◌, inl, inr, ℕ, ◌+◌, ◌≤◌, ◌++◌, Bool, List, [], ◌∷◌, length, map, take, Option, None, Result, Ok, Err, All, append-nil, refl, sym, ◌∙◌, ap, subst, arith}
+use Rattle.std.proofs.Common.{OnOk, IfOk, ◌≡◌, inl, inr, ℕ, ◌+◌, ◌≤◌, ◌++◌, Bool, true, List, [], ◌∷◌, length, map, take, Option, None, Result, Ok, Err, All, append-nil, refl, sym, ◌∙◌, ap, subst, arith}
 use Rattle.std.proofs.lemmas.List.Elements.{All-nil, All-cons, All-head, All-tail}
 use Rattle.mas_types.specs.declared.commands.Command.{Command}
 use Rattle.mas_types.specs.declared.journals.Batch.{Batch}
 use Rattle.mas_types.specs.declared.journals.Entry.{Entry}
 use Rattle.mas_types.specs.declared.journals.Fate.TheVariants.{Kept}
+use Rattle.mas_types.specs.declared.commands.Reply.{Reply}
 use Rattle.mas_types.specs.declared.ids.MemberId.{MemberId}
+use Rattle.mas_types.specs.Step as table
+use Rattle.mas_types.specs.Step.{may_give}
+use Rattle.queue_laws.proofs.RunLaws.{give_alike}
+use Rattle.ckpt_pages.specs.declared.tables.Tables.{Tables}
+use Rattle.table_queues.specs.Telling.{Tell, TellSound}
+use Rattle.queue_texts.specs.Leaving.{OthersLeaveTexts, ToldAreTheirOwn}
+use Rattle.mas_complex.specs.Texts.{Spools, HasTexts}
+use Rattle.table_commands.specs.Given.{is_plain}
 use Rattle.mas_types.specs.declared.queues.Queue.{Queue}
 use Rattle.spool_disk.specs.declared.plant.Part.TheVariants.{Console}
 use Rattle.spool_disk.specs.View.{View, Line}
@@ -23,7 +32,9 @@ use Rattle.member_node.specs.Batches.{HasDone, level_with}
 use Rattle.member_node.specs.Calls.{console_now}
 use Rattle.member_node.specs.Writes.{HasKept, IsWrite}
 use Rattle.member_node.proofs.CourseLemmas.{course_none, course_then, only_none, only_on, rose_later}
-use Rattle.member_node.proofs.EntryLemmas.{nothing_done}
+use Rattle.member_node.proofs.EntryLemmas.{nothing_done, plain_step}
+use Rattle.member_node.proofs.TextLemmas.{plain_brings, texts_after}
+use Rattle.member_node.proofs.WriteLemmas.{run_append}
 use Rattle.member_steps.specs.Saying.{Breaks, HaveSaid}
 use Rattle.member_steps.specs.Steps.{AreAllKept, IsBetween, IsStep, entry_of, step_lines}
 use Rattle.member_steps.proofs.SayLemmas.{console_course}
@@ -106,7 +117,26 @@ module _ (told : Type 0) (by : ℕ) (lines : List (List ℕ)) (b : Batch) (front
 pub between_done : (base : Queue) (batches : List Batch) (current : Option Batch) (placed : Bool) (level : ℕ) (batch : List Entry) (k : Checkpoint) → IsBetween base batches current placed level batch k → HasDone (run base (kept_all batches)) batch k
 between_done base batches current placed level batch k between =
     subst (λ (es : List Entry). HasDone (run base (kept_all batches)) es k) (sym between.nothing)
-    (subst (λ (Q : Queue). HasDone Q [] k) between.queue (nothing_done k between.drawn between.fit))
+    (nothing_done (run base (kept_all batches)) k between.drawn between.fit between.queue)
+
+-- a batch that had no entry has the one that came
+pub only_entry : (was is : List Entry) (e : Entry) → is ≡ was ++ e ∷ [] → was ≡ [] → is ≡ e ∷ []
+only_entry was is e one none = one ∙ ap (λ (es : List Entry). es ++ e ∷ []) none
+
+-- who may give a command at a queue may give it at a sound one that the same tables tell
+pub may_alike : (t : Tables) (Q : Queue) (s : TellSound t) → Tell t Q → (m : MemberId) (c : Command) → may_give Q m c ≡ true → may_give s.queue m c ≡ true
+may_alike t Q s told m c may = give_alike Q s.queue m c (s.told.config ∙ sym told.config) may
+
+-- texts after the command of a step
+pub step_texts : OthersLeaveTexts → ToldAreTheirOwn → (gone : ℕ → Bool) (disks : Spools) (per : ℕ) (base base1 : Queue) (was kept : List Batch) (t : Tables) (m : MemberId) (at : ℕ) (c : Command) (es : List Entry) → is_plain c ≡ true → TellSound t → Tell t (run base (kept_all was))
+    → base1 ≡ base → kept_all kept ≡ kept_all was → es ≡ entry_of (run base (kept_all was)) m at c ∷ [] → HasTexts gone disks per (run base1 (kept_all kept)) → HasTexts gone disks per (run base1 (kept_all kept ++ es))
+step_texts law own gone disks per base base1 was kept t m at c es plain sound told same none are has =
+    let Q : Queue = run base (kept_all was) in
+    let here : run base1 (kept_all kept) ≡ Q = ap (λ (q : Queue). run q (kept_all kept)) same ∙ ap (run base) none in
+    let stand : HasTexts gone disks per Q = subst (HasTexts gone disks per) here has in
+    let after : HasTexts gone disks per (table.step Q m c).0 = texts_after law gone disks per Q m c (plain_brings c plain) (own t Q sound told) stand in
+    let next : HasTexts gone disks per (run Q (entry_of Q m at c ∷ [])) = subst (λ (p : Queue × Reply). HasTexts gone disks per p.0) (sym (plain_step Q m c plain)) after in
+    subst (HasTexts gone disks per) (sym (run_append base1 (kept_all kept) es ∙ ap (λ (q : Queue). run q es) here ∙ ap (run Q) are)) next
 
 -- a step is kept where all batches are
 pub all_step_kept : (batches : List Batch) (t : ℕ) (m : MemberId) (s : ℕ) → AreAllKept batches t → StepIsKept batches t m s
@@ -147,11 +177,6 @@ untold_by reads base base' since since' v v' es es' one two three four untold =
 
 -- THE ENTRY
 
--- a batch that was empty has the one entry
-pub one_entry : (batch more : List Entry) (T Q : Queue) (by : MemberId) (at : ℕ) (c : Command) → batch ≡ [] → T ≡ Q → more ≡ batch ++ entry_of T by at c ∷ [] → more ≡ entry_of Q by at c ∷ []
-one_entry batch more T Q by at c nothing same is =
-    is ∙ ap (λ (es : List Entry). es ++ entry_of T by at c ∷ []) nothing ∙ ap (λ (R : Queue). entry_of R by at c ∷ []) same
-
 pub some_of_one : (es : List Entry) (e : Entry) → es ≡ e ∷ [] → 1 ≤ length es
 some_of_one es e is = subst (λ (l : List Entry). 1 ≤ length l) (sym is) (omega arith)
 
@@ -163,6 +188,10 @@ own_of_one es e m is by = subst (All (λ (x : Entry). x.by ≡ m)) (sym is) (All
 pub ok_of : {T E A : Type 0} (r : Result T E) → A → OnOk r A
 ok_of (Ok done) a = a
 ok_of (Err why) a = tt
+
+pub if_ok : {T E : Type 0} (P R : T → Type 0) (r : Result T E) → ((x : T) → P x → R x) → IfOk r P → IfOk r R
+if_ok P R (Ok x) to p = to x p
+if_ok P R (Err why) to p = tt
 
 pub level_most : (d : Draft) (n : ℕ) → level_with d n ≤ n + 1
 level_most draft.Same n = omega arith

@@ -12,6 +12,7 @@ use Rattle.spool_disk.specs.declared.plant.Part.TheVariants.{Console}
 use Rattle.spool_disk.specs.View.{View, Line}
 use Rattle.spool_disk.specs.Acts.{Rose}
 use Rattle.duplex_pair.specs.Halves.{IsBothLost}
+use Rattle.table_queues.specs.Telling.{Tell, TellSound}
 use Rattle.queue_effect.specs.Standing.{AreFit}
 use Rattle.mas_complex.specs.Headline.{whole}
 use Rattle.mas_complex.specs.Journals.{kept_all}
@@ -22,7 +23,6 @@ use Rattle.member_node.specs.declared.member.NodeNo.TheVariants.{BothLost, Halte
 use Rattle.member_node.specs.Calls.{Course, IsLeft, IsOnlyOn, console_now}
 use Rattle.member_node.specs.Drawn.{AreDrawn}
 use Rattle.member_node.specs.Lines.{reply_lines}
-use Rattle.member_node.specs.Standing.{queue_of}
 use Rattle.member_node.specs.Writes.{HasKept, HasFlying}
 use Rattle.member_steps.specs.Saying.{Breaks}
 
@@ -42,15 +42,17 @@ step_lines Q by at c = reply_lines by at (reply_to Q by c)
 
 -- BETWEEN STEPS
 
--- No batch is in flight or has its place, and the member's checkpoint is that of the queue after the kept batches.
+-- No batch is in flight or has its place, and the member's checkpoint tells the queue after the kept batches. Its tables tell a sound
+-- queue, which differs from that in its texts alone.
 pub record IsBetween (base : Queue) (batches : List Batch) (current : Option Batch) (placed : Bool) (level : ℕ) (batch : List Entry) (k : Checkpoint) : Type 0 where
   pub none : current ≡ None
   pub unplaced : placed ≡ false
   pub same_level : level ≡ k.level
   pub nothing : batch ≡ []
   pub drawn : AreDrawn k.tables k.level k.levels k.pages
-  pub queue : queue_of k.tables ≡ run base (kept_all batches)
+  pub queue : Tell k.tables (run base (kept_all batches))
   pub fit : AreFit k.tables
+  pub sound : TellSound k.tables
 
 -- each batch is kept by now
 abbrev pub AreAllKept : List Batch → ℕ → Type 0

@@ -1,11 +1,13 @@
 //! A step whose commands are done: they are written, and its lines are said.
-ghost use Rattle.std.specs.Prelude.{◌≡◌, ◌+◌, ◌≤◌, ◌<◌, ◌^◌, All, None, length, true, false, OnOk};
+ghost use Rattle.std.specs.Prelude.{◌≡◌, ◌+◌, ◌≤◌, ◌<◌, ◌^◌, ◌++◌, All, None, length, true, false, OnOk};
 ghost use Rattle.mas_types.specs.declared.ids.Dev.TheVariants.{Ckpt1, Ckpt2};
 ghost use Rattle.spool_disk.specs.View.{disk_now};
 ghost use Rattle.mas_complex.specs.Crash.{IsUntold, setting};
 ghost use Rattle.mas_complex.specs.Journals.{begun, end_of, kept_all};
 ghost use Rattle.mas_complex.specs.Locking.{MayAct};
 ghost use Rattle.mas_complex.specs.Meaning.{run};
+ghost use Rattle.mas_complex.specs.Texts.{HasTexts, lost_now, spools_at};
+ghost use Rattle.table_queues.specs.Telling.{TellSound};
 ghost use Rattle.member_node.specs.Batches.{HasDone};
 ghost use Rattle.member_node.specs.Copies.{RestsAt};
 ghost use Rattle.member_steps.specs.Steps.{AreAllKept, IsBetween, IsStep};
@@ -18,7 +20,8 @@ use spool_disk::Plant;
 use std::alloc::Global;
 
 /// Writes the commands that a member has done, as one batch, to both copies, and says lines then. The member holds the lock, or is
-/// the operator while nobody does. All memory is taken before the first write.
+/// the operator while nobody does. All memory is taken before the first write. The texts of the queue with the batch stand on the spool
+/// volumes, but for those with a group on a volume that is lost.
 ///
 /// NoMemory leaves the shared value's journal and the copies as they were, BothLost and Halted perhaps the batch in flight. After any of
 /// the four errors the member can't go on: its tables may be ahead of the copies.
@@ -37,6 +40,8 @@ pub fn play_batch<P: Plant + Drop, C: Steady + Drop>(
     requires done { HasDone (run complex.old.base (kept_all complex.old.journal.batches)) member.old.batch member.old.checkpoint }
     requires rests1 { RestsAt P.tells complex.old.pair.first.alive complex.old.first (C.count complex.old.pair.first.copy) member.old.checkpoint.pages (C.reads (disk_now (P.view complex.old.plant) Ckpt1).bytes) }
     requires rests2 { RestsAt P.tells complex.old.pair.second.alive complex.old.second (C.count complex.old.pair.second.copy) member.old.checkpoint.pages (C.reads (disk_now (P.view complex.old.plant) Ckpt2).bytes) }
+    requires sound { TellSound member.old.checkpoint.tables }
+    requires texts { P.tells → ∥ HasTexts (lost_now (P.view complex.old.plant)) (spools_at (P.view complex.old.plant) (P.view complex.old.plant).now) complex.old.base.config.groups (run complex.old.base (kept_all complex.old.journal.batches ++ member.old.batch)) ∥₁ }
     requires kept { AreAllKept complex.old.journal.batches (P.view complex.old.plant).now }
     requires untold { P.tells → IsUntold (setting C.reads complex.old.base complex.old.since) (P.view complex.old.plant) member.old.batch }
     requires level { member.old.checkpoint.level + 1 < 2 ^ 63 }

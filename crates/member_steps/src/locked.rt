@@ -5,6 +5,7 @@ ghost use Rattle.mas_types.specs.declared.ids.Dev.TheVariants.{Ckpt1, Ckpt2};
 ghost use Rattle.mas_types.specs.Closings.{AreMembersNamed};
 ghost use Rattle.mas_types.specs.Fit.{IsFit};
 ghost use Rattle.mas_types.specs.Limits.{members_most};
+ghost use Rattle.mas_types.specs.Step.{may_give};
 ghost use Rattle.lock_cycle.specs.declared.answers.LockNo.{LockNo};
 ghost use Rattle.lock_cycle.specs.Books.{try_refusal, after_try, after_free};
 ghost use Rattle.spool_disk.specs.View.{disk_now};
@@ -12,7 +13,7 @@ ghost use Rattle.mas_complex.specs.Crash.{IsUntold, setting};
 ghost use Rattle.mas_complex.specs.Journals.{begun, end_of, kept_all};
 ghost use Rattle.mas_complex.specs.Locking.{IsUp};
 ghost use Rattle.mas_complex.specs.Meaning.{run};
-ghost use Rattle.table_commands.specs.Stored.{IsGiver, is_plain};
+ghost use Rattle.table_commands.specs.Given.{IsGiver, is_plain};
 ghost use Rattle.member_node.specs.Copies.{RestsAt};
 ghost use Rattle.member_steps.specs.Locked.{IsDenial, IsOpenTo, closing_of as closing_of_lem, denied_lines as denied_lines_lem};
 ghost use Rattle.member_steps.specs.Steps.{AreAllKept, IsBetween, IsStep, entry_of, step_lines};
@@ -103,6 +104,7 @@ pub fn play_locked<P: Plant + Drop, C: Steady + Drop>(
     requires plain { is_plain command ≡ true }
     requires command { IsFit command }
     requires giver { IsGiver member.old.id command }
+    requires may_give { may_give (run complex.old.base (kept_all complex.old.journal.batches)) member.old.id command ≡ true }
     requires between { IsBetween complex.old.base complex.old.journal.batches complex.old.current complex.old.placed complex.old.level member.old.batch member.old.checkpoint }
     requires rests1 { RestsAt P.tells complex.old.pair.first.alive complex.old.first (C.count complex.old.pair.first.copy) member.old.checkpoint.pages (C.reads (disk_now (P.view complex.old.plant) Ckpt1).bytes) }
     requires rests2 { RestsAt P.tells complex.old.pair.second.alive complex.old.second (C.count complex.old.pair.second.copy) member.old.checkpoint.pages (C.reads (disk_now (P.view complex.old.plant) Ckpt2).bytes) }

@@ -4,23 +4,25 @@ ghost use Rattle.mas_types.specs.declared.ids.Dev.TheVariants.{Ckpt1, Ckpt2};
 ghost use Rattle.mas_types.specs.declared.queues.Queue.{Queue};
 ghost use Rattle.mas_types.specs.Fit.{IsFit};
 ghost use Rattle.mas_types.specs.Limits.{members_most};
+ghost use Rattle.mas_types.specs.Step.{may_give};
 ghost use Rattle.spool_disk.specs.View.{disk_now};
 ghost use Rattle.ckpt_pages.specs.Shape.{HasSpelling};
 ghost use Rattle.mas_complex.specs.Crash.{IsUntold, setting};
 ghost use Rattle.mas_complex.specs.Journals.{begun, end_of, kept_all};
 ghost use Rattle.mas_complex.specs.Locking.{MayAct};
 ghost use Rattle.mas_complex.specs.Meaning.{run};
+ghost use Rattle.table_queues.specs.Telling.{Tell, TellSound};
 ghost use Rattle.queue_effect.specs.Standing.{AreFit};
-ghost use Rattle.table_commands.specs.Stored.{IsGiver, is_plain};
+ghost use Rattle.table_commands.specs.Given.{IsGiver, is_plain};
 ghost use Rattle.member_node.specs.Batches.{HasDone};
 ghost use Rattle.member_node.specs.Copies.{RestsAt};
-ghost use Rattle.member_node.specs.Standing.{queue_of};
 ghost use Rattle.member_steps.specs.Steps.{AreAllKept, IsBetween, IsStep, entry_of, step_lines};
 
 use crate::batches::play_batch;
 use mas_complex::{Complex, Steady};
 use mas_types::{Command, Lines, NoMemory};
 use member_node::{Member, NodeNo, reply_lines};
+use queue_texts::law_of_texts;
 use spool_disk::Plant;
 use std::alloc::Global;
 
@@ -33,14 +35,16 @@ fn give(member: &mut Member, alloc: Global, step: u32, command: Command) -> Resu
     requires nothing { member.old.batch ≡ [] }
     requires spelling { HasSpelling member.old.checkpoint.tables }
     requires fit { AreFit member.old.checkpoint.tables }
+    requires sound { TellSound member.old.checkpoint.tables }
     requires order { member.old.checkpoint.tables.order + 32 < 2 ^ 63 }
     ensures id { member.new.id ≡ member.old.id }
     ensures level { member.new.checkpoint.level ≡ member.old.checkpoint.level }
     ensures pages { member.new.checkpoint.pages ≡ member.old.checkpoint.pages }
-    ensures entry { OnOk result (member.new.batch ≡ entry_of (queue_of member.old.checkpoint.tables) member.old.id step command ∷ []) }
-    ensures lines { IfOk result (λ lines. lines ≡ step_lines (queue_of member.old.checkpoint.tables) member.old.id step command) }
+    ensures entry { OnOk result ((Q : Queue) → Tell member.old.checkpoint.tables Q → member.new.batch ≡ entry_of Q member.old.id step command ∷ []) }
+    ensures lines { IfOk result (λ lines. (Q : Queue) → Tell member.old.checkpoint.tables Q → lines ≡ step_lines Q member.old.id step command) }
     ensures done { OnOk result ((Q : Queue) → HasDone Q member.old.batch member.old.checkpoint → HasDone Q member.new.batch member.new.checkpoint) }
     ensures order { member.new.checkpoint.tables.order ≤ member.old.checkpoint.tables.order + 32 }
+    ensures sound { OnOk result ((s : TellSound member.old.checkpoint.tables) → may_give s.queue member.old.id command ≡ true → TellSound member.new.checkpoint.tables) }
     ensures config { member.new.checkpoint.tables.config ≡ member.old.checkpoint.tables.config }
 {
     member.do_command(alloc, step, command)?;
@@ -64,6 +68,7 @@ pub fn play_command<P: Plant + Drop, C: Steady + Drop>(
     requires plain { is_plain command ≡ true }
     requires command { IsFit command }
     requires giver { IsGiver member.old.id command }
+    requires may_give { may_give (run complex.old.base (kept_all complex.old.journal.batches)) member.old.id command ≡ true }
     requires between { IsBetween complex.old.base complex.old.journal.batches complex.old.current complex.old.placed complex.old.level member.old.batch member.old.checkpoint }
     requires rests1 { RestsAt P.tells complex.old.pair.first.alive complex.old.first (C.count complex.old.pair.first.copy) member.old.checkpoint.pages (C.reads (disk_now (P.view complex.old.plant) Ckpt1).bytes) }
     requires rests2 { RestsAt P.tells complex.old.pair.second.alive complex.old.second (C.count complex.old.pair.second.copy) member.old.checkpoint.pages (C.reads (disk_now (P.view complex.old.plant) Ckpt2).bytes) }
@@ -94,5 +99,7 @@ pub fn play_command<P: Plant + Drop, C: Steady + Drop>(
     let Ok(lines) = give(member, alloc, step, command) else {
         return Err(NodeNo::NoMemory);
     };
+    complex.kept_texts();
+    law_of_texts();
     play_batch(member, alloc, complex, &lines)
 }

@@ -5,10 +5,11 @@ use Rattle.mas_types.specs.declared.journals.Batch.{Batch}
 use Rattle.mas_types.specs.declared.journals.Fate.TheVariants.{Kept}
 use Rattle.mas_types.specs.declared.journals.Journal.{Journal}
 use Rattle.mas_types.specs.declared.queues.Queue.{Queue}
+use Rattle.ckpt_pages.specs.declared.tables.Tables.{Tables}
+use Rattle.table_queues.specs.Telling.{Tell, TellSound}
 use Rattle.mas_complex.specs.Journals.{begun, end_of, entries_reserved, fated, kept_all}
 use Rattle.mas_complex.specs.Meaning.{run}
 use Rattle.member_node.specs.Batches.{level_with}
-use Rattle.member_node.specs.Standing.{queue_of}
 use Rattle.member_node.proofs.WriteLemmas.{none_out, queue_kept}
 use Rattle.member_steps.specs.Steps.{AreAllKept}
 use Rattle.member_steps.proofs.StepLemmas.{journal_kept, kept_later, kept_push, level_most, ok_of, step_told, step_unplayed, step_unwritten}
@@ -36,6 +37,11 @@ returns-in_err-write-clause-step g c =
     let p = err_from_is_err_and c.from_residual.result c.from_residual.ensures.1 in
     rw (p.1, p.2) (step_unwritten P.tells by.0 c.args.lines.now (begun (P.view x.plant).now by c.args.member.now.batch)
     x.journal.batches (end_of z.placed z.current z.journal.batches) x.pair.first.alive z.pair.first.alive x.pair.second.alive z.pair.second.alive (P.view x.plant) (P.view z.plant) _ write)
+
+pub write-requires-clause-texts : goal.write-requires-clause-texts
+write-requires-clause-texts g c told =
+    let e = c.ready.ensures in
+    rw (e.plant, e.base, e.kept, c.in-Ok.ensures.reserved) (c.requires.texts told)
 
 pub tell_lines-requires-clause-up : goal.tell_lines-requires-clause-up
 tell_lines-requires-clause-up g c = rw (c.write.ensures.book, c.ready.ensures.book, c.ready.ensures.id) c.requires.may.up
@@ -96,9 +102,10 @@ returns-clause-between g c =
       same_level = t.level ∙ k.level ∙ ap (level_with c.in-Ok.draft) (e.same_level ∙ c.requires.same_level) ∙ sym c.in-Ok.ensures.level;
       nothing = c.in-Ok.ensures.empty;
       drawn = c.in-Ok.ensures.drawn;
-      queue = queue_kept x.base w.base Q (queue_of n.tables) x.journal.batches w.journal.batches (P.view z.plant).now b c.args.member.now.batch
-          (t.base ∙ k.base ∙ e.base) refl journal (ap entries_reserved c.in-Ok.ensures.reserved) (ap queue_of e.tables ∙ c.requires.done.queue);
+      queue = subst (Tell n.tables) (queue_kept x.base w.base Q (run Q c.args.member.now.batch) x.journal.batches w.journal.batches (P.view z.plant).now b c.args.member.now.batch
+          (t.base ∙ k.base ∙ e.base) refl journal (ap entries_reserved c.in-Ok.ensures.reserved) refl) (subst (λ (u : Tables). Tell u (run Q c.args.member.now.batch)) (sym e.tables) c.requires.done.queue);
       fit = rw e.tables c.requires.done.fit;
+      sound = subst TellSound (sym e.tables) c.requires.sound;
     })
 
 pub returns-clause-rests1 : goal.returns-clause-rests1

@@ -113,6 +113,11 @@ play_command-requires-clause-between g c =
     let e = c.try_lock.ensures in
     rw (e.base, e.journal, e.current, e.placed, e.level) c.requires.between
 
+pub play_command-requires-clause-may_give : goal.play_command-requires-clause-may_give
+play_command-requires-clause-may_give g c =
+    let e = c.try_lock.ensures in
+    rw (e.base, e.journal) c.requires.may_give
+
 pub play_command-requires-clause-rests1 : goal.play_command-requires-clause-rests1
 play_command-requires-clause-rests1 g c =
     let e = c.try_lock.ensures in

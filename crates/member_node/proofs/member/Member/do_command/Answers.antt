@@ -1,49 +1,35 @@
 use Rattle.std.proofs.Common.{◌≡◌, ◌∙◌, ◌++◌, List, [], ◌∷◌, All, ap, sym, subst, refl}
 use Rattle.std.proofs.lemmas.List.Elements.{All-push}
-use Rattle.mas_types.specs.declared.ids.JobNo.{JobNo}
-use Rattle.mas_types.specs.declared.ids.OutNo.{OutNo}
 use Rattle.mas_types.specs.declared.commands.Reply.{Reply}
 use Rattle.mas_types.specs.declared.journals.Entry.{Entry}
-use Rattle.mas_types.specs.declared.queues.Queue.{Queue}
 use Rattle.mas_types.specs.Closings.{IsReplyNamed}
 use Rattle.ckpt_pages.specs.declared.tables.Tables.{Tables}
-use Rattle.mas_complex.specs.Meaning.{step, unspooled}
+use Rattle.mas_complex.specs.Meaning.{run}
 use Rattle.queue_effect.specs.Standing.{IfRefused}
 use Rattle.member_node.specs.Batches.{HasDone}
-use Rattle.member_node.specs.Standing.{queue_of}
-use Rattle.member_node.proofs.EntryLemmas.{given_entry, taken_entry, more_done, plain_step, unspooled_texts}
+use Rattle.member_node.proofs.EntryLemmas.{given_entry, given_reply, given_tells, taken_entry, more_done}
 use Rattle.member_node.proofs.member.Member.do_command.Goals as goal
 
 pub returns-in-Ok-clause-entry : goal.returns-in-Ok-clause-entry
-returns-in-Ok-clause-entry c =
+returns-in-Ok-clause-entry c Q told =
     let k = c.args.self.now in
-    let T : Queue = queue_of k.checkpoint.tables in
-    let reply : c.in-Ok.reply ≡ (step T k.id c.args.command).1 =
-    c.in-Ok.ensures.reply (λ (n : JobNo). unspooled) (λ (n : JobNo) (i : OutNo). unspooled) unspooled_texts ∙ ap (λ (p : Queue × Reply). p.1) (sym (plain_step T k.id c.args.command c.requires.plain)) in
     given_entry k.batch c.push.new.self c.put_entry.new.batch c.place.result (record { by = k.id; step = c.args.step; command = c.args.command; reply = c.in-Ok.reply }) c.len-at.result c.in_ok-push.ensures.ok c.len-at.ensures c.put_entry.ensures
-    ∙ ap (λ (r : Reply). k.batch ++ record { by = k.id; step = c.args.step; command = c.args.command; reply = r } ∷ []) reply
+    ∙ ap (λ (r : Reply). k.batch ++ record { by = k.id; step = c.args.step; command = c.args.command; reply = r } ∷ []) (given_reply k.checkpoint.tables c.give.new.tables k.id c.args.command c.in-Ok.reply c.requires.plain c.in-Ok.ensures.plays Q told)
 
 pub returns-in-Ok-clause-effect : goal.returns-in-Ok-clause-effect
-returns-in-Ok-clause-effect c =
+returns-in-Ok-clause-effect c Q told =
     let k = c.args.self.now in
-    let T : Queue = queue_of k.checkpoint.tables in
-    c.in-Ok.ensures.effect (λ (n : JobNo). unspooled) (λ (n : JobNo) (i : OutNo). unspooled) unspooled_texts ∙ ap (λ (p : Queue × Reply). p.0) (sym (plain_step T k.id c.args.command c.requires.plain))
+    given_tells k.checkpoint.tables c.give.new.tables k.id c.args.command c.in-Ok.reply c.requires.plain c.in-Ok.ensures.plays Q told
 
 pub returns-in-Ok-clause-named : goal.returns-in-Ok-clause-named
-returns-in-Ok-clause-named c =
+returns-in-Ok-clause-named c Q told =
     let k = c.args.self.now in
-    let T : Queue = queue_of k.checkpoint.tables in
-    let reply : c.in-Ok.reply ≡ (step T k.id c.args.command).1 =
-    c.in-Ok.ensures.reply (λ (n : JobNo). unspooled) (λ (n : JobNo) (i : OutNo). unspooled) unspooled_texts ∙ ap (λ (p : Queue × Reply). p.1) (sym (plain_step T k.id c.args.command c.requires.plain)) in
-    subst IsReplyNamed reply c.in-Ok.ensures.named
+    subst IsReplyNamed (given_reply k.checkpoint.tables c.give.new.tables k.id c.args.command c.in-Ok.reply c.requires.plain c.in-Ok.ensures.plays Q told) c.in-Ok.ensures.named
 
 pub returns-in-Ok-clause-refused : goal.returns-in-Ok-clause-refused
-returns-in-Ok-clause-refused c =
+returns-in-Ok-clause-refused c Q told =
     let k = c.args.self.now in
-    let T : Queue = queue_of k.checkpoint.tables in
-    let reply : c.in-Ok.reply ≡ (step T k.id c.args.command).1 =
-    c.in-Ok.ensures.reply (λ (n : JobNo). unspooled) (λ (n : JobNo) (i : OutNo). unspooled) unspooled_texts ∙ ap (λ (p : Queue × Reply). p.1) (sym (plain_step T k.id c.args.command c.requires.plain)) in
-    subst (λ (r : Reply). IfRefused r (c.give.new.tables ≡ k.checkpoint.tables)) reply c.in-Ok.ensures.refused
+    subst (λ (r : Reply). IfRefused r (c.give.new.tables ≡ k.checkpoint.tables)) (given_reply k.checkpoint.tables c.give.new.tables k.id c.args.command c.in-Ok.reply c.requires.plain c.in-Ok.ensures.plays Q told) c.in-Ok.ensures.refused
 
 pub returns-in-Ok-clause-own : goal.returns-in-Ok-clause-own
 returns-in-Ok-clause-own c all =
@@ -55,15 +41,12 @@ returns-in-Ok-clause-own c all =
 pub returns-in-Ok-clause-done : goal.returns-in-Ok-clause-done
 returns-in-Ok-clause-done c Q done =
     let k = c.args.self.now in
-    let T : Queue = queue_of k.checkpoint.tables in
     let n = record k.checkpoint { tables = c.give.new.tables } in
     let e : Entry = record { by = k.id; step = c.args.step; command = c.args.command; reply = c.in-Ok.reply } in
-    let reply : c.in-Ok.reply ≡ (step T k.id c.args.command).1 =
-    c.in-Ok.ensures.reply (λ (n : JobNo). unspooled) (λ (n : JobNo) (i : OutNo). unspooled) unspooled_texts ∙ ap (λ (p : Queue × Reply). p.1) (sym (plain_step T k.id c.args.command c.requires.plain)) in
-    let effect : queue_of c.give.new.tables ≡ (step T k.id c.args.command).0 =
-    c.in-Ok.ensures.effect (λ (n : JobNo). unspooled) (λ (n : JobNo) (i : OutNo). unspooled) unspooled_texts ∙ ap (λ (p : Queue × Reply). p.0) (sym (plain_step T k.id c.args.command c.requires.plain)) in
     subst (λ (es : List Entry). HasDone Q es n) (sym (given_entry k.batch c.push.new.self c.put_entry.new.batch c.place.result e c.len-at.result c.in_ok-push.ensures.ok c.len-at.ensures c.put_entry.ensures))
-    (more_done Q k.batch k.checkpoint n e done refl refl refl c.give.ensures.config c.give.ensures.spelling c.give.ensures.fit reply effect)
+    (more_done Q k.batch k.checkpoint n e done refl refl refl c.give.ensures.config c.give.ensures.spelling c.give.ensures.fit
+    (given_reply k.checkpoint.tables c.give.new.tables k.id c.args.command c.in-Ok.reply c.requires.plain c.in-Ok.ensures.plays (run Q k.batch) done.queue)
+    (given_tells k.checkpoint.tables c.give.new.tables k.id c.args.command c.in-Ok.reply c.requires.plain c.in-Ok.ensures.plays (run Q k.batch) done.queue))
 
 pub returns-in-Err-clause-err : goal.returns-in-Err-clause-err
 returns-in-Err-clause-err c =

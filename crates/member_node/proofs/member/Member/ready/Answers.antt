@@ -2,7 +2,8 @@ use Rattle.mas_types.specs.declared.ids.Dev.TheVariants.{Ckpt1, Ckpt2}
 use Rattle.spool_disk.specs.View.{disk_now}
 use Rattle.mas_complex.specs.Journals.{kept_all}
 use Rattle.mas_complex.specs.Meaning.{run}
-use Rattle.ckpt_pages.proofs.DecodingLemmas.{one_queue}
+use Rattle.ckpt_pages.proofs.DecodingLemmas.{one_queue, one_value}
+use Rattle.table_queues.proofs.ToldLemmas.{pages_alike}
 use Rattle.member_node.proofs.ReadyLemmas.{ready_copy, ready_count, ready_draft, ready_level}
 use Rattle.member_node.proofs.member.Member.ready.Goals as goal
 
@@ -16,7 +17,7 @@ pub returns-clause-draft : goal.returns-clause-draft
 returns-clause-draft g c =
     let x = c.args.complex.now in
     let e = c.in_ok-draft.ensures in
-    ready_draft one_queue c.in_ok-draft.draft g.P.Plant.tells (run x.base (kept_all x.journal.batches)) c.args.self.now.batch c.args.self.now.checkpoint c.redraw.new.checkpoint x.level
+    ready_draft (λ pages. pages_alike pages one_value one_queue) c.in_ok-draft.draft g.P.Plant.tells (run x.base (kept_all x.journal.batches)) c.args.self.now.batch c.args.self.now.checkpoint c.redraw.new.checkpoint x.level
     c.requires.done c.requires.level c.requires.small e.tables e.drawn e.draft
 
 pub returns-clause-draft1 : goal.returns-clause-draft1

@@ -1,7 +1,8 @@
-use Rattle.std.proofs.Common.{◌∙◌, ◌++◌, ap, sym, subst, Err, refl}
+use Rattle.std.proofs.Common.{◌++◌, ap, sym, subst, Err, refl}
 use Rattle.mas_types.specs.declared.journals.Journal.{Journal}
 use Rattle.mas_types.specs.declared.queues.Queue.{Queue}
 use Rattle.ckpt_copy.specs.Pages.{bytes_of}
+use Rattle.table_queues.specs.Telling.{AreToldAlike}
 use Rattle.mas_complex.specs.Journals.{entries_reserved, kept_all}
 use Rattle.mas_complex.specs.Meaning.{StandFor, run}
 use Rattle.member_node.proofs.StepLemmas.{reserved_is, write_done, write_lost, write_same, write_stopped}
@@ -11,7 +12,7 @@ use Rattle.member_node.proofs.member.Member.write.Goals as goal
 pub keep_same-requires-clause-queue : goal.keep_same-requires-clause-queue
 keep_same-requires-clause-queue g c told =
     let x = c.args.complex.now in
-    run_append x.base (kept_all x.journal.batches) (entries_reserved x.reserved) ∙ (rw c.in-Same.is at c.requires.draft)
+    subst (AreToldAlike (run x.base (kept_all x.journal.batches))) (sym (run_append x.base (kept_all x.journal.batches) (entries_reserved x.reserved))) (rw c.in-Same.is at c.requires.draft)
 
 pub commit-requires-clause-queue : goal.commit-requires-clause-queue
 commit-requires-clause-queue g c told =
