@@ -1,7 +1,8 @@
 -- A member that has no groups, over the steps of a script.
-use Rattle.std.proofs.Common.{◌≡◌, ℕ, zero, suc, ◌+◌, Bool, true, false, if◌then◌else◌, List, [], ◌∷◌, filter, take, All, Option, Some, None, refl, subst, arith}
+use Rattle.std.proofs.Common.{◌≡◌, ℕ, zero, suc, ◌+◌, ◌≤◌, nat_le, Bool, true, false, if◌then◌else◌, List, [], ◌∷◌, filter, take, All, Option, Some, None, refl, subst, arith}
 use Rattle.std.specs.List.{list_any}
 use Rattle.std.proofs.lemmas.Bool.{or_parts}
+use Rattle.std.proofs.lemmas.Bool.Decides.{nat_tests}
 use Rattle.std.proofs.lemmas.List.Elements.{All-head, All-tail}
 use Rattle.mas_types.specs.declared.ids.MemberId.{MemberId}
 use Rattle.mas_types.specs.declared.jobs.JobFields.{JobFields}
@@ -15,8 +16,8 @@ use Rattle.mas_types.specs.declared.queues.Owner.TheVariants as owner
 use Rattle.mas_types.specs.declared.queues.Queue.{Queue}
 use Rattle.mas_types.specs.declared.ids.JobNo.{JobNo}
 use Rattle.mas_types.specs.Owners.{freed, is_members, is_of_any, is_output_of, deck_places, groups_needed}
-use Rattle.mas_types.specs.Queue.{job_at, is_of}
-use Rattle.mas_types.specs.Step.{row_of}
+use Rattle.mas_types.specs.Queue.{job_at, is_member, is_of}
+use Rattle.mas_types.specs.Step.{may_give, row_of}
 use Rattle.mas_types.specs.Commands.Input.{begin_row, enter_row, not_in_input}
 use Rattle.mas_types.specs.Commands.Operator.{is_busy, without_outputs_of}
 use Rattle.queue_laws.proofs.Done.{done_keeps}
@@ -26,7 +27,7 @@ use Rattle.first_script.specs.declared.asked.Asked.{Asked}
 use Rattle.first_script.specs.declared.asked.Asked.TheVariants as asked
 use Rattle.first_script.specs.Commands.{is_played}
 use Rattle.mas_complex.specs.Meaning.{step, run}
-use Rattle.table_commands.specs.Stored.{IsGiver, is_plain}
+use Rattle.table_commands.specs.Given.{IsGiver, is_plain}
 use Rattle.mas_run.specs.Decks.{sysa, entering, entries_of, deck_entries}
 use Rattle.mas_run.specs.Entering.{HasNoGroups}
 use Rattle.mas_run.specs.Steps.{IsFitFor, after_step, queue_after}
@@ -72,6 +73,43 @@ played command.Restart is = absurd (cc)
 played (command.Load line) is = absurd (cc)
 played (command.Sent line number) is = absurd (cc)
 played (command.Got line number job text) is = absurd (cc)
+
+sysa_is_there : (Q : Queue) → 1 ≤ Q.config.members → is_member Q.config sysa ≡ true
+sysa_is_there Q some = let le : nat_le 1 Q.config.members ≡ true = grind (arith, nat_tests, some) in le
+
+-- and where there is a member, it may give it
+pub may_played : (Q : Queue) (c : Command) → is_played c ≡ true → 1 ≤ Q.config.members → may_give Q sysa c ≡ true
+may_played Q (command.Hold job) is some = sysa_is_there Q some
+may_played Q (command.Release job) is some = sysa_is_there Q some
+may_played Q (command.Cancel job) is some = sysa_is_there Q some
+may_played Q (command.SetPrio job prio) is some = sysa_is_there Q some
+may_played Q (command.SetClass job class) is some = sysa_is_there Q some
+may_played Q (command.Out job) is some = sysa_is_there Q some
+may_played Q (command.CancelOut job index) is some = sysa_is_there Q some
+may_played Q (command.SetOut job index class) is some = sysa_is_there Q some
+may_played Q (command.Show what) is some = sysa_is_there Q some
+may_played Q (command.SetInit classes) is some = sysa_is_there Q some
+may_played Q (command.SetPrt classes forms lines) is some = sysa_is_there Q some
+may_played Q (command.Back lines) is some = sysa_is_there Q some
+may_played Q (command.Forward lines) is some = sysa_is_there Q some
+may_played Q (command.Begin fields) is some = absurd (cc)
+may_played Q (command.Take want) is some = absurd (cc)
+may_played Q (command.Drop job) is some = absurd (cc)
+may_played Q (command.Enter job text) is some = absurd (cc)
+may_played Q command.TakeConvert is some = absurd (cc)
+may_played Q (command.Converted job) is some = absurd (cc)
+may_played Q command.TakeExec is some = absurd (cc)
+may_played Q (command.Ended job specs) is some = absurd (cc)
+may_played Q command.Gather is some = absurd (cc)
+may_played Q command.Pick is some = absurd (cc)
+may_played Q (command.Mark job index at) is some = absurd (cc)
+may_played Q (command.Done job index) is some = absurd (cc)
+may_played Q command.Purge is some = absurd (cc)
+may_played Q (command.Reset of_member) is some = absurd (cc)
+may_played Q command.Restart is some = absurd (cc)
+may_played Q (command.Load line) is some = absurd (cc)
+may_played Q (command.Sent line number) is some = absurd (cc)
+may_played Q (command.Got line number job text) is some = absurd (cc)
 
 module _ (by : MemberId) where
   abbrev HasNone : Queue → Type 0

@@ -29,7 +29,7 @@ use Rattle.mas_complex.specs.Meaning.{Closes, step}
 use Rattle.member_node.specs.declared.member.NodeNo.{NodeNo}
 use Rattle.member_node.specs.declared.member.NodeNo.TheVariants as no_node
 use Rattle.member_node.specs.Calls.{IsLeft}
-use Rattle.member_node.specs.Standing.{queue_of}
+use Rattle.table_queues.specs.Telling.{Tell}
 use Rattle.member_node.specs.Writes.{IsWrite}
 use Rattle.member_node.proofs.CourseLemmas.{course_none, left, only_none}
 use Rattle.member_steps.specs.Steps.{AreAllKept}
@@ -89,10 +89,11 @@ none_held picks (g ∷ gs) =
     let one : is_held_by picks (if is_held_by picks g then owner.Free else g) ≡ false = by_test (is_held_by picks g) (λ e. rw e refl) (λ e. rw e e) in
     rw one (none_held picks gs)
 
-pub restarted : (old new : Tables) (m : MemberId) → new.config ≡ old.config → queue_of new ≡ (step (queue_of old) m Restart).0 → list_any (is_held_by (is_member new.config)) new.owners ≡ false
-restarted old new m same effect =
+pub restarted : (old new : Tables) (m : MemberId) → new.config ≡ old.config → (Q : Queue) → Tell old Q → Tell new (step Q m Restart).0 → list_any (is_held_by (is_member new.config)) new.owners ≡ false
+restarted old new m same Q told effect =
     subst (λ (c : Config). list_any (is_held_by (is_member c)) new.owners ≡ false) (sym same)
-    (subst (λ (gs : List Owner). list_any (is_held_by (is_member old.config)) gs ≡ false) (sym (ap (λ (Q : Queue). Q.owners) effect)) (none_held (is_member old.config) old.owners))
+    (subst (λ (c : Config). list_any (is_held_by (is_member c)) new.owners ≡ false) told.config
+    (subst (λ (gs : List Owner). list_any (is_held_by (is_member Q.config)) gs ≡ false) effect.owners (none_held (is_member Q.config) Q.owners)))
 
 -- A WARM RUN AFTER RESTART
 

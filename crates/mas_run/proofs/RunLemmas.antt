@@ -29,7 +29,11 @@ use Rattle.mas_types.specs.declared.journals.Fate.TheVariants.{Kept, Dropped, Fl
 use Rattle.mas_types.specs.declared.queues.Queue.{Queue}
 use Rattle.mas_types.specs.declared.answers.Status.{Status}
 use Rattle.mas_types.specs.declared.answers.Status.TheVariants as status
-use Rattle.mas_types.specs.Starts.{default_config}
+use Rattle.mas_types.specs.Starts.{default_config, empty_queue}
+use Rattle.mas_types.specs.Fit.{IsConfig}
+use Rattle.mas_types.proofs.EmptyQueue.{empty_queue-sound}
+use Rattle.table_queues.specs.Telling.{Tell, TellSound}
+use Rattle.mas_complex.specs.Texts.{HasTexts, Spools}
 use Rattle.spool_disk.specs.View.{View, Line, Disk}
 use Rattle.spool_disk.specs.declared.plant.Part.TheVariants.{Disk as DiskPart, Console}
 use Rattle.spool_disk.specs.Acts.{Goes, Rose, top}
@@ -342,6 +346,18 @@ fit_empty t is shape = record {
 
 pub groups_empty : (t : Tables) → t ≡ empty_tables default_config [] → HasNoGroups sysa t.owners
 groups_empty t is = subst (λ (u : Tables). HasNoGroups sysa u.owners) (sym is) (none_of sysa 512)
+
+pub told_empty : (t : Tables) (Q : Queue) → t ≡ empty_tables default_config [] → Q ≡ empty_queue default_config [] → Tell (empty_tables default_config []) (empty_queue default_config []) → Tell t Q
+told_empty t Q is queue told = subst (Tell t) (sym queue) (subst (λ (u : Tables). Tell u (empty_queue default_config [])) (sym is) told)
+
+pub sound_empty : (t : Tables) → t ≡ empty_tables default_config [] → IsConfig t.config → Tell (empty_tables default_config []) (empty_queue default_config []) → TellSound t
+sound_empty t is config told =
+    let fits : IsConfig default_config = subst (λ (u : Tables). IsConfig u.config) is config in
+    subst TellSound (sym is) (record { queue = empty_queue default_config []; told = told; sound = empty_queue-sound default_config [] fits (omega arith) })
+
+-- it has no texts
+pub empty_texts : (gone : ℕ → Bool) (disks : Spools) (Q : Queue) → Q ≡ empty_queue default_config [] → HasTexts gone disks Q.config.groups Q
+empty_texts gone disks Q is = subst (λ (R : Queue). HasTexts gone disks R.config.groups R) (sym is) (record { decks = All-nil _; outputs = All-nil _ })
 
 step_may : (s : Asked) → IsFitStep default_config.node s → IsFitFor default_config s
 step_may (asked_of.Deck fields) fit = record { node = ap (λ n. same_name n default_config.node) fit.0 ∙ refl; fit = fit.2 (codes "HERE", refl, refl) }

@@ -1,33 +1,42 @@
 -- A warm run: what its start leaves, and why it doesn't begin.
-use Rattle.std.proofs.Common.{◌≡◌, ◌≢◌, ◌⊎◌, inl, inr, ⊎_elim, ℕ, ◌≤◌, nat_lt, Bool, true, false, List, refl, sym, ◌∙◌, ap, subst, arith}
+use Rattle.std.proofs.Common.{◌≡◌, ◌≢◌, ◌⊎◌, inl, inr, ⊎_elim, ℕ, ◌≤◌, nat_le, nat_lt, Bool, true, false, List, [], ◌∷◌, refl, sym, ◌∙◌, ap, subst, arith}
+use Rattle.std.proofs.lemmas.Bool.{or_parts}
 use Rattle.std.proofs.lemmas.Bool.Decides.{nat_tests}
+use Rattle.std.proofs.lemmas.List.Elements.{All-weaker}
+use Rattle.mas_types.specs.declared.ids.GroupNo.{GroupNo}
+use Rattle.mas_types.specs.declared.queues.Thing.TheVariants.{Deck, Output}
 use Rattle.mas_types.specs.declared.ids.Dev.{Dev}
 use Rattle.mas_types.specs.declared.ids.Dev.TheVariants.{Ckpt1, Ckpt2, Spool}
 use Rattle.mas_types.specs.declared.ids.Page.{Page}
 use Rattle.mas_types.specs.declared.answers.Status.{Status}
 use Rattle.mas_types.specs.declared.answers.Status.TheVariants as status
+use Rattle.mas_types.specs.declared.queues.Config.{Config}
 use Rattle.mas_types.specs.declared.queues.Queue.{Queue}
 use Rattle.mas_types.specs.Starts.{no_queue}
 use Rattle.ckpt_copy.specs.Areas.{reads, areas_size}
 use Rattle.ckpt_copy.specs.Pages.{bytes_of, level}
 use Rattle.ckpt_pages.specs.declared.tables.Tables.{Tables}
 use Rattle.ckpt_pages.specs.Checkpoints.{IsCheckpoint}
-use Rattle.spool_disk.specs.declared.plant.Part.TheVariants.{Console}
-use Rattle.spool_disk.specs.View.{View, World, disk_now}
+use Rattle.spool_disk.specs.declared.plant.Part.TheVariants.{Console, Disk as DiskPart}
+use Rattle.spool_disk.specs.View.{View, World, Disk, disk_now}
 use Rattle.spool_disk.specs.Acts.{Goes}
-use Rattle.duplex_pair.specs.Both.{BothMeanwhile}
+use Rattle.table_queues.specs.Telling.{Tell}
+use Rattle.ckpt_copy.specs.Changes.{NoMore}
+use Rattle.mas_complex.specs.Texts.{HasTexts, IsThereUnless, lies_on, lost_now, spools_at}
+use Rattle.spool_volumes.specs.Volumes.{volume_of}
+use Rattle.track_groups.specs.Places.{groups_of}
 use Rattle.warm_start.specs.declared.choosing.StartNo.{StartNo}
 use Rattle.warm_start.specs.declared.choosing.StartNo.TheVariants as no_start
 use Rattle.warm_start.specs.Levels.{levels_of}
-use Rattle.warm_start.specs.Starting.{IsCauseOf, Starts, IsOnce, IsHeld}
+use Rattle.warm_start.specs.Starting.{IsCauseOf, Starts, IsOnce, IsHeld, WhileStarting}
 use Rattle.warm_start.specs.Usable.{AreOf, HaveSize}
 use Rattle.warm_start.proofs.LevelLemmas.{their_levels}
-use Rattle.member_node.specs.Calls.{Grows}
+use Rattle.member_node.specs.Calls.{Grows, IsOnlyOn}
 use Rattle.member_node.specs.Drawn.{AreDrawn}
-use Rattle.member_node.specs.Standing.{queue_of}
-use Rattle.member_node.proofs.CourseLemmas.{lost_later, lost_more}
+use Rattle.member_node.proofs.CourseLemmas.{lost_later, lost_more, only_none}
 use Rattle.member_node.proofs.DrawnLemmas.{drawn_level}
 use Rattle.mas_run.specs.Runs.{has_begun, Begins, LosesFirst, IsHeldUntil}
+use Rattle.mas_run.specs.Volumes.{AreVolumesKept, IsElsewhere}
 use Rattle.mas_run.specs.Statuses.{IsCaused, IsCausedFrom, is_of_play, is_of_text}
 use Rattle.mas_run.specs.Unstarted.{status_of_start, IsNotStarted}
 
@@ -43,8 +52,8 @@ found_drawn pages t levels at are sized leveled is =
     subst (λ (n : ℕ). AreDrawn t n levels pages) (sym same) (subst (λ (ls : List ℕ). AreDrawn t c.level ls pages) (sym lists) drawn)
 
 -- its queue has members
-pub found_begun : (pages : List Page) (t : Tables) (base : Queue) → AreOf pages t → base ≡ queue_of t → has_begun base ≡ true
-found_begun pages t base are is = ap has_begun is ∙ some t.config.members are.0.fit.shape.config.members.0 where
+pub found_begun : (pages : List Page) (t : Tables) (base : Queue) → AreOf pages t → Tell t base → has_begun base ≡ true
+found_begun pages t base are told = ap (λ (c : Config). nat_lt 0 c.members) told.config ∙ some t.config.members are.0.fit.shape.config.members.0 where
   some : (n : ℕ) → 1 ≤ n → nat_lt 0 n ≡ true
   some n le = grind (arith, nat_tests)
 
@@ -149,9 +158,56 @@ pub no : (base : Queue) → has_begun base ≡ true → has_begun base ≡ false
 no base p q = cc
 
 -- what an image was during the start, it was when the run has ended
-pub held_until : (v0 v1 v2 : View) (found : List ℕ) → Goes v1 v2 → BothMeanwhile (IsHeld reads (disk_now v0 Ckpt1) found) (IsHeld reads (disk_now v0 Ckpt2) found) v0 v1 → IsHeldUntil v1.now v0 v2
+pub held_until : (v0 v1 v2 : View) (found : List ℕ) → Goes v1 v2 → WhileStarting (IsHeld reads (disk_now v0 Ckpt1) found) (IsHeld reads (disk_now v0 Ckpt2) found) v0 v1 → IsHeldUntil v1.now v0 v2
 held_until v0 v1 v2 found goes held = record {
   found = found;
   first = λ t from le. subst (λ (w : World). IsHeld reads (disk_now v0 Ckpt1) found (w.disk Ckpt1)) (sym (goes.past t le)) (held.first t from le);
   second = λ t from le. subst (λ (w : World). IsHeld reads (disk_now v0 Ckpt2) found (w.disk Ckpt2)) (sym (goes.past t le)) (held.second t from le);
 }
+
+-- what the volumes were during the start, they were when the run has ended, and since then they are as they were at its end
+pub volumes_on : (v0 v1 v2 : View) → v0.now ≤ v1.now → Goes v1 v2 → AreVolumesKept v0 v1 → IsOnlyOn v1 v2 → AreVolumesKept v0 v2
+volumes_on v0 v1 v2 later goes held only t from le n =
+    ⊎_elim
+    (λ before. subst (λ (w : World). NoMore (disk_now v0 (Spool n)) (w.disk (Spool n))) (sym (goes.past t before)) (held t from before n))
+    (λ after. subst (NoMore (disk_now v0 (Spool n))) (sym (only t after le (Spool n) (λ e. absurd (cc)) (λ e. absurd (cc)))) (held v1.now later (omega arith) n))
+    (by_order t v1.now)
+  where
+    by_order : (a b : ℕ) → (a ≤ b) ⊎ (b ≤ a)
+    by_order a b = by_alive (nat_le a b) (λ e. inl (grind (arith, nat_tests, e))) (λ e. inr (grind (arith, nat_tests, e)))
+
+-- texts that stood on the volumes at a moment still stood there then, but for those with a group on a volume that is lost since
+lost_more_of : (gone later : ℕ → Bool) → ((n : ℕ) → gone n ≡ true → later n ≡ true) → (per : ℕ) (groups : List GroupNo) → lies_on later per groups ≡ false → lies_on gone per groups ≡ false
+lost_more_of gone later more per [] none = refl
+lost_more_of gone later more per (g ∷ groups) none =
+    let parts = or_parts (later (volume_of per g)) (lies_on later per groups) none in
+    rw (not_gone (gone (volume_of per g)) (later (volume_of per g)) (more (volume_of per g)) parts.0) (lost_more_of gone later more per groups parts.1)
+  where
+    not_gone : (a b : Bool) → (a ≡ true → b ≡ true) → b ≡ false → a ≡ false
+    not_gone true b to no = absurd (let e = to refl in cc)
+    not_gone false b to no = refl
+
+pub texts_later : (v1 v2 : View) (per : ℕ) (Q : Queue) → Goes v1 v2 → HasTexts (lost_now v1) (spools_at v1 v1.now) per Q → HasTexts (lost_now v2) (spools_at v2 v1.now) per Q
+texts_later v1 v2 per Q goes has = subst (λ (w : World). HasTexts (lost_now v2) (λ n. w.disk (Spool n)) per Q) (sym (goes.past v1.now (omega arith)))
+    (record {
+      decks = All-weaker (λ j. IsThereUnless (lost_now v1) (spools_at v1 v1.now) per j.text (groups_of (Deck j.number) Q.owners)) (λ j. IsThereUnless (lost_now v2) (spools_at v1 v1.now) per j.text (groups_of (Deck j.number) Q.owners))
+          (λ j is none. is (lost_more_of (lost_now v1) (lost_now v2) (λ n. goes.lost (DiskPart (Spool n))) per (groups_of (Deck j.number) Q.owners) none)) Q.jobs has.decks;
+      outputs = All-weaker (λ o. IsThereUnless (lost_now v1) (spools_at v1 v1.now) per o.text (groups_of (Output o.job o.index) Q.owners)) (λ o. IsThereUnless (lost_now v2) (spools_at v1 v1.now) per o.text (groups_of (Output o.job o.index) Q.owners))
+          (λ o is none. is (lost_more_of (lost_now v1) (lost_now v2) (λ n. goes.lost (DiskPart (Spool n))) per (groups_of (Output o.job o.index) Q.owners) none)) Q.outputs has.outputs;
+    })
+
+-- where nothing was done
+no_more : (disk : Disk) → NoMore disk disk
+no_more disk = record { bytes = refl; unsynced = λ s avoids. avoids; there = λ e. e }
+
+kept_on : (old new : View) → IsOnlyOn old new → AreVolumesKept old new
+kept_on old new only t from le n = subst (NoMore (disk_now old (Spool n))) (sym (only t from le (Spool n) (λ e. absurd (cc)) (λ e. absurd (cc)))) (no_more (disk_now old (Spool n)))
+
+pub none_elsewhere : (cold : Bool) (v : View) → IsElsewhere cold v v
+none_elsewhere true v = only_none v
+none_elsewhere false v = kept_on v v (only_none v)
+
+-- a cold run leaves the volumes too
+pub volumes_of : (cold : Bool) (old new : View) → IsElsewhere cold old new → AreVolumesKept old new
+volumes_of true old new only = kept_on old new only
+volumes_of false old new kept = kept

@@ -14,10 +14,8 @@ use Rattle.mas_types.specs.declared.queues.Owner.{Owner}
 use Rattle.mas_types.specs.Ids.{nobody, same_name}
 use Rattle.mas_types.specs.Owners.{is_members}
 use Rattle.mas_types.specs.Fit.{IsJobFields}
-use Rattle.mas_types.specs.Number.{next_number}
 use Rattle.lay_bytes.specs.declared.records.JobRec.{JobRec}
 use Rattle.ckpt_pages.specs.declared.tables.Tables.{Tables}
-use Rattle.member_node.specs.Standing.{queue_of}
 
 -- a job of these fields is one of the configuration's node
 pub record AreFieldsFor (config : Config) (fields : JobFields) : Type 0 where
@@ -27,10 +25,6 @@ pub record AreFieldsFor (config : Config) (fields : JobFields) : Type 0 where
 -- the member has no groups
 abbrev pub HasNoGroups : MemberId → List Owner → Type 0
 HasNoGroups by owners = list_any (is_members by) owners ≡ false
-
--- the number of a new job
-abbrev pub new_number : Tables → JobNo
-new_number t = next_number (queue_of t).jobs t.last
 
 -- a job that was entered, and waits for its conversion
 abbrev pub in_convert : JobFields → JobNo → ℕ → JobRec

@@ -6,6 +6,7 @@ pub mod Entering
 pub mod Statuses
 pub mod Stops
 pub mod Resets
+pub mod Volumes
 pub mod Runs
 pub mod Unstarted
 pub mod Plays

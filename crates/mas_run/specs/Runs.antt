@@ -20,11 +20,12 @@ use Rattle.mas_types.specs.declared.ids.Page.{Page}
 use Rattle.mas_types.specs.Ids.{nobody}
 use Rattle.mas_complex.specs.Journals.{kept_all}
 use Rattle.mas_complex.specs.Meaning.{run}
+use Rattle.mas_complex.specs.Texts.{HasTexts, lost_now, spools_at}
+use Rattle.table_queues.specs.Telling.{Tell}
 use Rattle.warm_start.specs.Usable.{AreOf}
 use Rattle.mas_run.specs.Resets.{restart_entries}
 use Rattle.warm_start.specs.Starting.{IsFound, IsUnfit, IsHeld}
 use Rattle.member_node.specs.Calls.{console_now}
-use Rattle.member_node.specs.Standing.{queue_of}
 use Rattle.member_steps.specs.Saying.{torn}
 use Rattle.mas_complex.specs.Headline.{whole, IsCrashSafe, AreAlwaysAlike, LeavesQueue, AreToldKept}
 use Rattle.mas_run.specs.Decks.{sysa}
@@ -129,21 +130,23 @@ abbrev pub IsOpened : Bool → Status → ℕ → ℕ → List Batch → ℕ →
 IsOpened true answer since at opening kept rest = (opening ≡ []) × (at ≡ since)
 IsOpened false answer since at opening kept rest = IsReset answer since at opening kept rest
 
--- The queue of the pages that a warm run finds. A copy had been lost by a call before the steps only where it may not stay beside
--- these pages.
-pub record IsFoundQueue (tells : Type 0) (old new : View) (first : Dev → ℕ) (base : Queue) : Type 0 where
+-- The queue of the pages that a warm run finds: their tables tell it, and its texts stood on the spool volumes at the run's first
+-- moment, all of them synced, but for those with a group on a volume that is lost. A copy had been lost by a call before the steps
+-- only where it may not stay beside these pages.
+pub record IsFoundQueue (tells : Type 0) (old new : View) (since : ℕ) (first : Dev → ℕ) (base : Queue) : Type 0 where
   pub pages : List Page
   pub tables : Tables
   pub are : AreOf pages tables
-  pub is : base ≡ queue_of tables
+  pub told : Tell tables base
+  pub texts : tells → HasTexts (lost_now new) (spools_at new since) base.config.groups base
   pub found : tells → IsFound reads old new (bytes_of pages)
   pub kept1 : tells → (first Ckpt1 ≡ old.loses Ckpt1) ⊎ IsUnfit reads Ckpt1 old new pages
   pub kept2 : tells → (first Ckpt2 ≡ old.loses Ckpt2) ⊎ IsUnfit reads Ckpt2 old new pages
 
 -- a cold run begins with the empty queue of the default configuration, a warm one with the queue found
-abbrev pub HasBase : Bool → Type 0 → View → View → (Dev → ℕ) → Queue → Type 0
-HasBase true tells old new first base = base ≡ empty_queue default_config []
-HasBase false tells old new first base = IsFoundQueue tells old new first base
+abbrev pub HasBase : Bool → Type 0 → View → View → ℕ → (Dev → ℕ) → Queue → Type 0
+HasBase true tells old new since first base = base ≡ empty_queue default_config []
+HasBase false tells old new since first base = IsFoundQueue tells old new since first base
 
 -- before a warm run's first moment an image of a copy is one of the entry, or reads as the copy did or as the pages found
 pub record IsHeldUntil (since : ℕ) (old new : View) : Type 0 where
@@ -221,7 +224,7 @@ pub record IsRun (cold : Bool) (tells : Type 0) (asked : List Asked) (answer : S
   pub first : Dev → ℕ
   pub before : (d : Dev) → LosesFirst cold (old.loses d) (first d)
   -- it began with its base, which the copies had then, and nothing was said before
-  pub queue : HasBase cold tells old new first base
+  pub queue : HasBase cold tells old new since first base
   pub moment : (old.now ≤ since) × (since ≤ new.now)
   pub fresh : tells → ∥ LeavesQueue reads base since new ∥₁
   pub quiet : tells → (new.world since).console ≡ console_now old

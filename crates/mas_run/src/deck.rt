@@ -1,5 +1,5 @@
 //! A deck's commands on a member's tables.
-ghost use Rattle.std.specs.Prelude.{◌≡◌, ◌+◌, ◌≤◌, ◌<◌, ◌^◌, [], ◌++◌, OnOk, IfOk};
+ghost use Rattle.std.specs.Prelude.{◌≡◌, ◌+◌, ◌≤◌, ◌<◌, ◌^◌, [], ◌++◌, length, OnOk, IfOk};
 ghost use Rattle.mas_types.specs.declared.commands.Reply.TheVariants.{Job};
 ghost use Rattle.mas_types.specs.declared.queues.Queue.{Queue};
 ghost use Rattle.mas_types.specs.Closings.{IsReplyNamed};
@@ -7,7 +7,7 @@ ghost use Rattle.mas_types.specs.Limits.{members_most};
 ghost use Rattle.ckpt_pages.specs.Shape.{HasSpelling};
 ghost use Rattle.queue_effect.specs.Standing.{AreFit};
 ghost use Rattle.member_node.specs.Batches.{HasDone, last_reply};
-ghost use Rattle.member_node.specs.Standing.{queue_of};
+ghost use Rattle.table_queues.specs.Telling.{Tell, TellSound};
 ghost use Rattle.mas_run.specs.Decks.{deck_entries, deck_lines};
 ghost use Rattle.mas_run.specs.Entering.{job_entries, full_entries, AreFieldsFor, HasNoGroups};
 
@@ -78,9 +78,11 @@ fn do_deck(member: &mut Member, alloc: Global, step: u32, fields: JobFields) -> 
     ensures id { member.new.id ≡ member.old.id }
     ensures level { member.new.checkpoint.level ≡ member.old.checkpoint.level }
     ensures pages { member.new.checkpoint.pages ≡ member.old.checkpoint.pages }
-    ensures entries { OnOk result (member.new.batch ≡ deck_entries (queue_of member.old.checkpoint.tables) member.old.id step fields) }
+    ensures some { OnOk result (1 ≤ length member.new.batch) }
+    ensures entries { OnOk result ((Q : Queue) → Tell member.old.checkpoint.tables Q → member.new.batch ≡ deck_entries Q member.old.id step fields) }
     ensures named { OnOk result (IsReplyNamed (last_reply member.new.batch)) }
     ensures done { OnOk result ((Q : Queue) → HasDone Q member.old.batch member.old.checkpoint → HasDone Q member.new.batch member.new.checkpoint) }
+    ensures sound { OnOk result (TellSound member.old.checkpoint.tables → TellSound member.new.checkpoint.tables) }
     ensures order { member.new.checkpoint.tables.order ≤ member.old.checkpoint.tables.order + 1 }
     ensures config { member.new.checkpoint.tables.config ≡ member.old.checkpoint.tables.config }
 {
@@ -111,9 +113,10 @@ pub(crate) fn give_deck(
     ensures id { member.new.id ≡ member.old.id }
     ensures level { member.new.checkpoint.level ≡ member.old.checkpoint.level }
     ensures pages { member.new.checkpoint.pages ≡ member.old.checkpoint.pages }
-    ensures entries { OnOk result (member.new.batch ≡ deck_entries (queue_of member.old.checkpoint.tables) member.old.id step fields) }
-    ensures lines { IfOk result (λ lines. lines ≡ deck_lines (queue_of member.old.checkpoint.tables) member.old.id step fields) }
+    ensures entries { OnOk result ((Q : Queue) → Tell member.old.checkpoint.tables Q → member.new.batch ≡ deck_entries Q member.old.id step fields) }
+    ensures lines { IfOk result (λ lines. (Q : Queue) → Tell member.old.checkpoint.tables Q → lines ≡ deck_lines Q member.old.id step fields) }
     ensures done { OnOk result ((Q : Queue) → HasDone Q member.old.batch member.old.checkpoint → HasDone Q member.new.batch member.new.checkpoint) }
+    ensures sound { OnOk result (TellSound member.old.checkpoint.tables → TellSound member.new.checkpoint.tables) }
     ensures order { member.new.checkpoint.tables.order ≤ member.old.checkpoint.tables.order + 1 }
     ensures config { member.new.checkpoint.tables.config ≡ member.old.checkpoint.tables.config }
 {

@@ -20,6 +20,7 @@ use mas_complex::{Complex, Steady};
 use mas_types::JobFields;
 use member_node::{Member, NodeNo};
 use member_steps::{deny, play_batch};
+use queue_texts::law_of_texts;
 use spool_disk::Plant;
 use std::alloc::Global;
 
@@ -65,6 +66,8 @@ fn play_held<P: Plant + Drop, C: Steady + Drop>(
     let Ok(lines) = give_deck(member, alloc, step, fields) else {
         return Err(NodeNo::NoMemory);
     };
+    complex.kept_texts();
+    law_of_texts();
     play_batch(member, alloc, complex, &lines)
 }
 

@@ -11,7 +11,7 @@ ghost use Rattle.ckpt_copy.specs.Areas.{reads, areas_size};
 ghost use Rattle.ckpt_pages.specs.Shape.{page_count};
 ghost use Rattle.duplex_pair.specs.Halves.{SomeAlive};
 ghost use Rattle.first_script.specs.Steps.{IsFitStep};
-ghost use Rattle.warm_start.specs.Starting.{OnlyLooked};
+ghost use Rattle.warm_start.specs.Starting.{OnlyLookedAtAll};
 ghost use Rattle.first_script.specs.Nodes.{at_node as at_node_lem, step_at};
 ghost use Rattle.member_node.specs.Calls.{Grows, IsOnlyOn, console_now};
 ghost use Rattle.member_node.specs.Copies.{RestsAt};
@@ -22,6 +22,7 @@ ghost use Rattle.mas_run.specs.Turns.{turns_from};
 ghost use Rattle.mas_run.specs.Steps.{IsFitFor};
 ghost use Rattle.mas_run.specs.Runs.{has_begun, Begins, IsUnbegun, HasSteps, IsRun};
 ghost use Rattle.mas_run.specs.Statuses.{IsCaused, IsCausedFrom, is_of_play, is_of_text};
+ghost use Rattle.mas_run.specs.Volumes.{AreVolumesKept};
 ghost use Rattle.mas_run.specs.Unstarted.{status_of_start as status_of_start_lem, IsNotStarted};
 
 use crate::ended::Ended;
@@ -35,6 +36,7 @@ use member_node::{Checkpoint, Member};
 use queue_effect::law_of_fit_tables;
 use spool_disk::Plant;
 use std::alloc::Global;
+use table_queues::law_of_told_queues;
 use warm_start::{StartNo, Started, Unstarted, warm};
 
 /// The operator, who gives Restart.
@@ -157,11 +159,11 @@ pub(crate) fn play_warm<P: Plant + Drop>(alloc: Global, asked: List<Asked>, plan
     ensures cause { IsCaused result.status (P.view plant) (P.view result.plant) }
     ensures begun { Begins result.status result.base }
     ensures unbegun { has_begun result.base ≡ false → IsUnbegun result.base result.journal result.since (P.view result.plant).now }
-    ensures untouched { has_begun result.base ≡ false → (result.status ≡ Status.BothLost) ⊎ (P.tells → OnlyLooked (P.view plant) (P.view result.plant)) }
+    ensures untouched { has_begun result.base ≡ false → (result.status ≡ Status.BothLost) ⊎ (P.tells → OnlyLookedAtAll (P.view plant) (P.view result.plant)) }
     ensures unsaid { P.tells → has_begun result.base ≡ false → console_now (P.view result.plant) ≡ console_now (P.view plant) }
     ensures goes { Goes (P.view plant) (P.view result.plant) }
     ensures loses { has_begun result.base ≡ false → result.status ≢ Status.BothLost → (d : Dev) → (P.view result.plant).loses d ≡ (P.view plant).loses d }
-    ensures elsewhere { P.tells → IsOnlyOn (P.view plant) (P.view result.plant) }
+    ensures elsewhere { P.tells → AreVolumesKept (P.view plant) (P.view result.plant) }
     ensures room { has_begun result.base ≡ true → (areas_size (page_count result.base.config) ≤ (P.view plant).size Ckpt1) × (areas_size (page_count result.base.config) ≤ (P.view plant).size Ckpt2) }
     ensures run { has_begun result.base ≡ true → IsRun false P.tells (at_node_lem result.base.config.node asked) result.status result.base result.journal result.since (P.view plant) (P.view result.plant) }
 {
@@ -174,6 +176,7 @@ pub(crate) fn play_warm<P: Plant + Drop>(alloc: Global, asked: List<Asked>, plan
         Err(Unstarted { plant, why }) => return unbegun(alloc, status_of_start(why), plant),
     };
     law_of_fit_tables();
+    law_of_told_queues();
     let asked = moved(asked, found.tables.config.node);
     play_reset(alloc, asked.as_slice(), running_of(alloc, found))
 }

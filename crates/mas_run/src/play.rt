@@ -40,6 +40,7 @@ use mas_types::{
 use member_node::{Checkpoint, Member, NodeNo, blank};
 use spool_disk::Plant;
 use std::alloc::Global;
+use table_queues::law_of_told_queues;
 
 /// The operator, who formats the copies.
 const OPERATOR: MemberId = MemberId(0);
@@ -210,6 +211,7 @@ pub(crate) fn play_cold<P: Plant + Drop>(alloc: Global, asked: &[Asked], plant: 
     let Ok(()) = pair.form(&mut plant, OPERATOR, checkpoint.pages.as_slice()) else {
         return unbegun(alloc, Status::BothLost, plant);
     };
+    law_of_told_queues();
     let level = checkpoint.level;
     let complex = Complex::make(alloc, plant, pair, base, level);
     let member = Member::new(alloc, SYSA, checkpoint);

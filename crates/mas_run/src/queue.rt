@@ -1,12 +1,14 @@
 //! A deck's commands on the tables of a queue.
-ghost use Rattle.std.specs.Prelude.{◌≡◌, ◌+◌, ◌<◌, ◌^◌, ℕ, Some, None, length, slice_get, true, false};
+ghost use Rattle.std.specs.Prelude.{◌≡◌, ◌+◌, ◌≤◌, ◌<◌, ◌^◌, ℕ, Some, None, length, slice_get, true, false};
+ghost use Rattle.mas_types.specs.declared.queues.Queue.{Queue};
+ghost use Rattle.mas_types.specs.Number.{next_number as next_number_of};
 ghost use Rattle.ckpt_pages.specs.QueueOf.{used};
 ghost use Rattle.ckpt_pages.specs.Shape.{HasSpelling};
 ghost use Rattle.mas_complex.specs.Meaning.{run};
 ghost use Rattle.mas_run.specs.Decks.{deck_entries};
 ghost use Rattle.queue_effect.specs.Standing.{AreFit};
-ghost use Rattle.member_node.specs.Standing.{queue_of};
-ghost use Rattle.mas_run.specs.Entering.{AreFieldsFor, HasNoGroups, HasEntered, with_job, new_number, job_entries, full_entries};
+ghost use Rattle.table_queues.specs.Telling.{Tell, TellSound};
+ghost use Rattle.mas_run.specs.Entering.{AreFieldsFor, HasNoGroups, HasEntered, with_job, job_entries, full_entries};
 
 use ckpt_pages::Tables;
 use job_queue::next_number;
@@ -16,8 +18,10 @@ use slot_order::free_slot;
 
 // The number of a new job.
 fn number_in(tables: &Tables) -> JobNo
-    requires { HasSpelling tables.now }
-    ensures { result ≡ new_number tables.now }
+    requires spelling { HasSpelling tables.now }
+    requires room { length (used tables.now.jobs) < length tables.now.jobs }
+    ensures told { (Q : Queue) → Tell tables.now Q → result ≡ next_number_of Q.jobs Q.last }
+    ensures within { (1 ≤ result.0) × (result.0 ≤ 99999) }
 {
     next_number(tables.jobs.as_slice(), tables.last)
 }
@@ -65,13 +69,13 @@ pub(crate) fn enter_job(tables: &mut Tables, by: MemberId, fields: JobFields) ->
     requires room { length (used tables.old.jobs) < length tables.old.jobs }
     requires order { tables.old.order + 1 < 2 ^ 63 }
     ensures job { HasEntered fields result tables.old tables.new }
-    ensures number { result ≡ new_number tables.old }
     ensures spelling { HasSpelling tables.new }
     ensures fit { AreFit tables.new }
     ensures order { tables.new.order ≡ tables.old.order + 1 }
     ensures config { tables.new.config ≡ tables.old.config }
-    ensures entries { (at : ℕ) → deck_entries (queue_of tables.old) by at fields ≡ job_entries by at fields result }
-    ensures effect { (at : ℕ) → run (queue_of tables.old) (deck_entries (queue_of tables.old) by at fields) ≡ queue_of tables.new }
+    ensures entries { (Q : Queue) (at : ℕ) → Tell tables.old Q → deck_entries Q by at fields ≡ job_entries by at fields result }
+    ensures effect { (Q : Queue) (at : ℕ) → Tell tables.old Q → Tell tables.new (run Q (deck_entries Q by at fields)) }
+    ensures sound { TellSound tables.old → TellSound tables.new }
 {
     let number = number_in(tables);
     let job = JobRec {
@@ -94,6 +98,6 @@ pub(crate) fn law_of_full_queues(tables: &Tables, by: MemberId, fields: JobField
     requires groups { HasNoGroups by tables.now.owners }
     requires spelling { HasSpelling tables.now }
     requires full { length (used tables.now.jobs) ≡ length tables.now.jobs }
-    ensures entries { (at : ℕ) → deck_entries (queue_of tables.now) by at fields ≡ full_entries by at fields }
-    ensures effect { (at : ℕ) → run (queue_of tables.now) (deck_entries (queue_of tables.now) by at fields) ≡ queue_of tables.now }
+    ensures entries { (Q : Queue) (at : ℕ) → Tell tables.now Q → deck_entries Q by at fields ≡ full_entries by at fields }
+    ensures effect { (Q : Queue) (at : ℕ) → Tell tables.now Q → run Q (deck_entries Q by at fields) ≡ Q }
 {}

@@ -11,6 +11,7 @@ ghost use Rattle.ckpt_pages.specs.Shape.{HasSpelling};
 ghost use Rattle.duplex_pair.specs.Halves.{SomeAlive};
 ghost use Rattle.mas_complex.specs.Journals.{begun, end_of};
 ghost use Rattle.queue_effect.specs.Standing.{AreFit};
+ghost use Rattle.table_queues.specs.Telling.{TellSound};
 ghost use Rattle.member_node.specs.Batches.{HasDone};
 ghost use Rattle.mas_run.specs.Resets.{restart_entries};
 
@@ -18,6 +19,7 @@ use crate::running::Running;
 use mas_complex::Steady;
 use mas_types::{Command, NoMemory};
 use member_node::{Member, NodeNo};
+use queue_texts::law_of_texts;
 use spool_disk::Plant;
 use std::alloc::Global;
 
@@ -27,12 +29,14 @@ fn give_restart(member: &mut Member, alloc: Global) -> Result<(), NoMemory>
     requires nothing { member.old.batch ≡ [] }
     requires spelling { HasSpelling member.old.checkpoint.tables }
     requires fit { AreFit member.old.checkpoint.tables }
+    requires sound { TellSound member.old.checkpoint.tables }
     requires order { member.old.checkpoint.tables.order + 32 < 2 ^ 63 }
     ensures id { member.new.id ≡ member.old.id }
     ensures level { member.new.checkpoint.level ≡ member.old.checkpoint.level }
     ensures pages { member.new.checkpoint.pages ≡ member.old.checkpoint.pages }
     ensures entries { OnOk result (member.new.batch ≡ restart_entries) }
     ensures done { OnOk result ((Q : Queue) → HasDone Q member.old.batch member.old.checkpoint → HasDone Q member.new.batch member.new.checkpoint) }
+    ensures sound { OnOk result (TellSound member.new.checkpoint.tables) }
     ensures groups { OnOk result (list_any (is_held_by (is_member member.new.checkpoint.tables.config)) member.new.checkpoint.tables.owners ≡ false) }
     ensures config { member.new.checkpoint.tables.config ≡ member.old.checkpoint.tables.config }
     ensures order { member.new.checkpoint.tables.order ≤ member.old.checkpoint.tables.order + 32 }
@@ -80,6 +84,8 @@ impl<P: Plant + Drop, C: Steady + Drop> Running<P, C> {
         let Ok(()) = give_restart(&mut self.member, alloc) else {
             return Err(NodeNo::NoMemory);
         };
+        self.complex.kept_texts();
+        law_of_texts();
         let Ok(draft) = self.member.ready(alloc, &mut self.complex) else {
             return Err(NodeNo::NoMemory);
         };

@@ -10,13 +10,14 @@ ghost use Rattle.mas_types.specs.Lists.{first_some};
 ghost use Rattle.ckpt_copy.specs.Areas.{areas_size};
 ghost use Rattle.ckpt_pages.specs.Shape.{page_count};
 ghost use Rattle.first_script.specs.Script.{read_as};
-ghost use Rattle.warm_start.specs.Starting.{OnlyLooked};
+ghost use Rattle.warm_start.specs.Starting.{OnlyLookedAtAll};
 ghost use Rattle.first_script.specs.Nodes.{at_node};
 ghost use Rattle.mas_run.specs.Unstarted.{IsNotStarted};
 ghost use Rattle.mas_run.specs.Refusals.{refusal_before_play, refused_sizes, Answers, IsPlayedOut, IsSmall, is_of_script, IsAsked};
 ghost use Rattle.mas_run.specs.Runs.{has_begun, Begins, IsUnbegun, IsRun};
 ghost use Rattle.mas_run.specs.Statuses.{IsCaused, IsStill, is_of_text};
-ghost use Rattle.member_node.specs.Calls.{IsOnlyOn, console_now};
+ghost use Rattle.member_node.specs.Calls.{console_now};
+ghost use Rattle.mas_run.specs.Volumes.{IsElsewhere};
 ghost use Rattle.mas_types.specs.declared.answers.CopyState.{CopyState};
 
 use crate::ended::Ended;
@@ -68,11 +69,11 @@ pub fn play_steps<P: Plant + Drop>(
     ensures cause { IsCaused result.status (P.view plant) (P.view result.plant) }
     ensures begun { Begins result.status result.base }
     ensures unbegun { has_begun result.base ≡ false → IsUnbegun result.base result.journal result.since (P.view result.plant).now }
-    ensures untouched { has_begun result.base ≡ false → (result.status ≡ Status.BothLost) ⊎ ((result.plant ≡ plant) ⊎ ((cold ≡ false) × (P.tells → OnlyLooked (P.view plant) (P.view result.plant)))) }
+    ensures untouched { has_begun result.base ≡ false → (result.status ≡ Status.BothLost) ⊎ ((result.plant ≡ plant) ⊎ ((cold ≡ false) × (P.tells → OnlyLookedAtAll (P.view plant) (P.view result.plant)))) }
     ensures unsaid { P.tells → has_begun result.base ≡ false → console_now (P.view result.plant) ≡ console_now (P.view plant) }
     ensures goes { Goes (P.view plant) (P.view result.plant) }
     ensures loses { has_begun result.base ≡ false → (result.status ≢ Status.BothLost) ⊎ (cold ≡ true) → (d : Dev) → (P.view result.plant).loses d ≡ (P.view plant).loses d }
-    ensures elsewhere { P.tells → IsOnlyOn (P.view plant) (P.view result.plant) }
+    ensures elsewhere { P.tells → IsElsewhere cold (P.view plant) (P.view result.plant) }
     ensures room { has_begun result.base ≡ true → (areas_size (page_count result.base.config) ≤ (P.view plant).size Ckpt1) × (areas_size (page_count result.base.config) ≤ (P.view plant).size Ckpt2) }
     ensures run { has_begun result.base ≡ true → IsRun cold P.tells (at_node result.base.config.node asked) result.status result.base result.journal result.since (P.view plant) (P.view result.plant) }
 {
@@ -88,8 +89,9 @@ pub fn play_steps<P: Plant + Drop>(
 ///
 /// The script is read to its end before anything is played. Its steps are decks of a JOB card and operator's commands at SYSA, and losses
 /// of a copy of the checkpoint. A cold run first formats both copies with the empty queue of the default configuration. A warm run looks at
-/// both, takes the usable one of greater level, CKPT1 on a tie, loses the other one where it can't be used or doesn't fit and else
-/// brings it up, and gives Restart as its first batch; its jobs are at the node of the configuration that is found. Then the steps are
+/// both, takes the usable one of greater level, CKPT1 on a tie, refuses a copy, or a spool volume that isn't lost, that is too small for
+/// it, syncs the volumes and reads the texts, loses the other copy where it can't be used or doesn't fit and else brings it up, and
+/// gives Restart as its first batch; its jobs are at the node of the configuration that is found. Then the steps are
 /// played one after another: a deck's job is entered, or a command is done, in one batch, which is kept once each copy that is left has
 /// it, and the lines of its step are said then, those of a display first and the closing line last; a command that is refused closes with
 /// that refusal, as a deck does for which no job slot is free. A step takes the lock of the checkpoint and gives it up at its end. Where the configuration that is found has a dormancy, a step that comes too early
@@ -115,14 +117,14 @@ pub fn play_script<P: Plant + Drop, S: Source>(
     // A run that has not begun leaves all as it was, but where both copies were lost in the formatting or the start. A warm
     // one looked at the copies.
     ensures unbegun { has_begun result.base ≡ false → IsUnbegun result.base result.journal result.since (P.view result.plant).now }
-    ensures untouched { has_begun result.base ≡ false → (result.status ≡ Status.BothLost) ⊎ ((result.plant ≡ plant) ⊎ ((cold ≡ false) × (P.tells → OnlyLooked (P.view plant) (P.view result.plant)))) }
+    ensures untouched { has_begun result.base ≡ false → (result.status ≡ Status.BothLost) ⊎ ((result.plant ≡ plant) ⊎ ((cold ≡ false) × (P.tells → OnlyLookedAtAll (P.view plant) (P.view result.plant)))) }
     ensures unsaid { P.tells → has_begun result.base ≡ false → console_now (P.view result.plant) ≡ console_now (P.view plant) }
 
-    // Any run acts on CKPT1, CKPT2 and the console alone, and loses no device but by a step that says so, or a copy that a
+    // Any run acts on CKPT1, CKPT2 and the console alone, but that a warm start syncs and reads the spool volumes, and loses no device but by a step that says so, or a copy that a
     // warm start doesn't take.
     ensures goes { Goes (P.view plant) (P.view result.plant) }
     ensures loses { has_begun result.base ≡ false → (result.status ≢ Status.BothLost) ⊎ (cold ≡ true) → (d : Dev) → (P.view result.plant).loses d ≡ (P.view plant).loses d }
-    ensures elsewhere { P.tells → IsOnlyOn (P.view plant) (P.view result.plant) }
+    ensures elsewhere { P.tells → IsElsewhere cold (P.view plant) (P.view result.plant) }
 
     // A run that has begun plays what its script asks for.
     ensures room { has_begun result.base ≡ true → (areas_size (page_count result.base.config) ≤ (P.view plant).size Ckpt1) × (areas_size (page_count result.base.config) ≤ (P.view plant).size Ckpt2) }

@@ -17,7 +17,7 @@ use Rattle.mas_types.specs.declared.answers.CopyState.{CopyState}
 use Rattle.mas_types.specs.declared.answers.Status.{Status}
 use Rattle.ckpt_copy.specs.Areas.{areas_size}
 use Rattle.ckpt_pages.specs.Shape.{page_count}
-use Rattle.warm_start.specs.Starting.{OnlyLooked}
+use Rattle.warm_start.specs.Starting.{OnlyLookedAtAll}
 use Rattle.mas_types.specs.declared.answers.Status.TheVariants as status
 use Rattle.mas_types.specs.Lists.{first_some}
 use Rattle.mas_types.specs.Starts.{no_queue}
@@ -29,6 +29,8 @@ use Rattle.mas_run.specs.Runs.{has_begun, IsRun}
 use Rattle.mas_run.specs.Statuses.{IsCaused, is_of_text}
 use Rattle.mas_run.specs.Unstarted.{IsNotStarted}
 use Rattle.mas_run.proofs.RefusalLemmas.{ends}
+use Rattle.mas_run.specs.Volumes.{IsElsewhere}
+use Rattle.mas_run.proofs.WarmLemmas.{none_elsewhere}
 use Rattle.mas_top.specs.Plays.{IsPlayed, Sourced}
 
 -- WHAT IS REFUSED
@@ -135,6 +137,7 @@ not_played cold source refusal Asks tells same answer base journal since old new
   faulted = faulted;
   untouched = λ not. inr (inl stays);
   loses = λ not lost d. ap (λ (v : View). v.loses d) view;
+  elsewhere = λ told. subst (IsElsewhere cold old) (sym view) (none_elsewhere cold old);
   room = λ begun. absurd (not_begun base none begun);
   read = λ told begun. absurd (not_begun base none begun);
   run = λ begun. absurd (not_begun base none begun);
@@ -154,15 +157,16 @@ never e = absurd (cc)
 pub plays_nothing : (source : Sourced) (left : List ℕ) (tells same : Type 0) (answer : Status) (base : Queue) (journal : Journal) (since : ℕ) (old new : View)
     → (source.tells → refusal_of_script left ≡ None) → (source.tells → source.rest ≡ [])
     → Answers true (first_some (refused_devices (old.size Ckpt1) (old.size Ckpt2))) answer → (answer ≡ status.SourceFault → ⊥) → is_of_text answer ≡ false → ((first second : CopyState) → answer ≡ status.NotFormatted first second → ⊥) → IsCaused answer old new
-    → (has_begun base ≡ false → (answer ≡ status.BothLost) ⊎ (same ⊎ ((true ≡ false) × (tells → OnlyLooked old new))))
+    → (has_begun base ≡ false → (answer ≡ status.BothLost) ⊎ (same ⊎ ((true ≡ false) × (tells → OnlyLookedAtAll old new))))
     → (has_begun base ≡ false → (answer ≢ status.BothLost) ⊎ (true ≡ true) → (d : Dev) → new.loses d ≡ old.loses d)
     → (has_begun base ≡ true → (areas_size (page_count base.config) ≤ old.size Ckpt1) × (areas_size (page_count base.config) ≤ old.size Ckpt2))
-    → (has_begun base ≡ true → IsRun true tells [] answer base journal since old new)
+    → (has_begun base ≡ true → IsRun true tells [] answer base journal since old new) → (tells → IsElsewhere true old new)
     → IsPlayed true source (refusal_of_format left (old.size Ckpt1) (old.size Ckpt2)) (λ base asked. asked ≡ []) tells same answer base journal since old new
-plays_nothing source left tells same answer base journal since old new nothing read refused fault text formatted cause untouched loses room run =
+plays_nothing source left tells same answer base journal since old new nothing read refused fault text formatted cause untouched loses room run elsewhere =
     let answered : source.tells → Answers true (refusal_of_format left (old.size Ckpt1) (old.size Ckpt2)) answer = λ told. after_none (refusal_of_script left) (refused_devices (old.size Ckpt1) (old.size Ckpt2)) answer (nothing told) refused in
     record {
       refused = answered;
+      elsewhere = elsewhere;
       words = text_not answer status.Words text refl;
       device = λ c dev size e. small_device (old.size Ckpt1) (old.size Ckpt2) answer dev size e refused;
       formatted = λ c first second e. formatted first second e;

@@ -1,13 +1,14 @@
 -- A report: a look at both copies, and then lines on the console.
-use Rattle.std.proofs.Common.{◌≡◌, ◌≢◌, ◌⊎◌, inl, inr, ⊎_elim, ℕ, ◌≤◌, Bool, true, false, List, [], ◌++◌, map, take, nat_lt, refl, sym, ◌∙◌, ap, subst, arith}
+use Rattle.std.proofs.Common.{◌≡◌, ◌≢◌, ◌⊎◌, inl, inr, ⊎_elim, ℕ, ◌*◌, ◌≤◌, Bool, true, false, List, [], ◌++◌, map, take, nat_lt, refl, sym, ◌∙◌, ap, subst, arith}
 use Rattle.std.proofs.lemmas.Bool.Decides.{nat_tests}
 use Rattle.mas_types.specs.declared.ids.Dev.{Dev}
-use Rattle.mas_types.specs.declared.ids.Dev.TheVariants.{Ckpt1, Ckpt2}
+use Rattle.mas_types.specs.declared.ids.Dev.TheVariants.{Ckpt1, Ckpt2, Spool}
 use Rattle.mas_types.specs.declared.journals.Journal.{Journal}
 use Rattle.mas_types.specs.declared.queues.Queue.{Queue}
 use Rattle.mas_types.specs.declared.answers.Status.{Status}
 use Rattle.mas_types.specs.declared.answers.Status.TheVariants as status
 use Rattle.spool_disk.specs.declared.plant.Part.TheVariants.{Disk as DiskPart, Console}
+use Rattle.mas_types.specs.Limits.{page_bytes}
 use Rattle.mas_types.specs.Starts.{no_queue}
 use Rattle.mas_complex.specs.Headline.{whole}
 use Rattle.spool_disk.specs.View.{View, World, Disk, Line, disk_at, disk_now}
@@ -75,10 +76,12 @@ found_on tells lines v0 v1 v2 Q adds f = record {
   usable = f.usable;
   sized = f.sized;
   is = f.is;
+  tell = f.tell;
   found = λ told. found_later reads v0 v1 v2 _ adds.goes (f.found told);
   there = there_on tells lines v1 v2 adds f.there;
   large1 = omega (arith, adds.goes.size Ckpt1, f.large1);
   large2 = omega (arith, adds.goes.size Ckpt2, f.large2);
+  roomy = λ n some few there. subst (λ (size : ℕ). page_bytes * f.tables.config.groups ≤ size) (sym (adds.goes.size (Spool n))) (f.roomy n some few (sym (adds.lost (DiskPart (Spool n)) (disk_not_console (Spool n))) ∙ there));
 }
 
 -- the queue that is found has members

@@ -12,11 +12,12 @@ use Rattle.spool_disk.specs.View.{View}
 use Rattle.spool_disk.specs.Acts.{Rose}
 use Rattle.ckpt_copy.specs.Areas.{areas_size}
 use Rattle.ckpt_pages.specs.Shape.{page_count}
-use Rattle.warm_start.specs.Starting.{OnlyLooked}
+use Rattle.warm_start.specs.Starting.{OnlyLookedAtAll}
 use Rattle.mas_run.specs.Refusals.{Answers, IsPlayedOut, IsSmall}
 use Rattle.mas_run.specs.Runs.{has_begun, IsRun}
 use Rattle.mas_run.specs.Statuses.{IsStill}
 use Rattle.mas_run.specs.Unstarted.{IsNotStarted}
+use Rattle.mas_run.specs.Volumes.{IsElsewhere}
 
 -- A script's source: whether it tells what it has left, its faults before and after the run, and what is left then.
 pub record Sourced : Type 1 where
@@ -40,8 +41,10 @@ pub record IsPlayed (cold : Bool) (source : Sourced) (refusal : Option Status) (
   pub faulted : answer ≡ status.SourceFault → Rose source.before source.after
   -- one that has not begun leaves all as it was, but where both copies were lost in the formatting or the start; a warm one looked
   -- at the copies
-  pub untouched : has_begun base ≡ false → (answer ≡ status.BothLost) ⊎ (same ⊎ ((cold ≡ false) × (tells → OnlyLooked old new)))
+  pub untouched : has_begun base ≡ false → (answer ≡ status.BothLost) ⊎ (same ⊎ ((cold ≡ false) × (tells → OnlyLookedAtAll old new)))
   pub loses : has_begun base ≡ false → (answer ≢ status.BothLost) ⊎ (cold ≡ true) → (d : Dev) → new.loses d ≡ old.loses d
+  -- every device but CKPT1 and CKPT2 stays as it was, but that a warm start syncs the spool volumes
+  pub elsewhere : tells → IsElsewhere cold old new
   -- one that has begun plays what its script asks for
   pub room : has_begun base ≡ true → (areas_size (page_count base.config) ≤ old.size Ckpt1) × (areas_size (page_count base.config) ≤ old.size Ckpt2)
   pub read : source.tells → has_begun base ≡ true → source.rest ≡ []

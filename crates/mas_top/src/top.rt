@@ -3,7 +3,7 @@ ghost use Rattle.std.specs.Prelude.{◌≡◌, ◌⊎◌, Bool, true, false, map
 ghost use Rattle.mas_types.specs.declared.ids.Dev.TheVariants.{Ckpt1, Ckpt2};
 ghost use Rattle.first_script.specs.Script.{read_as};
 ghost use Rattle.spool_disk.specs.Acts.{Goes};
-ghost use Rattle.member_node.specs.Calls.{IsOnlyOn};
+ghost use Rattle.mas_run.specs.Volumes.{AreVolumesKept};
 ghost use Rattle.mas_run.specs.Refusals.{refusal_before_play};
 ghost use Rattle.mas_run.specs.Runs.{has_begun, Begins, IsUnbegun};
 ghost use Rattle.mas_run.specs.Statuses.{IsCaused};
@@ -49,14 +49,14 @@ pub fn calm_top<P: Plant + Drop, S: Source>(
         → IsPlayed true (source_of S.tells (S.faults script.old) (S.faults script.new) (S.left script.new)) (refusal_of_format (S.left script.old) ((P.view plant).size Ckpt1) ((P.view plant).size Ckpt2)) (λ base asked. asked ≡ [])
         P.tells (result.plant ≡ plant) result.status result.base result.journal result.since (P.view plant) (P.view result.plant) }
 
-    // In every run: why it ends, and whether it has begun. It acts on CKPT1, CKPT2 and the console alone, and says nothing
-    // unless it has begun.
+    // In every run: why it ends, and whether it has begun. It acts on CKPT1, CKPT2 and the console alone, but that a warm start syncs
+    // and reads the spool volumes, and says nothing unless it has begun.
     ensures cause { IsCaused result.status (P.view plant) (P.view result.plant) }
     ensures begun { Begins result.status result.base }
     ensures unbegun { has_begun result.base ≡ false → IsUnbegun result.base result.journal result.since (P.view result.plant).now }
     ensures unsaid { P.tells → has_begun result.base ≡ false → console_now (P.view result.plant) ≡ console_now (P.view plant) }
     ensures goes { Goes (P.view plant) (P.view result.plant) }
-    ensures elsewhere { P.tells → IsOnlyOn (P.view plant) (P.view result.plant) }
+    ensures elsewhere { P.tells → AreVolumesKept (P.view plant) (P.view result.plant) }
 {
     let task = match read_task(alloc, words) {
         Ok(task) => task,

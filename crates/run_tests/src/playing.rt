@@ -39,7 +39,7 @@ pub fn sizes(ckpt: u64) -> Sizes {
     Sizes {
         ckpt,
         volumes: 1,
-        volume: 4_096,
+        volume: 2_097_152,
     }
 }
 

@@ -5,7 +5,10 @@ use Rattle.mas_types.specs.Fit.{IsName}
 use Rattle.mas_types.specs.Limits.{members_most}
 use Rattle.mas_types.specs.declared.ids.Dev.TheVariants.{Ckpt1, Ckpt2}
 use Rattle.mas_types.specs.declared.journals.Batch.{Batch}
+use Rattle.mas_types.specs.declared.queues.Config.{Config}
 use Rattle.mas_types.specs.declared.queues.Queue.{Queue}
+use Rattle.table_queues.specs.Telling.{Tell}
+use Rattle.mas_complex.specs.Texts.{HasTexts, lost_now, spools_at}
 use Rattle.ckpt_copy.specs.Areas.{reads, areas_size}
 use Rattle.ckpt_copy.specs.Moments.{goes_on}
 use Rattle.ckpt_copy.specs.Pages.{bytes_of}
@@ -19,13 +22,12 @@ use Rattle.warm_start.proofs.Begun.{found_later, kept_later}
 use Rattle.first_script.specs.Nodes.{at_node}
 use Rattle.mas_run.specs.Decks.{sysa}
 use Rattle.member_node.specs.Calls.{console_now}
-use Rattle.member_node.proofs.CourseLemmas.{only_on}
 use Rattle.mas_run.specs.Turns.{turns_of}
 use Rattle.mas_run.proofs.LockLemmas.{begins_open}
 use Rattle.mas_run.specs.Runs.{HasSteps}
 use Rattle.mas_run.proofs.NodeLemmas.{steps_for, many_at}
 use Rattle.mas_run.proofs.RunLemmas.{steps_since}
-use Rattle.mas_run.proofs.WarmLemmas.{found_drawn, found_begun, not_source, not_text, play_not_text, play_not_source, play_begins, not_begun, why_not_lost, not_started, start_caused, starts_first, start_causes, held_until, no}
+use Rattle.mas_run.proofs.WarmLemmas.{texts_later, volumes_on, found_drawn, found_begun, not_source, not_text, play_not_text, play_not_source, play_begins, not_begun, why_not_lost, not_started, start_caused, starts_first, start_causes, held_until, no}
 use Rattle.mas_run.proofs.found.play_warm.Goals as goal
 
 pub returns-in-Err-clause-no_source : goal.returns-in-Err-clause-no_source
@@ -58,7 +60,7 @@ returns-in-Err-clause-loses g c none ne d = rw c.unbegun.ensures.plant
     (⊎_elim (λ e. absurd (ne (c.unbegun.ensures.status ∙ c.status_of_start.ensures ∙ rw e refl))) (λ other. (c.in-Err.ensures.looked other).1 d) (why_not_lost c.in-Err.field-0.why))
 
 pub returns-in-Err-clause-elsewhere : goal.returns-in-Err-clause-elsewhere
-returns-in-Err-clause-elsewhere g c told = rw c.unbegun.ensures.plant (c.in-Err.ensures.held told).held.others
+returns-in-Err-clause-elsewhere g c told = rw c.unbegun.ensures.plant (c.in-Err.ensures.held told).held.volumes
 
 pub returns-in-Err-clause-goes : goal.returns-in-Err-clause-goes
 returns-in-Err-clause-goes g c = rw c.unbegun.ensures.plant c.in-Err.ensures.goes
@@ -68,7 +70,7 @@ play_reset-requires-clause-lock g c =
     let f = c.in-Ok.ensures in
     let x = c.in-Ok.found.complex in
     let s = f.started in
-    let some : 1 ≤ min x.base.config.members members_most = omega (arith, ap (λ (q : Queue). q.config.members) s.base_is, s.usable.0.fit.shape.config.members.0) in
+    let some : 1 ≤ min x.base.config.members members_most = omega (arith, ap (λ (k : Config). k.members) s.tells_base.config, s.usable.0.fit.shape.config.members.0) in
     rw (c.running_of.ensures.complex, f.book, f.unreserved) (begins_open (min x.base.config.members members_most) x.base.config.hold x.base.config.dormancy sysa (omega arith) some)
 
 pub play_reset-requires-clause-few : goal.play_reset-requires-clause-few
@@ -91,9 +93,10 @@ play_reset-requires-clause-between g c =
       unplaced = rw r.complex f.none.1;
       same_level = rw r.complex (sym r.level);
       drawn = rw (r.tables, r.level, r.levels, r.pages) (found_drawn w.pages w.tables w.levels w.complex.level s.usable s.sized s.leveled s.at_level);
-      queue = rw (r.tables, r.complex) (sym s.base_is ∙ ap (λ (bs : List Batch). run w.complex.base (kept_all bs)) (sym f.journal));
+      queue = rw (r.tables, r.complex) (subst (λ (bs : List Batch). Tell w.tables (run w.complex.base (kept_all bs))) (sym f.journal) s.tells_base);
       nothing = r.batch;
       fit = rw r.tables (c.law_of_fit_tables.ensures w.tables s.usable.0.fit.shape s.usable.1.sound);
+      sound = rw r.tables (c.law_of_told_queues.ensures.sound w.tables s.usable.0.fit s.usable.1.sound);
     }
 
 pub play_reset-requires-clause-rests1 : goal.play_reset-requires-clause-rests1
@@ -154,42 +157,42 @@ returns-clause-elsewhere g c told =
     let x = c.in-Ok.found.complex in
     let s = c.in-Ok.ensures.started in
     let r = c.running_of.ensures in
-    only_on (P.view c.args.plant) (P.view x.plant) (P.view c.play_reset.result.plant) s.starts.goes.later (rw r.complex at c.play_reset.ensures.goes) (s.held told).others (rw r.complex at (c.play_reset.ensures.elsewhere told))
+    volumes_on (P.view c.args.plant) (P.view x.plant) (P.view c.play_reset.result.plant) s.starts.goes.later (rw r.complex at c.play_reset.ensures.goes) (s.held told).volumes (rw r.complex at (c.play_reset.ensures.elsewhere told))
 
 pub returns-clause-begun : goal.returns-clause-begun
 returns-clause-begun g c =
     let s = c.in-Ok.ensures.started in
-    let base = c.play_reset.ensures.base ∙ ap (λ x. x.base) c.running_of.ensures.complex ∙ s.base_is in
+    let base : Tell c.in-Ok.found.tables c.play_reset.result.base = subst (Tell c.in-Ok.found.tables) (sym (c.play_reset.ensures.base ∙ ap (λ x. x.base) c.running_of.ensures.complex)) s.tells_base in
     play_begins c.play_reset.result.status c.play_reset.result.base c.play_reset.ensures.kind (found_begun c.in-Ok.found.pages c.in-Ok.found.tables c.play_reset.result.base s.usable base)
 
 pub returns-clause-unbegun : goal.returns-clause-unbegun
 returns-clause-unbegun g c none =
     let s = c.in-Ok.ensures.started in
-    let base = c.play_reset.ensures.base ∙ ap (λ x. x.base) c.running_of.ensures.complex ∙ s.base_is in
+    let base : Tell c.in-Ok.found.tables c.play_reset.result.base = subst (Tell c.in-Ok.found.tables) (sym (c.play_reset.ensures.base ∙ ap (λ x. x.base) c.running_of.ensures.complex)) s.tells_base in
     absurd (no c.play_reset.result.base (found_begun c.in-Ok.found.pages c.in-Ok.found.tables c.play_reset.result.base s.usable base) none)
 
 pub returns-clause-unstarted : goal.returns-clause-unstarted
 returns-clause-unstarted g c none =
     let s = c.in-Ok.ensures.started in
-    let base = c.play_reset.ensures.base ∙ ap (λ x. x.base) c.running_of.ensures.complex ∙ s.base_is in
+    let base : Tell c.in-Ok.found.tables c.play_reset.result.base = subst (Tell c.in-Ok.found.tables) (sym (c.play_reset.ensures.base ∙ ap (λ x. x.base) c.running_of.ensures.complex)) s.tells_base in
     absurd (no c.play_reset.result.base (found_begun c.in-Ok.found.pages c.in-Ok.found.tables c.play_reset.result.base s.usable base) none)
 
 pub returns-clause-untouched : goal.returns-clause-untouched
 returns-clause-untouched g c none =
     let s = c.in-Ok.ensures.started in
-    let base = c.play_reset.ensures.base ∙ ap (λ x. x.base) c.running_of.ensures.complex ∙ s.base_is in
+    let base : Tell c.in-Ok.found.tables c.play_reset.result.base = subst (Tell c.in-Ok.found.tables) (sym (c.play_reset.ensures.base ∙ ap (λ x. x.base) c.running_of.ensures.complex)) s.tells_base in
     absurd (no c.play_reset.result.base (found_begun c.in-Ok.found.pages c.in-Ok.found.tables c.play_reset.result.base s.usable base) none)
 
 pub returns-clause-unsaid : goal.returns-clause-unsaid
 returns-clause-unsaid g c told none =
     let s = c.in-Ok.ensures.started in
-    let base = c.play_reset.ensures.base ∙ ap (λ x. x.base) c.running_of.ensures.complex ∙ s.base_is in
+    let base : Tell c.in-Ok.found.tables c.play_reset.result.base = subst (Tell c.in-Ok.found.tables) (sym (c.play_reset.ensures.base ∙ ap (λ x. x.base) c.running_of.ensures.complex)) s.tells_base in
     absurd (no c.play_reset.result.base (found_begun c.in-Ok.found.pages c.in-Ok.found.tables c.play_reset.result.base s.usable base) none)
 
 pub returns-clause-loses : goal.returns-clause-loses
 returns-clause-loses g c none =
     let s = c.in-Ok.ensures.started in
-    let base = c.play_reset.ensures.base ∙ ap (λ x. x.base) c.running_of.ensures.complex ∙ s.base_is in
+    let base : Tell c.in-Ok.found.tables c.play_reset.result.base = subst (Tell c.in-Ok.found.tables) (sym (c.play_reset.ensures.base ∙ ap (λ x. x.base) c.running_of.ensures.complex)) s.tells_base in
     absurd (no c.play_reset.result.base (found_begun c.in-Ok.found.pages c.in-Ok.found.tables c.play_reset.result.base s.usable base) none)
 
 pub returns-clause-room : goal.returns-clause-room
@@ -197,8 +200,8 @@ returns-clause-room g c begun =
     let P = g.P.Plant in
     let s = c.in-Ok.ensures.started in
     let t = c.in-Ok.found.tables in
-    let base = c.play_reset.ensures.base ∙ ap (λ x. x.base) c.running_of.ensures.complex ∙ s.base_is in
-    let many : areas_size (length c.in-Ok.found.pages) ≡ areas_size (page_count c.play_reset.result.base.config) = ap areas_size s.usable.0.spell.count ∙ ap (λ (q : Queue). areas_size (page_count q.config)) (sym base) in
+    let base : Tell c.in-Ok.found.tables c.play_reset.result.base = subst (Tell c.in-Ok.found.tables) (sym (c.play_reset.ensures.base ∙ ap (λ x. x.base) c.running_of.ensures.complex)) s.tells_base in
+    let many : areas_size (length c.in-Ok.found.pages) ≡ areas_size (page_count c.play_reset.result.base.config) = ap areas_size s.usable.0.spell.count ∙ ap (λ (k : Config). areas_size (page_count k)) (sym base.config) in
     (subst (λ (n : ℕ). n ≤ (P.view c.args.plant).size Ckpt1) many s.large1, subst (λ (n : ℕ). n ≤ (P.view c.args.plant).size Ckpt2) many s.large2)
 
 pub returns-clause-run : goal.returns-clause-run
@@ -216,10 +219,10 @@ returns-clause-run g c begun =
     let v2 = P.view z.plant in
     let goes : Goes v1 v2 = rw r.complex at d.goes in
     let base0 : z.base ≡ x.base = d.base ∙ ap (λ y. y.base) r.complex in
-    let base = base0 ∙ s.base_is in
+    let base : Tell w.tables z.base = subst (Tell w.tables) (sym base0) s.tells_base in
     let since : z.since ≡ v1.now = d.since ∙ ap (λ y. y.since) r.complex ∙ f.since in
     let asked = at_node z.base.config.node c.args.asked in
-    let same : c.as_slice.result.now ≡ asked = c.as_slice.ensures ∙ c.moved-asked.ensures ∙ ap (λ (q : Queue). at_node q.config.node c.args.asked) (sym base) in
+    let same : c.as_slice.result.now ≡ asked = c.as_slice.ensures ∙ c.moved-asked.ensures ∙ ap (λ (k : Config). at_node k.node c.args.asked) (sym base.config) in
     let quiet : P.tells → console_now v1 ≡ console_now v0 = λ t. (s.held t).console v1.now s.starts.goes.later (omega arith) in
     let book : x.book ≡ book_of z.base.config = f.book ∙ ap (λ (q : Queue). book_of q.config) (sym base0) in
     let turns = turns_of z.base.config asked in
@@ -231,7 +234,9 @@ returns-clause-run g c begun =
         pages = w.pages;
         tables = w.tables;
         are = s.usable;
-        is = base;
+        told = base;
+        texts = λ t. rw since (subst (λ (Q : Queue). HasTexts (lost_now v2) (spools_at v2 v1.now) Q.config.groups Q) (sym base0)
+            (subst (λ (k : Config). HasTexts (lost_now v2) (spools_at v2 v1.now) k.groups x.base) (sym s.tells_base.config) (texts_later v1 v2 w.tables.config.groups x.base goes (s.texts t))));
         found = λ t. found_later reads v0 v1 v2 (bytes_of w.pages) goes (s.found t);
         kept1 = λ t. kept_later reads Ckpt1 v0 v1 v2 w.pages (v1.loses Ckpt1) goes (s.kept1 t);
         kept2 = λ t. kept_later reads Ckpt2 v0 v1 v2 w.pages (v1.loses Ckpt2) goes (s.kept2 t);

@@ -1,4 +1,4 @@
-use Rattle.std.proofs.Common.{◌≡◌, ◌∙◌, ℕ, true, false, List, length, sym, ap, subst, arith}
+use Rattle.std.proofs.Common.{◌≡◌, ◌∙◌, ℕ, true, false, List, [], length, sym, ap, subst, arith}
 use Rattle.std.proofs.Math.Logic.{∥∥₁_map}
 use Rattle.mas_types.specs.declared.ids.Dev.TheVariants.{Ckpt1, Ckpt2}
 use Rattle.mas_types.specs.declared.queues.Queue.{Queue}
@@ -16,7 +16,9 @@ use Rattle.mas_complex.specs.Journals.{kept_all}
 use Rattle.mas_complex.specs.Locking.{book_of}
 use Rattle.mas_complex.specs.Meaning.{StandFor, run}
 use Rattle.member_node.specs.Calls.{IsOnlyOn, console_now}
-use Rattle.member_node.specs.Standing.{queue_of}
+use Rattle.mas_types.specs.Starts.{default_config}
+use Rattle.table_queues.specs.Telling.{Tell}
+use Rattle.mas_complex.specs.Texts.{lost_now, spools_at}
 use Rattle.member_node.proofs.CourseLemmas.{only_on}
 use Rattle.member_node.proofs.DrawnLemmas.{drawn_stand, drawn_level}
 use Rattle.member_steps.specs.Steps.{AreAllKept}
@@ -25,7 +27,7 @@ use Rattle.mas_run.specs.Statuses.{IsCausedFrom}
 use Rattle.mas_run.specs.Decks.{sysa}
 use Rattle.mas_run.specs.Turns.{turns_from, turns_of}
 use Rattle.mas_run.proofs.LockLemmas.{begins_open}
-use Rattle.mas_run.proofs.RunLemmas.{cold_steps, steps_since, none_kept, caused_since, formed_copy, all_may, fit_empty, groups_empty}
+use Rattle.mas_run.proofs.RunLemmas.{cold_steps, steps_since, none_kept, caused_since, formed_copy, all_may, empty_texts, fit_empty, groups_empty, sound_empty, told_empty}
 use Rattle.mas_run.proofs.play.play_cold.Goals as goal
 
 pub make-complex-requires-clause-begins : goal.make-complex-requires-clause-begins
@@ -34,13 +36,13 @@ make-complex-requires-clause-begins g c told =
     let k = c.in-Ok.checkpoint in
     let n = c.form.new.self in
     let f = c.in-Ok-form.ensures in
-    let queue : queue_of k.tables ≡ c.in-Ok.base = ap queue_of c.in-Ok.ensures.tables ∙ sym c.in-Ok.ensures.base in
-    let stand : StandFor c.in-Ok.base (bytes_of k.pages) = subst (λ (Q : Queue). StandFor Q (bytes_of k.pages)) queue (drawn_stand k.tables k.level k.levels k.pages c.in-Ok.ensures.drawn) in
+    let told_base : Tell k.tables c.in-Ok.base = told_empty k.tables c.in-Ok.base c.in-Ok.ensures.tables c.in-Ok.ensures.base (c.law_of_told_queues.ensures.empty default_config []) in
+    let stand : StandFor c.in-Ok.base (bytes_of k.pages) = drawn_stand k.tables k.level k.levels k.pages c.in-Ok.base c.in-Ok.ensures.drawn told_base in
     let first = formed_copy c.in-Ok.base v.now (λ pages disk. Rests n.first.copy.pages n.first.copy.second n.first.copy.stale pages disk) (λ was next disk. Holds n.first.copy.pages n.first.copy.second n.first.copy.stale was next disk) n.first.alive (disk_now v Ckpt1) (bytes_of k.pages)
     (λ is. rw c.as_slice.ensures at (f.formed1 told is)) (λ not lt. f.gone1 told c.new-pair.ensures.alive.0 not lt) in
     let second = formed_copy c.in-Ok.base v.now (λ pages disk. Rests n.second.copy.pages n.second.copy.second n.second.copy.stale pages disk) (λ was next disk. Holds n.second.copy.pages n.second.copy.second n.second.copy.stale was next disk) n.second.alive (disk_now v Ckpt2) (bytes_of k.pages)
     (λ is. rw c.as_slice.ensures at (f.formed2 told is)) (λ not lt. f.gone2 told c.new-pair.ensures.alive.1 not lt) in
-    ∣ record { pages = bytes_of k.pages; stands = record { at_level = drawn_level k.tables k.level k.levels k.pages c.in-Ok.ensures.drawn; queue = stand }; first_at = first; second_at = second } ∣₁
+    ∣ record { pages = bytes_of k.pages; stands = record { at_level = drawn_level k.tables k.level k.levels k.pages c.in-Ok.ensures.drawn; queue = stand }; texts = empty_texts (lost_now v) (spools_at v v.now) c.in-Ok.base c.in-Ok.ensures.base; first_at = first; second_at = second } ∣₁
 
 pub play_asked-requires-clause-lock : goal.play_asked-requires-clause-lock
 play_asked-requires-clause-lock g c =
@@ -100,14 +102,15 @@ pub play_asked-requires-clause-between : goal.play_asked-requires-clause-between
 play_asked-requires-clause-between g c =
     let k = c.in-Ok.checkpoint in
     let m = c.make-complex.ensures in
-    let queue : queue_of k.tables ≡ c.in-Ok.base = ap queue_of c.in-Ok.ensures.tables ∙ sym c.in-Ok.ensures.base in
+    let told_base : Tell k.tables c.in-Ok.base = told_empty k.tables c.in-Ok.base c.in-Ok.ensures.tables c.in-Ok.ensures.base (c.law_of_told_queues.ensures.empty default_config []) in
     record {
       none = m.current;
       unplaced = m.placed;
       same_level = rw c.new-member.ensures.checkpoint m.level;
       drawn = rw c.new-member.ensures.checkpoint c.in-Ok.ensures.drawn;
-      queue = rw c.new-member.ensures.checkpoint queue ∙ sym m.base ∙ ap (λ (bs : List Batch). run c.make-complex.result.base (kept_all bs)) (sym m.journal);
+      queue = rw c.new-member.ensures.checkpoint (subst (λ (bs : List Batch). Tell k.tables (run c.make-complex.result.base (kept_all bs))) (sym m.journal) (subst (Tell k.tables) (sym m.base) told_base));
       nothing = c.new-member.ensures.batch;
+      sound = rw c.new-member.ensures.checkpoint (sound_empty k.tables c.in-Ok.ensures.tables c.in-Ok.ensures.drawn.spelling.shape.config (c.law_of_told_queues.ensures.empty default_config []));
       fit = rw c.new-member.ensures.checkpoint (fit_empty k.tables c.in-Ok.ensures.tables c.in-Ok.ensures.drawn.spelling.shape);
     }
 

@@ -5,6 +5,7 @@ use Rattle.mas_types.specs.declared.ids.Dev.TheVariants.{Ckpt1, Ckpt2}
 use Rattle.first_script.specs.Nodes.{at_node, moved}
 use Rattle.mas_run.specs.Refusals.{Answers, is_refusal}
 use Rattle.mas_run.proofs.RefusalLemmas.{answers_asked, ends}
+use Rattle.mas_run.proofs.WarmLemmas.{none_elsewhere}
 use Rattle.mas_run.proofs.top.play_script.Goals as goal
 
 pub returns-in-Ok-clause-complete : goal.returns-in-Ok-clause-complete
@@ -23,3 +24,6 @@ returns-in-Ok-clause-run g c begun =
       λ tells. c.law_of_nodes.ensures default_config.node r.base.config.node (g.S.Source.left c.args.script.now) ∙ ap (moved r.base.config.node) (c.in-Ok.ensures.asked tells).says,
       c.play_steps.ensures.run begun,
     )
+
+pub returns-in-Err-clause-elsewhere : goal.returns-in-Err-clause-elsewhere
+returns-in-Err-clause-elsewhere g c told = rw c.unbegun.ensures.plant (none_elsewhere c.args.cold (g.P.Plant.view c.args.plant))

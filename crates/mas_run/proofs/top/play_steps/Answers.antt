@@ -22,3 +22,9 @@ returns-else-cold-clause-run g c begun = rw c.if-cold.false (c.play_warm.ensures
 
 pub returns-else-cold-clause-untouched : goal.returns-else-cold-clause-untouched
 returns-else-cold-clause-untouched g c none = ⊎_elim inl (λ looked. inr (inr (c.if-cold.false, looked))) (c.play_warm.ensures.untouched none)
+
+pub returns-then-cold-clause-elsewhere : goal.returns-then-cold-clause-elsewhere
+returns-then-cold-clause-elsewhere g c told = rw c.if-cold.true (c.play_cold.ensures.elsewhere told)
+
+pub returns-else-cold-clause-elsewhere : goal.returns-else-cold-clause-elsewhere
+returns-else-cold-clause-elsewhere g c told = rw c.if-cold.false (c.play_warm.ensures.elsewhere told)

@@ -20,7 +20,7 @@ returns-in-Ok-clause-played g c =
     let e = c.play_steps.ensures in
     plays_nothing (source_of S.tells (S.faults c.args.script.now) (S.faults c.read_nothing.new.script) (S.left c.read_nothing.new.script)) left P.tells (r.plant ≡ c.args.plant) r.status r.base r.journal r.since old (P.view r.plant)
     (λ told. c.in-Ok.ensures.nothing told) (λ told. c.in-Ok.ensures.read told) e.refused e.no_source e.no_text (λ first second. e.formatted refl first second) e.cause e.untouched e.loses e.room
-    (λ begun. subst (λ (l : List Asked). IsRun true P.tells (at_node r.base.config.node l) r.status r.base r.journal r.since old (P.view r.plant)) c.new-nothing.ensures (e.run begun))
+    (λ begun. subst (λ (l : List Asked). IsRun true P.tells (at_node r.base.config.node l) r.status r.base r.journal r.since old (P.view r.plant)) c.new-nothing.ensures (e.run begun)) e.elsewhere
 
 pub returns-in-Err-clause-played : goal.returns-in-Err-clause-played
 returns-in-Err-clause-played g c =

@@ -1,6 +1,6 @@
 use Rattle.std.proofs.Common.{◌∙◌, List, ℕ, sym, ap, subst}
 use Rattle.cmd_report.specs.Named.{IsNamed}
-use Rattle.mas_complex.specs.Meaning.{no_deck, no_print}
+use Rattle.warm_start.specs.Bare.{bare_deck, bare_print}
 use Rattle.mas_types.specs.declared.answers.Status.TheVariants as status
 use Rattle.warm_start.specs.declared.choosing.StartNo.TheVariants as no_start
 use Rattle.mas_run.specs.Runs.{has_begun}
@@ -21,7 +21,7 @@ returns-in-Err-clause-words g c = rw (c.unbegun.ensures.status, c.status_of_star
 pub report-requires : goal.report-requires
 report-requires g c =
     let f = c.in-Ok.ensures.queue in
-    subst IsNamed (sym f.is) (c.law_of_named_queues.ensures f.tables no_deck no_print f.usable.0.fit)
+    subst IsNamed (sym f.is) (c.law_of_named_queues.ensures f.tables bare_deck bare_print f.usable.0.fit)
 
 pub returns-in_default-clause-report : goal.returns-in_default-clause-report
 returns-in_default-clause-report g c =

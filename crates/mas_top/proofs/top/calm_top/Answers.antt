@@ -1,4 +1,4 @@
-use Rattle.std.proofs.Common.{◌≡◌, ◌∙◌, Bool, true, [], Ok, Some, map, inr, refl, sym, ap, subst}
+use Rattle.std.proofs.Common.{◌≡◌, ◌∙◌, Bool, true, false, [], Ok, Some, map, inr, refl, sym, ap, subst}
 use Rattle.std.specs.Prelude.{string_bytes}
 use Rattle.mas_types.specs.declared.ids.Dev.TheVariants.{Ckpt1, Ckpt2}
 use Rattle.first_script.specs.Script.{read_as}
@@ -9,6 +9,7 @@ use Rattle.mas_top.specs.Formats.{refusal_of_format}
 use Rattle.mas_top.specs.Plays.{IsPlayed, source_of}
 use Rattle.mas_top.specs.Tasks.{task_asked}
 use Rattle.mas_top.proofs.PlayLemmas.{free_answer, not_played}
+use Rattle.mas_run.proofs.WarmLemmas.{none_elsewhere, volumes_of}
 use Rattle.mas_top.proofs.ReportLemmas.{not_reported}
 use Rattle.mas_top.proofs.TaskLemmas.{none_some, play_same, play_not_report, play_not_format, report_not_format, none_words, words_or_memory, some_memory, memory_not_source, words_caused, words_begins}
 use Rattle.mas_top.proofs.top.calm_top.Goals as goal
@@ -35,7 +36,7 @@ returns-in-Play-clause-play g c cold is =
     let same : c.in-Play.cold ≡ cold = play_same (task_asked (map string_bytes c.args.words.now)) c.in-Play.cold cold (c.in-Ok.ensures ∙ ap Some c.in-Play.is) is in
     subst (λ (x : Bool). IsPlayed x (source_of S.tells (S.faults c.args.script.now) (S.faults c.play_script.new.script) (S.left c.play_script.new.script)) (refusal_before_play x left (old.size Ckpt1) (old.size Ckpt2)) (λ base asked. read_as base.config.node left ≡ Ok asked)
     P.tells (r.plant ≡ c.args.plant) r.status r.base r.journal r.since old (P.view r.plant)) same
-    (record { refused = e.refused; words = e.words; device = e.device; formatted = e.formatted; unstarted = e.unstarted; faulted = e.source; untouched = e.untouched; loses = e.loses; room = e.room; read = e.read; run = e.run; complete = e.complete })
+    (record { refused = e.refused; words = e.words; device = e.device; formatted = e.formatted; unstarted = e.unstarted; faulted = e.source; untouched = e.untouched; loses = e.loses; elsewhere = e.elsewhere; room = e.room; read = e.read; run = e.run; complete = e.complete })
 
 pub returns-in-Play-clause-report : goal.returns-in-Play-clause-report
 returns-in-Play-clause-report g c is = absurd (play_not_report (task_asked (map string_bytes c.args.words.now)) c.in-Play.cold (c.in-Ok.ensures ∙ ap Some c.in-Play.is) is)
@@ -133,3 +134,17 @@ returns-in-Err-clause-cause g c = rw (c.unbegun.ensures.status, c.status_of_no.e
 
 pub returns-in-Err-clause-begun : goal.returns-in-Err-clause-begun
 returns-in-Err-clause-begun g c = rw (c.unbegun.ensures.status, c.status_of_no.ensures) (words_begins c.in-Err.why c.unbegun.result.base c.unbegun.ensures.unbegun.queue)
+
+-- THE SPOOL VOLUMES
+
+pub returns-in-Play-clause-elsewhere : goal.returns-in-Play-clause-elsewhere
+returns-in-Play-clause-elsewhere g c told = volumes_of c.in-Play.cold (g.P.Plant.view c.args.plant) (g.P.Plant.view c.play_script.result.plant) (c.play_script.ensures.elsewhere told)
+
+pub returns-in-Report-clause-elsewhere : goal.returns-in-Report-clause-elsewhere
+returns-in-Report-clause-elsewhere g c told = volumes_of true (g.P.Plant.view c.args.plant) (g.P.Plant.view c.report_queue.result.plant) (c.report_queue.ensures.elsewhere told)
+
+pub returns-in-Format-clause-elsewhere : goal.returns-in-Format-clause-elsewhere
+returns-in-Format-clause-elsewhere g c told = volumes_of true (g.P.Plant.view c.args.plant) (g.P.Plant.view c.format_checkpoint.result.plant) (c.format_checkpoint.ensures.elsewhere told)
+
+pub returns-in-Err-clause-elsewhere : goal.returns-in-Err-clause-elsewhere
+returns-in-Err-clause-elsewhere g c told = rw c.unbegun.ensures.plant (none_elsewhere false (g.P.Plant.view c.args.plant))

@@ -32,7 +32,7 @@ returns-clause-lines c =
     let m = c.args.member.now in
     if_ok _ (λ lines. (Q : Queue) → Tell m.checkpoint.tables Q → lines ≡ step_lines Q m.id c.args.step c.args.command) c.reply_lines.result
     (λ lines is Q told. rw c.do_command.ensures.id at is
-        ∙ ap (reply_lines m.id c.args.step) (c.last_reply.ensures ∙ ap last_reply (only_entry m.batch c.do_command.new.self.batch (entry_of Q m.id c.args.step c.args.command) (c.in_ok-do_command.ensures.entry Q told) c.requires.nothing)))
+    ∙ ap (reply_lines m.id c.args.step) (c.last_reply.ensures ∙ ap last_reply (only_entry m.batch c.do_command.new.self.batch (entry_of Q m.id c.args.step c.args.command) (c.in_ok-do_command.ensures.entry Q told) c.requires.nothing)))
     c.reply_lines.ensures
 
 pub returns-clause-sound : goal.returns-clause-sound

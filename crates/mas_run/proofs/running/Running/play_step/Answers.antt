@@ -1,8 +1,9 @@
-use Rattle.std.proofs.Common.{◌≡◌, ◌∙◌, [], ◌∷◌, ap, arith, false, Result, Ok, Err, refl, subst, sym}
+use Rattle.std.proofs.Common.{◌≡◌, ◌≤◌, ◌∙◌, [], ◌∷◌, ap, arith, false, Result, Ok, Err, refl, subst, sym}
 use Rattle.member_node.specs.declared.member.NodeNo.{NodeNo}
 use Rattle.mas_types.specs.declared.commands.Command.{Command}
 use Rattle.mas_types.specs.declared.ids.Dev.{Dev}
 use Rattle.mas_types.specs.declared.ids.MemberId.{MemberId}
+use Rattle.mas_types.specs.declared.queues.Config.{Config}
 use Rattle.mas_types.specs.declared.queues.Queue.{Queue}
 use Rattle.first_script.specs.declared.asked.Asked.{Asked}
 use Rattle.mas_complex.specs.Crash.{IsUntold, setting}
@@ -21,7 +22,7 @@ use Rattle.mas_run.specs.Decks.{sysa, deck_entries}
 use Rattle.mas_run.proofs.LockLemmas.{command_by_try, deck_by_try, step_by_try}
 use Rattle.mas_run.specs.Steps.{IfTask, task_entries, task_lines}
 use Rattle.mas_run.specs.Turns.{Gives}
-use Rattle.mas_run.proofs.GroupLemmas.{played}
+use Rattle.mas_run.proofs.GroupLemmas.{may_played, played}
 use Rattle.mas_run.specs.Stops.{IsLoss}
 use Rattle.member_node.proofs.CourseLemmas.{course_first, course_second, apart_first, apart_second}
 use Rattle.member_node.proofs.WriteLemmas.{none_out}
@@ -70,6 +71,14 @@ pub returns-in-Deck-clause-order : goal.returns-in-Deck-clause-order
 returns-in-Deck-clause-order g c = omega (arith, c.play_deck.ensures.order)
 
 -- A COMMAND
+
+pub play_locked-requires-clause-may_give : goal.play_locked-requires-clause-may_give
+play_locked-requires-clause-may_give g c =
+    let x = c.args.self.now.complex in
+    let b = c.requires.between in
+    let may = rw c.in-Command.is at c.requires.may in
+    let some : 1 ≤ (run x.base (kept_all x.journal.batches)).config.members = omega (arith, ap (λ (k : Config). k.members) b.queue.config, b.drawn.spelling.shape.config.members.0) in
+    rw (c.requires.id, c.in-Ok.ensures) (may_played (run x.base (kept_all x.journal.batches)) c.in-Command.given may.0 some)
 
 pub play_locked-requires-clause-lock : goal.play_locked-requires-clause-lock
 play_locked-requires-clause-lock g c = rw c.requires.id c.requires.lock

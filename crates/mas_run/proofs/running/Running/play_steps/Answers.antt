@@ -53,9 +53,10 @@ play_step-requires-clause-groups g c =
     let from : Queue = run x.base (kept_all x.journal.batches) in
     let queue : run y.base (kept_all y.journal.batches) ≡ run from (kept_all i.play.rest) = ap (λ (q : Queue). run q (kept_all y.journal.batches)) i.base ∙ queue_behind x.base x.journal.batches i.play.rest y.journal.batches i.play.batches_are in
     let kept = kept_run from 1 (take c.loop-step.step-index (turns_from x.book c.args.asked.now)) v0.now v.now i.play.rest i.play.played.kept in
-    subst (λ (q : Queue). HasNoGroups sysa q.owners) (sym (i.between.queue ∙ queue ∙ kept))
+    subst (HasNoGroups sysa) i.between.queue.owners
+    (subst (λ (q : Queue). HasNoGroups sysa q.owners) (sym (queue ∙ kept))
     (none_after c.args.self.now.member.checkpoint.tables.config x.book c.args.asked.now c.loop-step.step-index 1 from c.requires.may
-    (subst (λ (q : Queue). HasNoGroups sysa q.owners) c.requires.between.queue c.requires.groups))
+    (subst (HasNoGroups sysa) (sym c.requires.between.queue.owners) c.requires.groups)))
 
 pub play_step-requires-clause-untold : goal.play_step-requires-clause-untold
 play_step-requires-clause-untold g c told =

@@ -1,6 +1,8 @@
 use Rattle.std.proofs.Common.{◌≡◌, ◌∙◌, ◌+◌, ◌≤◌, ◌++◌, ℕ, List, [], ◌∷◌, length, Ok, ap, refl, subst, sym, arith}
 use Rattle.std.proofs.lemmas.Result.{err_from_is_err_and}
+use Rattle.std.proofs.Math.Logic.{∥∥₁_map}
 use Rattle.mas_types.specs.declared.ids.MemberId.{MemberId}
+use Rattle.mas_types.specs.declared.commands.Command.TheVariants.{Restart}
 use Rattle.mas_types.specs.declared.journals.Entry.{Entry}
 use Rattle.mas_types.specs.declared.journals.Batch.{Batch}
 use Rattle.mas_types.specs.declared.queues.Queue.{Queue}
@@ -8,10 +10,12 @@ use Rattle.mas_types.specs.Ids.{nobody}
 use Rattle.mas_types.specs.declared.journals.Fate.TheVariants.{Kept}
 use Rattle.mas_complex.specs.Journals.{begun, end_of, entries_reserved, fated, kept_all}
 use Rattle.mas_complex.specs.Meaning.{run}
+use Rattle.mas_complex.specs.Texts.{lost_now, spools_at}
 use Rattle.member_node.specs.Batches.{HasDone, level_with}
-use Rattle.member_node.specs.Standing.{queue_of}
+use Rattle.ckpt_pages.specs.declared.tables.Tables.{Tables}
+use Rattle.table_queues.specs.Telling.{Tell, TellSound}
 use Rattle.member_node.proofs.WriteLemmas.{none_out, queue_kept}
-use Rattle.member_steps.proofs.StepLemmas.{between_done, journal_kept, level_most}
+use Rattle.member_steps.proofs.StepLemmas.{between_done, journal_kept, level_most, step_texts}
 use Rattle.mas_run.specs.Resets.{restart_entries}
 use Rattle.mas_run.proofs.ResetLemmas.{none_untold, reset_none, reset_written, restart_own}
 use Rattle.mas_run.proofs.running.Running.restart.Goals as goal
@@ -52,6 +56,16 @@ write-requires-clause-replied g c =
     let done : HasDone (run x.base (kept_all x.journal.batches)) c.give_restart.new.member.batch c.give_restart.new.member.checkpoint =
     c.in-Ok.ensures.done (run x.base (kept_all x.journal.batches)) (between_done x.base x.journal.batches x.current x.placed x.level m.batch m.checkpoint c.requires.between) in
     rw (c.ready.ensures.base, c.ready.ensures.kept, c.in-Ok-ready.ensures.reserved) done.replied
+
+pub write-requires-clause-texts : goal.write-requires-clause-texts
+write-requires-clause-texts g c told =
+    let x = c.args.self.now.complex in
+    let m = c.args.self.now.member in
+    let v = g.P.Plant.view x.plant in
+    let e = c.ready.ensures in
+    rw (e.plant, e.base, e.kept, c.in-Ok-ready.ensures.reserved)
+    (∥∥₁_map (c.kept_texts.ensures.kept told) (λ has. step_texts c.law_of_texts.ensures.texts c.law_of_texts.ensures.told (lost_now v) (spools_at v v.now) x.base.config.groups x.base x.base x.journal.batches x.journal.batches
+    m.checkpoint.tables nobody 0 Restart c.give_restart.new.member.batch refl c.requires.between.sound c.requires.between.queue refl refl c.in-Ok.ensures.entries has))
 
 pub write-requires-clause-untold : goal.write-requires-clause-untold
 write-requires-clause-untold g c told =
@@ -124,9 +138,10 @@ returns-clause-between g c =
       same_level = k.level ∙ ap (level_with c.in-Ok-ready.draft) (e.same_level ∙ c.requires.between.same_level ∙ sym c.give_restart.ensures.level) ∙ sym c.in-Ok-ready.ensures.level;
       nothing = c.in-Ok-ready.ensures.empty;
       drawn = c.in-Ok-ready.ensures.drawn;
-      queue = queue_kept x.base z.base Q (queue_of n.tables) x.journal.batches z.journal.batches (P.view z.plant).now b d.batch
-          (k.base ∙ e.base) refl journal (ap entries_reserved c.in-Ok-ready.ensures.reserved) (ap queue_of e.tables ∙ done.queue);
+      queue = subst (Tell n.tables) (queue_kept x.base z.base Q (run Q d.batch) x.journal.batches z.journal.batches (P.view z.plant).now b d.batch
+          (k.base ∙ e.base) refl journal (ap entries_reserved c.in-Ok-ready.ensures.reserved) refl) (subst (λ (u : Tables). Tell u (run Q d.batch)) (sym e.tables) done.queue);
       fit = rw e.tables done.fit;
+      sound = subst TellSound (sym e.tables) c.in-Ok.ensures.sound;
     }
 
 pub returns-clause-level : goal.returns-clause-level
