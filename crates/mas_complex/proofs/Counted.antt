@@ -13,6 +13,7 @@ use Rattle.duplex_pair.specs.declared.errors.PairNo.TheVariants.{BothLost as Pai
 use Rattle.duplex_pair.specs.Halves.{IsCkpt, pick, other, Acted}
 use Rattle.duplex_pair.specs.Both.{PairActed}
 use Rattle.duplex_pair.specs.Outcomes.{look_stopped, pair_stopped}
+use Rattle.mas_complex.specs.declared.recover.RecoverNo.{RecoverNo}
 use Rattle.mas_complex.specs.CallCounts.{IsLostOnce, KeepsCounts}
 use Rattle.mas_complex.specs.Recovers.{recover_no, recover_no_seen, recover_stopped}
 
@@ -129,10 +130,17 @@ module _ {H : Type 0} (alive : H → Bool) (one two one' two' : H) (by : ℕ) (o
   counts_lost (Spool n) ckpt was dead same loses = absurd ckpt
 
 -- who was stopped in a call of a recovery was stopped in it
-pub seen_stopped : {A B : Type 0} (why : LookNo) → recover_stopped {T = A} (Err (recover_no_seen why)) ≡ look_stopped {T = B} (Err why)
-seen_stopped LookHalted = refl
-seen_stopped LookNoMemory = refl
+seen_stopped : (A B : Type 0) (why : LookNo) → recover_stopped {T = A} (Err (recover_no_seen why)) ≡ look_stopped {T = B} (Err why)
+seen_stopped A B LookHalted = refl
+seen_stopped A B LookNoMemory = refl
 
-pub brought_stopped : {A B : Type 0} (why : PairNo) → recover_stopped {T = A} (Err (recover_no why)) ≡ pair_stopped {T = B} (Err why)
-brought_stopped PairBothLost = refl
-brought_stopped PairHalted = refl
+brought_stopped : (A B : Type 0) (why : PairNo) → recover_stopped {T = A} (Err (recover_no why)) ≡ pair_stopped {T = B} (Err why)
+brought_stopped A B PairBothLost = refl
+brought_stopped A B PairHalted = refl
+
+module _ {A : Type 0} (B : Type 0) (by : ℕ) (a a' b b' : Bool) (old new : View) (r : Result A RecoverNo) (no : RecoverNo) where
+  pub counts_seen : (why : LookNo) → r ≡ Err no → no ≡ recover_no_seen why → KeepsCounts by a a' b b' (look_stopped {T = B} (Err why)) old new → KeepsCounts by a a' b b' (recover_stopped r) old new
+  counts_seen why is same x = subst (λ (s : Bool). KeepsCounts by a a' b b' s old new) (sym (ap recover_stopped (is ∙ ap Err same) ∙ seen_stopped A B why)) x
+
+  pub counts_brought : (why : PairNo) → r ≡ Err no → no ≡ recover_no why → KeepsCounts by a a' b b' (pair_stopped {T = B} (Err why)) old new → KeepsCounts by a a' b b' (recover_stopped r) old new
+  counts_brought why is same x = subst (λ (s : Bool). KeepsCounts by a a' b b' s old new) (sym (ap recover_stopped (is ∙ ap Err same) ∙ brought_stopped A B why)) x

@@ -1,4 +1,4 @@
-use Rattle.std.proofs.Common.{◌≡◌, ◌||◌, ◌++◌, ◌∙◌, ℕ, List, Option, true, false, Some, None, sym, subst, ap, arith, rules}
+use Rattle.std.proofs.Common.{◌≡◌, ◌||◌, ◌++◌, ◌∙◌, ℕ, List, Option, Bool, true, false, Some, None, sym, subst, ap, arith, rules}
 use Rattle.std.proofs.Math.Logic.{∥∥₁_map}
 use Rattle.mas_types.specs.declared.ids.Dev.TheVariants.{Ckpt1, Ckpt2}
 use Rattle.spool_disk.specs.View.{disk_now}
@@ -11,10 +11,14 @@ use Rattle.mas_complex.specs.Journals.{kept_all, entries_in}
 use Rattle.mas_complex.specs.Meaning.{run}
 use Rattle.mas_complex.specs.Places.{IsAtLevel}
 use Rattle.mas_complex.specs.Seen.{OneSeen, IsOneSeen, ReadsSeen}
+use Rattle.mas_complex.specs.Recovers.{recover_stopped}
 use Rattle.mas_complex.proofs.Leaving.{left_why, rose_later, rose_earlier}
 use Rattle.ckpt_copy.specs.Pages.{bytes_of, level}
 use Rattle.mas_complex.specs.Crash.{Setting, Copy, setting, copy_of}
 use Rattle.mas_complex.proofs.Recovered.{stands_of}
+use Rattle.std.proofs.lemmas.Result.{err_from_is_err_and}
+use Rattle.mas_complex.proofs.Apart.{on_then}
+use Rattle.mas_complex.proofs.Counted.{counts_then, counts_seen, counts_brought}
 use Rattle.mas_complex.proofs.complex.Complex.recover.Goals as goal
 
 pub returns-clause-stands : goal.returns-clause-stands
@@ -122,3 +126,102 @@ returns-clause-left2 g c told alive dead =
     left_why C.reads (disk_now v0 Ckpt2).bytes s.level (C.room b.pair.second.copy) (C.room f.pair.second.copy) b.second c.in-Some.found (Rose (v0.faults (Disk Ckpt2)) (v5.faults (Disk Ckpt2))) c.in_ok-second.second d.pair.second.alive unseen failed read at
     (λ pages is not. c.in-Some.ensures.unfit2 ((one pages is).is_alive) not)
     (λ not. ap (λ p. C.room p.second.copy) c.give_fate.ensures.pair ∙ ap C.room (c.bring.ensures.room2 dead4 not ∙ c.choose_any.ensures.copy2))
+
+-- WHAT IS COUNTED
+
+pub returns-in_err-first-clause-counts : goal.returns-in_err-first-clause-counts
+returns-in_err-first-clause-counts g c =
+    let P = g.P.Plant in
+    let s = c.args.self.now in
+    let a = c.see_first.new.self in
+    let p = err_from_is_err_and c.from_residual.result c.from_residual.ensures.1 in
+    counts_seen (Option (List Page)) c.args.by.0 s.pair.first.alive a.pair.first.alive s.pair.second.alive a.pair.second.alive (P.view s.plant) (P.view a.plant) c.from_residual.result p.0 c.in_err-first.field-0.0 p.1 p.2 c.in_err-first.ensures.counts
+
+pub returns-in_err-second-clause-counts : goal.returns-in_err-second-clause-counts
+returns-in_err-second-clause-counts g c =
+    let P = g.P.Plant in
+    let s = c.args.self.now in
+    let a = c.see_first.new.self in
+    let b = c.see_second.new.self in
+    let r = c.from_residual-in_err-second.result in
+    let p = err_from_is_err_and r c.from_residual-in_err-second.ensures.1 in
+    counts_then c.args.by.0 s.pair.first.alive a.pair.first.alive b.pair.first.alive s.pair.second.alive a.pair.second.alive b.pair.second.alive (recover_stopped r) (P.view s.plant) (P.view a.plant) (P.view b.plant) c.in_ok-first.ensures.counts
+    (counts_seen (Option (List Page)) c.args.by.0 a.pair.first.alive b.pair.first.alive a.pair.second.alive b.pair.second.alive (P.view a.plant) (P.view b.plant) r p.0 c.in_err-second.field-0.0 p.1 p.2 c.in_err-second.ensures.counts)
+
+pub returns-in_default-clause-counts : goal.returns-in_default-clause-counts
+returns-in_default-clause-counts g c =
+    let P = g.P.Plant in
+    let s = c.args.self.now in
+    let a = c.see_first.new.self in
+    let b = c.see_second.new.self in
+    let d = c.choose_any.new.self in
+    counts_then c.args.by.0 s.pair.first.alive b.pair.first.alive d.pair.first.alive s.pair.second.alive b.pair.second.alive d.pair.second.alive false (P.view s.plant) (P.view b.plant) (P.view d.plant)
+    (counts_then c.args.by.0 s.pair.first.alive a.pair.first.alive b.pair.first.alive s.pair.second.alive a.pair.second.alive b.pair.second.alive false (P.view s.plant) (P.view a.plant) (P.view b.plant) c.in_ok-first.ensures.counts c.in_ok-second.ensures.counts)
+    (c.choose_any.ensures.counts c.args.by.0)
+
+pub returns-in_err-bring-clause-counts : goal.returns-in_err-bring-clause-counts
+returns-in_err-bring-clause-counts g c =
+    let P = g.P.Plant in
+    let s = c.args.self.now in
+    let a = c.see_first.new.self in
+    let b = c.see_second.new.self in
+    let d = c.choose_any.new.self in
+    let e = c.bring.new.self in
+    let r = c.from_residual-in_err-bring.result in
+    let p = err_from_is_err_and r c.from_residual-in_err-bring.ensures.1 in
+    counts_then c.args.by.0 s.pair.first.alive d.pair.first.alive e.pair.first.alive s.pair.second.alive d.pair.second.alive e.pair.second.alive (recover_stopped r) (P.view s.plant) (P.view d.plant) (P.view e.plant)
+    (counts_then c.args.by.0 s.pair.first.alive b.pair.first.alive d.pair.first.alive s.pair.second.alive b.pair.second.alive d.pair.second.alive false (P.view s.plant) (P.view b.plant) (P.view d.plant)
+    (counts_then c.args.by.0 s.pair.first.alive a.pair.first.alive b.pair.first.alive s.pair.second.alive a.pair.second.alive b.pair.second.alive false (P.view s.plant) (P.view a.plant) (P.view b.plant) c.in_ok-first.ensures.counts c.in_ok-second.ensures.counts)
+    (c.choose_any.ensures.counts c.args.by.0))
+    (counts_brought (Unit {0}) c.args.by.0 d.pair.first.alive e.pair.first.alive d.pair.second.alive e.pair.second.alive (P.view d.plant) (P.view e.plant) r p.0 c.in_err-bring.field-0.0 p.1 p.2 c.in_err-bring.ensures.counts)
+
+pub returns-clause-counts : goal.returns-clause-counts
+returns-clause-counts g c =
+    let P = g.P.Plant in
+    let s = c.args.self.now in
+    let a = c.see_first.new.self in
+    let b = c.see_second.new.self in
+    let d = c.choose_any.new.self in
+    let e = c.bring.new.self in
+    rw (c.give_fate.ensures.pair, c.give_fate.ensures.plant)
+    (counts_then c.args.by.0 s.pair.first.alive d.pair.first.alive e.pair.first.alive s.pair.second.alive d.pair.second.alive e.pair.second.alive false (P.view s.plant) (P.view d.plant) (P.view e.plant)
+    (counts_then c.args.by.0 s.pair.first.alive b.pair.first.alive d.pair.first.alive s.pair.second.alive b.pair.second.alive d.pair.second.alive false (P.view s.plant) (P.view b.plant) (P.view d.plant)
+    (counts_then c.args.by.0 s.pair.first.alive a.pair.first.alive b.pair.first.alive s.pair.second.alive a.pair.second.alive b.pair.second.alive false (P.view s.plant) (P.view a.plant) (P.view b.plant) c.in_ok-first.ensures.counts c.in_ok-second.ensures.counts)
+    (c.choose_any.ensures.counts c.args.by.0))
+    c.in_ok-bring.ensures.counts)
+
+-- VOLUMES AND CONSOLE
+
+pub returns-in_err-second-clause-apart : goal.returns-in_err-second-clause-apart
+returns-in_err-second-clause-apart g c told =
+    let P = g.P.Plant in
+    on_then (P.view c.args.self.now.plant) (P.view c.see_first.new.self.plant) (P.view c.see_second.new.self.plant) (c.see_first.ensures.apart told) (c.see_second.ensures.apart told)
+
+pub returns-in_default-clause-apart : goal.returns-in_default-clause-apart
+returns-in_default-clause-apart g c told =
+    let P = g.P.Plant in
+    let old = P.view c.args.self.now.plant in
+    let mid = P.view c.see_second.new.self.plant in
+    on_then old mid (P.view c.choose_any.new.self.plant)
+    (on_then old (P.view c.see_first.new.self.plant) mid (c.see_first.ensures.apart told) (c.see_second.ensures.apart told)) (c.choose_any.ensures.apart told)
+
+pub returns-in_err-bring-clause-apart : goal.returns-in_err-bring-clause-apart
+returns-in_err-bring-clause-apart g c told =
+    let P = g.P.Plant in
+    let old = P.view c.args.self.now.plant in
+    let mid = P.view c.see_second.new.self.plant in
+    let chosen = P.view c.choose_any.new.self.plant in
+    on_then old chosen (P.view c.bring.new.self.plant)
+    (on_then old mid chosen (on_then old (P.view c.see_first.new.self.plant) mid (c.see_first.ensures.apart told) (c.see_second.ensures.apart told)) (c.choose_any.ensures.apart told))
+    (c.bring.ensures.apart told)
+
+pub returns-clause-apart : goal.returns-clause-apart
+returns-clause-apart g c told =
+    let P = g.P.Plant in
+    let old = P.view c.args.self.now.plant in
+    let mid = P.view c.see_second.new.self.plant in
+    let chosen = P.view c.choose_any.new.self.plant in
+    rw c.give_fate.ensures.plant
+    (on_then old chosen (P.view c.bring.new.self.plant)
+    (on_then old mid chosen (on_then old (P.view c.see_first.new.self.plant) mid (c.see_first.ensures.apart told) (c.see_second.ensures.apart told)) (c.choose_any.ensures.apart told))
+    (c.bring.ensures.apart told))
