@@ -1,11 +1,14 @@
 -- What a call on one copy leaves as it was, said of plain data.
-use Rattle.std.proofs.Common.{ℕ, Bool, List, refl, ◌∙◌, arith}
+use Rattle.std.proofs.Common.{◌≡◌, ◌==◌, ⊎_elim, ℕ, ◌≤◌, ◌<◌, Bool, true, false, List, refl, sym, subst, ap, ◌∙◌, arith}
+use Rattle.std.proofs.lemmas.Bool.{eqb-true, eqb-false}
 use Rattle.std.proofs.Math.Logic.{∥∥₁_elim}
 use Rattle.std.specs.Coded.{Coded, Coded-set, coded_list, coded_ℕ, coded_bool, coded×, code_by}
 use Rattle.mas_types.specs.declared.ids.Dev.{Dev}
 use Rattle.mas_types.specs.declared.ids.Dev.TheVariants.{Ckpt1, Ckpt2, Spool}
-use Rattle.spool_disk.specs.View.{View, Disk, Line, Stretch}
-use Rattle.spool_disk.specs.Acts.{Goes}
+use Rattle.spool_disk.specs.declared.plant.Part.TheVariants.{Disk as DiskPart}
+use Rattle.spool_disk.specs.View.{View, World, Disk, Line, Stretch, disk_at, disk_now}
+use Rattle.spool_disk.specs.Acts.{Goes, Loses, LosesThere}
+use Rattle.ckpt_copy.specs.Moments.{either_way}
 use Rattle.ckpt_copy.specs.Meanwhile.{Meanwhile}
 use Rattle.duplex_pair.specs.Halves.{IsCkpt}
 use Rattle.duplex_pair.specs.Both.{BothMeanwhile}
@@ -31,6 +34,28 @@ elsewhere_is dev old new some = record {
   others = λ t from le d ne. ∥∥₁_elim some (Coded-set coded_disk _ _) (λ e. e.others t from le d ne);
   console = λ t from le. ∥∥₁_elim some (Coded-set (coded_list coded_line) _ _) (λ e. e.console t from le);
 }
+
+-- a volume that is lost, in one moment
+module _ (v : ℕ) (old new : View) (there : LosesThere (Spool v) old new) where
+  pub elsewhere_lost : Loses (DiskPart (Spool v)) old new → Elsewhere (Spool v) old new
+  elsewhere_lost loses = record {
+    others = λ t from le d ne. ⊎_elim
+        (λ (h : t ≤ old.now). let e : t ≡ old.now = omega (arith, h, from) in subst (λ (m : ℕ). disk_at new m d ≡ disk_now old d) (sym e) (ap (λ (w : World). w.disk d) (loses.goes.past old.now (omega arith))))
+        (λ (h : old.now < t). let e : t ≡ new.now = omega (arith, h, le, loses.time) in subst (λ (m : ℕ). disk_at new m d ≡ disk_now old d) (sym e) (there.only.others d ne))
+        (either_way t old.now);
+    console = λ t from le. ⊎_elim
+        (λ (h : t ≤ old.now). let e : t ≡ old.now = omega (arith, h, from) in subst (λ (m : ℕ). (new.world m).console ≡ (old.world old.now).console) (sym e) (ap (λ (w : World). w.console) (loses.goes.past old.now (omega arith))))
+        (λ (h : old.now < t). let e : t ≡ new.now = omega (arith, h, le, loses.time) in subst (λ (m : ℕ). (new.world m).console ≡ (old.world old.now).console) (sym e) there.only.console)
+        (either_way t old.now);
+  }
+
+  pub bytes_lost : (d : Dev) → (disk_now new d).bytes ≡ (disk_now old d).bytes
+  bytes_lost Ckpt1 = ap (λ (x : Disk). x.bytes) (there.only.others Ckpt1 (λ e. absurd (cc)))
+  bytes_lost Ckpt2 = ap (λ (x : Disk). x.bytes) (there.only.others Ckpt2 (λ e. absurd (cc)))
+  bytes_lost (Spool n) = by_volume (n == v) refl where
+    by_volume : (b : Bool) → (n == v) ≡ b → (disk_now new (Spool n)).bytes ≡ (disk_now old (Spool n)).bytes
+    by_volume true e = subst (λ (m : ℕ). (disk_now new (Spool m)).bytes ≡ (disk_now old (Spool m)).bytes) (sym (eqb-true n v e)) there.disk.bytes
+    by_volume false e = ap (λ (x : Disk). x.bytes) (there.only.others (Spool n) (λ same. eqb-false n v e (cc same)))
 
 -- CALLS ONE AFTER ANOTHER
 

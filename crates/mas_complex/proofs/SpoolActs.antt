@@ -10,7 +10,7 @@ use Rattle.mas_types.specs.declared.journals.Entry.{Entry}
 use Rattle.mas_types.specs.Limits.{page_bytes}
 use Rattle.spool_disk.specs.declared.plant.Act.{Act}
 use Rattle.spool_disk.specs.View.{View, Disk, disk_at, disk_now}
-use Rattle.spool_disk.specs.Acts.{Goes, OnDevice, Syncs, next}
+use Rattle.spool_disk.specs.Acts.{Goes, OnDevice, Syncs, LosesThere, next}
 use Rattle.ckpt_copy.specs.Reading.{AllRead}
 use Rattle.track_groups.specs.Laws.{AreItsOwn}
 use Rattle.spool_volumes.specs.Volumes.{volume_of, start_of}
@@ -21,7 +21,7 @@ use Rattle.mas_complex.specs.Crash.{Setting, ReadsOne, Copy, Keeps}
 use Rattle.mas_complex.proofs.Present.{copy_reads}
 use Rattle.mas_complex.proofs.Moves.{Adds, acts_keep}
 use Rattle.mas_complex.proofs.Sides.{moved}
-use Rattle.mas_complex.proofs.Spooled.{texts_quiet, texts_written, each_quiet, read_quiet, sync_quiet}
+use Rattle.mas_complex.proofs.Spooled.{texts_quiet, texts_written, each_quiet, quiet_untouched, read_quiet, sync_quiet}
 use Rattle.mas_complex.proofs.Texting.{Stays}
 
 at_end : (old new : View) → new.now ≡ next old.now → (t : ℕ) → old.now < t → t ≤ new.now → t ≡ new.now
@@ -54,6 +54,15 @@ module _ (S : Setting) (K F : List Entry) (old new : View) (time : new.now ≡ n
   stays_sync volume act syncs =
       let per = S.base.config.groups in
       let quiet = each_quiet volume old new (sync_quiet (disk_now old (Spool volume)) (disk_now new (Spool volume)) act syncs.disk) syncs.only in
+      stays_after
+      (λ gone has. texts_quiet per (spools_at old old.now) (spools_at new new.now) gone (S.run S.base K) quiet has)
+      (λ gone has. texts_quiet per (spools_at old old.now) (spools_at new new.now) gone (S.run S.base (K ++ F)) quiet has)
+
+  -- a volume is lost
+  pub stays_lost : (volume : ℕ) → LosesThere (Spool volume) old new → Stays S K F old new
+  stays_lost volume loses =
+      let per = S.base.config.groups in
+      let quiet = each_quiet volume old new (quiet_untouched (disk_now old (Spool volume)) (disk_now new (Spool volume)) loses.disk) loses.only in
       stays_after
       (λ gone has. texts_quiet per (spools_at old old.now) (spools_at new new.now) gone (S.run S.base K) quiet has)
       (λ gone has. texts_quiet per (spools_at old old.now) (spools_at new new.now) gone (S.run S.base (K ++ F)) quiet has)

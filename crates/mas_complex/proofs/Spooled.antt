@@ -183,7 +183,7 @@ written_synced at len from old new apart dirtied avoids =
     subst (λ (u : List Stretch). Avoids u (stretch from page_bytes)) (sym dirtied.unsynced) (apart, avoids)
 
 module _ (per : ℕ) (g : GroupNo) (old new : View) (bytes : Page) (act : Act) (long : length bytes.0 ≡ page_bytes) (writes : WritesGroup per g old new bytes act) where
-  abbrev Spares : GroupNo → Type 0
+  abbrev pub Spares : GroupNo → Type 0
   Spares h = Spared per (spools_at old old.now) (spools_at new new.now) h
 
   -- a group on another volume
@@ -207,7 +207,7 @@ module _ (per : ℕ) (g : GroupNo) (old new : View) (bytes : Page) (act : Act) (
       quiet_spared per (spools_at old old.now) (spools_at new new.now) h (subst (λ (n : ℕ). Quiet (spools_at old old.now n) (spools_at new new.now n)) (sym same) quiet))
       (changed (page_start within (start_of per g)) (page_part within bytes.0) (disk_now old (device_of per g)) (disk_now new (device_of per g)) act writes.disk)
 
-  spared_other : (h : GroupNo) → h.0 ≢ g.0 → Spares h
+  pub spared_other : (h : GroupNo) → h.0 ≢ g.0 → Spares h
   spared_other h other = by_volume (volume_of per h == volume_of per g) refl where
     by_volume : (b : Bool) → (volume_of per h == volume_of per g) ≡ b → Spares h
     by_volume true e = spared_beside h other (eqb-true (volume_of per h) (volume_of per g) e)

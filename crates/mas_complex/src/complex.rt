@@ -5,7 +5,7 @@ ghost use Rattle.mas_types.specs.declared.ids.MemberId.{MemberId};
 ghost use Rattle.mas_types.specs.declared.ids.Dev.{Dev};
 ghost use Rattle.mas_types.specs.declared.journals.Batch.{Batch};
 ghost use Rattle.mas_types.specs.declared.journals.Entry.{Entry};
-ghost use Rattle.mas_types.specs.declared.ids.Dev.TheVariants.{Ckpt1, Ckpt2};
+ghost use Rattle.mas_types.specs.declared.ids.Dev.TheVariants.{Ckpt1, Ckpt2, Spool};
 ghost use Rattle.mas_types.specs.declared.journals.Fate.TheVariants.{Kept as FateKept, Dropped as FateDropped};
 ghost use Rattle.spool_disk.specs.View.{View, disk_now};
 ghost use Rattle.spool_disk.specs.Acts.{top, Acts, Goes, Loses, Says};
@@ -546,9 +546,8 @@ impl<P: Plant + Drop, C: Steady + Drop> Complex<P, C> {
         }
     }
 
-    /// The copy on a device, and the device, are lost.
-    pub fn lose(&mut self, dev: Dev)
-        requires ckpt { IsCkpt dev }
+    fn lose_volume(&mut self, volume: u8)
+        ensures pair { self.new.pair ≡ self.old.pair }
         ensures base { self.new.base ≡ self.old.base }
         ensures since { self.new.since ≡ self.old.since }
         ensures book { self.new.book ≡ self.old.book }
@@ -559,7 +558,27 @@ impl<P: Plant + Drop, C: Steady + Drop> Complex<P, C> {
         ensures first { self.new.first ≡ self.old.first }
         ensures second { self.new.second ≡ self.old.second }
         ensures level { self.new.level ≡ self.old.level }
-        ensures dead { (pick dev self.new.pair.first self.new.pair.second).alive ≡ false }
+        ensures loses { Loses (Disk (Spool volume)) (P.view self.old.plant) (P.view self.new.plant) }
+        ensures elsewhere { P.tells → Elsewhere (Spool volume) (P.view self.old.plant) (P.view self.new.plant) }
+        ensures bytes { P.tells → (d : Dev) → (disk_now (P.view self.new.plant) d).bytes ≡ (disk_now (P.view self.old.plant) d).bytes }
+    {
+        self.plant.lose(Dev::Spool(volume));
+    }
+
+    /// A device is lost, and the copy on it with it. A text with a group on a volume that is lost need not stand any more.
+    pub fn lose(&mut self, dev: Dev)
+        ensures base { self.new.base ≡ self.old.base }
+        ensures since { self.new.since ≡ self.old.since }
+        ensures book { self.new.book ≡ self.old.book }
+        ensures journal { self.new.journal ≡ self.old.journal }
+        ensures current { self.new.current ≡ self.old.current }
+        ensures reserved { self.new.reserved ≡ self.old.reserved }
+        ensures placed { self.new.placed ≡ self.old.placed }
+        ensures first { self.new.first ≡ self.old.first }
+        ensures second { self.new.second ≡ self.old.second }
+        ensures level { self.new.level ≡ self.old.level }
+        ensures dead { IsCkpt dev → (pick dev self.new.pair.first self.new.pair.second).alive ≡ false }
+        ensures volume { (n : ℕ) → dev ≡ Spool n → self.new.pair ≡ self.old.pair }
         ensures copy { (pick dev self.new.pair.first self.new.pair.second).copy ≡ (pick dev self.old.pair.first self.old.pair.second).copy }
         ensures other { other dev self.new.pair.first self.new.pair.second ≡ other dev self.old.pair.first self.old.pair.second }
         ensures loses { Loses (Disk dev) (P.view self.old.plant) (P.view self.new.plant) }
@@ -569,7 +588,7 @@ impl<P: Plant + Drop, C: Steady + Drop> Complex<P, C> {
         match dev {
             Dev::Ckpt1 => self.lose_first(),
             Dev::Ckpt2 => self.lose_second(),
-            Dev::Spool(_) => unreachable!(),
+            Dev::Spool(volume) => self.lose_volume(volume),
         }
     }
 

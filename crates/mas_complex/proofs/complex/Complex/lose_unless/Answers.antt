@@ -7,7 +7,7 @@ returns-then-not-stays-clause-counts g c by =
     let P = g.P.Plant in
     let s = c.args.self.now in
     let n = c.lose.new.self in
-    counts_lost (λ h. h.alive) s.pair.first s.pair.second n.pair.first n.pair.second by (P.view s.plant) (P.view n.plant) c.args.dev c.requires.ckpt c.requires.alive c.lose.ensures.dead c.lose.ensures.other c.lose.ensures.loses
+    counts_lost (λ h. h.alive) s.pair.first s.pair.second n.pair.first n.pair.second by (P.view s.plant) (P.view n.plant) c.args.dev c.requires.ckpt c.requires.alive (c.lose.ensures.dead c.requires.ckpt) c.lose.ensures.other c.lose.ensures.loses
 
 pub returns-then-not-stays-clause-apart : goal.returns-then-not-stays-clause-apart
 returns-then-not-stays-clause-apart g c told =

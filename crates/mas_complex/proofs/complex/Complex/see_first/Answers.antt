@@ -29,7 +29,7 @@ returns-in-Unread-clause-counts g c =
     let seen = rw c.in-Unread.is at c.in_ok-pages.ensures.seen in
     counts_then c.args.by.0 s.pair.first.alive a.pair.first.alive b.pair.first.alive s.pair.second.alive a.pair.second.alive b.pair.second.alive false (P.view s.plant) (P.view a.plant) (P.view b.plant)
     (counts_first c.args.by.0 s.pair.first.alive a.pair.first.alive s.pair.second.alive a.pair.second.alive false (P.view s.plant) (P.view a.plant) (ap (λ h. h.alive) c.look_first.ensures.pair_second) c.in_ok-pages.ensures.acted)
-    (counts_lost (λ h. h.alive) a.pair.first a.pair.second b.pair.first b.pair.second c.args.by.0 (P.view a.plant) (P.view b.plant) Ckpt1 tt seen.is_alive c.lose.ensures.dead c.lose.ensures.other c.lose.ensures.loses)
+    (counts_lost (λ h. h.alive) a.pair.first a.pair.second b.pair.first b.pair.second c.args.by.0 (P.view a.plant) (P.view b.plant) Ckpt1 tt seen.is_alive (c.lose.ensures.dead tt) c.lose.ensures.other c.lose.ensures.loses)
 
 pub returns-in-Unread-clause-apart : goal.returns-in-Unread-clause-apart
 returns-in-Unread-clause-apart g c told =

@@ -1,0 +1,43 @@
+use Rattle.std.proofs.Math.Logic.{∥∥₁_map}
+use Rattle.mas_types.specs.declared.ids.Dev.TheVariants.{Ckpt1, Ckpt2, Spool}
+use Rattle.spool_disk.specs.declared.plant.Part.TheVariants.{Disk as DiskPart}
+use Rattle.spool_disk.specs.View.{disk_now}
+use Rattle.mas_complex.specs.Journals.{kept_all, entries_in}
+use Rattle.mas_complex.specs.Crash.{Setting, setting, copy_of}
+use Rattle.mas_complex.proofs.Lost.{lost_later}
+use Rattle.mas_complex.proofs.Making.{unlost}
+use Rattle.mas_complex.proofs.Apart.{elsewhere_lost, bytes_lost}
+use Rattle.mas_complex.proofs.SpoolActs.{spool_keep, stays_lost}
+use Rattle.mas_complex.proofs.complex.Complex.lose_volume.Goals as goal
+
+pub invariant_of-self-clause-kept : goal.invariant_of-self-clause-kept
+invariant_of-self-clause-kept g c told =
+    let s = c.args.self.now in
+    let C = g.C.Copying in
+    let S : Setting = setting C.reads s.base s.since in
+    let first = copy_of (C.rests s.pair.first.copy) (C.holds s.pair.first.copy) s.pair.first.alive s.first in
+    let second = copy_of (C.rests s.pair.second.copy) (C.holds s.pair.second.copy) s.pair.second.alive s.second in
+    let old = g.P.Plant.view s.plant in
+    let plant = c.lose.new.self in
+    let new = g.P.Plant.view plant in
+    let loses = c.lose.ensures.acts in
+    let content = c.lose.ensures.content told in
+    ∥∥₁_map (s.kept told) (λ k. spool_keep S s.journal.batches s.current s.level first second old new k (λ pages d r. g.met.C.Copying.rests_reads s.pair.first.copy pages d r) (λ was next d r. g.met.C.Copying.holds_reads s.pair.first.copy was next d r) (λ pages d r. g.met.C.Copying.rests_reads s.pair.second.copy pages d r) (λ was next d r. g.met.C.Copying.holds_reads s.pair.second.copy was next d r)
+    loses.goes loses.time c.args.volume content.only
+    (stays_lost S (kept_all s.journal.batches) (entries_in s.current) old new loses.time (λ n lost. unlost (new.lost (DiskPart (Spool n))) (disk_now new (Spool n)).lost (g.met.P.Plant.there plant told (Spool n)) lost) c.args.volume content))
+
+pub invariant_of-self-clause-first_lost : goal.invariant_of-self-clause-first_lost
+invariant_of-self-clause-first_lost g c dead =
+    let s = c.args.self.now in
+    lost_later Ckpt1 s.pair.first.alive (g.P.Plant.view s.plant) (g.P.Plant.view c.lose.new.self) c.lose.ensures.acts.goes s.first_lost dead
+
+pub invariant_of-self-clause-second_lost : goal.invariant_of-self-clause-second_lost
+invariant_of-self-clause-second_lost g c dead =
+    let s = c.args.self.now in
+    lost_later Ckpt2 s.pair.second.alive (g.P.Plant.view s.plant) (g.P.Plant.view c.lose.new.self) c.lose.ensures.acts.goes s.second_lost dead
+
+pub returns-clause-elsewhere : goal.returns-clause-elsewhere
+returns-clause-elsewhere g c told = elsewhere_lost c.args.volume (g.P.Plant.view c.args.self.now.plant) (g.P.Plant.view c.lose.new.self) (c.lose.ensures.content told) c.lose.ensures.acts
+
+pub returns-clause-bytes : goal.returns-clause-bytes
+returns-clause-bytes g c told = bytes_lost c.args.volume (g.P.Plant.view c.args.self.now.plant) (g.P.Plant.view c.lose.new.self) (c.lose.ensures.content told)
