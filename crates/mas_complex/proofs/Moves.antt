@@ -1,5 +1,5 @@
 -- How the shared value goes on: over acts, and over a batch that begins or gets its fate.
-use Rattle.std.proofs.Common.{◌≡◌, ⊎_elim, ℕ, ◌≤◌, ◌<◌, Bool, false, refl, List, [], ◌∷◌, ◌++◌, length, drop, Option, Some, None, subst, sym, ◌∙◌, ap, arith, append_assoc}
+use Rattle.std.proofs.Common.{◌≡◌, ⊎_elim, ℕ, ◌≤◌, ◌<◌, false, refl, List, [], ◌∷◌, ◌++◌, length, drop, Option, Some, None, subst, sym, ◌∙◌, ap, arith, append_assoc}
 use Rattle.std.proofs.lemmas.List.{append-nil}
 use Rattle.mas_types.specs.declared.ids.Dev.TheVariants.{Ckpt1, Ckpt2}
 use Rattle.spool_disk.specs.View.{View, World, Line, disk_at, disk_now}

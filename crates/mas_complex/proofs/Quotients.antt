@@ -1,5 +1,5 @@
 -- On which of the volumes a group lies.
-use Rattle.std.proofs.Common.{◌≡◌, ◌↔◌, ℕ, ◌+◌, ◌*◌, ◌/◌, ◌≤◌, ◌<◌, arith}
+use Rattle.std.proofs.Common.{ℕ, ◌+◌, ◌*◌, ◌/◌, ◌≤◌, ◌<◌, arith}
 use Rattle.std.proofs.Math.Nat.{div-lt_iff_lt-mul}
 
 pub few_quotient : (g volumes per : ℕ) → 1 ≤ per → g < volumes * per → g / per + 1 ≤ volumes

@@ -1,5 +1,5 @@
 -- Acts on a spool volume: no copy changes, and nothing is said.
-use Rattle.std.proofs.Common.{◌≡◌, ℕ, ◌≤◌, ◌<◌, Bool, true, List, [], ◌++◌, length, Option, refl, subst, sym, ◌∙◌, ap, arith, inr}
+use Rattle.std.proofs.Common.{◌≡◌, ℕ, ◌≤◌, ◌<◌, Bool, true, List, [], ◌++◌, length, Option, subst, sym, ◌∙◌, ap, arith, inr}
 use Rattle.std.proofs.lemmas.List.{append-nil}
 use Rattle.mas_types.specs.declared.ids.MemberId.{MemberId}
 use Rattle.mas_types.specs.declared.ids.GroupNo.{GroupNo}
@@ -14,12 +14,12 @@ use Rattle.spool_disk.specs.Acts.{Goes, OnDevice, Syncs, LosesThere, next}
 use Rattle.ckpt_copy.specs.Reading.{AllRead}
 use Rattle.track_groups.specs.Laws.{AreItsOwn}
 use Rattle.spool_volumes.specs.Volumes.{volume_of, start_of}
-use Rattle.mas_complex.specs.Journals.{kept_all, in_flight, entries_in}
+use Rattle.mas_complex.specs.Journals.{kept_all, entries_in}
 use Rattle.mas_complex.specs.Spool.{IsHeldBy, device_of, is_within, page_start, page_part, ReadsGroup, WritesGroup}
 use Rattle.mas_complex.specs.Texts.{spools_at, lost_now, HasTexts}
 use Rattle.mas_complex.specs.Crash.{Setting, ReadsOne, Copy, Keeps}
 use Rattle.mas_complex.proofs.Present.{copy_reads}
-use Rattle.mas_complex.proofs.Moves.{Adds, acts_keep}
+use Rattle.mas_complex.proofs.Moves.{acts_keep}
 use Rattle.mas_complex.proofs.Sides.{moved}
 use Rattle.mas_complex.proofs.Spooled.{texts_quiet, texts_written, each_quiet, quiet_untouched, read_quiet, sync_quiet}
 use Rattle.mas_complex.proofs.Texting.{Stays}

@@ -1,5 +1,5 @@
 -- Texts stay where nothing of their groups is written, and are read from what a crash leaves of the volumes.
-use Rattle.std.proofs.Common.{◌≡◌, ◌≢◌, inl, inr, ⊎_elim, ◌⊎◌, ◌||◌, ◌==◌, ℕ, zero, suc, ◌+◌, ◌*◌, ◌/◌, ◌%◌, ◌≤◌, ◌<◌, nat_le, if◌then◌else◌, Bool, true, false, List, [], ◌∷◌, ◌++◌, length, All, Option, Some, None, option_map, unwrap_or, slice_get, slice_index_or, refl, subst, sym, ◌∙◌, ap, arith}
+use Rattle.std.proofs.Common.{◌≡◌, ◌≢◌, inl, inr, ⊎_elim, ◌⊎◌, ◌||◌, ◌==◌, ℕ, zero, suc, ◌+◌, ◌*◌, ◌/◌, ◌%◌, ◌≤◌, ◌<◌, if◌then◌else◌, Bool, true, false, List, [], ◌∷◌, ◌++◌, length, All, Option, Some, None, option_map, unwrap_or, slice_get, slice_index_or, refl, subst, sym, ◌∙◌, ap, arith}
 use Rattle.std.specs.List.{list_any}
 use Rattle.std.proofs.lemmas.List.Elements.{All-nil, All-cons, All-head, All-tail}
 use Rattle.std.proofs.lemmas.List.Sorted.{All-permutation}
@@ -19,8 +19,8 @@ use Rattle.std.proofs.Math.Nat.{div-add-mod}
 use Rattle.std.proofs.lemmas.Bool.{true≢false, eqb-true, eqb-false}
 use Rattle.spool_disk.specs.declared.plant.Act.{Act}
 use Rattle.spool_disk.specs.declared.plant.Act.TheVariants.{Done, Failed, Halted}
-use Rattle.spool_disk.specs.View.{View, Disk, Stretch, Apart, Avoids, IsImage, disk_now, slice}
-use Rattle.spool_disk.specs.Acts.{DiffersIn, Dirtied, DirtiedIn, Untouched, Written, ReadBy, Synced, OnDevice}
+use Rattle.spool_disk.specs.View.{View, Disk, Stretch, Apart, Avoids, disk_now, slice}
+use Rattle.spool_disk.specs.Acts.{Dirtied, DirtiedIn, Untouched, Written, ReadBy, Synced, OnDevice}
 use Rattle.ckpt_copy.specs.Moments.{either_way}
 use Rattle.ckpt_copy.specs.Slices.{stretch, slice_apart}
 use Rattle.track_groups.specs.Groups.{is_things, groups_where}
@@ -30,7 +30,7 @@ use Rattle.spool_volumes.specs.Volumes.{Volumes, volume_of, start_of}
 use Rattle.spool_volumes.specs.Texts.{Held, held, records_on, gone_or, first_gone, all_records, text_unless, text_of}
 use Rattle.spool_volumes.specs.Laws.{IsLeftOf}
 use Rattle.mas_complex.specs.Spool.{IsHeldBy, device_of, is_within, page_start, page_part, WritesGroup}
-use Rattle.mas_complex.specs.Texts.{Spools, spools_at, bytes_on, lies_on, IsSynced, IsThere, IsThereUnless, HasTexts, IsReadUnless, GivesTexts}
+use Rattle.mas_complex.specs.Texts.{Spools, spools_at, bytes_on, IsSynced, IsThere, IsThereUnless, HasTexts, IsReadUnless, GivesTexts}
 
 -- A TEXT IS WHAT ITS GROUPS HOLD
 

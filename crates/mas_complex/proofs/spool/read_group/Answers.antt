@@ -1,4 +1,3 @@
-use Rattle.std.proofs.Common.{arith}
 use Rattle.mas_complex.proofs.Quotients.{few_quotient}
 use Rattle.mas_complex.proofs.spool.read_group.Goals as goal
 

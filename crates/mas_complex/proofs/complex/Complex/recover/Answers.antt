@@ -1,4 +1,4 @@
-use Rattle.std.proofs.Common.{◌≡◌, ◌||◌, ◌++◌, ◌∙◌, ℕ, List, Option, Bool, true, false, Some, None, sym, subst, ap, arith, rules}
+use Rattle.std.proofs.Common.{◌≡◌, ◌||◌, ◌++◌, ◌∙◌, ℕ, List, Option, true, false, Some, None, sym, subst, ap, arith, rules}
 use Rattle.std.proofs.Math.Logic.{∥∥₁_map}
 use Rattle.mas_types.specs.declared.ids.Dev.TheVariants.{Ckpt1, Ckpt2}
 use Rattle.spool_disk.specs.View.{disk_now}
