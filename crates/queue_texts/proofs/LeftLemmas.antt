@@ -1,8 +1,8 @@
 -- A command that brings no text leaves the texts with their groups.
-use Rattle.std.proofs.Common.{◌≡◌, ◌⊎◌, inl, inr, ⊎_elim, ℕ, ◌+◌, ◌==◌, ◌<◌, nat_le, nat_lt, min, ◌-◌, not, ◌&&◌, ◌||◌, if◌then◌else◌, Bool, true, false, List, [], ◌∷◌, length, Option, Some, None, All, Contains, refl, sym, ◌∙◌, ap, subst, arith}
+use Rattle.std.proofs.Common.{◌≡◌, ◌⊎◌, inl, inr, ⊎_elim, ℕ, ◌+◌, ◌==◌, ◌<◌, nat_le, nat_lt, min, ◌-◌, not, ◌&&◌, ◌||◌, if◌then◌else◌, Bool, true, false, List, [], ◌∷◌, length, Option, Some, None, All, Contains, refl, sym, subst, arith}
 use Rattle.std.specs.List.{list_any, find, filter}
 use Rattle.std.proofs.lemmas.Bool.Decides.{nat_tests}
-use Rattle.std.proofs.lemmas.List.Elements.{All-nil, All-cons, All-head, All-tail, All-weaker, All-push, All-map, All-filter, All-contains, All-contains_itself, filter_passes}
+use Rattle.std.proofs.lemmas.List.Elements.{All-head, All-tail, All-weaker, All-push, All-map, All-filter, All-contains, All-contains_itself, filter_passes}
 use Rattle.mas_types.specs.declared.ids.GroupNo.{GroupNo}
 use Rattle.mas_types.specs.declared.ids.JobNo.{JobNo}
 use Rattle.mas_types.specs.declared.ids.MemberId.{MemberId}
@@ -21,25 +21,24 @@ use Rattle.mas_types.specs.declared.queues.Owner.TheVariants as owner
 use Rattle.mas_types.specs.declared.queues.Queue.{Queue}
 use Rattle.mas_types.specs.declared.queues.Thing.{Thing}
 use Rattle.mas_types.specs.declared.queues.Thing.TheVariants.{Deck, Output}
-use Rattle.mas_types.specs.Fit.{AreDistinct}
 use Rattle.mas_types.specs.Ids.{same_number, same_index, same_member, is_somebody}
 use Rattle.mas_types.specs.Lists.{change_first, without_first, without, first_some}
 use Rattle.mas_types.specs.Number.{next_number, is_number_used}
 use Rattle.mas_types.specs.Owners.{is_free, freed, taken, is_members, is_held_by, is_deck_of, is_output_of, is_of_any}
-use Rattle.mas_types.specs.Queue.{has_number, has_key, has_output, is_of, is_in, is_member, prints_at, number_of, first_in, is_current_on, job_at, in_output, in_purge, in_hardcopy, in_input, total}
+use Rattle.mas_types.specs.Queue.{has_number, has_key, has_output, is_of, is_in, is_member, prints_at, number_of, first_in, is_current_on, job_at, in_output, in_purge, in_hardcopy, total}
 use Rattle.mas_types.specs.Reset.{reset, reset_job, reset_output}
 use Rattle.mas_types.specs.Row.{none_such, refused_where}
 use Rattle.mas_types.specs.Selection.{is_for_convert, is_for_execute, is_for_printer}
-use Rattle.mas_types.specs.Sound.{is_owner_there, same_key}
+use Rattle.mas_types.specs.Sound.{is_owner_there}
 use Rattle.mas_types.specs.Step.{row_of}
 use Rattle.mas_types.specs.Commands.Input.{begin_row, new_job, drop_row}
-use Rattle.mas_types.specs.Commands.Life.{made_busy, converted, gathered, purge_row}
+use Rattle.mas_types.specs.Commands.Life.{made_busy, converted, gathered}
 use Rattle.mas_types.specs.Commands.Operator.{with_held, with_prio, with_class, cancelled, cancel_row, is_busy, is_held_of, released, without_outputs_of}
 use Rattle.mas_types.specs.Commands.Printing.{picked_by, marked, outputs_over, output_removed, output_gone}
 use Rattle.track_groups.specs.Groups.{is_things}
 use Rattle.track_groups.specs.Places.{placed_from, groups_of}
 use Rattle.queue_laws.proofs.Done.{done_keeps, none_first, where_not}
-use Rattle.queue_laws.proofs.Finds.{test_cases, find-All}
+use Rattle.queue_laws.proofs.Finds.{test_cases}
 use Rattle.queue_laws.proofs.NewNumber.{next_number_free}
 use Rattle.queue_laws.proofs.Others.{All-both, second_none, without-by_number}
 use Rattle.queue_laws.proofs.Soundness.{All-change}

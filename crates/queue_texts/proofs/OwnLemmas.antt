@@ -1,5 +1,5 @@
 -- Queues whose jobs, outputs and groups are told apart.
-use Rattle.std.proofs.Common.{◌≡◌, ℕ, ◌&&◌, ◌||◌, not, Bool, true, false, List, [], ◌∷◌, map, Option, Some, None, All, refl, sym, ◌∙◌, ap, subst}
+use Rattle.std.proofs.Common.{◌≡◌, ◌&&◌, ◌||◌, not, Bool, true, false, List, [], ◌∷◌, map, Option, Some, None, All, refl, sym, ◌∙◌, ap, subst}
 use Rattle.std.specs.Prelude.{is_some}
 use Rattle.std.specs.Option.{option_map, option_map_or}
 use Rattle.std.specs.List.{list_any, find}
@@ -15,7 +15,7 @@ use Rattle.mas_types.specs.declared.queues.Queue.{Queue}
 use Rattle.mas_types.specs.Fit.{AreDistinct, IsConfig}
 use Rattle.mas_types.specs.Ids.{same_number, same_index}
 use Rattle.mas_types.specs.Queue.{has_number, has_key, in_input}
-use Rattle.mas_types.specs.Sound.{IsSound, is_there, is_owner_there, same_key}
+use Rattle.mas_types.specs.Sound.{IsSound, is_there, is_owner_there}
 use Rattle.lay_bytes.specs.declared.records.JobRec.{JobRec}
 use Rattle.lay_bytes.specs.declared.records.OutRec.{OutRec}
 use Rattle.ckpt_pages.specs.declared.tables.Tables.{Tables}
