@@ -8,7 +8,7 @@ ghost use Rattle.mas_types.specs.Step.{may_give};
 ghost use Rattle.table_queues.specs.Telling.{Tell, TellSound};
 ghost use Rattle.mas_complex.specs.Meaning.{step as step_of};
 ghost use Rattle.queue_effect.specs.Standing.{AreFit, IfRefused};
-ghost use Rattle.table_commands.specs.Given.{IsGiver, is_plain};
+ghost use Rattle.table_commands.specs.Given.{HasGroupsFor, IsGiver};
 
 use crate::checkpoint::Checkpoint;
 use mas_types::{Command, Entry, List, MemberId, NoMemory, Reply};
@@ -77,12 +77,13 @@ impl Member {
         }
     }
 
-    /// Does a command on its tables, one that brings no text and is of no line to another node: for each queue that the tables tell,
-    /// the batch has one entry more, the command with the reply that it has there, and the tables tell the queue that it leaves.
+    /// Does a command on its tables: for each queue that the tables tell, the batch has one entry more, the command with the reply that
+    /// it has there, and the tables tell the queue that it leaves. Where it enters a text, the member has the groups that the text
+    /// needs.
     ///
     /// NoMemory leaves the member as it was.
     pub fn do_command(&mut self, alloc: Global, step: u32, command: Command) -> Result<(), NoMemory>
-        requires plain { is_plain command ≡ true }
+        requires groups { HasGroupsFor self.old.checkpoint.tables self.old.id command }
         requires command { IsFit command }
         requires giver { IsGiver self.old.id command }
         requires spelling { HasSpelling self.old.checkpoint.tables }

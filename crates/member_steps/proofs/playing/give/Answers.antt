@@ -6,8 +6,12 @@ use Rattle.table_queues.specs.Telling.{Tell}
 use Rattle.member_node.specs.Batches.{last_reply}
 use Rattle.member_node.specs.Lines.{reply_lines}
 use Rattle.member_steps.specs.Steps.{entry_of, step_lines}
+use Rattle.member_node.proofs.EntryLemmas.{plain_groups}
 use Rattle.member_steps.proofs.StepLemmas.{if_ok, ok_of, only_entry}
 use Rattle.member_steps.proofs.playing.give.Goals as goal
+
+pub do_command-requires-clause-groups : goal.do_command-requires-clause-groups
+do_command-requires-clause-groups c = plain_groups c.args.member.now.checkpoint.tables c.args.member.now.id c.args.command c.requires.plain
 
 pub last_reply-requires : goal.last_reply-requires
 last_reply-requires c =

@@ -39,3 +39,6 @@ returns-clause-draft2 g c =
     let C = g.C.Copying in
     ready_copy c.in_ok-draft.draft g.P.Plant.tells x.pair.second.alive x.second (C.count x.pair.second.copy) (C.room x.pair.second.copy) k.level n.level k.pages n.pages (C.reads (disk_now (g.P.Plant.view x.plant) Ckpt2).bytes)
     c.requires.rests2 c.requires.room2 (ready_count (run x.base (kept_all x.journal.batches)) c.args.self.now.batch k n c.requires.done e.tables e.drawn) e.draft
+
+pub returns-clause-grown : goal.returns-clause-grown
+returns-clause-grown g c placed = let grown = c.in_ok-reserve.ensures.grown placed in (grown.0, grown.1)

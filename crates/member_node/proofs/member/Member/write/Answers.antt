@@ -1,4 +1,4 @@
-use Rattle.std.proofs.Common.{◌++◌, ap, sym, subst, Err, refl}
+use Rattle.std.proofs.Common.{◌++◌, ◌∙◌, ap, sym, subst, Err, refl}
 use Rattle.mas_types.specs.declared.journals.Journal.{Journal}
 use Rattle.mas_types.specs.declared.queues.Queue.{Queue}
 use Rattle.ckpt_copy.specs.Pages.{bytes_of}
