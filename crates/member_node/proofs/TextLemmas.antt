@@ -1,5 +1,5 @@
 -- The texts of a queue stand after a command that brings none.
-use Rattle.std.proofs.Common.{◌≡◌, ℕ, Bool, true, false, [], All, refl}
+use Rattle.std.proofs.Common.{◌≡◌, ℕ, Bool, true, false, [], refl}
 use Rattle.std.proofs.lemmas.List.Elements.{All-nil}
 use Rattle.mas_types.specs.declared.ids.MemberId.{MemberId}
 use Rattle.mas_types.specs.declared.jobs.Text.TheVariants.{Whole}
@@ -8,7 +8,7 @@ use Rattle.mas_types.specs.declared.commands.Command.TheVariants as command
 use Rattle.mas_types.specs.declared.queues.Queue.{Queue}
 use Rattle.mas_types.specs.declared.queues.Thing.{Thing}
 use Rattle.mas_types.specs.Step as table
-use Rattle.queue_texts.specs.Leaving.{HoldsOfTexts, AreTheirOwn, OthersLeaveTexts, brings_text}
+use Rattle.queue_texts.specs.Leaving.{AreTheirOwn, OthersLeaveTexts, brings_text}
 use Rattle.queue_texts.proofs.LeftLemmas.{left_holds}
 use Rattle.mas_complex.specs.Texts.{Spools, HasTexts, IsSynced, IsThereUnless}
 use Rattle.table_commands.specs.Given.{is_plain}
