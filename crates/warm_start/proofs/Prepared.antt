@@ -1,5 +1,5 @@
 -- A start that reads the spool volumes once it has looked at the copies.
-use Rattle.std.proofs.Common.{◌≡◌, ◌≢◌, inl, inr, ⊎_elim, ℕ, ◌<◌, ◌≤◌, Bool, true, List, Option, refl, sym, ◌∙◌, ap, subst, arith}
+use Rattle.std.proofs.Common.{◌≡◌, ◌≢◌, inl, inr, ⊎_elim, ℕ, ◌<◌, ◌≤◌, Bool, true, false, List, [], Option, refl, sym, ◌∙◌, ap, subst, arith}
 use Rattle.mas_types.specs.declared.ids.Dev.TheVariants.{Ckpt1, Ckpt2, Spool}
 use Rattle.mas_types.specs.declared.queues.Queue.{Queue}
 use Rattle.spool_disk.specs.declared.plant.Part.TheVariants.{Disk as DiskPart}
@@ -9,15 +9,17 @@ use Rattle.ckpt_copy.specs.Moments.{either_way, goes_on}
 use Rattle.ckpt_copy.specs.Pages.{bytes_of}
 use Rattle.spool_volumes.specs.Looks.{OnlyLooksAt, LooksAt}
 use Rattle.duplex_pair.specs.Halves.{IsGone}
-use Rattle.duplex_pair.specs.Both.{BothMeanwhile}
+use Rattle.duplex_pair.specs.Both.{PairActed, BothMeanwhile}
 use Rattle.duplex_pair.proofs.Composing.{no_more_start}
 use Rattle.mas_complex.specs.Texts.{HasTexts, lost_now, spools_at}
 use Rattle.mas_complex.proofs.Spooled.{texts_fewer, texts_same}
 use Rattle.warm_start.specs.declared.choosing.Start.{Start}
-use Rattle.warm_start.specs.Starting.{Chosen, IsHeld, OnlyLooked, OnlyLookedAtAll, HeldBack, WhileStarting}
+use Rattle.warm_start.specs.declared.choosing.StartNo.{StartNo}
+use Rattle.warm_start.specs.declared.choosing.StartNo.TheVariants.{BothLost}
+use Rattle.warm_start.specs.Starting.{Chosen, IsCauseOf, IsHeld, OnlyLooked, OnlyLookedAtAll, HeldBack, Starts, WhileStarting}
 use Rattle.warm_start.proofs.Begun.{found_later, unfit_later}
 use Rattle.warm_start.proofs.Seeing.{has_later}
-use Rattle.warm_start.proofs.Starts.{fits_later, held_since, less_held, less_more, no_volume1, no_volume2}
+use Rattle.warm_start.proofs.Starts.{fits_later, held_since, less_held, less_more, no_volume1, no_volume2, starts_looked}
 
 no_volume : (n : ℕ) → Spool n ≢ Ckpt1
 no_volume n e = absurd (cc)
@@ -96,6 +98,29 @@ looked_only old new x = record {
   volumes = λ t le ge n. subst (NoMore (disk_now old (Spool n))) (sym (x.others t le ge (Spool n) (no_volume n) (no_volume_too n))) (no_more_start (disk_now old (Spool n)));
   console = x.console;
 }
+
+-- so an image of a copy is one of before
+pub held_looked : (reads : List ℕ → Option (List ℕ)) (old new : View) → OnlyLookedAtAll old new → HeldBack reads old new
+held_looked reads old new x =
+    let d1 = disk_now old Ckpt1 in
+    let d2 = disk_now old Ckpt2 in
+    record {
+      found = [];
+      held = record {
+        goes = x.goes;
+        first = λ t le ge. less_held reads d1 (disk_at new t Ckpt1) [] (less_more d1 (disk_at new t Ckpt1) (x.first t le ge));
+        second = λ t le ge. less_held reads d2 (disk_at new t Ckpt2) [] (less_more d2 (disk_at new t Ckpt2) (x.second t le ge));
+        volumes = x.volumes;
+        console = x.console;
+      };
+    }
+
+-- both copies are lost where looks at them find it so
+pub starts_lost : (reads : List ℕ → Option (List ℕ)) (tells : Type 0) (needs : ℕ → ℕ) (old v : View) (a b : Bool) (why : StartNo) → PairActed 0 true a true b false old v → IsCauseOf reads tells needs old v a b why → why ≡ BothLost → Starts false false old v
+starts_lost reads tells needs old v a b why acted cause is =
+    let both : (a ≡ false) × (b ≡ false) = subst (λ (w : StartNo). IsCauseOf reads tells needs old v a b w) is cause in
+    let lost : PairActed 0 true false true false false old v = subst (λ (x : Bool). PairActed 0 true x true false false old v) both.0 (subst (λ (y : Bool). PairActed 0 true a true y false old v) both.1 acted) in
+    starts_looked old v false false lost (λ e. absurd (cc)) (λ e. absurd (cc))
 
 -- images of the copies, from the looks on
 pub held_all : (reads : List ℕ → Option (List ℕ)) (found : List ℕ) (old mid new : View) → OnlyLookedAtAll old mid → BothMeanwhile (IsHeld reads (disk_now mid Ckpt1) found) (IsHeld reads (disk_now mid Ckpt2) found) mid new

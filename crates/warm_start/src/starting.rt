@@ -188,6 +188,7 @@ fn prepare<P: Plant, C: Steady + Drop>(
     ensures during { P.tells → OnlyLookedAtAll (P.view plant.old) (P.view plant.new) }
     ensures starts { OnOk result (Starts pair.new.first.alive pair.new.second.alive (P.view plant.old) (P.view plant.new)) }
     ensures cause { IfErr result (IsCauseOf C.reads P.tells C.needs (P.view plant.old) (P.view plant.new) pair.new.first.alive pair.new.second.alive) }
+    ensures lost { IfErr result (λ why. why ≡ StartNo.BothLost → Starts false false (P.view plant.old) (P.view plant.new)) }
     ensures large { IfOk result (λ ready. (C.needs (length ready.start.found.pages) ≤ (P.view plant.new).size Ckpt1) × (C.needs (length ready.start.found.pages) ≤ (P.view plant.new).size Ckpt2)) }
     ensures roomy { IfOk result (λ ready. AreRoomy (P.view plant.new) ready.start.found.tables.config) }
     ensures levels { IfOk result (λ ready. ready.levels ≡ levels_given ready.start.found.pages) }

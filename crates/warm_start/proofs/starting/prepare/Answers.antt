@@ -2,7 +2,7 @@ use Rattle.std.proofs.Common.{◌∙◌, ◌≤◌, ℕ, length, subst, sym}
 use Rattle.std.proofs.lemmas.Result.{err_from_is_err_and}
 use Rattle.mas_types.specs.declared.ids.Dev.TheVariants.{Ckpt1, Ckpt2}
 use Rattle.ckpt_copy.specs.Moments.{goes_on}
-use Rattle.warm_start.proofs.Prepared.{gone_read1, gone_read2, looked_all, looked_only, chosen_read}
+use Rattle.warm_start.proofs.Prepared.{gone_read1, gone_read2, looked_all, looked_only, chosen_read, starts_lost}
 use Rattle.warm_start.proofs.Spooling.{roomy_later}
 use Rattle.warm_start.proofs.Starts.{starts_read}
 use Rattle.warm_start.proofs.starting.prepare.Goals as goal
@@ -27,6 +27,15 @@ pub returns-in_err-found-clause-cause : goal.returns-in_err-found-clause-cause
 returns-in_err-found-clause-cause g c =
     let p = err_from_is_err_and c.from_residual.result c.from_residual.ensures.1 in
     rw (p.1, p.2) c.in_err-found.ensures.cause
+
+pub returns-in_err-found-clause-lost : goal.returns-in_err-found-clause-lost
+returns-in_err-found-clause-lost g c =
+    let P = g.P.Plant in
+    let C = g.C.Copying in
+    let n = c.find.new.pair in
+    let p = err_from_is_err_and c.from_residual.result c.from_residual.ensures.1 in
+    rw (p.1, p.2)
+    (starts_lost C.reads P.tells C.needs (P.view c.args.plant.now) (P.view c.find.new.plant) n.first.alive n.second.alive _ c.find.ensures.acted c.in_err-found.ensures.cause)
 
 -- WHERE THERE IS NO MEMORY FOR THE TEXTS
 

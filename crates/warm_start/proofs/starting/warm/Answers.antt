@@ -7,9 +7,14 @@ use Rattle.mas_types.specs.declared.queues.Config.{Config}
 use Rattle.mas_complex.specs.Texts.{HasTexts, lost_now, spools_at}
 use Rattle.warm_start.specs.Starting.{IsHeld, Starts}
 use Rattle.warm_start.proofs.Begun.{stand_of, rested_copy, found_later, kept, lost_both}
-use Rattle.warm_start.proofs.Prepared.{held_all, held_back, texts_left}
+use Rattle.warm_start.proofs.Prepared.{held_looked, held_all, held_back, texts_left}
 use Rattle.warm_start.proofs.Spooling.{roomy_later}
 use Rattle.warm_start.proofs.starting.warm.Goals as goal
+
+pub returns-in-Err-clause-held : goal.returns-in-Err-clause-held
+returns-in-Err-clause-held g c = λ told.
+    let view = g.P.Plant.view in
+    held_looked g.C.Copying.reads (view c.args.plant) (view c.prepare.new.plant) (c.prepare.ensures.during told)
 
 pub returns-in_default-clause-lost : goal.returns-in_default-clause-lost
 returns-in_default-clause-lost g c = λ why.
