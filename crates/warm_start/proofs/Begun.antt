@@ -1,5 +1,5 @@
 -- A start that found its pages.
-use Rattle.std.proofs.Common.{◌≡◌, ◌⊎◌, inl, inr, ⊎_elim, ℕ, ◌<◌, Bool, true, false, List, Option, Some, None, refl, sym, ◌∙◌, arith}
+use Rattle.std.proofs.Common.{◌≡◌, ◌⊎◌, inl, inr, ⊎_elim, ℕ, ◌<◌, Bool, true, false, List, Option, Some, None, refl, ◌∙◌, arith}
 use Rattle.mas_types.specs.declared.ids.Dev.{Dev}
 use Rattle.mas_types.specs.declared.ids.Dev.TheVariants.{Ckpt1, Ckpt2}
 use Rattle.mas_types.specs.declared.ids.Page.{Page}
