@@ -1,5 +1,5 @@
 -- The deck of a job, entered into tables.
-use Rattle.std.proofs.Common.{◌≡◌, ℕ, zero, suc, ◌+◌, ◌^◌, ◌<◌, ◌≤◌, ◌==◌, nat_le, Bool, true, false, ◌||◌, if◌then◌else◌, List, [], ◌∷◌, ◌++◌, length, map, Option, Some, None, refl, sym, ◌∙◌, ap, arith, slice_set, slice_get, All, eq-eqb, subst, not, length-append}
+use Rattle.std.proofs.Common.{◌≡◌, ℕ, zero, suc, ◌+◌, ◌^◌, ◌<◌, ◌≤◌, ◌==◌, nat_le, Bool, true, false, ◌||◌, List, [], ◌∷◌, ◌++◌, length, map, Option, Some, None, refl, sym, ◌∙◌, ap, arith, slice_set, slice_get, All, eq-eqb, subst, not, length-append}
 use Rattle.std.specs.Prelude.{find}
 use Rattle.std.proofs.lemmas.Bool.Decides.{nat_tests}
 use Rattle.std.proofs.lemmas.List.{length-map, length-set, map-append}
@@ -25,7 +25,7 @@ use Rattle.mas_types.specs.Lists.{change_first}
 use Rattle.mas_types.specs.Owners.{is_members, handed_out, deck_places, groups_needed}
 use Rattle.mas_types.specs.Queue.{has_number, in_input}
 use Rattle.mas_types.specs.Commands.Input.{begun, new_job, phase_entered}
-use Rattle.mas_types.specs.Number.{next_number, after, free_from, is_number_used}
+use Rattle.mas_types.specs.Number.{next_number, after, is_number_used}
 use Rattle.mas_types.specs.Fit.{IsJobFields, is_text_line}
 use Rattle.mas_types.specs.Sound.{HasDeckGroup, IsSound, IsSoundJob, IsSoundOutput, is_owner_there, may_have_outputs}
 use Rattle.queue_laws.proofs.SoundBegin.{AreDistinct-push, is_there-append}

@@ -169,6 +169,7 @@ play_of_steps {T = T} told asked base front journal since old new a a' b b' head
       loses = p.loses;
       crash = λ t. ∥∥₁_map (head t) (λ h. h.crash);
       alike = λ t. ∥∥₁_map (head t) (λ h. h.alike);
+      texts = λ t. ∥∥₁_map (head t) (λ h. h.texts);
       told = λ t. told_of base since journal new (head t);
       there = λ ne. left_now old new a a' b b' there1 there2 p.course (not_lost answer (SomeAlive a' b' ⊎ HasLost old new) ne p.left);
     }
@@ -202,6 +203,7 @@ cold_steps tells asked answer base front journal since old new none is goes p = 
   loses = p.loses;
   crash = p.crash;
   alike = p.alike;
+  texts = p.texts;
   told = p.told;
   there = p.there;
 }
@@ -241,6 +243,7 @@ module _ (entry old new : View) (goes : Goes entry old) where
     loses = r.loses;
     crash = r.crash;
     alike = r.alike;
+    texts = r.texts;
     told = r.told;
     there = r.there;
   }
@@ -268,6 +271,7 @@ module _ (entry old new : View) (goes : Goes entry old) where
     loses = λ d. p.loses d ∙ ap (loses_after d (take p.kept asked)) (same d);
     crash = p.crash;
     alike = p.alike;
+    texts = p.texts;
     told = p.told;
     there = λ ne. ⊎_elim inl (λ lost. inr (has_lost_later entry old new (λ d. inl (same d)) lost)) (p.there ne);
   }
@@ -296,6 +300,7 @@ reset_alone tells asked answer base opening journal since old new are is goes re
   loses = same;
   crash = λ t. ∥∥₁_map (head t) (λ h. h.crash);
   alike = λ t. ∥∥₁_map (head t) (λ h. h.alike);
+  texts = λ t. ∥∥₁_map (head t) (λ h. h.texts);
   told = λ t. told_of base since journal new (head t);
   there = λ ne. inl (there ne);
 }

@@ -27,7 +27,7 @@ use Rattle.mas_run.specs.Resets.{restart_entries}
 use Rattle.warm_start.specs.Starting.{IsFound, IsUnfit, IsHeld}
 use Rattle.member_node.specs.Calls.{console_now}
 use Rattle.member_steps.specs.Saying.{torn}
-use Rattle.mas_complex.specs.Headline.{whole, IsCrashSafe, AreAlwaysAlike, LeavesQueue, AreToldKept}
+use Rattle.mas_complex.specs.Headline.{whole, IsCrashSafe, AreAlwaysAlike, AreTextsLeft, LeavesQueue, AreToldKept}
 use Rattle.mas_run.specs.Decks.{sysa}
 use Rattle.mas_run.specs.Turns.{Task, Turn, Granted, Denied, Loss, turns_of}
 use Rattle.mas_run.specs.Steps.{after_step, queue_after, task_entries, output, loses_after}
@@ -183,6 +183,7 @@ pub record IsPlay (tells : Type 0) (asked : List Turn) (answer : Status) (base :
   pub loses : (d : Dev) → new.loses d ≡ loses_after d (take kept asked) (old.loses d)
   pub crash : tells → ∥ IsCrashSafe reads base journal since new ∥₁
   pub alike : tells → ∥ AreAlwaysAlike reads base journal since new ∥₁
+  pub texts : tells → ∥ AreTextsLeft base since journal new ∥₁
   pub told : tells → AreToldKept journal since new
   pub there : answer ≢ status.BothLost → ((new.lost (Disk Ckpt1) ≡ false) ⊎ (new.lost (Disk Ckpt2) ≡ false)) ⊎ HasLost old new
 
@@ -210,10 +211,12 @@ pub record HasSteps (cold : Bool) (tells : Type 0) (asked : List Turn) (answer :
   pub said : tells → Adds (output (run base (kept_all opening)) (take closed asked)) (output (run base (kept_all opening)) (take kept asked)) (console_now old) (console_now new) (answer ≡ status.ConsoleFault) (IsStopped old new)
   -- a copy is lost by a call as often as a step that was played says so
   pub loses : (d : Dev) → new.loses d ≡ loses_after d (take kept asked) (first d)
-  -- at each moment a crash leaves the queue after what was kept, both copies read the same pages or those on either side of
-  -- the batch in flight, and what is told is kept; a copy is left but where both are lost
+  -- at each moment a crash leaves the queue after what was kept, with its owners, both copies read the same pages or those on either
+  -- side of the batch in flight, and what is told is kept; each text of the queue is read from what the crash leaves of the spool
+  -- volumes, but for those with a group on a volume that is lost at the end; a copy is left but where both are lost
   pub crash : tells → ∥ IsCrashSafe reads base journal since new ∥₁
   pub alike : tells → ∥ AreAlwaysAlike reads base journal since new ∥₁
+  pub texts : tells → ∥ AreTextsLeft base since journal new ∥₁
   pub told : tells → AreToldKept journal since new
   pub there : answer ≢ status.BothLost → ((new.lost (Disk Ckpt1) ≡ false) ⊎ (new.lost (Disk Ckpt2) ≡ false)) ⊎ HasLostSince first new
 

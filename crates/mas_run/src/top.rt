@@ -88,14 +88,18 @@ pub fn play_steps<P: Plant + Drop>(
 /// that is found on them.
 ///
 /// The script is read to its end before anything is played. Its steps are decks of a JOB card and operator's commands at SYSA, and losses
-/// of a copy of the checkpoint. A cold run first formats both copies with the empty queue of the default configuration. A warm run looks at
-/// both, takes the usable one of greater level, CKPT1 on a tie, refuses a copy, or a spool volume that isn't lost, that is too small for
-/// it, syncs the volumes and reads the texts, loses the other copy where it can't be used or doesn't fit and else brings it up, and
-/// gives Restart as its first batch; its jobs are at the node of the configuration that is found. Then the steps are
-/// played one after another: a deck's job is entered, or a command is done, in one batch, which is kept once each copy that is left has
-/// it, and the lines of its step are said then, those of a display first and the closing line last; a command that is refused closes with
-/// that refusal, as a deck does for which no job slot is free. A step takes the lock of the checkpoint and gives it up at its end. Where the configuration that is found has a dormancy, a step that comes too early
-/// closes with DORMANT and changes nothing. A copy that fails or is lost is left out, and the run goes on with the other.
+/// of a copy of the checkpoint. A cold run first formats both copies with the empty queue of the default configuration. A warm run looks
+/// at both, takes the usable one of greater level, CKPT1 on a tie, refuses a copy, or a spool volume that isn't lost, that is too small
+/// for it, syncs the volumes and reads the texts of the queue from them, loses the other copy where it can't be used or doesn't fit and
+/// else brings it up, and gives Restart as its first batch; its jobs are at the node of the configuration that is found. Then the steps
+/// are played one after another: a deck's job is entered, or a command is done, in one batch, which is kept once each copy that is left
+/// has it, and the lines of its step are said then, those of a display first and the closing line last; a command that is refused closes
+/// with that refusal, as a deck does for which no job slot is free. A step takes the lock of the checkpoint and gives it up at its end.
+/// Where the configuration that is found has a dormancy, a step that comes too early closes with DORMANT and changes nothing. A copy that
+/// fails or is lost is left out, and the run goes on with the other.
+///
+/// No step writes on a spool volume: the texts of the queue stay where they stand, and are read from what a crash at any moment leaves,
+/// but for those with a group on a volume that is lost.
 ///
 /// A stop of the member inside an act ends the run with Done, and no further line is said. The status Words never comes.
 pub fn play_script<P: Plant + Drop, S: Source>(
@@ -120,8 +124,8 @@ pub fn play_script<P: Plant + Drop, S: Source>(
     ensures untouched { has_begun result.base ≡ false → (result.status ≡ Status.BothLost) ⊎ ((result.plant ≡ plant) ⊎ ((cold ≡ false) × (P.tells → OnlyLookedAtAll (P.view plant) (P.view result.plant)))) }
     ensures unsaid { P.tells → has_begun result.base ≡ false → console_now (P.view result.plant) ≡ console_now (P.view plant) }
 
-    // Any run acts on CKPT1, CKPT2 and the console alone, but that a warm start syncs and reads the spool volumes, and loses no device but by a step that says so, or a copy that a
-    // warm start doesn't take.
+    // Any run acts on CKPT1, CKPT2 and the console alone, but that a warm start syncs and reads the spool volumes, and loses no device but
+    // by a step that says so, or a copy that a warm start doesn't take.
     ensures goes { Goes (P.view plant) (P.view result.plant) }
     ensures loses { has_begun result.base ≡ false → (result.status ≢ Status.BothLost) ⊎ (cold ≡ true) → (d : Dev) → (P.view result.plant).loses d ≡ (P.view plant).loses d }
     ensures elsewhere { P.tells → IsElsewhere cold (P.view plant) (P.view result.plant) }

@@ -156,7 +156,7 @@ returns-in-Lose-clause-step g c =
           record {
             done = λ why is. cc;
             course = course_first p.first.alive q.first.alive p.second.alive q.second.alive old new loses
-                (subst (λ (x : Dev). (pick x q.first q.second).alive ≡ false) e c.lose.ensures.dead) (ap (λ h. h.alive) (subst (λ (x : Dev). other x q.first q.second ≡ other x p.first p.second) e c.lose.ensures.other));
+                (subst (λ (x : Dev). (pick x q.first q.second).alive ≡ false) e (c.lose.ensures.dead (subst IsCkpt (sym e) ckpt))) (ap (λ h. h.alive) (subst (λ (x : Dev). other x q.first q.second ≡ other x p.first p.second) e c.lose.ensures.other));
             loses = loses;
             same = same;
             elsewhere = λ told. (apart told).others;
@@ -172,7 +172,7 @@ returns-in-Lose-clause-step g c =
           record {
             done = λ why is. cc;
             course = course_second p.first.alive q.first.alive p.second.alive q.second.alive old new loses
-                (subst (λ (x : Dev). (pick x q.first q.second).alive ≡ false) e c.lose.ensures.dead) (ap (λ h. h.alive) (subst (λ (x : Dev). other x q.first q.second ≡ other x p.first p.second) e c.lose.ensures.other));
+                (subst (λ (x : Dev). (pick x q.first q.second).alive ≡ false) e (c.lose.ensures.dead (subst IsCkpt (sym e) ckpt))) (ap (λ h. h.alive) (subst (λ (x : Dev). other x q.first q.second ≡ other x p.first p.second) e c.lose.ensures.other));
             loses = loses;
             same = same;
             elsewhere = λ told. (apart told).others;
