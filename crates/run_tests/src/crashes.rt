@@ -1,7 +1,7 @@
 // A crash at each moment of a run of three decks, and the warm start after it.
 use crate::pages::{PAGES, page};
 use crate::playing::{
-    DECK, FORM, FORMED, KEPT, OPEN, PUT, failing, halting, plant, play, start, without,
+    DECK, FORM, FORMED, KEPT, OPEN, PUT, failing, halting, plant, play, roomy, start, without,
 };
 use crate::starts::found;
 use mas_run::Ended;
@@ -94,6 +94,19 @@ fn on_both_copies(rt: HostRuntime) -> Result<(), Fail> {
     let run = play(alloc, THREE, plant(alloc)?)?;
     for lost in [None, Some(Dev::Ckpt1), Some(Dev::Ckpt2)] {
         starts_after_each(&rt, alloc, &run, lost)?;
+    }
+    Ok(())
+}
+
+// A volume is there, which the warm start syncs: at the first moment, at the last act on a copy, and at the end.
+#[test]
+fn beside_a_volume(rt: HostRuntime) -> Result<(), Fail> {
+    let alloc = rt.alloc();
+    let run = play(alloc, DECK, roomy(alloc)?)?;
+    for t in [FORMED, KEPT - 1, KEPT + 1] {
+        for choice in CHOICES {
+            starts_after(&rt, alloc, &run, t, choice, None)?;
+        }
     }
     Ok(())
 }

@@ -11,6 +11,9 @@ use std::alloc::Global;
 /// What a copy of the default configuration needs, in bytes.
 pub const CKPT: u64 = 299_008;
 
+/// What its volume needs for its groups.
+const VOLUME: u64 = 2_097_152;
+
 /// Room enough for the acts of a run and of those who look at what it leaves.
 const ACTS: usize = 400;
 
@@ -34,20 +37,25 @@ pub const FORMED: u64 = 2 * FORM;
 /// And the batch of the first deck is kept.
 pub const KEPT: u64 = FORMED + 2 * PUT + 2 * OPEN;
 
-/// Devices of which each checkpoint has so many bytes.
-pub fn sizes(ckpt: u64) -> Sizes {
+/// Devices of which each checkpoint and a volume have so many bytes.
+pub fn sizes(ckpt: u64, volume: u64) -> Sizes {
     Sizes {
         ckpt,
         volumes: 1,
-        volume: 2_097_152,
+        volume,
     }
 }
 
 /// A plant of devices that have just room enough, and were never written. Nothing is planned.
+pub fn roomy(alloc: Global) -> Result<MemPlant, NoMemory> {
+    MemPlant::new(alloc, sizes(CKPT, VOLUME), ACTS, BYTES)
+}
+
+/// The same, but its volume has no byte, so that the many crashes copy none of it.
 pub fn plant(alloc: Global) -> Result<MemPlant, NoMemory>
     ensures { IfOk result (λ plant. mem_book plant ≡ empty_book ACTS BYTES) }
 {
-    MemPlant::new(alloc, sizes(CKPT), ACTS, BYTES)
+    MemPlant::new(alloc, sizes(CKPT, 0), ACTS, BYTES)
 }
 
 /// The same, but two of its acts fail, or one where both are the same.
@@ -86,8 +94,12 @@ pub fn play(alloc: Global, script: &[u8], plant: MemPlant) -> Result<Ended<MemPl
     run(alloc, true, script, None, plant)
 }
 
-/// A warm run of a script.
+/// A warm run of a script. A volume that has no byte is lost before it.
 pub fn start(alloc: Global, script: &[u8], plant: MemPlant) -> Result<Ended<MemPlant>, NoMemory> {
+    let mut plant = plant;
+    if plant.size(Dev::Spool(1)) == 0 {
+        plant.lose(Dev::Spool(1));
+    }
     run(alloc, false, script, None, plant)
 }
 

@@ -1,6 +1,6 @@
 // One deck played, no deck, and what is refused before anything is played.
 use crate::pages::{SECOND, has_one_job, is_empty, write};
-use crate::playing::{CKPT, DECK, FORMED, KEPT, plant, play, run, sizes, start};
+use crate::playing::{CKPT, DECK, FORMED, KEPT, play, roomy, run, sizes, start};
 use mas_types::{Dev, Job, Status};
 use spool_disk::{Choice, MemPlant, Part, Plant};
 use std::test::Fail;
@@ -9,7 +9,7 @@ use std::test::Fail;
 fn enters_one_job(rt: HostRuntime) -> Result<(), Fail> {
     let alloc = rt.alloc();
     let script = b"SYSA DECK\n//HELLO JOB (1),'ME',CLASS=A\n//\n++END\n";
-    let mut ended = play(alloc, script, plant(alloc)?)?;
+    let mut ended = play(alloc, script, roomy(alloc)?)?;
     assert!(rt; ended.status == Status::Done);
     assert!(rt; ended.plant.now() == KEPT + 1 && ended.since == FORMED);
     let lines = ended.plant.console_lines(alloc)?;
@@ -23,7 +23,7 @@ fn enters_one_job(rt: HostRuntime) -> Result<(), Fail> {
 #[test]
 fn plays_no_deck(rt: HostRuntime) -> Result<(), Fail> {
     let alloc = rt.alloc();
-    let mut ended = play(alloc, b"", plant(alloc)?)?;
+    let mut ended = play(alloc, b"", roomy(alloc)?)?;
     assert!(rt; ended.status == Status::Done);
     assert!(rt; ended.plant.now() == FORMED && ended.journal.batches.len() == 0);
     assert!(rt; ended.plant.console_lines(alloc)?.len() == 0);
@@ -44,7 +44,7 @@ fn is_held(jobs: &[Job]) -> bool {
 fn plays_commands(rt: HostRuntime) -> Result<(), Fail> {
     let alloc = rt.alloc();
     let script = b"SYSA DECK\n//HELLO JOB\n++END\nSYSA $HJ1\nSYSA $DJ1\n";
-    let ended = play(alloc, script, plant(alloc)?)?;
+    let ended = play(alloc, script, roomy(alloc)?)?;
     assert!(rt; ended.status == Status::Done && ended.journal.batches.len() == 3);
     let lines = ended.plant.console_lines(alloc)?;
     assert!(rt; lines.len() == 4);
@@ -70,7 +70,7 @@ fn refuses_before_it_plays(rt: HostRuntime) -> Result<(), Fail> {
         (CKPT, Some(10), Status::SourceFault),
         (CKPT - 1, None, too_small),
     ] {
-        let plant = MemPlant::new(alloc, sizes(ckpt), 9, 9)?;
+        let plant = MemPlant::new(alloc, sizes(ckpt, 9), 9, 9)?;
         let ended = run(alloc, true, DECK, fail_at, plant)?;
         assert!(rt; ended.status == status && ended.plant.now() == 0);
     }
@@ -91,7 +91,7 @@ fn has_priority(jobs: &[Job], prio: u8) -> bool {
 #[test]
 fn takes_ckpt1_where_pages_of_a_level_differ(rt: HostRuntime) -> Result<(), Fail> {
     let alloc = rt.alloc();
-    let run = play(alloc, DECK, plant(alloc)?)?;
+    let run = play(alloc, DECK, roomy(alloc)?)?;
     let now = run.plant.now();
     for (dev, prio) in [(Dev::Ckpt1, 9), (Dev::Ckpt2, 5)] {
         let mut plant = run.plant.crash_at(alloc, now, Choice::New)?;
