@@ -148,8 +148,9 @@ fn start(alloc: Global) -> Result<(Queue, Checkpoint), NoMemory>
     ensures drawn { IfOk result (λ start. AreDrawn start.1.tables start.1.level start.1.levels start.1.pages) }
 {
     let config = default_config();
-    let base = empty_queue(alloc, &config, &List::new(alloc))?;
-    let checkpoint = blank(alloc, &config)?;
+    let routes = List::new(alloc);
+    let base = empty_queue(alloc, &config, &routes)?;
+    let checkpoint = blank(alloc, &config, &routes)?;
     Ok((base, checkpoint))
 }
 

@@ -10,7 +10,7 @@ use Rattle.std.proofs.lemmas.List.{drop_at, drop-drop, take-append-le, drop-appe
 use Rattle.std.proofs.lemmas.List.Elements.{All-nil, All-cons, All-tail, All-head, All-set, All-weaker, Contains-append_right}
 use Rattle.std.proofs.lemmas.Nat.{from_be_bytes-to_be_bytes_8}
 use Rattle.mas_types.specs.declared.ids.Page.{Page}
-use Rattle.mas_types.specs.Limits.{page_bytes}
+use Rattle.mas_types.specs.Limits.{page_bytes, routes_most}
 use Rattle.lay_bytes.specs.Fields.{piece}
 use Rattle.ckpt_copy.specs.Pages.{bytes_of, level, page_in as page_of_bytes, ArePages, Covers}
 use Rattle.ckpt_pages.specs.declared.tables.Tables.{Tables}
@@ -18,6 +18,7 @@ use Rattle.ckpt_pages.specs.Shape.{differing, differing_from, page_count, HasSpe
 use Rattle.ckpt_pages.specs.Pages.{page_in, page_of, Spell}
 use Rattle.ckpt_pages.proofs.LevelLemmas.{level_spelled}
 use Rattle.mas_types.specs.declared.queues.Config.{Config}
+use Rattle.mas_types.specs.declared.queues.Route.{Route}
 use Rattle.mas_types.specs.Fit.{IsConfig}
 use Rattle.ckpt_pages.specs.Shape.{IsRoute}
 use Rattle.ckpt_pages.specs.Starts.{empty_tables, first_levels}
@@ -296,11 +297,11 @@ redrawn t at levels spelling leveled more old drawn count sized spelled sized' n
     })
 
 -- drawn for the first time
-pub blank_drawn : (config : Config) → IsConfig config → (t : Tables) (levels : List ℕ) (pages : List Page) → EmptyHasSpelling → AreFirstLevels
-    → t ≡ empty_tables config [] → levels ≡ first_levels (page_count config) → Spell t levels pages → All (λ page. length page.0 ≡ page_bytes) pages → AreDrawn t 1 levels pages
-blank_drawn config is t levels pages spelling leveled blank first spelled sized = record {
-  spelling = rw blank (spelling config [] is (omega arith) (All-nil IsRoute));
-  leveled = rw (blank, first) (leveled config [] is);
+pub blank_drawn : (config : Config) (routes : List Route) → IsConfig config → length routes ≤ routes_most → All IsRoute routes → (t : Tables) (levels : List ℕ) (pages : List Page) → EmptyHasSpelling → AreFirstLevels
+    → t ≡ empty_tables config routes → levels ≡ first_levels (page_count config) → Spell t levels pages → All (λ page. length page.0 ≡ page_bytes) pages → AreDrawn t 1 levels pages
+blank_drawn config routes is few ways t levels pages spelling leveled blank first spelled sized = record {
+  spelling = rw blank (spelling config routes is few ways);
+  leveled = rw (blank, first) (leveled config routes is);
   spelled = spelled;
   sized = sized;
 }

@@ -3,11 +3,11 @@ ghost use Rattle.std.specs.Prelude.{◌≡◌, ◌+◌, ◌≤◌, ◌<◌, ◌^
 ghost use Rattle.std.specs.Str.{bytes_eq};
 ghost use Rattle.mas_types.specs.declared.ids.Page.{Page};
 ghost use Rattle.mas_types.specs.Fit.{IsConfig};
-ghost use Rattle.mas_types.specs.Limits.{page_bytes};
+ghost use Rattle.mas_types.specs.Limits.{page_bytes, routes_most};
 ghost use Rattle.ckpt_copy.specs.Pages.{bytes_of, ArePages, Covers};
 ghost use Rattle.mas_complex.specs.Changed.{NamesOnly};
 ghost use Rattle.mas_complex.specs.Fits.{are_same};
-ghost use Rattle.ckpt_pages.specs.Shape.{page_count as page_count_lem, HasShape, HasSpelling, AreLevels};
+ghost use Rattle.ckpt_pages.specs.Shape.{page_count as page_count_lem, HasShape, HasSpelling, AreLevels, IsRoute};
 ghost use Rattle.ckpt_pages.specs.Pages.{page_of, Spell};
 ghost use Rattle.ckpt_pages.specs.Starts.{empty_tables, first_levels as first_levels_lem};
 ghost use Rattle.member_node.specs.Drawn.{AreDrawn, raised};
@@ -15,7 +15,7 @@ ghost use Rattle.member_node.specs.Redrawn.{IsRedrawn, IsSameWhere};
 
 use ckpt_pages::{Tables, changed, empty, encode, encode_page, law_of_empty_tables, page_count};
 use mas_types::limits::PAGE_BYTES;
-use mas_types::{Config, Level, List, NoMemory, Page};
+use mas_types::{Config, Level, List, NoMemory, Page, Route};
 use std::alloc::Global;
 
 /// Tables, and the pages that were drawn last, with their level and the level of each.
@@ -57,15 +57,17 @@ fn raise(levels: &mut [Level], pages: &[u16], level: Level)
     }
 }
 
-/// The checkpoint of an empty queue, with every page at level 1.
-pub fn blank(alloc: Global, config: &Config) -> Result<Checkpoint, NoMemory>
-    requires { IsConfig config.now }
-    ensures tables { IfOk result (λ blank. blank.tables ≡ empty_tables config.now []) }
+/// The checkpoint of an empty queue of a configuration and routes, with every page at level 1.
+pub fn blank(alloc: Global, config: &Config, routes: &List<Route>) -> Result<Checkpoint, NoMemory>
+    requires config { IsConfig config.now }
+    requires few { length routes.now ≤ routes_most }
+    requires routes { All IsRoute routes.now }
+    ensures tables { IfOk result (λ blank. blank.tables ≡ empty_tables config.now routes.now) }
     ensures level { IfOk result (λ blank. blank.level ≡ 1) }
     ensures drawn { IfOk result (λ blank. AreDrawn blank.tables 1 blank.levels blank.pages) }
 {
     law_of_empty_tables();
-    let tables = empty(alloc, config, &List::new(alloc))?;
+    let tables = empty(alloc, config, routes)?;
     let levels = first_levels(alloc, page_count(config))?;
     let pages = encode(alloc, &tables, &levels)?;
     Ok(Checkpoint {

@@ -6,7 +6,7 @@ ghost use Rattle.queue_effect.specs.Standing.{AreFit};
 
 use ckpt_pages::{Tables, sound};
 use mas_types::{
-    Class, Command, JobFields, JobNo, Lines, MemberId, Name8, NoMemory, Owner, Prio, Refusal,
+    Class, Command, JobFields, JobNo, Lines, List, MemberId, Name8, NoMemory, Owner, Prio, Refusal,
     Reply, default_config,
 };
 use member_node::{Member, blank, reply_lines};
@@ -24,7 +24,7 @@ fn first_member(alloc: Global) -> Result<Member, NoMemory>
     ensures fit { IfOk result (λ member. AreFit member.checkpoint.tables) }
     ensures spelling { IfOk result (λ member. HasSpelling member.checkpoint.tables) }
 {
-    let checkpoint = blank(alloc, &default_config())?;
+    let checkpoint = blank(alloc, &default_config(), &List::new(alloc))?;
     law_of_fit_tables();
     let Ok(()) = sound(&checkpoint.tables) else {
         return Err(NoMemory);

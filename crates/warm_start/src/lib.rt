@@ -17,4 +17,4 @@ pub use levels::law_of_found_levels;
 pub use queues::{law_of_found_queues, queue_of};
 pub use sound_pages::usable;
 pub use spooled::spooled_queue;
-pub use starting::{Started, Unstarted, warm};
+pub use starting::{Started, Unstarted, refuse_small, warm};

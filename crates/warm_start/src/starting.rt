@@ -108,7 +108,7 @@ fn refuse_small_volumes<P: Plant>(plant: &P, config: &Config) -> Result<(), Star
 }
 
 /// Refuses the first device that is too small: CKPT1, CKPT2, and then each volume of the configuration that isn't lost.
-pub(crate) fn refuse_small<P: Plant>(plant: &P, needed: u64, config: &Config) -> Result<(), StartNo>
+pub fn refuse_small<P: Plant>(plant: &P, needed: u64, config: &Config) -> Result<(), StartNo>
     ensures small { IfErr result (IsSmallAt needed config.now (P.view plant.now)) }
     ensures large { OnOk result ((needed ≤ (P.view plant.now).size Ckpt1) × (needed ≤ (P.view plant.now).size Ckpt2)) }
     ensures roomy { OnOk result (AreRoomy (P.view plant.now) config.now) }
