@@ -31,7 +31,36 @@ follow : (Q : Queue) (m : MemberId) (c : Command) → AllZip (OwnerChange m (λ 
 follow Q m (command.Enter job text) =
     done_keeps Q (record (enter_row Q m job text) { refusals = not_in_input Q m job }) (λ R. AllZip (OwnerChange m (λ h. resets h (command.Enter job text))) Q.owners R.owners) (stay m (λ h. resets h (command.Enter job text)) Q.owners)
     (λ none. effect_follows Q m (command.Enter job text))
-follow Q m c = owners_follow Q m c
+follow Q m (command.Begin fields) = owners_follow Q m (command.Begin fields)
+follow Q m (command.Take want) = owners_follow Q m (command.Take want)
+follow Q m (command.Drop job) = owners_follow Q m (command.Drop job)
+follow Q m command.TakeConvert = owners_follow Q m command.TakeConvert
+follow Q m (command.Converted job) = owners_follow Q m (command.Converted job)
+follow Q m command.TakeExec = owners_follow Q m command.TakeExec
+follow Q m (command.Ended job specs) = owners_follow Q m (command.Ended job specs)
+follow Q m command.Gather = owners_follow Q m command.Gather
+follow Q m command.Pick = owners_follow Q m command.Pick
+follow Q m (command.Mark job index at) = owners_follow Q m (command.Mark job index at)
+follow Q m (command.Done job index) = owners_follow Q m (command.Done job index)
+follow Q m command.Purge = owners_follow Q m command.Purge
+follow Q m (command.Hold job) = owners_follow Q m (command.Hold job)
+follow Q m (command.Release job) = owners_follow Q m (command.Release job)
+follow Q m (command.Cancel job) = owners_follow Q m (command.Cancel job)
+follow Q m (command.SetPrio job prio) = owners_follow Q m (command.SetPrio job prio)
+follow Q m (command.SetClass job class) = owners_follow Q m (command.SetClass job class)
+follow Q m (command.Out job) = owners_follow Q m (command.Out job)
+follow Q m (command.CancelOut job index) = owners_follow Q m (command.CancelOut job index)
+follow Q m (command.SetOut job index class) = owners_follow Q m (command.SetOut job index class)
+follow Q m (command.Show what) = owners_follow Q m (command.Show what)
+follow Q m (command.SetInit classes) = owners_follow Q m (command.SetInit classes)
+follow Q m (command.SetPrt classes forms lines) = owners_follow Q m (command.SetPrt classes forms lines)
+follow Q m (command.Back lines) = owners_follow Q m (command.Back lines)
+follow Q m (command.Forward lines) = owners_follow Q m (command.Forward lines)
+follow Q m (command.Reset of_member) = owners_follow Q m (command.Reset of_member)
+follow Q m command.Restart = owners_follow Q m command.Restart
+follow Q m (command.Load line) = owners_follow Q m (command.Load line)
+follow Q m (command.Sent line number) = owners_follow Q m (command.Sent line number)
+follow Q m (command.Got line number job text) = owners_follow Q m (command.Got line number job text)
 
 module _ (h m : MemberId) (is_reset : MemberId → Bool) (apart : same_member h m ≡ false) (up : is_reset h ≡ false) where
   -- no other member is this one
