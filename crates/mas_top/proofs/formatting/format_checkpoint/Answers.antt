@@ -22,6 +22,10 @@ returns-in-Ok-clause-played g c =
     (λ told. c.in-Ok.ensures.nothing told) (λ told. c.in-Ok.ensures.read told) e.refused e.no_source e.no_text (λ first second. e.formatted refl first second) e.cause e.untouched e.loses e.room
     (λ begun. subst (λ (l : List Asked). IsRun true P.tells (at_node r.base.config.node l) r.status r.base r.journal r.since old (P.view r.plant)) c.new-nothing.ensures (e.run begun)) e.elsewhere
 
+-- a cold run leaves every other device
+pub returns-in-Ok-clause-elsewhere : goal.returns-in-Ok-clause-elsewhere
+returns-in-Ok-clause-elsewhere g c = c.play_steps.ensures.elsewhere
+
 pub returns-in-Err-clause-played : goal.returns-in-Err-clause-played
 returns-in-Err-clause-played g c =
     let P = g.P.Plant in
