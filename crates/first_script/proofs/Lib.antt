@@ -1,11 +1,7 @@
+pub mod ByCases
 pub mod Parts
 pub mod Rest
-pub mod Jobs
-pub mod Words
-pub mod CommandFits
-pub mod Ahead
-pub mod Forms
-pub mod CutOff
-pub mod Outside
-pub mod Fits
-pub mod NodeLemmas
+pub mod LineLemmas
+pub mod PlaceLemmas
+pub mod ScriptLemmas
+pub mod TypeLemmas

@@ -1,12 +1,10 @@
 -- Lists cut at the first element that passes a test.
-use Rattle.std.proofs.Common.{◌≡◌, ℕ, suc, ◌+◌, ◌<◌, ◌≤◌, Bool, true, false, cond, Some, None, List, [], ◌∷◌, length, take, drop, refl, arith, nat_lt, not}
+use Rattle.std.proofs.Common.{◌≡◌, ℕ, ◌+◌, ◌<◌, ◌≤◌, Bool, true, false, cond, Some, None, List, [], ◌∷◌, length, take, drop, refl, arith, nat_lt, not}
 use Rattle.std.proofs.lemmas.Bool.{ltb-true, ltb-false}
 use Rattle.std.proofs.lemmas.List.Splits.{slice_split_first, length-slice_split}
 use Rattle.std.specs.List.{position, position_or_len, slice_split, onto_first}
 use Rattle.std.specs.Str.Lines.{strip_carriage_return}
-use Rattle.mas_types.specs.Names.{is_blank}
-use Rattle.first_script.specs.Cards.{is_comma, class_of, class_behind}
-use Rattle.first_script.specs.Script.{lines_of_parts, lines_of, is_line_end}
+use Rattle.script_lang.specs.Lines.{lines_of_parts, lines_of, is_line_end}
 
 some_is : (b : Bool) (k place : ℕ) → cond b (Some k) None ≡ Some place → (b ≡ true) × (k ≡ place)
 some_is true k place e = (refl, cc)
@@ -38,20 +36,6 @@ split_nowhere p text e =
     let out : nat_lt (position_or_len p text) (length text) ≡ false = none_is (nat_lt (position_or_len p text) (length text)) (position_or_len p text) e in
     split_whole p text (ltb-false _ _ out)
 
-place_step : (v : Bool) (n m : ℕ) → n ≤ m → cond (not v) (1 + n) 0 ≤ suc m
-place_step true n m h = omega arith
-place_step false n m h = omega (arith, h)
-
-place_within : (p : ℕ → Bool) (text : List ℕ) → position_or_len p text ≤ length text
-place_within p [] = omega arith
-place_within p (b ∷ text) = place_step (p b) (position_or_len p text) (length text) (place_within p text)
-
--- a list without such an element has all of it before the first
-pub all_before : (p : ℕ → Bool) (text : List ℕ) → position p text ≡ None → length text ≡ position_or_len p text
-all_before p text e =
-    let out : nat_lt (position_or_len p text) (length text) ≡ false = none_is (nat_lt (position_or_len p text) (length text)) (position_or_len p text) e in
-    omega (arith, ltb-false _ _ out, place_within p text)
-
 more_lines : (part : List ℕ) (parts : List (List ℕ)) → 0 < length parts → lines_of_parts (part ∷ parts) ≡ strip_carriage_return part ∷ lines_of_parts parts
 more_lines part [] h = absurd (omega arith)
 more_lines part (next ∷ parts) h = refl
@@ -61,23 +45,3 @@ pub lines-first : (script part rest : List ℕ) → slice_split is_line_end scri
 lines-first script part rest e =
     let more : 0 < length (slice_split is_line_end rest) = omega (arith, length-slice_split is_line_end rest) in
     rw e (more_lines part (slice_split is_line_end rest) more)
-
-class_of_more : (a b c : List ℕ) (parts : List (List ℕ)) → 0 < length parts → class_of (a ∷ b ∷ c ∷ parts) ≡ None
-class_of_more a b c [] h = absurd (omega arith)
-class_of_more a b c (d ∷ parts) h = refl
-
--- four operands or more give no class
-pub class_of_four : (text r q s a b c : List ℕ) → slice_split is_comma text ≡ a ∷ slice_split is_comma r → slice_split is_comma r ≡ b ∷ slice_split is_comma q → slice_split is_comma q ≡ c ∷ slice_split is_comma s → class_of (slice_split is_comma text) ≡ None
-class_of_four text r q s a b c first second third =
-    let more : 0 < length (slice_split is_comma s) = omega (arith, length-slice_split is_comma s) in
-    rw (first, second, third) (class_of_more a b c (slice_split is_comma s) more)
-
-class_behind_more : (a b : List ℕ) (words : List (List ℕ)) → 0 < length words → class_behind (a ∷ b ∷ words) ≡ None
-class_behind_more a b [] h = absurd (omega arith)
-class_behind_more a b (c ∷ words) h = refl
-
--- three words or more behind the name give no class
-pub class_behind_three : (text r q a b : List ℕ) → slice_split is_blank text ≡ a ∷ slice_split is_blank r → slice_split is_blank r ≡ b ∷ slice_split is_blank q → class_behind (slice_split is_blank text) ≡ None
-class_behind_three text r q a b first second =
-    let more : 0 < length (slice_split is_blank q) = omega (arith, length-slice_split is_blank q) in
-    rw (first, second) (class_behind_more a b (slice_split is_blank q) more)

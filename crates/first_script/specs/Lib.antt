@@ -1,9 +1,6 @@
-pub mod Cards
+pub mod Lines
 pub mod Commands
+pub mod Played
 pub mod Script
-pub mod LineByLine
-pub mod Steps
 pub mod Reading
-pub mod Grammar
 pub mod Laws
-pub mod Nodes

@@ -1,15 +1,12 @@
-//! Reading the script that the program plays: decks of a JOB card, operator commands at SYSA, and losses of a copy of the checkpoint.
+//! Reading the script that the program plays: what the script's whole language says of it, where each step is played so far. The definitions in
+//! specs/ say which line is refused, and why.
 #![tactic(auto)]
 
-mod asked;
-mod cards;
-mod commands;
 pub mod laws;
 mod lines;
+mod played;
 mod reading;
 mod script;
-mod turns;
 
-pub use asked::{Asked, BadLine, ScriptNo};
 pub use reading::{SourceNo, read_source};
 pub use script::read_script;
