@@ -1,0 +1,12 @@
+pub mod PageLemmas
+pub mod HeldLemmas
+pub mod TakeLemmas
+pub mod DeckLemmas
+pub mod OpenLemmas
+pub mod OutcomeLemmas
+pub mod PlayLemmas
+pub mod FinishLemmas
+pub mod KeepLemmas
+pub mod HoldLemmas
+pub mod ConfigLemmas
+pub mod LockedLemmas

@@ -1,0 +1,112 @@
+use Rattle.std.proofs.Common.{◌≡◌, ◌∙◌, ◌+◌, ◌≤◌, ◌++◌, ℕ, List, [], ◌∷◌, ap, refl, subst, sym, arith}
+use Rattle.std.proofs.lemmas.Result.{err_from_is_err_and}
+use Rattle.mas_types.specs.declared.journals.Batch.{Batch}
+use Rattle.mas_types.specs.declared.journals.Fate.TheVariants.{Kept}
+use Rattle.mas_types.specs.declared.queues.Queue.{Queue}
+use Rattle.ckpt_pages.specs.declared.tables.Tables.{Tables}
+use Rattle.table_queues.specs.Telling.{Tell, TellSound}
+use Rattle.mas_complex.specs.Journals.{begun, end_of, entries_reserved, fated, kept_all}
+use Rattle.mas_complex.specs.Meaning.{run}
+use Rattle.member_node.specs.Batches.{level_with}
+use Rattle.member_node.specs.Copies.{room_with}
+use Rattle.member_node.proofs.WriteLemmas.{none_out, queue_kept}
+use Rattle.member_steps.specs.Steps.{AreAllKept}
+use Rattle.member_steps.proofs.StepLemmas.{journal_kept, kept_push, level_most, step_unplayed, step_unwritten}
+use Rattle.member_decks.proofs.KeepLemmas.{room_left, step_kept}
+use Rattle.member_decks.proofs.keeping.keep_batch.Goals as goal
+
+pub returns-in_default-clause-step : goal.returns-in_default-clause-step
+returns-in_default-clause-step g c =
+    let P = g.P.Plant in
+    let x = c.args.complex.now in
+    let e = c.in_default.ensures.err in
+    rw (c.ready.ensures.pair, c.ready.ensures.plant, c.ready.ensures.current, e.0, e.2)
+    (step_unplayed P.tells c.args.member.now.id.0 [] (begun (P.view x.plant).now c.args.member.now.id c.args.member.now.batch) x.journal.batches (end_of x.placed x.current x.journal.batches)
+    x.pair.first.alive x.pair.second.alive (P.view x.plant) (none_out x.journal.batches x.journal.batches x.placed x.current refl c.requires.unplaced c.requires.none))
+
+pub returns-in_err-write-clause-step : goal.returns-in_err-write-clause-step
+returns-in_err-write-clause-step g c =
+    let P = g.P.Plant in
+    let x = c.args.complex.now in
+    let y = c.ready.new.complex in
+    let z = c.write.new.complex in
+    let e = c.ready.ensures in
+    let by = c.args.member.now.id in
+    let grown = c.in-Ok.ensures.grown c.requires.unplaced in
+    let write = rw (e.id, e.plant, e.pair, c.in-Ok.ensures.reserved) at (c.in_err-write.ensures.write x.journal.batches grown.0 grown.1) in
+    let p = err_from_is_err_and c.from_residual.result c.from_residual.ensures.1 in
+    rw (p.1, p.2) (step_unwritten P.tells by.0 [] (begun (P.view x.plant).now by c.args.member.now.batch)
+    x.journal.batches (end_of z.placed z.current z.journal.batches) x.pair.first.alive z.pair.first.alive x.pair.second.alive z.pair.second.alive (P.view x.plant) (P.view z.plant) _ write)
+
+pub write-requires-clause-texts : goal.write-requires-clause-texts
+write-requires-clause-texts g c told =
+    let e = c.ready.ensures in
+    rw (e.plant, e.base, e.kept, c.in-Ok.ensures.reserved) (c.requires.texts told)
+
+pub returns-clause-step : goal.returns-clause-step
+returns-clause-step g c =
+    let P = g.P.Plant in
+    let x = c.args.complex.now in
+    let z = c.write.new.complex in
+    let e = c.ready.ensures in
+    let by = c.args.member.now.id in
+    let grown = c.in-Ok.ensures.grown c.requires.unplaced in
+    let write = rw (e.id, e.plant, e.pair, c.in-Ok.ensures.reserved) at (c.in_ok-write.ensures.write x.journal.batches grown.0 grown.1) in
+    step_kept P.tells by.0 (begun (P.view x.plant).now by c.args.member.now.batch)
+    x.journal.batches (end_of z.placed z.current z.journal.batches) x.pair.first.alive z.pair.first.alive x.pair.second.alive z.pair.second.alive (P.view x.plant) (P.view z.plant) write
+
+pub returns-clause-between : goal.returns-clause-between
+returns-clause-between g c =
+    let P = g.P.Plant in
+    let x = c.args.complex.now in
+    let y = c.ready.new.complex in
+    let z = c.write.new.complex in
+    let n = c.ready.new.self.checkpoint in
+    let e = c.ready.ensures in
+    let k = c.in_ok-write.ensures in
+    let Q : Queue = run x.base (kept_all x.journal.batches) in
+    let grown = c.in-Ok.ensures.grown c.requires.unplaced in
+    let b : Batch = begun (P.view y.plant).now c.ready.new.self.id (entries_reserved y.reserved) in
+    let journal : z.journal.batches ≡ x.journal.batches ++ fated Kept (P.view z.plant).now b ∷ [] =
+    journal_kept x.journal.batches y.journal.batches z.journal.batches grown.0 (fated Kept (P.view z.plant).now b) grown.1 k.kept in
+    record {
+      none = k.none;
+      unplaced = k.unplaced;
+      same_level = k.level ∙ ap (level_with c.in-Ok.draft) (e.same_level ∙ c.requires.same_level) ∙ sym c.in-Ok.ensures.level;
+      nothing = c.in-Ok.ensures.empty;
+      drawn = c.in-Ok.ensures.drawn;
+      queue = subst (Tell n.tables) (queue_kept x.base z.base Q (run Q c.args.member.now.batch) x.journal.batches z.journal.batches (P.view z.plant).now b c.args.member.now.batch
+          (k.base ∙ e.base) refl journal (ap entries_reserved c.in-Ok.ensures.reserved) refl) (subst (λ (u : Tables). Tell u (run Q c.args.member.now.batch)) (sym e.tables) c.requires.done.queue);
+      fit = rw e.tables c.requires.done.fit;
+      sound = subst TellSound (sym e.tables) c.requires.sound;
+    }
+
+pub returns-clause-kept : goal.returns-clause-kept
+returns-clause-kept g c =
+    let P = g.P.Plant in
+    let x = c.args.complex.now in
+    let y = c.ready.new.complex in
+    let z = c.write.new.complex in
+    let e = c.ready.ensures in
+    let grown = c.in-Ok.ensures.grown c.requires.unplaced in
+    let b : Batch = begun (P.view y.plant).now c.ready.new.self.id (entries_reserved y.reserved) in
+    let journal : z.journal.batches ≡ x.journal.batches ++ fated Kept (P.view z.plant).now b ∷ [] =
+    journal_kept x.journal.batches y.journal.batches z.journal.batches grown.0 (fated Kept (P.view z.plant).now b) grown.1 c.in_ok-write.ensures.kept in
+    let later : (P.view y.plant).now ≤ (P.view z.plant).now = (c.in_ok-write.ensures.write x.journal.batches grown.0 grown.1).course.goes.later in
+    subst (λ (bs : List Batch). AreAllKept bs (P.view z.plant).now) (sym journal)
+    (kept_push x.journal.batches (P.view x.plant).now (P.view z.plant).now b (omega (arith, later, ap (λ p. (P.view p).now) e.plant)) c.requires.kept)
+
+pub returns-clause-level : goal.returns-clause-level
+returns-clause-level g c =
+    let old : ℕ = c.args.member.now.checkpoint.level in
+    subst (λ (n : ℕ). n ≤ old + 1) (sym c.in-Ok.ensures.level) (level_most c.in-Ok.draft old)
+
+pub returns-clause-room1 : goal.returns-clause-room1
+returns-clause-room1 g c on =
+    let C = g.C.Copying in
+    room_left c.in-Ok.draft C.room_after _ _ (c.in_ok-write.ensures.room1 on ∙ ap (λ p. room_with c.in-Ok.draft C.room_after (C.room p.first.copy)) c.ready.ensures.pair)
+
+pub returns-clause-room2 : goal.returns-clause-room2
+returns-clause-room2 g c on =
+    let C = g.C.Copying in
+    room_left c.in-Ok.draft C.room_after _ _ (c.in_ok-write.ensures.room2 on ∙ ap (λ p. room_with c.in-Ok.draft C.room_after (C.room p.second.copy)) c.ready.ensures.pair)

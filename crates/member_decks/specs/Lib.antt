@@ -1,0 +1,5 @@
+pub mod Spooling
+pub mod Decks
+pub mod Batches
+pub mod Steps
+pub mod Examples

@@ -1,0 +1,70 @@
+-- A text that goes into groups on the spool volumes.
+use Rattle.std.specs.Prelude.{◌≡◌, ◌≢◌, ◌⊎◌, ℕ, ◌*◌, ◌≤◌, ◌<◌, ◌==◌, Bool, true, false, List, Some, slice_get, Result, Ok, Err}
+use Rattle.std.specs.List.{list_any}
+use Rattle.mas_types.specs.declared.ids.GroupNo.{GroupNo}
+use Rattle.mas_types.specs.declared.ids.Dev.{Dev}
+use Rattle.mas_types.specs.declared.ids.Dev.TheVariants.{Ckpt1, Ckpt2, Spool}
+use Rattle.mas_types.specs.declared.queues.Config.{Config}
+use Rattle.mas_types.specs.Limits.{page_bytes}
+use Rattle.spool_disk.specs.declared.plant.Act.{Act}
+use Rattle.spool_disk.specs.declared.plant.Act.TheVariants as act
+use Rattle.spool_disk.specs.declared.plant.Part.{Part}
+use Rattle.spool_disk.specs.declared.plant.Part.TheVariants.{Disk as DiskPart}
+use Rattle.spool_disk.specs.View.{View, Disk, Stretch, Avoids, disk_now, slice}
+use Rattle.spool_disk.specs.Acts.{Goes, Rose}
+use Rattle.spool_volumes.specs.Volumes.{volume_of, start_of}
+use Rattle.mas_complex.specs.Texts.{Spools}
+use Rattle.member_decks.specs.declared.spooling.SpoolNo.{SpoolNo}
+use Rattle.member_decks.specs.declared.spooling.SpoolNo.TheVariants.{Lost, Halted}
+
+-- each volume of the configuration that isn't lost has the size that its groups need
+abbrev pub AreRoomy : View → Config → Type 0
+AreRoomy v config = (n : ℕ) → 1 ≤ n → n ≤ config.volumes → v.lost (DiskPart (Spool n)) ≡ false → page_bytes * config.groups ≤ v.size (Spool n)
+
+-- the groups rise
+abbrev pub Rise : List GroupNo → Type 0
+Rise groups = (i j : ℕ) (g h : GroupNo) → i < j → slice_get groups i ≡ Some g → slice_get groups j ≡ Some h → g.0 < h.0
+
+-- the page of a group
+abbrev pub page_in : Spools → ℕ → GroupNo → List ℕ
+page_in disks per g = slice (start_of per g) page_bytes (disks (volume_of per g)).bytes
+
+-- the pages at the places below this one stand in the groups at these places, synced or not
+abbrev pub StandBelow : ℕ → Spools → ℕ → List (List ℕ) → List GroupNo → Type 0
+StandBelow most disks per pages groups = (k : ℕ) (g : GroupNo) → k < most → slice_get groups k ≡ Some g → slice_get pages k ≡ Some (page_in disks per g)
+
+-- no byte of a volume differs, and what was synced still is
+pub record IsQuiet (old new : Disk) : Type 0 where
+  pub bytes : new.bytes ≡ old.bytes
+  pub synced : (s : Stretch) → Avoids old.unsynced s → Avoids new.unsynced s
+
+abbrev pub AreQuiet : Spools → Spools → Type 0
+AreQuiet old new = (n : ℕ) → IsQuiet (old n) (new n)
+
+-- one of the groups lies on the volume
+abbrev pub lies_there : ℕ → ℕ → List GroupNo → Bool
+lies_there per volume groups = list_any (λ g. volume_of per g == volume) groups
+
+-- Acts of a member on spool volumes: no other part is lost, nobody else is stopped, nor the operator, and where content is told, the
+-- copies and the console are as they were.
+pub record OnVolumes (told : Type 0) (by : ℕ) (old new : View) : Type 0 where
+  pub goes : Goes old new
+  pub else_lost : (p : Part) → ((n : ℕ) → p ≢ DiskPart (Spool n)) → new.lost p ≡ old.lost p
+  pub loses : (d : Dev) → new.loses d ≡ old.loses d
+  pub arms : (m : ℕ) → new.arms m ≡ old.arms m
+  pub no_other_stop : (m : ℕ) → (m ≢ by) ⊎ (by ≡ 0) → new.stops m ≡ old.stops m
+  pub first : told → disk_now new Ckpt1 ≡ disk_now old Ckpt1
+  pub second : told → disk_now new Ckpt2 ≡ disk_now old Ckpt2
+  pub console : told → (new.world new.now).console ≡ (old.world old.now).console
+
+-- why it stopped: a volume on which a group lies failed and is lost, or the member was stopped
+abbrev pub SpoolCauses : {T : Type 0} → Result T SpoolNo → ℕ → ℕ → List GroupNo → View → View → Type 0
+SpoolCauses (Ok done) by per groups old new = Unit {0}
+SpoolCauses (Err (Lost v)) by per groups old new = (lies_there per v groups ≡ true) × (new.lost (DiskPart (Spool v)) ≡ true) × Rose (old.faults (DiskPart (Spool v))) (new.faults (DiskPart (Spool v)))
+SpoolCauses (Err Halted) by per groups old new = (0 < by) × Rose (old.stops by) (new.stops by)
+
+-- the answer of an act on a volume
+abbrev pub answer_of : Act → ℕ → Result (Unit {0}) SpoolNo
+answer_of act.Done volume = Ok tt
+answer_of act.Failed volume = Err (Lost volume)
+answer_of act.Halted volume = Err Halted

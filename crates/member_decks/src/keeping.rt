@@ -1,0 +1,183 @@
+//! Batches of a step that are kept, and the lines with which it closes.
+ghost use Rattle.std.specs.Prelude.{◌≡◌, ◌+◌, ◌*◌, ◌≤◌, ◌<◌, ◌^◌, ◌++◌, ◌∷◌, [], ℕ, List, All, None, Some, Option, length, reverse, true, false, IfOk, IsErrOf, OnOk};
+ghost use Rattle.std.specs.List.{find};
+ghost use Rattle.std.specs.Option.{option_copied};
+ghost use Rattle.mas_types.specs.declared.commands.Reply.TheVariants.{Plain};
+ghost use Rattle.mas_types.specs.declared.ids.Dev.TheVariants.{Ckpt1, Ckpt2};
+ghost use Rattle.mas_types.specs.Closings.{IsReplyNamed};
+ghost use Rattle.mas_types.specs.Limits.{members_most};
+ghost use Rattle.spool_disk.specs.View.{disk_now};
+ghost use Rattle.mas_complex.specs.Crash.{IsUntold, setting};
+ghost use Rattle.mas_complex.specs.Journals.{begun, end_of, kept_all};
+ghost use Rattle.mas_complex.specs.Locking.{MayAct};
+ghost use Rattle.mas_complex.specs.Meaning.{run};
+ghost use Rattle.mas_complex.specs.Texts.{HasTexts, lost_now, spools_at};
+ghost use Rattle.table_queues.specs.Telling.{TellSound};
+ghost use Rattle.member_node.specs.declared.member.NodeNo.TheVariants.{ConsoleFault};
+ghost use Rattle.member_node.specs.Batches.{HasDone};
+ghost use Rattle.member_node.specs.Copies.{RestsAt};
+ghost use Rattle.member_steps.specs.Steps.{AreAllKept, IsBetween, IsStep};
+ghost use Rattle.member_decks.specs.Decks.{closes as closes_lem, closing_reply, finishing as finishing_lem, lines_by};
+ghost use Rattle.member_decks.specs.Steps.{IsRoomLeft};
+
+use cmd_report::closing;
+use mas_complex::{Complex, Steady};
+use mas_types::{Closing, Command, Entry, JobNo, Lines, MemberId, NoMemory, Reply};
+use member_node::{Member, NodeNo, reply_lines};
+use member_steps::play_batch;
+use spool_disk::Plant;
+use std::alloc::Global;
+
+// Whether a step may close with the reply to this command.
+fn closes(entry: &Entry) -> bool
+    ensures { result ≡ closes_lem entry.now }
+{
+    !matches!(entry.command, Command::Drop { .. })
+}
+
+// The last one of such.
+fn last_closing(entries: &[Entry]) -> Option<&Entry>
+    ensures { option_copied result ≡ find closes_lem (reverse entries.now) }
+{
+    entries.iter().rev().find(|entry| closes(entry))
+}
+
+// The line of a step that found a volume lost.
+fn lost_line(alloc: Global, by: MemberId, step: u32, volume: u8) -> Result<Lines, NoMemory>
+    requires { by.0 ≤ members_most }
+    ensures { IfOk result (λ lines. lines ≡ lines_by by step (Some volume) Plain) }
+{
+    let line = closing(alloc, by, step, &Closing::SpoolLost(volume))?;
+    let mut lines = Lines::new(alloc);
+    lines.push(line.as_slice())?;
+    Ok(lines)
+}
+
+// The lines with which a step closes whose last batch this is.
+pub(crate) fn last_lines(
+    member: &Member,
+    alloc: Global,
+    step: u32,
+    lost: Option<u8>,
+) -> Result<Lines, NoMemory>
+    requires by { member.now.id.0 ≤ members_most }
+    requires named { All (λ e. IsReplyNamed e.reply) member.now.batch }
+    ensures { IfOk result (λ lines. lines ≡ lines_by member.now.id step lost (closing_reply member.now.batch)) }
+{
+    let volume = match lost {
+        Some(volume) => volume,
+        None => {
+            return match last_closing(member.batch.as_slice()) {
+                Some(entry) => reply_lines(alloc, member.id, step, &entry.reply),
+                None => reply_lines(alloc, member.id, step, &Reply::Plain),
+            };
+        }
+    };
+    lost_line(alloc, member.id, step, volume)
+}
+
+// The command that follows once the text was spooled, or a volume was found lost.
+pub(crate) fn finishing(job: JobNo, text: Lines, lost: Option<u8>) -> Command
+    ensures { result ≡ finishing_lem lost job text }
+{
+    match lost {
+        None => Command::Enter { job, text },
+        Some(_) => Command::Drop { job },
+    }
+}
+
+/// Keeps the member's batch, one of several of a step: nothing is said.
+pub fn keep_batch<P: Plant + Drop, C: Steady + Drop>(
+    member: &mut Member,
+    alloc: Global,
+    complex: &mut Complex<P, C>,
+) -> Result<(), NodeNo>
+    requires may { MayAct complex.old.book member.old.id }
+    requires entries { 1 ≤ length member.old.batch }
+    requires own { All (λ e. e.by ≡ member.old.id) member.old.batch }
+    requires none { complex.old.current ≡ None }
+    requires unplaced { complex.old.placed ≡ false }
+    requires same_level { complex.old.level ≡ member.old.checkpoint.level }
+    requires done { HasDone (run complex.old.base (kept_all complex.old.journal.batches)) member.old.batch member.old.checkpoint }
+    requires rests1 { RestsAt P.tells complex.old.pair.first.alive complex.old.first (C.count complex.old.pair.first.copy) member.old.checkpoint.pages (C.reads (disk_now (P.view complex.old.plant) Ckpt1).bytes) }
+    requires rests2 { RestsAt P.tells complex.old.pair.second.alive complex.old.second (C.count complex.old.pair.second.copy) member.old.checkpoint.pages (C.reads (disk_now (P.view complex.old.plant) Ckpt2).bytes) }
+    requires kept { AreAllKept complex.old.journal.batches (P.view complex.old.plant).now }
+    requires untold { P.tells → IsUntold (setting C.reads complex.old.base complex.old.since) (P.view complex.old.plant) member.old.batch }
+    requires texts { P.tells → ∥ HasTexts (lost_now (P.view complex.old.plant)) (spools_at (P.view complex.old.plant) (P.view complex.old.plant).now) complex.old.base.config.groups (run complex.old.base (kept_all complex.old.journal.batches ++ member.old.batch)) ∥₁ }
+    requires sound { TellSound member.old.checkpoint.tables }
+    requires level { member.old.checkpoint.level + 1 < 2 ^ 63 }
+    requires room1 { complex.old.pair.first.alive ≡ true → 1 ≤ C.room complex.old.pair.first.copy }
+    requires room2 { complex.old.pair.second.alive ≡ true → 1 ≤ C.room complex.old.pair.second.copy }
+    ensures base { complex.new.base ≡ complex.old.base }
+    ensures since { complex.new.since ≡ complex.old.since }
+    ensures book { complex.new.book ≡ complex.old.book }
+    ensures id { member.new.id ≡ member.old.id }
+    ensures tables { member.new.checkpoint.tables ≡ member.old.checkpoint.tables }
+    ensures step { IsStep P.tells member.old.id.0 [] (begun (P.view complex.old.plant).now member.old.id member.old.batch)
+        complex.old.journal.batches (end_of complex.new.placed complex.new.current complex.new.journal.batches)
+        complex.old.pair.first.alive complex.new.pair.first.alive complex.old.pair.second.alive complex.new.pair.second.alive
+        (P.view complex.old.plant) (P.view complex.new.plant) result }
+    ensures unsaid { IsErrOf result ConsoleFault → ⊥ }
+    ensures unreserved { OnOk result (complex.new.reserved ≡ None) }
+    ensures between { OnOk result (IsBetween complex.new.base complex.new.journal.batches complex.new.current complex.new.placed complex.new.level member.new.batch member.new.checkpoint) }
+    ensures rests1 { OnOk result (RestsAt P.tells complex.new.pair.first.alive complex.new.first (C.count complex.new.pair.first.copy) member.new.checkpoint.pages (C.reads (disk_now (P.view complex.new.plant) Ckpt1).bytes)) }
+    ensures rests2 { OnOk result (RestsAt P.tells complex.new.pair.second.alive complex.new.second (C.count complex.new.pair.second.copy) member.new.checkpoint.pages (C.reads (disk_now (P.view complex.new.plant) Ckpt2).bytes)) }
+    ensures kept { OnOk result (AreAllKept complex.new.journal.batches (P.view complex.new.plant).now) }
+    ensures room1 { OnOk result (complex.new.pair.first.alive ≡ true → IsRoomLeft C.room_after (C.room complex.old.pair.first.copy) (C.room complex.new.pair.first.copy)) }
+    ensures room2 { OnOk result (complex.new.pair.second.alive ≡ true → IsRoomLeft C.room_after (C.room complex.old.pair.second.copy) (C.room complex.new.pair.second.copy)) }
+    ensures level { OnOk result (member.new.checkpoint.level ≤ member.old.checkpoint.level + 1) }
+{
+    let Ok(draft) = member.ready(alloc, complex) else {
+        return Err(NodeNo::NoMemory);
+    };
+    member.write(complex, &draft)?;
+    Ok(())
+}
+
+/// Keeps the member's batch, the last of a deck's step, and says the lines with which it closes.
+pub(crate) fn close_deck<P: Plant + Drop, C: Steady + Drop>(
+    member: &mut Member,
+    alloc: Global,
+    complex: &mut Complex<P, C>,
+    step: u32,
+    lost: Option<u8>,
+) -> Result<(), NodeNo>
+    requires may { MayAct complex.old.book member.old.id }
+    requires by { member.old.id.0 ≤ members_most }
+    requires named { All (λ e. IsReplyNamed e.reply) member.old.batch }
+    requires entries { 1 ≤ length member.old.batch }
+    requires own { All (λ e. e.by ≡ member.old.id) member.old.batch }
+    requires none { complex.old.current ≡ None }
+    requires unplaced { complex.old.placed ≡ false }
+    requires same_level { complex.old.level ≡ member.old.checkpoint.level }
+    requires done { HasDone (run complex.old.base (kept_all complex.old.journal.batches)) member.old.batch member.old.checkpoint }
+    requires rests1 { RestsAt P.tells complex.old.pair.first.alive complex.old.first (C.count complex.old.pair.first.copy) member.old.checkpoint.pages (C.reads (disk_now (P.view complex.old.plant) Ckpt1).bytes) }
+    requires rests2 { RestsAt P.tells complex.old.pair.second.alive complex.old.second (C.count complex.old.pair.second.copy) member.old.checkpoint.pages (C.reads (disk_now (P.view complex.old.plant) Ckpt2).bytes) }
+    requires kept { AreAllKept complex.old.journal.batches (P.view complex.old.plant).now }
+    requires untold { P.tells → IsUntold (setting C.reads complex.old.base complex.old.since) (P.view complex.old.plant) member.old.batch }
+    requires texts { P.tells → ∥ HasTexts (lost_now (P.view complex.old.plant)) (spools_at (P.view complex.old.plant) (P.view complex.old.plant).now) complex.old.base.config.groups (run complex.old.base (kept_all complex.old.journal.batches ++ member.old.batch)) ∥₁ }
+    requires sound { TellSound member.old.checkpoint.tables }
+    requires level { member.old.checkpoint.level + 1 < 2 ^ 63 }
+    requires room1 { complex.old.pair.first.alive ≡ true → 1 ≤ C.room complex.old.pair.first.copy }
+    requires room2 { complex.old.pair.second.alive ≡ true → 1 ≤ C.room complex.old.pair.second.copy }
+    ensures base { complex.new.base ≡ complex.old.base }
+    ensures since { complex.new.since ≡ complex.old.since }
+    ensures book { complex.new.book ≡ complex.old.book }
+    ensures id { member.new.id ≡ member.old.id }
+    ensures tables { member.new.checkpoint.tables ≡ member.old.checkpoint.tables }
+    ensures step { IsStep P.tells member.old.id.0 (lines_by member.old.id step lost (closing_reply member.old.batch)) (begun (P.view complex.old.plant).now member.old.id member.old.batch)
+        complex.old.journal.batches (end_of complex.new.placed complex.new.current complex.new.journal.batches)
+        complex.old.pair.first.alive complex.new.pair.first.alive complex.old.pair.second.alive complex.new.pair.second.alive
+        (P.view complex.old.plant) (P.view complex.new.plant) result }
+    ensures unreserved { OnOk result (complex.new.reserved ≡ None) }
+    ensures between { OnOk result (IsBetween complex.new.base complex.new.journal.batches complex.new.current complex.new.placed complex.new.level member.new.batch member.new.checkpoint) }
+    ensures rests1 { OnOk result (RestsAt P.tells complex.new.pair.first.alive complex.new.first (C.count complex.new.pair.first.copy) member.new.checkpoint.pages (C.reads (disk_now (P.view complex.new.plant) Ckpt1).bytes)) }
+    ensures rests2 { OnOk result (RestsAt P.tells complex.new.pair.second.alive complex.new.second (C.count complex.new.pair.second.copy) member.new.checkpoint.pages (C.reads (disk_now (P.view complex.new.plant) Ckpt2).bytes)) }
+    ensures kept { OnOk result (AreAllKept complex.new.journal.batches (P.view complex.new.plant).now) }
+    ensures level { OnOk result (member.new.checkpoint.level ≤ member.old.checkpoint.level + 1) }
+{
+    let Ok(lines) = last_lines(member, alloc, step, lost) else {
+        return Err(NodeNo::NoMemory);
+    };
+    play_batch(member, alloc, complex, &lines)
+}

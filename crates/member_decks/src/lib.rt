@@ -1,0 +1,18 @@
+//! A deck's step: its job begins and gets groups, its text goes into them, and the job is entered.
+#![tactic(auto)]
+
+mod examples;
+mod keeping;
+mod locked;
+mod opening;
+mod playing;
+mod refusing;
+mod spooling;
+
+pub use examples::examples_of_deck_steps;
+pub use keeping::keep_batch;
+pub use locked::play_locked_deck;
+pub use opening::{Opened, take_groups};
+pub use playing::play_deck;
+pub use refusing::refuse;
+pub use spooling::{SpoolNo, spool_text, sync_volumes, write_pages};
