@@ -1,6 +1,5 @@
 -- Restart as the first batch, by how it ended.
-use Rattle.std.proofs.Common.{◌≡◌, inl, inr, ⊎_elim, ℕ, ◌++◌, ◌≤◌, Bool, true, false, if◌then◌else◌, List, [], ◌∷◌, length, drop, Option, Result, Ok, Err, All, refl, sym, subst, ◌∙◌, ap, arith}
-use Rattle.std.specs.List.{list_any}
+use Rattle.std.proofs.Common.{◌≡◌, inl, inr, ⊎_elim, ℕ, ◌++◌, ◌≤◌, Bool, true, false, List, [], ◌∷◌, length, drop, Option, Result, Ok, Err, OnOk, All, refl, sym, subst, ◌∙◌, ap, arith}
 use Rattle.std.proofs.lemmas.List.Elements.{All-nil, All-cons}
 use Rattle.mas_types.specs.declared.ids.MemberId.{MemberId}
 use Rattle.mas_types.specs.declared.ids.Dev.TheVariants.{Ckpt1, Ckpt2}
@@ -11,32 +10,31 @@ use Rattle.mas_types.specs.declared.journals.Entry.{Entry}
 use Rattle.mas_types.specs.declared.journals.Fate.TheVariants.{Kept}
 use Rattle.mas_types.specs.declared.journals.Journal.{Journal}
 use Rattle.mas_types.specs.declared.queues.Config.{Config}
-use Rattle.mas_types.specs.declared.queues.Owner.{Owner}
-use Rattle.mas_types.specs.declared.queues.Owner.TheVariants as owner
 use Rattle.mas_types.specs.declared.queues.Queue.{Queue}
 use Rattle.mas_types.specs.Ids.{nobody}
-use Rattle.mas_types.specs.Owners.{freed, is_held_by}
-use Rattle.mas_types.specs.Queue.{is_member}
-use Rattle.ckpt_pages.specs.declared.tables.Tables.{Tables}
 use Rattle.spool_disk.specs.View.{View, Line}
 use Rattle.spool_disk.specs.declared.plant.Part.TheVariants.{Disk as DiskPart}
 use Rattle.ckpt_copy.specs.Areas.{reads}
 use Rattle.duplex_pair.specs.Halves.{SomeAlive}
 use Rattle.mas_complex.specs.Crash.{EachTells, IsUntold, setting}
 use Rattle.mas_complex.specs.Headline.{Headline}
-use Rattle.mas_complex.specs.Journals.{begun, fated, has_step}
-use Rattle.mas_complex.specs.Meaning.{Closes, step}
+use Rattle.mas_complex.specs.Journals.{begun, fated, has_step, kept_all}
+use Rattle.mas_complex.specs.Meaning.{Closes, run, step}
 use Rattle.member_node.specs.declared.member.NodeNo.{NodeNo}
 use Rattle.member_node.specs.declared.member.NodeNo.TheVariants as no_node
 use Rattle.member_node.specs.Calls.{IsLeft}
-use Rattle.table_queues.specs.Telling.{Tell}
 use Rattle.member_node.specs.Writes.{IsWrite}
 use Rattle.member_node.proofs.CourseLemmas.{course_none, left, only_none}
 use Rattle.member_steps.specs.Steps.{AreAllKept}
 use Rattle.mas_run.specs.Resets.{HasReset, restart_entries}
 use Rattle.mas_run.specs.Runs.{HasSteps}
 use Rattle.mas_run.specs.Statuses.{IsCausedFrom, status_of}
-use Rattle.mas_run.specs.Turns.{Turn}
+use Rattle.lock_cycle.specs.Books.{Book}
+use Rattle.script_lang.specs.declared.types.Step.{Step}
+use Rattle.mas_run.specs.Steps.{FindLost}
+use Rattle.mas_run.specs.Turns.{Turn, turns_from}
+use Rattle.mas_run.proofs.TurnLemmas.{none_found}
+use Rattle.mas_run.proofs.VolumeLemmas.{kept_on}
 use Rattle.mas_run.proofs.RunLemmas.{reset_alone}
 
 -- nothing was said since this moment
@@ -47,6 +45,11 @@ none_said closes (line ∷ lines) P = none_said closes lines P
 pub none_untold : (reads : List ℕ → Option (List ℕ)) (base : Queue) (since : ℕ) (v : View) (entries : List Entry) → since ≡ v.now → IsUntold (setting reads base since) v entries
 none_untold reads base since v entries is =
     subst (λ (t : ℕ). EachTells Closes (drop (length (v.world t).console) (v.world v.now).console) (λ m s. has_step m s entries ≡ false)) (sym is) (none_said Closes (v.world v.now).console (λ m s. has_step m s entries ≡ false))
+
+-- what follows from a fact of an answer that is none of an error
+pub ok_then : {T E A B : Type 0} (r : Result T E) → (A → B) → OnOk r A → OnOk r B
+ok_then (Ok done) f a = f a
+ok_then (Err why) f a = tt
 
 -- WHAT IT LEAVES
 
@@ -77,45 +80,28 @@ restart_entry batch more Q m none same is =
     is ∙ ap (λ (es : List Entry). es ++ record { by = m; step = 0; command = Restart; reply = (step Q m Restart).1 } ∷ []) none
     ∙ ap (λ (n : MemberId). let e : List Entry = record { by = n; step = 0; command = Restart; reply = (step Q n Restart).1 } ∷ [] in e) same
 
--- NO GROUPS ARE LEFT
-
-by_test : {A : Type 0} (b : Bool) → (b ≡ true → A) → (b ≡ false → A) → A
-by_test true f g = f refl
-by_test false f g = g refl
-
-none_held : (picks : MemberId → Bool) (gs : List Owner) → list_any (is_held_by picks) (freed (is_held_by picks) gs) ≡ false
-none_held picks [] = refl
-none_held picks (g ∷ gs) =
-    let one : is_held_by picks (if is_held_by picks g then owner.Free else g) ≡ false = by_test (is_held_by picks g) (λ e. rw e refl) (λ e. rw e e) in
-    rw one (none_held picks gs)
-
-pub restarted : (old new : Tables) (m : MemberId) → new.config ≡ old.config → (Q : Queue) → Tell old Q → Tell new (step Q m Restart).0 → list_any (is_held_by (is_member new.config)) new.owners ≡ false
-restarted old new m same Q told effect =
-    subst (λ (c : Config). list_any (is_held_by (is_member c)) new.owners ≡ false) (sym same)
-    (subst (λ (c : Config). list_any (is_held_by (is_member c)) new.owners ≡ false) told.config
-    (subst (λ (gs : List Owner). list_any (is_held_by (is_member Q.config)) gs ≡ false) effect.owners (none_held (is_member Q.config) Q.owners)))
-
 -- A WARM RUN AFTER RESTART
 
 reset_left : (tells : Type 0) (asked : List Turn) (base : Queue) (journal : Journal) (since : ℕ) (old new : View) (a a' c c' : Bool) → since ≡ old.now → SomeAlive a c → (a ≡ true → old.lost (DiskPart Ckpt1) ≡ false) → (c ≡ true → old.lost (DiskPart Ckpt2) ≡ false)
-    → (tells → ∥ Headline reads base since journal new ∥₁) → {T : Type 0} (why : NodeNo) → HasReset {T = T} tells (begun old.now nobody restart_entries) journal.batches a a' c c' old new (Err why)
+    → (tells → ∥ Headline reads base since journal new ∥₁) → ((opening : List Batch) → FindLost old new base.config.groups (run base (kept_all opening)) 1 asked) → {T : Type 0} (why : NodeNo) → HasReset {T = T} tells (begun old.now nobody restart_entries) journal.batches a a' c c' old new (Err why)
     → HasSteps false tells asked (status_of {T = T} (Err why)) base journal since old.loses old new
-reset_left tells asked base journal since old new a a' c c' is some there1 there2 head no_node.NoMemory r =
+reset_left tells asked base journal since old new a a' c c' is some there1 there2 head found no_node.NoMemory r =
     let one : SomeAlive a' c' = subst (λ (x : Bool). SomeAlive x c') (sym r.ends.1) (subst (λ (y : Bool). SomeAlive a y) (sym r.ends.2) some) in
     reset_alone tells asked status.NoMemory base [] journal since old new r.ends.0 is r.course.goes (inr (inr (refl, refl, refl, refl))) (λ e. absurd (cc)) (λ e. absurd (cc)) r.loses (λ t. (r.apart t).console) head
-    (λ ne. left a' c' one (λ x. r.course.there1 x (there1 (r.course.alive1 x))) (λ y. r.course.there2 y (there2 (r.course.alive2 y))))
-reset_left tells asked base journal since old new a a' c c' is some there1 there2 head no_node.BothLost r =
+    (λ ne. left a' c' one (λ x. r.course.there1 x (there1 (r.course.alive1 x))) (λ y. r.course.there2 y (there2 (r.course.alive2 y)))) (found []) (λ t. kept_on old new (r.apart t).others)
+reset_left tells asked base journal since old new a a' c c' is some there1 there2 head found no_node.BothLost r =
     let b : Batch = begun old.now nobody restart_entries in
     reset_alone tells asked status.BothLost base (b ∷ []) journal since old new r.ends.0 is r.course.goes
     (inr (inl (b, refl, record { by = refl; entries = refl; began = omega (arith, is) }, refl, refl, refl, refl, refl))) (λ e. absurd (cc)) (λ e. absurd (cc)) r.loses (λ t. (r.apart t).console) head
-    (λ ne. absurd (ne refl))
-reset_left tells asked base journal since old new a a' c c' is some there1 there2 head no_node.ConsoleFault r = absurd r.ends
-reset_left tells asked base journal since old new a a' c c' is some there1 there2 head no_node.Halted r = absurd r.ends
+    (λ ne. absurd (ne refl)) (found (b ∷ [])) (λ t. kept_on old new (r.apart t).others)
+reset_left tells asked base journal since old new a a' c c' is some there1 there2 head found no_node.ConsoleFault r = absurd r.ends
+reset_left tells asked base journal since old new a a' c c' is some there1 there2 head found no_node.Halted r = absurd r.ends
 
-pub reset_ended : {T : Type 0} (tells : Type 0) (asked : List Turn) (base : Queue) (journal : Journal) (since : ℕ) (old new : View) (a a' c c' : Bool) (why : NodeNo) → since ≡ old.now → SomeAlive a c → (a ≡ true → old.lost (DiskPart Ckpt1) ≡ false) → (c ≡ true → old.lost (DiskPart Ckpt2) ≡ false)
+pub reset_ended : {T : Type 0} (tells : Type 0) (config : Config) (book : Book) (steps : List Step) (base : Queue) (journal : Journal) (since : ℕ) (old new : View) (a a' c c' : Bool) (why : NodeNo) → since ≡ old.now → SomeAlive a c → (a ≡ true → old.lost (DiskPart Ckpt1) ≡ false) → (c ≡ true → old.lost (DiskPart Ckpt2) ≡ false)
     → (tells → ∥ Headline reads base since journal new ∥₁) → HasReset {T = T} tells (begun old.now nobody restart_entries) journal.batches a a' c c' old new (Err why)
-    → HasSteps false tells asked (status_of {T = T} (Err why)) base journal since old.loses old new
-reset_ended {T = T} tells asked base journal since old new a a' c c' why is some there1 there2 head r = reset_left tells asked base journal since old new a a' c c' is some there1 there2 head {T = T} why r
+    → (lost : List (Option ℕ)) × HasSteps false tells (turns_from config book lost steps) (status_of {T = T} (Err why)) base journal since old.loses old new
+reset_ended {T = T} tells config book steps base journal since old new a a' c c' why is some there1 there2 head r =
+    ([], reset_left tells (turns_from config book [] steps) base journal since old new a a' c c' is some there1 there2 head (λ opening. none_found old new base.config.groups config book steps (run base (kept_all opening)) 1) {T = T} why r)
 
 pub reset_caused : {T : Type 0} (told : Type 0) (b : Batch) (batches : List Batch) (a a' c c' : Bool) (old new : View) (why : NodeNo) → HasReset {T = T} told b batches a a' c c' old new (Err why) → (a' ≡ false → new.lost (DiskPart Ckpt1) ≡ true) → (c' ≡ false → new.lost (DiskPart Ckpt2) ≡ true)
     → IsCausedFrom a c (status_of {T = T} (Err why)) old new

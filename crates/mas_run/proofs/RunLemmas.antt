@@ -1,13 +1,9 @@
 -- A run, from what its step leaves.
-use Rattle.std.proofs.Common.{◌≡◌, ◌≢◌, ◌⊎◌, inl, inr, ⊎_elim, ℕ, zero, suc, ◌+◌, ◌<◌, ◌≤◌, Bool, true, false, List, [], ◌∷◌, ◌++◌, length, map, take, None, Result, Ok, Err, refl, sym, ◌∙◌, ap, subst, arith, replicate, codes, All}
+use Rattle.std.proofs.Common.{◌≡◌, ◌≢◌, ◌⊎◌, inl, inr, ⊎_elim, ℕ, zero, suc, ◌+◌, ◌<◌, ◌≤◌, nat_lt, Bool, true, false, List, [], ◌∷◌, ◌++◌, length, map, take, Option, None, Result, Ok, Err, refl, sym, ◌∙◌, ap, subst, arith, replicate, All}
 use Rattle.std.proofs.Math.Logic.{∥∥₁_map, ∥∥₁_elim}
 use Rattle.std.specs.Coded.{Coded, Coded-set, coded_ℕ, code_by, ×_prop, le_prop}
-use Rattle.std.specs.List.{list_any}
-use Rattle.std.proofs.lemmas.List.Elements.{All-nil, All-weaker}
-use Rattle.mas_types.specs.declared.ids.MemberId.{MemberId}
-use Rattle.mas_types.specs.declared.queues.Owner.TheVariants.{Free}
-use Rattle.mas_types.specs.Ids.{same_name}
-use Rattle.mas_types.specs.Owners.{is_members}
+use Rattle.std.proofs.lemmas.Bool.Decides.{nat_tests}
+use Rattle.std.proofs.lemmas.List.Elements.{All-nil}
 use Rattle.ckpt_pages.specs.Shape.{HasShape}
 use Rattle.queue_effect.specs.Standing.{AreFit, IsFitJob, IsFitOutput}
 use Rattle.member_node.specs.Calls.{Course, Grows, console_now}
@@ -17,20 +13,19 @@ use Rattle.member_steps.specs.Steps.{AreAllKept}
 use Rattle.ckpt_pages.specs.declared.tables.Tables.{Tables}
 use Rattle.ckpt_pages.specs.QueueOf.{used}
 use Rattle.ckpt_pages.specs.Starts.{empty_tables}
-use Rattle.first_script.specs.declared.asked.Asked.TheVariants as asked_of
-use Rattle.first_script.specs.Steps.{IsFitStep}
-use Rattle.mas_run.specs.Entering.{HasNoGroups}
-use Rattle.mas_types.specs.declared.ids.Dev.TheVariants.{Ckpt1, Ckpt2, Spool}
+use Rattle.mas_types.specs.declared.ids.Dev.TheVariants.{Ckpt1, Ckpt2}
 use Rattle.mas_types.specs.declared.ids.Dev.{Dev}
-use Rattle.first_script.specs.declared.asked.Asked.{Asked}
 use Rattle.mas_types.specs.declared.journals.Journal.{Journal}
 use Rattle.mas_types.specs.declared.journals.Fate.{Fate}
 use Rattle.mas_types.specs.declared.journals.Fate.TheVariants.{Kept, Dropped, Flying}
 use Rattle.mas_types.specs.declared.queues.Queue.{Queue}
 use Rattle.mas_types.specs.declared.answers.Status.{Status}
 use Rattle.mas_types.specs.declared.answers.Status.TheVariants as status
-use Rattle.mas_types.specs.Starts.{default_config, empty_queue}
+use Rattle.mas_types.specs.Starts.{empty_queue}
+use Rattle.mas_types.specs.declared.queues.Config.{Config}
+use Rattle.mas_types.specs.declared.queues.Route.{Route}
 use Rattle.mas_types.specs.Fit.{IsConfig}
+use Rattle.mas_types.specs.Limits.{routes_most}
 use Rattle.mas_types.proofs.EmptyQueue.{empty_queue-sound}
 use Rattle.table_queues.specs.Telling.{Tell, TellSound}
 use Rattle.mas_complex.specs.Texts.{HasTexts, Spools}
@@ -39,23 +34,30 @@ use Rattle.spool_disk.specs.declared.plant.Part.TheVariants.{Disk as DiskPart, C
 use Rattle.spool_disk.specs.Acts.{Goes, Rose, top}
 use Rattle.ckpt_copy.specs.Areas.{reads}
 use Rattle.duplex_pair.specs.Halves.{SomeAlive, IsBothLost}
+use Rattle.duplex_pair.specs.declared.errors.PairNo.{PairNo}
+use Rattle.duplex_pair.specs.declared.errors.PairNo.TheVariants as pair_no
+use Rattle.duplex_pair.specs.Outcomes.{pair_stopped}
 use Rattle.duplex_pair.specs.Both.{PairActed}
 use Rattle.mas_complex.specs.declared.places.Place.TheVariants.{Before}
 use Rattle.mas_complex.specs.Crash.{setting, CopyAt, copy_of}
 use Rattle.mas_complex.specs.Headline.{Headline, AreToldKept, whole}
 use Rattle.member_node.specs.declared.member.NodeNo.{NodeNo}
 use Rattle.member_node.specs.declared.member.NodeNo.TheVariants as no_node
-use Rattle.mas_run.specs.Decks.{sysa}
-use Rattle.mas_run.specs.Turns.{Turn}
-use Rattle.mas_run.specs.Steps.{IsFitFor, output, loses_after}
+use Rattle.first_script.specs.Played.{sysa}
+use Rattle.lock_cycle.specs.Books.{Book}
+use Rattle.script_lang.specs.declared.types.Step.{Step}
+use Rattle.mas_run.specs.Turns.{Turn, turns_from}
+use Rattle.mas_run.specs.Steps.{FindLost, loses_after, next_batches, output}
 use Rattle.mas_run.specs.Plays.{Ends, IfNotLost, ArePlayed, HasPlay}
-use Rattle.mas_run.specs.Runs.{AreKept, Adds, HasLost, IsStopped, IsRestart, IsReset, IsPlay, HasSteps}
+use Rattle.mas_run.specs.Runs.{has_begun, Adds, HasLost, IsSettled, IsStopped, IsRestart, IsReset, HavePassed, IsSafe, IsPlay, HasSteps}
+use Rattle.mas_run.specs.Volumes.{AreVolumesKept, AreVolumesKeptUntil}
+use Rattle.mas_run.proofs.PlayLemmas.{find_since}
+use Rattle.mas_run.proofs.VolumeLemmas.{kept_none, kept_past, kept_then}
 use Rattle.mas_types.specs.declared.journals.Batch.{Batch}
 use Rattle.mas_complex.specs.Journals.{kept_all, fated}
 use Rattle.mas_complex.specs.Meaning.{run}
 use Rattle.std.proofs.lemmas.List.{append-nil}
 use Rattle.mas_run.specs.Statuses.{IsCaused, IsCausedFrom, status_of}
-use Rattle.mas_run.proofs.CourseLemmas.{has_lost_later}
 
 abbrev fate_code : Fate → ℕ
 fate_code Kept = 0
@@ -94,91 +96,113 @@ left_now : (old new : View) (a a' b b' : Bool) → (a ≡ true → old.lost (Dis
 left_now old new a a' b b' there1 there2 course some =
     ⊎_elim (λ alive. inl (left a' b' alive (λ is. course.there1 is (there1 (course.alive1 is))) (λ is. course.there2 is (there2 (course.alive2 is))))) inr some
 
-module _ {T : Type 0} (told : Type 0) (asked : List Turn) (base : Queue) (journal : Journal) (old new : View) (a a' b b' : Bool) where
-  settled : (answer : Result T NodeNo) (kept closed : ℕ) (A : Type 0) → status_of answer ≢ status.BothLost → Ends answer kept closed (length asked) A a' b' old new → A ⊎ IsStopped old new
+module _ {T : Type 0} (one two : Bool) (old new : View) (all : ℕ) (begun : List Batch) where
+  settled : (answer : Result T NodeNo) (kept closed : ℕ) (A : Type 0) → status_of answer ≢ status.BothLost → Ends answer kept closed all begun A one two old new → A ⊎ IsStopped old new
   settled (Ok done) kept closed A ne ends = inl ends.2
   settled (Err no_node.NoMemory) kept closed A ne ends = inl ends.1
   settled (Err no_node.BothLost) kept closed A ne ends = absurd (ne refl)
-  settled (Err no_node.ConsoleFault) kept closed A ne ends = inl ends.1
+  settled (Err no_node.ConsoleFault) kept closed A ne ends = inl ends.2
   settled (Err no_node.Halted) kept closed A ne ends = inr ends
 
-  finished : (answer : Result T NodeNo) (kept closed : ℕ) (A : Type 0) → status_of answer ≡ status.Done → Ends answer kept closed (length asked) A a' b' old new → (closed ≡ length asked) ⊎ IsStopped old new
+  finished : (answer : Result T NodeNo) (kept closed : ℕ) (A : Type 0) → status_of answer ≡ status.Done → Ends answer kept closed all begun A one two old new → (closed ≡ all) ⊎ IsStopped old new
   finished (Ok done) kept closed A e ends = inl ends.1
   finished (Err no_node.NoMemory) kept closed A e ends = absurd (cc)
   finished (Err no_node.BothLost) kept closed A e ends = absurd (cc)
   finished (Err no_node.ConsoleFault) kept closed A e ends = absurd (cc)
   finished (Err no_node.Halted) kept closed A e ends = inr ends
 
-  one_unsaid : (answer : Result T NodeNo) (kept closed : ℕ) (A : Type 0) → status_of answer ≡ status.ConsoleFault → Ends answer kept closed (length asked) A a' b' old new → kept ≡ closed + 1
+  one_unsaid : (answer : Result T NodeNo) (kept closed : ℕ) (A : Type 0) → status_of answer ≡ status.ConsoleFault → Ends answer kept closed all begun A one two old new → (kept ≡ closed + 1) × (begun ≡ [])
   one_unsaid (Ok done) kept closed A e ends = absurd (cc)
   one_unsaid (Err no_node.NoMemory) kept closed A e ends = absurd (cc)
   one_unsaid (Err no_node.BothLost) kept closed A e ends = absurd (cc)
-  one_unsaid (Err no_node.ConsoleFault) kept closed A e ends = ends.0
+  one_unsaid (Err no_node.ConsoleFault) kept closed A e ends = (ends.0, ends.1)
   one_unsaid (Err no_node.Halted) kept closed A e ends = absurd (cc)
 
-  none_unplayed : (answer : Result T NodeNo) (kept closed : ℕ) (A : Type 0) → status_of answer ≡ status.NoMemory → Ends answer kept closed (length asked) A a' b' old new → kept ≡ closed
+  none_unplayed : (answer : Result T NodeNo) (kept closed : ℕ) (A : Type 0) → status_of answer ≡ status.NoMemory → Ends answer kept closed all begun A one two old new → kept ≡ closed
   none_unplayed (Ok done) kept closed A e ends = absurd (cc)
   none_unplayed (Err no_node.NoMemory) kept closed A e ends = ends.0
   none_unplayed (Err no_node.BothLost) kept closed A e ends = absurd (cc)
   none_unplayed (Err no_node.ConsoleFault) kept closed A e ends = absurd (cc)
   none_unplayed (Err no_node.Halted) kept closed A e ends = absurd (cc)
 
-  none_unkept : (answer : Result T NodeNo) (kept closed : ℕ) (A : Type 0) → status_of answer ≡ status.BothLost → Ends answer kept closed (length asked) A a' b' old new → (kept ≡ closed) × IsBothLost a' b'
+  none_unkept : (answer : Result T NodeNo) (kept closed : ℕ) (A : Type 0) → status_of answer ≡ status.BothLost → Ends answer kept closed all begun A one two old new → (kept ≡ closed) × IsBothLost one two
   none_unkept (Ok done) kept closed A e ends = absurd (cc)
   none_unkept (Err no_node.NoMemory) kept closed A e ends = absurd (cc)
   none_unkept (Err no_node.BothLost) kept closed A e ends = ends
   none_unkept (Err no_node.ConsoleFault) kept closed A e ends = absurd (cc)
   none_unkept (Err no_node.Halted) kept closed A e ends = absurd (cc)
 
-  console_failed : (answer : Result T NodeNo) (kept closed : ℕ) (A : Type 0) → status_of answer ≡ status.ConsoleFault → Ends answer kept closed (length asked) A a' b' old new → Rose (old.faults Console) (new.faults Console)
+  console_failed : (answer : Result T NodeNo) (kept closed : ℕ) (A : Type 0) → status_of answer ≡ status.ConsoleFault → Ends answer kept closed all begun A one two old new → Rose (old.faults Console) (new.faults Console)
   console_failed (Ok done) kept closed A e ends = absurd (cc)
   console_failed (Err no_node.NoMemory) kept closed A e ends = absurd (cc)
   console_failed (Err no_node.BothLost) kept closed A e ends = absurd (cc)
-  console_failed (Err no_node.ConsoleFault) kept closed A e ends = ends.2
+  console_failed (Err no_node.ConsoleFault) kept closed A e ends = ends.3
   console_failed (Err no_node.Halted) kept closed A e ends = absurd (cc)
 
-  pub caused_by_steps : (rest : List Batch) (answer : Result T NodeNo) → ArePlayed told base asked rest a a' b b' old new answer → (a' ≡ false → new.lost (DiskPart Ckpt1) ≡ true) → (b' ≡ false → new.lost (DiskPart Ckpt2) ≡ true)
-      → IsCausedFrom a b (status_of answer) old new
-  caused_by_steps rest answer p lost1 lost2 = record {
-    lost = λ e. let both = (none_unkept answer p.kept p.closed (AreKept base 1 (take p.kept asked) old.now new.now rest) e p.ends).1 in (lost1 both.0, lost2 both.1);
-    failed1 = λ e was. p.course.failed1 was (none_unkept answer p.kept p.closed (AreKept base 1 (take p.kept asked) old.now new.now rest) e p.ends).1.0;
-    failed2 = λ e was. p.course.failed2 was (none_unkept answer p.kept p.closed (AreKept base 1 (take p.kept asked) old.now new.now rest) e p.ends).1.1;
-    console = λ e. console_failed answer p.kept p.closed (AreKept base 1 (take p.kept asked) old.now new.now rest) e p.ends;
+module _ {T : Type 0} (told : Type 0) (asked : List Turn) (from : Queue) (per : ℕ) (rest : List Batch) (old new : View) (a a' b b' : Bool) (answer : Result T NodeNo)
+    (p : ArePlayed told from per asked rest a a' b b' old new answer) where
+  abbrev Next : Type 0
+  Next = IsSettled (next_batches from p.kept asked) p.history.between new.now p.history.begun
+
+  pub caused_by_steps : (a' ≡ false → new.lost (DiskPart Ckpt1) ≡ true) → (b' ≡ false → new.lost (DiskPart Ckpt2) ≡ true) → IsCausedFrom a b (status_of answer) old new
+  caused_by_steps lost1 lost2 = record {
+    lost = λ e. let both = (none_unkept a' b' old new (length asked) p.history.begun answer p.kept p.closed Next e p.ends).1 in (lost1 both.0, lost2 both.1);
+    failed1 = λ e was. p.course.failed1 was (none_unkept a' b' old new (length asked) p.history.begun answer p.kept p.closed Next e p.ends).1.0;
+    failed2 = λ e was. p.course.failed2 was (none_unkept a' b' old new (length asked) p.history.begun answer p.kept p.closed Next e p.ends).1.1;
+    console = λ e. console_failed a' b' old new (length asked) p.history.begun answer p.kept p.closed Next e p.ends;
   }
 
+  passed : (a ≡ true → old.lost (DiskPart Ckpt1) ≡ false) → (b ≡ true → old.lost (DiskPart Ckpt2) ≡ false) → HavePassed told asked (status_of answer) from per old.now rest old.loses old new
+  passed there1 there2 = record {
+    kept = p.kept;
+    closed = p.closed;
+    few = p.few;
+    history = p.history;
+    settled = λ ne. settled a' b' old new (length asked) p.history.begun answer p.kept p.closed Next ne p.ends;
+    done = λ e. finished a' b' old new (length asked) p.history.begun answer p.kept p.closed Next e p.ends;
+    unsaid = λ e. one_unsaid a' b' old new (length asked) p.history.begun answer p.kept p.closed Next e p.ends;
+    unplayed = λ e. none_unplayed a' b' old new (length asked) p.history.begun answer p.kept p.closed Next e p.ends;
+    unkept = λ e. (none_unkept a' b' old new (length asked) p.history.begun answer p.kept p.closed Next e p.ends).0;
+    said = p.said;
+    loses = p.loses;
+    found = p.found;
+    there = λ ne. left_now old new a a' b b' there1 there2 p.course (not_lost answer (SomeAlive a' b' ⊎ HasLost old new) ne p.left);
+  }
+
+-- what holds at each moment
+safe_of : (told : Type 0) (base : Queue) (journal : Journal) (since : ℕ) (new : View) → (told → ∥ Headline reads base since journal new ∥₁) → IsSafe told base journal since new
+safe_of told base journal since new head = record {
+  crash = λ t. ∥∥₁_map (head t) (λ h. h.crash);
+  alike = λ t. ∥∥₁_map (head t) (λ h. h.alike);
+  texts = λ t. ∥∥₁_map (head t) (λ h. h.texts);
+  told = λ t. told_of base since journal new (head t);
+}
+
 -- what was played, from what its steps leave
-pub play_of_steps : {T : Type 0} (told : Type 0) (asked : List Turn) (base : Queue) (front : List Batch) (journal : Journal) (since : ℕ) (old new : View) (a a' b b' : Bool) → (told → ∥ Headline reads base since journal new ∥₁)
+pub play_of_steps : {T : Type 0} (told : Type 0) (book : Book) (steps : List Step) (base : Queue) (front : List Batch) (journal : Journal) (since : ℕ) (old new : View) (a a' b b' : Bool) → (told → ∥ Headline reads base since journal new ∥₁)
     → (a ≡ true → old.lost (DiskPart Ckpt1) ≡ false) → (b ≡ true → old.lost (DiskPart Ckpt2) ≡ false) → (answer : Result T NodeNo)
-    → HasPlay told (run base (kept_all front)) asked front journal.batches a a' b b' old new answer → IsPlay told asked (status_of answer) base front journal since old new
-play_of_steps {T = T} told asked base front journal since old new a a' b b' head there1 there2 answer has =
-    let p = has.played in
-    let from : Queue = run base (kept_all front) in
-    let A : Type 0 = AreKept from 1 (take p.kept asked) old.now new.now has.rest in record {
-      rest = has.rest;
-      batches = has.batches_are;
-      kept = p.kept;
-      closed = p.closed;
-      few = p.few;
-      history = p.history;
-      settled = λ ne. settled {T = T} told asked from journal old new a a' b b' answer p.kept p.closed A ne p.ends;
-      done = λ e. finished {T = T} told asked from journal old new a a' b b' answer p.kept p.closed A e p.ends;
-      unsaid = λ e. one_unsaid {T = T} told asked from journal old new a a' b b' answer p.kept p.closed A e p.ends;
-      unplayed = λ e. none_unplayed {T = T} told asked from journal old new a a' b b' answer p.kept p.closed A e p.ends;
-      unkept = λ e. (none_unkept {T = T} told asked from journal old new a a' b b' answer p.kept p.closed A e p.ends).0;
-      said = p.said;
-      loses = p.loses;
-      crash = λ t. ∥∥₁_map (head t) (λ h. h.crash);
-      alike = λ t. ∥∥₁_map (head t) (λ h. h.alike);
-      texts = λ t. ∥∥₁_map (head t) (λ h. h.texts);
-      told = λ t. told_of base since journal new (head t);
-      there = λ ne. left_now old new a a' b b' there1 there2 p.course (not_lost answer (SomeAlive a' b' ⊎ HasLost old new) ne p.left);
-    }
+    → HasPlay told (run base (kept_all front)) base.config book steps front journal.batches a a' b b' old new answer
+    → (lost : List (Option ℕ)) × IsPlay told (turns_from base.config book lost steps) (status_of answer) base front journal since old new
+play_of_steps told book steps base front journal since old new a a' b b' head there1 there2 answer has = (
+  has.lost,
+  record {
+    rest = has.rest;
+    batches = has.batches_are;
+    played = passed told (turns_from base.config book has.lost steps) (run base (kept_all front)) base.config.groups has.rest old new a a' b b' answer has.played there1 there2;
+    volumes = has.played.volumes;
+    safe = safe_of told base journal since new head;
+  },
+)
 
 -- THE STEPS OF A RUN
 
 -- nothing stands in the journal
 pub none_kept : (now : ℕ) → AreAllKept [] now
 none_kept now = All-nil (λ (b : Batch). (b.fate ≡ Kept) × (b.last ≤ now))
+
+-- no byte of a volume changes before a run's first act
+volumes_at : (old new : View) → Goes old new → AreVolumesKeptUntil old.now old new
+volumes_at old new goes = kept_past old.now old old new (let le : old.now ≤ old.now = omega arith in le) goes (kept_none old)
 
 -- a cold run begins with its steps
 pub cold_steps : (tells : Type 0) (asked : List Turn) (answer : Status) (base : Queue) (front : List Batch) (journal : Journal) (since : ℕ) (old new : View) → front ≡ [] → since ≡ old.now → Goes old new
@@ -189,28 +213,16 @@ cold_steps tells asked answer base front journal since old new none is goes p = 
   batches = p.batches;
   at = old.now;
   began = (omega (arith, is), goes.later);
-  kept = p.kept;
-  closed = p.closed;
-  few = p.few;
+  played = p.played;
   opened = (none, sym is);
-  history = p.history;
-  settled = p.settled;
-  done = p.done;
-  unsaid = p.unsaid;
-  unplayed = p.unplayed;
-  unkept = p.unkept;
-  said = p.said;
-  loses = p.loses;
-  crash = p.crash;
-  alike = p.alike;
-  texts = p.texts;
-  told = p.told;
-  there = p.there;
+  before = λ t. volumes_at old new goes;
+  volumes = p.volumes;
+  safe = p.safe;
 }
 
 -- THE STEPS AS THE CALL HAS THEM, which began before the formatting or the start
 
-module _ (entry old new : View) (goes : Goes entry old) where
+module _ (entry old new : View) (goes : Goes entry old) (on : Goes old new) where
   stopped_since : IsStopped old new → IsStopped entry new
   stopped_since s = omega (arith, goes.stops sysa.0, s)
 
@@ -221,88 +233,86 @@ module _ (entry old new : View) (goes : Goes entry old) where
       (λ part. inr (inr (inr (part.0, part.1, part.2, part.3, part.4 ∙ ap (λ (ls : List Line). (ls ++ map whole (take part.0 kept)) ++ torn part.1 ∷ []) quiet, stopped_since part.5)))) still) more)
       adds
 
-  pub steps_since : (cold : Bool) (tells : Type 0) (asked : List Turn) (answer : Status) (base : Queue) (journal : Journal) (since : ℕ) (first : Dev → ℕ) → (tells → console_now old ≡ console_now entry)
-      → HasSteps cold tells asked answer base journal since first old new → HasSteps cold tells asked answer base journal since first entry new
-  steps_since cold tells asked answer base journal since first quiet r = record {
-    opening = r.opening;
-    rest = r.rest;
-    batches = r.batches;
-    at = r.at;
-    began = r.began;
-    kept = r.kept;
-    closed = r.closed;
-    few = r.few;
-    opened = r.opened;
-    history = r.history;
-    settled = λ ne. ⊎_elim inl (λ s. inr (stopped_since s)) (r.settled ne);
-    done = λ d. ⊎_elim inl (λ s. inr (stopped_since s)) (r.done d);
-    unsaid = r.unsaid;
-    unplayed = r.unplayed;
-    unkept = r.unkept;
-    said = λ t. adds_since (output (run base (kept_all r.opening)) (take r.closed asked)) (output (run base (kept_all r.opening)) (take r.kept asked)) (answer ≡ status.ConsoleFault) (quiet t) (r.said t);
-    loses = r.loses;
-    crash = r.crash;
-    alike = r.alike;
-    texts = r.texts;
-    told = r.told;
-    there = r.there;
-  }
-
-  -- what was played after Restart is what is played of a warm run
-  pub warm_steps : (tells : Type 0) (asked : List Turn) (answer : Status) (base : Queue) (b : Batch) (last : ℕ) (front : List Batch) (journal : Journal) (since : ℕ) → front ≡ fated Kept last b ∷ [] → IsRestart since b → b.first ≤ last → last ≤ old.now → since ≤ old.now → Goes old new
-      → ((d : Dev) → old.loses d ≡ entry.loses d) → (tells → console_now old ≡ console_now entry) → IsPlay tells asked answer base front journal since old new → HasSteps false tells asked answer base journal since entry.loses entry new
-  warm_steps tells asked answer base b last front journal since are is order past from on same quiet p = record {
-    opening = front;
-    rest = p.rest;
-    batches = p.batches;
-    at = old.now;
-    began = (from, on.later);
+  passed_since : (tells : Type 0) (asked : List Turn) (answer : Status) (from : Queue) (per at : ℕ) (rest : List Batch) (first other : Dev → ℕ) → (tells → console_now old ≡ console_now entry) → ((d : Dev) → first d ≡ other d)
+      → HavePassed tells asked answer from per at rest first old new → HavePassed tells asked answer from per at rest other entry new
+  passed_since tells asked answer from per at rest first other quiet same p = record {
     kept = p.kept;
     closed = p.closed;
     few = p.few;
-    opened = inl (fated Kept last b, are, record { by = is.by; entries = is.entries; began = is.began }, refl, order, past);
     history = p.history;
     settled = λ ne. ⊎_elim inl (λ s. inr (stopped_since s)) (p.settled ne);
     done = λ d. ⊎_elim inl (λ s. inr (stopped_since s)) (p.done d);
     unsaid = p.unsaid;
     unplayed = p.unplayed;
     unkept = p.unkept;
-    said = λ t. adds_since (output (run base (kept_all front)) (take p.closed asked)) (output (run base (kept_all front)) (take p.kept asked)) (answer ≡ status.ConsoleFault) (quiet t) (p.said t);
+    said = λ t. adds_since (output from (take p.closed asked)) (output from (take p.kept asked)) (answer ≡ status.ConsoleFault) (quiet t) (p.said t);
     loses = λ d. p.loses d ∙ ap (loses_after d (take p.kept asked)) (same d);
-    crash = p.crash;
-    alike = p.alike;
-    texts = p.texts;
-    told = p.told;
-    there = λ ne. ⊎_elim inl (λ lost. inr (has_lost_later entry old new (λ d. inl (same d)) lost)) (p.there ne);
+    found = find_since entry old new per goes on from 1 asked p.found;
+    there = λ ne. ⊎_elim inl (λ lost. inr (⊎_elim (λ one. inl (subst (λ (n : ℕ). Rose n (new.loses Ckpt1)) (same Ckpt1) one)) (λ two. inr (subst (λ (n : ℕ). Rose n (new.loses Ckpt2)) (same Ckpt2) two)) lost)) (p.there ne);
+  }
+
+  pub steps_since : (cold : Bool) (tells : Type 0) (asked : List Turn) (answer : Status) (base : Queue) (journal : Journal) (since : ℕ) (first : Dev → ℕ) → (tells → console_now old ≡ console_now entry) → (tells → AreVolumesKept entry old)
+      → HasSteps cold tells asked answer base journal since first old new → HasSteps cold tells asked answer base journal since first entry new
+  unfolding passed_since
+  steps_since cold tells asked answer base journal since first quiet kept r = record {
+    opening = r.opening;
+    rest = r.rest;
+    batches = r.batches;
+    at = r.at;
+    began = r.began;
+    played = passed_since tells asked answer (run base (kept_all r.opening)) base.config.groups r.at r.rest first first quiet (λ d. refl) r.played;
+    opened = r.opened;
+    before = λ t. kept_then r.at entry old new goes.later on (kept t) (r.before t);
+    volumes = λ t all. kept_then new.now entry old new goes.later on (kept t) (r.volumes t all);
+    safe = r.safe;
+  }
+
+  -- what was played after Restart is what is played of a warm run
+  pub warm_steps : (tells : Type 0) (asked : List Turn) (answer : Status) (base : Queue) (b : Batch) (last : ℕ) (front : List Batch) (journal : Journal) (since : ℕ) → front ≡ fated Kept last b ∷ [] → IsRestart since b → b.first ≤ last → last ≤ old.now → since ≤ old.now
+      → ((d : Dev) → old.loses d ≡ entry.loses d) → (tells → console_now old ≡ console_now entry) → (tells → AreVolumesKept entry old) → IsPlay tells asked answer base front journal since old new → HasSteps false tells asked answer base journal since entry.loses entry new
+  warm_steps tells asked answer base b last front journal since are is order past from same quiet kept p = record {
+    opening = front;
+    rest = p.rest;
+    batches = p.batches;
+    at = old.now;
+    began = (from, on.later);
+    played = passed_since tells asked answer (run base (kept_all front)) base.config.groups old.now p.rest old.loses entry.loses quiet same p.played;
+    opened = inl (fated Kept last b, are, record { by = is.by; entries = is.entries; began = is.began }, refl, order, past);
+    before = λ t. kept_past old.now entry old new (let le : old.now ≤ old.now = omega arith in le) on (kept t);
+    volumes = λ t all. kept_then new.now entry old new goes.later on (kept t) (p.volumes t all);
+    safe = p.safe;
   }
 
 -- a warm run in which Restart isn't kept plays no step
 pub reset_alone : (tells : Type 0) (asked : List Turn) (answer : Status) (base : Queue) (opening : List Batch) (journal : Journal) (since : ℕ) (old new : View) → journal.batches ≡ opening → since ≡ old.now → Goes old new → IsReset answer since since opening 0 []
     → (answer ≢ status.Done) → (answer ≢ status.ConsoleFault) → ((d : Dev) → new.loses d ≡ old.loses d) → (tells → console_now new ≡ console_now old) → (tells → ∥ Headline reads base since journal new ∥₁)
-    → (answer ≢ status.BothLost → (new.lost (DiskPart Ckpt1) ≡ false) ⊎ (new.lost (DiskPart Ckpt2) ≡ false)) → HasSteps false tells asked answer base journal since old.loses old new
-reset_alone tells asked answer base opening journal since old new are is goes reset not_done not_unsaid same quiet head there = record {
+    → (answer ≢ status.BothLost → (new.lost (DiskPart Ckpt1) ≡ false) ⊎ (new.lost (DiskPart Ckpt2) ≡ false)) → FindLost old new base.config.groups (run base (kept_all opening)) 1 asked → (tells → AreVolumesKept old new)
+    → HasSteps false tells asked answer base journal since old.loses old new
+reset_alone tells asked answer base opening journal since old new are is goes reset not_done not_unsaid same quiet head there found kept = record {
   opening = opening;
   rest = [];
   batches = are ∙ sym (append-nil opening);
   at = since;
   began = (omega arith, omega (arith, is, goes.later));
-  kept = 0;
-  closed = 0;
-  few = (omega arith, omega arith, omega arith);
+  played = record {
+    kept = 0;
+    closed = 0;
+    few = (omega arith, omega arith, omega arith);
+    history = record { front = []; begun = []; are = refl; between = since; moments = (omega arith, omega (arith, is, goes.later)); are_kept = tt; next = inl (inl refl) };
+    settled = λ ne. inl (inl refl);
+    done = λ e. absurd (not_done e);
+    unsaid = λ e. absurd (not_unsaid e);
+    unplayed = λ e. refl;
+    unkept = λ e. refl;
+    said = λ t. inl (quiet t ∙ sym (append-nil (console_now old)));
+    loses = same;
+    found = found;
+    there = λ ne. inl (there ne);
+  };
   opened = reset;
-  history = record { front = []; are_kept = refl; rest = inl refl };
-  settled = λ ne. inl refl;
-  done = λ e. absurd (not_done e);
-  unsaid = λ e. absurd (not_unsaid e);
-  unplayed = λ e. refl;
-  unkept = λ e. refl;
-  said = λ t. inl (quiet t ∙ sym (append-nil (console_now old)));
-  loses = same;
-  crash = λ t. ∥∥₁_map (head t) (λ h. h.crash);
-  alike = λ t. ∥∥₁_map (head t) (λ h. h.alike);
-  texts = λ t. ∥∥₁_map (head t) (λ h. h.texts);
-  told = λ t. told_of base since journal new (head t);
-  there = λ ne. inl (there ne);
+  before = λ t. subst (λ (m : ℕ). AreVolumesKeptUntil m old new) (sym is) (volumes_at old new goes);
+  volumes = λ t all. kept t;
+  safe = safe_of tells base journal since new head;
 }
 
 -- how both copies were lost: in the formatting, or later
@@ -326,53 +336,44 @@ caused_formed by a b stopped entry new formed both = record {
   console = λ d. absurd (cc);
 }
 
+-- the operator is never stopped in it
+pub caused_unformed : (T : Type 0) (a b : Bool) (why : PairNo) (entry new : View) → PairActed 0 true a true b (pair_stopped {T = T} (Err why)) entry new → (why ≡ pair_no.BothLost → IsBothLost a b) → IsCaused status.BothLost entry new
+caused_unformed T a b pair_no.BothLost entry new formed both = caused_formed 0 a b false entry new formed (both refl)
+caused_unformed T a b pair_no.Halted entry new formed both = let some = formed.not_operator refl in absurd (omega (arith, some))
+
 -- A COPY AS IT WAS FORMED
 
 pub formed_copy : (base : Queue) (now : ℕ) (rests : List ℕ → Disk → Type 0) (holds : List ℕ → List ℕ → Disk → Type 0) (alive : Bool) (disk : Disk) (pages : List ℕ)
     → (alive ≡ true → rests pages disk) → (alive ≡ false → now < top → disk.lost ≡ true) → CopyAt (setting reads base now) pages None (copy_of rests holds alive Before) now disk
 formed_copy base now rests holds alive disk pages rested gone = record { at = rested; gone = gone }
 
--- WHAT MAY BE ASKED OF THE EMPTY QUEUE
-
-none_of : (by : MemberId) (n : ℕ) → list_any (is_members by) (replicate n Free) ≡ false
-none_of by zero = refl
-none_of by (suc n) = none_of by n
+-- WHAT IS KNOWN OF THE EMPTY QUEUE
 
 none_used : {A : Type 0} (P : A → Type 0) (n : ℕ) → All P (used (replicate n None))
 none_used P zero = All-nil P
 none_used P (suc n) = none_used P n
 
-pub fit_empty : (t : Tables) → t ≡ empty_tables default_config [] → HasShape t → AreFit t
-fit_empty t is shape = record {
-  shape = shape;
-  jobs = subst (λ (u : Tables). All (IsFitJob u.order) (used u.jobs)) (sym is) (none_used (IsFitJob 0) 256);
-  outputs = subst (λ (u : Tables). All (IsFitOutput u.order) (used u.outputs)) (sym is) (none_used (IsFitOutput 0) 512);
-}
+module _ (config : Config) (routes : List Route) (t : Tables) (is : t ≡ empty_tables config routes) where
+  pub fit_empty : HasShape t → AreFit t
+  fit_empty shape = record {
+    shape = shape;
+    jobs = subst (λ (u : Tables). All (IsFitJob u.order) (used u.jobs)) (sym is) (none_used (IsFitJob 0) config.jobs);
+    outputs = subst (λ (u : Tables). All (IsFitOutput u.order) (used u.outputs)) (sym is) (none_used (IsFitOutput 0) config.outputs);
+  }
 
-pub groups_empty : (t : Tables) → t ≡ empty_tables default_config [] → HasNoGroups sysa t.owners
-groups_empty t is = subst (λ (u : Tables). HasNoGroups sysa u.owners) (sym is) (none_of sysa 512)
+  pub told_empty : (Q : Queue) → Q ≡ empty_queue config routes → Tell (empty_tables config routes) (empty_queue config routes) → Tell t Q
+  told_empty Q queue told = subst (Tell t) (sym queue) (subst (λ (u : Tables). Tell u (empty_queue config routes)) (sym is) told)
 
-pub told_empty : (t : Tables) (Q : Queue) → t ≡ empty_tables default_config [] → Q ≡ empty_queue default_config [] → Tell (empty_tables default_config []) (empty_queue default_config []) → Tell t Q
-told_empty t Q is queue told = subst (Tell t) (sym queue) (subst (λ (u : Tables). Tell u (empty_queue default_config [])) (sym is) told)
+  pub sound_empty : IsConfig config → length routes ≤ routes_most → Tell (empty_tables config routes) (empty_queue config routes) → TellSound t
+  sound_empty fits few told = subst TellSound (sym is) (record { queue = empty_queue config routes; told = told; sound = empty_queue-sound config routes fits few })
 
-pub sound_empty : (t : Tables) → t ≡ empty_tables default_config [] → IsConfig t.config → Tell (empty_tables default_config []) (empty_queue default_config []) → TellSound t
-sound_empty t is config told =
-    let fits : IsConfig default_config = subst (λ (u : Tables). IsConfig u.config) is config in
-    subst TellSound (sym is) (record { queue = empty_queue default_config []; told = told; sound = empty_queue-sound default_config [] fits (omega arith) })
+-- it has members
+pub begun_empty : (config : Config) (routes : List Route) (Q : Queue) → Q ≡ empty_queue config routes → IsConfig config → has_begun Q ≡ true
+begun_empty config routes Q is fits = let some = fits.members.0 in let e : nat_lt 0 config.members ≡ true = grind (arith, nat_tests, some) in ap has_begun is ∙ e
 
 -- it has no texts
-pub empty_texts : (gone : ℕ → Bool) (disks : Spools) (Q : Queue) → Q ≡ empty_queue default_config [] → HasTexts gone disks Q.config.groups Q
-empty_texts gone disks Q is = subst (λ (R : Queue). HasTexts gone disks R.config.groups R) (sym is) (record { decks = All-nil _; outputs = All-nil _ })
-
-step_may : (s : Asked) → IsFitStep default_config.node s → IsFitFor default_config s
-step_may (asked_of.Deck fields) fit = record { node = ap (λ n. same_name n default_config.node) fit.0 ∙ refl; fit = fit.2 (codes "HERE", refl, refl) }
-step_may (asked_of.Lose Ckpt1) fit = tt
-step_may (asked_of.Lose Ckpt2) fit = tt
-step_may (asked_of.Lose (Spool v)) fit = absurd fit
-step_may (asked_of.Command given) fit = fit
-
-pub all_may : (t : Tables) (asked : List Asked) → t ≡ empty_tables default_config [] → All (IsFitStep default_config.node) asked → All (IsFitFor t.config) asked
-all_may t asked is fits = subst (λ (u : Tables). All (IsFitFor u.config) asked) (sym is) (All-weaker (IsFitStep default_config.node) (IsFitFor default_config) step_may asked fits)
+pub empty_texts : (config : Config) (routes : List Route) (gone : ℕ → Bool) (disks : Spools) (Q : Queue) → Q ≡ empty_queue config routes → HasTexts gone disks Q.config.groups Q
+empty_texts config routes gone disks Q is = subst (λ (R : Queue). HasTexts gone disks R.config.groups R) (sym is) (record { decks = All-nil _; outputs = All-nil _ })
 
 -- CAUSES, THROUGH RESTART AND THE START
 

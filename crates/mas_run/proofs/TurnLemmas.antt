@@ -1,57 +1,100 @@
 -- A script's steps at the book of the lock, one after another.
-use Rattle.std.proofs.Common.{◌≡◌, ◌+◌, ◌<◌, ℕ, zero, suc, false, min, List, [], ◌∷◌, length, get_or, map, Option, Some, None, refl, sym, ◌∙◌, ap, subst, arith}
+use Rattle.std.proofs.Common.{◌≡◌, ◌+◌, ◌<◌, ℕ, zero, suc, false, min, List, [], ◌∷◌, ◌++◌, length, take, drop, get_or, Option, Some, None, Result, Ok, Err, refl, sym, ◌∙◌, ap, subst, arith}
+use Rattle.std.proofs.Math.Seq.{drop-cons}
+use Rattle.std.proofs.lemmas.List.{take-append-drop}
+use Rattle.mas_types.specs.declared.commands.Command.{Command}
+use Rattle.mas_types.specs.declared.ids.Dev.TheVariants.{Spool}
+use Rattle.mas_types.specs.declared.ids.MemberId.{MemberId}
+use Rattle.mas_types.specs.declared.jobs.JobFields.{JobFields}
+use Rattle.mas_types.specs.declared.queues.Config.{Config}
+use Rattle.mas_types.specs.declared.queues.Queue.{Queue}
 use Rattle.mas_types.specs.Limits.{members_most}
+use Rattle.mas_types.specs.Owners.{groups_needed}
+use Rattle.card_reader.specs.declared.decks.Refused.{Refused}
+use Rattle.card_reader.specs.Decks.{read_as, text_of}
 use Rattle.lock_cycle.specs.declared.answers.LockNo.{LockNo}
 use Rattle.lock_cycle.specs.Books.{Book, new_book, try_refusal, wakes}
 use Rattle.lock_cycle.specs.Laws.{tries, frees}
 use Rattle.lock_cycle.proofs.Awake.{IsAwake, awake_new, awake_moved_by, awake_tries}
-use Rattle.first_script.specs.declared.asked.Asked.{Asked}
-use Rattle.first_script.specs.declared.asked.Asked.TheVariants as asked_of
-use Rattle.mas_run.specs.Decks.{sysa}
+use Rattle.script_lang.specs.declared.types.Ask.{Ask}
+use Rattle.script_lang.specs.declared.types.Ask.TheVariants as ask
+use Rattle.script_lang.specs.declared.types.Step.{Step}
+use Rattle.spool_disk.specs.declared.plant.Part.TheVariants.{Disk}
+use Rattle.spool_disk.specs.View.{View}
+use Rattle.spool_disk.specs.Acts.{Rose}
+use Rattle.first_script.specs.Played.{sysa}
+use Rattle.member_decks.specs.declared.opening.Opened.{Opened}
+use Rattle.member_decks.specs.declared.opening.Opened.TheVariants as opened
+use Rattle.member_decks.specs.Decks.{ends_as}
+use Rattle.member_decks.specs.Steps.{IsFoundLost, opened_queue}
 use Rattle.member_steps.specs.Locked.{IsOpenTo}
 use Rattle.member_steps.proofs.LockLemmas.{refused_so, opens_again}
-use Rattle.mas_run.specs.Turns.{Reads, Gives, Turn, Granted, Loss, task_turn, turn_at, book_after, turns_from, granted, AreAwake}
+use Rattle.mas_run.specs.Found.{FindNone}
+use Rattle.mas_run.specs.Steps.{FindsLost, FindLost, after_step}
+use Rattle.mas_run.specs.Turns.{Reads, Gives, Turn, Granted, task_turn, deck_turn, command_turn, resets, turn_by, turn_at, after_tried, after_deck, after_command, book_after, turns_from, turns_of, granted_all, AreAwake}
 use Rattle.mas_run.proofs.LockLemmas.{begins_open}
 
--- the book before the step at a place
-abbrev pub book_at : Book → List Asked → ℕ → Book
-book_at b asked zero = b
-book_at b [] (suc i) = b
-book_at b (s ∷ asked) (suc i) = book_at (book_after b s) asked i
+-- ONE STEP MORE
 
-pub turns_length : (b : Book) (asked : List Asked) → length (turns_from b asked) ≡ length asked
-turns_length b [] = refl
-turns_length b (s ∷ asked) = ap (λ (n : ℕ). suc n) (turns_length (book_after b s) asked)
+-- the book behind steps
+abbrev pub book_behind : Config → Book → List Step → Book
+book_behind config b [] = b
+book_behind config b (s ∷ steps) = book_behind config (book_after config b s.what) steps
 
-pub book_next : (b : Book) (asked : List Asked) (i : ℕ) (d : Asked) → i < length asked → book_at b asked (suc i) ≡ book_after (book_at b asked i) (get_or asked i d)
-book_next b [] i d lt = absurd (omega arith)
-book_next b (s ∷ asked) zero d lt = refl
-book_next b (s ∷ asked) (suc i) d lt = book_next (book_after b s) asked i d (omega arith)
+pub book_more : (config : Config) (b : Book) (xs : List Step) (s : Step) → book_behind config b (xs ++ s ∷ []) ≡ book_after config (book_behind config b xs) s.what
+book_more config b [] s = refl
+book_more config b (x ∷ xs) s = book_more config (book_after config b x.what) xs s
 
-pub turn_here : (b : Book) (asked : List Asked) (i : ℕ) (d : Asked) (e : Turn) → i < length asked → turn_at (book_at b asked i) (get_or asked i d) ≡ get_or (turns_from b asked) i e
-turn_here b [] i d e lt = absurd (omega arith)
-turn_here b (s ∷ asked) zero d e lt = refl
-turn_here b (s ∷ asked) (suc i) d e lt = turn_here (book_after b s) asked i d e (omega arith)
+-- the steps before this one, this one, and those behind it, which are played as if no deck found a volume lost
+pub turns_split : (config : Config) (b : Book) (lost : List (Option ℕ)) (x : Option ℕ) (xs : List Step) (s : Step) (ys : List Step) → length lost ≡ length xs
+    → turns_from config b (lost ++ x ∷ []) (xs ++ s ∷ ys)
+    ≡ turns_from config b lost xs ++ turn_at config (book_behind config b xs) x s.what ∷ turns_from config (book_after config (book_behind config b xs) s.what) [] ys
+turns_split config b [] x [] s ys same = refl
+turns_split config b [] x (y ∷ xs) s ys same = absurd (omega (arith, same))
+turns_split config b (l ∷ lost) x [] s ys same = absurd (omega (arith, same))
+turns_split config b (l ∷ lost) x (y ∷ xs) s ys same = ap (λ (ts : List Turn). turn_at config b l y.what ∷ ts) (turns_split config (book_after config b y.what) lost x xs s ys (omega (arith, same)))
 
-pub at_itself : (asked : List Asked) (i : ℕ) (d : Asked) → i < length asked → get_or asked i d ≡ get_or asked i (get_or asked i d)
+pub turns_length : (config : Config) (b : Book) (lost : List (Option ℕ)) (steps : List Step) → length (turns_from config b lost steps) ≡ length steps
+turns_length config b lost [] = refl
+turns_length config b lost (s ∷ steps) = ap (λ (n : ℕ). suc n) (turns_length config (book_after config b s.what) (drop 1 lost) steps)
+
+-- steps, by one of them
+pub steps_split : (steps : List Step) (i : ℕ) (s : Step) → s ≡ get_or steps i s → i < length steps → steps ≡ take i steps ++ s ∷ drop (suc i) steps
+steps_split steps i s here lt =
+    sym (take-append-drop i steps) ∙ ap (λ (l : List Step). take i steps ++ l) (drop-cons steps i s lt ∙ ap (λ (x : Step). x ∷ drop (suc i) steps) (sym here))
+
+-- a step at a place, whatever stands for none
+pub at_itself : (xs : List Step) (i : ℕ) (d : Step) → i < length xs → get_or xs i d ≡ get_or xs i (get_or xs i d)
 at_itself [] i d lt = absurd (omega arith)
-at_itself (x ∷ asked) zero d lt = refl
-at_itself (x ∷ asked) (suc i) d lt = at_other asked i d (get_or asked i d) (omega arith) where
-  at_other : (xs : List Asked) (k : ℕ) (a b : Asked) → k < length xs → get_or xs k a ≡ get_or xs k b
+at_itself (x ∷ xs) zero d lt = refl
+at_itself (x ∷ xs) (suc i) d lt = at_other xs i d (get_or xs i d) (omega arith) where
+  at_other : (ys : List Step) (k : ℕ) (a b : Step) → k < length ys → get_or ys k a ≡ get_or ys k b
   at_other [] k a b lt = absurd (omega arith)
-  at_other (y ∷ xs) zero a b lt = refl
-  at_other (y ∷ xs) (suc k) a b lt = at_other xs k a b (omega arith)
-
--- the step at a place, at the book before it
-pub turn_is : (b c : Book) (asked : List Asked) (i : ℕ) (s : Asked) → c ≡ book_at b asked i → s ≡ get_or asked i s → i < length asked → turn_at c s ≡ get_or (turns_from b asked) i (turn_at c s)
-turn_is b c asked i s same here lt = ap (λ (x : Book). turn_at x s) same ∙ ap (turn_at (book_at b asked i)) here ∙ turn_here b asked i s (turn_at c s) lt
-
-pub book_then : (b c d : Book) (asked : List Asked) (i : ℕ) (s : Asked) → c ≡ book_at b asked i → s ≡ get_or asked i s → i < length asked → d ≡ book_after c s → d ≡ book_at b asked (i + 1)
-book_then b c d asked i s same here lt next =
-    let more : suc i ≡ i + 1 = omega arith in
-    next ∙ ap (λ (x : Book). book_after x s) same ∙ ap (book_after (book_at b asked i)) here ∙ sym (book_next b asked i s lt) ∙ ap (book_at b asked) more
+  at_other (y ∷ ys) zero a b lt = refl
+  at_other (y ∷ ys) (suc k) a b lt = at_other ys k a b (omega arith)
 
 -- WITHOUT DORMANCY
+
+after_deck_keeps : (P : Book → Type 0) (b : Book) (said : Result JobFields Refused) → P b → P (after_tried b) → P (after_deck b said)
+after_deck_keeps P b (Err bad) p q = p
+after_deck_keeps P b (Ok fields) p q = q
+
+after_command_keeps : (P : Book → Type 0) (b : Book) (of : Option MemberId) → P b → P (after_tried b) → P (after_command b of)
+after_command_keeps P b None p q = q
+after_command_keeps P b (Some of) p q = p
+
+-- what holds of a book, and after a try of it, holds after a step
+after_keeps : (P : Book → Type 0) (config : Config) (b : Book) (what : Ask) → P b → P (after_tried b) → P (book_after config b what)
+after_keeps P config b (ask.Deck cards) p q = after_deck_keeps P b (read_as config.node cards) p q
+after_keeps P config b (ask.Command given) p q = after_command_keeps P b (resets given) p q
+after_keeps P config b (ask.Lose dev) p q = p
+after_keeps P config b (ask.Work n) p q = p
+after_keeps P config b ask.Lock p q = p
+after_keeps P config b ask.Free p q = p
+after_keeps P config b (ask.Line line) p q = p
+after_keeps P config b (ask.Replace copy) p q = p
+after_keeps P config b ask.Stop p q = p
+after_keeps P config b (ask.StopIn fuse n) p q = p
 
 gets : (b : Book) → IsAwake b → IsOpenTo b None sysa → try_refusal b sysa false ≡ None
 gets b awake open_to = by_answer (try_refusal b sysa false) refl where
@@ -59,20 +102,92 @@ gets b awake open_to = by_answer (try_refusal b sysa false) refl where
   by_answer None is = refl
   by_answer (Some why) is = absurd (awake_tries b sysa false (wakes b sysa) awake (is ∙ ap (λ (w : LockNo). Some w) (refused_so b None sysa open_to why is)))
 
-awake_from : (b : Book) (asked : List Asked) → IsAwake b → IsOpenTo b None sysa → turns_from b asked ≡ map granted asked
-awake_from b [] awake open_to = refl
-awake_from b (asked_of.Lose dev ∷ asked) awake open_to = ap (λ (l : List Turn). Loss dev ∷ l) (awake_from b asked awake open_to)
-awake_from b (asked_of.Deck fields ∷ asked) awake open_to =
+awake_from : (config : Config) (b : Book) (lost : List (Option ℕ)) (steps : List Step) → IsAwake b → IsOpenTo b None sysa → turns_from config b lost steps ≡ granted_all config lost steps
+awake_from config b lost [] awake open_to = refl
+awake_from config b lost (s ∷ steps) awake open_to =
     let got : try_refusal b sysa false ≡ None = gets b awake open_to in
-    ap (λ (r : Option LockNo). task_turn r (Reads fields) ∷ turns_from (book_after b (asked_of.Deck fields)) asked) got
-    ∙ ap (λ (l : List Turn). Granted (Reads fields) ∷ l) (awake_from (book_after b (asked_of.Deck fields)) asked (awake_moved_by b (tries sysa false ∷ frees sysa false ∷ []) awake) (opens_again b None sysa open_to got))
-awake_from b (asked_of.Command given ∷ asked) awake open_to =
-    let got : try_refusal b sysa false ≡ None = gets b awake open_to in
-    ap (λ (r : Option LockNo). task_turn r (Gives given) ∷ turns_from (book_after b (asked_of.Command given)) asked) got
-    ∙ ap (λ (l : List Turn). Granted (Gives given) ∷ l) (awake_from (book_after b (asked_of.Command given)) asked (awake_moved_by b (tries sysa false ∷ frees sysa false ∷ []) awake) (opens_again b None sysa open_to got))
+    let more = awake_from config (book_after config b s.what) (drop 1 lost) steps
+    (after_keeps IsAwake config b s.what awake (awake_moved_by b (tries sysa false ∷ frees sysa false ∷ []) awake))
+    (after_keeps (λ (c : Book). IsOpenTo c None sysa) config b s.what open_to (opens_again b None sysa open_to got)) in
+    ap (λ (r : Option LockNo). turn_by config r (get_or lost 0 None) s.what ∷ turns_from config (book_after config b s.what) (drop 1 lost) steps) got
+    ∙ ap (λ (ts : List Turn). turn_by config None (get_or lost 0 None) s.what ∷ ts) more
 
 pub all_awake : AreAwake
-all_awake config asked some none =
+all_awake config lost steps some none =
     let n = min config.members members_most in
-    awake_from (new_book n config.hold config.dormancy) asked
+    awake_from config (new_book n config.hold config.dormancy) lost steps
     (subst (λ (d : ℕ). IsAwake (new_book n config.hold d)) (sym none) (awake_new n config.hold)) (begins_open n config.hold config.dormancy sysa (omega arith) (omega (arith, some)))
+
+-- WITHOUT LOST VOLUMES
+
+module _ (old new : View) (per : ℕ) (sound : (volume : ℕ) → Rose (old.faults (Disk (Spool volume))) (new.faults (Disk (Spool volume))) → ⊥) where
+  found_none : (ends : Opened) (Q : Queue) (text : List (List ℕ)) (lost : Option ℕ) → IsFoundLost ends per Q sysa text lost old new → lost ≡ None
+  found_none ends Q text None found = refl
+  found_none opened.Closed Q text (Some volume) found = absurd found
+  found_none (opened.Ready n) Q text (Some volume) found = absurd (sound volume found.2)
+
+  task_none : (why : Option LockNo) (Q : Queue) (at : ℕ) (fields : JobFields) (text : List (List ℕ)) (lost : Option ℕ) → FindsLost old new per Q at (task_turn why (Reads fields text lost))
+      → task_turn why (Reads fields text lost) ≡ task_turn why (Reads fields text None)
+  task_none None Q at fields text lost found = ap (λ (l : Option ℕ). Granted (Reads fields text l)) (found_none (ends_as Q sysa fields (groups_needed text)) (opened_queue Q sysa at fields text) text lost found)
+  task_none (Some why) Q at fields text lost found = refl
+
+  deck_none : (why : Option LockNo) (Q : Queue) (at : ℕ) (text : List (List ℕ)) (lost : Option ℕ) (said : Result JobFields Refused) → FindsLost old new per Q at (deck_turn why text lost said)
+      → deck_turn why text lost said ≡ deck_turn why text None said
+  deck_none why Q at text lost (Err bad) found = refl
+  deck_none why Q at text lost (Ok fields) found = task_none why Q at fields text lost found
+
+  turn_none : (config : Config) (why : Option LockNo) (Q : Queue) (at : ℕ) (lost : Option ℕ) (what : Ask) → FindsLost old new per Q at (turn_by config why lost what) → turn_by config why lost what ≡ turn_by config why None what
+  turn_none config why Q at lost (ask.Deck cards) found = deck_none why Q at (text_of cards) lost (read_as config.node cards) found
+  turn_none config why Q at lost (ask.Command given) found = refl
+  turn_none config why Q at lost (ask.Lose dev) found = refl
+  turn_none config why Q at lost (ask.Work n) found = refl
+  turn_none config why Q at lost ask.Lock found = refl
+  turn_none config why Q at lost ask.Free found = refl
+  turn_none config why Q at lost (ask.Line line) found = refl
+  turn_none config why Q at lost (ask.Replace copy) found = refl
+  turn_none config why Q at lost ask.Stop found = refl
+  turn_none config why Q at lost (ask.StopIn fuse n) found = refl
+
+  turns_none : (config : Config) (b : Book) (lost : List (Option ℕ)) (steps : List Step) (Q : Queue) (at : ℕ) → FindLost old new per Q at (turns_from config b lost steps) → turns_from config b lost steps ≡ turns_from config b [] steps
+  turns_none config b lost [] Q at found = refl
+  turns_none config b lost (s ∷ steps) Q at found =
+      let one = turn_none config (try_refusal b sysa false) Q at (get_or lost 0 None) s.what found.0 in
+      let more = turns_none config (book_after config b s.what) (drop 1 lost) steps (after_step Q at (turn_at config b (get_or lost 0 None) s.what)) (at + 1) found.1 in
+      ap (λ (t : Turn). t ∷ turns_from config (book_after config b s.what) (drop 1 lost) steps) one
+      ∙ ap (λ (ts : List Turn). turn_at config b None s.what ∷ ts) more
+
+pub all_sound : FindNone
+all_sound config lost steps old new per Q sound found = turns_none old new per sound config _ lost steps Q 1 found
+
+-- steps that found no volume lost
+pub none_found : (old new : View) (per : ℕ) (config : Config) (b : Book) (steps : List Step) (Q : Queue) (at : ℕ) → FindLost old new per Q at (turns_from config b [] steps)
+none_found old new per config b [] Q at = tt
+none_found old new per config b (s ∷ steps) Q at =
+    (one (try_refusal b sysa false) s.what, none_found old new per config (book_after config b s.what) steps (after_step Q at (turn_at config b None s.what)) (at + 1)) where
+      task_found : (why : Option LockNo) (fields : JobFields) (text : List (List ℕ)) → FindsLost old new per Q at (task_turn why (Reads fields text None))
+      task_found None fields text = tt
+      task_found (Some why) fields text = tt
+
+      deck_found : (why : Option LockNo) (text : List (List ℕ)) (said : Result JobFields Refused) → FindsLost old new per Q at (deck_turn why text None said)
+      deck_found why text (Err bad) = tt
+      deck_found why text (Ok fields) = task_found why fields text
+
+      gives_found : (why : Option LockNo) (given : Command) → FindsLost old new per Q at (task_turn why (Gives given))
+      gives_found None given = tt
+      gives_found (Some why) given = tt
+
+      command_found : (why : Option LockNo) (given : Command) (of : Option MemberId) → FindsLost old new per Q at (command_turn config why given of)
+      command_found why given None = gives_found why given
+      command_found why given (Some of) = tt
+
+      one : (why : Option LockNo) (what : Ask) → FindsLost old new per Q at (turn_by config why None what)
+      one why (ask.Deck cards) = deck_found why (text_of cards) (read_as config.node cards)
+      one why (ask.Command given) = command_found why given (resets given)
+      one why (ask.Lose dev) = tt
+      one why (ask.Work n) = tt
+      one why ask.Lock = tt
+      one why ask.Free = tt
+      one why (ask.Line line) = tt
+      one why (ask.Replace copy) = tt
+      one why ask.Stop = tt
+      one why (ask.StopIn fuse n) = tt

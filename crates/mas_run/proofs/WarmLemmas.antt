@@ -21,7 +21,6 @@ use Rattle.spool_disk.specs.declared.plant.Part.TheVariants.{Console, Disk as Di
 use Rattle.spool_disk.specs.View.{View, World, Disk, disk_now}
 use Rattle.spool_disk.specs.Acts.{Goes}
 use Rattle.table_queues.specs.Telling.{Tell}
-use Rattle.ckpt_copy.specs.Changes.{NoMore}
 use Rattle.mas_complex.specs.Texts.{HasTexts, IsThereUnless, lies_on, lost_now, spools_at}
 use Rattle.spool_volumes.specs.Volumes.{volume_of}
 use Rattle.track_groups.specs.Places.{groups_of}
@@ -31,12 +30,11 @@ use Rattle.warm_start.specs.Levels.{levels_of}
 use Rattle.warm_start.specs.Starting.{IsCauseOf, Starts, IsOnce, IsHeld, WhileStarting}
 use Rattle.warm_start.specs.Usable.{AreOf, HaveSize}
 use Rattle.warm_start.proofs.LevelLemmas.{their_levels}
-use Rattle.member_node.specs.Calls.{Grows, IsOnlyOn}
+use Rattle.member_node.specs.Calls.{Grows}
 use Rattle.member_node.specs.Drawn.{AreDrawn}
-use Rattle.member_node.proofs.CourseLemmas.{lost_later, lost_more, only_none}
+use Rattle.member_node.proofs.CourseLemmas.{lost_later, lost_more}
 use Rattle.member_node.proofs.DrawnLemmas.{drawn_level}
 use Rattle.mas_run.specs.Runs.{has_begun, Begins, LosesFirst, IsHeldUntil}
-use Rattle.mas_run.specs.Volumes.{AreVolumesKept, IsElsewhere}
 use Rattle.mas_run.specs.Statuses.{IsCaused, IsCausedFrom, is_of_play, is_of_text}
 use Rattle.mas_run.specs.Unstarted.{status_of_start, IsNotStarted}
 
@@ -165,17 +163,6 @@ held_until v0 v1 v2 found goes held = record {
   second = λ t from le. subst (λ (w : World). IsHeld reads (disk_now v0 Ckpt2) found (w.disk Ckpt2)) (sym (goes.past t le)) (held.second t from le);
 }
 
--- what the volumes were during the start, they were when the run has ended, and since then they are as they were at its end
-pub volumes_on : (v0 v1 v2 : View) → v0.now ≤ v1.now → Goes v1 v2 → AreVolumesKept v0 v1 → IsOnlyOn v1 v2 → AreVolumesKept v0 v2
-volumes_on v0 v1 v2 later goes held only t from le n =
-    ⊎_elim
-    (λ before. subst (λ (w : World). NoMore (disk_now v0 (Spool n)) (w.disk (Spool n))) (sym (goes.past t before)) (held t from before n))
-    (λ after. subst (NoMore (disk_now v0 (Spool n))) (sym (only t after le (Spool n) (λ e. absurd (cc)) (λ e. absurd (cc)))) (held v1.now later (omega arith) n))
-    (by_order t v1.now)
-  where
-    by_order : (a b : ℕ) → (a ≤ b) ⊎ (b ≤ a)
-    by_order a b = by_alive (nat_le a b) (λ e. inl (grind (arith, nat_tests, e))) (λ e. inr (grind (arith, nat_tests, e)))
-
 -- texts that stood on the volumes at a moment still stood there then, but for those with a group on a volume that is lost since
 lost_more_of : (gone later : ℕ → Bool) → ((n : ℕ) → gone n ≡ true → later n ≡ true) → (per : ℕ) (groups : List GroupNo) → lies_on later per groups ≡ false → lies_on gone per groups ≡ false
 lost_more_of gone later more per [] none = refl
@@ -195,19 +182,3 @@ texts_later v1 v2 per Q goes has = subst (λ (w : World). HasTexts (lost_now v2)
       outputs = All-weaker (λ o. IsThereUnless (lost_now v1) (spools_at v1 v1.now) per o.text (groups_of (Output o.job o.index) Q.owners)) (λ o. IsThereUnless (lost_now v2) (spools_at v1 v1.now) per o.text (groups_of (Output o.job o.index) Q.owners))
           (λ o is none. is (lost_more_of (lost_now v1) (lost_now v2) (λ n. goes.lost (DiskPart (Spool n))) per (groups_of (Output o.job o.index) Q.owners) none)) Q.outputs has.outputs;
     })
-
--- where nothing was done
-no_more : (disk : Disk) → NoMore disk disk
-no_more disk = record { bytes = refl; unsynced = λ s avoids. avoids; there = λ e. e }
-
-kept_on : (old new : View) → IsOnlyOn old new → AreVolumesKept old new
-kept_on old new only t from le n = subst (NoMore (disk_now old (Spool n))) (sym (only t from le (Spool n) (λ e. absurd (cc)) (λ e. absurd (cc)))) (no_more (disk_now old (Spool n)))
-
-pub none_elsewhere : (cold : Bool) (v : View) → IsElsewhere cold v v
-none_elsewhere true v = only_none v
-none_elsewhere false v = kept_on v v (only_none v)
-
--- a cold run leaves the volumes too
-pub volumes_of : (cold : Bool) (old new : View) → IsElsewhere cold old new → AreVolumesKept old new
-volumes_of true old new only = kept_on old new only
-volumes_of false old new kept = kept

@@ -1,12 +1,11 @@
 pub mod Refusals
-pub mod Decks
 pub mod Turns
 pub mod Steps
-pub mod Entering
-pub mod Statuses
-pub mod Stops
-pub mod Resets
+pub mod Found
 pub mod Volumes
+pub mod Statuses
+pub mod Resets
 pub mod Runs
+pub mod Stops
 pub mod Unstarted
 pub mod Plays

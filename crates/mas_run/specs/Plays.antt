@@ -1,8 +1,11 @@
 -- What steps leave that are played one after another.
-use Rattle.std.specs.Prelude.{◌≡◌, ◌⊎◌, ℕ, ◌+◌, ◌≤◌, Bool, List, ◌++◌, length, take, map, Result, Ok, Err}
+use Rattle.std.specs.Prelude.{◌≡◌, ◌⊎◌, ℕ, ◌+◌, ◌≤◌, Bool, List, [], ◌++◌, length, take, map, All, Option, Result, Ok, Err}
 use Rattle.mas_types.specs.declared.ids.Dev.{Dev}
 use Rattle.mas_types.specs.declared.journals.Batch.{Batch}
+use Rattle.mas_types.specs.declared.queues.Config.{Config}
 use Rattle.mas_types.specs.declared.queues.Queue.{Queue}
+use Rattle.lock_cycle.specs.Books.{Book}
+use Rattle.script_lang.specs.declared.types.Step.{Step}
 use Rattle.spool_disk.specs.declared.plant.Part.TheVariants.{Console}
 use Rattle.spool_disk.specs.View.{View}
 use Rattle.spool_disk.specs.Acts.{Rose}
@@ -10,55 +13,63 @@ use Rattle.duplex_pair.specs.Halves.{IsBothLost, SomeAlive}
 use Rattle.mas_complex.specs.Headline.{whole}
 use Rattle.member_node.specs.declared.member.NodeNo.{NodeNo}
 use Rattle.member_node.specs.declared.member.NodeNo.TheVariants as no_node
-use Rattle.member_node.specs.Calls.{Course, IsOnlyOn, console_now}
-use Rattle.mas_run.specs.Runs.{AreKept, IsHistory, Adds, IsStopped, HasLost}
-use Rattle.mas_run.specs.Turns.{Turn}
-use Rattle.mas_run.specs.Steps.{output, loses_after}
+use Rattle.member_node.specs.Calls.{Course, console_now}
+use Rattle.member_decks.specs.Batches.{AreAll}
+use Rattle.mas_run.specs.Runs.{IsHistory, IsSettled, Adds, IsStopped, HasLost}
+use Rattle.first_script.specs.Played.{sysa}
+use Rattle.mas_run.specs.Turns.{Turn, turns_from}
+use Rattle.mas_run.specs.Steps.{batches_of, next_batches, output, loses_after, FindLost, LeavesVolumes}
 use Rattle.mas_run.specs.Statuses.{status_of}
+use Rattle.mas_run.specs.Volumes.{AreVolumesKept}
 use Rattle.mas_types.specs.declared.answers.Status.TheVariants as status
 
--- So many steps have been played, from the first on, since the plant showed `old`.
-pub record HavePlayed (told : Type 0) (base : Queue) (asked : List Turn) (played : ℕ) (batches : List Batch) (was1 is1 was2 is2 : Bool) (old new : View) : Type 0 where
+-- These steps have been played since the plant showed `old`; each volume has so many groups.
+pub record HavePlayed (told : Type 0) (base : Queue) (per : ℕ) (steps : List Turn) (batches : List Batch) (was1 is1 was2 is2 : Bool) (old new : View) : Type 0 where
   pub course : Course was1 is1 was2 is2 old new
   pub left : SomeAlive is1 is2 ⊎ HasLost old new
-  pub kept : AreKept base 1 (take played asked) old.now new.now batches
-  pub loses : (d : Dev) → new.loses d ≡ loses_after d (take played asked) (old.loses d)
-  pub elsewhere : told → IsOnlyOn old new
-  pub said : told → console_now new ≡ console_now old ++ map whole (output base (take played asked))
+  pub kept : AreAll sysa old.now new.now (batches_of base steps) batches
+  pub loses : (d : Dev) → new.loses d ≡ loses_after d steps (old.loses d)
+  pub found : FindLost old new per base 1 steps
+  pub volumes : told → All LeavesVolumes steps → AreVolumesKept old new
+  pub said : told → console_now new ≡ console_now old ++ map whole (output base steps)
 
--- what an answer says: how many steps are kept and closed, whether a batch is in flight, and why
-abbrev pub Ends : {T : Type 0} → Result T NodeNo → ℕ → ℕ → ℕ → Type 0 → Bool → Bool → View → View → Type 0
-Ends (Ok done) kept closed all settled one two old new = (kept ≡ all) × (closed ≡ all) × settled
-Ends (Err no_node.NoMemory) kept closed all settled one two old new = (kept ≡ closed) × settled
-Ends (Err no_node.BothLost) kept closed all settled one two old new = (kept ≡ closed) × IsBothLost one two
-Ends (Err no_node.ConsoleFault) kept closed all settled one two old new = (kept ≡ closed + 1) × settled × Rose (old.faults Console) (new.faults Console)
-Ends (Err no_node.Halted) kept closed all settled one two old new = IsStopped old new
+-- what an answer says: how many steps are kept and closed, which batches of the next one were begun, whether one is in flight, and why
+abbrev pub Ends : {T : Type 0} → Result T NodeNo → ℕ → ℕ → ℕ → List Batch → Type 0 → Bool → Bool → View → View → Type 0
+Ends (Ok done) kept closed all begun settled one two old new = (kept ≡ all) × (closed ≡ all) × settled
+Ends (Err no_node.NoMemory) kept closed all begun settled one two old new = (kept ≡ closed) × settled
+Ends (Err no_node.BothLost) kept closed all begun settled one two old new = (kept ≡ closed) × IsBothLost one two
+Ends (Err no_node.ConsoleFault) kept closed all begun settled one two old new = (kept ≡ closed + 1) × (begun ≡ []) × settled × Rose (old.faults Console) (new.faults Console)
+Ends (Err no_node.Halted) kept closed all begun settled one two old new = IsStopped old new
 
 abbrev pub IfNotLost : {T : Type 0} → Result T NodeNo → Type 0 → Type 0
 IfNotLost (Err no_node.BothLost) P = Unit {0}
 IfNotLost _ P = P
 
 -- The steps were played up to the end, or to one that ends the run.
-pub record ArePlayed {T : Type 0} (told : Type 0) (base : Queue) (asked : List Turn) (batches : List Batch) (was1 is1 was2 is2 : Bool) (old new : View) (result : Result T NodeNo) : Type 0 where
+pub record ArePlayed {T : Type 0} (told : Type 0) (base : Queue) (per : ℕ) (asked : List Turn) (batches : List Batch) (was1 is1 was2 is2 : Bool) (old new : View) (result : Result T NodeNo) : Type 0 where
   pub kept : ℕ
   pub closed : ℕ
   pub few : (closed ≤ kept) × (kept ≤ closed + 1) × (kept ≤ length asked)
   pub course : Course was1 is1 was2 is2 old new
   pub left : IfNotLost result (SomeAlive is1 is2 ⊎ HasLost old new)
   pub history : IsHistory base asked kept old.now new.now batches
-  pub ends : Ends result kept closed (length asked) (AreKept base 1 (take kept asked) old.now new.now batches) is1 is2 old new
+  pub ends : Ends result kept closed (length asked) history.begun (IsSettled (next_batches base kept asked) history.between new.now history.begun) is1 is2 old new
   pub loses : (d : Dev) → new.loses d ≡ loses_after d (take kept asked) (old.loses d)
-  pub elsewhere : told → IsOnlyOn old new
+  pub found : FindLost old new per base 1 asked
+  pub volumes : told → All LeavesVolumes asked → AreVolumesKept old new
   pub said : told → Adds (output base (take closed asked)) (output base (take kept asked)) (console_now old) (console_now new) (status_of result ≡ status.ConsoleFault) (IsStopped old new)
 
--- They were played over a journal that had these batches, and has so many now.
-pub record HasPlay {T : Type 0} (told : Type 0) (base : Queue) (asked : List Turn) (front batches : List Batch) (was1 is1 was2 is2 : Bool) (old new : View) (result : Result T NodeNo) : Type 0 where
+-- They are the steps of a script, from a book of the lock on, and were played over a journal that had these batches, and has so many now.
+pub record HasPlay {T : Type 0} (told : Type 0) (base : Queue) (config : Config) (book : Book) (steps : List Step) (front batches : List Batch) (was1 is1 was2 is2 : Bool) (old new : View) (result : Result T NodeNo) : Type 0 where
+  pub lost : List (Option ℕ)
   pub rest : List Batch
   pub batches_are : batches ≡ front ++ rest
-  pub played : ArePlayed told base asked rest was1 is1 was2 is2 old new result
+  pub played : ArePlayed told base config.groups (turns_from config book lost steps) rest was1 is1 was2 is2 old new result
 
--- And so many of them have been played.
-pub record HavePlay (told : Type 0) (base : Queue) (asked : List Turn) (count : ℕ) (front batches : List Batch) (was1 is1 was2 is2 : Bool) (old new : View) : Type 0 where
+-- And these first ones of them have been played.
+pub record HavePlay (told : Type 0) (base : Queue) (config : Config) (book : Book) (steps : List Step) (count : ℕ) (front batches : List Batch) (was1 is1 was2 is2 : Bool) (old new : View) : Type 0 where
+  pub lost : List (Option ℕ)
+  pub many : length lost ≡ count
   pub rest : List Batch
   pub batches_are : batches ≡ front ++ rest
-  pub played : HavePlayed told base asked count rest was1 is1 was2 is2 old new
+  pub played : HavePlayed told base config.groups (turns_from config book lost (take count steps)) rest was1 is1 was2 is2 old new

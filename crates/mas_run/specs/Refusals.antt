@@ -1,55 +1,76 @@
 -- What is refused before anything is played.
-use Rattle.std.specs.Prelude.{◌≡◌, ◌⊎◌, ℕ, ◌≤◌, ◌<◌, nat_lt, Bool, true, false, if◌then◌else◌, List, [], ◌∷◌, length, Option, Some, None, Result, Ok, Err}
+use Rattle.std.specs.Prelude.{◌≡◌, ◌⊎◌, ℕ, zero, suc, ◌+◌, ◌*◌, nat_lt, Bool, true, false, not, ◌&&◌, if◌then◌else◌, List, [], ◌∷◌, Option, Some, None, Ok, Err}
 use Rattle.mas_types.specs.declared.ids.Dev.{Dev}
 use Rattle.mas_types.specs.declared.ids.Dev.TheVariants.{Ckpt1, Ckpt2, Spool}
 use Rattle.mas_types.specs.declared.answers.Status.{Status}
 use Rattle.mas_types.specs.declared.answers.Status.TheVariants as status
+use Rattle.mas_types.specs.declared.queues.Config.{Config}
 use Rattle.mas_types.specs.Lists.{first_some}
-use Rattle.mas_types.specs.Limits.{script_bytes}
-use Rattle.mas_types.specs.Starts.{default_config}
-use Rattle.first_script.specs.declared.asked.Asked.{Asked}
-use Rattle.first_script.specs.declared.asked.BadLine.{BadLine}
+use Rattle.mas_types.specs.Limits.{page_bytes}
+use Rattle.script_lang.specs.declared.types.Run.{Run}
+use Rattle.script_lang.specs.declared.types.Script.{Script}
+use Rattle.script_lang.specs.declared.types.ScriptNo.TheVariants as no
+use Rattle.script_lang.specs.Script.{Said}
 use Rattle.first_script.specs.Script.{read_as}
+use Rattle.spool_disk.specs.declared.plant.Part.TheVariants.{Disk}
+use Rattle.spool_disk.specs.View.{View}
 use Rattle.ckpt_copy.specs.Areas.{areas_size}
 use Rattle.ckpt_pages.specs.Shape.{page_count}
+use Rattle.warm_start.specs.Starting.{IsSmall}
 
--- what a script says to the node of the default configuration: the steps that it asks for, or that a line is refused
-abbrev pub said_by : List ℕ → Result (List Asked) BadLine
-said_by script = read_as default_config.node script
+-- a run, cold or warm, that isn't a race; where it only formats it takes no steps
+abbrev pub calm : Bool → Bool → Run
+calm cold only = record { cold = cold; race = false; only = only }
 
--- how many bytes a checkpoint device needs for the pages of the default configuration
-abbrev pub bytes_needed : ℕ
-bytes_needed = areas_size (page_count default_config)
+-- what a script says to such a run: a configuration, routes and steps, or that a line is refused
+abbrev pub said_by : Bool → Bool → List ℕ → Said
+said_by cold only script = read_as (calm cold only) script
+
+-- how many bytes a checkpoint device needs for the pages of a configuration
+abbrev pub bytes_needed : Config → ℕ
+bytes_needed config = areas_size (page_count config)
 
 abbrev pub refused_where : Bool → Status → Option Status
 refused_where holds why = if holds then Some why else None
 
-abbrev pub refused_line : Result (List Asked) BadLine → Option Status
-refused_line (Ok asked) = None
-refused_line (Err bad) = Some (status.BadLine bad.line bad.cause)
+-- a checkpoint device that is smaller than this
+abbrev pub refused_copy : View → ℕ → Dev → Option Status
+refused_copy v needed dev = refused_where (nat_lt (v.size dev) needed) (status.DeviceSize dev (v.size dev))
 
--- the first checkpoint device that is too small
-abbrev pub refused_devices : ℕ → ℕ → List (Option Status)
-refused_devices size1 size2 =
-    refused_where (nat_lt size1 bytes_needed) (status.DeviceSize Ckpt1 size1)
-    ∷ refused_where (nat_lt size2 bytes_needed) (status.DeviceSize Ckpt2 size2) ∷ []
+-- a volume that isn't lost and has no room for so many groups
+abbrev pub refused_volume : View → ℕ → ℕ → Option Status
+refused_volume v per n = refused_where (not (v.lost (Disk (Spool n))) && nat_lt (v.size (Spool n)) (page_bytes * per)) (status.DeviceSize (Spool n) (v.size (Spool n)))
 
--- their sizes are known to be too small before a cold run; what a warm run needs stands on the copies
-abbrev pub refused_sizes : Bool → ℕ → ℕ → List (Option Status)
-refused_sizes cold size1 size2 = if cold then refused_devices size1 size2 else []
+-- so many volumes, from this number on
+abbrev pub refused_volumes : View → ℕ → ℕ → ℕ → List (Option Status)
+refused_volumes v per n zero = []
+refused_volumes v per n (suc more) = refused_volume v per n ∷ refused_volumes v per (n + 1) more
 
--- the first that applies to the script and the sizes of CKPT1 and CKPT2
-abbrev pub refusal_before_play : Bool → List ℕ → ℕ → ℕ → Option Status
-refusal_before_play cold script size1 size2 = first_some (
-    refused_where (nat_lt script_bytes (length script)) status.TooLong
-    ∷ refused_line (said_by script)
-    ∷ refused_sizes cold size1 size2)
+-- the devices of a configuration that are too small: CKPT1, CKPT2, and then the volumes in their order
+abbrev pub refused_devices : Config → View → List (Option Status)
+refused_devices config v = refused_copy v (bytes_needed config) Ckpt1 ∷ refused_copy v (bytes_needed config) Ckpt2 ∷ refused_volumes v config.groups 1 config.volumes
 
--- the first device that is too small, with its size
-abbrev pub IsSmall : Dev → ℕ → ℕ → ℕ → Type 0
-IsSmall Ckpt1 size size1 size2 = (size ≡ size1) × (size < bytes_needed)
-IsSmall Ckpt2 size size1 size2 = (size ≡ size2) × (size < bytes_needed) × (bytes_needed ≤ size1)
-IsSmall (Spool n) size size1 size2 = ⊥
+-- the devices that a script's configuration needs are known before a cold run; what a warm run needs stands on the copies
+abbrev pub refused_sizes : Bool → Config → View → List (Option Status)
+refused_sizes cold config v = if cold then refused_devices config v else []
+
+abbrev pub refusal_of : Bool → View → Said → Option Status
+refusal_of cold v (Err (no.BadLine line why)) = Some (status.BadLine line why)
+refusal_of cold v (Err no.TooLong) = Some status.TooLong
+refusal_of cold v (Err no.NoMemory) = None
+refusal_of cold v (Ok script) = first_some (refused_sizes cold script.config v)
+
+-- the first that applies to the script and the devices, before the run
+abbrev pub refusal_before_play : Bool → Bool → List ℕ → View → Option Status
+refusal_before_play cold only script v = refusal_of cold v (said_by cold only script)
+
+-- the first device that is too small for a configuration, with its size
+abbrev pub IsTooSmall : Config → Dev → ℕ → View → Type 0
+IsTooSmall config dev size v = IsSmall (bytes_needed config) config dev size v
+
+abbrev pub IsDeviceSize : Config → Status → View → Type 0
+IsDeviceSize config (status.DeviceSize dev size) v = IsTooSmall config dev size v
+IsDeviceSize config _ v = ⊥
 
 -- the status says what the words, the script or a device of a cold run lack
 abbrev pub is_refusal : Bool → Status → Bool
@@ -77,10 +98,9 @@ is_of_script status.SourceFault = true
 is_of_script status.NoMemory = true
 is_of_script _ = false
 
--- a script that asks for this
-pub record IsAsked (script : List ℕ) (asked : List Asked) : Type 0 where
-  pub few : length script ≤ script_bytes
-  pub says : said_by script ≡ Ok asked
+-- a script that says this
+abbrev pub IsSaid : Bool → Bool → List ℕ → Script → Type 0
+IsSaid cold only bytes script = said_by cold only bytes ≡ Ok script
 
 -- how a run ends that nothing hinders: with Done, or for want of memory; a warm one also where it finds no queue, or a device is
 -- too small for what it finds

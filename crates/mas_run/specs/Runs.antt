@@ -1,15 +1,16 @@
 -- What a run did.
-use Rattle.std.specs.Prelude.{◌≡◌, ◌≢◌, ◌⊎◌, ℕ, ◌+◌, ◌≤◌, ◌<◌, nat_lt, Bool, true, false, List, [], ◌∷◌, ◌++◌, length, take, drop, map}
+use Rattle.std.specs.Prelude.{◌≡◌, ◌≢◌, ◌⊎◌, ℕ, ◌+◌, ◌≤◌, ◌<◌, nat_lt, Bool, true, false, List, [], ◌∷◌, ◌++◌, length, take, map, All, Option}
 use Rattle.mas_types.specs.declared.ids.Dev.{Dev}
 use Rattle.mas_types.specs.declared.ids.Dev.TheVariants.{Ckpt1, Ckpt2}
 use Rattle.mas_types.specs.declared.journals.Batch.{Batch}
+use Rattle.mas_types.specs.declared.journals.Entry.{Entry}
 use Rattle.mas_types.specs.declared.journals.Journal.{Journal}
 use Rattle.mas_types.specs.declared.journals.Fate.TheVariants.{Kept, Flying}
 use Rattle.mas_types.specs.declared.answers.Status.{Status}
 use Rattle.mas_types.specs.declared.answers.Status.TheVariants as status
 use Rattle.mas_types.specs.declared.queues.Queue.{Queue}
-use Rattle.mas_types.specs.Starts.{default_config, empty_queue, no_queue}
-use Rattle.first_script.specs.declared.asked.Asked.{Asked}
+use Rattle.mas_types.specs.Starts.{empty_queue, no_queue}
+use Rattle.script_lang.specs.declared.types.Script.{Script}
 use Rattle.spool_disk.specs.declared.plant.Part.TheVariants.{Disk}
 use Rattle.spool_disk.specs.View.{View, Line, disk_at, disk_now, Throughout}
 use Rattle.spool_disk.specs.Acts.{Rose, top, next}
@@ -27,10 +28,12 @@ use Rattle.mas_run.specs.Resets.{restart_entries}
 use Rattle.warm_start.specs.Starting.{IsFound, IsUnfit, IsHeld}
 use Rattle.member_node.specs.Calls.{console_now}
 use Rattle.member_steps.specs.Saying.{torn}
+use Rattle.member_decks.specs.Batches.{AreAll, AreSome, OneFlies}
 use Rattle.mas_complex.specs.Headline.{whole, IsCrashSafe, AreAlwaysAlike, AreTextsLeft, LeavesQueue, AreToldKept}
-use Rattle.mas_run.specs.Decks.{sysa}
-use Rattle.mas_run.specs.Turns.{Task, Turn, Granted, Denied, Loss, turns_of}
-use Rattle.mas_run.specs.Steps.{after_step, queue_after, task_entries, output, loses_after}
+use Rattle.first_script.specs.Played.{sysa}
+use Rattle.mas_run.specs.Turns.{Turn, turns_of}
+use Rattle.mas_run.specs.Steps.{batches_of, next_batches, output, loses_after, FindLost, LeavesVolumes}
+use Rattle.mas_run.specs.Volumes.{AreVolumesKept, AreVolumesKeptUntil}
 
 -- a run has begun where its first queue has members
 abbrev pub has_begun : Queue → Bool
@@ -52,37 +55,20 @@ pub record IsUnbegun (base : Queue) (journal : Journal) (since now : ℕ) : Type
 
 -- THE HISTORY
 
--- the batch of a step: the entries of its task, begun from a moment on
-pub record IsBatchOf (Q : Queue) (at : ℕ) (task : Task) (from now : ℕ) (b : Batch) : Type 0 where
-  pub by : b.by ≡ sysa
-  pub entries : b.entries ≡ task_entries Q at task
-  pub began : (from ≤ b.first) × (b.first ≤ now)
+-- some batches of the next step, if any, and nothing is in flight
+abbrev pub IsSettled : List (List Entry) → ℕ → ℕ → List Batch → Type 0
+IsSettled next from now begun = (begun ≡ []) ⊎ AreSome sysa from now next begun
 
--- The batches of steps, of which the first has this number: each that gets the lock has one, and it was kept before the next
--- began.
-abbrev pub AreKept : Queue → ℕ → List Turn → ℕ → ℕ → List Batch → Type 0
-AreKept Q at [] from now batches = batches ≡ []
-AreKept Q at (Denied why ∷ steps) from now batches = AreKept (after_step Q at (Denied why)) (at + 1) steps from now batches
-AreKept Q at (Loss dev ∷ steps) from now batches = AreKept (after_step Q at (Loss dev)) (at + 1) steps from now batches
-AreKept Q at (Granted task ∷ steps) from now [] = ⊥
-AreKept Q at (Granted task ∷ steps) from now (b ∷ batches) =
-    IsBatchOf Q at task from now b × (b.fate ≡ Kept) × (b.first ≤ b.last) × (b.last ≤ now)
-    × AreKept (after_step Q at (Granted task)) (at + 1) steps b.last now batches
-
--- the batch of the next step, which gets the lock, in flight to the end
-abbrev pub IsInFlight : Queue → ℕ → List Turn → ℕ → ℕ → Batch → Type 0
-IsInFlight Q at [] from now b = ⊥
-IsInFlight Q at (Denied why ∷ steps) from now b = ⊥
-IsInFlight Q at (Loss dev ∷ steps) from now b = ⊥
-IsInFlight Q at (Granted task ∷ steps) from now b = IsBatchOf Q at task from now b × (b.fate ≡ Flying) × (b.last ≡ top)
-
--- so many steps are kept, from the first on, and behind their batches stands at most the one that is in flight
+-- So many steps are kept, from the first on. Behind their batches stand none, or the first ones of the next step, of which the last may be
+-- in flight.
 pub record IsHistory (base : Queue) (asked : List Turn) (kept : ℕ) (since now : ℕ) (batches : List Batch) : Type 0 where
   pub front : List Batch
-  pub are_kept : AreKept base 1 (take kept asked) since now front
-  pub rest :
-      (batches ≡ front)
-      ⊎ ((b : Batch) × (batches ≡ front ++ b ∷ []) × IsInFlight (queue_after base 1 (take kept asked)) (1 + kept) (drop kept asked) since now b)
+  pub begun : List Batch
+  pub are : batches ≡ front ++ begun
+  pub between : ℕ
+  pub moments : (since ≤ between) × (between ≤ now)
+  pub are_kept : AreAll sysa since between (batches_of base (take kept asked)) front
+  pub next : IsSettled (next_batches base kept asked) between now begun ⊎ OneFlies sysa between now (next_batches base kept asked) begun
 
 -- THE CONSOLE
 
@@ -143,10 +129,10 @@ pub record IsFoundQueue (tells : Type 0) (old new : View) (since : ℕ) (first :
   pub kept1 : tells → (first Ckpt1 ≡ old.loses Ckpt1) ⊎ IsUnfit reads Ckpt1 old new pages
   pub kept2 : tells → (first Ckpt2 ≡ old.loses Ckpt2) ⊎ IsUnfit reads Ckpt2 old new pages
 
--- a cold run begins with the empty queue of the default configuration, a warm one with the queue found
-abbrev pub HasBase : Bool → Type 0 → View → View → ℕ → (Dev → ℕ) → Queue → Type 0
-HasBase true tells old new since first base = base ≡ empty_queue default_config []
-HasBase false tells old new since first base = IsFoundQueue tells old new since first base
+-- a cold run begins with the empty queue of the script's configuration and routes, a warm one with the queue found
+abbrev pub HasBase : Bool → Type 0 → Script → View → View → ℕ → (Dev → ℕ) → Queue → Type 0
+HasBase true tells script old new since first base = base ≡ empty_queue script.config script.routes
+HasBase false tells script old new since first base = IsFoundQueue tells old new since first base
 
 -- before a warm run's first moment an image of a copy is one of the entry, or reads as the copy did or as the pages found
 pub record IsHeldUntil (since : ℕ) (old new : View) : Type 0 where
@@ -165,72 +151,71 @@ LosesFirst false was is = (is ≡ was) ⊎ (is ≡ next was)
 
 -- THE STEPS
 
+-- The steps of a run, on a plant that showed `old` when they began, from a queue on: what is known of them at its end.
+pub record HavePassed (tells : Type 0) (asked : List Turn) (answer : Status) (from : Queue) (per at : ℕ) (rest : List Batch) (first : Dev → ℕ) (old new : View) : Type 0 where
+  -- so many of its steps are kept, from the first on, and so many of these are known to be closed
+  pub kept : ℕ
+  pub closed : ℕ
+  pub few : (closed ≤ kept) × (kept ≤ closed + 1) × (kept ≤ length asked)
+  pub history : IsHistory from asked kept at new.now rest
+  pub settled : answer ≢ status.BothLost → IsSettled (next_batches from kept asked) history.between new.now history.begun ⊎ IsStopped old new
+  pub done : answer ≡ status.Done → (closed ≡ length asked) ⊎ IsStopped old new
+  pub unsaid : answer ≡ status.ConsoleFault → (kept ≡ closed + 1) × (history.begun ≡ [])
+  pub unplayed : answer ≡ status.NoMemory → kept ≡ closed
+  pub unkept : answer ≡ status.BothLost → kept ≡ closed
+  -- its lines are those of the steps that are closed
+  pub said : tells → Adds (output from (take closed asked)) (output from (take kept asked)) (console_now old) (console_now new) (answer ≡ status.ConsoleFault) (IsStopped old new)
+  -- a device is lost by a call as often as a step that was played says so, and a deck finds only a volume lost that failed and is lost
+  pub loses : (d : Dev) → new.loses d ≡ loses_after d (take kept asked) (first d)
+  pub found : FindLost old new per from 1 asked
+  -- a copy is left but where both are lost
+  pub there : answer ≢ status.BothLost → ((new.lost (Disk Ckpt1) ≡ false) ⊎ (new.lost (Disk Ckpt2) ≡ false)) ⊎ HasLostSince first new
+
+-- What holds at each moment from a run's first on: a crash leaves the queue after what was kept, both copies read the same pages or
+-- those on either side of the batch in flight, each text is left, and what is told is kept.
+pub record IsSafe (tells : Type 0) (base : Queue) (journal : Journal) (since : ℕ) (new : View) : Type 0 where
+  pub crash : tells → ∥ IsCrashSafe reads base journal since new ∥₁
+  pub alike : tells → ∥ AreAlwaysAlike reads base journal since new ∥₁
+  pub texts : tells → ∥ AreTextsLeft base since journal new ∥₁
+  pub told : tells → AreToldKept journal since new
+
 -- What was played, by a run on a base, whose journal had these batches then, on a plant that showed `old` before and `new`
 -- after it.
 pub record IsPlay (tells : Type 0) (asked : List Turn) (answer : Status) (base : Queue) (front : List Batch) (journal : Journal) (since : ℕ) (old new : View) : Type 0 where
   pub rest : List Batch
   pub batches : journal.batches ≡ front ++ rest
-  pub kept : ℕ
-  pub closed : ℕ
-  pub few : (closed ≤ kept) × (kept ≤ closed + 1) × (kept ≤ length asked)
-  pub history : IsHistory (run base (kept_all front)) asked kept old.now new.now rest
-  pub settled : answer ≢ status.BothLost → AreKept (run base (kept_all front)) 1 (take kept asked) old.now new.now rest ⊎ IsStopped old new
-  pub done : answer ≡ status.Done → (closed ≡ length asked) ⊎ IsStopped old new
-  pub unsaid : answer ≡ status.ConsoleFault → kept ≡ closed + 1
-  pub unplayed : answer ≡ status.NoMemory → kept ≡ closed
-  pub unkept : answer ≡ status.BothLost → kept ≡ closed
-  pub said : tells → Adds (output (run base (kept_all front)) (take closed asked)) (output (run base (kept_all front)) (take kept asked)) (console_now old) (console_now new) (answer ≡ status.ConsoleFault) (IsStopped old new)
-  pub loses : (d : Dev) → new.loses d ≡ loses_after d (take kept asked) (old.loses d)
-  pub crash : tells → ∥ IsCrashSafe reads base journal since new ∥₁
-  pub alike : tells → ∥ AreAlwaysAlike reads base journal since new ∥₁
-  pub texts : tells → ∥ AreTextsLeft base since journal new ∥₁
-  pub told : tells → AreToldKept journal since new
-  pub there : answer ≢ status.BothLost → ((new.lost (Disk Ckpt1) ≡ false) ⊎ (new.lost (Disk Ckpt2) ≡ false)) ⊎ HasLost old new
+  pub played : HavePassed tells asked answer (run base (kept_all front)) base.config.groups old.now rest old.loses old new
+  pub volumes : tells → All LeavesVolumes asked → AreVolumesKept old new
+  pub safe : IsSafe tells base journal since new
 
 -- The steps of a run, cold or warm, from its first moment on. Before them stands its opening, and each device had been lost so
 -- often by a call.
 pub record HasSteps (cold : Bool) (tells : Type 0) (asked : List Turn) (answer : Status) (base : Queue) (journal : Journal) (since : ℕ) (first : Dev → ℕ) (old new : View) : Type 0 where
-  -- its journal is that of its opening and of the steps that are kept, which began at a moment
+  -- its journal is that of its opening and of the steps, which began at a moment
   pub opening : List Batch
   pub rest : List Batch
   pub batches : journal.batches ≡ opening ++ rest
   pub at : ℕ
   pub began : (since ≤ at) × (at ≤ new.now)
-  -- so many of its steps are kept, from the first on, and so many of these are known to be closed
-  pub kept : ℕ
-  pub closed : ℕ
-  pub few : (closed ≤ kept) × (kept ≤ closed + 1) × (kept ≤ length asked)
-  pub opened : IsOpened cold answer since at opening kept rest
-  pub history : IsHistory (run base (kept_all opening)) asked kept at new.now rest
-  pub settled : answer ≢ status.BothLost → AreKept (run base (kept_all opening)) 1 (take kept asked) at new.now rest ⊎ IsStopped old new
-  pub done : answer ≡ status.Done → (closed ≡ length asked) ⊎ IsStopped old new
-  pub unsaid : answer ≡ status.ConsoleFault → kept ≡ closed + 1
-  pub unplayed : answer ≡ status.NoMemory → kept ≡ closed
-  pub unkept : answer ≡ status.BothLost → kept ≡ closed
-  -- its lines are those of the steps that are closed
-  pub said : tells → Adds (output (run base (kept_all opening)) (take closed asked)) (output (run base (kept_all opening)) (take kept asked)) (console_now old) (console_now new) (answer ≡ status.ConsoleFault) (IsStopped old new)
-  -- a copy is lost by a call as often as a step that was played says so
-  pub loses : (d : Dev) → new.loses d ≡ loses_after d (take kept asked) (first d)
-  -- at each moment a crash leaves the queue after what was kept, with its owners, both copies read the same pages or those on either
-  -- side of the batch in flight, and what is told is kept; each text of the queue is read from what the crash leaves of the spool
-  -- volumes, but for those with a group on a volume that is lost at the end; a copy is left but where both are lost
-  pub crash : tells → ∥ IsCrashSafe reads base journal since new ∥₁
-  pub alike : tells → ∥ AreAlwaysAlike reads base journal since new ∥₁
-  pub texts : tells → ∥ AreTextsLeft base since journal new ∥₁
-  pub told : tells → AreToldKept journal since new
-  pub there : answer ≢ status.BothLost → ((new.lost (Disk Ckpt1) ≡ false) ⊎ (new.lost (Disk Ckpt2) ≡ false)) ⊎ HasLostSince first new
+  pub played : HavePassed tells asked answer (run base (kept_all opening)) base.config.groups at rest first old new
+  pub opened : IsOpened cold answer since at opening played.kept rest
+  -- no byte of a volume changed before they began, nor in steps that leave the volumes as they are
+  pub before : tells → AreVolumesKeptUntil at old new
+  pub volumes : tells → All LeavesVolumes asked → AreVolumesKept old new
+  pub safe : IsSafe tells base journal since new
 
--- A run that has begun, cold or warm, over what was asked of it, on a plant that showed `old` before and `new` after it.
--- What it says of contents is said of a plant that tells.
-pub record IsRun (cold : Bool) (tells : Type 0) (asked : List Asked) (answer : Status) (base : Queue) (journal : Journal) (since : ℕ) (old new : View) : Type 0 where
+-- A run that has begun, cold or warm, of a script with these steps, on a plant that showed `old` before and `new` after it. What it says
+-- of contents is said of a plant that tells.
+pub record IsRun (cold : Bool) (tells : Type 0) (script : Script) (answer : Status) (base : Queue) (journal : Journal) (since : ℕ) (old new : View) : Type 0 where
   -- before its first moment a device had been lost so often by a call: a warm start may have lost it once
   pub first : Dev → ℕ
   pub before : (d : Dev) → LosesFirst cold (old.loses d) (first d)
   -- it began with its base, which the copies had then, and nothing was said before
-  pub queue : HasBase cold tells old new since first base
+  pub queue : HasBase cold tells script old new since first base
   pub moment : (old.now ≤ since) × (since ≤ new.now)
   pub fresh : tells → ∥ LeavesQueue reads base since new ∥₁
   pub quiet : tells → (new.world since).console ≡ console_now old
   pub held : tells → IsKeptUntil cold since old new
-  -- and then its steps were played, each deck and each command where the book of the lock gives it to the member
-  pub steps : HasSteps cold tells (turns_of base.config asked) answer base journal since first old new
+  -- and then its steps were played, each where the book of the lock gives it to the member; of the decks so many found such a volume lost
+  pub lost : List (Option ℕ)
+  pub steps : HasSteps cold tells (turns_of base.config lost script.steps) answer base journal since first old new

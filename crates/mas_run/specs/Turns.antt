@@ -1,60 +1,118 @@
--- What becomes of a script's steps at the lock of the checkpoint. A step of SYSA takes the lock by a try and gives it up at its end.
--- Where the try is refused nothing is played, and the step closes with why.
-use Rattle.std.specs.Prelude.{◌≡◌, ◌<◌, false, List, [], ◌∷◌, map, Option, Some, None}
+-- What becomes of a script's steps. A deck with a wrong card closes with that, and so does a reset that can't be. Every other deck or
+-- command takes the lock of the checkpoint by a try, and gives it up at its end; where the try is refused nothing is played, and the
+-- step closes with why.
+use Rattle.std.specs.Prelude.{◌≡◌, ◌<◌, ℕ, false, if◌then◌else◌, List, [], ◌∷◌, drop, get_or, Option, Some, None, Result, Ok, Err}
+use Rattle.mas_types.specs.declared.answers.Closing.{Closing}
+use Rattle.mas_types.specs.declared.answers.Closing.TheVariants as closing
 use Rattle.mas_types.specs.declared.commands.Command.{Command}
+use Rattle.mas_types.specs.declared.commands.Command.TheVariants as command
+use Rattle.mas_types.specs.declared.commands.Refusal.TheVariants as refusal
+use Rattle.mas_types.specs.declared.commands.Reply.TheVariants as reply
 use Rattle.mas_types.specs.declared.ids.Dev.{Dev}
+use Rattle.mas_types.specs.declared.ids.MemberId.{MemberId}
 use Rattle.mas_types.specs.declared.jobs.JobFields.{JobFields}
 use Rattle.mas_types.specs.declared.queues.Config.{Config}
+use Rattle.mas_types.specs.Queue.{is_member}
+use Rattle.card_reader.specs.declared.decks.Refused.{Refused}
+use Rattle.card_reader.specs.Decks.{read_as, text_of}
 use Rattle.lock_cycle.specs.declared.answers.LockNo.{LockNo}
+use Rattle.first_script.specs.Played.{sysa}
 use Rattle.lock_cycle.specs.Books.{Book, try_refusal, after_try, after_free}
-use Rattle.first_script.specs.declared.asked.Asked.{Asked}
-use Rattle.first_script.specs.declared.asked.Asked.TheVariants as asked
+use Rattle.script_lang.specs.declared.types.Ask.{Ask}
+use Rattle.script_lang.specs.declared.types.Ask.TheVariants as ask
+use Rattle.script_lang.specs.declared.types.Step.{Step}
 use Rattle.mas_complex.specs.Locking.{book_of}
-use Rattle.mas_run.specs.Decks.{sysa}
 
--- what SYSA does in a step: it reads a deck, or gives an operator's command
+-- what SYSA does in a step: it reads a deck of a job with this text, of which it found this volume lost, if one; or it gives an
+-- operator's command
 pub data Task : Type 0 where
-  Reads : JobFields → Task
+  Reads : JobFields → List (List ℕ) → Option ℕ → Task
   Gives : Command → Task
 
--- a step as it comes to be played: one whose member gets the lock, one whose member doesn't, or a loss
+-- A step as it comes to be played: one whose member gets the lock, one whose member doesn't, one that closes before any try, or the
+-- loss of a device. A step of another kind isn't played, and no script with one is.
 pub data Turn : Type 0 where
   Granted : Task → Turn
   Denied : LockNo → Turn
+  Closed : Closing → Turn
   Loss : Dev → Turn
+  Unplayed : Turn
 
 -- a task, by the answer to its member's try
 abbrev pub task_turn : Option LockNo → Task → Turn
 task_turn None task = Granted task
 task_turn (Some why) task = Denied why
 
+-- DECKS
+
+-- a deck that says this of its job, by the answer to a try
+abbrev pub deck_turn : Option LockNo → List (List ℕ) → Option ℕ → Result JobFields Refused → Turn
+deck_turn why text lost (Err bad) = Closed (closing.BadCard bad.card bad.cause)
+deck_turn why text lost (Ok fields) = task_turn why (Reads fields text lost)
+
+-- COMMANDS
+
+-- the member that a command is to reset
+abbrev pub resets : Command → Option MemberId
+resets (command.Reset of) = Some of
+resets _ = None
+
+-- no member is stopped before the run's end, so none can be reset
+abbrev pub no_reset : Config → MemberId → Closing
+no_reset config of = if is_member config of then closing.Up of else closing.Reply (reply.No refusal.NoMember)
+
+abbrev pub command_turn : Config → Option LockNo → Command → Option MemberId → Turn
+command_turn config why given None = task_turn why (Gives given)
+command_turn config why given (Some of) = Closed (no_reset config of)
+
+-- STEPS
+
+-- A step of a run with this configuration, by the answer to a try, where its deck finds this volume lost.
+abbrev pub turn_by : Config → Option LockNo → Option ℕ → Ask → Turn
+turn_by config why lost (ask.Deck cards) = deck_turn why (text_of cards) lost (read_as config.node cards)
+turn_by config why lost (ask.Command given) = command_turn config why given (resets given)
+turn_by config why lost (ask.Lose dev) = Loss dev
+turn_by config why lost _ = Unplayed
+
 -- a step at a book of the lock
-abbrev pub turn_at : Book → Asked → Turn
-turn_at b (asked.Deck fields) = task_turn (try_refusal b sysa false) (Reads fields)
-turn_at b (asked.Lose dev) = Loss dev
-turn_at b (asked.Command given) = task_turn (try_refusal b sysa false) (Gives given)
+abbrev pub turn_at : Config → Book → Option ℕ → Ask → Turn
+turn_at config b lost what = turn_by config (try_refusal b sysa false) lost what
 
--- the book after a step. Who doesn't hold gives nothing up
-abbrev pub book_after : Book → Asked → Book
-book_after b (asked.Deck fields) = after_free (after_try b sysa false) sysa false
-book_after b (asked.Lose dev) = b
-book_after b (asked.Command given) = after_free (after_try b sysa false) sysa false
+-- the book after a try, and after the lock was given up. Who doesn't hold gives nothing up
+abbrev pub after_tried : Book → Book
+after_tried b = after_free (after_try b sysa false) sysa false
 
--- steps one after another, from a book on
-abbrev pub turns_from : Book → List Asked → List Turn
-turns_from b [] = []
-turns_from b (step ∷ steps) = turn_at b step ∷ turns_from (book_after b step) steps
+-- the book after a deck that says this of its job
+abbrev pub after_deck : Book → Result JobFields Refused → Book
+after_deck b (Err bad) = b
+after_deck b (Ok fields) = after_tried b
+
+abbrev pub after_command : Book → Option MemberId → Book
+after_command b None = after_tried b
+after_command b (Some of) = b
+
+-- the book after a step
+abbrev pub book_after : Config → Book → Ask → Book
+book_after config b (ask.Deck cards) = after_deck b (read_as config.node cards)
+book_after config b (ask.Command given) = after_command b (resets given)
+book_after config b _ = b
+
+-- Steps one after another, from a book on, of which each found such a volume lost; those behind them found none.
+abbrev pub turns_from : Config → Book → List (Option ℕ) → List Step → List Turn
+turns_from config b lost [] = []
+turns_from config b lost (step ∷ steps) = turn_at config b (get_or lost 0 None) step.what ∷ turns_from config (book_after config b step.what) (drop 1 lost) steps
 
 -- the steps of a run with this configuration
-abbrev pub turns_of : Config → List Asked → List Turn
-turns_of config steps = turns_from (book_of config) steps
+abbrev pub turns_of : Config → List (Option ℕ) → List Step → List Turn
+turns_of config lost steps = turns_from config (book_of config) lost steps
 
--- a step that gets the lock
-abbrev pub granted : Asked → Turn
-granted (asked.Deck fields) = Granted (Reads fields)
-granted (asked.Lose dev) = Loss dev
-granted (asked.Command given) = Granted (Gives given)
+-- WITHOUT DORMANCY
 
--- Where there is no dormancy each deck and each command gets the lock, as in a run with the default configuration.
+-- steps that get the lock
+abbrev pub granted_all : Config → List (Option ℕ) → List Step → List Turn
+granted_all config lost [] = []
+granted_all config lost (step ∷ steps) = turn_by config None (get_or lost 0 None) step.what ∷ granted_all config (drop 1 lost) steps
+
+-- Where there is no dormancy each try gets the lock, as in a run with the default configuration.
 abbrev pub AreAwake : Type 0
-AreAwake = (config : Config) (steps : List Asked) → 0 < config.members → config.dormancy ≡ 0 → turns_of config steps ≡ map granted steps
+AreAwake = (config : Config) (lost : List (Option ℕ)) (steps : List Step) → 0 < config.members → config.dormancy ≡ 0 → turns_of config lost steps ≡ granted_all config lost steps

@@ -1,7 +1,8 @@
 //! A script that is played from the queue that is found.
-ghost use Rattle.std.specs.Prelude.{◌≡◌, ◌≢◌, ◌⊎◌, ◌≤◌, ◌<◌, ◌+◌, ◌^◌, [], true, false, length, All};
-ghost use Rattle.mas_types.specs.Starts.{default_config as config_by_default};
+ghost use Rattle.std.specs.Prelude.{◌≡◌, ◌≢◌, ◌⊎◌, ◌≤◌, ◌<◌, ◌^◌, [], List as ListOf, Option as OptionOf, ℕ, true, false, length, All};
+ghost use Rattle.mas_types.specs.Fit.{IsConfig};
 ghost use Rattle.mas_types.specs.Ids.{nobody};
+ghost use Rattle.mas_types.specs.Limits.{steps_most};
 ghost use Rattle.mas_types.specs.declared.ids.Dev.TheVariants.{Ckpt1, Ckpt2};
 ghost use Rattle.mas_types.specs.declared.ids.Dev.{Dev};
 ghost use Rattle.spool_disk.specs.declared.plant.Part.TheVariants.{Disk};
@@ -10,16 +11,14 @@ ghost use Rattle.spool_disk.specs.Acts.{Goes};
 ghost use Rattle.ckpt_copy.specs.Areas.{reads, areas_size};
 ghost use Rattle.ckpt_pages.specs.Shape.{page_count};
 ghost use Rattle.duplex_pair.specs.Halves.{SomeAlive};
-ghost use Rattle.first_script.specs.Steps.{IsFitStep};
+ghost use Rattle.first_script.specs.Played.{IsPlayed, sysa};
 ghost use Rattle.warm_start.specs.Starting.{OnlyLookedAtAll};
-ghost use Rattle.first_script.specs.Nodes.{at_node as at_node_lem, step_at};
-ghost use Rattle.member_node.specs.Calls.{Grows, IsOnlyOn, console_now};
+ghost use Rattle.member_decks.specs.Spooling.{AreRoomy};
+ghost use Rattle.member_node.specs.Calls.{Grows, console_now};
 ghost use Rattle.member_node.specs.Copies.{RestsAt};
 ghost use Rattle.member_steps.specs.Locked.{IsOpenTo};
 ghost use Rattle.member_steps.specs.Steps.{IsBetween};
-ghost use Rattle.mas_run.specs.Decks.{sysa};
 ghost use Rattle.mas_run.specs.Turns.{turns_from};
-ghost use Rattle.mas_run.specs.Steps.{IsFitFor};
 ghost use Rattle.mas_run.specs.Runs.{has_begun, Begins, IsUnbegun, HasSteps, IsRun};
 ghost use Rattle.mas_run.specs.Statuses.{IsCaused, IsCausedFrom, is_of_play, is_of_text};
 ghost use Rattle.mas_run.specs.Volumes.{AreVolumesKept};
@@ -30,10 +29,10 @@ use crate::play::{SYSA, ended, play_asked, status_of, unbegun};
 use crate::running::Running;
 use ckpt_copy::{AreaCopy, Copying};
 use duplex_pair::Pair;
-use first_script::Asked;
-use mas_types::{Dev, List, MemberId, Name8, Status};
+use mas_types::{Dev, MemberId, Status};
 use member_node::{Checkpoint, Member};
 use queue_effect::law_of_fit_tables;
+use script_lang::{Script, Step};
 use spool_disk::Plant;
 use std::alloc::Global;
 use table_queues::law_of_told_queues;
@@ -55,33 +54,6 @@ pub fn status_of_start(why: StartNo) -> Status
         StartNo::DeviceSize { dev, size } => Status::DeviceSize { dev, size },
         StartNo::NoMemory => Status::NoMemory,
     }
-}
-
-// The step at this node.
-fn at_node(step: &mut Asked, node: Name8)
-    ensures { step.new ≡ step_at node step.old }
-{
-    if let Asked::Deck(fields) = step {
-        fields.node = node;
-        fields.origin = node;
-    }
-}
-
-// What a script asks for, at this node.
-fn move_to(asked: &mut [Asked], node: Name8)
-    ensures { asked.new ≡ at_node_lem node asked.old }
-{
-    for step in asked.iter_mut() {
-        at_node(step, node);
-    }
-}
-
-fn moved(asked: List<Asked>, node: Name8) -> List<Asked>
-    ensures { result ≡ at_node_lem node asked }
-{
-    let mut asked = asked;
-    move_to(asked.as_mut_slice(), node);
-    asked
 }
 
 // The run of a warm start, at which the operator is first.
@@ -113,13 +85,15 @@ fn running_of<P: Plant + Drop>(alloc: Global, found: Started<P, AreaCopy>) -> Ru
 // Gives Restart, and then plays what the script asks for.
 fn play_reset<P: Plant + Drop>(
     alloc: Global,
-    asked: &[Asked],
+    asked: &[Step],
     run: Running<P, AreaCopy>,
 ) -> Ended<P>
     requires lock { IsOpenTo run.complex.book run.complex.reserved sysa }
-    requires few { length asked.now ≤ 16777216 }
+    requires config { IsConfig run.complex.base.config }
+    requires few { length asked.now ≤ steps_most }
     requires id { run.member.id ≡ nobody }
-    requires may { All (IsFitFor run.member.checkpoint.tables.config) asked.now }
+    requires may { All IsPlayed asked.now }
+    requires roomy { P.tells → AreRoomy (P.view run.complex.plant) run.complex.base.config }
     requires between { IsBetween run.complex.base run.complex.journal.batches run.complex.current run.complex.placed run.complex.level run.member.batch run.member.checkpoint }
     requires rests1 { RestsAt P.tells run.complex.pair.first.alive run.complex.first (⟦<AreaCopy as Copying>⟧.count run.complex.pair.first.copy) run.member.checkpoint.pages (reads (disk_now (P.view run.complex.plant) Ckpt1).bytes) }
     requires rests2 { RestsAt P.tells run.complex.pair.second.alive run.complex.second (⟦<AreaCopy as Copying>⟧.count run.complex.pair.second.copy) run.member.checkpoint.pages (reads (disk_now (P.view run.complex.plant) Ckpt2).bytes) }
@@ -135,9 +109,8 @@ fn play_reset<P: Plant + Drop>(
     ensures kind { is_of_play result.status ≡ true }
     ensures goes { Goes (P.view run.complex.plant) (P.view result.plant) }
     ensures grow { (d : Dev) → Grows ((P.view run.complex.plant).loses d) ((P.view result.plant).loses d) }
-    ensures elsewhere { P.tells → IsOnlyOn (P.view run.complex.plant) (P.view result.plant) }
     ensures cause { IsCausedFrom run.complex.pair.first.alive run.complex.pair.second.alive result.status (P.view run.complex.plant) (P.view result.plant) }
-    ensures steps { HasSteps false P.tells (turns_from run.complex.book asked.now) result.status result.base result.journal result.since (P.view run.complex.plant).loses (P.view run.complex.plant) (P.view result.plant) }
+    ensures steps { (lost : ListOf (OptionOf ℕ)) × HasSteps false P.tells (turns_from result.base.config run.complex.book lost asked.now) result.status result.base result.journal result.since (P.view run.complex.plant).loses (P.view run.complex.plant) (P.view result.plant) }
 {
     let mut run = run;
     match run.restart(alloc) {
@@ -149,10 +122,10 @@ fn play_reset<P: Plant + Drop>(
     }
 }
 
-/// Begins with the queue that the copies are found with, gives Restart, and plays what the script asks for.
-pub(crate) fn play_warm<P: Plant + Drop>(alloc: Global, asked: List<Asked>, plant: P) -> Ended<P>
-    requires few { length asked ≤ 16777216 }
-    requires fits { All (IsFitStep config_by_default.node) asked }
+/// Begins with the queue that the copies are found with, gives Restart, and plays the steps of the script.
+pub(crate) fn play_warm<P: Plant + Drop>(alloc: Global, script: &Script, plant: P) -> Ended<P>
+    requires few { length script.now.steps ≤ steps_most }
+    requires plays { All IsPlayed script.now.steps }
     ensures no_source { result.status ≡ Status.SourceFault → ⊥ }
     ensures no_text { is_of_text result.status ≡ false }
     ensures unstarted { has_begun result.base ≡ false → IsNotStarted P.tells result.status (P.view plant) (P.view result.plant) }
@@ -163,9 +136,9 @@ pub(crate) fn play_warm<P: Plant + Drop>(alloc: Global, asked: List<Asked>, plan
     ensures unsaid { P.tells → has_begun result.base ≡ false → console_now (P.view result.plant) ≡ console_now (P.view plant) }
     ensures goes { Goes (P.view plant) (P.view result.plant) }
     ensures loses { has_begun result.base ≡ false → result.status ≢ Status.BothLost → (d : Dev) → (P.view result.plant).loses d ≡ (P.view plant).loses d }
-    ensures elsewhere { P.tells → AreVolumesKept (P.view plant) (P.view result.plant) }
+    ensures volumes { P.tells → has_begun result.base ≡ false → AreVolumesKept (P.view plant) (P.view result.plant) }
     ensures room { has_begun result.base ≡ true → (areas_size (page_count result.base.config) ≤ (P.view plant).size Ckpt1) × (areas_size (page_count result.base.config) ≤ (P.view plant).size Ckpt2) }
-    ensures run { has_begun result.base ≡ true → IsRun false P.tells (at_node_lem result.base.config.node asked) result.status result.base result.journal result.since (P.view plant) (P.view result.plant) }
+    ensures run { has_begun result.base ≡ true → IsRun false P.tells script.now result.status result.base result.journal result.since (P.view plant) (P.view result.plant) }
 {
     let pair = Pair::new(
         AreaCopy::new(Dev::Ckpt1, PAGES),
@@ -177,6 +150,5 @@ pub(crate) fn play_warm<P: Plant + Drop>(alloc: Global, asked: List<Asked>, plan
     };
     law_of_fit_tables();
     law_of_told_queues();
-    let asked = moved(asked, found.tables.config.node);
-    play_reset(alloc, asked.as_slice(), running_of(alloc, found))
+    play_reset(alloc, script.steps.as_slice(), running_of(alloc, found))
 }

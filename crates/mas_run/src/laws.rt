@@ -1,7 +1,14 @@
 //! What holds of runs.
+ghost use Rattle.mas_run.specs.Found.{FindNone};
 ghost use Rattle.mas_run.specs.Turns.{AreAwake};
 
-/// Where the configuration has no dormancy, each deck and each command of a script gets the lock.
+/// Where the configuration has no dormancy, each try of the lock by a script's step gets it.
 pub fn law_of_awake_runs()
     ensures { AreAwake }
+{}
+
+/// Where no volume failed in a run, no deck found one lost: what becomes of its steps, and so its commands and lines, follows from its
+/// script and the queue that it began with.
+pub fn law_of_sound_volumes()
+    ensures { FindNone }
 {}

@@ -1,19 +1,16 @@
 //! A script that is played on a plant, from an empty queue or from the one that is found.
 #![tactic(auto)]
 
-mod deck;
-mod deck_steps;
 mod ended;
 mod found;
 mod laws;
 mod play;
-mod queue;
 mod reset;
 mod running;
 mod top;
 
 pub use ended::{Ended, code};
 pub use found::status_of_start;
-pub use laws::law_of_awake_runs;
+pub use laws::{law_of_awake_runs, law_of_sound_volumes};
 pub use play::unbegun;
 pub use top::{play_script, play_steps};

@@ -1,6 +1,8 @@
 //! A script that is played from an empty queue.
-ghost use Rattle.std.specs.Prelude.{◌≡◌, ◌⊎◌, ◌+◌, ◌≤◌, ◌<◌, ◌^◌, [], true, false, length, All, IfOk, None, Some};
-ghost use Rattle.mas_types.specs.Starts.{default_config as config_by_default, empty_queue as queue_without_jobs};
+ghost use Rattle.std.specs.Prelude.{◌≡◌, ◌⊎◌, ◌+◌, ◌≤◌, ◌<◌, ◌^◌, [], List as ListOf, Option as OptionOf, ℕ, true, false, length, All, IfOk, IfErr, OnOk, None, Some};
+ghost use Rattle.mas_types.specs.Starts.{empty_queue as queue_without_jobs};
+ghost use Rattle.mas_types.specs.Fit.{IsConfig};
+ghost use Rattle.mas_types.specs.Limits.{routes_most, steps_most};
 ghost use Rattle.mas_types.specs.Lists.{first_some};
 ghost use Rattle.mas_types.specs.declared.ids.Dev.TheVariants.{Ckpt1, Ckpt2};
 ghost use Rattle.mas_types.specs.declared.ids.Dev.{Dev};
@@ -9,38 +11,41 @@ ghost use Rattle.spool_disk.specs.declared.plant.Part.TheVariants.{Disk};
 ghost use Rattle.spool_disk.specs.View.{disk_now};
 ghost use Rattle.spool_disk.specs.Acts.{Goes};
 ghost use Rattle.ckpt_copy.specs.Areas.{reads};
+ghost use Rattle.ckpt_pages.specs.Shape.{IsRoute};
 ghost use Rattle.ckpt_pages.specs.Starts.{empty_tables};
 ghost use Rattle.duplex_pair.specs.Halves.{SomeAlive};
-ghost use Rattle.first_script.specs.Steps.{IsFitStep};
+ghost use Rattle.first_script.specs.Played.{IsPlayed, sysa};
+ghost use Rattle.script_laws.specs.Limits.{IsScript};
 ghost use Rattle.mas_complex.specs.Headline.{Headline};
 ghost use Rattle.mas_complex.specs.Journals.{end_of};
-ghost use Rattle.mas_run.specs.Refusals.{bytes_needed, refused_devices, Answers};
-ghost use Rattle.member_node.specs.Calls.{Grows, IsOnlyOn, console_now};
+ghost use Rattle.mas_run.specs.Refusals.{bytes_needed, refused_devices, Answers, IsTooSmall, IsDeviceSize};
+ghost use Rattle.member_decks.specs.Spooling.{AreRoomy};
+ghost use Rattle.member_node.specs.Calls.{Grows, console_now};
 ghost use Rattle.member_node.specs.Copies.{RestsAt};
 ghost use Rattle.member_node.specs.Drawn.{AreDrawn};
 ghost use Rattle.member_steps.specs.Locked.{IsOpenTo};
 ghost use Rattle.member_steps.specs.Steps.{AreAllKept, IsBetween};
-ghost use Rattle.mas_run.specs.Decks.{sysa};
-ghost use Rattle.mas_run.specs.Entering.{HasNoGroups};
 ghost use Rattle.mas_run.specs.Turns.{turns_from};
-ghost use Rattle.mas_run.specs.Steps.{IsFitFor};
 ghost use Rattle.mas_run.specs.Runs.{has_begun, Begins, IsUnbegun, IsPlay, IsRun};
-ghost use Rattle.mas_run.specs.Statuses.{IsCaused, IsCausedFrom, status_of as status_of_lem, is_of_play};
+ghost use Rattle.mas_run.specs.Statuses.{IsCaused, IsCausedFrom, status_of as status_of_lem, is_of_play, is_of_text};
+ghost use Rattle.mas_run.specs.Volumes.{AreVolumesKept};
 
 use crate::ended::Ended;
+use crate::found::status_of_start;
 use crate::running::Running;
 use ckpt_copy::{AreaCopy, Copying};
 use ckpt_pages::page_count;
 use duplex_pair::Pair;
-use first_script::Asked;
 use mas_complex::Complex;
 use mas_types::{
-    Dev, Journal, List, MemberId, NoMemory, Queue, Status, default_config, empty_queue, no_queue,
+    Config, Dev, Journal, List, MemberId, NoMemory, Queue, Route, Status, empty_queue, no_queue,
 };
 use member_node::{Checkpoint, Member, NodeNo, blank};
+use script_lang::{Script, Step};
 use spool_disk::Plant;
 use std::alloc::Global;
 use table_queues::law_of_told_queues;
+use warm_start::refuse_small;
 
 /// The operator, who formats the copies.
 const OPERATOR: MemberId = MemberId(0);
@@ -107,14 +112,15 @@ pub(crate) fn ended<P: Plant + Drop>(status: Status, run: Running<P, AreaCopy>) 
 // Plays what the script asks for.
 pub(crate) fn play_asked<P: Plant + Drop>(
     alloc: Global,
-    asked: &[Asked],
+    asked: &[Step],
     run: Running<P, AreaCopy>,
 ) -> Ended<P>
     requires id { run.member.id ≡ sysa }
     requires lock { IsOpenTo run.complex.book run.complex.reserved sysa }
-    requires few { length asked.now ≤ 16777216 }
-    requires may { All (IsFitFor run.member.checkpoint.tables.config) asked.now }
-    requires groups { HasNoGroups sysa run.member.checkpoint.tables.owners }
+    requires config { IsConfig run.complex.base.config }
+    requires few { length asked.now ≤ steps_most }
+    requires may { All IsPlayed asked.now }
+    requires roomy { P.tells → AreRoomy (P.view run.complex.plant) run.complex.base.config }
     requires between { IsBetween run.complex.base run.complex.journal.batches run.complex.current run.complex.placed run.complex.level run.member.batch run.member.checkpoint }
     requires rests1 { RestsAt P.tells run.complex.pair.first.alive run.complex.first (⟦<AreaCopy as Copying>⟧.count run.complex.pair.first.copy) run.member.checkpoint.pages (reads (disk_now (P.view run.complex.plant) Ckpt1).bytes) }
     requires rests2 { RestsAt P.tells run.complex.pair.second.alive run.complex.second (⟦<AreaCopy as Copying>⟧.count run.complex.pair.second.copy) run.member.checkpoint.pages (reads (disk_now (P.view run.complex.plant) Ckpt2).bytes) }
@@ -131,58 +137,66 @@ pub(crate) fn play_asked<P: Plant + Drop>(
     ensures kind { is_of_play result.status ≡ true }
     ensures goes { Goes (P.view run.complex.plant) (P.view result.plant) }
     ensures grow { (d : Dev) → Grows ((P.view run.complex.plant).loses d) ((P.view result.plant).loses d) }
-    ensures elsewhere { P.tells → IsOnlyOn (P.view run.complex.plant) (P.view result.plant) }
     ensures cause { IsCausedFrom run.complex.pair.first.alive run.complex.pair.second.alive result.status (P.view run.complex.plant) (P.view result.plant) }
-    ensures play { IsPlay P.tells (turns_from run.complex.book asked.now) result.status result.base run.complex.journal.batches result.journal result.since (P.view run.complex.plant) (P.view result.plant) }
+    ensures play { (lost : ListOf (OptionOf ℕ)) × IsPlay P.tells (turns_from result.base.config run.complex.book lost asked.now) result.status result.base run.complex.journal.batches result.journal result.since (P.view run.complex.plant) (P.view result.plant) }
 {
     let mut run = run;
     let answer = run.play_steps(alloc, asked);
     ended(status_of(&answer), run)
 }
 
-// The empty queue, and its checkpoint.
-fn start(alloc: Global) -> Result<(Queue, Checkpoint), NoMemory>
-    ensures base { IfOk result (λ start. start.0 ≡ queue_without_jobs config_by_default []) }
-    ensures tables { IfOk result (λ start. start.1.tables ≡ empty_tables config_by_default []) }
+// The empty queue of a configuration and routes, and its checkpoint.
+fn start(
+    alloc: Global,
+    config: &Config,
+    routes: &List<Route>,
+) -> Result<(Queue, Checkpoint), NoMemory>
+    requires config { IsConfig config.now }
+    requires few { length routes.now ≤ routes_most }
+    requires routes { All IsRoute routes.now }
+    ensures base { IfOk result (λ start. start.0 ≡ queue_without_jobs config.now routes.now) }
+    ensures tables { IfOk result (λ start. start.1.tables ≡ empty_tables config.now routes.now) }
     ensures level { IfOk result (λ start. start.1.level ≡ 1) }
     ensures drawn { IfOk result (λ start. AreDrawn start.1.tables start.1.level start.1.levels start.1.pages) }
 {
-    let config = default_config();
-    let routes = List::new(alloc);
-    let base = empty_queue(alloc, &config, &routes)?;
-    let checkpoint = blank(alloc, &config, &routes)?;
+    let base = empty_queue(alloc, config, routes)?;
+    let checkpoint = blank(alloc, config, routes)?;
     Ok((base, checkpoint))
 }
 
-// The first checkpoint device that is too small for the pages of the default configuration.
-fn refuse_devices<P: Plant>(plant: &P) -> Option<Status>
-    ensures refused { result ≡ first_some (refused_devices ((P.view plant.now).size Ckpt1) ((P.view plant.now).size Ckpt2)) }
-    ensures large { result ≡ None → (bytes_needed ≤ (P.view plant.now).size Ckpt1) × (bytes_needed ≤ (P.view plant.now).size Ckpt2) }
+// How many bytes a checkpoint device needs.
+fn bytes_for(config: &Config) -> u64
+    requires { IsConfig config.now }
+    ensures { result ≡ bytes_needed config.now }
 {
-    let needed = AreaCopy::size_for(page_count(&default_config()));
-    let first = plant.size(Dev::Ckpt1);
-    if first < needed {
-        return Some(Status::DeviceSize {
-            dev: Dev::Ckpt1,
-            size: first,
-        });
-    }
-    let second = plant.size(Dev::Ckpt2);
-    if second < needed {
-        return Some(Status::DeviceSize {
-            dev: Dev::Ckpt2,
-            size: second,
-        });
-    }
-    None
+    AreaCopy::size_for(page_count(config))
 }
 
-/// Formats both copies with the empty queue, and plays what the script asks for. A copy that fails is left out.
-pub(crate) fn play_cold<P: Plant + Drop>(alloc: Global, asked: &[Asked], plant: P) -> Ended<P>
-    requires few { length asked.now ≤ 16777216 }
-    requires fits { All (IsFitStep config_by_default.node) asked.now }
-    ensures refused { Answers true (first_some (refused_devices ((P.view plant).size Ckpt1) ((P.view plant).size Ckpt2))) result.status }
+// Refuses the first device that is too small for a configuration.
+fn refuse_devices<P: Plant>(plant: &P, config: &Config) -> Result<(), Status>
+    requires { IsConfig config.now }
+    ensures refused { IfErr result (λ status. first_some (refused_devices config.now (P.view plant.now)) ≡ Some status) }
+    ensures small { IfErr result (λ status. IsDeviceSize config.now status (P.view plant.now)) }
+    ensures no_text { IfErr result (λ status. is_of_text status ≡ false) }
+    ensures none { OnOk result (first_some (refused_devices config.now (P.view plant.now)) ≡ None) }
+    ensures large { OnOk result ((bytes_needed config.now ≤ (P.view plant.now).size Ckpt1) × (bytes_needed config.now ≤ (P.view plant.now).size Ckpt2)) }
+    ensures roomy { OnOk result (AreRoomy (P.view plant.now) config.now) }
+{
+    let needed = bytes_for(config);
+    match refuse_small(plant, needed, config) {
+        Ok(()) => Ok(()),
+        Err(why) => Err(status_of_start(why)),
+    }
+}
+
+/// Formats both copies with the empty queue of the script's configuration and routes, and plays its steps. A copy that fails is left out.
+pub(crate) fn play_cold<P: Plant + Drop>(alloc: Global, script: &Script, plant: P) -> Ended<P>
+    requires fits { IsScript script.now }
+    requires plays { All IsPlayed script.now.steps }
+    ensures refused { Answers true (first_some (refused_devices script.now.config (P.view plant))) result.status }
+    ensures device { (dev : Dev) (size : ℕ) → result.status ≡ Status.DeviceSize dev size → IsTooSmall script.now.config dev size (P.view plant) }
     ensures no_source { result.status ≡ Status.SourceFault → ⊥ }
+    ensures no_text { is_of_text result.status ≡ false }
     ensures formatted { (first second : CopyState) → result.status ≡ Status.NotFormatted first second → ⊥ }
     ensures cause { IsCaused result.status (P.view plant) (P.view result.plant) }
     ensures begun { Begins result.status result.base }
@@ -191,19 +205,20 @@ pub(crate) fn play_cold<P: Plant + Drop>(alloc: Global, asked: &[Asked], plant: 
     ensures unsaid { P.tells → has_begun result.base ≡ false → console_now (P.view result.plant) ≡ console_now (P.view plant) }
     ensures goes { Goes (P.view plant) (P.view result.plant) }
     ensures loses { has_begun result.base ≡ false → (d : Dev) → (P.view result.plant).loses d ≡ (P.view plant).loses d }
-    ensures elsewhere { P.tells → IsOnlyOn (P.view plant) (P.view result.plant) }
-    ensures room { has_begun result.base ≡ true → (bytes_needed ≤ (P.view plant).size Ckpt1) × (bytes_needed ≤ (P.view plant).size Ckpt2) }
-    ensures config { has_begun result.base ≡ true → result.base.config ≡ config_by_default }
-    ensures run { has_begun result.base ≡ true → IsRun true P.tells asked.now result.status result.base result.journal result.since (P.view plant) (P.view result.plant) }
+    ensures volumes { P.tells → has_begun result.base ≡ false → AreVolumesKept (P.view plant) (P.view result.plant) }
+    ensures room { has_begun result.base ≡ true → (bytes_needed script.now.config ≤ (P.view plant).size Ckpt1) × (bytes_needed script.now.config ≤ (P.view plant).size Ckpt2) }
+    ensures config { has_begun result.base ≡ true → result.base.config ≡ script.now.config }
+    ensures run { has_begun result.base ≡ true → IsRun true P.tells script.now result.status result.base result.journal result.since (P.view plant) (P.view result.plant) }
 {
-    if let Some(status) = refuse_devices(&plant) {
+    let config = &script.config;
+    if let Err(status) = refuse_devices(&plant, config) {
         return unbegun(alloc, status, plant);
     }
-    let Ok((base, checkpoint)) = start(alloc) else {
+    let Ok((base, checkpoint)) = start(alloc, config, &script.routes) else {
         return unbegun(alloc, Status::NoMemory, plant);
     };
     let mut plant = plant;
-    let pages = page_count(&default_config());
+    let pages = page_count(config);
     let mut pair = Pair::new(
         AreaCopy::new(Dev::Ckpt1, pages),
         AreaCopy::new(Dev::Ckpt2, pages),
@@ -216,5 +231,5 @@ pub(crate) fn play_cold<P: Plant + Drop>(alloc: Global, asked: &[Asked], plant: 
     let level = checkpoint.level;
     let complex = Complex::make(alloc, plant, pair, base, level);
     let member = Member::new(alloc, SYSA, checkpoint);
-    play_asked(alloc, asked, Running { complex, member })
+    play_asked(alloc, script.steps.as_slice(), Running { complex, member })
 }

@@ -1,10 +1,7 @@
 //! Restart of all members, as the first batch of a warm run.
-ghost use Rattle.std.specs.Prelude.{◌≡◌, ◌+◌, ◌≤◌, ◌<◌, ◌^◌, [], true, false, None, OnOk};
-ghost use Rattle.std.specs.List.{list_any};
+ghost use Rattle.std.specs.Prelude.{◌≡◌, ◌+◌, ◌≤◌, ◌<◌, ◌^◌, [], true, None, OnOk};
 ghost use Rattle.mas_types.specs.declared.ids.Dev.TheVariants.{Ckpt1, Ckpt2};
 ghost use Rattle.mas_types.specs.Ids.{nobody};
-ghost use Rattle.mas_types.specs.Owners.{is_held_by};
-ghost use Rattle.mas_types.specs.Queue.{is_member};
 ghost use Rattle.mas_types.specs.declared.queues.Queue.{Queue};
 ghost use Rattle.spool_disk.specs.View.{disk_now};
 ghost use Rattle.ckpt_pages.specs.Shape.{HasSpelling};
@@ -37,7 +34,6 @@ fn give_restart(member: &mut Member, alloc: Global) -> Result<(), NoMemory>
     ensures entries { OnOk result (member.new.batch ≡ restart_entries) }
     ensures done { OnOk result ((Q : Queue) → HasDone Q member.old.batch member.old.checkpoint → HasDone Q member.new.batch member.new.checkpoint) }
     ensures sound { OnOk result (TellSound member.new.checkpoint.tables) }
-    ensures groups { OnOk result (list_any (is_held_by (is_member member.new.checkpoint.tables.config)) member.new.checkpoint.tables.owners ≡ false) }
     ensures config { member.new.checkpoint.tables.config ≡ member.old.checkpoint.tables.config }
     ensures order { member.new.checkpoint.tables.order ≤ member.old.checkpoint.tables.order + 32 }
 {
@@ -76,7 +72,6 @@ impl<P: Plant + Drop, C: Steady + Drop> Running<P, C> {
         ensures between { OnOk result (IsBetween self.new.complex.base self.new.complex.journal.batches self.new.complex.current self.new.complex.placed self.new.complex.level self.new.member.batch self.new.member.checkpoint) }
         ensures rests1 { OnOk result (RestsAt P.tells self.new.complex.pair.first.alive self.new.complex.first (C.count self.new.complex.pair.first.copy) self.new.member.checkpoint.pages (C.reads (disk_now (P.view self.new.complex.plant) Ckpt1).bytes)) }
         ensures rests2 { OnOk result (RestsAt P.tells self.new.complex.pair.second.alive self.new.complex.second (C.count self.new.complex.pair.second.copy) self.new.member.checkpoint.pages (C.reads (disk_now (P.view self.new.complex.plant) Ckpt2).bytes)) }
-        ensures groups { OnOk result (list_any (is_held_by (is_member self.new.member.checkpoint.tables.config)) self.new.member.checkpoint.tables.owners ≡ false) }
         ensures config { self.new.member.checkpoint.tables.config ≡ self.old.member.checkpoint.tables.config }
         ensures order { self.new.member.checkpoint.tables.order ≤ self.old.member.checkpoint.tables.order + 32 }
         ensures level { OnOk result (self.new.member.checkpoint.level ≤ self.old.member.checkpoint.level + 1) }

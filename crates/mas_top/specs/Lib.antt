@@ -1,5 +1,4 @@
 pub mod Tasks
 pub mod Saying
 pub mod Reports
-pub mod Formats
 pub mod Plays

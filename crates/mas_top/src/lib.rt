@@ -1,7 +1,6 @@
 //! The top call: what the words of the program ask for is done on a plant.
 #![tactic(auto)]
 
-mod formatting;
 mod reporting;
 mod saying;
 mod tasks;

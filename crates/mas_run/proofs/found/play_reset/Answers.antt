@@ -1,20 +1,20 @@
-use Rattle.std.proofs.Common.{◌≡◌, ◌∙◌, ℕ, inl, refl, sym, ap, subst, arith}
+use Rattle.std.proofs.Common.{◌≡◌, ◌∙◌, ℕ, List, Option, inl, refl, sym, ap, subst, arith}
 use Rattle.mas_types.specs.Ids.{nobody}
 use Rattle.spool_disk.specs.View.{World}
 use Rattle.ckpt_copy.specs.Areas.{reads}
 use Rattle.ckpt_copy.specs.Moments.{goes_on}
 use Rattle.mas_complex.specs.Headline.{Headline}
 use Rattle.mas_complex.specs.Journals.{begun}
-use Rattle.member_node.proofs.CourseLemmas.{only_on}
 use Rattle.member_node.proofs.WriteLemmas.{none_out}
 use Rattle.member_steps.specs.Locked.{IsOpenTo}
 use Rattle.mas_run.specs.Resets.{restart_entries}
 use Rattle.lock_cycle.specs.Books.{Book}
-use Rattle.mas_run.specs.Decks.{sysa}
+use Rattle.first_script.specs.Played.{sysa}
 use Rattle.mas_run.specs.Runs.{IsPlay}
 use Rattle.mas_run.specs.Turns.{turns_from}
-use Rattle.mas_run.proofs.NodeLemmas.{none_left}
 use Rattle.mas_run.proofs.ResetLemmas.{reset_ended, reset_caused, one_kept_now}
+use Rattle.mas_run.proofs.ScriptLemmas.{roomy_later}
+use Rattle.mas_run.proofs.VolumeLemmas.{kept_on}
 use Rattle.mas_run.proofs.RunLemmas.{warm_steps, caused_through, grows_through}
 use Rattle.mas_run.proofs.found.play_reset.Goals as goal
 
@@ -30,7 +30,7 @@ returns-in-Err-clause-steps g c =
     let J = c.ended.result.journal in
     let head : P.tells → ∥ Headline reads x.base x.since J w ∥₁ = λ t. rw (e.base, e.since, e.plant, k.base, k.since) at (e.headline t) in
     rw (e.status, c.status_of.ensures, e.base, e.since, e.plant, k.base, k.since)
-    (reset_ended {T = Unit {0}} P.tells (turns_from x.book c.args.asked.now) x.base J x.since v w x.pair.first.alive y.pair.first.alive x.pair.second.alive y.pair.second.alive c.in-Err.why c.requires.since c.requires.some c.requires.there1 c.requires.there2 head
+    (reset_ended {T = Unit {0}} P.tells x.base.config x.book c.args.asked.now x.base J x.since v w x.pair.first.alive y.pair.first.alive x.pair.second.alive y.pair.second.alive c.in-Err.why c.requires.since c.requires.some c.requires.there1 c.requires.there2 head
     (rw e.journal k.reset))
 
 pub returns-in-Err-clause-cause : goal.returns-in-Err-clause-cause
@@ -52,14 +52,16 @@ play_asked-requires-clause-lock g c =
     let open_to : IsOpenTo c.restart.new.self.complex.book x.reserved sysa = subst (λ (b : Book). IsOpenTo b x.reserved sysa) (sym k.book) c.requires.lock in
     record { member = open_to.member; holder = open_to.holder; up = open_to.up; none = k.unreserved }
 
-pub play_asked-requires-clause-may : goal.play_asked-requires-clause-may
-play_asked-requires-clause-may g c = rw c.in-Ok.ensures.config c.requires.may
+pub play_asked-requires-clause-config : goal.play_asked-requires-clause-config
+play_asked-requires-clause-config g c = rw c.in-Ok.ensures.base c.requires.config
 
-pub play_asked-requires-clause-groups : goal.play_asked-requires-clause-groups
-play_asked-requires-clause-groups g c =
-    let n = c.restart.new.self.member.checkpoint in
+pub play_asked-requires-clause-roomy : goal.play_asked-requires-clause-roomy
+play_asked-requires-clause-roomy g c told =
+    let P = g.P.Plant in
+    let x = c.args.run.complex in
+    let y = c.restart.new.self.complex in
     let k = c.in-Ok.ensures in
-    none_left n.tables.config n.tables.owners k.between.drawn.spelling.shape.config k.groups
+    rw k.base (roomy_later (P.view x.plant) (P.view y.plant) x.base.config k.reset.course.goes (c.requires.roomy told))
 
 pub play_asked-requires-clause-kept : goal.play_asked-requires-clause-kept
 play_asked-requires-clause-kept g c =
@@ -94,21 +96,17 @@ returns-in-Ok-clause-steps g c =
     let r = k.reset.ends.0 in
     let out = none_out y.journal.batches y.journal.batches y.placed y.current refl k.between.unplaced k.between.none in
     let since : z.since ≡ v.now = d.since ∙ k.since ∙ c.requires.since in
-    let play : IsPlay P.tells (turns_from x.book c.args.asked.now) z.status z.base y.journal.batches z.journal z.since w (P.view z.plant) =
-    subst (λ (b : Book). IsPlay P.tells (turns_from b c.args.asked.now) z.status z.base y.journal.batches z.journal z.since w (P.view z.plant)) k.book d.play in
-    warm_steps v w (P.view z.plant) k.reset.course.goes P.tells (turns_from x.book c.args.asked.now) z.status z.base (begun v.now nobody restart_entries) r.0 y.journal.batches z.journal z.since (sym out ∙ r.3)
-    (record { by = refl; entries = refl; began = omega (arith, since) }) r.1 r.2 (omega (arith, since, k.reset.course.goes.later)) d.goes k.reset.loses (λ t. (k.reset.apart t).console) play
+    let played : (lost : List (Option ℕ)) × IsPlay P.tells (turns_from z.base.config y.book lost c.args.asked.now) z.status z.base y.journal.batches z.journal z.since w (P.view z.plant) = d.play in
+    let lost = played.0 in
+    let play : IsPlay P.tells (turns_from z.base.config x.book lost c.args.asked.now) z.status z.base y.journal.batches z.journal z.since w (P.view z.plant) =
+    subst (λ (b : Book). IsPlay P.tells (turns_from z.base.config b lost c.args.asked.now) z.status z.base y.journal.batches z.journal z.since w (P.view z.plant)) k.book played.1 in
+    (lost, warm_steps v w (P.view z.plant) k.reset.course.goes d.goes P.tells (turns_from z.base.config x.book lost c.args.asked.now) z.status z.base (begun v.now nobody restart_entries) r.0 y.journal.batches z.journal z.since (sym out ∙ r.3)
+    (record { by = refl; entries = refl; began = omega (arith, since) }) r.1 r.2 (omega (arith, since, k.reset.course.goes.later)) k.reset.loses (λ t. (k.reset.apart t).console) (λ t. kept_on v w (k.reset.apart t).others) play)
 
 pub returns-in-Ok-clause-goes : goal.returns-in-Ok-clause-goes
 returns-in-Ok-clause-goes g c =
     let P = g.P.Plant in
     goes_on (P.view c.args.run.complex.plant) (P.view c.restart.new.self.complex.plant) (P.view c.play_asked.result.plant) c.in-Ok.ensures.reset.course.goes c.play_asked.ensures.goes
-
-pub returns-in-Ok-clause-elsewhere : goal.returns-in-Ok-clause-elsewhere
-returns-in-Ok-clause-elsewhere g c told =
-    let P = g.P.Plant in
-    let k = c.in-Ok.ensures.reset in
-    only_on (P.view c.args.run.complex.plant) (P.view c.restart.new.self.complex.plant) (P.view c.play_asked.result.plant) k.course.goes.later c.play_asked.ensures.goes (k.apart told).others (c.play_asked.ensures.elsewhere told)
 
 pub returns-in-Ok-clause-cause : goal.returns-in-Ok-clause-cause
 returns-in-Ok-clause-cause g c =
@@ -125,6 +123,3 @@ returns-in-Ok-clause-grow g c d =
 
 pub returns-in-Err-clause-grow : goal.returns-in-Err-clause-grow
 returns-in-Err-clause-grow g c d = rw c.ended.ensures.plant (inl (c.in-Err.ensures.reset.loses d))
-
-pub returns-in-Err-clause-elsewhere : goal.returns-in-Err-clause-elsewhere
-returns-in-Err-clause-elsewhere g c told = rw c.ended.ensures.plant (c.in-Err.ensures.reset.apart told).others

@@ -1,7 +1,6 @@
-use Rattle.std.proofs.Common.{◌≡◌, ◌∙◌, ◌≤◌, min, ℕ, List, codes, length, false, inl, inr, ⊎_elim, refl, sym, ap, subst, arith}
+use Rattle.std.proofs.Common.{◌≡◌, ◌∙◌, ◌≤◌, min, ℕ, List, Option, length, false, inl, inr, ⊎_elim, refl, sym, ap, subst, arith}
 use Rattle.std.proofs.Math.Logic.{∥∥₁_map}
-use Rattle.mas_types.specs.Starts.{default_config}
-use Rattle.mas_types.specs.Fit.{IsName}
+use Rattle.mas_types.specs.Fit.{IsConfig}
 use Rattle.mas_types.specs.Limits.{members_most}
 use Rattle.mas_types.specs.declared.ids.Dev.TheVariants.{Ckpt1, Ckpt2}
 use Rattle.mas_types.specs.declared.journals.Batch.{Batch}
@@ -19,15 +18,14 @@ use Rattle.mas_complex.specs.Journals.{kept_all}
 use Rattle.mas_complex.specs.Locking.{book_of}
 use Rattle.mas_complex.specs.Meaning.{run}
 use Rattle.warm_start.proofs.Begun.{found_later, kept_later}
-use Rattle.first_script.specs.Nodes.{at_node}
-use Rattle.mas_run.specs.Decks.{sysa}
+use Rattle.first_script.specs.Played.{sysa}
+use Rattle.member_decks.specs.Spooling.{AreRoomy}
 use Rattle.member_node.specs.Calls.{console_now}
 use Rattle.mas_run.specs.Turns.{turns_of}
 use Rattle.mas_run.proofs.LockLemmas.{begins_open}
 use Rattle.mas_run.specs.Runs.{HasSteps}
-use Rattle.mas_run.proofs.NodeLemmas.{steps_for, many_at}
 use Rattle.mas_run.proofs.RunLemmas.{steps_since}
-use Rattle.mas_run.proofs.WarmLemmas.{texts_later, volumes_on, found_drawn, found_begun, not_source, not_text, play_not_text, play_not_source, play_begins, not_begun, why_not_lost, not_started, start_caused, starts_first, start_causes, held_until, no}
+use Rattle.mas_run.proofs.WarmLemmas.{texts_later, found_drawn, found_begun, not_source, not_text, play_not_text, play_not_source, play_begins, not_begun, why_not_lost, not_started, start_caused, starts_first, start_causes, held_until, no}
 use Rattle.mas_run.proofs.found.play_warm.Goals as goal
 
 pub returns-in-Err-clause-no_source : goal.returns-in-Err-clause-no_source
@@ -59,8 +57,8 @@ pub returns-in-Err-clause-loses : goal.returns-in-Err-clause-loses
 returns-in-Err-clause-loses g c none ne d = rw c.unbegun.ensures.plant
     (⊎_elim (λ e. absurd (ne (c.unbegun.ensures.status ∙ c.status_of_start.ensures ∙ rw e refl))) (λ other. (c.in-Err.ensures.looked other).1 d) (why_not_lost c.in-Err.field-0.why))
 
-pub returns-in-Err-clause-elsewhere : goal.returns-in-Err-clause-elsewhere
-returns-in-Err-clause-elsewhere g c told = rw c.unbegun.ensures.plant (c.in-Err.ensures.held told).held.volumes
+pub returns-in-Err-clause-volumes : goal.returns-in-Err-clause-volumes
+returns-in-Err-clause-volumes g c told none = rw c.unbegun.ensures.plant (c.in-Err.ensures.held told).held.volumes
 
 pub returns-in-Err-clause-goes : goal.returns-in-Err-clause-goes
 returns-in-Err-clause-goes g c = rw c.unbegun.ensures.plant c.in-Err.ensures.goes
@@ -73,14 +71,17 @@ play_reset-requires-clause-lock g c =
     let some : 1 ≤ min x.base.config.members members_most = omega (arith, ap (λ (k : Config). k.members) s.tells_base.config, s.usable.0.fit.shape.config.members.0) in
     rw (c.running_of.ensures.complex, f.book, f.unreserved) (begins_open (min x.base.config.members members_most) x.base.config.hold x.base.config.dormancy sysa (omega arith) some)
 
-pub play_reset-requires-clause-few : goal.play_reset-requires-clause-few
-play_reset-requires-clause-few g c = rw (c.as_slice.ensures, c.moved-asked.ensures, many_at c.in-Ok.found.tables.config.node c.args.asked) c.requires.few
+pub play_reset-requires-clause-config : goal.play_reset-requires-clause-config
+play_reset-requires-clause-config g c =
+    let s = c.in-Ok.ensures.started in
+    rw c.running_of.ensures.complex (subst IsConfig (sym s.tells_base.config) s.usable.0.fit.shape.config)
 
-pub play_reset-requires-clause-may : goal.play_reset-requires-clause-may
-play_reset-requires-clause-may g c =
-    let named : IsName default_config.node = (codes "HERE", refl, refl) in
-    let u = c.in-Ok.ensures.started.usable in
-    rw (c.as_slice.ensures, c.moved-asked.ensures, c.running_of.ensures.tables) (steps_for default_config.node c.in-Ok.found.tables.config c.args.asked named u.0.fit.shape.config.node c.requires.fits)
+pub play_reset-requires-clause-roomy : goal.play_reset-requires-clause-roomy
+play_reset-requires-clause-roomy g c told =
+    let P = g.P.Plant in
+    let x = c.in-Ok.found.complex in
+    let s = c.in-Ok.ensures.started in
+    rw c.running_of.ensures.complex (subst (AreRoomy (P.view x.plant)) (sym s.tells_base.config) s.roomy)
 
 pub play_reset-requires-clause-between : goal.play_reset-requires-clause-between
 play_reset-requires-clause-between g c =
@@ -151,14 +152,6 @@ returns-clause-goes g c =
     let x = c.in-Ok.found.complex in
     goes_on (P.view c.args.plant) (P.view x.plant) (P.view c.play_reset.result.plant) c.in-Ok.ensures.started.starts.goes (rw c.running_of.ensures.complex at c.play_reset.ensures.goes)
 
-pub returns-clause-elsewhere : goal.returns-clause-elsewhere
-returns-clause-elsewhere g c told =
-    let P = g.P.Plant in
-    let x = c.in-Ok.found.complex in
-    let s = c.in-Ok.ensures.started in
-    let r = c.running_of.ensures in
-    volumes_on (P.view c.args.plant) (P.view x.plant) (P.view c.play_reset.result.plant) s.starts.goes.later (rw r.complex at c.play_reset.ensures.goes) (s.held told).volumes (rw r.complex at (c.play_reset.ensures.elsewhere told))
-
 pub returns-clause-begun : goal.returns-clause-begun
 returns-clause-begun g c =
     let s = c.in-Ok.ensures.started in
@@ -195,6 +188,12 @@ returns-clause-loses g c none =
     let base : Tell c.in-Ok.found.tables c.play_reset.result.base = subst (Tell c.in-Ok.found.tables) (sym (c.play_reset.ensures.base ∙ ap (λ x. x.base) c.running_of.ensures.complex)) s.tells_base in
     absurd (no c.play_reset.result.base (found_begun c.in-Ok.found.pages c.in-Ok.found.tables c.play_reset.result.base s.usable base) none)
 
+pub returns-clause-volumes : goal.returns-clause-volumes
+returns-clause-volumes g c told none =
+    let s = c.in-Ok.ensures.started in
+    let base : Tell c.in-Ok.found.tables c.play_reset.result.base = subst (Tell c.in-Ok.found.tables) (sym (c.play_reset.ensures.base ∙ ap (λ x. x.base) c.running_of.ensures.complex)) s.tells_base in
+    absurd (no c.play_reset.result.base (found_begun c.in-Ok.found.pages c.in-Ok.found.tables c.play_reset.result.base s.usable base) none)
+
 pub returns-clause-room : goal.returns-clause-room
 returns-clause-room g c begun =
     let P = g.P.Plant in
@@ -221,12 +220,10 @@ returns-clause-run g c begun =
     let base0 : z.base ≡ x.base = d.base ∙ ap (λ y. y.base) r.complex in
     let base : Tell w.tables z.base = subst (Tell w.tables) (sym base0) s.tells_base in
     let since : z.since ≡ v1.now = d.since ∙ ap (λ y. y.since) r.complex ∙ f.since in
-    let asked = at_node z.base.config.node c.args.asked in
-    let same : c.as_slice.result.now ≡ asked = c.as_slice.ensures ∙ c.moved-asked.ensures ∙ ap (λ (k : Config). at_node k.node c.args.asked) (sym base.config) in
+    let script = c.args.script.now in
     let quiet : P.tells → console_now v1 ≡ console_now v0 = λ t. (s.held t).console v1.now s.starts.goes.later (omega arith) in
     let book : x.book ≡ book_of z.base.config = f.book ∙ ap (λ (q : Queue). book_of q.config) (sym base0) in
-    let turns = turns_of z.base.config asked in
-    let steps : HasSteps false P.tells turns z.status z.base z.journal z.since v1.loses v1 v2 = rw (r.complex, same, book) at d.steps in
+    let played : (lost : List (Option ℕ)) × HasSteps false P.tells (turns_of z.base.config lost script.steps) z.status z.base z.journal z.since v1.loses v1 v2 = rw (r.complex, c.as_slice.ensures, book) at d.steps in
     record {
       first = v1.loses;
       before = starts_first x.pair.first.alive x.pair.second.alive v0 v1 s.starts;
@@ -245,5 +242,6 @@ returns-clause-run g c begun =
       fresh = λ t. rw (base0, since) (∥∥₁_map (f.fresh t) (λ k. rw f.since at (k v2 goes)));
       quiet = λ t. ap (λ (n : ℕ). (v2.world n).console) since ∙ ap (λ (u : World). u.console) (goes.past v1.now (omega arith)) ∙ quiet t;
       held = λ t. rw since (held_until v0 v1 v2 (bytes_of w.pages) goes (s.held t));
-      steps = steps_since v0 v1 v2 s.starts.goes false P.tells turns z.status z.base z.journal z.since v1.loses quiet steps;
+      lost = played.0;
+      steps = steps_since v0 v1 v2 s.starts.goes goes false P.tells (turns_of z.base.config played.0 script.steps) z.status z.base z.journal z.since v1.loses quiet (λ t. (s.held t).volumes) played.1;
     }

@@ -1,4 +1,4 @@
-use Rattle.std.proofs.Common.{List, subst, sym}
+use Rattle.std.proofs.Common.{List, subst, sym, arith}
 use Rattle.mas_types.specs.declared.journals.Batch.{Batch}
 use Rattle.mas_types.specs.declared.queues.Queue.{Queue}
 use Rattle.ckpt_copy.specs.Areas.{reads}
@@ -10,6 +10,9 @@ use Rattle.mas_run.specs.Turns.{turns_from}
 use Rattle.mas_run.proofs.RunLemmas.{play_of_steps, caused_by_steps}
 use Rattle.mas_run.proofs.play.play_asked.Goals as goal
 
+pub play_steps-answer-requires-clause-rooms : goal.play_steps-answer-requires-clause-rooms
+play_steps-answer-requires-clause-rooms g c copy = (omega arith, omega arith)
+
 pub returns-clause-play : goal.returns-clause-play
 returns-clause-play g c =
     let P = g.P.Plant in
@@ -20,12 +23,12 @@ returns-clause-play g c =
     let e = c.ended.ensures in
     let d = c.play_steps-answer.ensures in
     let J = c.ended.result.journal in
-    let asked = turns_from x.book c.args.asked.now in
+    let from : Queue = run x.base (kept_all x.journal.batches) in
     let head : P.tells → ∥ Headline reads x.base x.since J w ∥₁ = λ t. rw (e.base, e.since, e.plant, d.base, d.since) at (e.headline t) in
-    let has : HasPlay P.tells (run x.base (kept_all x.journal.batches)) asked x.journal.batches J.batches x.pair.first.alive y.pair.first.alive x.pair.second.alive y.pair.second.alive v w c.play_steps-answer.result =
-    subst (λ (bs : List Batch). HasPlay P.tells (run x.base (kept_all x.journal.batches)) asked x.journal.batches bs x.pair.first.alive y.pair.first.alive x.pair.second.alive y.pair.second.alive v w c.play_steps-answer.result) (sym e.journal) d.played in
+    let has : HasPlay P.tells from x.base.config x.book c.args.asked.now x.journal.batches J.batches x.pair.first.alive y.pair.first.alive x.pair.second.alive y.pair.second.alive v w c.play_steps-answer.result =
+    subst (λ (bs : List Batch). HasPlay P.tells from x.base.config x.book c.args.asked.now x.journal.batches bs x.pair.first.alive y.pair.first.alive x.pair.second.alive y.pair.second.alive v w c.play_steps-answer.result) (sym e.journal) d.played in
     rw (e.status, c.status_of.ensures, e.base, e.since, e.plant, d.base, d.since)
-    (play_of_steps P.tells asked x.base x.journal.batches J x.since v w x.pair.first.alive y.pair.first.alive x.pair.second.alive y.pair.second.alive head c.requires.there1 c.requires.there2 c.play_steps-answer.result has)
+    (play_of_steps P.tells x.book c.args.asked.now x.base x.journal.batches J x.since v w x.pair.first.alive y.pair.first.alive x.pair.second.alive y.pair.second.alive head c.requires.there1 c.requires.there2 c.play_steps-answer.result has)
 
 pub returns-clause-cause : goal.returns-clause-cause
 returns-clause-cause g c =
@@ -37,10 +40,8 @@ returns-clause-cause g c =
     let e = c.ended.ensures in
     let d = c.play_steps-answer.ensures.played in
     let from : Queue = run x.base (kept_all x.journal.batches) in
-    rw (e.status, c.status_of.ensures, e.plant) (caused_by_steps P.tells (turns_from x.book c.args.asked.now) from c.ended.result.journal v w x.pair.first.alive y.pair.first.alive x.pair.second.alive y.pair.second.alive d.rest c.play_steps-answer.result d.played y.first_lost y.second_lost)
-
-pub returns-clause-elsewhere : goal.returns-clause-elsewhere
-returns-clause-elsewhere g c told = rw c.ended.ensures.plant (c.play_steps-answer.ensures.played.played.elsewhere told)
+    rw (e.status, c.status_of.ensures, e.plant) (caused_by_steps P.tells (turns_from x.base.config x.book d.lost c.args.asked.now) from x.base.config.groups d.rest v w x.pair.first.alive y.pair.first.alive x.pair.second.alive y.pair.second.alive
+    c.play_steps-answer.result d.played y.first_lost y.second_lost)
 
 pub returns-clause-goes : goal.returns-clause-goes
 returns-clause-goes g c = rw c.ended.ensures.plant c.play_steps-answer.ensures.played.played.course.goes

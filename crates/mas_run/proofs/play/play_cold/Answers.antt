@@ -1,4 +1,4 @@
-use Rattle.std.proofs.Common.{◌≡◌, ◌∙◌, ℕ, true, false, List, [], length, sym, ap, subst, arith}
+use Rattle.std.proofs.Common.{◌≡◌, ◌∙◌, ℕ, min, true, false, List, Option, Err, length, sym, ap, subst, arith}
 use Rattle.std.proofs.Math.Logic.{∥∥₁_map}
 use Rattle.mas_types.specs.declared.ids.Dev.TheVariants.{Ckpt1, Ckpt2}
 use Rattle.mas_types.specs.declared.queues.Queue.{Queue}
@@ -16,18 +16,23 @@ use Rattle.mas_complex.specs.Journals.{kept_all}
 use Rattle.mas_complex.specs.Locking.{book_of}
 use Rattle.mas_complex.specs.Meaning.{StandFor, run}
 use Rattle.member_node.specs.Calls.{IsOnlyOn, console_now}
-use Rattle.mas_types.specs.Starts.{default_config}
 use Rattle.table_queues.specs.Telling.{Tell}
 use Rattle.mas_complex.specs.Texts.{lost_now, spools_at}
-use Rattle.member_node.proofs.CourseLemmas.{only_on}
 use Rattle.member_node.proofs.DrawnLemmas.{drawn_stand, drawn_level}
 use Rattle.member_steps.specs.Steps.{AreAllKept}
 use Rattle.mas_run.specs.Runs.{IsPlay}
 use Rattle.mas_run.specs.Statuses.{IsCausedFrom}
-use Rattle.mas_run.specs.Decks.{sysa}
+use Rattle.first_script.specs.Played.{sysa}
 use Rattle.mas_run.specs.Turns.{turns_from, turns_of}
 use Rattle.mas_run.proofs.LockLemmas.{begins_open}
-use Rattle.mas_run.proofs.RunLemmas.{cold_steps, steps_since, none_kept, caused_since, formed_copy, all_may, empty_texts, fit_empty, groups_empty, sound_empty, told_empty}
+use Rattle.mas_types.specs.Limits.{members_most}
+use Rattle.mas_run.proofs.RunLemmas.{begun_empty, caused_unformed, cold_steps, steps_since, none_kept, caused_since, formed_copy, empty_texts, fit_empty, sound_empty, told_empty}
+use Rattle.mas_run.proofs.ScriptLemmas.{roomy_later}
+use Rattle.mas_run.proofs.VolumeLemmas.{kept_on}
+use Rattle.mas_run.proofs.WarmLemmas.{no, play_begins, play_not_text}
+use Rattle.std.proofs.lemmas.List.Elements.{All-weaker}
+use Rattle.ckpt_pages.specs.Shape.{IsRoute}
+use Rattle.script_laws.specs.Limits.{IsRoute as IsScriptRoute}
 use Rattle.mas_run.proofs.play.play_cold.Goals as goal
 
 pub make-complex-requires-clause-begins : goal.make-complex-requires-clause-begins
@@ -36,18 +41,31 @@ make-complex-requires-clause-begins g c told =
     let k = c.in-Ok.checkpoint in
     let n = c.form.new.self in
     let f = c.in-Ok-form.ensures in
-    let told_base : Tell k.tables c.in-Ok.base = told_empty k.tables c.in-Ok.base c.in-Ok.ensures.tables c.in-Ok.ensures.base (c.law_of_told_queues.ensures.empty default_config []) in
+    let config = c.args.script.now.config in
+    let routes = c.args.script.now.routes in
+    let told_base : Tell k.tables c.in-Ok.base = told_empty config routes k.tables c.in-Ok.ensures.tables c.in-Ok.base c.in-Ok.ensures.base (c.law_of_told_queues.ensures.empty config routes) in
     let stand : StandFor c.in-Ok.base (bytes_of k.pages) = drawn_stand k.tables k.level k.levels k.pages c.in-Ok.base c.in-Ok.ensures.drawn told_base in
     let first = formed_copy c.in-Ok.base v.now (λ pages disk. Rests n.first.copy.pages n.first.copy.second n.first.copy.stale pages disk) (λ was next disk. Holds n.first.copy.pages n.first.copy.second n.first.copy.stale was next disk) n.first.alive (disk_now v Ckpt1) (bytes_of k.pages)
     (λ is. rw c.as_slice.ensures at (f.formed1 told is)) (λ not lt. f.gone1 told c.new-pair.ensures.alive.0 not lt) in
     let second = formed_copy c.in-Ok.base v.now (λ pages disk. Rests n.second.copy.pages n.second.copy.second n.second.copy.stale pages disk) (λ was next disk. Holds n.second.copy.pages n.second.copy.second n.second.copy.stale was next disk) n.second.alive (disk_now v Ckpt2) (bytes_of k.pages)
     (λ is. rw c.as_slice.ensures at (f.formed2 told is)) (λ not lt. f.gone2 told c.new-pair.ensures.alive.1 not lt) in
-    ∣ record { pages = bytes_of k.pages; stands = record { at_level = drawn_level k.tables k.level k.levels k.pages c.in-Ok.ensures.drawn; queue = stand }; texts = empty_texts (lost_now v) (spools_at v v.now) c.in-Ok.base c.in-Ok.ensures.base; first_at = first; second_at = second } ∣₁
+    ∣ record { pages = bytes_of k.pages; stands = record { at_level = drawn_level k.tables k.level k.levels k.pages c.in-Ok.ensures.drawn; queue = stand }; texts = empty_texts c.args.script.now.config c.args.script.now.routes (lost_now v) (spools_at v v.now) c.in-Ok.base c.in-Ok.ensures.base; first_at = first; second_at = second } ∣₁
 
 pub play_asked-requires-clause-lock : goal.play_asked-requires-clause-lock
 play_asked-requires-clause-lock g c =
     let m = c.make-complex.ensures in
-    rw (m.book, m.reserved, c.in-Ok.ensures.base) (begins_open 2 64 0 sysa (omega arith) (omega arith))
+    let config = c.args.script.now.config in
+    let some = c.requires.fits.config.members.0 in
+    rw (m.book, m.reserved, c.in-Ok.ensures.base) (begins_open (min config.members members_most) config.hold config.dormancy sysa (omega arith) (omega (arith, some)))
+
+pub play_asked-requires-clause-config : goal.play_asked-requires-clause-config
+play_asked-requires-clause-config g c = rw (c.make-complex.ensures.base, c.in-Ok.ensures.base) c.requires.fits.config
+
+pub play_asked-requires-clause-roomy : goal.play_asked-requires-clause-roomy
+play_asked-requires-clause-roomy g c told =
+    let P = g.P.Plant in
+    let m = c.make-complex.ensures in
+    rw (m.plant, m.base, c.in-Ok.ensures.base) (roomy_later (P.view c.args.plant) (P.view c.form.new.plant) c.args.script.now.config c.in-Ok-form.ensures.acted.goes c.in_default.ensures.roomy)
 
 pub play_asked-requires-clause-kept : goal.play_asked-requires-clause-kept
 play_asked-requires-clause-kept g c =
@@ -92,17 +110,13 @@ play_asked-requires-clause-rests2 g c =
           ∙ area_rests_now n.copy.pages n.copy.second n.copy.stale (bytes_of c.in-Ok.checkpoint.pages) (disk_now v Ckpt2) (rw c.as_slice.ensures at (c.in-Ok-form.ensures.formed2 told alive));
     })
 
-pub play_asked-requires-clause-may : goal.play_asked-requires-clause-may
-play_asked-requires-clause-may g c = rw c.new-member.ensures.checkpoint (all_may c.in-Ok.checkpoint.tables c.args.asked.now c.in-Ok.ensures.tables c.requires.fits)
-
-pub play_asked-requires-clause-groups : goal.play_asked-requires-clause-groups
-play_asked-requires-clause-groups g c = rw c.new-member.ensures.checkpoint (groups_empty c.in-Ok.checkpoint.tables c.in-Ok.ensures.tables)
-
 pub play_asked-requires-clause-between : goal.play_asked-requires-clause-between
 play_asked-requires-clause-between g c =
     let k = c.in-Ok.checkpoint in
     let m = c.make-complex.ensures in
-    let told_base : Tell k.tables c.in-Ok.base = told_empty k.tables c.in-Ok.base c.in-Ok.ensures.tables c.in-Ok.ensures.base (c.law_of_told_queues.ensures.empty default_config []) in
+    let config = c.args.script.now.config in
+    let routes = c.args.script.now.routes in
+    let told_base : Tell k.tables c.in-Ok.base = told_empty config routes k.tables c.in-Ok.ensures.tables c.in-Ok.base c.in-Ok.ensures.base (c.law_of_told_queues.ensures.empty config routes) in
     record {
       none = m.current;
       unplaced = m.placed;
@@ -110,14 +124,14 @@ play_asked-requires-clause-between g c =
       drawn = rw c.new-member.ensures.checkpoint c.in-Ok.ensures.drawn;
       queue = rw c.new-member.ensures.checkpoint (subst (λ (bs : List Batch). Tell k.tables (run c.make-complex.result.base (kept_all bs))) (sym m.journal) (subst (Tell k.tables) (sym m.base) told_base));
       nothing = c.new-member.ensures.batch;
-      sound = rw c.new-member.ensures.checkpoint (sound_empty k.tables c.in-Ok.ensures.tables c.in-Ok.ensures.drawn.spelling.shape.config (c.law_of_told_queues.ensures.empty default_config []));
-      fit = rw c.new-member.ensures.checkpoint (fit_empty k.tables c.in-Ok.ensures.tables c.in-Ok.ensures.drawn.spelling.shape);
+      sound = rw c.new-member.ensures.checkpoint (sound_empty config routes k.tables c.in-Ok.ensures.tables c.requires.fits.config c.requires.fits.few (c.law_of_told_queues.ensures.empty config routes));
+      fit = rw c.new-member.ensures.checkpoint (fit_empty config routes k.tables c.in-Ok.ensures.tables c.in-Ok.ensures.drawn.spelling.shape);
     }
 
-pub returns-in_default-form-clause-elsewhere : goal.returns-in_default-form-clause-elsewhere
-returns-in_default-form-clause-elsewhere g c t =
+pub returns-in_default-form-clause-volumes : goal.returns-in_default-form-clause-volumes
+returns-in_default-form-clause-volumes g c t none =
     let formed : IsOnlyOn (g.P.Plant.view c.args.plant) (g.P.Plant.view c.form.new.plant) = (c.in_default-form.ensures.during t).others in
-    rw c.unbegun-in_default-form.ensures.plant formed
+    rw c.unbegun-in_default-form.ensures.plant (kept_on (g.P.Plant.view c.args.plant) (g.P.Plant.view c.form.new.plant) formed)
 
 pub returns-clause-cause : goal.returns-clause-cause
 returns-clause-cause g c =
@@ -136,15 +150,6 @@ returns-clause-goes g c =
     let P = g.P.Plant in
     goes_on (P.view c.args.plant) (P.view c.form.new.plant) (P.view c.play_asked.result.plant) c.in-Ok-form.ensures.acted.goes (rw c.make-complex.ensures.plant at c.play_asked.ensures.goes)
 
-pub returns-clause-elsewhere : goal.returns-clause-elsewhere
-returns-clause-elsewhere g c t =
-    let P = g.P.Plant in
-    let f = c.in-Ok-form.ensures in
-    let m = c.make-complex.ensures in
-    let formed : IsOnlyOn (P.view c.args.plant) (P.view c.form.new.plant) = (f.during t).others in
-    only_on (P.view c.args.plant) (P.view c.form.new.plant) (P.view c.play_asked.result.plant) f.acted.goes.later (rw m.plant at c.play_asked.ensures.goes) formed
-    (subst (λ (v : View). IsOnlyOn v (P.view c.play_asked.result.plant)) (ap P.view m.plant) (c.play_asked.ensures.elsewhere t))
-
 pub returns-clause-run : goal.returns-clause-run
 returns-clause-run g c begun =
     let P = g.P.Plant in
@@ -161,10 +166,13 @@ returns-clause-run g c begun =
     let quiet : P.tells → console_now v1 ≡ console_now v0 = λ t. (f.during t).console v1.now f.acted.goes.later (omega arith) in
     let base : r.base ≡ c.in-Ok.base = e.base ∙ m.base in
     let book : x.book ≡ book_of r.base.config = m.book ∙ ap (λ (q : Queue). book_of q.config) (sym base) in
-    let turns = turns_of r.base.config c.args.asked.now in
+    let steps = c.args.script.now.steps in
+    let played : (lost : List (Option ℕ)) × IsPlay P.tells (turns_from r.base.config x.book lost steps) r.status r.base x.journal.batches r.journal r.since (P.view x.plant) w = rw c.as_slice-2.ensures at e.play in
+    let lost = played.0 in
+    let turns = turns_of r.base.config lost steps in
     let play : IsPlay P.tells turns r.status r.base x.journal.batches r.journal r.since v1 w =
-    subst (λ (b : Book). IsPlay P.tells (turns_from b c.args.asked.now) r.status r.base x.journal.batches r.journal r.since v1 w) book
-    (subst (λ (v : View). IsPlay P.tells (turns_from x.book c.args.asked.now) r.status r.base x.journal.batches r.journal r.since v w) (ap P.view m.plant) e.play) in
+    subst (λ (b : Book). IsPlay P.tells (turns_from r.base.config b lost steps) r.status r.base x.journal.batches r.journal r.since v1 w) book
+    (subst (λ (v : View). IsPlay P.tells (turns_from r.base.config x.book lost steps) r.status r.base x.journal.batches r.journal r.since v w) (ap P.view m.plant) played.1) in
     record {
       first = v1.loses;
       before = f.acted.loses;
@@ -173,9 +181,54 @@ returns-clause-run g c begun =
       fresh = λ t. rw (base, since) (∥∥₁_map (m.fresh t) (λ k. k w goes));
       quiet = λ t. ap (λ (n : ℕ). (w.world n).console) since ∙ ap (λ (u : World). u.console) (goes.past v1.now (omega arith)) ∙ quiet t;
       held = λ t. tt;
-      steps = steps_since v0 v1 w f.acted.goes true P.tells turns r.status r.base r.journal r.since v1.loses quiet
+      lost = lost;
+      steps = steps_since v0 v1 w f.acted.goes goes true P.tells turns r.status r.base r.journal r.since v1.loses quiet (λ t. kept_on v0 v1 (f.during t).others)
           (cold_steps P.tells turns r.status r.base x.journal.batches r.journal r.since v1 w m.journal since goes play);
     }
 
 pub returns-clause-config : goal.returns-clause-config
 returns-clause-config g c begun = ap (λ (q : Queue). q.config) (c.play_asked.ensures.base ∙ c.make-complex.ensures.base ∙ c.in-Ok.ensures.base)
+
+pub returns-clause-begun : goal.returns-clause-begun
+returns-clause-begun g c =
+    let base = c.play_asked.ensures.base ∙ c.make-complex.ensures.base ∙ c.in-Ok.ensures.base in
+    play_begins c.play_asked.result.status c.play_asked.result.base c.play_asked.ensures.kind (begun_empty c.args.script.now.config c.args.script.now.routes c.play_asked.result.base base c.requires.fits.config)
+
+pub returns-clause-unbegun : goal.returns-clause-unbegun
+returns-clause-unbegun g c none =
+    let base = c.play_asked.ensures.base ∙ c.make-complex.ensures.base ∙ c.in-Ok.ensures.base in
+    absurd (no c.play_asked.result.base (begun_empty c.args.script.now.config c.args.script.now.routes c.play_asked.result.base base c.requires.fits.config) none)
+
+pub returns-clause-untouched : goal.returns-clause-untouched
+returns-clause-untouched g c none =
+    let base = c.play_asked.ensures.base ∙ c.make-complex.ensures.base ∙ c.in-Ok.ensures.base in
+    absurd (no c.play_asked.result.base (begun_empty c.args.script.now.config c.args.script.now.routes c.play_asked.result.base base c.requires.fits.config) none)
+
+pub returns-clause-unsaid : goal.returns-clause-unsaid
+returns-clause-unsaid g c told none =
+    let base = c.play_asked.ensures.base ∙ c.make-complex.ensures.base ∙ c.in-Ok.ensures.base in
+    absurd (no c.play_asked.result.base (begun_empty c.args.script.now.config c.args.script.now.routes c.play_asked.result.base base c.requires.fits.config) none)
+
+pub returns-clause-loses : goal.returns-clause-loses
+returns-clause-loses g c none =
+    let base = c.play_asked.ensures.base ∙ c.make-complex.ensures.base ∙ c.in-Ok.ensures.base in
+    absurd (no c.play_asked.result.base (begun_empty c.args.script.now.config c.args.script.now.routes c.play_asked.result.base base c.requires.fits.config) none)
+
+pub returns-clause-volumes : goal.returns-clause-volumes
+returns-clause-volumes g c told none =
+    let base = c.play_asked.ensures.base ∙ c.make-complex.ensures.base ∙ c.in-Ok.ensures.base in
+    absurd (no c.play_asked.result.base (begun_empty c.args.script.now.config c.args.script.now.routes c.play_asked.result.base base c.requires.fits.config) none)
+
+pub start-requires-clause-routes : goal.start-requires-clause-routes
+start-requires-clause-routes g c = All-weaker IsScriptRoute IsRoute (λ r is. record { name = is.name; line = is.line }) c.args.script.now.routes c.requires.fits.routes
+
+pub returns-clause-no_text : goal.returns-clause-no_text
+returns-clause-no_text g c = play_not_text c.play_asked.result.status c.play_asked.ensures.kind
+
+pub returns-in_default-form-clause-cause : goal.returns-in_default-form-clause-cause
+returns-in_default-form-clause-cause g c =
+    let P = g.P.Plant in
+    let n = c.form.new.self in
+    let e = c.in_default-form.ensures in
+    rw (c.unbegun-in_default-form.ensures.status, c.unbegun-in_default-form.ensures.plant)
+    (caused_unformed (Unit {0}) n.first.alive n.second.alive c.in_default-form.field-0 (P.view c.args.plant) (P.view c.form.new.plant) (rw (c.new-pair.ensures.alive.0, c.new-pair.ensures.alive.1) at e.acted) (λ is. e.both (ap Err is)))

@@ -1,7 +1,6 @@
 use Rattle.std.proofs.Common.{ap, refl}
 use Rattle.mas_types.specs.declared.ids.MemberId.{MemberId}
-use Rattle.mas_run.proofs.DeckLemmas.{ok_then}
-use Rattle.mas_run.proofs.ResetLemmas.{restart_entry, restarted}
+use Rattle.mas_run.proofs.ResetLemmas.{ok_then, restart_entry}
 use Rattle.mas_run.proofs.reset.give_restart.Goals as goal
 
 pub do_command-requires-clause-giver : goal.do_command-requires-clause-giver
@@ -17,10 +16,3 @@ pub returns-clause-sound : goal.returns-clause-sound
 returns-clause-sound c =
     let s = c.requires.sound in
     ok_then c.do_command.result (λ sound. sound s (rw c.requires.id refl)) c.do_command.ensures.sound
-
-pub returns-clause-groups : goal.returns-clause-groups
-returns-clause-groups c =
-    let m = c.args.member.now in
-    let e = c.do_command.ensures in
-    let s = c.requires.sound in
-    ok_then c.do_command.result (λ effect. restarted m.checkpoint.tables c.do_command.new.self.checkpoint.tables m.id e.config s.queue s.told (effect s.queue s.told)) e.effect

@@ -1,15 +1,13 @@
-use Rattle.std.proofs.Common.{◌≡◌, ◌∙◌, Bool, true, false, [], Ok, Some, map, inr, refl, sym, ap, subst}
+use Rattle.std.proofs.Common.{◌≡◌, ◌∙◌, Bool, true, false, Some, map, inr, refl, sym, ap, subst}
 use Rattle.std.specs.Prelude.{string_bytes}
-use Rattle.mas_types.specs.declared.ids.Dev.TheVariants.{Ckpt1, Ckpt2}
-use Rattle.first_script.specs.Script.{read_as}
 use Rattle.mas_run.specs.Refusals.{is_of_script, refusal_before_play}
 use Rattle.mas_run.specs.Runs.{has_begun}
 use Rattle.mas_top.specs.declared.tasks.Task.TheVariants as task
-use Rattle.mas_top.specs.Formats.{refusal_of_format}
 use Rattle.mas_top.specs.Plays.{IsPlayed, source_of}
 use Rattle.mas_top.specs.Tasks.{task_asked}
-use Rattle.mas_top.proofs.PlayLemmas.{free_answer, not_played}
-use Rattle.mas_run.proofs.WarmLemmas.{none_elsewhere, volumes_of}
+use Rattle.mas_run.proofs.RefusalLemmas.{free_answer}
+use Rattle.mas_run.proofs.VolumeLemmas.{kept_none, kept_on}
+use Rattle.mas_top.proofs.PlayLemmas.{not_played}
 use Rattle.mas_top.proofs.ReportLemmas.{not_reported}
 use Rattle.mas_top.proofs.TaskLemmas.{none_some, play_same, play_not_report, play_not_format, report_not_format, none_words, words_or_memory, some_memory, memory_not_source, words_caused, words_begins}
 use Rattle.mas_top.proofs.top.calm_top.Goals as goal
@@ -34,9 +32,8 @@ returns-in-Play-clause-play g c cold is =
     let r = c.play_script.result in
     let e = c.play_script.ensures in
     let same : c.in-Play.cold ≡ cold = play_same (task_asked (map string_bytes c.args.words.now)) c.in-Play.cold cold (c.in-Ok.ensures ∙ ap Some c.in-Play.is) is in
-    subst (λ (x : Bool). IsPlayed x (source_of S.tells (S.faults c.args.script.now) (S.faults c.play_script.new.script) (S.left c.play_script.new.script)) (refusal_before_play x left (old.size Ckpt1) (old.size Ckpt2)) (λ base asked. read_as base.config.node left ≡ Ok asked)
-    P.tells (r.plant ≡ c.args.plant) r.status r.base r.journal r.since old (P.view r.plant)) same
-    (record { refused = e.refused; words = e.words; device = e.device; formatted = e.formatted; unstarted = e.unstarted; faulted = e.source; untouched = e.untouched; loses = e.loses; elsewhere = e.elsewhere; room = e.room; read = e.read; run = e.run; complete = e.complete })
+    subst (λ (x : Bool). IsPlayed x false (source_of S.tells (S.faults c.args.script.now) (S.faults c.play_script.new.script) left (S.left c.play_script.new.script)) P.tells (r.plant ≡ c.args.plant) r.status r.base r.journal r.since old (P.view r.plant)) same
+    (record { refused = e.refused; words = e.words; device = e.device; formatted = e.formatted; unstarted = e.unstarted; faulted = e.source; untouched = e.untouched; volumes = e.volumes; loses = e.loses; room = e.room; read = e.read; run = e.run; complete = e.complete })
 
 pub returns-in-Play-clause-report : goal.returns-in-Play-clause-report
 returns-in-Play-clause-report g c is = absurd (play_not_report (task_asked (map string_bytes c.args.words.now)) c.in-Play.cold (c.in-Ok.ensures ∙ ap Some c.in-Play.is) is)
@@ -67,7 +64,7 @@ returns-in-Report-clause-format g c is = absurd (report_not_format (task_asked (
 -- A FORMAT
 
 pub returns-in-Format-clause-words : goal.returns-in-Format-clause-words
-returns-in-Format-clause-words g c e = absurd (c.format_checkpoint.ensures.played.words e)
+returns-in-Format-clause-words g c e = absurd (c.play_script.ensures.words e)
 
 pub returns-in-Format-clause-refused : goal.returns-in-Format-clause-refused
 returns-in-Format-clause-refused g c none = absurd (none_some (task_asked (map string_bytes c.args.words.now)) task.Format none (c.in-Ok.ensures ∙ ap Some c.in-Format.is))
@@ -82,7 +79,9 @@ pub returns-in-Format-clause-report : goal.returns-in-Format-clause-report
 returns-in-Format-clause-report g c is = absurd (report_not_format (task_asked (map string_bytes c.args.words.now)) is (c.in-Ok.ensures ∙ ap Some c.in-Format.is))
 
 pub returns-in-Format-clause-format : goal.returns-in-Format-clause-format
-returns-in-Format-clause-format g c is = c.format_checkpoint.ensures.played
+returns-in-Format-clause-format g c is =
+    let e = c.play_script.ensures in
+    record { refused = e.refused; words = e.words; device = e.device; formatted = e.formatted; unstarted = e.unstarted; faulted = e.source; untouched = e.untouched; volumes = e.volumes; loses = e.loses; room = e.room; read = e.read; run = e.run; complete = e.complete }
 
 -- WORDS THAT AREN'T READ
 
@@ -104,9 +103,8 @@ returns-in-Err-clause-play g c cold is =
     let u = c.unbegun.result in
     let e = c.unbegun.ensures in
     let memory = e.status ∙ c.status_of_no.ensures ∙ some_memory (task_asked (map string_bytes c.args.words.now)) (task.Play cold) c.in-Err.why c.in-Err.ensures is in
-    not_played cold (source_of S.tells (S.faults c.args.script.now) (S.faults c.args.script.now) left) (refusal_before_play cold left (old.size Ckpt1) (old.size Ckpt2)) (λ base asked. read_as base.config.node left ≡ Ok asked)
-    P.tells (u.plant ≡ c.args.plant) u.status u.base u.journal u.since old (P.view u.plant) e.unbegun.queue e.plant (ap P.view e.plant)
-    (λ told. free_answer cold (refusal_before_play cold left (old.size Ckpt1) (old.size Ckpt2)) u.status (inr memory)) (ap is_of_script memory) (λ f. absurd (memory_not_source u.status memory f))
+    not_played cold false (source_of S.tells (S.faults c.args.script.now) (S.faults c.args.script.now) left left) P.tells (u.plant ≡ c.args.plant) u.status u.base u.journal u.since old (P.view u.plant) e.unbegun.queue e.plant (ap P.view e.plant)
+    (λ told. free_answer cold (refusal_before_play cold false left old) u.status (inr memory)) (ap is_of_script memory) (λ f. absurd (memory_not_source u.status memory f))
 
 pub returns-in-Err-clause-report : goal.returns-in-Err-clause-report
 returns-in-Err-clause-report g c is =
@@ -125,9 +123,8 @@ returns-in-Err-clause-format g c is =
     let u = c.unbegun.result in
     let e = c.unbegun.ensures in
     let memory = e.status ∙ c.status_of_no.ensures ∙ some_memory (task_asked (map string_bytes c.args.words.now)) task.Format c.in-Err.why c.in-Err.ensures is in
-    not_played true (source_of S.tells (S.faults c.args.script.now) (S.faults c.args.script.now) left) (refusal_of_format left (old.size Ckpt1) (old.size Ckpt2)) (λ base asked. asked ≡ [])
-    P.tells (u.plant ≡ c.args.plant) u.status u.base u.journal u.since old (P.view u.plant) e.unbegun.queue e.plant (ap P.view e.plant)
-    (λ told. free_answer true (refusal_of_format left (old.size Ckpt1) (old.size Ckpt2)) u.status (inr memory)) (ap is_of_script memory) (λ f. absurd (memory_not_source u.status memory f))
+    not_played true true (source_of S.tells (S.faults c.args.script.now) (S.faults c.args.script.now) left left) P.tells (u.plant ≡ c.args.plant) u.status u.base u.journal u.since old (P.view u.plant) e.unbegun.queue e.plant (ap P.view e.plant)
+    (λ told. free_answer true (refusal_before_play true true left old) u.status (inr memory)) (ap is_of_script memory) (λ f. absurd (memory_not_source u.status memory f))
 
 pub returns-in-Err-clause-cause : goal.returns-in-Err-clause-cause
 returns-in-Err-clause-cause g c = rw (c.unbegun.ensures.status, c.status_of_no.ensures) (words_caused c.in-Err.why (g.P.Plant.view c.args.plant) (g.P.Plant.view c.unbegun.result.plant))
@@ -137,14 +134,8 @@ returns-in-Err-clause-begun g c = rw (c.unbegun.ensures.status, c.status_of_no.e
 
 -- THE SPOOL VOLUMES
 
-pub returns-in-Play-clause-elsewhere : goal.returns-in-Play-clause-elsewhere
-returns-in-Play-clause-elsewhere g c told = volumes_of c.in-Play.cold (g.P.Plant.view c.args.plant) (g.P.Plant.view c.play_script.result.plant) (c.play_script.ensures.elsewhere told)
+pub returns-in-Report-clause-volumes : goal.returns-in-Report-clause-volumes
+returns-in-Report-clause-volumes g c told none = kept_on (g.P.Plant.view c.args.plant) (g.P.Plant.view c.report_queue.result.plant) (c.report_queue.ensures.elsewhere told)
 
-pub returns-in-Report-clause-elsewhere : goal.returns-in-Report-clause-elsewhere
-returns-in-Report-clause-elsewhere g c told = volumes_of true (g.P.Plant.view c.args.plant) (g.P.Plant.view c.report_queue.result.plant) (c.report_queue.ensures.elsewhere told)
-
-pub returns-in-Format-clause-elsewhere : goal.returns-in-Format-clause-elsewhere
-returns-in-Format-clause-elsewhere g c told = volumes_of true (g.P.Plant.view c.args.plant) (g.P.Plant.view c.format_checkpoint.result.plant) (c.format_checkpoint.ensures.elsewhere told)
-
-pub returns-in-Err-clause-elsewhere : goal.returns-in-Err-clause-elsewhere
-returns-in-Err-clause-elsewhere g c told = rw c.unbegun.ensures.plant (none_elsewhere false (g.P.Plant.view c.args.plant))
+pub returns-in-Err-clause-volumes : goal.returns-in-Err-clause-volumes
+returns-in-Err-clause-volumes g c told none = rw c.unbegun.ensures.plant (kept_none (g.P.Plant.view c.args.plant))

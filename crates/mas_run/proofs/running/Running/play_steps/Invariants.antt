@@ -1,5 +1,6 @@
-use Rattle.std.proofs.Common.{◌≡◌, ◌+◌, ◌*◌, ◌≤◌}
+use Rattle.std.proofs.Common.{◌≡◌, ◌+◌, ◌*◌, ◌≤◌, take}
 use Rattle.mas_types.specs.declared.ids.Dev.TheVariants.{Ckpt1, Ckpt2}
+use Rattle.first_script.specs.Played.{sysa}
 use Rattle.spool_disk.specs.View.{disk_now}
 use Rattle.member_node.specs.Copies.{RestsAt}
 use Rattle.member_steps.specs.Locked.{IsOpenTo}
@@ -7,9 +8,7 @@ use Rattle.member_steps.specs.Steps.{IsBetween}
 use Rattle.mas_complex.specs.Journals.{kept_all}
 use Rattle.mas_complex.specs.Meaning.{run}
 use Rattle.mas_run.specs.Plays.{HavePlay}
-use Rattle.mas_run.specs.Decks.{sysa}
-use Rattle.mas_run.specs.Turns.{turns_from}
-use Rattle.mas_run.proofs.TurnLemmas.{book_at}
+use Rattle.mas_run.proofs.TurnLemmas.{book_behind}
 use Rattle.mas_run.proofs.running.Running.play_steps.Given as goal
 
 abbrev pub invariant-loop-step : goal.invariant-loop-step
@@ -24,12 +23,12 @@ invariant-loop-step g l =
       base : y.base ≡ x.base;
       since : y.since ≡ x.since;
       lock : IsOpenTo y.book y.reserved sysa;
-      book : y.book ≡ book_at x.book l.asked l.step-index;
+      book : y.book ≡ book_behind x.base.config x.book (take l.step-index l.asked);
       between : IsBetween y.base y.journal.batches y.current y.placed y.level l.self.member.batch l.self.member.checkpoint;
       rests1 : RestsAt P.tells y.pair.first.alive y.first (C.count y.pair.first.copy) l.self.member.checkpoint.pages (C.reads (disk_now (P.view y.plant) Ckpt1).bytes);
       rests2 : RestsAt P.tells y.pair.second.alive y.second (C.count y.pair.second.copy) l.self.member.checkpoint.pages (C.reads (disk_now (P.view y.plant) Ckpt2).bytes);
-      config : l.self.member.checkpoint.tables.config ≡ l.fn.self.member.checkpoint.tables.config;
-      order : l.self.member.checkpoint.tables.order ≤ l.fn.self.member.checkpoint.tables.order + 32 * l.step-index;
-      level : l.self.member.checkpoint.level ≤ l.fn.self.member.checkpoint.level + l.step-index;
-      play : HavePlay P.tells (run x.base (kept_all x.journal.batches)) (turns_from x.book l.asked) l.step-index x.journal.batches y.journal.batches x.pair.first.alive y.pair.first.alive x.pair.second.alive y.pair.second.alive (P.view x.plant) (P.view y.plant);
+      order : l.self.member.checkpoint.tables.order ≤ l.fn.self.member.checkpoint.tables.order + 524288 * l.step-index;
+      level : l.self.member.checkpoint.level ≤ l.fn.self.member.checkpoint.level + 2 * l.step-index;
+      play : HavePlay P.tells (run x.base (kept_all x.journal.batches)) x.base.config x.book l.asked l.step-index x.journal.batches y.journal.batches
+          x.pair.first.alive y.pair.first.alive x.pair.second.alive y.pair.second.alive (P.view x.plant) (P.view y.plant);
     }

@@ -148,6 +148,3 @@ pub returns-clause-level : goal.returns-clause-level
 returns-clause-level g c =
     let old : ℕ = c.args.self.now.member.checkpoint.level in
     subst (λ (n : ℕ). n ≤ old + 1) (sym (c.in-Ok-ready.ensures.level ∙ ap (level_with c.in-Ok-ready.draft) c.give_restart.ensures.level)) (level_most c.in-Ok-ready.draft old)
-
-pub returns-clause-groups : goal.returns-clause-groups
-returns-clause-groups g c = rw c.ready.ensures.tables c.in-Ok.ensures.groups
