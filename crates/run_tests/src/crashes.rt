@@ -1,7 +1,8 @@
-// A crash at each moment of a run of three decks, and the warm start after it.
-use crate::pages::{PAGES, page};
+// A crash at each moment of a run of three decks, or of a long one, and the warm start after it.
+use crate::pages::{BLOCKS, page};
 use crate::playing::{
-    DECK, FORM, FORMED, KEPT, OPEN, PUT, failing, halting, plant, play, roomy, start, without,
+    BEGUN, DECK, FORM, FORMED, KEPT, OPEN, PUT, PUT_AGAIN, SPOOLED, failing, halting, plant, play,
+    play_long, start, without,
 };
 use crate::starts::found;
 use mas_run::Ended;
@@ -15,11 +16,28 @@ const CHOICES: [Choice; 3] = [Choice::Old, Choice::New, Choice::Ones];
 
 const COPIES: [Dev; 2] = [Dev::Ckpt1, Dev::Ckpt2];
 
+/// What is lost in a crash.
+const LOST: [Option<Dev>; 4] = [
+    None,
+    Some(Dev::Ckpt1),
+    Some(Dev::Ckpt2),
+    Some(Dev::Spool(1)),
+];
+
 const THREE: &[u8] =
     b"SYSA DECK\n//A JOB\n++END\nSYSA DECK\n//B JOB\n++END\nSYSA DECK\n//C JOB\n++END\n";
 
-/// Acts of the first deck: amid the pages that it puts on CKPT1 and on CKPT2, and the gates that it opens there.
-const FAILING: [u64; 4] = [FORMED + 20, FORMED + PUT + 20, KEPT - 2 * OPEN, KEPT - OPEN];
+/// Acts of the first deck, of both its batches: amid the pages that it puts on CKPT1 and on CKPT2, and the gates that it opens there.
+const FAILING: [u64; 8] = [
+    FORMED + 4,
+    FORMED + PUT + 4,
+    BEGUN - 2 * OPEN,
+    BEGUN - OPEN,
+    SPOOLED + 4,
+    SPOOLED + PUT_AGAIN + 4,
+    KEPT - 2 * OPEN,
+    KEPT - OPEN,
+];
 
 /// Scripts of three decks that lose a copy between or behind them.
 const LOSING: [&[u8]; 6] = [
@@ -46,12 +64,13 @@ fn kept_and_begun(batches: &[Batch], t: u64) -> (usize, usize) {
     (kept, begun)
 }
 
-// A warm start of what a crash at a moment leaves, of which a copy may then be lost. It finds the queue after the kept decks,
-// or with the one in flight, and each deck whose line stands.
+// A warm start of what a crash at a moment leaves, of which a device may then be lost. It finds the queue after the kept batches,
+// or with the one in flight, and each deck whose line stands; of each with its text, unless that is lost.
 fn starts_after(
     rt: &impl Abort,
     alloc: Global,
     run: &Ended<MemPlant>,
+    long: bool,
     t: u64,
     choice: Choice,
     lost: Option<Dev>,
@@ -62,10 +81,10 @@ fn starts_after(
         left.lose(dev);
     }
     let told = left.console_lines(alloc)?.len();
-    let (decks, _) = found(rt, alloc, left)?;
+    let (batches, _) = found(rt, alloc, left, long)?;
     let (kept, begun) = kept_and_begun(run.journal.batches.as_slice(), t);
     assert!(rt;
-        kept <= decks && decks <= begun && told <= decks,
+        kept <= batches && batches <= begun && told <= batches / 2,
         "moment {t}"
     );
     Ok(())
@@ -76,37 +95,36 @@ fn starts_after_each(
     rt: &impl Abort,
     alloc: Global,
     run: &Ended<MemPlant>,
+    long: bool,
     lost: Option<Dev>,
 ) -> Result<(), Fail> {
     assert!(rt; run.status == Status::Done);
     for t in run.since..=run.plant.now() {
         for choice in CHOICES {
-            starts_after(rt, alloc, run, t, choice, lost)?;
+            starts_after(rt, alloc, run, long, t, choice, lost)?;
         }
     }
     Ok(())
 }
 
-// Both copies are left, or one of them is lost in the crash.
+// Both copies are left, or one of them is lost in the crash, or the volume.
 #[test]
 fn on_both_copies(rt: HostRuntime) -> Result<(), Fail> {
     let alloc = rt.alloc();
     let run = play(alloc, THREE, plant(alloc)?)?;
-    for lost in [None, Some(Dev::Ckpt1), Some(Dev::Ckpt2)] {
-        starts_after_each(&rt, alloc, &run, lost)?;
+    for lost in LOST {
+        starts_after_each(&rt, alloc, &run, false, lost)?;
     }
     Ok(())
 }
 
-// A volume is there, which the warm start syncs: at the first moment, at the last act on a copy, and at the end.
+// The same of a deck whose text takes two groups.
 #[test]
-fn beside_a_volume(rt: HostRuntime) -> Result<(), Fail> {
+fn with_a_text_of_two_groups(rt: HostRuntime) -> Result<(), Fail> {
     let alloc = rt.alloc();
-    let run = play(alloc, DECK, roomy(alloc)?)?;
-    for t in [FORMED, KEPT - 1, KEPT + 1] {
-        for choice in CHOICES {
-            starts_after(&rt, alloc, &run, t, choice, None)?;
-        }
+    let run = play_long(alloc, plant(alloc)?)?;
+    for lost in LOST {
+        starts_after_each(&rt, alloc, &run, true, lost)?;
     }
     Ok(())
 }
@@ -117,7 +135,7 @@ fn with_one_copy_from_the_begin_on(rt: HostRuntime) -> Result<(), Fail> {
     for dev in COPIES {
         let plant = without(alloc, dev)?;
         let run = play(alloc, THREE, plant)?;
-        starts_after_each(&rt, alloc, &run, None)?;
+        starts_after_each(&rt, alloc, &run, false, None)?;
     }
     Ok(())
 }
@@ -127,7 +145,7 @@ fn around_an_act_that_fails(rt: HostRuntime) -> Result<(), Fail> {
     let alloc = rt.alloc();
     for act in FAILING {
         let run = play(alloc, THREE, failing(alloc, act, act)?)?;
-        starts_after_each(&rt, alloc, &run, None)?;
+        starts_after_each(&rt, alloc, &run, false, None)?;
     }
     Ok(())
 }
@@ -136,7 +154,13 @@ fn around_an_act_that_fails(rt: HostRuntime) -> Result<(), Fail> {
 fn around_a_line_that_loses_a_copy(rt: HostRuntime) -> Result<(), Fail> {
     let alloc = rt.alloc();
     for script in LOSING {
-        starts_after_each(&rt, alloc, &play(alloc, script, plant(alloc)?)?, None)?;
+        starts_after_each(
+            &rt,
+            alloc,
+            &play(alloc, script, plant(alloc)?)?,
+            false,
+            None,
+        )?;
     }
     Ok(())
 }
@@ -164,7 +188,7 @@ fn are_equal(rt: &impl Abort, plant: &mut MemPlant) {
     for dev in COPIES {
         assert!(rt; !plant.lost(Part::Disk(dev)));
     }
-    for number in 1..PAGES {
+    for number in 1..BLOCKS {
         let first = page(rt, plant, Dev::Ckpt1, number);
         let second = page(rt, plant, Dev::Ckpt2, number);
         assert!(rt; first == second, "page {number}");
@@ -173,13 +197,13 @@ fn are_equal(rt: &impl Abort, plant: &mut MemPlant) {
 
 // The next start finds the deck, and both copies get it.
 fn keeps_the_deck(rt: &impl Abort, alloc: Global, left: MemPlant) -> Result<(), Fail> {
-    let (decks, mut left) = found(rt, alloc, left)?;
-    assert!(rt; decks == 1);
+    let (batches, mut left) = found(rt, alloc, left, false)?;
+    assert!(rt; batches == 2);
     are_equal(rt, &mut left);
     Ok(())
 }
 
-// A member that is stopped as it writes the gate of CKPT2, of which so many bytes are left: both copies get its deck.
+// A member that is stopped as it writes the gate of CKPT2 for Enter, of which so many bytes are left: both copies get its deck.
 #[test]
 fn behind_the_gate_of_ckpt1(rt: HostRuntime) -> Result<(), Fail> {
     let alloc = rt.alloc();

@@ -1,7 +1,9 @@
 // An act that fails, two that do, and one that halts: each act of a run of one deck.
-use crate::playing::{DECK, FORM, FORMED, KEPT, OPEN, PUT, failing, halting, play};
+use crate::playing::{
+    BEGUN, DECK, FORM, FORMED, KEPT, OPEN, PUT, PUT_AGAIN, SPOOLED, failing, halting, play, start,
+};
 use crate::starts::found;
-use mas_types::{Dev, Fate, Status};
+use mas_types::{Batch, Dev, Fate, JobNo, Owner, Status};
 use spool_disk::{Choice, MemPlant, Part, Plant};
 use std::alloc::Global;
 use std::process::Abort;
@@ -10,39 +12,63 @@ use std::test::Fail;
 /// The acts after which one copy is formatted, where the other is lost by its first act.
 const ONE_FORMED: u64 = FORM + 1;
 
-/// And the batch is kept.
-const ONE_KEPT: u64 = ONE_FORMED + PUT + OPEN;
+/// And the deck's first batch is kept.
+const ONE_BEGUN: u64 = ONE_FORMED + PUT + OPEN;
 
-// How the run ends, the fate of its batch, the number of its lines, and which copies are lost.
-type Outcome = (Status, Option<Fate>, usize, [bool; 2]);
+/// And its text is in its group.
+const ONE_SPOOLED: u64 = ONE_BEGUN + 2;
+
+/// And its second batch is kept.
+const ONE_KEPT: u64 = ONE_SPOOLED + PUT_AGAIN + OPEN;
+
+/// The acts that are made on CKPT1: from each first one up to the one before the second.
+const ON_FIRST: [(u64, u64); 5] = [
+    (0, FORM),
+    (FORMED, FORMED + PUT),
+    (BEGUN - 2 * OPEN, BEGUN - OPEN),
+    (SPOOLED, SPOOLED + PUT_AGAIN),
+    (KEPT - 2 * OPEN, KEPT - OPEN),
+];
+
+// How the run ends, how many batches are kept and how many in flight, the number of its lines, and which copies are lost.
+type Outcome = (Status, usize, usize, usize, [bool; 2]);
+
+fn fated(batches: &[Batch], fate: Fate) -> usize {
+    batches.iter().filter(|batch| batch.fate == fate).count()
+}
 
 fn outcome(alloc: Global, plant: MemPlant) -> Result<(Outcome, MemPlant), Fail> {
     let ended = play(alloc, DECK, plant)?;
-    let fate = match ended.journal.batches.as_slice() {
-        [batch] => Some(batch.fate),
-        _ => None,
-    };
+    let kept = fated(ended.journal.batches.as_slice(), Fate::Kept);
+    let flying = fated(ended.journal.batches.as_slice(), Fate::Flying);
     let lines = ended.plant.console_lines(alloc)?.len();
     let first = ended.plant.lost(Part::Disk(Dev::Ckpt1));
     let second = ended.plant.lost(Part::Disk(Dev::Ckpt2));
-    Ok(((ended.status, fate, lines, [first, second]), ended.plant))
+    let outcome = (ended.status, kept, flying, lines, [first, second]);
+    Ok((outcome, ended.plant))
 }
 
-// What a start finds after a crash at the end.
-fn decks_left(
+// After how many batches of the deck the queue is that a start finds after a crash at the end.
+fn batches_left(
     rt: &impl Abort,
     alloc: Global,
     plant: &MemPlant,
     choice: Choice,
 ) -> Result<usize, Fail> {
     let now = plant.now();
-    let (decks, _) = found(rt, alloc, plant.crash_at(alloc, now, choice)?)?;
-    Ok(decks)
+    let (batches, _) = found(rt, alloc, plant.crash_at(alloc, now, choice)?, false)?;
+    Ok(batches)
 }
 
-// The act is made on CKPT1.
+// The act is made on the volume.
+fn is_on_volume(act: u64) -> bool {
+    BEGUN <= act && act < SPOOLED
+}
+
 fn is_on_first(act: u64) -> bool {
-    act < FORM || act >= FORMED && act < FORMED + PUT || act >= KEPT - 2 * OPEN && act < KEPT - OPEN
+    ON_FIRST
+        .iter()
+        .any(|(from, behind)| *from <= act && act < *behind)
 }
 
 // An act on a copy, and the run goes on with the other one, or the console's, which ends it.
@@ -50,36 +76,72 @@ fn is_on_first(act: u64) -> bool {
 fn one_act_fails(rt: HostRuntime) -> Result<(), Fail> {
     let alloc = rt.alloc();
     for act in 0..=KEPT {
+        if is_on_volume(act) {
+            continue;
+        }
         let (outcome, left) = outcome(alloc, failing(alloc, act, act)?)?;
         let first = is_on_first(act);
         let wanted = if act < KEPT {
-            (Status::Done, Some(Fate::Kept), 1, [first, !first])
+            (Status::Done, 2, 0, 1, [first, !first])
         } else {
-            (Status::ConsoleFault, Some(Fate::Kept), 0, [false, false])
+            (Status::ConsoleFault, 2, 0, 0, [false, false])
         };
         assert!(rt; outcome == wanted, "act {act}");
         assert!(rt;
-            decks_left(&rt, alloc, &left, Choice::Old)? == 1,
+            batches_left(&rt, alloc, &left, Choice::Old)? == 2,
             "act {act}"
         );
     }
     Ok(())
 }
 
-// The first act on CKPT1 fails, and then one on CKPT2, or on the console: the run ends.
+// The write of the text fails, or the sync behind it: the job is dropped, and a start finds none, and its number used.
+#[test]
+fn an_act_on_the_volume_fails(rt: HostRuntime) -> Result<(), Fail> {
+    let alloc = rt.alloc();
+    for act in BEGUN..SPOOLED {
+        let ended = play(alloc, DECK, failing(alloc, act, act)?)?;
+        assert!(rt; ended.status == Status::Done && ended.plant.lost(Part::Disk(Dev::Spool(1))));
+        let lines = ended.plant.console_lines(alloc)?;
+        assert!(rt; lines.len() == 1);
+        assert!(rt; lines.line(0) == b"SYSA 00001 NO SPOOL LOST 1".as_slice());
+        let now = ended.plant.now();
+        let found = start(alloc, b"", ended.plant.crash_at(alloc, now, Choice::Old)?)?;
+        let queue = &found.base;
+        assert!(rt; found.status == Status::Done && queue.jobs.len() == 0);
+        assert!(rt; queue.last == JobNo(1));
+        let owners = queue.owners.as_slice();
+        assert!(rt; owners.iter().all(|owner| *owner == Owner::Free));
+    }
+    Ok(())
+}
+
+// The first act on CKPT1 fails, and then one on CKPT2, or on the console: the run ends. Or one on the volume, and the deck isn't entered.
 #[test]
 fn two_acts_fail(rt: HostRuntime) -> Result<(), Fail> {
     let alloc = rt.alloc();
     for act in 1..=ONE_KEPT {
         let (outcome, _) = outcome(alloc, failing(alloc, 0, act)?)?;
         let wanted = match act {
-            _ if act < ONE_FORMED => (Status::BothLost, None, 0, [true, true]),
-            _ if act < ONE_KEPT => (Status::BothLost, Some(Fate::Flying), 0, [true, true]),
-            _ => (Status::ConsoleFault, Some(Fate::Kept), 0, [true, false]),
+            _ if act < ONE_FORMED => (Status::BothLost, 0, 0, 0, [true, true]),
+            _ if act < ONE_BEGUN => (Status::BothLost, 0, 1, 0, [true, true]),
+            _ if act < ONE_SPOOLED => (Status::Done, 2, 0, 1, [true, false]),
+            _ if act < ONE_KEPT => (Status::BothLost, 1, 1, 0, [true, true]),
+            _ => (Status::ConsoleFault, 2, 0, 0, [true, false]),
         };
         assert!(rt; outcome == wanted, "act {act}");
     }
     Ok(())
+}
+
+// After how many batches the queue is found, where a batch counts from so many acts before its last one on.
+fn batches_since(act: u64, acts: u64) -> usize {
+    match act {
+        _ if act < FORMED => 2,
+        _ if act < BEGUN.saturating_sub(acts) => 0,
+        _ if act < KEPT.saturating_sub(acts) => 1,
+        _ => 2,
+    }
 }
 
 // The member is stopped inside an act. The operator formats, and never halts. The gate of CKPT1 counts once it is synced, and
@@ -89,22 +151,18 @@ fn an_act_halts(rt: HostRuntime) -> Result<(), Fail> {
     let alloc = rt.alloc();
     for act in 0..=KEPT {
         let (outcome, left) = outcome(alloc, halting(alloc, act, 10)?)?;
-        let fate = if act < FORMED || act == KEPT {
-            Fate::Kept
-        } else {
-            Fate::Flying
+        let wanted = match act {
+            _ if act < FORMED => (Status::Done, 2, 0, 1, [false, false]),
+            _ if act < BEGUN => (Status::Done, 0, 1, 0, [false, false]),
+            _ if act < SPOOLED => (Status::Done, 1, 0, 0, [false, false]),
+            _ if act < KEPT => (Status::Done, 1, 1, 0, [false, false]),
+            _ => (Status::Done, 2, 0, 0, [false, false]),
         };
-        let lines = if act < FORMED { 1 } else { 0 };
-        assert!(rt;
-            outcome == (Status::Done, Some(fate), lines, [false, false]),
-            "act {act}"
-        );
-        let synced = act < FORMED || act >= KEPT - OPEN;
-        let decks = decks_left(&rt, alloc, &left, Choice::Old)?;
-        assert!(rt; (decks == 1) == synced, "act {act}");
-        let written = act < FORMED || act >= KEPT - 2 * OPEN;
-        let decks = decks_left(&rt, alloc, &left, Choice::New)?;
-        assert!(rt; (decks == 1) == written, "act {act}");
+        assert!(rt; outcome == wanted, "act {act}");
+        let synced = batches_left(&rt, alloc, &left, Choice::Old)?;
+        assert!(rt; synced == batches_since(act, OPEN), "act {act}");
+        let written = batches_left(&rt, alloc, &left, Choice::New)?;
+        assert!(rt; written == batches_since(act, 2 * OPEN), "act {act}");
     }
     Ok(())
 }

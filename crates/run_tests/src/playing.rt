@@ -8,25 +8,41 @@ use mas_types::{Dev, List, NoMemory};
 use spool_disk::{MemPlant, MemSource, Plant, Sizes};
 use std::alloc::Global;
 
-/// What a copy of the default configuration needs, in bytes.
-pub const CKPT: u64 = 299_008;
+/// A configuration of few pages and groups, so that the many crashes copy few bytes.
+const CONFIG: &[u8] = b"CONFIG JOBS=16,OUTPUTS=32,GROUPS=4\n";
+
+/// The pages of its checkpoint.
+pub const PAGES: u64 = 6;
+
+/// What a copy of it needs, in bytes: a block, and two areas of the pages.
+const CKPT: u64 = 4096 * (1 + 2 * PAGES);
 
 /// What its volume needs for its groups.
-const VOLUME: u64 = 2_097_152;
+const VOLUME: u64 = 4096 * 4;
 
 /// Room enough for the acts of a run and of those who look at what it leaves.
 const ACTS: usize = 400;
 
 /// The same for the bytes that they write.
-const BYTES: usize = 1_300_000;
+const BYTES: usize = 500_000;
 
 pub const DECK: &[u8] = b"SYSA DECK\n//A JOB\n++END\n";
 
-/// The acts of formatting one copy: VALID, a sync, block 0, 36 pages, a sync, VALID, a sync.
-pub const FORM: u64 = 42;
+/// How many comments stand in a long deck, whose text takes two groups.
+pub const COMMENTS: usize = 51;
 
-/// Those of putting pages on one copy: 36 pages, a sync.
-pub const PUT: u64 = 37;
+/// Each of them.
+pub const COMMENT: &[u8] =
+    b"//*XXXXXXXXXXXXXXXXXXXXXXXXXXXXXXXXXXXXXXXXXXXXXXXXXXXXXXXXXXXXXXXXXXXXXXXXXXXXX";
+
+/// The acts of formatting one copy: VALID, a sync, block 0, the pages, a sync, VALID, a sync.
+pub const FORM: u64 = PAGES + 6;
+
+/// Those of putting pages on one copy for the first time: the pages, a sync.
+pub const PUT: u64 = PAGES + 1;
+
+/// And each further time: a gate is closed, a sync, the pages, a sync.
+pub const PUT_AGAIN: u64 = PUT + 2;
 
 /// And of opening its gate: the gate, a sync.
 pub const OPEN: u64 = 2;
@@ -34,8 +50,14 @@ pub const OPEN: u64 = 2;
 /// The acts after which both copies are formatted.
 pub const FORMED: u64 = 2 * FORM;
 
-/// And the batch of the first deck is kept.
-pub const KEPT: u64 = FORMED + 2 * PUT + 2 * OPEN;
+/// And the first deck's job has begun and its group is taken, which is its first batch.
+pub const BEGUN: u64 = FORMED + 2 * PUT + 2 * OPEN;
+
+/// And its text is in the group: it is written, and the volume is synced.
+pub const SPOOLED: u64 = BEGUN + 2;
+
+/// And it is entered, which is its second batch. Its line is said then.
+pub const KEPT: u64 = SPOOLED + 2 * PUT_AGAIN + 2 * OPEN;
 
 /// Devices of which each checkpoint and a volume have so many bytes.
 pub fn sizes(ckpt: u64, volume: u64) -> Sizes {
@@ -47,15 +69,10 @@ pub fn sizes(ckpt: u64, volume: u64) -> Sizes {
 }
 
 /// A plant of devices that have just room enough, and were never written. Nothing is planned.
-pub fn roomy(alloc: Global) -> Result<MemPlant, NoMemory> {
-    MemPlant::new(alloc, sizes(CKPT, VOLUME), ACTS, BYTES)
-}
-
-/// The same, but its volume has no byte, so that the many crashes copy none of it.
 pub fn plant(alloc: Global) -> Result<MemPlant, NoMemory>
     ensures { IfOk result (λ plant. mem_book plant ≡ empty_book ACTS BYTES) }
 {
-    MemPlant::new(alloc, sizes(CKPT, 0), ACTS, BYTES)
+    MemPlant::new(alloc, sizes(CKPT, VOLUME), ACTS, BYTES)
 }
 
 /// The same, but two of its acts fail, or one where both are the same.
@@ -73,39 +90,59 @@ pub fn halting(alloc: Global, act: u64, keep: u32) -> Result<MemPlant, NoMemory>
     Ok(plant)
 }
 
-/// A run of a script, whose source fails at a place if one is given.
-pub fn run(
-    alloc: Global,
-    cold: bool,
-    script: &[u8],
-    fail_at: Option<u64>,
-    plant: MemPlant,
-) -> Result<Ended<MemPlant>, NoMemory> {
-    let mut bytes = List::new(alloc);
-    for byte in script {
-        bytes.push(*byte)?;
-    }
-    let mut source = MemSource::new(bytes, fail_at);
-    Ok(play_script(alloc, cold, &mut source, plant))
-}
-
-/// A cold run of a script.
-pub fn play(alloc: Global, script: &[u8], plant: MemPlant) -> Result<Ended<MemPlant>, NoMemory> {
-    run(alloc, true, script, None, plant)
-}
-
-/// A warm run of a script. A volume that has no byte is lost before it.
-pub fn start(alloc: Global, script: &[u8], plant: MemPlant) -> Result<Ended<MemPlant>, NoMemory> {
-    let mut plant = plant;
-    if plant.size(Dev::Spool(1)) == 0 {
-        plant.lose(Dev::Spool(1));
-    }
-    run(alloc, false, script, None, plant)
-}
-
 /// A plant that has lost a device from the begin on.
 pub fn without(alloc: Global, dev: Dev) -> Result<MemPlant, NoMemory> {
     let mut plant = plant(alloc)?;
     plant.lose(dev);
     Ok(plant)
+}
+
+fn add(bytes: &mut List<u8>, more: &[u8]) -> Result<(), NoMemory> {
+    for byte in more {
+        bytes.push(*byte)?;
+    }
+    Ok(())
+}
+
+/// A run of a script, whose source fails at a place if one is given.
+pub fn run(
+    alloc: Global,
+    cold: bool,
+    script: List<u8>,
+    fail_at: Option<u64>,
+    plant: MemPlant,
+) -> Ended<MemPlant> {
+    let mut source = MemSource::new(script, fail_at);
+    play_script(alloc, cold, false, &mut source, plant)
+}
+
+/// Bytes of a script.
+pub fn script_of(alloc: Global, lines: &[u8]) -> Result<List<u8>, NoMemory> {
+    let mut script = List::new(alloc);
+    add(&mut script, lines)?;
+    Ok(script)
+}
+
+/// A cold run of a script, with the configuration before it.
+pub fn play(alloc: Global, script: &[u8], plant: MemPlant) -> Result<Ended<MemPlant>, NoMemory> {
+    let mut bytes = script_of(alloc, CONFIG)?;
+    add(&mut bytes, script)?;
+    Ok(run(alloc, true, bytes, None, plant))
+}
+
+/// The same of one long deck.
+pub fn play_long(alloc: Global, plant: MemPlant) -> Result<Ended<MemPlant>, NoMemory> {
+    let mut bytes = script_of(alloc, CONFIG)?;
+    add(&mut bytes, b"SYSA DECK\n//A JOB\n")?;
+    for _ in 0..COMMENTS {
+        add(&mut bytes, COMMENT)?;
+        bytes.push(b'\n')?;
+    }
+    add(&mut bytes, b"++END\n")?;
+    Ok(run(alloc, true, bytes, None, plant))
+}
+
+/// A warm run of a script.
+pub fn start(alloc: Global, script: &[u8], plant: MemPlant) -> Result<Ended<MemPlant>, NoMemory> {
+    Ok(run(alloc, false, script_of(alloc, script)?, None, plant))
 }
