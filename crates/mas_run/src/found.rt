@@ -83,11 +83,7 @@ fn running_of<P: Plant + Drop>(alloc: Global, found: Started<P, AreaCopy>) -> Ru
 }
 
 // Gives Restart, and then plays what the script asks for.
-fn play_reset<P: Plant + Drop>(
-    alloc: Global,
-    asked: &[Step],
-    run: Running<P, AreaCopy>,
-) -> Ended<P>
+fn play_reset<P: Plant + Drop>(alloc: Global, asked: &[Step], run: Running<P, AreaCopy>) -> Ended<P>
     requires lock { IsOpenTo run.complex.book run.complex.reserved sysa }
     requires config { IsConfig run.complex.base.config }
     requires few { length asked.now ≤ steps_most }

@@ -100,14 +100,7 @@ impl<P: Plant + Drop, C: Steady + Drop> Running<P, C> {
         ensures book { OnOk result (self.new.complex.book ≡ after_deck self.old.complex.book (read_as self.old.complex.base.config.node cards.now)) }
     {
         let own = self.complex.base.config.node;
-        play_locked_deck(
-            &mut self.member,
-            alloc,
-            &mut self.complex,
-            step,
-            own,
-            cards,
-        )
+        play_locked_deck(&mut self.member, alloc, &mut self.complex, step, own, cards)
     }
 
     // Plays a command that an operator types, but the reset of a member.
@@ -264,12 +257,7 @@ impl<P: Plant + Drop, C: Steady + Drop> Running<P, C> {
     }
 
     /// Plays a step.
-    pub(crate) fn play_step(
-        &mut self,
-        alloc: Global,
-        step: u32,
-        asked: &Step,
-    ) -> Result<(), NodeNo>
+    pub(crate) fn play_step(&mut self, alloc: Global, step: u32, asked: &Step) -> Result<(), NodeNo>
         requires id { self.old.member.id ≡ sysa }
         requires lock { IsOpenTo self.old.complex.book self.old.complex.reserved sysa }
         requires config { IsConfig self.old.complex.base.config }

@@ -99,9 +99,11 @@ returns-in-Ok-clause-steps g c =
     let played : (lost : List (Option ℕ)) × IsPlay P.tells (turns_from z.base.config y.book lost c.args.asked.now) z.status z.base y.journal.batches z.journal z.since w (P.view z.plant) = d.play in
     let lost = played.0 in
     let play : IsPlay P.tells (turns_from z.base.config x.book lost c.args.asked.now) z.status z.base y.journal.batches z.journal z.since w (P.view z.plant) =
-    subst (λ (b : Book). IsPlay P.tells (turns_from z.base.config b lost c.args.asked.now) z.status z.base y.journal.batches z.journal z.since w (P.view z.plant)) k.book played.1 in
-    (lost, warm_steps v w (P.view z.plant) k.reset.course.goes d.goes P.tells (turns_from z.base.config x.book lost c.args.asked.now) z.status z.base (begun v.now nobody restart_entries) r.0 y.journal.batches z.journal z.since (sym out ∙ r.3)
-    (record { by = refl; entries = refl; began = omega (arith, since) }) r.1 r.2 (omega (arith, since, k.reset.course.goes.later)) k.reset.loses (λ t. (k.reset.apart t).console) (λ t. kept_on v w (k.reset.apart t).others) play)
+    subst (λ (b : Book). IsPlay P.tells (turns_from z.base.config b lost c.args.asked.now) z.status z.base y.journal.batches z.journal z.since w (P.view z.plant)) k.book played.1 in (
+      lost,
+      warm_steps v w (P.view z.plant) k.reset.course.goes d.goes P.tells (turns_from z.base.config x.book lost c.args.asked.now) z.status z.base (begun v.now nobody restart_entries) r.0 y.journal.batches z.journal z.since (sym out ∙ r.3)
+          (record { by = refl; entries = refl; began = omega (arith, since) }) r.1 r.2 (omega (arith, since, k.reset.course.goes.later)) k.reset.loses (λ t. (k.reset.apart t).console) (λ t. kept_on v w (k.reset.apart t).others) play,
+    )
 
 pub returns-in-Ok-clause-goes : goal.returns-in-Ok-clause-goes
 returns-in-Ok-clause-goes g c =

@@ -23,11 +23,13 @@ returns-clause-step g c =
     let P = g.P.Plant in
     let x = c.args.self.now.complex in
     let y = c.refuse.new.complex in
-    let by = c.args.self.now.member.id in
-    (None, closed_step_of P.tells (no_reset x.base.config c.args.of) (run x.base (kept_all x.journal.batches)) x.base.config.groups c.args.step x.journal.batches (end_of y.placed y.current y.journal.batches)
-    x.pair.first.alive y.pair.first.alive x.pair.second.alive y.pair.second.alive (P.view x.plant) (P.view y.plant) c.refuse.result
-    (subst (λ (m : MemberId). IsDenial P.tells m.0 (closing_line m c.args.step (no_reset x.base.config c.args.of) ∷ []) x.journal.batches (end_of y.placed y.current y.journal.batches) x.pair.first.alive y.pair.first.alive x.pair.second.alive y.pair.second.alive (P.view x.plant) (P.view y.plant) c.refuse.result) c.requires.id
-    (subst (λ (e : Closing). IsDenial P.tells by.0 (closing_line by c.args.step e ∷ []) x.journal.batches (end_of y.placed y.current y.journal.batches) x.pair.first.alive y.pair.first.alive x.pair.second.alive y.pair.second.alive (P.view x.plant) (P.view y.plant) c.refuse.result) c.no_reset-end.ensures.is c.refuse.ensures.denial)))
+    let by = c.args.self.now.member.id in (
+      None,
+      closed_step_of P.tells (no_reset x.base.config c.args.of) (run x.base (kept_all x.journal.batches)) x.base.config.groups c.args.step x.journal.batches (end_of y.placed y.current y.journal.batches)
+          x.pair.first.alive y.pair.first.alive x.pair.second.alive y.pair.second.alive (P.view x.plant) (P.view y.plant) c.refuse.result
+          (subst (λ (m : MemberId). IsDenial P.tells m.0 (closing_line m c.args.step (no_reset x.base.config c.args.of) ∷ []) x.journal.batches (end_of y.placed y.current y.journal.batches) x.pair.first.alive y.pair.first.alive x.pair.second.alive y.pair.second.alive (P.view x.plant) (P.view y.plant) c.refuse.result) c.requires.id
+          (subst (λ (e : Closing). IsDenial P.tells by.0 (closing_line by c.args.step e ∷ []) x.journal.batches (end_of y.placed y.current y.journal.batches) x.pair.first.alive y.pair.first.alive x.pair.second.alive y.pair.second.alive (P.view x.plant) (P.view y.plant) c.refuse.result) c.no_reset-end.ensures.is c.refuse.ensures.denial)),
+    )
 
 pub returns-clause-between : goal.returns-clause-between
 returns-clause-between g c =

@@ -55,10 +55,12 @@ pub returns-clause-step : goal.returns-clause-step
 returns-clause-step g c =
     let P = g.P.Plant in
     let x = c.args.self.now.complex in
-    let y = c.play_locked.new.complex in
-    (None, command_by_try P.tells (run x.base (kept_all x.journal.batches)) x.base.config.groups c.args.step x.journal.batches (end_of y.placed y.current y.journal.batches)
-    x.pair.first.alive y.pair.first.alive x.pair.second.alive y.pair.second.alive (P.view x.plant) (P.view y.plant) c.play_locked.result
-    x.book c.args.self.now.member.id c.in-Ok.given c.args.given.now c.requires.id c.in-Ok.ensures c.play_locked.ensures.granted c.play_locked.ensures.denied)
+    let y = c.play_locked.new.complex in (
+      None,
+      command_by_try P.tells (run x.base (kept_all x.journal.batches)) x.base.config.groups c.args.step x.journal.batches (end_of y.placed y.current y.journal.batches)
+          x.pair.first.alive y.pair.first.alive x.pair.second.alive y.pair.second.alive (P.view x.plant) (P.view y.plant) c.play_locked.result
+          x.book c.args.self.now.member.id c.in-Ok.given c.args.given.now c.requires.id c.in-Ok.ensures c.play_locked.ensures.granted c.play_locked.ensures.denied,
+    )
 
 pub returns-clause-lock : goal.returns-clause-lock
 returns-clause-lock g c = rw c.requires.id at c.play_locked.ensures.lock
@@ -76,6 +78,8 @@ pub returns-in_default-clause-step : goal.returns-in_default-clause-step
 returns-in_default-clause-step g c =
     let P = g.P.Plant in
     let x = c.args.self.now.complex in
-    let front = x.journal.batches in
-    (None, unplayed_task P.tells (try_refusal x.book sysa false) c.args.given.now (run x.base (kept_all front)) x.base.config.groups c.args.step front (end_of x.placed x.current front)
-    x.pair.first.alive x.pair.second.alive (P.view x.plant) (none_out front front x.placed x.current refl c.requires.between.unplaced c.requires.between.none))
+    let front = x.journal.batches in (
+      None,
+      unplayed_task P.tells (try_refusal x.book sysa false) c.args.given.now (run x.base (kept_all front)) x.base.config.groups c.args.step front (end_of x.placed x.current front)
+          x.pair.first.alive x.pair.second.alive (P.view x.plant) (none_out front front x.placed x.current refl c.requires.between.unplaced c.requires.between.none),
+    )
