@@ -102,7 +102,7 @@ fn crashes_at_each_moment(rt: HostRuntime) -> Result<(), Fail> {
 #[test]
 fn renews_a_device(rt: HostRuntime) -> Result<(), Fail> {
     let alloc = rt.alloc();
-    let mut plant = plant(alloc)?;
+    let mut plant = MemPlant::new(alloc, SIZES, 99, 99)?;
     plant.halt_at(3, 1);
     plant.fail_at(5);
     write(&rt, &mut plant, Dev::Ckpt1, 0, &[1, 2], Act::Done);
