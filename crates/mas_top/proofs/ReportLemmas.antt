@@ -15,7 +15,8 @@ use Rattle.spool_disk.specs.View.{View, World, Disk, Line, disk_at, disk_now}
 use Rattle.spool_disk.specs.Acts.{Goes}
 use Rattle.ckpt_copy.specs.Areas.{reads, areas_size}
 use Rattle.ckpt_copy.specs.Changes.{NoMore}
-use Rattle.ckpt_copy.specs.Moments.{either_way, goes_on, goes_none}
+use Rattle.ckpt_copy.specs.Meanwhile.{SameSides}
+use Rattle.ckpt_copy.specs.Moments.{either_way, goes_on, goes_none, sides_none}
 use Rattle.warm_start.specs.declared.choosing.StartNo.{StartNo}
 use Rattle.warm_start.specs.declared.choosing.StartNo.TheVariants as no_start
 use Rattle.warm_start.specs.Inspecting.{Looks, HasFailed, HasFound, FindsNone, SomeThere}
@@ -217,6 +218,8 @@ looks_none tells v = record {
     second = λ t from le. subst (λ (n : ℕ). NoMore (disk_now v Ckpt2) (disk_at v n Ckpt2)) (sym (at_now v t from le)) (no_more (disk_now v Ckpt2));
     others = λ t from le d one two. ap (λ (n : ℕ). disk_at v n d) (at_now v t from le);
     console = λ t from le. ap (λ (n : ℕ). (v.world n).console) (at_now v t from le);
+    sides = λ t from le. subst (λ (n : ℕ). SameSides (v.world v.now) (v.world n)) (sym (at_now v t from le)) (sides_none (v.world v.now));
+    waiting = λ w. refl;
   };
   loses = λ d. refl;
   stops = λ m. refl;

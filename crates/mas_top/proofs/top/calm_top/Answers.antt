@@ -64,7 +64,7 @@ returns-in-Report-clause-format g c is = absurd (report_not_format (task_asked (
 -- A FORMAT
 
 pub returns-in-Format-clause-words : goal.returns-in-Format-clause-words
-returns-in-Format-clause-words g c e = absurd (c.play_script.ensures.words e)
+returns-in-Format-clause-words g c e = absurd (c.play_script-in-Format.ensures.words e)
 
 pub returns-in-Format-clause-refused : goal.returns-in-Format-clause-refused
 returns-in-Format-clause-refused g c none = absurd (none_some (task_asked (map string_bytes c.args.words.now)) task.Format none (c.in-Ok.ensures ∙ ap Some c.in-Format.is))
@@ -80,7 +80,7 @@ returns-in-Format-clause-report g c is = absurd (report_not_format (task_asked (
 
 pub returns-in-Format-clause-format : goal.returns-in-Format-clause-format
 returns-in-Format-clause-format g c is =
-    let e = c.play_script.ensures in
+    let e = c.play_script-in-Format.ensures in
     record { refused = e.refused; words = e.words; device = e.device; formatted = e.formatted; unstarted = e.unstarted; faulted = e.source; untouched = e.untouched; volumes = e.volumes; loses = e.loses; room = e.room; read = e.read; run = e.run; complete = e.complete }
 
 -- WORDS THAT AREN'T READ
