@@ -136,7 +136,7 @@ fn owner(group: usize, long: bool, entered: usize, begun: usize) -> Owner {
     };
     if deck < entered {
         Owner::Deck {
-            job: JobNo((deck as u32).saturating_add(1)),
+            job: JobNo(deck.min(99_998) as u32 + 1),
             place: place as u16,
         }
     } else if deck < begun {
