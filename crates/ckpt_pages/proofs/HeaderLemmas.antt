@@ -204,7 +204,7 @@ level_some : (level : ℕ) (levels : List ℕ) → slice_get levels 0 ≡ Some l
 level_some level [] e h = absurd (cc)
 level_some level (l ∷ ls) e h = let p = All-head (λ l. (1 ≤ l) × (l ≤ level)) l ls h in omega (arith, p.0, p.1)
 
-all_ages : (level : ℕ) (ls : List ℕ) → All (λ l. (1 ≤ l) × (l ≤ level)) ls → list_all (λ l. nat_le 1 l && nat_le l level) ls ≡ true
+pub all_ages : (level : ℕ) (ls : List ℕ) → All (λ l. (1 ≤ l) × (l ≤ level)) ls → list_all (λ l. nat_le 1 l && nat_le l level) ls ≡ true
 all_ages level [] h = refl
 all_ages level (l ∷ ls) h =
     let p = All-head (λ l. (1 ≤ l) × (l ≤ level)) l ls h in

@@ -13,3 +13,6 @@ pub mod SlotLists
 pub mod SoundLemmas
 pub mod SoundQueueLemmas
 pub mod Vectors
+pub mod GivenLevels
+pub mod TestLemmas
+pub mod TestingLemmas

@@ -13,6 +13,10 @@ pub record IsCheckpoint (pages : List Page) (t : Tables) : Type 0 where
   pub ages : AreLevels t level levels
   pub spell : Spell t levels pages
 
+-- the pages spell tables
+abbrev pub SpellSome : List Page → Type 0
+SpellSome pages = (t : Tables) × IsCheckpoint pages t
+
 -- pages spell one value of tables at most
 abbrev pub SpellsOneAtMost : Type 0
 SpellsOneAtMost = (pages : List Page) (t u : Tables) → IsCheckpoint pages t → IsCheckpoint pages u → t ≡ u

@@ -16,3 +16,5 @@ pub mod Nodes
 pub mod Reading
 pub mod Laws
 pub mod Writing
+pub mod Testing
+pub mod Given

@@ -1,7 +1,8 @@
 //! Entries of one width, one after another.
-ghost use Rattle.std.specs.Prelude.{◌≡◌, ℕ, ◌-◌, ◌*◌, ◌^◌, ◌≤◌, ◌<◌, List, length, Err, OnOk, IfOk, IfErr};
+ghost use Rattle.std.specs.Prelude.{◌≡◌, ℕ, ◌-◌, ◌*◌, ◌^◌, ◌≤◌, ◌<◌, List, length, true, false, Err, OnOk, IfOk, IfErr};
 ghost use Rattle.mas_types.specs.Limits.{page_bytes};
 ghost use Rattle.ckpt_pages.specs.declared.entries.NotRead.TheVariants.{Bad};
+ghost use Rattle.ckpt_pages.specs.Testing.{SpellsOne};
 ghost use Rattle.ckpt_pages.specs.Reading.{ReadsEntries, AreNoEntries, ArePages, IsFirstBad, IfBadPage, page_no};
 
 use lay_bytes::is_zero;
@@ -59,6 +60,12 @@ pub(crate) trait Entry: Drop + Sized {
         requires { length bytes.now ≡ WIDTH }
         ensures found { IfOk result (λ x. has_spelling x × (bytes.now ≡ spelling x)) }
         ensures bad { result ≡ Err Bad → (x : Self) → has_spelling x → bytes.now ≡ spelling x → ⊥ };
+
+    /// Whether the bytes are an entry. This takes no memory.
+    fn is_entry(bytes: &[u8]) -> bool
+        requires { length bytes.now ≡ WIDTH }
+        ensures good { result ≡ true → SpellsOne has_spelling spelling bytes.now }
+        ensures bad { result ≡ false → (x : Self) → has_spelling x → bytes.now ≡ spelling x → ⊥ };
 
     ghost size: { (x : Self) → has_spelling x → length (spelling x) ≡ WIDTH };
 

@@ -1,5 +1,5 @@
 //! The header.
-ghost use Rattle.std.specs.Prelude.{◌≡◌, ◌≤◌, ◌&&◌, nat_le, length, Err, IfOk};
+ghost use Rattle.std.specs.Prelude.{◌≡◌, ◌≤◌, ◌&&◌, nat_le, length, Err, IfOk, IfErr};
 ghost use Rattle.std.specs.List.{list_all};
 ghost use Rattle.lay_bytes.specs.Fields.{pieces};
 ghost use Rattle.ckpt_pages.specs.declared.header.Header.{Header as HeaderLem};
@@ -77,10 +77,11 @@ fn is_whole(header: &Header) -> bool
 }
 
 /// Reads the numbers of the header.
-fn read_numbers(head: &[u8]) -> Result<Header, NotRead>
+pub(crate) fn read_numbers(head: &[u8]) -> Result<Header, NotRead>
     requires { length head.now ≡ 1024 }
     ensures found { IfOk result (λ header. HasNumbers header × (head.now ≡ header_bytes header)) }
     ensures bad { result ≡ Err Bad → (header : HeaderLem) → HasNumbers header → head.now ≡ header_bytes header → ⊥ }
+    ensures only { IfErr result (λ e. e ≡ Bad) }
 {
     let Ok(()) = check_fields(&HEADER_FIELDS, head) else {
         return Err(NotRead::Bad);
@@ -94,7 +95,7 @@ fn read_numbers(head: &[u8]) -> Result<Header, NotRead>
 }
 
 /// The number of pages that a header asks for.
-fn pages_asked(header: &Header) -> usize
+pub(crate) fn pages_asked(header: &Header) -> usize
     ensures { result ≡ pages_of header.now }
 {
     pages_for(

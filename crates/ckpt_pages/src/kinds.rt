@@ -53,6 +53,12 @@ impl Entry for Option<JobRec> {
         read_job(&slot).map_err(|_| NotRead::Bad)
     }
 
+    fn is_entry(bytes: &[u8]) -> bool {
+        let mut slot = [0; 256];
+        slot.copy_from_slice(bytes);
+        read_job(&slot).is_ok()
+    }
+
     ghost size = { job_length };
 
     ghost apart = { job_one };
@@ -71,6 +77,12 @@ impl Entry for Option<OutRec> {
         let mut slot = [0; 128];
         slot.copy_from_slice(bytes);
         read_output(&slot).map_err(|_| NotRead::Bad)
+    }
+
+    fn is_entry(bytes: &[u8]) -> bool {
+        let mut slot = [0; 128];
+        slot.copy_from_slice(bytes);
+        read_output(&slot).is_ok()
     }
 
     ghost size = { output_length };
@@ -93,6 +105,12 @@ impl Entry for Owner {
         read_owner(&entry).map_err(|_| NotRead::Bad)
     }
 
+    fn is_entry(bytes: &[u8]) -> bool {
+        let mut entry = [0; 8];
+        entry.copy_from_slice(bytes);
+        read_owner(&entry).is_ok()
+    }
+
     ghost size = { owner_length };
 
     ghost apart = { owner_one };
@@ -109,6 +127,11 @@ impl Entry for Level {
 
     fn read(_alloc: Global, bytes: &[u8]) -> Result<Self, NotRead> {
         Ok(read_u64(bytes, 0))
+    }
+
+    fn is_entry(bytes: &[u8]) -> bool {
+        let _level = read_u64(bytes, 0);
+        true
     }
 
     ghost size = { level_size };
@@ -152,6 +175,10 @@ impl Entry for LineCount {
         Ok(line_of(bytes))
     }
 
+    fn is_entry(bytes: &[u8]) -> bool {
+        check_fields(&LINE_FIELDS, bytes).is_ok()
+    }
+
     ghost size = { line_size };
 
     ghost apart = { line_apart };
@@ -181,6 +208,10 @@ impl Entry for Route {
             return Err(NotRead::Bad);
         };
         Ok(route_of(bytes))
+    }
+
+    fn is_entry(bytes: &[u8]) -> bool {
+        check_fields(&ROUTE_FIELDS, bytes).is_ok()
     }
 
     ghost size = { route_size };
@@ -231,6 +262,10 @@ impl Entry for Setting {
             return Err(NotRead::NoMemory);
         };
         Ok(setting)
+    }
+
+    fn is_entry(bytes: &[u8]) -> bool {
+        check_fields(&SETTING_FIELDS, bytes).is_ok()
     }
 
     ghost size = { setting_size };

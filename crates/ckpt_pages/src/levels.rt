@@ -3,6 +3,7 @@ ghost use Rattle.std.specs.Prelude.{◌≡◌, ◌+◌, ◌*◌, ◌≤◌, ◌<
 ghost use Rattle.std.specs.Str.{bytes_eq};
 ghost use Rattle.lay_bytes.specs.Fields.{piece};
 ghost use Rattle.ckpt_pages.specs.Shape.{level_in, differing};
+ghost use Rattle.ckpt_pages.specs.Given.{levels_given, AreTheirLevels};
 ghost use Rattle.ckpt_pages.specs.Laws.{BeginsWithLevel, GivesLevels};
 
 use lay_bytes::read_u64;
@@ -43,8 +44,21 @@ pub fn changed(alloc: Global, old: &[Page], new: &[Page]) -> Result<List<u16>, N
     Ok(pages)
 }
 
-/// Page 0 of encoded pages gives each page the level that it was encoded with.
+/// The level of each page, as page 0 gives it.
+pub fn levels_of(alloc: Global, pages: &[Page]) -> Result<List<Level>, NoMemory>
+    requires { length pages.now ≤ 323 }
+    ensures { IfOk result (λ levels. levels ≡ levels_given pages.now) }
+{
+    let mut levels = List::new(alloc);
+    for page in 0..pages.len() {
+        levels.push(level_of(&pages[0], page as u16))?;
+    }
+    Ok(levels)
+}
+
+/// Page 0 of encoded pages gives each page the level that it was encoded with, and these are the levels of a checkpoint.
 pub fn law_of_levels()
     ensures first { BeginsWithLevel }
     ensures each { GivesLevels }
+    ensures given { AreTheirLevels }
 {}

@@ -19,7 +19,7 @@ pub(crate) struct Nodes {
     pub routes: List<Route>,
 }
 
-const NODE_FIELDS: [Field; 3] = [Field::Name, Field::Byte(0, 63), Field::Zeros(119)];
+pub(crate) const NODE_FIELDS: [Field; 3] = [Field::Name, Field::Byte(0, 63), Field::Zeros(119)];
 
 /// Reads the nodes. `Bad` comes exactly where the page is no spelling.
 pub(crate) fn read_nodes(alloc: Global, page: &[u8]) -> Result<Nodes, NotRead>

@@ -1,6 +1,6 @@
 //! Pages that are decoded, and pages that are not.
 use super::samples::{hello, pages_of, tables_of_hello};
-use ckpt_pages::{PageNo, decode};
+use ckpt_pages::{PageNo, decode, first_bad};
 use mas_types::{JobNo, NoMemory, Page, default_config};
 use std::alloc::Global;
 use std::test::Fail;
@@ -24,17 +24,23 @@ fn what_was_encoded_is_decoded(rt: HostRuntime) -> Result<(), Fail> {
     Ok(())
 }
 
-/// The least page that is no spelling, where a byte of the pages is another.
-fn bad_page(alloc: Global, page: usize, at: usize, byte: u8) -> Result<Option<u16>, NoMemory> {
+/// The least page that is no spelling, where a byte of the pages is another, as `decode` and as `first_bad` find it.
+fn bad_page(
+    alloc: Global,
+    page: usize,
+    at: usize,
+    byte: u8,
+) -> Result<(Option<u16>, Option<u16>), NoMemory> {
     let mut pages = pages_of(alloc, &tables_of_hello(alloc)?, 2, 2)?;
     if let Some(page) = pages.as_mut_slice().get_mut(page)
         && let Some(place) = page.0.get_mut(at)
     {
         *place = byte;
     }
+    let found = first_bad(pages.as_slice());
     match decode(alloc, pages.as_slice()) {
-        Ok(_) => Ok(None),
-        Err(PageNo::BadPage(page)) => Ok(Some(page)),
+        Ok(_) => Ok((None, found)),
+        Err(PageNo::BadPage(page)) => Ok((Some(page), found)),
         Err(PageNo::NoMemory) => Err(NoMemory),
     }
 }
@@ -81,7 +87,7 @@ fn damage_is_found_at_its_page(rt: HostRuntime) -> Result<(), Fail> {
     ] {
         assert_eq!(rt;
             bad_page(rt.alloc(), page, at, byte)?,
-            bad,
+            (bad, bad),
             "page {page} byte {at}"
         );
     }
@@ -94,6 +100,8 @@ fn another_number_of_pages_is_no_checkpoint(rt: HostRuntime) -> Result<(), Fail>
     let (fewer, _) = pages.as_slice().split_at(35);
     assert!(rt; matches!(decode(rt.alloc(), fewer), Err(PageNo::BadPage(0))));
     assert!(rt; matches!(decode(rt.alloc(), &[]), Err(PageNo::BadPage(0))));
+    assert_eq!(rt; first_bad(fewer), Some(0));
+    assert_eq!(rt; first_bad(&[]), Some(0));
     Ok(())
 }
 
@@ -117,6 +125,7 @@ fn the_least_page_of_arbitrary_bytes_is_found(rt: HostRuntime) -> Result<(), Fai
         }
         let decoded = decode(rt.alloc(), pages.as_slice());
         assert!(rt; matches!(decoded, Err(PageNo::BadPage(bad)) if bad == number));
+        assert_eq!(rt; first_bad(pages.as_slice()), Some(number));
     }
     Ok(())
 }
