@@ -1,5 +1,5 @@
 -- Lemmas on reading groups.
-use Rattle.std.proofs.Common.{◌≡◌, ◌||◌, ℕ, Bool, true, false, List, [], ◌∷◌, ◌++◌, Option, Some, None, option_map, unwrap_or, refl, sym, ap, ◌∙◌, append_assoc}
+use Rattle.std.proofs.Common.{◌≡◌, ◌||◌, ℕ, ◌+◌, ◌≤◌, Bool, true, false, List, [], ◌∷◌, ◌++◌, Option, Some, None, option_map, unwrap_or, refl, sym, ap, subst, ◌∙◌, append_assoc}
 use Rattle.std.specs.List.{list_any}
 use Rattle.std.proofs.lemmas.List.{append-nil}
 use Rattle.mas_types.specs.declared.ids.GroupNo.{GroupNo}
@@ -10,10 +10,15 @@ use Rattle.spool_disk.specs.Acts.{Goes}
 use Rattle.spool_disk.specs.View.{View, disk_now, slice}
 use Rattle.spool_disk.specs.declared.plant.Part.TheVariants.{Disk as DiskPart}
 use Rattle.spool_text.specs.Laws.{ReadsWhatIsHeld}
-use Rattle.spool_volumes.specs.Volumes.{bytes_unless, volume_of, start_of, page_of, volumes_now, IsSteady}
+use Rattle.spool_volumes.specs.Volumes.{bytes_unless, volume_of, start_of, page_of, volumes_now, IsPlaced, IsSteady}
 use Rattle.spool_volumes.specs.Looks.{volumes_shown, lie_on_lost, LooksAt}
 use Rattle.spool_volumes.specs.Texts.{Held, held, records_on, gone_or, first_gone, all_records, whole_text, text_unless, text_of, Adds}
 use Rattle.spool_volumes.proofs.LookLemmas.{looks_then, same_bytes}
+
+-- nothing is read from a volume that is lost
+pub page_gone : (lost : Bool) (at : ℕ) (bytes : List ℕ) → lost ≡ true → option_map (slice at page_bytes) (bytes_unless lost bytes) ≡ None
+page_gone true at bytes is = refl
+page_gone false at bytes is = absurd (cc)
 
 -- what was read from a volume that isn't lost
 pub page_there : (lost : Bool) (at : ℕ) (bytes into : List ℕ) → (lost ≡ true → ⊥) → into ≡ slice at page_bytes bytes → option_map (slice at page_bytes) (bytes_unless lost bytes) ≡ Some into
@@ -99,6 +104,22 @@ among test (h ∷ before) g rest none = among test before g rest (right (test h)
   right : (a b : Bool) → (a || b) ≡ false → b ≡ false
   right true b e = absurd (cc)
   right false b e = e
+
+-- LATER
+
+-- what isn't lost later wasn't before
+pub unlost : (before later : Bool) → (before ≡ true → later ≡ true) → later ≡ false → before ≡ false
+unlost true later stays there = let is : later ≡ true = stays refl in absurd (cc)
+unlost false later stays there = refl
+
+-- a group still lies within its volume
+pub placed_later : (old new : View) (per : ℕ) (g : GroupNo) → Goes old new → IsPlaced old per g → IsPlaced new per g
+placed_later old new per g goes placed =
+    let dev = Spool (volume_of per g) in
+    record {
+      volume = placed.volume;
+      within = λ there. subst (λ (s : ℕ). start_of per g + page_bytes ≤ s) (sym (goes.size dev)) (placed.within (unlost (old.lost (DiskPart dev)) (new.lost (DiskPart dev)) (goes.lost (DiskPart dev)) there));
+    }
 
 -- THE GROUPS SO FAR
 

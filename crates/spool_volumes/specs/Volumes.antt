@@ -31,10 +31,10 @@ bytes_unless false bytes = Some bytes
 abbrev pub volumes_now : View → Volumes
 volumes_now v n = bytes_unless (v.lost (DiskPart (Spool n))) (disk_now v (Spool n)).bytes
 
--- a group's page lies within its volume
+-- a group's page lies within its volume, unless that is lost
 pub record IsPlaced (v : View) (per : ℕ) (g : GroupNo) : Type 0 where
   pub volume : volume_of per g ≤ 255
-  pub within : start_of per g + page_bytes ≤ v.size (Spool (volume_of per g))
+  pub within : v.lost (DiskPart (Spool (volume_of per g))) ≡ false → start_of per g + page_bytes ≤ v.size (Spool (volume_of per g))
 
 -- no volume was lost in between
 abbrev pub IsSteady : View → View → Type 0

@@ -12,7 +12,7 @@ ghost use Rattle.spool_volumes.specs.declared.reading.ReadNo.TheVariants.{Halted
 
 use mas_types::limits::PAGE_BYTES;
 use mas_types::{Dev, GroupNo, Lines, MemberId, NoMemory, Page, Text};
-use spool_disk::{Act, Plant};
+use spool_disk::{Act, Part, Plant};
 use spool_text::{TextNo, law_of_reading, unpack};
 use std::alloc::Global;
 use thiserror::Error;
@@ -46,6 +46,9 @@ fn read_page<P: Plant>(
     ensures halted { IsErrOf result ReadNoHalted → (0 < by.0) × Rose ((P.view plant.old).stops by.0) ((P.view plant.new).stops by.0) }
 {
     let dev = Dev::Spool((group.0 / per) as u8 + 1);
+    if plant.lost(Part::Disk(dev)) {
+        return Ok(false);
+    }
     let at = PAGE_BYTES as u64 * (group.0 % per) as u64;
     match plant.read(by, dev, at, into) {
         Act::Done => Ok(true),
@@ -104,8 +107,8 @@ fn last_group(groups: &[GroupNo]) -> GroupNo
 }
 
 /// The text of groups in the order of their places, of which its slot counts so many lines; each volume has `per` groups,
-/// at least one, and each group lies within its volume. It is whole, or gone with the first group that lies on a lost
-/// volume or holds no records; the last group counts as such where the lines are not as many as the slot counts.
+/// at least one, and each group lies within its volume, where that isn't lost. It is whole, or gone with the first group that
+/// lies on a lost volume or holds no records; the last group counts as such where the lines are not as many as the slot counts.
 ///
 /// What is said of the text holds where no volume was lost in the call, and so it does where none of its groups lies on a
 /// volume that is lost then: else read again. Halted comes only where the member was stopped inside a read, never for the

@@ -1,13 +1,22 @@
-use Rattle.std.proofs.Common.{◌≡◌, length, refl, arith}
+use Rattle.std.proofs.Common.{◌≡◌, ◌∙◌, length, refl, sym, arith}
 use Rattle.mas_types.specs.declared.ids.Dev.TheVariants.{Spool}
 use Rattle.mas_types.specs.Limits.{page_bytes}
 use Rattle.spool_disk.specs.View.{disk_now}
 use Rattle.spool_disk.specs.declared.plant.Act.TheVariants.{Done, Failed, Halted}
 use Rattle.spool_disk.specs.declared.plant.Part.TheVariants.{Disk as DiskPart}
 use Rattle.spool_volumes.specs.Volumes.{volume_of, start_of}
-use Rattle.spool_volumes.proofs.LookLemmas.{looks_read}
-use Rattle.spool_volumes.proofs.ReadLemmas.{page_there}
+use Rattle.spool_volumes.proofs.LookLemmas.{looks_none, looks_read}
+use Rattle.spool_volumes.proofs.ReadLemmas.{page_gone, page_there}
 use Rattle.spool_volumes.proofs.reading.read_page.Goals as goal
+
+pub returns-then-lost-clause-looks : goal.returns-then-lost-clause-looks
+returns-then-lost-clause-looks g c = looks_none g.P.Plant.tells c.args.by.0 (g.P.Plant.view c.args.plant.now)
+
+pub returns-then-lost-clause-lost : goal.returns-then-lost-clause-lost
+returns-then-lost-clause-lost g c is steady =
+    let old = g.P.Plant.view c.args.plant.now in
+    let dev = Spool (volume_of c.args.per c.args.group) in
+    page_gone (old.lost (DiskPart dev)) (start_of c.args.per c.args.group) (disk_now old dev).bytes (sym c.lost.ensures ∙ c.if-lost.true)
 
 pub returns-in-Done-clause-looks : goal.returns-in-Done-clause-looks
 returns-in-Done-clause-looks g c =

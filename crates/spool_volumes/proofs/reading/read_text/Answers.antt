@@ -1,9 +1,11 @@
 use Rattle.std.proofs.Common.{◌≡◌, ◌+◌, ◌++◌, ◌∷◌, ◌∙◌, false, refl, sym, ap, subst, List, Ok, take, drop, get_or, drop-cons, add-one}
 use Rattle.std.proofs.lemmas.List.{take_all, take_more, take-append-drop}
+use Rattle.std.proofs.lemmas.List.Elements.{All-get_or}
 use Rattle.mas_types.specs.declared.ids.GroupNo.{GroupNo}
 use Rattle.spool_volumes.specs.Looks.{lie_on_lost}
+use Rattle.spool_volumes.specs.Volumes.{IsPlaced}
 use Rattle.spool_volumes.proofs.LookLemmas.{looks_none, looks_then}
-use Rattle.spool_volumes.proofs.ReadLemmas.{HaveRead, gone_next, left_next, left_whole, read_more}
+use Rattle.spool_volumes.proofs.ReadLemmas.{HaveRead, gone_next, left_next, left_whole, placed_later, read_more}
 use Rattle.spool_volumes.proofs.reading.read_text.Goals as goal
 
 abbrev none : GroupNo
@@ -11,6 +13,13 @@ none = record { 0 = 0 }
 
 pub loop-group-init : goal.loop-group-init
 loop-group-init g c = record { looks = looks_none g.P.Plant.tells c.args.by.0 (g.P.Plant.view c.args.plant.now); all = λ told. sym c.new-lines.ensures; none = λ told. refl }
+
+pub add_group-requires-clause-placed : goal.add_group-requires-clause-placed
+add_group-requires-clause-placed g c =
+    let first = g.P.Plant.view c.args.plant.now in
+    let group = get_or c.args.groups.now c.loop-group.group-index none in
+    placed_later first (g.P.Plant.view c.loop-group.plant) c.args.per group c.loop-group.invariant.looks.goes
+    (All-get_or (IsPlaced first c.args.per) c.args.groups.now c.loop-group.group-index none c.loop-group-test.true c.requires.placed)
 
 pub returns-in_err-add_group-clause-looks : goal.returns-in_err-add_group-clause-looks
 returns-in_err-add_group-clause-looks g c =
