@@ -4,9 +4,7 @@ use Rattle.mas_types.specs.declared.ids.MemberId.{MemberId}
 use Rattle.mas_types.specs.declared.commands.Command.{Command}
 use Rattle.mas_types.specs.declared.commands.Command.TheVariants as command
 use Rattle.mas_types.specs.Limits.{members_most}
-use Rattle.mas_types.specs.Owners.{groups_needed, member_count}
 use Rattle.lay_bytes.specs.Limits.{copies_most}
-use Rattle.ckpt_pages.specs.declared.tables.Tables.{Tables}
 
 -- who may give the command: Restart the operator alone, any other a member
 abbrev pub IsGiver : MemberId → Command → Type 0
@@ -28,8 +26,3 @@ IsInRange (command.Ended job specs) = All (λ s. s.copies ≤ copies_most) specs
 IsInRange (command.Sent line number) = number < 2 ^ 32
 IsInRange (command.Got line number job text) = number < 2 ^ 32
 IsInRange _ = Unit {0}
-
--- the member has the groups that a text needs which it enters
-abbrev pub HasGroupsFor : Tables → MemberId → Command → Type 0
-HasGroupsFor t m (command.Enter job text) = groups_needed text ≤ member_count m t.owners
-HasGroupsFor t m _ = Unit {0}

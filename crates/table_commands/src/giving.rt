@@ -9,7 +9,7 @@ ghost use Rattle.ckpt_pages.specs.declared.tables.Tables.{Tables};
 ghost use Rattle.ckpt_pages.specs.Shape.{HasSpelling};
 ghost use Rattle.table_queues.specs.Telling.{TellSound};
 ghost use Rattle.queue_effect.specs.Standing.{AreFit, IfRefused, Plays};
-ghost use Rattle.table_commands.specs.Given.{HasGroupsFor, IsGiver, IsInRange, is_plain as is_plain_lem};
+ghost use Rattle.table_commands.specs.Given.{IsGiver, IsInRange, is_plain as is_plain_lem};
 
 use ckpt_pages::Tables;
 use mas_types::{Command, MemberId, NoMemory, OutSpec, Reply};
@@ -84,8 +84,7 @@ fn read_copies_of(output: &OutSpec)
 
 /// Whether a command brings no text and is of no line to another node.
 pub fn is_plain(command: &Command) -> bool
-    ensures value { result ≡ is_plain_lem command.now }
-    ensures groups { result ≡ true → (t : Tables) (m : MemberId) → HasGroupsFor t m command.now }
+    ensures { result ≡ is_plain_lem command.now }
 {
     !matches!(
         command,
