@@ -4,11 +4,13 @@ ghost use Rattle.std.specs.Prelude.{◌≡◌, ◌<◌, length, true, None};
 ghost use Rattle.lock_cycle.specs.Books.{IsMember};
 ghost use Rattle.spool_disk.specs.Acts.{top};
 ghost use Rattle.mas_complex.specs.declared.places.Place.TheVariants.{Before as AtBefore};
+ghost use Rattle.mas_complex.specs.Locking.{MayAct};
 
 use crate::quiet::Quiet;
 use crate::shared::{FIRST, batch, halting, may_act, page, pages};
 use crate::writing::{formed, write};
 use ckpt_copy::{AreaCopy, Copying};
+use duplex_pair::PairNo;
 use mas_complex::Complex;
 use mas_types::{Dev, MemberId, Page};
 use spool_disk::Plant;
@@ -22,6 +24,28 @@ fn spend(complex: &mut Complex<Quiet, AreaCopy>, by: MemberId, commands: u16)
     ensures current { complex.new.current ≡ complex.old.current }
 {
     complex.spend(by, commands);
+}
+
+// Each copy has room again, and page 0 is read.
+fn read_settled(
+    complex: &mut Complex<Quiet, AreaCopy>,
+    by: MemberId,
+    pages: &[Page],
+) -> Result<Page, PairNo>
+    requires may { MayAct complex.old.book by }
+    requires none { complex.old.current ≡ None }
+    requires first { complex.old.first ≡ AtBefore }
+    requires second { complex.old.second ≡ AtBefore }
+    requires six { length pages.now ≡ 6 }
+    requires count1 { complex.old.pair.first.alive ≡ true → ⟦<AreaCopy as Copying>⟧.count complex.old.pair.first.copy ≡ 6 }
+    requires count2 { complex.old.pair.second.alive ≡ true → ⟦<AreaCopy as Copying>⟧.count complex.old.pair.second.copy ≡ 6 }
+    ensures book { complex.new.book ≡ complex.old.book }
+    ensures current { complex.new.current ≡ complex.old.current }
+{
+    complex.settle(by, pages)?;
+    let mut first = page(0);
+    complex.read_page(by, 0, &mut first)?;
+    Ok(first)
 }
 
 // What is left of the hold, the level of the page that is read, and who holds at the end.
@@ -48,9 +72,7 @@ fn whole(
     }
     complex.reserve(alloc, batch(alloc, FIRST)?)?;
     write(complex, FIRST, pages)?;
-    complex.settle(FIRST, pages)?;
-    let mut first = page(0);
-    complex.read_page(FIRST, 0, &mut first)?;
+    let first = read_settled(complex, FIRST, pages)?;
     spend(complex, FIRST, 4);
     if !may_act(complex, FIRST) {
         return Ok(None);

@@ -26,3 +26,4 @@ pub mod ToldAlike
 pub mod SpoolActs
 pub mod Quotients
 pub mod Counted
+pub mod Keeping

@@ -8,6 +8,7 @@ pub stand_alike : (Q R : Queue) (pages : List ℕ) → AreToldAlike Q R → Stan
 stand_alike Q R pages alike stand = let x = stand.tell in record {
   pages = stand.pages;
   level = stand.level;
+  sized = stand.sized;
   joined = stand.joined;
   tell = record { tables = x.tables; levels = x.levels; fit = x.fit; ages = x.ages; spell = x.spell; tell = alike x.tables x.tell };
 }

@@ -15,3 +15,4 @@ pub mod Recovers
 pub mod Locking
 pub mod Changed
 pub mod Replies
+pub mod Kept

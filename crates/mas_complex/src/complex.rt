@@ -23,6 +23,7 @@ ghost use Rattle.mas_complex.specs.Places.{IsPlaceAfter, HasNoOther, all_open};
 ghost use Rattle.mas_complex.specs.Crash.{Keeps, setting, copy_of, BeginsWith, IsUntold};
 ghost use Rattle.mas_complex.specs.Headline.{Headline, LeavesQueue};
 ghost use Rattle.mas_complex.specs.Elsewhere.{Elsewhere, OnCopies};
+ghost use Rattle.mas_complex.specs.Kept.{HaveKept, OnlyOnCopies};
 ghost use Rattle.mas_complex.specs.Changed.{NamesOnly};
 ghost use Rattle.mas_complex.specs.Texts.{HasTexts, spools_at, lost_now};
 ghost use Rattle.mas_complex.specs.Replies.{HaveReplies, AreReplied};
@@ -202,7 +203,7 @@ impl<P: Plant + Drop, C: Steady + Drop> Complex<P, C> {
     // The reserved batch begins.
     fn begin(&mut self, by: MemberId)
         requires none { self.old.current ≡ None }
-        requires replied { P.tells → HaveReplies (run self.old.base (kept_all self.old.journal.batches)) (entries_reserved self.old.reserved) }
+        requires replied { P.tells → ∥ HaveReplies (run self.old.base (kept_all self.old.journal.batches)) (entries_reserved self.old.reserved) ∥₁ }
         requires first { self.old.pair.first.alive ≡ true → self.old.first ≡ AtBefore }
         requires second { self.old.pair.second.alive ≡ true → self.old.second ≡ AtBefore }
         requires untold { P.tells → IsUntold (setting C.reads self.old.base self.old.since) (P.view self.old.plant) (entries_reserved self.old.reserved) }
@@ -511,12 +512,12 @@ impl<P: Plant + Drop, C: Steady + Drop> Complex<P, C> {
         requires own { All (λ e. e.by ≡ by) (entries_reserved self.old.reserved) }
         requires none { self.old.current ≡ None }
         requires reserved { IsSome self.old.reserved }
-        requires replied { P.tells → HaveReplies (run self.old.base (kept_all self.old.journal.batches)) (entries_reserved self.old.reserved) }
+        requires replied { P.tells → ∥ HaveReplies (run self.old.base (kept_all self.old.journal.batches)) (entries_reserved self.old.reserved) ∥₁ }
         requires first { self.old.pair.first.alive ≡ true → self.old.first ≡ AtBefore }
         requires second { self.old.pair.second.alive ≡ true → self.old.second ≡ AtBefore }
         requires untold { P.tells → IsUntold (setting C.reads self.old.base self.old.since) (P.view self.old.plant) (entries_reserved self.old.reserved) }
         requires texts { P.tells → ∥ HasTexts (lost_now (P.view self.old.plant)) (spools_at (P.view self.old.plant) (P.view self.old.plant).now) self.old.base.config.groups (run self.old.base (kept_all self.old.journal.batches ++ entries_reserved self.old.reserved)) ∥₁ }
-        requires queue { P.tells → AreToldAlike (run self.old.base (kept_all self.old.journal.batches)) (run self.old.base (kept_all self.old.journal.batches ++ entries_reserved self.old.reserved)) }
+        requires queue { P.tells → ∥ AreToldAlike (run self.old.base (kept_all self.old.journal.batches)) (run self.old.base (kept_all self.old.journal.batches ++ entries_reserved self.old.reserved)) ∥₁ }
         ensures plant { self.new.plant ≡ self.old.plant }
         ensures pair { self.new.pair ≡ self.old.pair }
         ensures base { self.new.base ≡ self.old.base }
@@ -640,7 +641,7 @@ impl<P: Plant + Drop, C: Steady + Drop> Complex<P, C> {
     fn begin_first(&mut self, by: MemberId)
         requires first { self.old.current ≡ None → self.old.pair.first.alive ≡ true → self.old.first ≡ AtBefore }
         requires second { self.old.current ≡ None → self.old.pair.second.alive ≡ true → self.old.second ≡ AtBefore }
-        requires replied { P.tells → self.old.current ≡ None → HaveReplies (run self.old.base (kept_all self.old.journal.batches)) (entries_reserved self.old.reserved) }
+        requires replied { P.tells → self.old.current ≡ None → ∥ HaveReplies (run self.old.base (kept_all self.old.journal.batches)) (entries_reserved self.old.reserved) ∥₁ }
         requires untold { P.tells → self.old.current ≡ None → IsUntold (setting C.reads self.old.base self.old.since) (P.view self.old.plant) (entries_reserved self.old.reserved) }
         requires texts { P.tells → self.old.current ≡ None → ∥ HasTexts (lost_now (P.view self.old.plant)) (spools_at (P.view self.old.plant) (P.view self.old.plant).now) self.old.base.config.groups (run self.old.base (kept_all self.old.journal.batches ++ entries_reserved self.old.reserved)) ∥₁ }
         ensures plant { self.new.plant ≡ self.old.plant }
@@ -697,7 +698,7 @@ impl<P: Plant + Drop, C: Steady + Drop> Complex<P, C> {
         requires texts { P.tells → self.old.current ≡ None → ∥ HasTexts (lost_now (P.view self.old.plant)) (spools_at (P.view self.old.plant) (P.view self.old.plant).now) self.old.base.config.groups (run self.old.base (kept_all self.old.journal.batches ++ entries_reserved self.old.reserved)) ∥₁ }
         requires queue { P.tells → ∥ StandFor (run self.old.base (kept_all self.old.journal.batches ++ coming self.old.current self.old.reserved)) (bytes_of pages.now) ∥₁ }
         requires some { 1 ≤ length (coming self.old.current self.old.reserved) }
-        requires replied { P.tells → self.old.current ≡ None → HaveReplies (run self.old.base (kept_all self.old.journal.batches)) (entries_reserved self.old.reserved) }
+        requires replied { P.tells → self.old.current ≡ None → ∥ HaveReplies (run self.old.base (kept_all self.old.journal.batches)) (entries_reserved self.old.reserved) ∥₁ }
         requires same { P.tells → (other dev self.old.pair.first self.old.pair.second).alive ≡ true → HasNoOther (other dev self.old.first self.old.second) (C.behind (other dev self.old.pair.first self.old.pair.second).copy (disk_now (P.view self.old.plant) (other dev Ckpt1 Ckpt2)).bytes) (C.reads (disk_now (P.view self.old.plant) (other dev Ckpt1 Ckpt2)).bytes) (bytes_of pages.now) }
         ensures base { self.new.base ≡ self.old.base }
         ensures since { self.new.since ≡ self.old.since }
@@ -803,7 +804,7 @@ impl<P: Plant + Drop, C: Steady + Drop> Complex<P, C> {
     }
 
     /// Makes room for puts again on each copy that counts as alive. The member holds the lock and isn't stopped, nothing may be
-    /// in flight, and the pages are those that these copies read.
+    /// in flight, and the pages are those that these copies read, and read afterwards.
     pub fn settle(&mut self, by: MemberId, pages: &[Page]) -> Result<(), PairNo>
         requires may { MayAct self.old.book by }
         requires none { self.old.current ≡ None }
@@ -827,8 +828,11 @@ impl<P: Plant + Drop, C: Steady + Drop> Complex<P, C> {
         ensures count2 { C.count self.new.pair.second.copy ≡ C.count self.old.pair.second.copy }
         ensures room1 { OnOk result (self.new.pair.first.alive ≡ true → C.room self.new.pair.first.copy ≡ C.room_most) }
         ensures room2 { OnOk result (self.new.pair.second.alive ≡ true → C.room self.new.pair.second.copy ≡ C.room_most) }
+        ensures still1 { OnOk result (P.tells → self.new.pair.first.alive ≡ true → C.reads (disk_now (P.view self.new.plant) Ckpt1).bytes ≡ Some (bytes_of pages.now)) }
+        ensures still2 { OnOk result (P.tells → self.new.pair.second.alive ≡ true → C.reads (disk_now (P.view self.new.plant) Ckpt2).bytes ≡ Some (bytes_of pages.now)) }
         ensures acted { PairActed by.0 self.old.pair.first.alive self.new.pair.first.alive self.old.pair.second.alive self.new.pair.second.alive (pair_stopped result) (P.view self.old.plant) (P.view self.new.plant) }
         ensures apart { P.tells → OnCopies (P.view self.old.plant) (P.view self.new.plant) }
+        ensures throughout { P.tells → OnlyOnCopies (P.view self.old.plant) (P.view self.new.plant) }
         ensures both { IsErrOf result PairNoBothLost → IsBothLost self.new.pair.first.alive self.new.pair.second.alive }
         ensures ok { OnOk result (SomeAlive self.new.pair.first.alive self.new.pair.second.alive) }
     {
@@ -862,11 +866,19 @@ impl<P: Plant + Drop, C: Steady + Drop> Complex<P, C> {
             → (self.new.pair.first.alive ≡ false → C.rests self.old.pair.second.copy was (disk_now (P.view self.old.plant) Ckpt2)) → into.new.0 ≡ page_in page was) }
         ensures acted { PairActed by.0 self.old.pair.first.alive self.new.pair.first.alive self.old.pair.second.alive self.new.pair.second.alive (pair_stopped result) (P.view self.old.plant) (P.view self.new.plant) }
         ensures apart { P.tells → OnCopies (P.view self.old.plant) (P.view self.new.plant) }
+        ensures throughout { P.tells → OnlyOnCopies (P.view self.old.plant) (P.view self.new.plant) }
         ensures both { IsErrOf result PairNoBothLost → IsBothLost self.new.pair.first.alive self.new.pair.second.alive }
         ensures ok { OnOk result (SomeAlive self.new.pair.first.alive self.new.pair.second.alive) }
     {
         self.pair.read_page(&mut self.plant, by, page, into)
     }
+
+    /// There are pages of the level reached that stand for the queue after the kept batches. Each copy that counts as alive, and is
+    /// as before any batch, is at rest with them: so what is read of the one, of the other, or of both, are these pages.
+    pub fn kept_pages(&self)
+        ensures { P.tells → ∥ HaveKept (run self.now.base (kept_all self.now.journal.batches)) self.now.level (C.rests self.now.pair.first.copy) (C.rests self.now.pair.second.copy)
+            self.now.pair.first.alive self.now.pair.second.alive self.now.first self.now.second (disk_now (P.view self.now.plant) Ckpt1) (disk_now (P.view self.now.plant) Ckpt2) ∥₁ }
+    {}
 
     /// Hands out the plant, the base, the first moment and the journal, of which the headline holds, and whose entries have
     /// their replies.

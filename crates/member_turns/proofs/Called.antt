@@ -1,13 +1,12 @@
 -- A value on whose copies the holder of the lock acted may be given back.
-use Rattle.std.proofs.Common.{◌≡◌, ◌≢◌, ◌⊎◌, inl, inr, ⊎_elim, ℕ, zero, suc, ◌+◌, ◌≤◌, ◌<◌, ◌==◌, Bool, true, false, List, [], ◌∷◌, ◌++◌, length, Option, Some, None, refl, sym, ap, subst, ◌∙◌, arith}
+use Rattle.std.proofs.Common.{◌≡◌, ◌≢◌, ◌⊎◌, inl, inr, ℕ, zero, suc, ◌+◌, ◌≤◌, ◌==◌, Bool, true, false, List, [], ◌∷◌, ◌++◌, length, Option, Some, None, refl, sym, ap, subst, ◌∙◌, arith}
 use Rattle.std.proofs.Math.Logic.{∥∥₁_elim}
 use Rattle.std.proofs.lemmas.Bool.{ne_eqb}
 use Rattle.std.proofs.lemmas.List.{append-nil}
 use Rattle.std.proofs.lemmas.List.Elements.{All-head, All-tail}
-use Rattle.std.specs.Prelude.{if◌then◌else◌, not, map, filter, drop, slice_index_or, All}
+use Rattle.std.specs.Prelude.{if◌then◌else◌, not, map, filter, drop, All}
 use Rattle.mas_types.specs.declared.ids.MemberId.{MemberId}
 use Rattle.mas_types.specs.declared.ids.GroupNo.{GroupNo}
-use Rattle.mas_types.specs.declared.ids.Dev.{Dev}
 use Rattle.mas_types.specs.declared.ids.Dev.TheVariants.{Ckpt1, Ckpt2, Spool}
 use Rattle.mas_types.specs.declared.journals.Batch.{Batch}
 use Rattle.mas_types.specs.declared.journals.Entry.{Entry}
@@ -15,8 +14,8 @@ use Rattle.mas_types.specs.declared.journals.Fate.TheVariants.{Kept, Dropped}
 use Rattle.mas_types.specs.declared.queues.Owner.{Owner}
 use Rattle.mas_types.specs.Ids.{same_member}
 use Rattle.mas_types.specs.Journal.{is_kept}
-use Rattle.mas_types.specs.Limits.{members_most, volumes_most, page_bytes}
-use Rattle.spool_disk.specs.View.{View, World, Disk, Line, disk_now, slice}
+use Rattle.mas_types.specs.Limits.{volumes_most, page_bytes}
+use Rattle.spool_disk.specs.View.{World, Disk, Line, disk_now, slice}
 use Rattle.spool_volumes.specs.Volumes.{volume_of, start_of}
 use Rattle.gate_facts.specs.declared.desks.Desk.{Desk}
 use Rattle.gate_facts.specs.declared.desks.Group.{Group}
@@ -25,9 +24,9 @@ use Rattle.gate_facts.specs.Values.{marked_at, number_at, no_desk, stopped_of, S
 use Rattle.gate_facts.specs.Memory.{EachOf, MayGiveBack}
 use Rattle.gate_facts.proofs.Lists.{true_false}
 use Rattle.gate_facts.proofs.Values.{synced_refl, later_refl}
-use Rattle.mas_complex.specs.CallCounts.{IsLostOnce, KeepsCounts}
+use Rattle.mas_complex.specs.CallCounts.{IsLostOnce}
 use Rattle.mas_complex.specs.Elsewhere.{OnCopies}
-use Rattle.mas_complex.specs.Journals.{kept_all, in_flight, coming, fated, with_last, IsPlace, EndsInPlace}
+use Rattle.mas_complex.specs.Journals.{kept_all, in_flight, coming, fated, with_last, EndsInPlace}
 use Rattle.mas_complex.specs.Locking.{IsOwn}
 use Rattle.mas_complex.specs.Meaning.{run}
 use Rattle.mas_complex.specs.Seen.{IsFatedBy}

@@ -1,5 +1,5 @@
 -- Commands of others leave a member's groups.
-use Rattle.std.proofs.Common.{◌≡◌, ◌≢◌, ℕ, ◌+◌, Bool, true, false, List, [], ◌∷◌, ◌++◌, refl, sym, ap, ◌∙◌}
+use Rattle.std.proofs.Common.{◌≡◌, ℕ, ◌+◌, Bool, true, false, List, [], ◌∷◌, refl, sym, ap, ◌∙◌}
 use Rattle.std.proofs.lemmas.Bool.{eq-eqb, ne_eqb}
 use Rattle.std.proofs.lemmas.List.Elements.{All-head, All-tail}
 use Rattle.std.specs.Prelude.{if◌then◌else◌, All}
@@ -10,57 +10,17 @@ use Rattle.mas_types.specs.declared.journals.Entry.{Entry}
 use Rattle.mas_types.specs.declared.queues.Owner.{Owner}
 use Rattle.mas_types.specs.declared.queues.Owner.TheVariants as owner
 use Rattle.mas_types.specs.declared.queues.Queue.{Queue}
-use Rattle.mas_types.specs.declared.commands.Command.{Command}
-use Rattle.mas_types.specs.declared.commands.Command.TheVariants as command
-use Rattle.mas_types.specs.Commands.Input.{enter_row, not_in_input}
 use Rattle.mas_types.specs.Ids.{same_member}
 use Rattle.mas_types.specs.Owners.{is_members}
 use Rattle.queue_laws.specs.Laws.{resets}
 use Rattle.queue_laws.specs.OwnerChange.{OwnerChange, is_no_members, Stays, Taken, Given, DeckFreed, OutputFreed, Released}
-use Rattle.queue_laws.proofs.Done.{done_keeps}
-use Rattle.queue_laws.proofs.OwnersFollow.{stay, effect_follows, owners_follow}
+use Rattle.queue_laws.proofs.OwnersFollow.{owners_follow}
 use Rattle.gate_facts.proofs.Lists.{true_false}
 use Rattle.mas_complex.specs.Journals.{kept_all}
 use Rattle.mas_complex.specs.Meaning.{step, run}
 use Rattle.mas_complex.proofs.Replied.{run_append}
 use Rattle.member_turns.specs.Desks.{groups_from}
 use Rattle.member_turns.specs.Laws.{Passes, PassingLeavesGroups}
-
--- each group goes as by the table of commands
-follow : (Q : Queue) (m : MemberId) (c : Command) → AllZip (OwnerChange m (λ h. resets h c)) Q.owners (step Q m c).0.owners
-follow Q m (command.Enter job text) =
-    done_keeps Q (record (enter_row Q m job text) { refusals = not_in_input Q m job }) (λ R. AllZip (OwnerChange m (λ h. resets h (command.Enter job text))) Q.owners R.owners) (stay m (λ h. resets h (command.Enter job text)) Q.owners)
-    (λ none. effect_follows Q m (command.Enter job text))
-follow Q m (command.Begin fields) = owners_follow Q m (command.Begin fields)
-follow Q m (command.Take want) = owners_follow Q m (command.Take want)
-follow Q m (command.Drop job) = owners_follow Q m (command.Drop job)
-follow Q m command.TakeConvert = owners_follow Q m command.TakeConvert
-follow Q m (command.Converted job) = owners_follow Q m (command.Converted job)
-follow Q m command.TakeExec = owners_follow Q m command.TakeExec
-follow Q m (command.Ended job specs) = owners_follow Q m (command.Ended job specs)
-follow Q m command.Gather = owners_follow Q m command.Gather
-follow Q m command.Pick = owners_follow Q m command.Pick
-follow Q m (command.Mark job index at) = owners_follow Q m (command.Mark job index at)
-follow Q m (command.Done job index) = owners_follow Q m (command.Done job index)
-follow Q m command.Purge = owners_follow Q m command.Purge
-follow Q m (command.Hold job) = owners_follow Q m (command.Hold job)
-follow Q m (command.Release job) = owners_follow Q m (command.Release job)
-follow Q m (command.Cancel job) = owners_follow Q m (command.Cancel job)
-follow Q m (command.SetPrio job prio) = owners_follow Q m (command.SetPrio job prio)
-follow Q m (command.SetClass job class) = owners_follow Q m (command.SetClass job class)
-follow Q m (command.Out job) = owners_follow Q m (command.Out job)
-follow Q m (command.CancelOut job index) = owners_follow Q m (command.CancelOut job index)
-follow Q m (command.SetOut job index class) = owners_follow Q m (command.SetOut job index class)
-follow Q m (command.Show what) = owners_follow Q m (command.Show what)
-follow Q m (command.SetInit classes) = owners_follow Q m (command.SetInit classes)
-follow Q m (command.SetPrt classes forms lines) = owners_follow Q m (command.SetPrt classes forms lines)
-follow Q m (command.Back lines) = owners_follow Q m (command.Back lines)
-follow Q m (command.Forward lines) = owners_follow Q m (command.Forward lines)
-follow Q m (command.Reset of_member) = owners_follow Q m (command.Reset of_member)
-follow Q m command.Restart = owners_follow Q m command.Restart
-follow Q m (command.Load line) = owners_follow Q m (command.Load line)
-follow Q m (command.Sent line number) = owners_follow Q m (command.Sent line number)
-follow Q m (command.Got line number job text) = owners_follow Q m (command.Got line number job text)
 
 module _ (h m : MemberId) (is_reset : MemberId → Bool) (apart : same_member h m ≡ false) (up : is_reset h ≡ false) where
   -- no other member is this one
@@ -98,7 +58,7 @@ left_run h Q [] all = refl
 left_run h Q (e ∷ es) all =
     let one = All-head (Passes h) e es all in
     left_run h (step Q e.by e.command).0 es (All-tail (Passes h) e es all)
-    ∙ same_from h e.by (λ k. resets k e.command) one.0 one.1 0 Q.owners (step Q e.by e.command).0.owners (follow Q e.by e.command)
+    ∙ same_from h e.by (λ k. resets k e.command) one.0 one.1 0 Q.owners (step Q e.by e.command).0.owners (owners_follow Q e.by e.command)
 
 pub passing_leaves : PassingLeavesGroups
 passing_leaves x by es pass m ne up =

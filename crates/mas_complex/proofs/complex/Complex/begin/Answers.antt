@@ -35,6 +35,6 @@ invariant_of-self-clause-replied g c told =
     let s = c.args.self.now in
     let es = c.in-Some.entries in
     let e : entries_reserved s.reserved ≡ es = ap entries_reserved (sym c.take.ensures.value ∙ c.in-Some.is) in
-    ∥∥₁_map (s.replied told) (λ are. begun_replied s.base s.journal.batches (record { first = c.now-first.result; last = 2 ^ 64 - 1; by = c.args.by; fate = Flying; entries = es })
+    ∥∥₁_elim (s.replied told) ∥∥₁_prop (λ are. ∥∥₁_map (c.requires.replied told) (λ replies. begun_replied s.base s.journal.batches (record { first = c.now-first.result; last = 2 ^ 64 - 1; by = c.args.by; fate = Flying; entries = es })
     (subst (λ (x : Option Batch). AreReplied s.base (s.journal.batches ++ in_flight x)) c.requires.none are)
-    (subst (λ (l : List Entry). HaveReplies (run s.base (kept_all s.journal.batches)) l) e (c.requires.replied told)))
+    (subst (λ (l : List Entry). HaveReplies (run s.base (kept_all s.journal.batches)) l) e replies)))

@@ -26,15 +26,15 @@ invariant_of-self-clause-kept g c told =
     let old = g.P.Plant.view s.plant in
     let es = c.in-Some.entries in
     let e : entries_reserved s.reserved ≡ es = ap entries_reserved (sym c.take.ensures.value ∙ c.in-Some.is) in
-    ∥∥₁_elim (s.kept told) ∥∥₁_prop (λ k. ∥∥₁_elim (c.requires.texts told) ∥∥₁_prop (λ texts. ∥∥₁_map s.place (λ has. rw (c.set_last.ensures, c.requires.none)
+    ∥∥₁_elim (s.kept told) ∥∥₁_prop (λ k. ∥∥₁_elim (c.requires.texts told) ∥∥₁_prop (λ texts. ∥∥₁_elim (c.requires.queue told) ∥∥₁_prop (λ alike. ∥∥₁_map s.place (λ has. rw (c.set_last.ensures, c.requires.none)
     (same_placed S s.level first second old (λ pages d r. g.met.C.Copying.rests_reads s.pair.first.copy pages d r) (λ was next d r. g.met.C.Copying.holds_reads s.pair.first.copy was next d r) (λ pages d r. g.met.C.Copying.rests_reads s.pair.second.copy pages d r) (λ was next d r. g.met.C.Copying.holds_reads s.pair.second.copy was next d r) s.journal.batches (has_ends s.placed s.journal.batches (s.place_reserved c.requires.reserved) has)
     (record { first = c.now-now.result; last = c.now-now.result; by = c.args.by; fate = Kept; entries = es })
     (record { first = c.now-now.result; last = 0; by = c.args.by; fate = Flying; entries = es })
     (subst (λ (x : Option Batch). Keeps S s.journal.batches x s.level first second old) c.requires.none k) refl c.now-now.ensures
     (subst (λ (l : List Entry). IsUntold S old l) e (c.requires.untold told)) refl refl refl c.now-now.ensures
     (λ pages. stand_alike (S.run S.base (kept_all s.journal.batches)) (S.run S.base (kept_all s.journal.batches ++ es)) pages
-    (subst (λ (l : List Entry). AreToldAlike (S.run S.base (kept_all s.journal.batches)) (S.run S.base (kept_all s.journal.batches ++ l))) e (c.requires.queue told)))
-    (subst (λ (l : List Entry). HasTexts (lost_now old) (spools_at old old.now) s.base.config.groups (run s.base (kept_all s.journal.batches ++ l))) e texts)))))
+    (subst (λ (l : List Entry). AreToldAlike (S.run S.base (kept_all s.journal.batches)) (S.run S.base (kept_all s.journal.batches ++ l))) e alike))
+    (subst (λ (l : List Entry). HasTexts (lost_now old) (spools_at old old.now) s.base.config.groups (run s.base (kept_all s.journal.batches ++ l))) e texts))))))
 
 pub invariant_of-self-clause-replied : goal.invariant_of-self-clause-replied
 invariant_of-self-clause-replied g c told =
@@ -42,6 +42,6 @@ invariant_of-self-clause-replied g c told =
     let es = c.in-Some.entries in
     let e : entries_reserved s.reserved ≡ es = ap entries_reserved (sym c.take.ensures.value ∙ c.in-Some.is) in
     let b : Batch = record { first = c.now-now.result; last = c.now-now.result; by = c.args.by; fate = Kept; entries = es } in
-    ∥∥₁_elim (s.replied told) ∥∥₁_prop (λ are. ∥∥₁_map s.place (λ has. rw (c.set_last.ensures, c.requires.none)
+    ∥∥₁_elim (s.replied told) ∥∥₁_prop (λ are. ∥∥₁_elim (c.requires.replied told) ∥∥₁_prop (λ replies. ∥∥₁_map s.place (λ has. rw (c.set_last.ensures, c.requires.none)
     (and_none s.base (with_last b s.journal.batches) (with_replied s.base s.journal.batches (in_flight s.current) b (has_ends s.placed s.journal.batches (s.place_reserved c.requires.reserved) has) are
-    (subst (λ (l : List Entry). HaveReplies (run s.base (kept_all s.journal.batches)) l) e (c.requires.replied told))))))
+    (subst (λ (l : List Entry). HaveReplies (run s.base (kept_all s.journal.batches)) l) e replies))))))

@@ -48,3 +48,6 @@ returns-clause-bytes g c told = read_bytes (g.P.Plant.view c.args.self.now.plant
 
 pub returns-clause-apart : goal.returns-clause-apart
 returns-clause-apart g c told = on_both _ _ (g.P.Plant.view c.args.self.now.plant) (g.P.Plant.view c.read_page.new.plant) (c.read_page.ensures.during told)
+
+pub returns-clause-throughout : goal.returns-clause-throughout
+returns-clause-throughout g c told = (c.read_page.ensures.during told).others

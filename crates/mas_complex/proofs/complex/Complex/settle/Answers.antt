@@ -1,5 +1,6 @@
 use Rattle.std.proofs.Common.{arith}
-use Rattle.std.proofs.Math.Logic.{∥∥₁_map}
+use Rattle.std.proofs.Math.Logic.{∥∥₁_map, ∥∥₁_elim}
+use Rattle.std.specs.Coded.{Coded-set, coded_list, coded_option, coded_ℕ}
 use Rattle.mas_types.specs.declared.ids.Dev.TheVariants.{Ckpt1, Ckpt2}
 use Rattle.spool_disk.specs.View.{disk_now}
 use Rattle.ckpt_copy.specs.Pages.{bytes_of}
@@ -8,7 +9,8 @@ use Rattle.ckpt_copy.specs.Reading.{AllRead}
 use Rattle.duplex_pair.specs.Both.{Touched}
 use Rattle.mas_complex.proofs.Calm.{both_keep, settle_rests, settle_reads, settle_copy}
 use Rattle.mas_complex.proofs.Lost.{pair_lost}
-use Rattle.mas_complex.proofs.Apart.{on_both, on_is}
+use Rattle.mas_complex.proofs.Shows.{on_ok}
+use Rattle.mas_complex.proofs.Apart.{coded_disk, on_both, on_is}
 use Rattle.mas_complex.proofs.complex.Complex.settle.Goals as goal
 
 pub invariant_of-self-clause-kept : goal.invariant_of-self-clause-kept
@@ -61,3 +63,50 @@ returns-clause-apart g c told =
     on_is old new (∥∥₁_map (s.kept told) (λ kk. on_both _ _ old new (c.settle-done.ensures.during told
     (settle_rests S kk.was kk.coming Ckpt1 old new first.rests (C.rests p.first.copy) first.holds (C.holds p.first.copy) first.place c.place_after-self.result first.alive p.first.alive pages kk.first_at c.requires.first (λ was d r. g.met.C.Copying.rests_now s.pair.first.copy was d r) (c.requires.reads1 told))
     (settle_rests S kk.was kk.coming Ckpt2 old new second.rests (C.rests p.second.copy) second.holds (C.holds p.second.copy) second.place c.place_after-self-2.result second.alive p.second.alive pages kk.second_at c.requires.second (λ was d r. g.met.C.Copying.rests_now s.pair.second.copy was d r) (c.requires.reads2 told)))))
+
+pub returns-clause-throughout : goal.returns-clause-throughout
+returns-clause-throughout g c told =
+    let s = c.args.self.now in
+    let C = g.C.Copying in
+    let S : Setting = setting C.reads s.base s.since in
+    let first = copy_of (C.rests s.pair.first.copy) (C.holds s.pair.first.copy) s.pair.first.alive s.first in
+    let second = copy_of (C.rests s.pair.second.copy) (C.holds s.pair.second.copy) s.pair.second.alive s.second in
+    let old = g.P.Plant.view s.plant in
+    let new = g.P.Plant.view c.settle-done.new.plant in
+    let p = c.settle-done.new.self in
+    let pages = bytes_of c.args.pages.now in
+    λ t from le d one two. ∥∥₁_elim (s.kept told) (Coded-set coded_disk _ _) (λ kk. (c.settle-done.ensures.during told
+    (settle_rests S kk.was kk.coming Ckpt1 old new first.rests (C.rests p.first.copy) first.holds (C.holds p.first.copy) first.place c.place_after-self.result first.alive p.first.alive pages kk.first_at c.requires.first (λ was d r. g.met.C.Copying.rests_now s.pair.first.copy was d r) (c.requires.reads1 told))
+    (settle_rests S kk.was kk.coming Ckpt2 old new second.rests (C.rests p.second.copy) second.holds (C.holds p.second.copy) second.place c.place_after-self-2.result second.alive p.second.alive pages kk.second_at c.requires.second (λ was d r. g.met.C.Copying.rests_now s.pair.second.copy was d r) (c.requires.reads2 told))).others t from le d one two)
+
+pub returns-clause-still1 : goal.returns-clause-still1
+returns-clause-still1 g c =
+    let s = c.args.self.now in
+    let C = g.C.Copying in
+    let S : Setting = setting C.reads s.base s.since in
+    let first = copy_of (C.rests s.pair.first.copy) (C.holds s.pair.first.copy) s.pair.first.alive s.first in
+    let second = copy_of (C.rests s.pair.second.copy) (C.holds s.pair.second.copy) s.pair.second.alive s.second in
+    let old = g.P.Plant.view s.plant in
+    let new = g.P.Plant.view c.settle-done.new.plant in
+    let p = c.settle-done.new.self in
+    let pages = bytes_of c.args.pages.now in
+    on_ok c.settle-done.result c.settle-done.ensures.settled1 (λ held told now. ∥∥₁_elim (s.kept told) (Coded-set (coded_option (coded_list coded_ℕ)) _ _) (λ kk.
+    g.met.C.Copying.rests_now p.first.copy pages (disk_now new Ckpt1) (held told
+    (settle_rests S kk.was kk.coming Ckpt1 old new first.rests (C.rests p.first.copy) first.holds (C.holds p.first.copy) first.place c.place_after-self.result first.alive p.first.alive pages kk.first_at c.requires.first (λ was d r. g.met.C.Copying.rests_now s.pair.first.copy was d r) (c.requires.reads1 told))
+    (settle_rests S kk.was kk.coming Ckpt2 old new second.rests (C.rests p.second.copy) second.holds (C.holds p.second.copy) second.place c.place_after-self-2.result second.alive p.second.alive pages kk.second_at c.requires.second (λ was d r. g.met.C.Copying.rests_now s.pair.second.copy was d r) (c.requires.reads2 told)) now)))
+
+pub returns-clause-still2 : goal.returns-clause-still2
+returns-clause-still2 g c =
+    let s = c.args.self.now in
+    let C = g.C.Copying in
+    let S : Setting = setting C.reads s.base s.since in
+    let first = copy_of (C.rests s.pair.first.copy) (C.holds s.pair.first.copy) s.pair.first.alive s.first in
+    let second = copy_of (C.rests s.pair.second.copy) (C.holds s.pair.second.copy) s.pair.second.alive s.second in
+    let old = g.P.Plant.view s.plant in
+    let new = g.P.Plant.view c.settle-done.new.plant in
+    let p = c.settle-done.new.self in
+    let pages = bytes_of c.args.pages.now in
+    on_ok c.settle-done.result c.settle-done.ensures.settled2 (λ held told now. ∥∥₁_elim (s.kept told) (Coded-set (coded_option (coded_list coded_ℕ)) _ _) (λ kk.
+    g.met.C.Copying.rests_now p.second.copy pages (disk_now new Ckpt2) (held told
+    (settle_rests S kk.was kk.coming Ckpt1 old new first.rests (C.rests p.first.copy) first.holds (C.holds p.first.copy) first.place c.place_after-self.result first.alive p.first.alive pages kk.first_at c.requires.first (λ was d r. g.met.C.Copying.rests_now s.pair.first.copy was d r) (c.requires.reads1 told))
+    (settle_rests S kk.was kk.coming Ckpt2 old new second.rests (C.rests p.second.copy) second.holds (C.holds p.second.copy) second.place c.place_after-self-2.result second.alive p.second.alive pages kk.second_at c.requires.second (λ was d r. g.met.C.Copying.rests_now s.pair.second.copy was d r) (c.requires.reads2 told)) now)))

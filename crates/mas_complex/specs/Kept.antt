@@ -1,0 +1,22 @@
+-- The pages that both copies have between batches.
+use Rattle.std.specs.Prelude.{◌≡◌, ◌≢◌, ℕ, Bool, true, List}
+use Rattle.mas_types.specs.declared.ids.Dev.{Dev}
+use Rattle.mas_types.specs.declared.ids.Dev.TheVariants.{Ckpt1, Ckpt2}
+use Rattle.mas_types.specs.declared.queues.Queue.{Queue}
+use Rattle.spool_disk.specs.View.{View, Disk, Throughout, disk_at, disk_now}
+use Rattle.ckpt_copy.specs.Pages.{level}
+use Rattle.mas_complex.specs.declared.places.Place.{Place}
+use Rattle.mas_complex.specs.declared.places.Place.TheVariants.{Before}
+use Rattle.mas_complex.specs.Meaning.{StandFor}
+
+-- There are pages of this level, which stand for the queue. A copy that counts as alive and is as before any batch is at rest with them.
+pub record HaveKept (Q : Queue) (reached : ℕ) (rests1 rests2 : List ℕ → Disk → Type 0) (alive1 alive2 : Bool) (first second : Place) (one two : Disk) : Type 0 where
+  pub was : List ℕ
+  pub at_level : level was ≡ reached
+  pub queue : StandFor Q was
+  pub at_first : alive1 ≡ true → first ≡ Before → rests1 was one
+  pub at_second : alive2 ≡ true → second ≡ Before → rests2 was two
+
+-- at each moment of a call every volume is as before it
+abbrev pub OnlyOnCopies : View → View → Type 0
+OnlyOnCopies old new = Throughout old.now new.now (λ t. (d : Dev) → d ≢ Ckpt1 → d ≢ Ckpt2 → disk_at new t d ≡ disk_now old d)
