@@ -18,12 +18,14 @@ use Rattle.mas_complex.specs.Crash.{setting, CopyAt, copy_of}
 use Rattle.table_queues.specs.Telling.{Tell}
 use Rattle.mas_complex.specs.Meaning.{StandFor}
 use Rattle.warm_start.specs.Starting.{IsSeen, IsFound, IsUnfit}
+use Rattle.warm_start.specs.Usable.{HaveSize}
 
 -- the pages stand for a queue that their tables tell
-pub stand_of : (base : Queue) (pages : List Page) (t : Tables) → IsCheckpoint pages t → Tell t base → StandFor base (bytes_of pages)
-stand_of base pages t is told = record {
+pub stand_of : (base : Queue) (pages : List Page) (t : Tables) → HaveSize pages → IsCheckpoint pages t → Tell t base → StandFor base (bytes_of pages)
+stand_of base pages t sized is told = record {
   pages = pages;
   level = is.level;
+  sized = sized;
   joined = refl;
   tell = record { tables = t; levels = is.levels; fit = is.fit; ages = is.ages; spell = is.spell; tell = told };
 }

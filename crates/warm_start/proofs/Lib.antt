@@ -1,6 +1,5 @@
 pub mod Orders
 pub mod Bared
-pub mod LevelLemmas
 pub mod Seeing
 pub mod Finding
 pub mod Starts
@@ -8,4 +7,4 @@ pub mod Inspections
 pub mod Again
 pub mod Begun
 pub mod Prepared
-mod Spooling
+pub mod Spooling

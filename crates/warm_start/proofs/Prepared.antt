@@ -1,12 +1,18 @@
 -- A start that reads the spool volumes once it has looked at the copies.
+use Rattle.std.proofs.lemmas.List.Elements.{All-weaker}
 use Rattle.std.proofs.Common.{◌≡◌, ◌≢◌, inl, inr, ⊎_elim, ℕ, ◌<◌, ◌≤◌, Bool, true, false, List, [], Option, refl, sym, ◌∙◌, ap, subst, arith}
 use Rattle.mas_types.specs.declared.ids.Dev.TheVariants.{Ckpt1, Ckpt2, Spool}
+use Rattle.mas_types.specs.declared.jobs.Job.{Job}
+use Rattle.mas_types.specs.declared.jobs.Output.{Output as QueueOutput}
 use Rattle.mas_types.specs.declared.queues.Queue.{Queue}
+use Rattle.mas_types.specs.declared.queues.Thing.TheVariants.{Deck, Output}
 use Rattle.spool_disk.specs.declared.plant.Part.TheVariants.{Disk as DiskPart}
 use Rattle.spool_disk.specs.View.{View, World, Disk, disk_at, disk_now}
 use Rattle.ckpt_copy.specs.Changes.{NoMore}
 use Rattle.ckpt_copy.specs.Moments.{either_way, goes_on}
 use Rattle.ckpt_copy.specs.Pages.{bytes_of}
+use Rattle.track_groups.specs.Places.{groups_of}
+use Rattle.spool_volumes.specs.Volumes.{volumes_now, bytes_unless, IsSteady}
 use Rattle.spool_volumes.specs.Looks.{OnlyLooksAt, LooksAt}
 use Rattle.duplex_pair.specs.Halves.{IsGone}
 use Rattle.duplex_pair.specs.Both.{PairActed, BothMeanwhile}
@@ -17,7 +23,9 @@ use Rattle.warm_start.specs.declared.choosing.Start.{Start}
 use Rattle.warm_start.specs.declared.choosing.StartNo.{StartNo}
 use Rattle.warm_start.specs.declared.choosing.StartNo.TheVariants.{BothLost}
 use Rattle.warm_start.specs.Starting.{Chosen, IsCauseOf, IsHeld, OnlyLooked, OnlyLookedAtAll, HeldBack, Starts, WhileStarting}
+use Rattle.warm_start.specs.Spooled.{IsGiven, AreGiven}
 use Rattle.warm_start.proofs.Begun.{found_later, unfit_later}
+use Rattle.warm_start.proofs.Spooling.{given_same}
 use Rattle.warm_start.proofs.Seeing.{has_later}
 use Rattle.warm_start.proofs.Starts.{fits_later, held_since, less_held, less_more, no_volume1, no_volume2, starts_looked}
 
@@ -158,3 +166,28 @@ pub texts_left : (per : ℕ) (Q : Queue) (P R : Disk → Type 0) (mid new : View
 texts_left per Q P R mid new held has =
     texts_same per (spools_at mid mid.now) (spools_at new new.now) (lost_now new) Q (λ n. held.others new.now held.goes.later (omega arith) (Spool n) (no_volume n) (no_volume_too n))
     (texts_fewer (lost_now mid) (lost_now new) (spools_at mid mid.now) per Q (λ n lost. held.goes.lost (DiskPart (Spool n)) lost) has)
+
+-- and so does what the volumes give
+pub given_alike : (per : ℕ) (Q : Queue) (v w : View) → ((n : ℕ) → volumes_now w n ≡ volumes_now v n) → AreGiven v per Q → AreGiven w per Q
+given_alike per Q v w same given = record {
+  decks = All-weaker (λ (j : Job). IsGiven v per j.text (groups_of (Deck j.number) Q.owners)) (λ (j : Job). IsGiven w per j.text (groups_of (Deck j.number) Q.owners))
+      (λ j was. given_same v w per j.text (groups_of (Deck j.number) Q.owners) same was) Q.jobs given.decks;
+  outputs = All-weaker (λ (o : QueueOutput). IsGiven v per o.text (groups_of (Output o.job o.index) Q.owners)) (λ (o : QueueOutput). IsGiven w per o.text (groups_of (Output o.job o.index) Q.owners))
+      (λ o was. given_same v w per o.text (groups_of (Output o.job o.index) Q.owners) same was) Q.outputs given.outputs;
+}
+
+pub given_kept : (per : ℕ) (Q : Queue) (P R : Disk → Type 0) (mid new : View) → BothMeanwhile P R mid new → IsSteady mid new → AreGiven mid per Q → AreGiven new per Q
+given_kept per Q P R mid new held steady given = given_alike per Q mid new same given where
+  same : (n : ℕ) → volumes_now new n ≡ volumes_now mid n
+  same n =
+      ap (λ (b : Bool). bytes_unless b (disk_now new (Spool n)).bytes) (steady n)
+      ∙ ap (λ (d : Disk). bytes_unless (mid.lost (DiskPart (Spool n))) d.bytes) (held.others new.now held.goes.later (omega arith) (Spool n) (no_volume n) (no_volume_too n))
+
+-- it is what they gave before the start
+pub given_before : (per : ℕ) (Q : Queue) (P R : Disk → Type 0) (old new : View) → WhileStarting P R old new → IsSteady old new → AreGiven new per Q → AreGiven old per Q
+given_before per Q P R old new held steady given = given_alike per Q new old same given where
+  same : (n : ℕ) → volumes_now old n ≡ volumes_now new n
+  same n =
+      sym
+      (ap (λ (b : Bool). bytes_unless b (disk_now new (Spool n)).bytes) (steady n)
+      ∙ ap (bytes_unless (old.lost (DiskPart (Spool n)))) (held.volumes new.now held.goes.later (omega arith) n).bytes)

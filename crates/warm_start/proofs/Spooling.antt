@@ -30,7 +30,7 @@ use Rattle.ckpt_pages.specs.QueueOf.{job_with, output_with}
 use Rattle.track_groups.specs.Groups.{is_things, groups_where}
 use Rattle.track_groups.specs.Laws.{AreItsOwn}
 use Rattle.track_groups.specs.Places.{groups_of}
-use Rattle.spool_volumes.specs.Volumes.{Volumes, volume_of, start_of, IsPlaced}
+use Rattle.spool_volumes.specs.Volumes.{Volumes, volume_of, start_of, volumes_now, bytes_unless, IsPlaced, IsSteady}
 use Rattle.spool_volumes.specs.Texts.{held, records_on, text_of}
 use Rattle.spool_volumes.specs.Looks.{lie_on_lost, OnlyLooksAt, LooksAt}
 use Rattle.spool_volumes.proofs.LookLemmas.{looks_then, still}
@@ -39,7 +39,7 @@ use Rattle.output_queue.specs.Outputs as outputs
 use Rattle.mas_complex.specs.Texts.{lost_now, spools_at, bytes_on, IsThereUnless, IsReadUnless, HasTexts}
 use Rattle.mas_complex.proofs.Quotients.{few_quotient}
 use Rattle.mas_complex.proofs.Spooled.{same_text}
-use Rattle.warm_start.specs.Spooled.{AreRoomy}
+use Rattle.warm_start.specs.Spooled.{AreRoomy, IsGiven, AreGiven}
 
 -- LOST VOLUMES
 
@@ -125,15 +125,13 @@ module _ (config : Config) (is : IsConfig config) (gs : List GroupNo) (below : A
   volumes_of : All (λ (g : GroupNo). volume_of config.groups g ≤ config.volumes) gs
   volumes_of k d lt = few_quotient (slice_index_or gs k d).0 config.volumes config.groups is.groups.0 (below k d lt)
 
-  pub numbered : All (λ (g : GroupNo). volume_of config.groups g ≤ 255) gs
-  numbered k d lt = omega (arith, volumes_of k d lt, is.volumes.1)
-
-  pub placed : (v : View) → AreRoomy v config → lie_on_lost v config.groups gs ≡ false → All (IsPlaced v config.groups) gs
-  placed v roomy none k d lt =
+  pub placed : (v : View) → AreRoomy v config → All (IsPlaced v config.groups) gs
+  placed v roomy k d lt =
       let g = slice_index_or gs k d in
-      let there = all_false (λ (h : GroupNo). v.lost (DiskPart (Spool (volume_of config.groups h)))) gs none k d lt in
-      let room = roomy (volume_of config.groups g) (omega arith) (volumes_of k d lt) there in
-      record { volume = numbered k d lt; within = omega (arith, room, is.groups.0) }
+      record {
+        volume = omega (arith, volumes_of k d lt, is.volumes.1);
+        within = λ there. let room = roomy (volume_of config.groups g) (omega arith) (volumes_of k d lt) there in omega (arith, room, is.groups.0);
+      }
 
   -- a text that is read from volumes that are synced stands there
   pub stands : (v : View) (text : Text) → ((n : ℕ) → 1 ≤ n → n ≤ config.volumes → v.lost (DiskPart (Spool n)) ≡ false → (s : Stretch) → Avoids (disk_now v (Spool n)).unsynced s)
@@ -158,6 +156,35 @@ read_later first now later again per text gs same goes read none =
 pub shown_same : (old new : View) → OnlyLooksAt old new → (n : ℕ) → bytes_on (spools_at new new.now) n ≡ bytes_on (spools_at old old.now) n
 shown_same old new only n = ap Some (still old new only n).bytes
 
+-- WHERE NO VOLUME IS LOST
+
+in_between : (a b c : Bool) → (a ≡ true → b ≡ true) → (b ≡ true → c ≡ true) → c ≡ a → b ≡ a
+in_between true b c first then_too same = first refl
+in_between false b c first then_too same = unlost b c then_too same
+
+module _ (old mid new : View) (first : Goes old mid) (then_too : Goes mid new) (steady : IsSteady old new) where
+  pub steady_first : IsSteady old mid
+  steady_first n =
+      let p = DiskPart (Spool n) in
+      in_between (old.lost p) (mid.lost p) (new.lost p) (first.lost p) (then_too.lost p) (steady n)
+
+  pub steady_then : IsSteady mid new
+  steady_then n = steady n ∙ sym (steady_first n)
+
+volumes_same : (old new : View) → OnlyLooksAt old new → IsSteady old new → (n : ℕ) → volumes_now new n ≡ volumes_now old n
+volumes_same old new only steady n = ap (λ (b : Bool). bytes_unless b (disk_now new (Spool n)).bytes) (steady n) ∙ ap (bytes_unless (old.lost (DiskPart (Spool n)))) (still old new only n).bytes
+
+-- what the volumes of two moments give alike
+pub given_same : (v w : View) (per : ℕ) (text : Text) (gs : List GroupNo) → ((n : ℕ) → volumes_now w n ≡ volumes_now v n) → IsGiven v per text gs → IsGiven w per text gs
+given_same v w per text gs same given =
+    same_text (records_on (volumes_now w) per) (records_on (volumes_now v) per) (line_count text) gs
+    (λ k d lt. ap (λ (o : Option (List ℕ)). held (option_map (slice (start_of per (slice_index_or gs k d)) page_bytes) o)) (same (volume_of per (slice_index_or gs k d))))
+    ∙ given
+
+-- the text that was read is what is given
+pub given_as : (v : View) (per count : ℕ) (text : Text) (gs : List GroupNo) → line_count text ≡ count → text ≡ text_of (records_on (volumes_now v) per) count gs → IsGiven v per text gs
+given_as v per count text gs counted is = ap (λ (n : ℕ). text_of (records_on (volumes_now v) per) n gs) counted ∙ sym is
+
 -- what the slot counts, and the text that was read
 pub read_unless : (v : View) (shown : Volumes) (per count : ℕ) (text : Text) (gs : List GroupNo) → line_count text ≡ count → (lie_on_lost v per gs ≡ false → text ≡ text_of (records_on shown per) count gs) → IsReadUnless (lost_now v) shown per text gs
 read_unless v shown per count text gs counted left none = ap (λ (n : ℕ). text_of (records_on shown per) n gs) counted ∙ sym (left none)
@@ -174,31 +201,52 @@ module _ {R X C : Type 0} (shown : R → C) (shows : X → C) (text : X → Text
   abbrev pub IsReadOf : View → View → X → Type 0
   IsReadOf first now x = IsReadUnless (lost_now now) (bytes_on (spools_at first first.now)) per (text x) (groups x)
 
+  abbrev pub IsGivenOf : View → X → Type 0
+  IsGivenOf v x = IsGiven v per (text x) (groups x)
+
   pub record HaveTexts (first now : View) (records : List R) (things : List X) : Type 0 where
     pub looks : LooksAt tells 0 first now
     pub same : map shown records ≡ map shows things
     pub texts : tells → All (IsReadOf first now) things
+    pub given : tells → IsSteady first now → All (IsGivenOf first) things
 
-  pub one_more : (first now new : View) (records : List R) (things : List X) (r : R) (x : X) → HaveTexts first now records things → LooksAt tells 0 now new → shows x ≡ shown r → (tells → IsReadOf now new x)
+  pub one_more : (first now new : View) (records : List R) (things : List X) (r : R) (x : X) → HaveTexts first now records things → LooksAt tells 0 now new → shows x ≡ shown r → (tells → IsReadOf now new x) → (tells → IsSteady now new → IsGivenOf now x)
       → HaveTexts first new (records ++ r ∷ []) (things ++ x ∷ [])
-  one_more first now new records things r x have looks is read = record {
+  one_more first now new records things r x have looks is read is_given = record {
     looks = looks_then first now new tells 0 have.looks looks;
     same = map-append shown records (r ∷ []) ∙ ap (λ (cs : List C). cs ++ shown r ∷ []) have.same ∙ ap (λ (y : C). map shows things ++ y ∷ []) (sym is) ∙ sym (map-append shows things (x ∷ []));
     texts = λ told. All-append (IsReadOf first new) things (x ∷ [])
         (All-weaker (IsReadOf first now) (IsReadOf first new) (λ y was. read_later first now new first per (text y) (groups y) (λ n. refl) looks.goes was) things (have.texts told))
         (All-cons (IsReadOf first new) x [] (read_later now new new first per (text x) (groups x) (λ n. sym (shown_same first now (have.looks.during told) n)) (goes_none new) (read told)) (All-nil (IsReadOf first new)));
+    given = λ told steady.
+        let before = steady_first first now new have.looks.goes looks.goes steady in
+        All-append (IsGivenOf first) things (x ∷ []) (have.given told before)
+        (All-cons (IsGivenOf first) x []
+        (given_same now first per (text x) (groups x) (λ n. sym (volumes_same first now (have.looks.during told) before n)) (is_given told (steady_then first now new have.looks.goes looks.goes steady)))
+        (All-nil (IsGivenOf first)));
   }
 
   -- the record at a place
-  pub next_one : (first now new : View) (records : List R) (at : ℕ) (d : R) (things : List X) (x : X) → at < length records → HaveTexts first now (take at records) things → LooksAt tells 0 now new → shows x ≡ shown (get_or records at d) → (tells → IsReadOf now new x)
+  pub next_one : (first now new : View) (records : List R) (at : ℕ) (d : R) (things : List X) (x : X) → at < length records → HaveTexts first now (take at records) things → LooksAt tells 0 now new → shows x ≡ shown (get_or records at d) → (tells → IsReadOf now new x) → (tells → IsSteady now new → IsGivenOf now x)
       → HaveTexts first new (take (at + 1) records) (things ++ x ∷ [])
-  next_one first now new records at d things x lt have looks is read =
-      subst (λ (rs : List R). HaveTexts first new rs (things ++ x ∷ [])) (sym (take_more records at d lt)) (one_more first now new (take at records) things (get_or records at d) x have looks is read)
+  next_one first now new records at d things x lt have looks is read is_given =
+      subst (λ (rs : List R). HaveTexts first new rs (things ++ x ∷ [])) (sym (take_more records at d lt)) (one_more first now new (take at records) things (get_or records at d) x have looks is read is_given)
 
   -- and later
   pub later_texts : (first now new : View) (things : List X) → OnlyLooksAt first new → Goes now new → All (IsReadOf first now) things → All (IsReadOf new new) things
   later_texts first now new things only goes all =
       All-weaker (IsReadOf first now) (IsReadOf new new) (λ x was. read_later first now new new per (text x) (groups x) (shown_same first new only) goes was) things all
+
+  -- and so is what is given
+  pub given_later : (first new : View) (things : List X) → OnlyLooksAt first new → IsSteady first new → All (IsGivenOf first) things → All (IsGivenOf new) things
+  given_later first new things only steady all =
+      All-weaker (IsGivenOf first) (IsGivenOf new) (λ x was. given_same first new per (text x) (groups x) (volumes_same first new only steady) was) things all
+
+pub are_given : (v : View) (per : ℕ) (owners : List Owner) (Q : Queue) → Q.owners ≡ owners → All (λ j. IsGiven v per j.text (groups_of (Deck j.number) owners)) Q.jobs → All (λ o. IsGiven v per o.text (groups_of (Output o.job o.index) owners)) Q.outputs → AreGiven v per Q
+are_given v per owners Q same decks outputs = record {
+  decks = subst (λ (os : List Owner). All (λ (j : Job). IsGiven v per j.text (groups_of (Deck j.number) os)) Q.jobs) (sym same) decks;
+  outputs = subst (λ (os : List Owner). All (λ (o : QueueOutput). IsGiven v per o.text (groups_of (Output o.job o.index) os)) Q.outputs) (sym same) outputs;
+}
 
 -- a queue whose owners are these, with texts that were read from volumes that are synced
 module _ (config : Config) (is : IsConfig config) (owners : List Owner) (own : AreItsOwn) (long : length owners ≡ config.volumes * config.groups) (v : View)

@@ -1,6 +1,5 @@
 pub mod Bare
 pub mod Usable
-pub mod Levels
 pub mod Choosing
 pub mod Judging
 pub mod Starting

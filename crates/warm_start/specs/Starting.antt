@@ -13,8 +13,10 @@ use Rattle.spool_disk.specs.View.{View, Disk, IsImage, LeavesOnly, Throughout, d
 use Rattle.spool_disk.specs.Acts.{Goes, Rose, next}
 use Rattle.ckpt_copy.specs.Pages.{bytes_of, level}
 use Rattle.ckpt_pages.specs.declared.tables.Tables.{Tables}
+use Rattle.ckpt_pages.specs.Given.{levels_given}
 use Rattle.duplex_pair.specs.Halves.{SomeAlive}
 use Rattle.duplex_pair.specs.Looks.{WasLost}
+use Rattle.spool_volumes.specs.Volumes.{IsSteady}
 use Rattle.table_queues.specs.Telling.{Tell}
 use Rattle.ckpt_copy.specs.Changes.{NoMore}
 use Rattle.duplex_pair.specs.Both.{BothMeanwhile}
@@ -24,8 +26,7 @@ use Rattle.warm_start.specs.declared.choosing.StartNo.TheVariants as no_start
 use Rattle.mas_complex.specs.Fits.{fits}
 use Rattle.mas_complex.specs.Texts.{HasTexts, lost_now, spools_at}
 use Rattle.warm_start.specs.Usable.{AreOf, IsUsable, AreUsable, HaveSize}
-use Rattle.warm_start.specs.Levels.{levels_of}
-use Rattle.warm_start.specs.Spooled.{AreRoomy}
+use Rattle.warm_start.specs.Spooled.{AreRoomy, AreGiven}
 use Rattle.warm_start.specs.Choosing.{goes}
 use Rattle.warm_start.specs.Judging.{Has, IsUnread}
 
@@ -195,13 +196,15 @@ pub record HeldBack (reads : List ℕ → Option (List ℕ)) (old new : View) : 
 -- A START
 
 -- The copies that count as alive have the pages found, which spell these tables; these tell the base, whose texts stand on the spool
--- volumes, all of them synced, but for those with a group on a volume that is lost.
+-- volumes, all of them synced, but for those with a group on a volume that is lost. Where no volume was lost in the start these are
+-- gone, and name the first such group.
 pub record HasStarted {C : Type 0} (count : C → ℕ) (needs : ℕ → ℕ) (reads : List ℕ → Option (List ℕ)) (tells : Type 0) (base : Queue) (t : Tables) (pages : List Page) (levels : List ℕ) (at : ℕ) (first : C) (alive1 : Bool) (second : C) (alive2 : Bool) (old new : View) : Type 0 where
   pub usable : AreOf pages t
   pub sized : HaveSize pages
-  pub leveled : levels ≡ levels_of pages
+  pub leveled : levels ≡ levels_given pages
   pub tells_base : Tell t base
   pub texts : tells → HasTexts (lost_now new) (spools_at new new.now) t.config.groups base
+  pub given : tells → IsSteady old new → AreGiven new t.config.groups base
   pub at_level : at ≡ level (bytes_of pages)
   pub found : tells → IsFound reads old new (bytes_of pages)
   pub starts : Starts alive1 alive2 old new

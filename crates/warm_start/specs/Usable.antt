@@ -37,4 +37,4 @@ pub record AreUsable (bytes : List ℕ) : Type 0 where
 
 -- pages stand for each queue that the tables tell which they spell
 abbrev pub StandForWhatIsTold : Type 0
-StandForWhatIsTold = (pages : List Page) (t : Tables) (Q : Queue) → IsCheckpoint pages t → Tell t Q → StandFor Q (bytes_of pages)
+StandForWhatIsTold = (pages : List Page) (t : Tables) (Q : Queue) → HaveSize pages → IsCheckpoint pages t → Tell t Q → StandFor Q (bytes_of pages)

@@ -4,7 +4,6 @@
 
 mod choosing;
 mod inspecting;
-mod levels;
 mod looking;
 mod queues;
 mod sound_pages;
@@ -13,7 +12,6 @@ mod starting;
 
 pub use choosing::{Good, Judged, Start, StartNo, choose, judge};
 pub use inspecting::{found, law_of_looks, looked};
-pub use levels::law_of_found_levels;
 pub use queues::{law_of_found_queues, queue_of};
 pub use sound_pages::usable;
 pub use spooled::spooled_queue;

@@ -8,21 +8,21 @@ ghost use Rattle.mas_types.specs.declared.queues.Thing.TheVariants.{Deck, Output
 ghost use Rattle.mas_types.specs.Queue.{line_count};
 ghost use Rattle.spool_disk.specs.declared.plant.Part.TheVariants.{Disk};
 ghost use Rattle.spool_disk.specs.View.{disk_now};
-ghost use Rattle.spool_volumes.specs.Volumes.{volume_of};
-ghost use Rattle.spool_volumes.specs.Looks.{lie_on_lost, LooksAt};
+ghost use Rattle.spool_volumes.specs.Volumes.{volume_of, IsSteady};
+ghost use Rattle.spool_volumes.specs.Looks.{LooksAt};
 ghost use Rattle.track_groups.specs.Places.{groups_of as groups_of_lem};
 ghost use Rattle.ckpt_pages.specs.Shape.{HasSpelling};
 ghost use Rattle.job_queue.specs.Jobs.{AreJobs};
 ghost use Rattle.output_queue.specs.Outputs.{AreOutputs};
 ghost use Rattle.table_queues.specs.Telling.{Tell};
 ghost use Rattle.mas_complex.specs.Texts.{lost_now, spools_at, bytes_on, IsReadUnless, HasTexts};
-ghost use Rattle.warm_start.specs.Spooled.{AreRoomy};
+ghost use Rattle.warm_start.specs.Spooled.{AreRoomy, IsGiven, AreGiven};
 
 use crate::looking::OPERATOR;
 use crate::queues::{jobs_in_order, outputs_in_order};
 use ckpt_pages::Tables;
 use mas_types::{Copied, Dev, GroupNo, Job, List, NoMemory, Output, Owner, Queue, Text, Thing};
-use spool_disk::{Part, Plant};
+use spool_disk::Plant;
 use spool_volumes::read_text;
 use std::alloc::Global;
 use track_groups::{groups_of, law_of_places};
@@ -37,29 +37,6 @@ fn sync_volumes<P: Plant>(plant: &mut P, volumes: u8)
     }
 }
 
-// The device on which a group lies.
-fn device(per: u32, group: GroupNo) -> Dev
-    requires some { 1 ≤ per }
-    requires numbered { volume_of per group ≤ 255 }
-    ensures { result ≡ Spool (volume_of per group) }
-{
-    Dev::Spool((group.0 / per) as u8 + 1)
-}
-
-// Whether one of the groups lies on a volume that is lost.
-fn is_on_lost<P: Plant>(plant: &P, per: u32, groups: &[GroupNo]) -> bool
-    requires some { 1 ≤ per }
-    requires numbered { All (λ g. volume_of per g ≤ 255) groups.now }
-    ensures { result ≡ lie_on_lost (P.view plant.now) per groups.now }
-{
-    for group in groups {
-        if plant.lost(Part::Disk(device(per, *group))) {
-            return true;
-        }
-    }
-    false
-}
-
 // The groups of a deck or an output, each of which is there.
 fn groups_in(alloc: Global, owners: &[Owner], thing: Thing) -> Result<List<GroupNo>, NoMemory>
     requires { length owners.now < 2 ^ 32 }
@@ -70,7 +47,7 @@ fn groups_in(alloc: Global, owners: &[Owner], thing: Thing) -> Result<List<Group
     groups_of(alloc, owners, thing)
 }
 
-// The text of a deck or an output, of which its slot counts so many lines. With a group on a volume that is lost it is gone.
+// The text of a deck or an output, of which its slot counts so many lines.
 fn text_in<P: Plant>(
     alloc: Global,
     plant: &mut P,
@@ -83,12 +60,10 @@ fn text_in<P: Plant>(
     ensures looks { LooksAt P.tells 0 (P.view plant.old) (P.view plant.new) }
     ensures count { IfOk result (λ text. line_count text ≡ count) }
     ensures text { IfOk result (λ text. P.tells → IsReadUnless (lost_now (P.view plant.new)) (bytes_on (spools_at (P.view plant.old) (P.view plant.old).now)) tables.now.config.groups text (groups_of_lem thing tables.now.owners)) }
+    ensures given { IfOk result (λ text. P.tells → IsSteady (P.view plant.old) (P.view plant.new) → IsGiven (P.view plant.old) tables.now.config.groups text (groups_of_lem thing tables.now.owners)) }
 {
     let per = tables.config.groups as u32;
     let groups = groups_in(alloc, tables.owners.as_slice(), thing)?;
-    if is_on_lost(plant, per, groups.as_slice()) {
-        return Ok(Text::Gone(GroupNo(0), count));
-    }
     // The operator is never stopped.
     let Ok(text) = read_text(alloc, plant, OPERATOR, per, groups.as_slice(), count) else {
         return Err(NoMemory);
@@ -103,6 +78,7 @@ fn jobs_on<P: Plant>(alloc: Global, plant: &mut P, tables: &Tables) -> Result<Li
     ensures looks { LooksAt P.tells 0 (P.view plant.old) (P.view plant.new) }
     ensures jobs { IfOk result (λ jobs. AreJobs tables.now.jobs jobs) }
     ensures texts { IfOk result (λ jobs. P.tells → All (λ j. IsReadUnless (lost_now (P.view plant.new)) (bytes_on (spools_at (P.view plant.old) (P.view plant.old).now)) tables.now.config.groups j.text (groups_of_lem (Deck j.number) tables.now.owners)) jobs) }
+    ensures given { IfOk result (λ jobs. P.tells → IsSteady (P.view plant.old) (P.view plant.new) → All (λ j. IsGiven (P.view plant.old) tables.now.config.groups j.text (groups_of_lem (Deck j.number) tables.now.owners)) jobs) }
 {
     let records = jobs_in_order(alloc, tables.jobs.as_slice())?;
     let mut jobs = List::new(alloc);
@@ -137,6 +113,7 @@ fn outputs_on<P: Plant>(
     ensures looks { LooksAt P.tells 0 (P.view plant.old) (P.view plant.new) }
     ensures outputs { IfOk result (λ outputs. AreOutputs tables.now.outputs outputs) }
     ensures texts { IfOk result (λ outputs. P.tells → All (λ o. IsReadUnless (lost_now (P.view plant.new)) (bytes_on (spools_at (P.view plant.old) (P.view plant.old).now)) tables.now.config.groups o.text (groups_of_lem (OutputOf o.job o.index) tables.now.owners)) outputs) }
+    ensures given { IfOk result (λ outputs. P.tells → IsSteady (P.view plant.old) (P.view plant.new) → All (λ o. IsGiven (P.view plant.old) tables.now.config.groups o.text (groups_of_lem (OutputOf o.job o.index) tables.now.owners)) outputs) }
 {
     let records = outputs_in_order(alloc, tables.outputs.as_slice())?;
     let mut outputs = List::new(alloc);
@@ -163,7 +140,8 @@ fn outputs_on<P: Plant>(
 /// and then reads the text of each deck and each output.
 ///
 /// Each volume that isn't lost has room for its groups. A text is what its groups hold, with as many lines as its slot counts,
-/// and all of it is synced; only of one with a group on a volume that is lost at the end is no more said than the number of its
+/// and all of it is synced. One with a group on a volume that is lost, or with one that holds no records, is gone, and names the
+/// first such group; only where a volume is lost in the call is no more said of a text with a group on it than the number of its
 /// lines. No byte of a device is changed, and no volume is lost but by an act that failed.
 ///
 /// NoMemory comes for want of memory alone.
@@ -177,6 +155,7 @@ pub fn spooled_queue<P: Plant>(
     ensures looks { LooksAt P.tells 0 (P.view plant.old) (P.view plant.new) }
     ensures tell { IfOk result (Tell tables.now) }
     ensures texts { IfOk result (λ queue. P.tells → HasTexts (lost_now (P.view plant.new)) (spools_at (P.view plant.new) (P.view plant.new).now) tables.now.config.groups queue) }
+    ensures given { IfOk result (λ queue. P.tells → IsSteady (P.view plant.old) (P.view plant.new) → AreGiven (P.view plant.new) tables.now.config.groups queue) }
 {
     law_of_places();
     sync_volumes(plant, tables.config.volumes);

@@ -8,27 +8,27 @@ ghost use Rattle.spool_disk.specs.View.{View, disk_now};
 ghost use Rattle.spool_disk.specs.Acts.{Goes, top};
 ghost use Rattle.ckpt_copy.specs.Pages.{bytes_of, level};
 ghost use Rattle.ckpt_copy.specs.Meanwhile.{Meanwhile};
+ghost use Rattle.ckpt_pages.specs.Given.{levels_given};
 ghost use Rattle.duplex_pair.specs.declared.errors.PairNo.TheVariants.{BothLost as PairNoBothLost, Halted as PairNoHalted};
 ghost use Rattle.duplex_pair.specs.Halves.{IsCkpt, pick, other, IsGone, SameOrLost, SomeAlive, IsBothLost};
 ghost use Rattle.duplex_pair.specs.Both.{PairActed, BothMeanwhile};
 ghost use Rattle.mas_complex.specs.declared.places.Place.TheVariants.{Before as AtBefore};
 ghost use Rattle.mas_complex.specs.Locking.{book_of};
 ghost use Rattle.mas_complex.specs.Headline.{LeavesQueue};
+ghost use Rattle.spool_volumes.specs.Volumes.{IsSteady};
 ghost use Rattle.table_queues.specs.Telling.{Tell};
-ghost use Rattle.warm_start.specs.Levels.{levels_of as levels_given};
 ghost use Rattle.warm_start.specs.Choosing.{IsFew, goes as goes_lem};
 ghost use Rattle.warm_start.specs.Judging.{Has};
 ghost use Rattle.warm_start.specs.Inspecting.{FindsNone};
 ghost use Rattle.mas_complex.specs.Texts.{HasTexts, lost_now, spools_at};
-ghost use Rattle.warm_start.specs.Spooled.{AreRoomy};
+ghost use Rattle.warm_start.specs.Spooled.{AreRoomy, AreGiven};
 ghost use Rattle.warm_start.specs.Starting.{Chosen, Fitting, MayLose, Starts, IsHeld, IsCauseOf, IsSmallAt, IsSmallVolumeAt, OnlyLooked, OnlyLookedAtAll, HasStarted, HeldBack};
 
 use crate::choosing::{Good, Start, StartNo, choose, is_to_go};
-use crate::levels::levels_of;
 use crate::looking::{OPERATOR, judge_both};
 use crate::spooled::spooled_queue;
 use ckpt_copy::Copying;
-use ckpt_pages::Tables;
+use ckpt_pages::{Tables, levels_of};
 use duplex_pair::{Pair, PairNo, pages_level};
 use mas_complex::{Complex, Steady};
 use mas_types::limits::PAGE_BYTES;
@@ -194,6 +194,7 @@ fn prepare<P: Plant, C: Steady + Drop>(
     ensures levels { IfOk result (λ ready. ready.levels ≡ levels_given ready.start.found.pages) }
     ensures tell { IfOk result (λ ready. Tell ready.start.found.tables ready.base) }
     ensures texts { IfOk result (λ ready. P.tells → HasTexts (lost_now (P.view plant.new)) (spools_at (P.view plant.new) (P.view plant.new).now) ready.start.found.tables.config.groups ready.base) }
+    ensures given { IfOk result (λ ready. P.tells → IsSteady (P.view plant.old) (P.view plant.new) → AreGiven (P.view plant.new) ready.start.found.tables.config.groups ready.base) }
     ensures chosen { IfOk result (λ ready. Chosen C.count C.room C.room_most C.ready C.reads C.rests P.tells (P.view plant.old) (P.view plant.new) pair.new.first.copy pair.new.second.copy pair.new.first.alive pair.new.second.alive pair.new.first.found pair.new.second.found ready.start) }
 {
     let found = find(alloc, plant, pair)?;
@@ -285,7 +286,8 @@ fn bring<P: Plant, C: Steady + Drop>(
 /// The operator looks at both copies. The one that counts is the usable one of greater level, CKPT1 on a tie: its pages spell
 /// tables without a fault. The other one is lost by a call where it can't be used or doesn't fit, and else it gets the pages of
 /// the one that counts, if it lags one level behind. Before that it syncs the spool volumes and reads the texts of the queue from
-/// them. The shared value then begins with the queue that the pages and the volumes give, and nobody holds its lock.
+/// them: one with a group on a volume that is lost, or with one that holds no records, is gone, and names the first such group.
+/// The shared value then begins with the queue that the pages and the volumes give, and nobody holds its lock.
 ///
 /// NotFormatted comes where no copy can be used while one isn't lost, with the state of each; DeviceSize where a device is
 /// too small for the pages found, or a volume that isn't lost for the groups of their configuration, the first such; BothLost only

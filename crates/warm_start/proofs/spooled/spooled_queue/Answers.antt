@@ -5,9 +5,10 @@ use Rattle.track_groups.specs.Places.{groups_of}
 use Rattle.job_queue.specs.Jobs as jobs
 use Rattle.output_queue.specs.Outputs as outputs
 use Rattle.mas_complex.specs.Texts.{lost_now, spools_at, bytes_on, IsReadUnless}
+use Rattle.warm_start.specs.Spooled.{IsGiven}
 use Rattle.ckpt_copy.specs.Moments.{goes_none}
 use Rattle.spool_volumes.proofs.LookLemmas.{looks_then}
-use Rattle.warm_start.proofs.Spooling.{clean_later, later_texts, has_texts}
+use Rattle.warm_start.proofs.Spooling.{are_given, clean_later, given_later, has_texts, later_texts, steady_first, steady_then}
 use Rattle.warm_start.proofs.spooled.spooled_queue.Goals as goal
 
 pub returns-in_err-jobs-clause-looks : goal.returns-in_err-jobs-clause-looks
@@ -73,3 +74,22 @@ returns-clause-texts g c told =
     has_texts t.config shape.config t.owners c.law_of_places.ensures.own shape.owners new clean _ c.in_ok-copy.ensures
     (subst (λ (js : List Job). All (λ (j : Job). IsReadUnless (lost_now new) (bytes_on (spools_at new new.now)) t.config.groups j.text (groups_of (Deck j.number) t.owners)) js) (sym c.jobs.view_is) read_jobs)
     read_outputs
+
+pub returns-clause-given : goal.returns-clause-given
+returns-clause-given g c told steady =
+    let P = g.P.Plant in
+    let t = c.args.tables.now in
+    let old = P.view c.args.plant.now in
+    let first = P.view c.sync_volumes.new.plant in
+    let mid = P.view c.jobs_on.new.plant in
+    let new = P.view c.outputs_on.new.plant in
+    let one = c.jobs_on.ensures.looks in
+    let two = c.outputs_on.ensures.looks in
+    let all = looks_then first mid new P.tells 0 one two in
+    let since = steady_then old first new c.sync_volumes.ensures.looks.goes all.goes steady in
+    let given_jobs = given_later jobs.unordered jobs.rec_of (λ j. j.text) (λ j. groups_of (Deck j.number) t.owners) P.tells t.config.groups first new c.in_ok-jobs.jobs (all.during told) since (c.in_ok-jobs.ensures.given told (steady_first first mid new one.goes two.goes since)) in
+    let behind = steady_then first mid new one.goes two.goes since in
+    let given_outputs = given_later outputs.unordered outputs.rec_of (λ o. o.text) (λ o. groups_of (Output o.job o.index) t.owners) P.tells t.config.groups mid new c.in_ok-outputs.outputs (two.during told) behind (c.in_ok-outputs.ensures.given told behind) in
+    are_given new t.config.groups t.owners _ c.in_ok-copy.ensures
+    (subst (λ (js : List Job). All (λ (j : Job). IsGiven new t.config.groups j.text (groups_of (Deck j.number) t.owners)) js) (sym c.jobs.view_is) given_jobs)
+    given_outputs

@@ -3,7 +3,7 @@ use Rattle.std.proofs.lemmas.Result.{err_from_is_err_and}
 use Rattle.mas_types.specs.declared.ids.Dev.TheVariants.{Ckpt1, Ckpt2}
 use Rattle.ckpt_copy.specs.Moments.{goes_on}
 use Rattle.warm_start.proofs.Prepared.{gone_read1, gone_read2, looked_all, looked_only, chosen_read, starts_lost}
-use Rattle.warm_start.proofs.Spooling.{roomy_later}
+use Rattle.warm_start.proofs.Spooling.{roomy_later, steady_then}
 use Rattle.warm_start.proofs.Starts.{starts_read}
 use Rattle.warm_start.proofs.starting.prepare.Goals as goal
 
@@ -117,3 +117,8 @@ returns-clause-chosen g c =
     let looks = c.spooled_queue.ensures.looks in
     chosen_read P.tells mid new looks C.count C.room C.room_most C.ready C.reads C.rests (P.view c.args.plant.now) n.first.copy n.second.copy n.first.alive n.second.alive n.first.found n.second.found c.in_ok-found.found.start
     (λ ready. g.met.C.Copying.stays_ready n.first.copy mid new looks.goes ready) (λ ready. g.met.C.Copying.stays_ready n.second.copy mid new looks.goes ready) c.in_ok-found.ensures.chosen
+
+pub returns-clause-given : goal.returns-clause-given
+returns-clause-given g c told steady =
+    let P = g.P.Plant in
+    c.in-Ok.ensures.given told (steady_then (P.view c.args.plant.now) (P.view c.find.new.plant) (P.view c.spooled_queue.new.plant) c.find.ensures.acted.goes c.spooled_queue.ensures.looks.goes steady)

@@ -7,8 +7,8 @@ use Rattle.mas_types.specs.declared.queues.Config.{Config}
 use Rattle.mas_complex.specs.Texts.{HasTexts, lost_now, spools_at}
 use Rattle.warm_start.specs.Starting.{IsHeld, Starts}
 use Rattle.warm_start.proofs.Begun.{stand_of, rested_copy, found_later, kept, lost_both}
-use Rattle.warm_start.proofs.Prepared.{held_looked, held_all, held_back, texts_left}
-use Rattle.warm_start.proofs.Spooling.{roomy_later}
+use Rattle.warm_start.proofs.Prepared.{given_kept, held_looked, held_all, held_back, texts_left}
+use Rattle.warm_start.proofs.Spooling.{roomy_later, steady_first, steady_then}
 use Rattle.warm_start.proofs.starting.warm.Goals as goal
 
 pub returns-in-Err-clause-held : goal.returns-in-Err-clause-held
@@ -43,7 +43,7 @@ make-complex-requires-clause-begins g c told =
     let second = rested_copy C.reads base v.now (C.rests n.second.copy) (C.holds n.second.copy) n.second.alive (disk_now v Ckpt2) pages
     (λ is. c.in-Ok-bring.ensures.rests2 told is) (λ dead lt. c.bring.ensures.gone2 told (c.prepare.ensures.gone2 told) refl dead lt) in
     let at_level = sym (c.pages_level-level.ensures ∙ ap (λ ps. level (bytes_of ps)) c.as_slice.ensures) in
-    let queue = stand_of base F.pages F.tables c.in-Ok.ensures.chosen.usable.0 c.in-Ok.ensures.tell in
+    let queue = stand_of base F.pages F.tables c.in-Ok.ensures.chosen.sized c.in-Ok.ensures.chosen.usable.0 c.in-Ok.ensures.tell in
     let texts = subst (λ (cfg : Config). HasTexts (lost_now v) (spools_at v v.now) cfg.groups base) (sym c.in-Ok.ensures.tell.config)
     (texts_left F.tables.config.groups base (IsHeld C.reads (disk_now mid Ckpt1) pages) (IsHeld C.reads (disk_now mid Ckpt2) pages) mid v (c.bring.ensures.during told) (c.in-Ok.ensures.texts told)) in
     ∣ record { pages = pages; stands = record { at_level = at_level; queue = queue }; texts = texts; first_at = first; second_at = second } ∣₁
@@ -72,6 +72,8 @@ returns-clause-started g c =
       leveled = e.levels;
       tells_base = e.tell;
       texts = λ told. texts_left F.tables.config.groups c.in-Ok.ready.base (IsHeld C.reads (disk_now mid Ckpt1) (bytes_of F.pages)) (IsHeld C.reads (disk_now mid Ckpt2) (bytes_of F.pages)) mid new (c.bring.ensures.during told) (e.texts told);
+      given = λ told steady. given_kept F.tables.config.groups c.in-Ok.ready.base (IsHeld C.reads (disk_now mid Ckpt1) (bytes_of F.pages)) (IsHeld C.reads (disk_now mid Ckpt2) (bytes_of F.pages)) mid new (c.bring.ensures.during told)
+          (steady_then old mid new c.prepare.ensures.goes c.bring.ensures.goes steady) (e.given told (steady_first old mid new c.prepare.ensures.goes c.bring.ensures.goes steady));
       roomy = roomy_later mid new F.tables.config c.bring.ensures.goes e.roomy;
       at_level = c.pages_level-level.ensures ∙ ap (λ ps. level (bytes_of ps)) c.as_slice.ensures;
       found = λ told. found_later C.reads old mid new (bytes_of F.pages) (c.bring.ensures.during told).goes (e.chosen.found told);
