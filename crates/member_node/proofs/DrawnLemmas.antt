@@ -72,7 +72,7 @@ pub drawn_tell : (t : Tables) (at : ℕ) (levels : List ℕ) (pages : List Page)
 drawn_tell t at levels pages Q drawn told = record { tables = t; levels = levels; fit = drawn.spelling; ages = drawn.leveled; spell = drawn.spelled; tell = told }
 
 pub drawn_stand : (t : Tables) (at : ℕ) (levels : List ℕ) (pages : List Page) (Q : Queue) → AreDrawn t at levels pages → Tell t Q → StandFor Q (bytes_of pages)
-drawn_stand t at levels pages Q drawn told = record { pages = pages; level = at; joined = refl; tell = drawn_tell t at levels pages Q drawn told }
+drawn_stand t at levels pages Q drawn told = record { pages = pages; level = at; sized = drawn.sized; joined = refl; tell = drawn_tell t at levels pages Q drawn told }
 
 -- THE LEVELS
 

@@ -1,32 +1,23 @@
--- An entry that a batch gets, and what a plain command is in the shared value.
-use Rattle.std.proofs.Common.{◌≡◌, ℕ, suc, zero, ◌+◌, ◌-◌, ◌≤◌, nat_lt, true, false, List, [], ◌∷◌, ◌++◌, length, slice_get, slice_set, Option, Some, None, refl, sym, ◌∙◌, ap, subst, arith, All, append-nil}
+-- An entry that a batch gets.
+use Rattle.std.proofs.Common.{◌≡◌, ℕ, suc, zero, ◌+◌, ◌-◌, List, [], ◌∷◌, ◌++◌, length, slice_get, slice_set, Some, refl, sym, ◌∙◌, ap, subst, arith, All, append-nil}
 use Rattle.std.specs.List.{remove}
-use Rattle.std.proofs.lemmas.Bool.Decides.{nat_tests}
 use Rattle.std.proofs.lemmas.List.Edits.{remove-append_right}
 use Rattle.mas_types.specs.declared.ids.MemberId.{MemberId}
-use Rattle.mas_types.specs.declared.ids.JobNo.{JobNo}
 use Rattle.mas_types.specs.declared.ids.Page.{Page}
 use Rattle.mas_types.specs.Limits.{page_bytes}
 use Rattle.mas_types.specs.declared.commands.Command.{Command}
 use Rattle.mas_types.specs.declared.commands.Command.TheVariants as command
-use Rattle.mas_types.specs.declared.commands.Refusal.{Refusal}
 use Rattle.mas_types.specs.declared.commands.Refusal.TheVariants as refusal
 use Rattle.mas_types.specs.declared.commands.Reply.{Reply}
 use Rattle.mas_types.specs.declared.journals.Entry.{Entry}
-use Rattle.mas_types.specs.declared.queues.Owner.{Owner}
 use Rattle.mas_types.specs.declared.queues.Queue.{Queue}
-use Rattle.mas_types.specs.Commands.Input.{enter_row, not_in_input}
-use Rattle.mas_types.specs.Lists.{first_some}
-use Rattle.mas_types.specs.Owners.{groups_needed, member_count}
-use Rattle.mas_types.specs.Row.{refused_where, settled}
-use Rattle.mas_types.specs.Step as table
+use Rattle.mas_types.specs.Step.{row_of}
 use Rattle.ckpt_pages.specs.declared.tables.Tables.{Tables}
 use Rattle.ckpt_pages.specs.Shape.{HasSpelling, AreLevels, page_count}
 use Rattle.table_queues.specs.Telling.{Tell, PagesTell}
 use Rattle.queue_effect.specs.Standing.{AreFit, Plays}
 use Rattle.mas_complex.specs.Meaning.{step, run}
 use Rattle.mas_complex.specs.Replies.{HaveReplies}
-use Rattle.table_commands.specs.Given.{HasGroupsFor, is_plain}
 use Rattle.member_node.specs.declared.checkpoint.Checkpoint.{Checkpoint}
 use Rattle.member_node.specs.Batches.{HasDone, last_reply}
 use Rattle.member_node.specs.Drawn.{AreDrawn}
@@ -100,95 +91,10 @@ nothing_done Q k drawn fit told = record {
   replied = tt;
 }
 
--- A COMMAND IS THE TABLE'S, where a text that is entered has its groups
+-- WHAT WAS PLAYED ON TABLES
 
-last_none : (os : List (Option Refusal)) → first_some (os ++ None ∷ []) ≡ first_some os
-last_none [] = refl
-last_none (None ∷ os) = last_none os
-last_none (Some why ∷ os) = refl
+pub given_reply : (old new : Tables) (m : MemberId) (c : Command) (r : Reply) → Plays old new (λ Q. row_of Q m c) r → (Q : Queue) → Tell old Q → r ≡ (step Q m c).1
+given_reply old new m c r plays Q told = sym (plays Q told).reply
 
-enough : (m : MemberId) (gs : List Owner) (text : List (List ℕ)) → groups_needed text ≤ member_count m gs → refused_where (nat_lt (member_count m gs) (groups_needed text)) refusal.Nothing ≡ None
-enough m gs text le = let no_lack : nat_lt (member_count m gs) (groups_needed text) ≡ false = grind (arith, nat_tests, le) in rw no_lack refl
-
-entered_step : (Q : Queue) (m : MemberId) (n : JobNo) (text : List (List ℕ)) → groups_needed text ≤ member_count m Q.owners → step Q m (command.Enter n text) ≡ table.step Q m (command.Enter n text)
-entered_step Q m n text le =
-    ap (settled Q (enter_row Q m n text).effect (enter_row Q m n text).answer)
-    (sym (ap (λ (o : Option Refusal). first_some (not_in_input Q m n ++ o ∷ [])) (enough m Q.owners text le) ∙ last_none (not_in_input Q m n)))
-
-pub same_step : (t : Tables) (Q : Queue) (m : MemberId) (c : Command) → Tell t Q → HasGroupsFor t m c → step Q m c ≡ table.step Q m c
-same_step t Q m (command.Enter n text) told groups = entered_step Q m n text (subst (λ (gs : List Owner). groups_needed text ≤ member_count m gs) (sym told.owners) groups)
-same_step t Q m (command.Begin fields) told groups = refl
-same_step t Q m (command.Take want) told groups = refl
-same_step t Q m (command.Drop job) told groups = refl
-same_step t Q m command.TakeConvert told groups = refl
-same_step t Q m (command.Converted job) told groups = refl
-same_step t Q m command.TakeExec told groups = refl
-same_step t Q m (command.Ended job specs) told groups = refl
-same_step t Q m command.Gather told groups = refl
-same_step t Q m command.Pick told groups = refl
-same_step t Q m (command.Mark job index at) told groups = refl
-same_step t Q m (command.Done job index) told groups = refl
-same_step t Q m command.Purge told groups = refl
-same_step t Q m (command.Hold job) told groups = refl
-same_step t Q m (command.Release job) told groups = refl
-same_step t Q m (command.Cancel job) told groups = refl
-same_step t Q m (command.SetPrio job prio) told groups = refl
-same_step t Q m (command.SetClass job class) told groups = refl
-same_step t Q m (command.Out job) told groups = refl
-same_step t Q m (command.CancelOut job index) told groups = refl
-same_step t Q m (command.SetOut job index class) told groups = refl
-same_step t Q m (command.Show what) told groups = refl
-same_step t Q m (command.SetInit classes) told groups = refl
-same_step t Q m (command.SetPrt classes forms lines) told groups = refl
-same_step t Q m (command.Back lines) told groups = refl
-same_step t Q m (command.Forward lines) told groups = refl
-same_step t Q m (command.Reset of_member) told groups = refl
-same_step t Q m command.Restart told groups = refl
-same_step t Q m (command.Load line) told groups = refl
-same_step t Q m (command.Sent line number) told groups = refl
-same_step t Q m (command.Got line number job text) told groups = refl
-
-pub plain_groups : (t : Tables) (m : MemberId) (c : Command) → is_plain c ≡ true → HasGroupsFor t m c
-plain_groups t m (command.Enter job text) plain = absurd (cc)
-plain_groups t m _ plain = tt
-
--- a plain command is the table's
-pub plain_step : (Q : Queue) (m : MemberId) (c : Command) → is_plain c ≡ true → step Q m c ≡ table.step Q m c
-plain_step Q m (command.Begin fields) plain = refl
-plain_step Q m (command.Take want) plain = refl
-plain_step Q m (command.Drop job) plain = refl
-plain_step Q m (command.Enter job text) plain = absurd (cc)
-plain_step Q m command.TakeConvert plain = refl
-plain_step Q m (command.Converted job) plain = refl
-plain_step Q m command.TakeExec plain = refl
-plain_step Q m (command.Ended job specs) plain = refl
-plain_step Q m command.Gather plain = refl
-plain_step Q m command.Pick plain = refl
-plain_step Q m (command.Mark job index at) plain = refl
-plain_step Q m (command.Done job index) plain = refl
-plain_step Q m command.Purge plain = refl
-plain_step Q m (command.Hold job) plain = refl
-plain_step Q m (command.Release job) plain = refl
-plain_step Q m (command.Cancel job) plain = refl
-plain_step Q m (command.SetPrio job prio) plain = refl
-plain_step Q m (command.SetClass job class) plain = refl
-plain_step Q m (command.Out job) plain = refl
-plain_step Q m (command.CancelOut job index) plain = refl
-plain_step Q m (command.SetOut job index class) plain = refl
-plain_step Q m (command.Show what) plain = refl
-plain_step Q m (command.SetInit classes) plain = refl
-plain_step Q m (command.SetPrt classes forms lines) plain = refl
-plain_step Q m (command.Back lines) plain = refl
-plain_step Q m (command.Forward lines) plain = refl
-plain_step Q m (command.Reset of_member) plain = refl
-plain_step Q m command.Restart plain = refl
-plain_step Q m (command.Load line) plain = refl
-plain_step Q m (command.Sent line number) plain = refl
-plain_step Q m (command.Got line number job text) plain = refl
-
--- so it comes to what was played on tables
-pub given_reply : (old new : Tables) (m : MemberId) (c : Command) (r : Reply) → HasGroupsFor old m c → Plays old new (λ Q. table.row_of Q m c) r → (Q : Queue) → Tell old Q → r ≡ (step Q m c).1
-given_reply old new m c r groups plays Q told = sym (plays Q told).reply ∙ ap (λ (p : Queue × Reply). p.1) (sym (same_step old Q m c told groups))
-
-pub given_tells : (old new : Tables) (m : MemberId) (c : Command) (r : Reply) → HasGroupsFor old m c → Plays old new (λ Q. table.row_of Q m c) r → (Q : Queue) → Tell old Q → Tell new (step Q m c).0
-given_tells old new m c r groups plays Q told = subst (λ (p : Queue × Reply). Tell new p.0) (sym (same_step old Q m c told groups)) (plays Q told).stands
+pub given_tells : (old new : Tables) (m : MemberId) (c : Command) (r : Reply) → Plays old new (λ Q. row_of Q m c) r → (Q : Queue) → Tell old Q → Tell new (step Q m c).0
+given_tells old new m c r plays Q told = (plays Q told).stands

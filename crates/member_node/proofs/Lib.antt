@@ -7,3 +7,5 @@ pub mod ReadyLemmas
 pub mod StepLemmas
 pub mod TextLemmas
 pub mod WriteLemmas
+pub mod ReadLemmas
+pub mod FitLemmas

@@ -13,7 +13,7 @@ use Rattle.mas_complex.specs.declared.places.Place.{Place}
 use Rattle.member_node.specs.declared.checkpoint.Checkpoint.{Checkpoint}
 use Rattle.member_node.specs.declared.checkpoint.Draft.{Draft}
 use Rattle.member_node.specs.declared.checkpoint.Draft.TheVariants as draft
-use Rattle.member_node.specs.Batches.{HasDone, IsDraftOf, level_with}
+use Rattle.member_node.specs.Batches.{CanDraw, HasDone, IsDraftOf, level_with}
 use Rattle.member_node.specs.Copies.{IsDraftFor, RestsAt}
 use Rattle.member_node.specs.Drawn.{AreDrawn}
 use Rattle.member_node.specs.Redrawn.{IsRedrawn}
@@ -42,8 +42,8 @@ ready_draft alike d told Q entries k n reached done at small same drawn redrawn 
   )
 
 -- as many as before
-pub ready_count : (Q : Queue) (entries : List Entry) (k n : Checkpoint) → HasDone Q entries k → n.tables ≡ k.tables → AreDrawn n.tables n.level n.levels n.pages → length n.pages ≡ length k.pages
-ready_count Q entries k n done same drawn = drawn.spelled.count ∙ ap (λ (t : Tables). page_count t.config) same ∙ sym done.as_many
+pub ready_count : (k n : Checkpoint) → CanDraw k → n.tables ≡ k.tables → AreDrawn n.tables n.level n.levels n.pages → length n.pages ≡ length k.pages
+ready_count k n draws same drawn = drawn.spelled.count ∙ ap (λ (t : Tables). page_count t.config) same ∙ sym draws.as_many
 
 -- a copy that rests at the old pages may be given the new ones
 pub ready_copy : (d : Draft) (told : Type 0) (alive : Bool) (place : Place) (count room was is : ℕ) (old new : List Page) (read : Option (List ℕ)) → RestsAt told alive place count old read → (alive ≡ true → 1 ≤ room) → length new ≡ length old

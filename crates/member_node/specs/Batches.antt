@@ -23,6 +23,13 @@ last_reply [] = Plain
 last_reply (e ∷ []) = e.reply
 last_reply (e ∷ next ∷ es) = last_reply (next ∷ es)
 
+-- tables that can be spelled, and as many pages, from which they differ by what was done since they were drawn
+pub record CanDraw (k : Checkpoint) : Type 0 where
+  pub leveled : AreLevels k.tables k.level k.levels
+  pub as_many : length k.pages ≡ page_count k.tables.config
+  pub sized : All (λ page. length page.0 ≡ page_bytes) k.pages
+  pub spelling : HasSpelling k.tables
+
 -- The pages of a checkpoint stand for the queue, and its tables tell the queue after the entries, which have the replies that the
 -- commands give at their places. The tables can be spelled and given commands.
 pub record HasDone (Q : Queue) (entries : List Entry) (k : Checkpoint) : Type 0 where

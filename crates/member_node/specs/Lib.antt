@@ -5,3 +5,4 @@ pub mod Copies
 pub mod Writes
 pub mod Batches
 pub mod Lines
+pub mod Reads

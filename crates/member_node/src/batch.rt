@@ -37,7 +37,7 @@ fn log_both<P: Plant + Drop, C: Steady + Drop>(
     requires none { complex.old.current ≡ None }
     requires reserved { IsSome complex.old.reserved }
     requires some { 1 ≤ length (entries_reserved complex.old.reserved) }
-    requires replied { P.tells → HaveReplies (run complex.old.base (kept_all complex.old.journal.batches)) (entries_reserved complex.old.reserved) }
+    requires replied { P.tells → ∥ HaveReplies (run complex.old.base (kept_all complex.old.journal.batches)) (entries_reserved complex.old.reserved) ∥₁ }
     requires first { complex.old.pair.first.alive ≡ true → complex.old.first ≡ AtBefore }
     requires second { complex.old.pair.second.alive ≡ true → complex.old.second ≡ AtBefore }
     requires room1 { complex.old.pair.first.alive ≡ true → 1 ≤ C.room complex.old.pair.first.copy }
@@ -134,7 +134,7 @@ pub(crate) fn commit<P: Plant + Drop, C: Steady + Drop>(
     requires none { complex.old.current ≡ None }
     requires reserved { IsSome complex.old.reserved }
     requires some { 1 ≤ length (entries_reserved complex.old.reserved) }
-    requires replied { P.tells → HaveReplies (run complex.old.base (kept_all complex.old.journal.batches)) (entries_reserved complex.old.reserved) }
+    requires replied { P.tells → ∥ HaveReplies (run complex.old.base (kept_all complex.old.journal.batches)) (entries_reserved complex.old.reserved) ∥₁ }
     requires first { complex.old.pair.first.alive ≡ true → complex.old.first ≡ AtBefore }
     requires second { complex.old.pair.second.alive ≡ true → complex.old.second ≡ AtBefore }
     requires room1 { complex.old.pair.first.alive ≡ true → 1 ≤ C.room complex.old.pair.first.copy }

@@ -5,6 +5,7 @@ mod batch;
 mod checkpoint;
 mod lines;
 mod member;
+mod reading;
 mod writing;
 
 pub use checkpoint::{Checkpoint, Draft, blank, redraw};

@@ -1,17 +1,20 @@
 //! A member: its checkpoint, and the commands that it has done on it.
-ghost use Rattle.std.specs.Prelude.{◌≡◌, ◌+◌, ◌≤◌, ◌<◌, ◌^◌, ◌++◌, [], ◌∷◌, true, All, length, slice_set, IfOk, OnOk, OnErr};
+ghost use Rattle.std.specs.Prelude.{◌≡◌, ◌+◌, ◌≤◌, ◌<◌, ◌^◌, ◌++◌, [], ◌∷◌, true, All, length, slice_set, false, IfOk, OnOk, OnErr};
+ghost use Rattle.mas_types.specs.declared.commands.Reply.{Reply as ReplyLem};
 ghost use Rattle.mas_types.specs.declared.queues.Queue.{Queue};
 ghost use Rattle.mas_types.specs.Closings.{IsReplyNamed};
-ghost use Rattle.mas_types.specs.Fit.{IsFit};
+ghost use Rattle.mas_types.specs.Fit.{IsConfig, IsFit};
+ghost use Rattle.mas_types.specs.Limits.{pages_most};
 ghost use Rattle.ckpt_pages.specs.Shape.{HasSpelling};
 ghost use Rattle.mas_types.specs.Step.{may_give};
 ghost use Rattle.table_queues.specs.Telling.{Tell, TellSound};
 ghost use Rattle.mas_complex.specs.Meaning.{step as step_of};
 ghost use Rattle.queue_effect.specs.Standing.{AreFit, IfRefused};
-ghost use Rattle.table_commands.specs.Given.{HasGroupsFor, IsGiver};
+ghost use Rattle.table_commands.specs.Given.{IsGiver};
 
-use crate::checkpoint::Checkpoint;
-use mas_types::{Command, Entry, List, MemberId, NoMemory, Reply};
+use crate::checkpoint::{Checkpoint, blank};
+use mas_types::limits::PAGE_BYTES;
+use mas_types::{Command, Config, Entry, List, MemberId, NoMemory, Page, Reply};
 use std::alloc::Global;
 use table_commands::give;
 use thiserror::Error;
@@ -41,6 +44,22 @@ pub struct Member {
     pub checkpoint: Checkpoint,
     /// The commands that it has done and not written yet.
     pub batch: List<Entry>,
+    /// Room for the pages that it reads of the copies, as many as its checkpoint has.
+    pub room: List<Page>,
+    /// It has read all pages, and its checkpoint isn't brought up to them yet.
+    pub behind: bool,
+}
+
+// So many pages of zeros.
+fn blank_pages(alloc: Global, count: usize) -> Result<List<Page>, NoMemory>
+    requires { count ≤ pages_most }
+    ensures { IfOk result (λ pages. length pages ≡ count) }
+{
+    let mut pages = List::new(alloc);
+    for _page in 0..count {
+        pages.push(Page([0; PAGE_BYTES]))?;
+    }
+    Ok(pages)
 }
 
 // The place of an entry to come.
@@ -63,36 +82,60 @@ fn put_entry(batch: &mut List<Entry>, at: usize, entry: Entry)
 
 impl Member {
     ghost use Rattle.member_node.specs.Batches.{HasDone, last_reply as last_of};
+    ghost use Rattle.member_node.specs.Drawn.{AreDrawn};
 
-    /// A member with this checkpoint, which has done nothing.
-    pub fn new(alloc: Global, id: MemberId, checkpoint: Checkpoint) -> Member
-        ensures id { result.id ≡ id }
-        ensures checkpoint { result.checkpoint ≡ checkpoint }
-        ensures batch { result.batch ≡ [] }
+    /// A member of a run with this configuration, which has read nothing and done nothing: its checkpoint is that of an empty queue, with
+    /// every page at level 1. It has to read the copies before it gives a command.
+    pub fn new(alloc: Global, id: MemberId, config: &Config) -> Result<Member, NoMemory>
+        requires { IsConfig config.now }
+        ensures id { IfOk result (λ member. member.id ≡ id) }
+        ensures config { IfOk result (λ member. member.checkpoint.tables.config ≡ config.now) }
+        ensures drawn { IfOk result (λ member. AreDrawn member.checkpoint.tables member.checkpoint.level member.checkpoint.levels member.checkpoint.pages) }
+        ensures batch { IfOk result (λ member. member.batch ≡ []) }
+        ensures room { IfOk result (λ member. length member.room ≡ length member.checkpoint.pages) }
+        ensures behind { IfOk result (λ member. member.behind ≡ false) }
     {
-        Member {
+        let checkpoint = blank(alloc, config, &List::new(alloc))?;
+        Member::with(alloc, id, checkpoint)
+    }
+
+    /// A member with this checkpoint, which has done nothing, and room for as many pages.
+    pub fn with(alloc: Global, id: MemberId, checkpoint: Checkpoint) -> Result<Member, NoMemory>
+        requires { length checkpoint.pages ≤ pages_most }
+        ensures id { IfOk result (λ member. member.id ≡ id) }
+        ensures checkpoint { IfOk result (λ member. member.checkpoint ≡ checkpoint) }
+        ensures batch { IfOk result (λ member. member.batch ≡ []) }
+        ensures room { IfOk result (λ member. length member.room ≡ length checkpoint.pages) }
+        ensures behind { IfOk result (λ member. member.behind ≡ false) }
+    {
+        let room = blank_pages(alloc, checkpoint.pages.len())?;
+        Ok(Member {
             id,
             checkpoint,
             batch: List::new(alloc),
-        }
+            room,
+            behind: false,
+        })
     }
 
     /// Does a command on its tables: for each queue that the tables tell, the batch has one entry more, the command with the reply that
-    /// it has there, and the tables tell the queue that it leaves. Where it enters a text, the member has the groups that the text
-    /// needs.
+    /// it has there, and the tables tell the queue that it leaves.
     ///
     /// NoMemory leaves the member as it was.
     pub fn do_command(&mut self, alloc: Global, step: u32, command: Command) -> Result<(), NoMemory>
-        requires groups { HasGroupsFor self.old.checkpoint.tables self.old.id command }
+        requires here { self.old.behind ≡ false }
         requires command { IsFit command }
         requires giver { IsGiver self.old.id command }
         requires spelling { HasSpelling self.old.checkpoint.tables }
         requires fit { AreFit self.old.checkpoint.tables }
         requires order { self.old.checkpoint.tables.order + 32 < 2 ^ 63 }
         ensures id { self.new.id ≡ self.old.id }
+        ensures room { self.new.room ≡ self.old.room }
+        ensures behind { self.new.behind ≡ self.old.behind }
         ensures level { self.new.checkpoint.level ≡ self.old.checkpoint.level }
         ensures levels { self.new.checkpoint.levels ≡ self.old.checkpoint.levels }
         ensures pages { self.new.checkpoint.pages ≡ self.old.checkpoint.pages }
+        ensures pushed { OnOk result ((r : ReplyLem) × (self.new.batch ≡ self.old.batch ++ record { by = self.old.id; step = step; command = command; reply = r } ∷ []) × IsReplyNamed r) }
         ensures entry { OnOk result ((Q : Queue) → Tell self.old.checkpoint.tables Q → self.new.batch ≡ self.old.batch ++ record { by = self.old.id; step = step; command = command; reply = (step_of Q self.old.id command).1 } ∷ []) }
         ensures effect { OnOk result ((Q : Queue) → Tell self.old.checkpoint.tables Q → Tell self.new.checkpoint.tables (step_of Q self.old.id command).0) }
         ensures sound { OnOk result ((s : TellSound self.old.checkpoint.tables) → may_give s.queue self.old.id command ≡ true → TellSound self.new.checkpoint.tables) }

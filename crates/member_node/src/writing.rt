@@ -28,7 +28,7 @@ use spool_disk::{Act, Plant};
 use std::alloc::Global;
 
 impl Member {
-    ghost use Rattle.member_node.specs.Batches.{HasDone, IsDraftOf, level_with};
+    ghost use Rattle.member_node.specs.Batches.{CanDraw, HasDone, IsDraftOf, level_with};
     ghost use Rattle.member_node.specs.Copies.{IsDraftFor, RestsAt, room_with};
     ghost use Rattle.member_node.specs.Drawn.{AreDrawn};
     ghost use Rattle.member_node.specs.Lines.{said_as, IsAnswerOfSay};
@@ -48,8 +48,10 @@ impl Member {
         requires some { 1 ≤ length self.old.batch }
         requires own { All (λ e. e.by ≡ self.old.id) self.old.batch }
         requires none { complex.old.current ≡ None }
-        requires level { complex.old.level ≡ self.old.checkpoint.level }
-        requires done { HasDone (run complex.old.base (kept_all complex.old.journal.batches)) self.old.batch self.old.checkpoint }
+        requires here { self.old.behind ≡ false }
+        requires draws { CanDraw self.old.checkpoint }
+        requires level { P.tells → complex.old.level ≡ self.old.checkpoint.level }
+        requires done { P.tells → ∥ HasDone (run complex.old.base (kept_all complex.old.journal.batches)) self.old.batch self.old.checkpoint ∥₁ }
         requires rests1 { RestsAt P.tells complex.old.pair.first.alive complex.old.first (C.count complex.old.pair.first.copy) self.old.checkpoint.pages (C.reads (disk_now (P.view complex.old.plant) Ckpt1).bytes) }
         requires rests2 { RestsAt P.tells complex.old.pair.second.alive complex.old.second (C.count complex.old.pair.second.copy) self.old.checkpoint.pages (C.reads (disk_now (P.view complex.old.plant) Ckpt2).bytes) }
         requires room1 { complex.old.pair.first.alive ≡ true → 1 ≤ C.room complex.old.pair.first.copy }
@@ -71,11 +73,13 @@ impl Member {
         ensures grown { OnOk result (complex.old.placed ≡ false → (place : Batch) × (complex.new.journal.batches ≡ complex.old.journal.batches ++ place ∷ [])) }
         ensures given_up { OnErr result ((self.new ≡ self.old) ⊎ (self.new.batch ≡ [])) }
         ensures id { self.new.id ≡ self.old.id }
+        ensures room { self.new.room ≡ self.old.room }
+        ensures behind { self.new.behind ≡ self.old.behind }
         ensures tables { self.new.checkpoint.tables ≡ self.old.checkpoint.tables }
         ensures empty { OnOk result (self.new.batch ≡ []) }
         ensures drawn { OnOk result (AreDrawn self.new.checkpoint.tables self.new.checkpoint.level self.new.checkpoint.levels self.new.checkpoint.pages) }
         ensures level { IfOk result (λ draft. self.new.checkpoint.level ≡ level_with draft self.old.checkpoint.level) }
-        ensures draft { IfOk result (λ draft. IsDraftOf draft P.tells (run complex.old.base (kept_all complex.old.journal.batches)) self.old.batch complex.old.level self.new.checkpoint.pages) }
+        ensures draft { IfOk result (λ draft. P.tells → ∥ IsDraftOf draft P.tells (run complex.old.base (kept_all complex.old.journal.batches)) self.old.batch complex.old.level self.new.checkpoint.pages ∥₁) }
         ensures draft1 { IfOk result (λ draft. IsDraftFor draft P.tells complex.old.pair.first.alive (C.count complex.old.pair.first.copy) (C.room complex.old.pair.first.copy) self.new.checkpoint.pages (C.reads (disk_now (P.view complex.old.plant) Ckpt1).bytes)) }
         ensures draft2 { IfOk result (λ draft. IsDraftFor draft P.tells complex.old.pair.second.alive (C.count complex.old.pair.second.copy) (C.room complex.old.pair.second.copy) self.new.checkpoint.pages (C.reads (disk_now (P.view complex.old.plant) Ckpt2).bytes)) }
     {
@@ -99,12 +103,13 @@ impl Member {
         requires none { complex.old.current ≡ None }
         requires reserved { IsSome complex.old.reserved }
         requires some { 1 ≤ length (entries_reserved complex.old.reserved) }
-        requires replied { HaveReplies (run complex.old.base (kept_all complex.old.journal.batches)) (entries_reserved complex.old.reserved) }
+        requires small { complex.old.level + 1 < 2 ^ 63 }
+        requires replied { P.tells → ∥ HaveReplies (run complex.old.base (kept_all complex.old.journal.batches)) (entries_reserved complex.old.reserved) ∥₁ }
         requires first { complex.old.first ≡ AtBefore }
         requires second { complex.old.second ≡ AtBefore }
         requires untold { P.tells → IsUntold (setting C.reads complex.old.base complex.old.since) (P.view complex.old.plant) (entries_reserved complex.old.reserved) }
         requires texts { P.tells → ∥ HasTexts (lost_now (P.view complex.old.plant)) (spools_at (P.view complex.old.plant) (P.view complex.old.plant).now) complex.old.base.config.groups (run complex.old.base (kept_all complex.old.journal.batches ++ entries_reserved complex.old.reserved)) ∥₁ }
-        requires draft { IsDraftOf draft.now P.tells (run complex.old.base (kept_all complex.old.journal.batches)) (entries_reserved complex.old.reserved) complex.old.level self.now.checkpoint.pages }
+        requires draft { P.tells → ∥ IsDraftOf draft.now P.tells (run complex.old.base (kept_all complex.old.journal.batches)) (entries_reserved complex.old.reserved) complex.old.level self.now.checkpoint.pages ∥₁ }
         requires draft1 { IsDraftFor draft.now P.tells complex.old.pair.first.alive (C.count complex.old.pair.first.copy) (C.room complex.old.pair.first.copy) self.now.checkpoint.pages (C.reads (disk_now (P.view complex.old.plant) Ckpt1).bytes) }
         requires draft2 { IsDraftFor draft.now P.tells complex.old.pair.second.alive (C.count complex.old.pair.second.copy) (C.room complex.old.pair.second.copy) self.now.checkpoint.pages (C.reads (disk_now (P.view complex.old.plant) Ckpt2).bytes) }
         ensures base { complex.new.base ≡ complex.old.base }

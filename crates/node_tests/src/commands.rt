@@ -1,5 +1,5 @@
 //! Commands on a blank checkpoint, and the lines of their replies.
-ghost use Rattle.std.specs.Prelude.{◌≡◌, ◌≤◌, IfOk};
+ghost use Rattle.std.specs.Prelude.{◌≡◌, ◌≤◌, IfOk, false};
 ghost use Rattle.mas_types.specs.Limits.{members_most};
 ghost use Rattle.ckpt_pages.specs.Shape.{HasSpelling};
 ghost use Rattle.queue_effect.specs.Standing.{AreFit};
@@ -14,7 +14,7 @@ use queue_effect::law_of_fit_tables;
 use queue_laws::fitness::is_fit;
 use std::alloc::Global;
 use std::test::Fail;
-use table_commands::{give, is_plain};
+use table_commands::give;
 
 const ONE: JobNo = JobNo(1);
 
@@ -23,13 +23,14 @@ fn first_member(alloc: Global) -> Result<Member, NoMemory>
     ensures id { IfOk result (λ member. member.id.0 ≡ 1) }
     ensures fit { IfOk result (λ member. AreFit member.checkpoint.tables) }
     ensures spelling { IfOk result (λ member. HasSpelling member.checkpoint.tables) }
+    ensures here { IfOk result (λ member. member.behind ≡ false) }
 {
     let checkpoint = blank(alloc, &default_config(), &List::new(alloc))?;
     law_of_fit_tables();
     let Ok(()) = sound(&checkpoint.tables) else {
         return Err(NoMemory);
     };
-    Ok(Member::new(alloc, MemberId(1), checkpoint))
+    Member::with(alloc, MemberId(1), checkpoint)
 }
 
 // Does a command, and says whether it was one that the member may do.
@@ -37,13 +38,14 @@ fn did(alloc: Global, member: &mut Member, step: u32, command: Command) -> bool
     requires id { member.old.id.0 ≡ 1 }
     requires fit { AreFit member.old.checkpoint.tables }
     requires spelling { HasSpelling member.old.checkpoint.tables }
+    requires here { member.old.behind ≡ false }
     ensures id { member.new.id.0 ≡ 1 }
     ensures fit { AreFit member.new.checkpoint.tables }
     ensures spelling { HasSpelling member.new.checkpoint.tables }
+    ensures here { member.new.behind ≡ false }
 {
     if member.checkpoint.tables.order > 1_000_000
         || !is_fit(&command)
-        || !is_plain(&command)
         || matches!(command, Command::Restart)
     {
         return false;

@@ -14,22 +14,22 @@ pub returns-in-Ok-clause-entry : goal.returns-in-Ok-clause-entry
 returns-in-Ok-clause-entry c Q told =
     let k = c.args.self.now in
     given_entry k.batch c.push.new.self c.put_entry.new.batch c.place.result (record { by = k.id; step = c.args.step; command = c.args.command; reply = c.in-Ok.reply }) c.len-at.result c.in_ok-push.ensures.ok c.len-at.ensures c.put_entry.ensures
-    ∙ ap (λ (r : Reply). k.batch ++ record { by = k.id; step = c.args.step; command = c.args.command; reply = r } ∷ []) (given_reply k.checkpoint.tables c.give.new.tables k.id c.args.command c.in-Ok.reply c.requires.groups c.in-Ok.ensures.plays Q told)
+    ∙ ap (λ (r : Reply). k.batch ++ record { by = k.id; step = c.args.step; command = c.args.command; reply = r } ∷ []) (given_reply k.checkpoint.tables c.give.new.tables k.id c.args.command c.in-Ok.reply c.in-Ok.ensures.plays Q told)
 
 pub returns-in-Ok-clause-effect : goal.returns-in-Ok-clause-effect
 returns-in-Ok-clause-effect c Q told =
     let k = c.args.self.now in
-    given_tells k.checkpoint.tables c.give.new.tables k.id c.args.command c.in-Ok.reply c.requires.groups c.in-Ok.ensures.plays Q told
+    given_tells k.checkpoint.tables c.give.new.tables k.id c.args.command c.in-Ok.reply c.in-Ok.ensures.plays Q told
 
 pub returns-in-Ok-clause-named : goal.returns-in-Ok-clause-named
 returns-in-Ok-clause-named c Q told =
     let k = c.args.self.now in
-    subst IsReplyNamed (given_reply k.checkpoint.tables c.give.new.tables k.id c.args.command c.in-Ok.reply c.requires.groups c.in-Ok.ensures.plays Q told) c.in-Ok.ensures.named
+    subst IsReplyNamed (given_reply k.checkpoint.tables c.give.new.tables k.id c.args.command c.in-Ok.reply c.in-Ok.ensures.plays Q told) c.in-Ok.ensures.named
 
 pub returns-in-Ok-clause-refused : goal.returns-in-Ok-clause-refused
 returns-in-Ok-clause-refused c Q told =
     let k = c.args.self.now in
-    subst (λ (r : Reply). IfRefused r (c.give.new.tables ≡ k.checkpoint.tables)) (given_reply k.checkpoint.tables c.give.new.tables k.id c.args.command c.in-Ok.reply c.requires.groups c.in-Ok.ensures.plays Q told) c.in-Ok.ensures.refused
+    subst (λ (r : Reply). IfRefused r (c.give.new.tables ≡ k.checkpoint.tables)) (given_reply k.checkpoint.tables c.give.new.tables k.id c.args.command c.in-Ok.reply c.in-Ok.ensures.plays Q told) c.in-Ok.ensures.refused
 
 pub returns-in-Ok-clause-own : goal.returns-in-Ok-clause-own
 returns-in-Ok-clause-own c all =
@@ -45,11 +45,17 @@ returns-in-Ok-clause-done c Q done =
     let e : Entry = record { by = k.id; step = c.args.step; command = c.args.command; reply = c.in-Ok.reply } in
     subst (λ (es : List Entry). HasDone Q es n) (sym (given_entry k.batch c.push.new.self c.put_entry.new.batch c.place.result e c.len-at.result c.in_ok-push.ensures.ok c.len-at.ensures c.put_entry.ensures))
     (more_done Q k.batch k.checkpoint n e done refl refl refl c.give.ensures.config c.give.ensures.spelling c.give.ensures.fit
-    (given_reply k.checkpoint.tables c.give.new.tables k.id c.args.command c.in-Ok.reply c.requires.groups c.in-Ok.ensures.plays (run Q k.batch) done.queue)
-    (given_tells k.checkpoint.tables c.give.new.tables k.id c.args.command c.in-Ok.reply c.requires.groups c.in-Ok.ensures.plays (run Q k.batch) done.queue))
+    (given_reply k.checkpoint.tables c.give.new.tables k.id c.args.command c.in-Ok.reply c.in-Ok.ensures.plays (run Q k.batch) done.queue)
+    (given_tells k.checkpoint.tables c.give.new.tables k.id c.args.command c.in-Ok.reply c.in-Ok.ensures.plays (run Q k.batch) done.queue))
 
 pub returns-in-Err-clause-err : goal.returns-in-Err-clause-err
 returns-in-Err-clause-err c =
     let k = c.args.self.now in
     ap (λ (t : Tables). record k { checkpoint = record k.checkpoint { tables = t }; batch = c.remove.new.self }) c.in-Err.ensures.no_memory
     ∙ ap (λ (es : List Entry). record k { batch = es }) (taken_entry k.batch c.push.new.self c.remove.new.self c.place.result c.len-at.result c.in_ok-push.ensures.ok c.len-at.ensures c.remove.ensures.rest)
+
+-- whatever the tables tell, there is a reply, and it is named
+pub returns-in-Ok-clause-pushed : goal.returns-in-Ok-clause-pushed
+returns-in-Ok-clause-pushed c =
+    let k = c.args.self.now in
+    (c.in-Ok.reply, given_entry k.batch c.push.new.self c.put_entry.new.batch c.place.result (record { by = k.id; step = c.args.step; command = c.args.command; reply = c.in-Ok.reply }) c.len-at.result c.in_ok-push.ensures.ok c.len-at.ensures c.put_entry.ensures, c.in-Ok.ensures.named)

@@ -1,3 +1,4 @@
+use Rattle.std.proofs.Math.Logic.{∥∥₁_map}
 use Rattle.mas_types.specs.declared.ids.Dev.TheVariants.{Ckpt1, Ckpt2}
 use Rattle.spool_disk.specs.View.{disk_now}
 use Rattle.mas_complex.specs.Journals.{kept_all}
@@ -14,11 +15,11 @@ returns-clause-level g c =
     ready_level c.in_ok-draft.draft k.level n.level k.pages n.pages c.in_ok-draft.ensures.draft
 
 pub returns-clause-draft : goal.returns-clause-draft
-returns-clause-draft g c =
+returns-clause-draft g c told =
     let x = c.args.complex.now in
     let e = c.in_ok-draft.ensures in
-    ready_draft (λ pages. pages_alike pages one_value one_queue) c.in_ok-draft.draft g.P.Plant.tells (run x.base (kept_all x.journal.batches)) c.args.self.now.batch c.args.self.now.checkpoint c.redraw.new.checkpoint x.level
-    c.requires.done c.requires.level c.requires.small e.tables e.drawn e.draft
+    ∥∥₁_map (c.requires.done told) (λ done. ready_draft (λ pages. pages_alike pages one_value one_queue) c.in_ok-draft.draft g.P.Plant.tells (run x.base (kept_all x.journal.batches)) c.args.self.now.batch c.args.self.now.checkpoint c.redraw.new.checkpoint x.level
+    done (c.requires.level told) c.requires.small e.tables e.drawn e.draft)
 
 pub returns-clause-draft1 : goal.returns-clause-draft1
 returns-clause-draft1 g c =
@@ -28,7 +29,7 @@ returns-clause-draft1 g c =
     let e = c.in_ok-draft.ensures in
     let C = g.C.Copying in
     ready_copy c.in_ok-draft.draft g.P.Plant.tells x.pair.first.alive x.first (C.count x.pair.first.copy) (C.room x.pair.first.copy) k.level n.level k.pages n.pages (C.reads (disk_now (g.P.Plant.view x.plant) Ckpt1).bytes)
-    c.requires.rests1 c.requires.room1 (ready_count (run x.base (kept_all x.journal.batches)) c.args.self.now.batch k n c.requires.done e.tables e.drawn) e.draft
+    c.requires.rests1 c.requires.room1 (ready_count k n c.requires.draws e.tables e.drawn) e.draft
 
 pub returns-clause-draft2 : goal.returns-clause-draft2
 returns-clause-draft2 g c =
@@ -38,7 +39,7 @@ returns-clause-draft2 g c =
     let e = c.in_ok-draft.ensures in
     let C = g.C.Copying in
     ready_copy c.in_ok-draft.draft g.P.Plant.tells x.pair.second.alive x.second (C.count x.pair.second.copy) (C.room x.pair.second.copy) k.level n.level k.pages n.pages (C.reads (disk_now (g.P.Plant.view x.plant) Ckpt2).bytes)
-    c.requires.rests2 c.requires.room2 (ready_count (run x.base (kept_all x.journal.batches)) c.args.self.now.batch k n c.requires.done e.tables e.drawn) e.draft
+    c.requires.rests2 c.requires.room2 (ready_count k n c.requires.draws e.tables e.drawn) e.draft
 
 pub returns-clause-grown : goal.returns-clause-grown
 returns-clause-grown g c placed = let grown = c.in_ok-reserve.ensures.grown placed in (grown.0, grown.1)

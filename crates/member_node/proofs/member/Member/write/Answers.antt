@@ -1,4 +1,6 @@
-use Rattle.std.proofs.Common.{◌++◌, ◌∙◌, ap, sym, subst, Err, refl}
+use Rattle.std.proofs.Common.{◌∙◌, ap, sym, subst, Err, refl}
+use Rattle.std.proofs.Math.Logic.{∥∥₁_map, ∥∥₁_elim}
+use Rattle.std.specs.Coded.{Coded-set, coded_ℕ}
 use Rattle.mas_types.specs.declared.journals.Journal.{Journal}
 use Rattle.mas_types.specs.declared.queues.Queue.{Queue}
 use Rattle.ckpt_copy.specs.Pages.{bytes_of}
@@ -12,15 +14,17 @@ use Rattle.member_node.proofs.member.Member.write.Goals as goal
 pub keep_same-requires-clause-queue : goal.keep_same-requires-clause-queue
 keep_same-requires-clause-queue g c told =
     let x = c.args.complex.now in
-    subst (AreToldAlike (run x.base (kept_all x.journal.batches))) (sym (run_append x.base (kept_all x.journal.batches) (entries_reserved x.reserved))) (rw c.in-Same.is at c.requires.draft)
+    ∥∥₁_map (rw c.in-Same.is at (c.requires.draft told)) (subst (AreToldAlike (run x.base (kept_all x.journal.batches))) (sym (run_append x.base (kept_all x.journal.batches) (entries_reserved x.reserved))))
 
 pub commit-requires-clause-queue : goal.commit-requires-clause-queue
 commit-requires-clause-queue g c told =
     let x = c.args.complex.now in
-    let draft = rw c.in-Changed.is at c.requires.draft in
-    let stand : StandFor (run x.base (kept_all x.journal.batches ++ entries_reserved x.reserved)) (bytes_of c.as_slice-pages.result.now) =
-    rw c.as_slice-pages.ensures (subst (λ (Q : Queue). StandFor Q (bytes_of c.args.self.now.checkpoint.pages)) (sym (run_append x.base (kept_all x.journal.batches) (entries_reserved x.reserved))) draft.2) in
-    ∣ stand ∣₁
+    ∥∥₁_map (rw c.in-Changed.is at (c.requires.draft told)) (λ draft.
+    rw c.as_slice-pages.ensures (subst (λ (Q : Queue). StandFor Q (bytes_of c.args.self.now.checkpoint.pages)) (sym (run_append x.base (kept_all x.journal.batches) (entries_reserved x.reserved))) draft.2))
+
+pub commit-requires-clause-level : goal.commit-requires-clause-level
+commit-requires-clause-level g c told =
+    ∥∥₁_elim (rw c.in-Changed.is at (c.requires.draft told)) (Coded-set coded_ℕ _ _) (λ draft. rw c.as_slice-pages.ensures draft.0)
 
 pub returns-in-Same-clause-write : goal.returns-in-Same-clause-write
 returns-in-Same-clause-write g c front place one =

@@ -1,0 +1,60 @@
+-- Orders that are below the next one.
+use Rattle.std.proofs.Common.{◌≡◌, ℕ, ◌<◌, ◌&&◌, nat_lt, Bool, true, false, List, [], ◌∷◌, Option, Some, None, refl, arith, All}
+use Rattle.std.specs.List.{list_all}
+use Rattle.std.proofs.lemmas.Bool.Decides.{nat_tests}
+use Rattle.std.proofs.lemmas.List.Elements.{All-nil, All-cons, All-head, All-tail}
+use Rattle.lay_bytes.specs.declared.records.JobRec.{JobRec}
+use Rattle.lay_bytes.specs.declared.records.OutRec.{OutRec}
+use Rattle.lay_bytes.specs.Slots.{IfUsed, IsJobRec, IsOutRec}
+use Rattle.ckpt_pages.specs.QueueOf.{used}
+use Rattle.queue_effect.specs.Standing.{IsFitJob, IsFitOutput}
+use Rattle.member_node.specs.Reads.{is_job_below, is_output_below}
+
+pub not_both : (b : Bool) → b ≡ false → b ≡ true → ⊥
+not_both b p q = cc
+
+both_true : (a b : Bool) → (a && b) ≡ true → (a ≡ true) × (b ≡ true)
+both_true true b is = (refl, is)
+both_true false b is = absurd (cc)
+
+true_both : (a b : Bool) → a ≡ true → b ≡ true → (a && b) ≡ true
+true_both true b one two = two
+true_both false b one two = absurd (cc)
+
+below : (a b : ℕ) → nat_lt a b ≡ true → a < b
+below a b is = grind (arith, nat_tests, is)
+
+is_below : (a b : ℕ) → a < b → nat_lt a b ≡ true
+is_below a b lt = grind (arith, nat_tests, lt)
+
+pub jobs_fit : (order : ℕ) (slots : List (Option JobRec)) → list_all (is_job_below order) slots ≡ true → All (IfUsed IsJobRec) slots → All (IsFitJob order) (used slots)
+jobs_fit order [] is recs = All-nil (IsFitJob order)
+jobs_fit order (None ∷ slots) is recs = jobs_fit order slots is (All-tail (IfUsed IsJobRec) None slots recs)
+jobs_fit order (Some j ∷ slots) is recs =
+    let both = both_true (nat_lt j.order order) (list_all (is_job_below order) slots) is in
+    let here : IsJobRec j = All-head (IfUsed IsJobRec) (Some j) slots recs in
+    let rest : All (IsFitJob order) (used slots) = jobs_fit order slots both.1 (All-tail (IfUsed IsJobRec) (Some j) slots recs) in
+    All-cons (IsFitJob order) j (used slots) (record { below = below j.order order both.0; busy = here.busy }) rest
+
+pub outputs_fit : (order : ℕ) (slots : List (Option OutRec)) → list_all (is_output_below order) slots ≡ true → All (IfUsed IsOutRec) slots → All (IsFitOutput order) (used slots)
+outputs_fit order [] is recs = All-nil (IsFitOutput order)
+outputs_fit order (None ∷ slots) is recs = outputs_fit order slots is (All-tail (IfUsed IsOutRec) None slots recs)
+outputs_fit order (Some o ∷ slots) is recs =
+    let both = both_true (nat_lt o.order order) (list_all (is_output_below order) slots) is in
+    let here : IsOutRec o = All-head (IfUsed IsOutRec) (Some o) slots recs in
+    let rest : All (IsFitOutput order) (used slots) = outputs_fit order slots both.1 (All-tail (IfUsed IsOutRec) (Some o) slots recs) in
+    All-cons (IsFitOutput order) o (used slots) (record { below = below o.order order both.0; busy = here.busy }) rest
+
+pub jobs_below : (order : ℕ) (slots : List (Option JobRec)) → All (IsFitJob order) (used slots) → list_all (is_job_below order) slots ≡ true
+jobs_below order [] fit = refl
+jobs_below order (None ∷ slots) fit = jobs_below order slots fit
+jobs_below order (Some j ∷ slots) fit =
+    let here : IsFitJob order j = All-head (IsFitJob order) j (used slots) fit in
+    true_both (nat_lt j.order order) (list_all (is_job_below order) slots) (is_below j.order order here.below) (jobs_below order slots (All-tail (IsFitJob order) j (used slots) fit))
+
+pub outputs_below : (order : ℕ) (slots : List (Option OutRec)) → All (IsFitOutput order) (used slots) → list_all (is_output_below order) slots ≡ true
+outputs_below order [] fit = refl
+outputs_below order (None ∷ slots) fit = outputs_below order slots fit
+outputs_below order (Some o ∷ slots) fit =
+    let here : IsFitOutput order o = All-head (IsFitOutput order) o (used slots) fit in
+    true_both (nat_lt o.order order) (list_all (is_output_below order) slots) (is_below o.order order here.below) (outputs_below order slots (All-tail (IsFitOutput order) o (used slots) fit))

@@ -1,0 +1,25 @@
+use Rattle.std.proofs.Common.{ℕ}
+use Rattle.std.proofs.lemmas.Result.{err_from_is_err_and}
+use Rattle.member_node.proofs.ReadLemmas.{error_later, read_then}
+use Rattle.member_node.proofs.member.Member.read_all.Goals as goal
+
+pub returns-in_err-second_read-clause-read : goal.returns-in_err-second_read-clause-read
+returns-in_err-second_read-clause-read g c =
+    let P = g.P.Plant in
+    let x = c.args.complex.now in
+    let z = c.first_read.new.complex in
+    let w = c.second_read.new.complex in
+    let p = err_from_is_err_and c.from_residual-in_err-second_read.result c.from_residual-in_err-second_read.ensures.1 in
+    rw (p.1, p.2) (error_later ℕ (Unit {0}) P.tells c.args.self.now.id.0 x.pair.first.alive z.pair.first.alive w.pair.first.alive x.pair.second.alive z.pair.second.alive w.pair.second.alive (P.view x.plant) (P.view z.plant) (P.view w.plant)
+    c.in_err-second_read.field-0.0 c.in_ok-first_read.ensures.read.acts (rw c.first_read.ensures.id at c.in_err-second_read.ensures.read))
+
+pub returns-clause-read : goal.returns-clause-read
+returns-clause-read g c =
+    let P = g.P.Plant in
+    let x = c.args.complex.now in
+    let z = c.first_read.new.complex in
+    let w = c.second_read.new.complex in
+    record {
+      acts = read_then P.tells x.pair.first.alive z.pair.first.alive w.pair.first.alive x.pair.second.alive z.pair.second.alive w.pair.second.alive (P.view x.plant) (P.view z.plant) (P.view w.plant) c.in_ok-first_read.ensures.read.acts c.in_ok-second_read.ensures.read.acts;
+      cause = c.in_ok-second_read.ensures.read.cause;
+    }

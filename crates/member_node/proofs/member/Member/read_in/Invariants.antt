@@ -1,0 +1,46 @@
+use Rattle.std.proofs.Common.{◌≡◌, true, length}
+use Rattle.mas_types.specs.declared.ids.Dev.TheVariants.{Ckpt1, Ckpt2}
+use Rattle.spool_disk.specs.View.{disk_now}
+use Rattle.ckpt_pages.specs.Checkpoints.{SpellSome}
+use Rattle.duplex_pair.specs.Halves.{SomeAlive}
+use Rattle.mas_complex.specs.Journals.{kept_all}
+use Rattle.mas_complex.specs.Meaning.{run}
+use Rattle.member_node.specs.Copies.{RestsAt}
+use Rattle.member_node.specs.Reads.{HasRead, StandAt, copies_alive}
+use Rattle.member_node.proofs.member.Member.read_in.Given as goal
+
+abbrev pub decreases-loop-complex : goal.decreases-loop-complex
+decreases-loop-complex g l = copies_alive l.complex.pair.first.alive l.complex.pair.second.alive
+
+-- all was read, and its tables aren't brought up to it
+abbrev pub invariant-loop-complex : goal.invariant-loop-complex
+invariant-loop-complex g l =
+    let P = g.P.Plant in
+    let C = g.C.Copying in
+    let x = l.fn.complex in
+    let z = l.complex in
+    record {
+      base : z.base ≡ x.base;
+      since : z.since ≡ x.since;
+      book : z.book ≡ x.book;
+      journal : z.journal ≡ x.journal;
+      current : z.current ≡ x.current;
+      reserved : z.reserved ≡ x.reserved;
+      placed : z.placed ≡ x.placed;
+      first : z.first ≡ x.first;
+      second : z.second ≡ x.second;
+      level : z.level ≡ x.level;
+      copy1 : z.pair.first.copy ≡ x.pair.first.copy;
+      copy2 : z.pair.second.copy ≡ x.pair.second.copy;
+      id : l.self.id ≡ l.fn.self.id;
+      checkpoint : l.self.checkpoint ≡ l.fn.self.checkpoint;
+      batch : l.self.batch ≡ l.fn.self.batch;
+      behind : l.self.behind ≡ true;
+      as_many : length l.self.room ≡ length l.fn.self.room;
+      some : SomeAlive z.pair.first.alive z.pair.second.alive;
+      acts : HasRead P.tells x.pair.first.alive z.pair.first.alive x.pair.second.alive z.pair.second.alive (P.view x.plant) (P.view z.plant);
+      spelled : SpellSome l.self.room;
+      rests1 : RestsAt P.tells z.pair.first.alive z.first (C.count z.pair.first.copy) l.self.room (C.reads (disk_now (P.view z.plant) Ckpt1).bytes);
+      rests2 : RestsAt P.tells z.pair.second.alive z.second (C.count z.pair.second.copy) l.self.room (C.reads (disk_now (P.view z.plant) Ckpt2).bytes);
+      stand : P.tells → ∥ StandAt (run z.base (kept_all z.journal.batches)) z.level l.self.room ∥₁;
+    }

@@ -1,0 +1,41 @@
+use Rattle.std.proofs.Common.{◌≡◌, false, length}
+use Rattle.mas_types.specs.declared.ids.Dev.TheVariants.{Ckpt1, Ckpt2}
+use Rattle.spool_disk.specs.View.{disk_now}
+use Rattle.duplex_pair.specs.Halves.{SomeAlive}
+use Rattle.mas_complex.specs.Journals.{kept_all}
+use Rattle.mas_complex.specs.Meaning.{run}
+use Rattle.member_node.specs.Reads.{HasRead, IsReadWhole, copies_alive}
+use Rattle.member_node.proofs.member.Member.second_read.Given as goal
+
+-- a copy is lost at each turn
+abbrev pub decreases-loop-by : goal.decreases-loop-by
+decreases-loop-by g l = copies_alive l.complex.pair.first.alive l.complex.pair.second.alive
+
+abbrev pub invariant-loop-by : goal.invariant-loop-by
+invariant-loop-by g l =
+    let P = g.P.Plant in
+    let C = g.C.Copying in
+    let x = l.fn.complex in
+    let z = l.complex in
+    record {
+      base : z.base ≡ x.base;
+      since : z.since ≡ x.since;
+      book : z.book ≡ x.book;
+      journal : z.journal ≡ x.journal;
+      current : z.current ≡ x.current;
+      reserved : z.reserved ≡ x.reserved;
+      placed : z.placed ≡ x.placed;
+      first : z.first ≡ x.first;
+      second : z.second ≡ x.second;
+      level : z.level ≡ x.level;
+      copy1 : z.pair.first.copy ≡ x.pair.first.copy;
+      copy2 : z.pair.second.copy ≡ x.pair.second.copy;
+      id : l.self.id ≡ l.fn.self.id;
+      checkpoint : l.self.checkpoint ≡ l.fn.self.checkpoint;
+      batch : l.self.batch ≡ l.fn.self.batch;
+      behind : l.self.behind ≡ false;
+      as_many : length l.self.room ≡ length l.fn.self.room;
+      some : SomeAlive z.pair.first.alive z.pair.second.alive;
+      acts : HasRead P.tells x.pair.first.alive z.pair.first.alive x.pair.second.alive z.pair.second.alive (P.view x.plant) (P.view z.plant);
+      whole : P.tells → ∥ IsReadWhole (run z.base (kept_all z.journal.batches)) z.level z.pair.first.alive z.pair.second.alive (C.reads (disk_now (P.view z.plant) Ckpt1).bytes) (C.reads (disk_now (P.view z.plant) Ckpt2).bytes) l.self.room ∥₁;
+    }

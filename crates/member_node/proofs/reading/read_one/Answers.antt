@@ -1,0 +1,23 @@
+use Rattle.std.proofs.Common.{sym, ◌∙◌, ap}
+use Rattle.std.proofs.Math.Logic.{∥∥₁_elim}
+use Rattle.std.specs.Coded.{Coded-set, coded_list, coded_ℕ}
+use Rattle.mas_types.specs.declared.ids.Dev.TheVariants.{Ckpt1, Ckpt2}
+use Rattle.spool_disk.specs.View.{disk_now}
+use Rattle.member_node.proofs.ReadLemmas.{other_alive, page_by}
+use Rattle.member_node.proofs.reading.read_one.Goals as goal
+
+pub returns-in-Ok-clause-page : goal.returns-in-Ok-clause-page
+returns-in-Ok-clause-page g c told was one two =
+    let P = g.P.Plant in
+    let C = g.C.Copying in
+    let x = c.args.complex.now in
+    let z = c.read_page.new.self in
+    let e = c.in-Ok.ensures in
+    let old = P.view x.plant in
+    ∥∥₁_elim (c.kept_pages.ensures told) (Coded-set (coded_list coded_ℕ) _ _) (λ k.
+    page_by (λ w. C.rests x.pair.first.copy w (disk_now old Ckpt1)) (λ w. C.rests x.pair.second.copy w (disk_now old Ckpt2)) (C.reads (disk_now old Ckpt1).bytes) (C.reads (disk_now old Ckpt2).bytes)
+    (λ w r. g.met.C.Copying.rests_now x.pair.first.copy w (disk_now old Ckpt1) r) (λ w r. g.met.C.Copying.rests_now x.pair.second.copy w (disk_now old Ckpt2) r)
+    c.args.page c.read_page.new.into.0 was k.was z.pair.first.alive z.pair.second.alive
+    (λ on. k.at_first (e.acted.alive1 on) c.requires.first) (λ on. k.at_second (e.acted.alive2 on) c.requires.second)
+    (λ on. ap C.reads (sym (e.bytes told Ckpt1)) ∙ one told on) (λ on. ap C.reads (sym (e.bytes told Ckpt2)) ∙ two told on)
+    (λ w r1 r2. e.read told w r1 r2) (other_alive z.pair.first.alive z.pair.second.alive e.ok))

@@ -1,0 +1,608 @@
+//! How a member reads the copies, and goes on from what it read.
+ghost use Rattle.std.specs.Prelude.{◌≡◌, ◌⊎◌, ◌+◌, ◌≤◌, ◌<◌, ℕ, List, Some, None, All, [], length, true, false, IfOk, IfErr, OnOk, OnErr};
+ghost use Rattle.std.specs.List.{list_all};
+ghost use Rattle.mas_types.specs.declared.ids.Dev.{Dev};
+ghost use Rattle.mas_types.specs.declared.ids.Dev.TheVariants.{Ckpt1, Ckpt2};
+ghost use Rattle.mas_types.specs.Limits.{page_bytes, pages_most};
+ghost use Rattle.lock_cycle.specs.Books.{IsMember, is_stopped, is_holder, try_refusal, after_try, free_refusal, after_free};
+ghost use Rattle.spool_disk.specs.View.{disk_now};
+ghost use Rattle.ckpt_copy.specs.Pages.{bytes_of, level, page_in};
+ghost use Rattle.ckpt_pages.specs.declared.tables.Tables.{Tables as TablesLem};
+ghost use Rattle.ckpt_pages.specs.Checkpoints.{IsCheckpoint, SpellSome};
+ghost use Rattle.ckpt_pages.specs.Shape.{page_count};
+ghost use Rattle.duplex_pair.specs.Halves.{SomeAlive};
+ghost use Rattle.duplex_pair.specs.Outcomes.{least_room};
+ghost use Rattle.mas_complex.specs.Journals.{kept_all};
+ghost use Rattle.mas_complex.specs.Locking.{IsOperatorAway, MayAct};
+ghost use Rattle.mas_complex.specs.Meaning.{run};
+ghost use Rattle.member_node.specs.declared.member.NodeNo.TheVariants as no_node;
+ghost use Rattle.table_queues.specs.Telling.{Tell};
+ghost use Rattle.mas_complex.specs.declared.places.Place.TheVariants.{Before};
+ghost use Rattle.member_node.specs.Calls.{Course};
+ghost use Rattle.member_node.specs.Reads.{ArePagesOf, IsCalm, IsRead, IsReadWhole, MayGoOn, ReadsAs, StandAt, copies_alive, is_job_below, is_output_below};
+
+use crate::member::{Member, NodeNo};
+use ckpt_pages::{PageNo, Tables, decode, first_bad, law_of_checkpoints, law_of_levels, levels_of};
+use duplex_pair::{PairNo, pages_level};
+use lay_bytes::{JobRec, OutRec};
+use lock_cycle::{LockNo, NotHolder};
+use mas_complex::{Complex, Steady};
+use mas_types::{Config, Dev, Level, List, MemberId, NoMemory, Page};
+use spool_disk::Plant;
+use std::alloc::Global;
+
+/// From here on a level or an order doesn't leave a step all that it can use: no run of this program comes so far.
+const TOO_HIGH: u64 = (1 << 63) - (1 << 20);
+
+// Reads one page: it is the page of what each copy reads that counts as alive afterwards.
+fn read_one<P: Plant + Drop, C: Steady + Drop>(
+    complex: &mut Complex<P, C>,
+    by: MemberId,
+    page: u16,
+    into: &mut Page,
+) -> Result<(), NodeNo>
+    requires may { MayAct complex.old.book by }
+    requires first { complex.old.first ≡ Before }
+    requires second { complex.old.second ≡ Before }
+    requires page1 { complex.old.pair.first.alive ≡ true → page < C.count complex.old.pair.first.copy }
+    requires page2 { complex.old.pair.second.alive ≡ true → page < C.count complex.old.pair.second.copy }
+    ensures base { complex.new.base ≡ complex.old.base }
+    ensures since { complex.new.since ≡ complex.old.since }
+    ensures book { complex.new.book ≡ complex.old.book }
+    ensures journal { complex.new.journal ≡ complex.old.journal }
+    ensures current { complex.new.current ≡ complex.old.current }
+    ensures reserved { complex.new.reserved ≡ complex.old.reserved }
+    ensures placed { complex.new.placed ≡ complex.old.placed }
+    ensures first { complex.new.first ≡ complex.old.first }
+    ensures second { complex.new.second ≡ complex.old.second }
+    ensures level { complex.new.level ≡ complex.old.level }
+    ensures copy1 { complex.new.pair.first.copy ≡ complex.old.pair.first.copy }
+    ensures copy2 { complex.new.pair.second.copy ≡ complex.old.pair.second.copy }
+    ensures read { IsRead P.tells by.0 complex.old.pair.first.alive complex.new.pair.first.alive complex.old.pair.second.alive complex.new.pair.second.alive (P.view complex.old.plant) (P.view complex.new.plant) result }
+    ensures loses { (d : Dev) → (P.view complex.new.plant).loses d ≡ (P.view complex.old.plant).loses d }
+    ensures page { OnOk result (P.tells → (was : List ℕ) → ReadsAs P.tells complex.new.pair.first.alive (C.reads (disk_now (P.view complex.new.plant) Ckpt1).bytes) was
+        → ReadsAs P.tells complex.new.pair.second.alive (C.reads (disk_now (P.view complex.new.plant) Ckpt2).bytes) was → into.new.0 ≡ page_in page was) }
+{
+    complex.kept_pages();
+    match complex.read_page(by, page, into) {
+        Ok(()) => Ok(()),
+        Err(PairNo::BothLost) => Err(NodeNo::BothLost),
+        Err(PairNo::Halted) => Err(NodeNo::Halted),
+    }
+}
+
+// Reads the pages from this one on. What each copy read that counted as alive stands in them then.
+fn read_from<P: Plant + Drop, C: Steady + Drop>(
+    complex: &mut Complex<P, C>,
+    by: MemberId,
+    room: &mut [Page],
+    first: usize,
+) -> Result<(), NodeNo>
+    requires may { MayAct complex.old.book by }
+    requires calm1 { IsCalm complex.old.pair.first.alive complex.old.first (C.count complex.old.pair.first.copy) (length room.old) }
+    requires calm2 { IsCalm complex.old.pair.second.alive complex.old.second (C.count complex.old.pair.second.copy) (length room.old) }
+    requires some { first < length room.old }
+    requires few { length room.old ≤ pages_most }
+    ensures base { complex.new.base ≡ complex.old.base }
+    ensures since { complex.new.since ≡ complex.old.since }
+    ensures book { complex.new.book ≡ complex.old.book }
+    ensures journal { complex.new.journal ≡ complex.old.journal }
+    ensures current { complex.new.current ≡ complex.old.current }
+    ensures reserved { complex.new.reserved ≡ complex.old.reserved }
+    ensures placed { complex.new.placed ≡ complex.old.placed }
+    ensures first { complex.new.first ≡ complex.old.first }
+    ensures second { complex.new.second ≡ complex.old.second }
+    ensures level { complex.new.level ≡ complex.old.level }
+    ensures copy1 { complex.new.pair.first.copy ≡ complex.old.pair.first.copy }
+    ensures copy2 { complex.new.pair.second.copy ≡ complex.old.pair.second.copy }
+    ensures as_many { length room.new ≡ length room.old }
+    ensures before { (was : List ℕ) → ArePagesOf 0 first was room.old → ArePagesOf 0 first was room.new }
+    ensures read { IsRead P.tells by.0 complex.old.pair.first.alive complex.new.pair.first.alive complex.old.pair.second.alive complex.new.pair.second.alive (P.view complex.old.plant) (P.view complex.new.plant) result }
+    ensures loses { (d : Dev) → (P.view complex.new.plant).loses d ≡ (P.view complex.old.plant).loses d }
+    ensures pages { OnOk result (P.tells → (was : List ℕ) → ReadsAs P.tells complex.old.pair.first.alive (C.reads (disk_now (P.view complex.old.plant) Ckpt1).bytes) was
+        → ReadsAs P.tells complex.old.pair.second.alive (C.reads (disk_now (P.view complex.old.plant) Ckpt2).bytes) was → ArePagesOf first (length room.new) was room.new) }
+{
+    for page in first..room.len() {
+        read_one(complex, by, page as u16, &mut room[page])?;
+    }
+    Ok(())
+}
+
+// Loses the copy that pages are read from.
+fn lose_source<P: Plant + Drop, C: Steady + Drop>(complex: &mut Complex<P, C>)
+    requires some { SomeAlive complex.old.pair.first.alive complex.old.pair.second.alive }
+    ensures base { complex.new.base ≡ complex.old.base }
+    ensures since { complex.new.since ≡ complex.old.since }
+    ensures book { complex.new.book ≡ complex.old.book }
+    ensures journal { complex.new.journal ≡ complex.old.journal }
+    ensures current { complex.new.current ≡ complex.old.current }
+    ensures reserved { complex.new.reserved ≡ complex.old.reserved }
+    ensures placed { complex.new.placed ≡ complex.old.placed }
+    ensures first { complex.new.first ≡ complex.old.first }
+    ensures second { complex.new.second ≡ complex.old.second }
+    ensures level { complex.new.level ≡ complex.old.level }
+    ensures copy1 { complex.new.pair.first.copy ≡ complex.old.pair.first.copy }
+    ensures copy2 { complex.new.pair.second.copy ≡ complex.old.pair.second.copy }
+    ensures lost { copies_alive complex.new.pair.first.alive complex.new.pair.second.alive < copies_alive complex.old.pair.first.alive complex.old.pair.second.alive }
+    ensures course { Course complex.old.pair.first.alive complex.new.pair.first.alive complex.old.pair.second.alive complex.new.pair.second.alive (P.view complex.old.plant) (P.view complex.new.plant) }
+{
+    if complex.pair.first.alive {
+        complex.lose(Dev::Ckpt1);
+        return;
+    }
+    complex.lose(Dev::Ckpt2);
+}
+
+// Loses the copy that pages were read from which can't be its own. BothLost comes exactly where none is left.
+fn lose_read<P: Plant + Drop, C: Steady + Drop>(complex: &mut Complex<P, C>) -> Result<(), NodeNo>
+    requires some { SomeAlive complex.old.pair.first.alive complex.old.pair.second.alive }
+    requires untold { P.tells → ⊥ }
+    ensures base { complex.new.base ≡ complex.old.base }
+    ensures since { complex.new.since ≡ complex.old.since }
+    ensures book { complex.new.book ≡ complex.old.book }
+    ensures journal { complex.new.journal ≡ complex.old.journal }
+    ensures current { complex.new.current ≡ complex.old.current }
+    ensures reserved { complex.new.reserved ≡ complex.old.reserved }
+    ensures placed { complex.new.placed ≡ complex.old.placed }
+    ensures first { complex.new.first ≡ complex.old.first }
+    ensures second { complex.new.second ≡ complex.old.second }
+    ensures level { complex.new.level ≡ complex.old.level }
+    ensures copy1 { complex.new.pair.first.copy ≡ complex.old.pair.first.copy }
+    ensures copy2 { complex.new.pair.second.copy ≡ complex.old.pair.second.copy }
+    ensures lost { copies_alive complex.new.pair.first.alive complex.new.pair.second.alive < copies_alive complex.old.pair.first.alive complex.old.pair.second.alive }
+    ensures read { IsRead P.tells 0 complex.old.pair.first.alive complex.new.pair.first.alive complex.old.pair.second.alive complex.new.pair.second.alive (P.view complex.old.plant) (P.view complex.new.plant) result }
+    ensures only { IfErr result (λ e. e ≡ no_node.BothLost) }
+{
+    lose_source(complex);
+    if complex.pair.first.alive {
+        return Ok(());
+    }
+    if complex.pair.second.alive {
+        return Ok(());
+    }
+    Err(NodeNo::BothLost)
+}
+
+// Whether the pages that were read spell tables. Where content is told they do, and stand for the queue after the kept batches.
+fn are_spelled<P: Plant + Drop, C: Steady + Drop>(complex: &Complex<P, C>, room: &[Page]) -> bool
+    requires config { P.tells → page_count (run complex.now.base (kept_all complex.now.journal.batches)).config ≡ length room.now }
+    requires read { P.tells → ∥ IsReadWhole (run complex.now.base (kept_all complex.now.journal.batches)) complex.now.level complex.now.pair.first.alive complex.now.pair.second.alive
+        (C.reads (disk_now (P.view complex.now.plant) Ckpt1).bytes) (C.reads (disk_now (P.view complex.now.plant) Ckpt2).bytes) room.now ∥₁ }
+    ensures good { result ≡ true → SpellSome room.now }
+    ensures bad { result ≡ false → P.tells → ⊥ }
+    ensures reads1 { ReadsAs P.tells complex.now.pair.first.alive (C.reads (disk_now (P.view complex.now.plant) Ckpt1).bytes) (bytes_of room.now) }
+    ensures reads2 { ReadsAs P.tells complex.now.pair.second.alive (C.reads (disk_now (P.view complex.now.plant) Ckpt2).bytes) (bytes_of room.now) }
+    ensures stand { P.tells → ∥ StandAt (run complex.now.base (kept_all complex.now.journal.batches)) complex.now.level room.now ∥₁ }
+{
+    first_bad(room).is_none()
+}
+
+// The orders of the jobs are below this one.
+fn are_jobs_below(jobs: &[Option<JobRec>], order: u64) -> bool
+    ensures { result ≡ list_all (is_job_below order) jobs.now }
+{
+    jobs.iter().all(|slot| match slot {
+        Some(job) => job.order < order,
+        None => true,
+    })
+}
+
+// And those of the outputs.
+fn are_outputs_below(outputs: &[Option<OutRec>], order: u64) -> bool
+    ensures { result ≡ list_all (is_output_below order) outputs.now }
+{
+    outputs.iter().all(|slot| match slot {
+        Some(output) => output.order < order,
+        None => true,
+    })
+}
+
+// A member of this configuration may go on from these pages, which spell these tables.
+fn may_go_on(config: &Config, pages: &[Page], tables: &Tables) -> bool
+    requires { IsCheckpoint pages.now tables.now }
+    ensures may { result ≡ true → MayGoOn config.now pages.now tables.now }
+    ensures not { result ≡ false → MayGoOn config.now pages.now tables.now → ⊥ }
+{
+    if tables.config != *config {
+        return false;
+    }
+    if pages_level(pages) >= TOO_HIGH {
+        return false;
+    }
+    if tables.order >= TOO_HIGH {
+        return false;
+    }
+    if !are_jobs_below(tables.jobs.as_slice(), tables.order) {
+        return false;
+    }
+    are_outputs_below(tables.outputs.as_slice(), tables.order)
+}
+
+fn bytes_in(page: &Page) -> &[u8]
+    ensures bytes { result.now ≡ page.now.0 }
+    ensures size { length result.now ≡ page_bytes }
+{
+    &page.0
+}
+
+// Pages have the size of a page each.
+fn law_of_sizes(pages: &[Page])
+    ensures { All (λ page. length page.0 ≡ page_bytes) pages.now }
+{
+    for page in pages {
+        let _bytes = bytes_in(page);
+    }
+}
+
+impl Member {
+    ghost use Rattle.member_node.specs.Copies.{RestsAt};
+    ghost use Rattle.member_node.specs.Drawn.{AreDrawn};
+    ghost use Rattle.member_node.specs.Reads.{IsReadIn, IsSettle, IsUpTo, ReadsLow, orders_after, pages_had, too_high};
+
+    /// A try at the lock of the checkpoint, by the book of the shared value. An `inner` try is one in the middle of a step. After Ok the
+    /// member holds, and what it knows of the copies may be old: it has to read them before it gives a command.
+    ///
+    /// Down comes exactly where the member is stopped, Busy exactly where it isn't and another one holds, Dormant exactly where it isn't
+    /// stopped, nobody holds and it leaves the lock to others. All but the book is as it was.
+    pub fn lock<P: Plant + Drop, C: Steady + Drop>(
+        &self,
+        complex: &mut Complex<P, C>,
+        inner: bool,
+    ) -> Result<(), LockNo>
+        requires member { IsMember complex.old.book self.now.id }
+        requires away { IsOperatorAway complex.old.book complex.old.reserved complex.old.current }
+        ensures plant { complex.new.plant ≡ complex.old.plant }
+        ensures pair { complex.new.pair ≡ complex.old.pair }
+        ensures base { complex.new.base ≡ complex.old.base }
+        ensures since { complex.new.since ≡ complex.old.since }
+        ensures journal { complex.new.journal ≡ complex.old.journal }
+        ensures current { complex.new.current ≡ complex.old.current }
+        ensures placed { complex.new.placed ≡ complex.old.placed }
+        ensures first { complex.new.first ≡ complex.old.first }
+        ensures second { complex.new.second ≡ complex.old.second }
+        ensures level { complex.new.level ≡ complex.old.level }
+        ensures reserved { complex.new.reserved ≡ complex.old.reserved }
+        ensures book { complex.new.book ≡ after_try complex.old.book self.now.id inner }
+        ensures ok { OnOk result (try_refusal complex.old.book self.now.id inner ≡ None) }
+        ensures err { IfErr result (λ e. try_refusal complex.old.book self.now.id inner ≡ Some e) }
+    {
+        complex.try_lock(self.id, inner)
+    }
+
+    /// The member gives the lock up. Its batch is written: it has none. NotHolder comes exactly where it doesn't hold, and nothing is
+    /// changed then. All but the book, and a batch that was reserved and hasn't begun, is as it was.
+    pub fn free<P: Plant + Drop, C: Steady + Drop>(
+        &self,
+        complex: &mut Complex<P, C>,
+        inner: bool,
+    ) -> Result<(), NotHolder>
+        requires member { IsMember complex.old.book self.now.id }
+        requires nothing { self.now.batch ≡ [] }
+        requires none { is_holder complex.old.book self.now.id ≡ true → complex.old.current ≡ None }
+        requires up { is_holder complex.old.book self.now.id ≡ true → is_stopped complex.old.book self.now.id ≡ false }
+        ensures plant { complex.new.plant ≡ complex.old.plant }
+        ensures pair { complex.new.pair ≡ complex.old.pair }
+        ensures base { complex.new.base ≡ complex.old.base }
+        ensures since { complex.new.since ≡ complex.old.since }
+        ensures journal { complex.new.journal ≡ complex.old.journal }
+        ensures current { complex.new.current ≡ complex.old.current }
+        ensures placed { complex.new.placed ≡ complex.old.placed }
+        ensures first { complex.new.first ≡ complex.old.first }
+        ensures second { complex.new.second ≡ complex.old.second }
+        ensures level { complex.new.level ≡ complex.old.level }
+        ensures reserved { OnOk result (complex.new.reserved ≡ None) }
+        ensures book { complex.new.book ≡ after_free complex.old.book self.now.id inner }
+        ensures ok { OnOk result (free_refusal complex.old.book self.now.id ≡ None) }
+        ensures err { IfErr result (λ e. free_refusal complex.old.book self.now.id ≡ Some e) }
+        ensures err_reserved { OnErr result (complex.new.reserved ≡ complex.old.reserved) }
+    {
+        complex.free(self.id, inner)
+    }
+
+    /// The first read: page 0, from CKPT1 while its copy counts as alive, else from CKPT2. The member holds the lock.
+    ///
+    /// BothLost comes only where both copies count as lost at the end of the call, Halted only where the member was stopped in it. The
+    /// member's tables are as they were.
+    pub fn first_read<P: Plant + Drop, C: Steady + Drop>(
+        &mut self,
+        complex: &mut Complex<P, C>,
+    ) -> Result<(), NodeNo>
+        requires may { MayAct complex.old.book self.old.id }
+        requires some { 1 ≤ length self.old.room }
+        requires calm1 { IsCalm complex.old.pair.first.alive complex.old.first (C.count complex.old.pair.first.copy) (length self.old.room) }
+        requires calm2 { IsCalm complex.old.pair.second.alive complex.old.second (C.count complex.old.pair.second.copy) (length self.old.room) }
+        ensures base { complex.new.base ≡ complex.old.base }
+        ensures since { complex.new.since ≡ complex.old.since }
+        ensures book { complex.new.book ≡ complex.old.book }
+        ensures journal { complex.new.journal ≡ complex.old.journal }
+        ensures current { complex.new.current ≡ complex.old.current }
+        ensures reserved { complex.new.reserved ≡ complex.old.reserved }
+        ensures placed { complex.new.placed ≡ complex.old.placed }
+        ensures first { complex.new.first ≡ complex.old.first }
+        ensures second { complex.new.second ≡ complex.old.second }
+        ensures level { complex.new.level ≡ complex.old.level }
+        ensures copy1 { complex.new.pair.first.copy ≡ complex.old.pair.first.copy }
+        ensures copy2 { complex.new.pair.second.copy ≡ complex.old.pair.second.copy }
+        ensures id { self.new.id ≡ self.old.id }
+        ensures checkpoint { self.new.checkpoint ≡ self.old.checkpoint }
+        ensures batch { self.new.batch ≡ self.old.batch }
+        ensures as_many { length self.new.room ≡ length self.old.room }
+        ensures behind { self.new.behind ≡ false }
+        ensures read { IsRead P.tells self.old.id.0 complex.old.pair.first.alive complex.new.pair.first.alive complex.old.pair.second.alive complex.new.pair.second.alive (P.view complex.old.plant) (P.view complex.new.plant) result }
+        ensures loses { (d : Dev) → (P.view complex.new.plant).loses d ≡ (P.view complex.old.plant).loses d }
+        ensures page { OnOk result (P.tells → (was : List ℕ) → ReadsAs P.tells complex.new.pair.first.alive (C.reads (disk_now (P.view complex.new.plant) Ckpt1).bytes) was
+            → ReadsAs P.tells complex.new.pair.second.alive (C.reads (disk_now (P.view complex.new.plant) Ckpt2).bytes) was → ArePagesOf 0 1 was self.new.room) }
+    {
+        self.behind = false;
+        let room = self.room.as_mut_slice();
+        read_one(complex, self.id, 0, &mut room[0])
+    }
+
+    /// The second read, behind the first one: all other pages. It answers their number. Their bytes come into the member's room, and
+    /// their spelling is tested; the member's tables are as they were, until `catch_up` brings them up to these pages. A copy from which
+    /// a page came that is no spelling is lost, and all is read again from the other one; where content is told that doesn't come.
+    ///
+    /// After Ok the pages in the room are those that each copy reads which counts as alive, and stand for the queue after the kept
+    /// batches. BothLost comes only where both copies count as lost at the end of the call, Halted only where the member was stopped in
+    /// it. It takes no memory.
+    pub fn second_read<P: Plant + Drop, C: Steady + Drop>(
+        &mut self,
+        complex: &mut Complex<P, C>,
+    ) -> Result<u32, NodeNo>
+        requires may { MayAct complex.old.book self.old.id }
+        requires some { 2 ≤ length self.old.room }
+        requires few { length self.old.room ≤ pages_most }
+        requires calm1 { IsCalm complex.old.pair.first.alive complex.old.first (C.count complex.old.pair.first.copy) (length self.old.room) }
+        requires calm2 { IsCalm complex.old.pair.second.alive complex.old.second (C.count complex.old.pair.second.copy) (length self.old.room) }
+        requires config { P.tells → page_count (run complex.old.base (kept_all complex.old.journal.batches)).config ≡ length self.old.room }
+        requires page { P.tells → (was : List ℕ) → ReadsAs P.tells complex.old.pair.first.alive (C.reads (disk_now (P.view complex.old.plant) Ckpt1).bytes) was
+            → ReadsAs P.tells complex.old.pair.second.alive (C.reads (disk_now (P.view complex.old.plant) Ckpt2).bytes) was → ArePagesOf 0 1 was self.old.room }
+        ensures base { complex.new.base ≡ complex.old.base }
+        ensures since { complex.new.since ≡ complex.old.since }
+        ensures book { complex.new.book ≡ complex.old.book }
+        ensures journal { complex.new.journal ≡ complex.old.journal }
+        ensures current { complex.new.current ≡ complex.old.current }
+        ensures reserved { complex.new.reserved ≡ complex.old.reserved }
+        ensures placed { complex.new.placed ≡ complex.old.placed }
+        ensures first { complex.new.first ≡ complex.old.first }
+        ensures second { complex.new.second ≡ complex.old.second }
+        ensures level { complex.new.level ≡ complex.old.level }
+        ensures copy1 { complex.new.pair.first.copy ≡ complex.old.pair.first.copy }
+        ensures copy2 { complex.new.pair.second.copy ≡ complex.old.pair.second.copy }
+        ensures id { self.new.id ≡ self.old.id }
+        ensures checkpoint { self.new.checkpoint ≡ self.old.checkpoint }
+        ensures batch { self.new.batch ≡ self.old.batch }
+        ensures as_many { length self.new.room ≡ length self.old.room }
+        ensures read { IsRead P.tells self.old.id.0 complex.old.pair.first.alive complex.new.pair.first.alive complex.old.pair.second.alive complex.new.pair.second.alive (P.view complex.old.plant) (P.view complex.new.plant) result }
+        ensures err { OnErr result (self.new.behind ≡ false) }
+        ensures count { IfOk result (λ count. count + 1 ≡ length self.new.room) }
+        ensures behind { OnOk result (self.new.behind ≡ true) }
+        ensures spelled { OnOk result (SpellSome self.new.room) }
+        ensures rests1 { OnOk result (RestsAt P.tells complex.new.pair.first.alive complex.new.first (C.count complex.new.pair.first.copy) self.new.room (C.reads (disk_now (P.view complex.new.plant) Ckpt1).bytes)) }
+        ensures rests2 { OnOk result (RestsAt P.tells complex.new.pair.second.alive complex.new.second (C.count complex.new.pair.second.copy) self.new.room (C.reads (disk_now (P.view complex.new.plant) Ckpt2).bytes)) }
+        ensures stand { OnOk result (P.tells → ∥ StandAt (run complex.new.base (kept_all complex.new.journal.batches)) complex.new.level self.new.room ∥₁) }
+    {
+        self.behind = false;
+        let by = self.id;
+        complex.kept_pages();
+        read_from(complex, by, self.room.as_mut_slice(), 1)?;
+        while !are_spelled(complex, self.room.as_slice()) {
+            lose_read(complex)?;
+            read_from(complex, by, self.room.as_mut_slice(), 0)?;
+        }
+        self.behind = true;
+        Ok(self.room.len() as u32 - 1)
+    }
+
+    /// Primary: makes room for a put where a copy that counts as alive has none, with the pages that the member read, and makes no act
+    /// where each has. Nothing is in flight.
+    ///
+    /// BothLost comes only where both copies count as lost at the end of the call, Halted only where the member was stopped in it.
+    pub fn primary<P: Plant + Drop, C: Steady + Drop>(
+        &self,
+        complex: &mut Complex<P, C>,
+    ) -> Result<(), NodeNo>
+        requires may { MayAct complex.old.book self.now.id }
+        requires none { complex.old.current ≡ None }
+        requires rests1 { RestsAt P.tells complex.old.pair.first.alive complex.old.first (C.count complex.old.pair.first.copy) (pages_had self.now.behind self.now.room self.now.checkpoint.pages) (C.reads (disk_now (P.view complex.old.plant) Ckpt1).bytes) }
+        requires rests2 { RestsAt P.tells complex.old.pair.second.alive complex.old.second (C.count complex.old.pair.second.copy) (pages_had self.now.behind self.now.room self.now.checkpoint.pages) (C.reads (disk_now (P.view complex.old.plant) Ckpt2).bytes) }
+        ensures base { complex.new.base ≡ complex.old.base }
+        ensures since { complex.new.since ≡ complex.old.since }
+        ensures book { complex.new.book ≡ complex.old.book }
+        ensures journal { complex.new.journal ≡ complex.old.journal }
+        ensures current { complex.new.current ≡ complex.old.current }
+        ensures reserved { complex.new.reserved ≡ complex.old.reserved }
+        ensures placed { complex.new.placed ≡ complex.old.placed }
+        ensures level { complex.new.level ≡ complex.old.level }
+        ensures idle { 1 ≤ least_room complex.old.pair.first.alive complex.old.pair.second.alive (C.room complex.old.pair.first.copy) (C.room complex.old.pair.second.copy) → complex.new ≡ complex.old }
+        ensures rests1 { OnOk result (RestsAt P.tells complex.new.pair.first.alive complex.new.first (C.count complex.new.pair.first.copy) (pages_had self.now.behind self.now.room self.now.checkpoint.pages) (C.reads (disk_now (P.view complex.new.plant) Ckpt1).bytes)) }
+        ensures rests2 { OnOk result (RestsAt P.tells complex.new.pair.second.alive complex.new.second (C.count complex.new.pair.second.copy) (pages_had self.now.behind self.now.room self.now.checkpoint.pages) (C.reads (disk_now (P.view complex.new.plant) Ckpt2).bytes)) }
+        ensures room1 { OnOk result (complex.new.pair.first.alive ≡ true → (1 ≤ C.room complex.new.pair.first.copy) ⊎ (C.room complex.new.pair.first.copy ≡ C.room_most)) }
+        ensures room2 { OnOk result (complex.new.pair.second.alive ≡ true → (1 ≤ C.room complex.new.pair.second.copy) ⊎ (C.room complex.new.pair.second.copy ≡ C.room_most)) }
+        ensures settle { IsSettle P.tells self.now.id.0 complex.old.pair.first.alive complex.new.pair.first.alive complex.old.pair.second.alive complex.new.pair.second.alive (P.view complex.old.plant) (P.view complex.new.plant) result }
+    {
+        if complex.pair.room() > 0 {
+            return Ok(());
+        }
+        let pages = if self.behind {
+            self.room.as_slice()
+        } else {
+            self.checkpoint.pages.as_slice()
+        };
+        match complex.settle(self.id, pages) {
+            Ok(()) => Ok(()),
+            Err(PairNo::BothLost) => Err(NodeNo::BothLost),
+            Err(PairNo::Halted) => Err(NodeNo::Halted),
+        }
+    }
+
+    /// Brings the member's tables up to the pages that it read: for its first command behind a read. It answers false where these are no
+    /// pages that it may go on from, though they spell tables: of another configuration, or with orders that aren't below the next one,
+    /// or too high ones. The member is as it was then, and where nothing was read.
+    ///
+    /// NoMemory leaves the member as it was.
+    pub fn catch_up(&mut self, alloc: Global) -> Result<bool, NoMemory>
+        requires spelled { self.old.behind ≡ true → SpellSome self.old.room }
+        requires few { length self.old.room ≤ pages_most }
+        ensures id { self.new.id ≡ self.old.id }
+        ensures batch { self.new.batch ≡ self.old.batch }
+        ensures err { OnErr result (self.new ≡ self.old) }
+        ensures same { self.old.behind ≡ false → self.new ≡ self.old }
+        ensures refused { IfOk result (λ up. up ≡ false → (self.new ≡ self.old) × ((t : TablesLem) → IsCheckpoint self.old.room t → MayGoOn self.old.checkpoint.tables.config self.old.room t → ⊥)) }
+        ensures up { IfOk result (λ up. up ≡ true → self.old.behind ≡ true → IsUpTo self.old.checkpoint.tables.config self.old.room self.new.checkpoint) }
+        ensures here { IfOk result (λ up. up ≡ true → self.new.behind ≡ false) }
+        ensures as_many { length self.old.checkpoint.pages ≡ length self.old.room → length self.new.room ≡ length self.old.room }
+    {
+        if !self.behind {
+            return Ok(true);
+        }
+        let pages = self.room.as_slice();
+        let tables = match decode(alloc, pages) {
+            Ok(tables) => tables,
+            Err(PageNo::BadPage(_)) => unreachable!(),
+            Err(PageNo::NoMemory) => return Err(NoMemory),
+        };
+        if !may_go_on(&self.checkpoint.tables.config, pages, &tables) {
+            return Ok(false);
+        }
+        let levels = levels_of(alloc, pages)?;
+        law_of_levels();
+        law_of_checkpoints();
+        law_of_sizes(pages);
+        self.take_up(alloc, tables, levels);
+        Ok(true)
+    }
+
+    /// Both reads, and the member's tables brought up to what they gave: what a member does that got the lock, before its first command.
+    /// A copy from which it read what it can't go on from is lost, and all is read again; where content is told that doesn't come.
+    ///
+    /// After Ok the member's pages are those that each copy reads which counts as alive, and its tables tell the queue after the kept
+    /// batches. BothLost comes only where both copies count as lost at the end of the call, Halted only where the member was stopped in
+    /// it. After an error its tables are those from before, or newer ones.
+    pub fn read_in<P: Plant + Drop, C: Steady + Drop>(
+        &mut self,
+        alloc: Global,
+        complex: &mut Complex<P, C>,
+    ) -> Result<(), NodeNo>
+        requires may { MayAct complex.old.book self.old.id }
+        requires nothing { self.old.batch ≡ [] }
+        requires many { length self.old.room ≡ length self.old.checkpoint.pages }
+        requires some { 2 ≤ length self.old.room }
+        requires few { length self.old.room ≤ pages_most }
+        requires calm1 { IsCalm complex.old.pair.first.alive complex.old.first (C.count complex.old.pair.first.copy) (length self.old.room) }
+        requires calm2 { IsCalm complex.old.pair.second.alive complex.old.second (C.count complex.old.pair.second.copy) (length self.old.room) }
+        requires config { P.tells → page_count (run complex.old.base (kept_all complex.old.journal.batches)).config ≡ length self.old.room }
+        requires low1 { ReadsLow P.tells complex.old.pair.first.alive self.old.checkpoint.tables.config (length complex.old.journal.batches) (C.reads (disk_now (P.view complex.old.plant) Ckpt1).bytes) }
+        requires low2 { ReadsLow P.tells complex.old.pair.second.alive self.old.checkpoint.tables.config (length complex.old.journal.batches) (C.reads (disk_now (P.view complex.old.plant) Ckpt2).bytes) }
+        requires orders { orders_after (length complex.old.journal.batches) < too_high }
+        requires level { complex.old.level < too_high }
+        ensures base { complex.new.base ≡ complex.old.base }
+        ensures since { complex.new.since ≡ complex.old.since }
+        ensures book { complex.new.book ≡ complex.old.book }
+        ensures journal { complex.new.journal ≡ complex.old.journal }
+        ensures current { complex.new.current ≡ complex.old.current }
+        ensures reserved { complex.new.reserved ≡ complex.old.reserved }
+        ensures placed { complex.new.placed ≡ complex.old.placed }
+        ensures first { complex.new.first ≡ complex.old.first }
+        ensures second { complex.new.second ≡ complex.old.second }
+        ensures level { complex.new.level ≡ complex.old.level }
+        ensures copy1 { complex.new.pair.first.copy ≡ complex.old.pair.first.copy }
+        ensures copy2 { complex.new.pair.second.copy ≡ complex.old.pair.second.copy }
+        ensures id { self.new.id ≡ self.old.id }
+        ensures batch { self.new.batch ≡ self.old.batch }
+        ensures read { IsReadIn P.tells self.old.id.0 complex.old.pair.first.alive complex.new.pair.first.alive complex.old.pair.second.alive complex.new.pair.second.alive (P.view complex.old.plant) (P.view complex.new.plant) result }
+        ensures here { OnOk result (self.new.behind ≡ false) }
+        ensures as_many { OnOk result (length self.new.checkpoint.pages ≡ length self.old.room) }
+        ensures many { OnOk result (length self.new.room ≡ length self.new.checkpoint.pages) }
+        ensures up { OnOk result (IsUpTo self.old.checkpoint.tables.config self.new.checkpoint.pages self.new.checkpoint) }
+        ensures rests1 { OnOk result (RestsAt P.tells complex.new.pair.first.alive complex.new.first (C.count complex.new.pair.first.copy) self.new.checkpoint.pages (C.reads (disk_now (P.view complex.new.plant) Ckpt1).bytes)) }
+        ensures rests2 { OnOk result (RestsAt P.tells complex.new.pair.second.alive complex.new.second (C.count complex.new.pair.second.copy) self.new.checkpoint.pages (C.reads (disk_now (P.view complex.new.plant) Ckpt2).bytes)) }
+        ensures told { OnOk result (P.tells → ∥ Tell self.new.checkpoint.tables (run complex.new.base (kept_all complex.new.journal.batches)) ∥₁) }
+        ensures same_level { OnOk result (P.tells → complex.new.level ≡ self.new.checkpoint.level) }
+    {
+        self.read_all(complex)?;
+        while !self.is_caught_up(alloc)? {
+            lose_read(complex)?;
+            self.read_all(complex)?;
+        }
+        Ok(())
+    }
+
+    // Both reads.
+    fn read_all<P: Plant + Drop, C: Steady + Drop>(
+        &mut self,
+        complex: &mut Complex<P, C>,
+    ) -> Result<(), NodeNo>
+        requires may { MayAct complex.old.book self.old.id }
+        requires some { 2 ≤ length self.old.room }
+        requires few { length self.old.room ≤ pages_most }
+        requires calm1 { IsCalm complex.old.pair.first.alive complex.old.first (C.count complex.old.pair.first.copy) (length self.old.room) }
+        requires calm2 { IsCalm complex.old.pair.second.alive complex.old.second (C.count complex.old.pair.second.copy) (length self.old.room) }
+        requires config { P.tells → page_count (run complex.old.base (kept_all complex.old.journal.batches)).config ≡ length self.old.room }
+        ensures base { complex.new.base ≡ complex.old.base }
+        ensures since { complex.new.since ≡ complex.old.since }
+        ensures book { complex.new.book ≡ complex.old.book }
+        ensures journal { complex.new.journal ≡ complex.old.journal }
+        ensures current { complex.new.current ≡ complex.old.current }
+        ensures reserved { complex.new.reserved ≡ complex.old.reserved }
+        ensures placed { complex.new.placed ≡ complex.old.placed }
+        ensures first { complex.new.first ≡ complex.old.first }
+        ensures second { complex.new.second ≡ complex.old.second }
+        ensures level { complex.new.level ≡ complex.old.level }
+        ensures copy1 { complex.new.pair.first.copy ≡ complex.old.pair.first.copy }
+        ensures copy2 { complex.new.pair.second.copy ≡ complex.old.pair.second.copy }
+        ensures id { self.new.id ≡ self.old.id }
+        ensures checkpoint { self.new.checkpoint ≡ self.old.checkpoint }
+        ensures batch { self.new.batch ≡ self.old.batch }
+        ensures as_many { length self.new.room ≡ length self.old.room }
+        ensures read { IsRead P.tells self.old.id.0 complex.old.pair.first.alive complex.new.pair.first.alive complex.old.pair.second.alive complex.new.pair.second.alive (P.view complex.old.plant) (P.view complex.new.plant) result }
+        ensures behind { OnOk result (self.new.behind ≡ true) }
+        ensures spelled { OnOk result (SpellSome self.new.room) }
+        ensures rests1 { OnOk result (RestsAt P.tells complex.new.pair.first.alive complex.new.first (C.count complex.new.pair.first.copy) self.new.room (C.reads (disk_now (P.view complex.new.plant) Ckpt1).bytes)) }
+        ensures rests2 { OnOk result (RestsAt P.tells complex.new.pair.second.alive complex.new.second (C.count complex.new.pair.second.copy) self.new.room (C.reads (disk_now (P.view complex.new.plant) Ckpt2).bytes)) }
+        ensures stand { OnOk result (P.tells → ∥ StandAt (run complex.new.base (kept_all complex.new.journal.batches)) complex.new.level self.new.room ∥₁) }
+    {
+        self.first_read(complex)?;
+        self.second_read(complex)?;
+        Ok(())
+    }
+
+    // Brings its tables up to what it read, where it may go on from that.
+    fn is_caught_up(&mut self, alloc: Global) -> Result<bool, NodeNo>
+        requires spelled { self.old.behind ≡ true → SpellSome self.old.room }
+        requires few { length self.old.room ≤ pages_most }
+        ensures id { self.new.id ≡ self.old.id }
+        ensures batch { self.new.batch ≡ self.old.batch }
+        ensures only { IfErr result (λ e. e ≡ no_node.NoMemory) }
+        ensures refused { IfOk result (λ up. up ≡ false → (self.new ≡ self.old) × ((t : TablesLem) → IsCheckpoint self.old.room t → MayGoOn self.old.checkpoint.tables.config self.old.room t → ⊥)) }
+        ensures up { IfOk result (λ up. up ≡ true → self.old.behind ≡ true → IsUpTo self.old.checkpoint.tables.config self.old.room self.new.checkpoint) }
+        ensures here { IfOk result (λ up. up ≡ true → self.new.behind ≡ false) }
+        ensures as_many { length self.old.checkpoint.pages ≡ length self.old.room → length self.new.room ≡ length self.old.room }
+        ensures sized { All (λ page. length page.0 ≡ page_bytes) self.old.room }
+    {
+        law_of_sizes(self.room.as_slice());
+        match self.catch_up(alloc) {
+            Ok(up) => Ok(up),
+            Err(NoMemory) => Err(NodeNo::NoMemory),
+        }
+    }
+
+    // Takes the pages of its room, which spell these tables with these levels.
+    fn take_up(&mut self, alloc: Global, tables: Tables, levels: List<Level>)
+        ensures id { self.new.id ≡ self.old.id }
+        ensures batch { self.new.batch ≡ self.old.batch }
+        ensures tables { self.new.checkpoint.tables ≡ tables }
+        ensures levels { self.new.checkpoint.levels ≡ levels }
+        ensures level { self.new.checkpoint.level ≡ level (bytes_of self.old.room) }
+        ensures pages { self.new.checkpoint.pages ≡ self.old.room }
+        ensures room { self.new.room ≡ self.old.checkpoint.pages }
+        ensures behind { self.new.behind ≡ false }
+    {
+        self.checkpoint.level = pages_level(self.room.as_slice());
+        self.checkpoint.tables = tables;
+        self.checkpoint.levels = levels;
+        let read = std::mem::replace(&mut self.room, List::new(alloc));
+        self.room = std::mem::replace(&mut self.checkpoint.pages, read);
+        self.behind = false;
+    }
+}
