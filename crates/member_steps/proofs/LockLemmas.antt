@@ -127,7 +127,7 @@ module _ (told : Type 0) (by : ℕ) (lines : List (List ℕ)) (front batches : L
     not_lost = λ e. absurd (cc);
     course = course_none is1 is2 v0;
     loses = λ d. refl;
-    cause = (refl, refl);
+    cause = inr (refl, refl);
     same = same;
     others = λ t. only_none v0;
     console = λ t. refl;

@@ -5,12 +5,13 @@ use Rattle.mas_types.specs.declared.commands.Command.{Command}
 use Rattle.mas_types.specs.declared.journals.Batch.{Batch}
 use Rattle.mas_types.specs.declared.journals.Entry.{Entry}
 use Rattle.mas_types.specs.declared.journals.Fate.TheVariants.{Kept}
-use Rattle.mas_types.specs.declared.commands.Reply.{Reply}
 use Rattle.mas_types.specs.declared.ids.MemberId.{MemberId}
-use Rattle.mas_types.specs.Step as table
+use Rattle.mas_types.specs.declared.commands.Reply.{Reply}
+use Rattle.mas_types.specs.Limits.{page_bytes}
 use Rattle.mas_types.specs.Step.{may_give}
-use Rattle.queue_laws.proofs.RunLaws.{give_alike}
+use Rattle.queue_laws.proofs.RunLaws.{give_alike, runs_keep_configuration}
 use Rattle.ckpt_pages.specs.declared.tables.Tables.{Tables}
+use Rattle.ckpt_pages.specs.Shape.{AreLevels, HasSpelling, page_count}
 use Rattle.table_queues.specs.Telling.{Tell, TellSound}
 use Rattle.queue_texts.specs.Leaving.{OthersLeaveTexts, ToldAreTheirOwn}
 use Rattle.mas_complex.specs.Texts.{Spools, HasTexts}
@@ -28,15 +29,16 @@ use Rattle.member_node.specs.declared.checkpoint.Draft.{Draft}
 use Rattle.member_node.specs.declared.checkpoint.Draft.TheVariants as draft
 use Rattle.member_node.specs.declared.member.NodeNo.{NodeNo}
 use Rattle.member_node.specs.declared.member.NodeNo.TheVariants.{BothLost, Halted, ConsoleFault, NoMemory}
-use Rattle.member_node.specs.Batches.{HasDone, level_with}
+use Rattle.member_node.specs.Batches.{CanDraw, HasDone, last_reply, level_with}
 use Rattle.member_node.specs.Calls.{console_now}
+use Rattle.member_node.specs.Drawn.{AreDrawn}
 use Rattle.member_node.specs.Writes.{HasKept, IsWrite}
 use Rattle.member_node.proofs.CourseLemmas.{course_none, course_then, only_none, only_on, rose_later}
-use Rattle.member_node.proofs.EntryLemmas.{nothing_done, plain_step}
+use Rattle.member_node.proofs.EntryLemmas.{nothing_done}
 use Rattle.member_node.proofs.TextLemmas.{plain_brings, texts_after}
 use Rattle.member_node.proofs.WriteLemmas.{run_append}
 use Rattle.member_steps.specs.Saying.{Breaks, HaveSaid}
-use Rattle.member_steps.specs.Steps.{AreAllKept, IsBetween, IsStep, entry_of, step_lines}
+use Rattle.member_steps.specs.Steps.{AreAllKept, GivesStep, IsBetween, IsStep, entry_of, entry_with, reply_to}
 use Rattle.member_steps.proofs.SayLemmas.{console_course}
 
 -- THE STEP
@@ -46,8 +48,8 @@ module _ (told : Type 0) (by : ℕ) (lines : List (List ℕ)) (b : Batch) (front
   pub step_unplayed : (is1 is2 : Bool) (v : View) → batches ≡ front → IsStep {T = Unit {0}} told by lines b front batches is1 is1 is2 is2 v v (Err NoMemory)
   step_unplayed is1 is2 v none = record {
     course = course_none is1 is2 v;
-    loses = λ d. refl;
-    cause = (refl, refl);
+    loses = λ t d. refl;
+    cause = inr (refl, refl);
     journal = none;
     others = λ t. only_none v;
     console = λ t. refl;
@@ -60,17 +62,17 @@ module _ (told : Type 0) (by : ℕ) (lines : List (List ℕ)) (b : Batch) (front
     step_unwritten NoMemory write = absurd write.cause
     step_unwritten BothLost write = record {
       course = write.course;
-      loses = write.loses;
+      loses = λ t d. write.loses d;
       cause = write.cause;
-      journal = write.journal;
+      journal = inr write.journal;
       others = λ t. (write.apart t).others;
       console = λ t. (write.apart t).console;
     }
     step_unwritten Halted write = record {
       course = write.course;
-      loses = write.loses;
+      loses = λ t d. write.loses d;
       cause = write.cause;
-      journal = inl write.journal;
+      journal = inr (inl write.journal);
       others = λ t. (write.apart t).others;
       console = λ t. inl (write.apart t).console;
     }
@@ -88,7 +90,7 @@ module _ (told : Type 0) (by : ℕ) (lines : List (List ℕ)) (b : Batch) (front
       step_told (Err NoMemory) said = absurd said.cause
       step_told (Ok done) said = record {
         course = course_then was1 is1 is1 was2 is2 is2 v0 v1 v2 write.course (console_course told is1 is2 v1 v2 said.acts);
-        loses = λ d. said.acts.loses d ∙ write.loses d;
+        loses = λ t d. said.acts.loses d ∙ write.loses d;
         cause = write.cause;
         journal = kept_then said.acts.goes.later;
         others = λ t. only_on v0 v1 v2 write.course.goes.later said.acts.goes (write.apart t).others (said.acts.others t);
@@ -96,7 +98,7 @@ module _ (told : Type 0) (by : ℕ) (lines : List (List ℕ)) (b : Batch) (front
       }
       step_told (Err ConsoleFault) said = record {
         course = course_then was1 is1 is1 was2 is2 is2 v0 v1 v2 write.course (console_course told is1 is2 v1 v2 said.acts);
-        loses = λ d. said.acts.loses d ∙ write.loses d;
+        loses = λ t d. said.acts.loses d ∙ write.loses d;
         cause = (write.cause, rose_later (v0.faults Console) (v1.faults Console) (v2.faults Console) (write.course.goes.faults Console) said.cause);
         journal = kept_then said.acts.goes.later;
         others = λ t. only_on v0 v1 v2 write.course.goes.later said.acts.goes (write.apart t).others (said.acts.others t);
@@ -104,9 +106,9 @@ module _ (told : Type 0) (by : ℕ) (lines : List (List ℕ)) (b : Batch) (front
       }
       step_told (Err Halted) said = record {
         course = course_then was1 is1 is1 was2 is2 is2 v0 v1 v2 write.course (console_course told is1 is2 v1 v2 said.acts);
-        loses = λ d. said.acts.loses d ∙ write.loses d;
+        loses = λ t d. said.acts.loses d ∙ write.loses d;
         cause = (write.cause, rose_later (v0.stops by) (v1.stops by) (v2.stops by) (write.course.goes.stops by) said.cause);
-        journal = inr (kept_then said.acts.goes.later);
+        journal = inr (inr (kept_then said.acts.goes.later));
         others = λ t. only_on v0 v1 v2 write.course.goes.later said.acts.goes (write.apart t).others (said.acts.others t);
         console = λ t. let some = said.console t in inr (kept_then said.acts.goes.later, some.0, some.1, subst (λ (l : List Line). Breaks some.0 lines l (console_now v2)) (write.apart t).console some.2);
       }
@@ -114,18 +116,19 @@ module _ (told : Type 0) (by : ℕ) (lines : List (List ℕ)) (b : Batch) (front
 -- BEFORE AND AFTER IT
 
 -- nothing is done yet
-pub between_done : (base : Queue) (batches : List Batch) (current : Option Batch) (placed : Bool) (level : ℕ) (batch : List Entry) (k : Checkpoint) → IsBetween base batches current placed level batch k → HasDone (run base (kept_all batches)) batch k
-between_done base batches current placed level batch k between =
+pub between_done : (tells : Type 0) (base : Queue) (batches : List Batch) (current : Option Batch) (placed : Bool) (level : ℕ) (batch : List Entry) (k : Checkpoint) → IsBetween tells base batches current placed level batch k → tells
+    → HasDone (run base (kept_all batches)) batch k
+between_done tells base batches current placed level batch k between told =
     subst (λ (es : List Entry). HasDone (run base (kept_all batches)) es k) (sym between.nothing)
-    (nothing_done (run base (kept_all batches)) k between.drawn between.fit between.queue)
+    (nothing_done (run base (kept_all batches)) k between.drawn between.fit (between.queue told))
 
 -- a batch that had no entry has the one that came
 pub only_entry : (was is : List Entry) (e : Entry) → is ≡ was ++ e ∷ [] → was ≡ [] → is ≡ e ∷ []
 only_entry was is e one none = one ∙ ap (λ (es : List Entry). es ++ e ∷ []) none
 
--- who may give a command at a queue may give it at a sound one that the same tables tell
-pub may_alike : (t : Tables) (Q : Queue) (s : TellSound t) → Tell t Q → (m : MemberId) (c : Command) → may_give Q m c ≡ true → may_give s.queue m c ≡ true
-may_alike t Q s told m c may = give_alike Q s.queue m c (s.told.config ∙ sym told.config) may
+-- who may give a command in a run may give it at a sound queue that tables tell which tell the run's queue
+pub may_alike : (t : Tables) (base : Queue) (es : List Entry) (s : TellSound t) → Tell t (run base es) → (m : MemberId) (c : Command) → may_give base m c ≡ true → may_give s.queue m c ≡ true
+may_alike t base es s told m c may = give_alike base s.queue m c (s.told.config ∙ sym told.config ∙ (runs_keep_configuration base es).config) may
 
 -- texts after the command of a step
 pub step_texts : OthersLeaveTexts → ToldAreTheirOwn → (gone : ℕ → Bool) (disks : Spools) (per : ℕ) (base base1 : Queue) (was kept : List Batch) (t : Tables) (m : MemberId) (at : ℕ) (c : Command) (es : List Entry) → is_plain c ≡ true → TellSound t → Tell t (run base (kept_all was))
@@ -134,9 +137,8 @@ step_texts law own gone disks per base base1 was kept t m at c es plain sound to
     let Q : Queue = run base (kept_all was) in
     let here : run base1 (kept_all kept) ≡ Q = ap (λ (q : Queue). run q (kept_all kept)) same ∙ ap (run base) none in
     let stand : HasTexts gone disks per Q = subst (HasTexts gone disks per) here has in
-    let after : HasTexts gone disks per (table.step Q m c).0 = texts_after law gone disks per Q m c (plain_brings c plain) (own t Q sound told) stand in
-    let next : HasTexts gone disks per (run Q (entry_of Q m at c ∷ [])) = subst (λ (p : Queue × Reply). HasTexts gone disks per p.0) (sym (plain_step Q m c plain)) after in
-    subst (HasTexts gone disks per) (sym (run_append base1 (kept_all kept) es ∙ ap (λ (q : Queue). run q es) here ∙ ap (run Q) are)) next
+    let after : HasTexts gone disks per (run Q (entry_of Q m at c ∷ [])) = texts_after law gone disks per Q m c (plain_brings c plain) (own t Q sound told) stand in
+    subst (HasTexts gone disks per) (sym (run_append base1 (kept_all kept) es ∙ ap (λ (q : Queue). run q es) here ∙ ap (run Q) are)) after
 
 -- a step is kept where all batches are
 pub all_step_kept : (batches : List Batch) (t : ℕ) (m : MemberId) (s : ℕ) → AreAllKept batches t → StepIsKept batches t m s
@@ -183,6 +185,24 @@ some_of_one es e is = subst (λ (l : List Entry). 1 ≤ length l) (sym is) (omeg
 pub own_of_one : (es : List Entry) (e : Entry) (m : MemberId) → es ≡ e ∷ [] → e.by ≡ m → All (λ (x : Entry). x.by ≡ m) es
 own_of_one es e m is by = subst (All (λ (x : Entry). x.by ≡ m)) (sym is) (All-cons (λ (x : Entry). x.by ≡ m) e [] by (All-nil (λ (x : Entry). x.by ≡ m)))
 
+-- a batch of one entry has its reply
+pub reply_is : (Q : Queue) (by : MemberId) (at : ℕ) (c : Command) (r : Reply) (es : List Entry) → es ≡ entry_with by at c r ∷ [] → es ≡ entry_of Q by at c ∷ [] → r ≡ reply_to Q by c
+reply_is Q by at c r es one two = ap last_reply (sym one ∙ two)
+
+-- tables that a command changed can be drawn as before
+pub can_draw : (k n : Checkpoint) → AreDrawn k.tables k.level k.levels k.pages → n.pages ≡ k.pages → n.level ≡ k.level → n.levels ≡ k.levels → n.tables.config ≡ k.tables.config → HasSpelling n.tables → CanDraw n
+can_draw k n drawn pages level levels config spelling = record {
+  leveled = subst (λ (l : ℕ). AreLevels n.tables l n.levels) (sym level) (subst (AreLevels n.tables k.level) (sym levels) (record {
+    count = drawn.leveled.count ∙ ap page_count (sym config);
+    first = drawn.leveled.first;
+    each = drawn.leveled.each;
+    most = drawn.leveled.most;
+  }));
+  as_many = ap length pages ∙ drawn.spelled.count ∙ ap page_count (sym config);
+  sized = subst (All (λ page. length page.0 ≡ page_bytes)) (sym pages) drawn.sized;
+  spelling = spelling;
+}
+
 -- WHAT HOLDS WHATEVER THE ANSWER
 
 pub ok_of : {T E A : Type 0} (r : Result T E) → A → OnOk r A
@@ -206,17 +226,17 @@ step_named told by by' lines lines' es es' front batches was1 is1 was2 is2 old n
     (subst (λ (l : List (List ℕ)). IsStep told by'.0 l (begun old.now by' es) front batches was1 is1 was2 is2 old new r) two
     (subst (λ (l : List Entry). IsStep told by'.0 lines' (begun old.now by' l) front batches was1 is1 was2 is2 old new r) three step))
 
-abbrev StepOf : Type 0 → MemberId → ℕ → Command → Result (Unit {0}) NodeNo → List Batch → Bool → Bool → View → Queue → List Batch → Bool → Bool → View → Type 0
-StepOf told by at c r batches is1 is2 new base front was1 was2 old =
-    IsStep told by.0 (step_lines (run base (kept_all front)) by at c) (begun old.now by (entry_of (run base (kept_all front)) by at c ∷ [])) front batches was1 is1 was2 is2 old new r
+-- a step that gives a command, by its journal, copies and plant before it under other names
+abbrev GivesOf : Type 0 → MemberId → ℕ → Command → Result (Unit {0}) NodeNo → List Batch → Bool → Bool → View → Queue → List Batch → Bool → Bool → View → Type 0
+GivesOf told by at c r batches is1 is2 new base front was1 was2 old = GivesStep told by at c (run base (kept_all front)) front batches was1 is1 was2 is2 old new r
 
-pub step_as : (told : Type 0) (by : MemberId) (at : ℕ) (c : Command) (r : Result (Unit {0}) NodeNo) (base base' : Queue) (front front' batches : List Batch) (was1 was1' is1 was2 was2' is2 : Bool) (old old' new : View)
-    → base' ≡ base → front' ≡ front → was1' ≡ was1 → was2' ≡ was2 → old' ≡ old
-    → IsStep told by.0 (step_lines (run base' (kept_all front')) by at c) (begun old'.now by (entry_of (run base' (kept_all front')) by at c ∷ [])) front' batches was1' is1 was2' is2 old' new r
-    → IsStep told by.0 (step_lines (run base (kept_all front)) by at c) (begun old.now by (entry_of (run base (kept_all front)) by at c ∷ [])) front batches was1 is1 was2 is2 old new r
-step_as told by at c r base base' front front' batches was1 was1' is1 was2 was2' is2 old old' new one two three four five step =
-    subst (λ (x : Queue). StepOf told by at c r batches is1 is2 new x front was1 was2 old) one
-    (subst (λ (x : List Batch). StepOf told by at c r batches is1 is2 new base' x was1 was2 old) two
-    (subst (λ (x : Bool). StepOf told by at c r batches is1 is2 new base' front' x was2 old) three
-    (subst (λ (x : Bool). StepOf told by at c r batches is1 is2 new base' front' was1' x old) four
-    (subst (λ (x : View). StepOf told by at c r batches is1 is2 new base' front' was1' was2' x) five step))))
+pub gives_as : (told : Type 0) (by by' : MemberId) (at : ℕ) (c : Command) (r : Result (Unit {0}) NodeNo) (base base' : Queue) (front front' batches : List Batch) (was1 was1' is1 was2 was2' is2 : Bool) (old old' new : View)
+    → by' ≡ by → base' ≡ base → front' ≡ front → was1' ≡ was1 → was2' ≡ was2 → old' ≡ old
+    → GivesStep told by' at c (run base' (kept_all front')) front' batches was1' is1 was2' is2 old' new r → GivesStep told by at c (run base (kept_all front)) front batches was1 is1 was2 is2 old new r
+gives_as told by by' at c r base base' front front' batches was1 was1' is1 was2 was2' is2 old old' new zero one two three four five step =
+    subst (λ (x : Queue). GivesOf told by at c r batches is1 is2 new x front was1 was2 old) one
+    (subst (λ (x : List Batch). GivesOf told by at c r batches is1 is2 new base' x was1 was2 old) two
+    (subst (λ (x : Bool). GivesOf told by at c r batches is1 is2 new base' front' x was2 old) three
+    (subst (λ (x : Bool). GivesOf told by at c r batches is1 is2 new base' front' was1' x old) four
+    (subst (λ (x : View). GivesOf told by at c r batches is1 is2 new base' front' was1' was2' x) five
+    (subst (λ (x : MemberId). GivesOf told x at c r batches is1 is2 new base' front' was1' was2' old') zero step)))))

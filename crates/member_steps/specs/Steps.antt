@@ -1,7 +1,8 @@
 -- A member's step that gives a command, by its answer.
-use Rattle.std.specs.Prelude.{◌≡◌, ◌⊎◌, ℕ, ◌≤◌, ◌<◌, Bool, false, List, [], ◌++◌, length, map, take, All, Option, None, Result, Ok, Err}
+use Rattle.std.specs.Prelude.{◌≡◌, ◌⊎◌, ℕ, ◌≤◌, ◌<◌, Bool, false, List, [], ◌∷◌, ◌++◌, length, map, take, All, Option, None, Result, Ok, Err}
 use Rattle.mas_types.specs.declared.ids.Dev.{Dev}
 use Rattle.mas_types.specs.declared.ids.MemberId.{MemberId}
+use Rattle.mas_types.specs.declared.ids.Page.{Page}
 use Rattle.mas_types.specs.declared.commands.Command.{Command}
 use Rattle.mas_types.specs.declared.commands.Reply.{Reply}
 use Rattle.mas_types.specs.declared.journals.Batch.{Batch}
@@ -12,10 +13,11 @@ use Rattle.spool_disk.specs.declared.plant.Part.TheVariants.{Console}
 use Rattle.spool_disk.specs.View.{View, Line}
 use Rattle.spool_disk.specs.Acts.{Rose}
 use Rattle.duplex_pair.specs.Halves.{IsBothLost}
+use Rattle.ckpt_pages.specs.declared.tables.Tables.{Tables}
 use Rattle.table_queues.specs.Telling.{Tell, TellSound}
 use Rattle.queue_effect.specs.Standing.{AreFit}
 use Rattle.mas_complex.specs.Headline.{whole}
-use Rattle.mas_complex.specs.Journals.{kept_all}
+use Rattle.mas_complex.specs.Journals.{begun, kept_all}
 use Rattle.mas_complex.specs.Meaning.{step, run}
 use Rattle.member_node.specs.declared.checkpoint.Checkpoint.{Checkpoint}
 use Rattle.member_node.specs.declared.member.NodeNo.{NodeNo}
@@ -42,40 +44,62 @@ step_lines Q by at c = reply_lines by at (reply_to Q by c)
 
 -- BETWEEN STEPS
 
--- No batch is in flight or has its place, and the member's checkpoint tells the queue after the kept batches. Its tables tell a sound
--- queue, which differs from that in its texts alone.
-pub record IsBetween (base : Queue) (batches : List Batch) (current : Option Batch) (placed : Bool) (level : ℕ) (batch : List Entry) (k : Checkpoint) : Type 0 where
+-- A member at the lock, whatever it knows of the copies: no batch is in flight or has its place, it has written what it did, and it has
+-- room for as many pages as its checkpoint has.
+pub record IsAtLock (current : Option Batch) (placed : Bool) (batch : List Entry) (k : Checkpoint) (room : List Page) : Type 0 where
   pub none : current ≡ None
   pub unplaced : placed ≡ false
-  pub same_level : level ≡ k.level
   pub nothing : batch ≡ []
   pub drawn : AreDrawn k.tables k.level k.levels k.pages
-  pub queue : Tell k.tables (run base (kept_all batches))
+  pub many : length room ≡ length k.pages
+
+-- whatever tables tell the queue tell one with the sound parts: it has these, but for its texts perhaps
+abbrev pub IsToldSound : Queue → Type 0
+IsToldSound Q = (t : Tables) → Tell t Q → TellSound t
+
+-- A member in a step, which knows the copies: no batch is in flight or has its place, and where content is told its checkpoint tells the
+-- queue after the kept batches, which has the sound parts.
+pub record IsBetween (tells : Type 0) (base : Queue) (batches : List Batch) (current : Option Batch) (placed : Bool) (level : ℕ) (batch : List Entry) (k : Checkpoint) : Type 0 where
+  pub none : current ≡ None
+  pub unplaced : placed ≡ false
+  pub same_level : tells → level ≡ k.level
+  pub nothing : batch ≡ []
+  pub drawn : AreDrawn k.tables k.level k.levels k.pages
+  pub queue : tells → Tell k.tables (run base (kept_all batches))
   pub fit : AreFit k.tables
-  pub sound : TellSound k.tables
+  pub sound : tells → TellSound k.tables
 
 -- each batch is kept by now
 abbrev pub AreAllKept : List Batch → ℕ → Type 0
 AreAllKept batches now = All (λ b. (b.fate ≡ Kept) × (b.last ≤ now)) batches
+
+-- A step that gives a command, whatever its reply is, by the entry and the lines that this reply makes. Where content is told it is the
+-- reply that the command has at the queue.
+abbrev pub entry_with : MemberId → ℕ → Command → Reply → Entry
+entry_with by at c r = record { by = by; step = at; command = c; reply = r }
+
+-- the lines and the batch are those of some reply
+abbrev pub IsGiven : MemberId → ℕ → Command → List (List ℕ) → List Entry → Type 0
+IsGiven by at c lines batch = (r : Reply) × (lines ≡ reply_lines by at r) × (batch ≡ entry_with by at c r ∷ [])
 
 -- WHAT A STEP LEAVES
 
 -- the cause of an answer, and which copies count as alive after it
 abbrev pub StepCauses : {T : Type 0} → Result T NodeNo → ℕ → Bool → Bool → Bool → Bool → View → View → Type 0
 StepCauses (Ok done) by was1 is1 was2 is2 old new = IsLeft was1 is1 was2 is2
-StepCauses (Err NoMemory) by was1 is1 was2 is2 old new = (is1 ≡ was1) × (is2 ≡ was2)
+StepCauses (Err NoMemory) by was1 is1 was2 is2 old new = IsLeft was1 is1 was2 is2
 StepCauses (Err BothLost) by was1 is1 was2 is2 old new = IsBothLost is1 is2
 StepCauses (Err ConsoleFault) by was1 is1 was2 is2 old new = IsLeft was1 is1 was2 is2 × Rose (old.faults Console) (new.faults Console)
 StepCauses (Err Halted) by was1 is1 was2 is2 old new = IsLeft was1 is1 was2 is2 × Rose (old.stops by) (new.stops by)
 
--- The batch is kept where all lines are said, or where the console failed at one; it is in flight where both copies were lost; where
--- the member was stopped it is either.
+-- The batch is kept where all lines are said, or where the console failed at one. Where both copies were lost it is in flight, or isn't
+-- begun; where the member was stopped it is either of these.
 abbrev pub StepLeaves : {T : Type 0} → Result T NodeNo → List Batch → List Batch → Batch → ℕ → Type 0
 StepLeaves (Ok done) front batches b now = HasKept front batches b now
 StepLeaves (Err NoMemory) front batches b now = batches ≡ front
-StepLeaves (Err BothLost) front batches b now = HasFlying front batches b
+StepLeaves (Err BothLost) front batches b now = (batches ≡ front) ⊎ HasFlying front batches b
 StepLeaves (Err ConsoleFault) front batches b now = HasKept front batches b now
-StepLeaves (Err Halted) front batches b now = HasFlying front batches b ⊎ HasKept front batches b now
+StepLeaves (Err Halted) front batches b now = (batches ≡ front) ⊎ HasFlying front batches b ⊎ HasKept front batches b now
 
 -- What is added to the console: nothing before the batch is kept.
 abbrev pub StepTells : {T : Type 0} → Result T NodeNo → List (List ℕ) → Type 0 → List Line → List Line → Type 0
@@ -88,8 +112,16 @@ StepTells (Err Halted) lines kept was now = (now ≡ was) ⊎ (kept × (n : ℕ)
 -- A step whose commands are this batch, and which closes with these lines, over a journal with these batches before it.
 pub record IsStep {T : Type 0} (told : Type 0) (by : ℕ) (lines : List (List ℕ)) (b : Batch) (front batches : List Batch) (was1 is1 was2 is2 : Bool) (old new : View) (result : Result T NodeNo) : Type 0 where
   pub course : Course was1 is1 was2 is2 old new
-  pub loses : (d : Dev) → new.loses d ≡ old.loses d
+  pub loses : told → (d : Dev) → new.loses d ≡ old.loses d
   pub cause : StepCauses result by was1 is1 was2 is2 old new
   pub journal : StepLeaves result front batches b new.now
   pub others : told → IsOnlyOn old new
   pub console : told → StepTells result lines (HasKept front batches b new.now) (console_now old) (console_now new)
+
+-- A step that gives a command: its batch and its lines are those of a reply, which is the command's where content is told.
+pub record GivesStep {T : Type 0} (told : Type 0) (by : MemberId) (at : ℕ) (c : Command) (Q : Queue) (front batches : List Batch) (was1 is1 was2 is2 : Bool) (old new : View) (result : Result T NodeNo) : Type 0 where
+  pub reply : Reply
+  pub is : told → reply ≡ reply_to Q by c
+  pub first : ℕ
+  pub later : (old.now ≤ first) × (first ≤ new.now)
+  pub step : IsStep told by.0 (reply_lines by at reply) (begun first by (entry_with by at c reply ∷ [])) front batches was1 is1 was2 is2 old new result

@@ -8,7 +8,8 @@ ghost use Rattle.mas_complex.specs.Locking.{MayAct};
 ghost use Rattle.mas_complex.specs.Meaning.{run};
 ghost use Rattle.mas_complex.specs.Texts.{HasTexts, lost_now, spools_at};
 ghost use Rattle.table_queues.specs.Telling.{TellSound};
-ghost use Rattle.member_node.specs.Batches.{HasDone};
+ghost use Rattle.queue_effect.specs.Standing.{AreFit};
+ghost use Rattle.member_node.specs.Batches.{CanDraw, HasDone};
 ghost use Rattle.member_node.specs.Copies.{RestsAt};
 ghost use Rattle.member_steps.specs.Steps.{AreAllKept, IsBetween, IsStep};
 
@@ -36,11 +37,15 @@ pub fn play_batch<P: Plant + Drop, C: Steady + Drop>(
     requires own { All (λ e. e.by ≡ member.old.id) member.old.batch }
     requires none { complex.old.current ≡ None }
     requires unplaced { complex.old.placed ≡ false }
-    requires same_level { complex.old.level ≡ member.old.checkpoint.level }
-    requires done { HasDone (run complex.old.base (kept_all complex.old.journal.batches)) member.old.batch member.old.checkpoint }
+    requires here { member.old.behind ≡ false }
+    requires draws { CanDraw member.old.checkpoint }
+    requires fit { AreFit member.old.checkpoint.tables }
+    requires same_level { P.tells → complex.old.level ≡ member.old.checkpoint.level }
+    requires done { P.tells → HasDone (run complex.old.base (kept_all complex.old.journal.batches)) member.old.batch member.old.checkpoint }
+    requires small { complex.old.level + 1 < 2 ^ 63 }
     requires rests1 { RestsAt P.tells complex.old.pair.first.alive complex.old.first (C.count complex.old.pair.first.copy) member.old.checkpoint.pages (C.reads (disk_now (P.view complex.old.plant) Ckpt1).bytes) }
     requires rests2 { RestsAt P.tells complex.old.pair.second.alive complex.old.second (C.count complex.old.pair.second.copy) member.old.checkpoint.pages (C.reads (disk_now (P.view complex.old.plant) Ckpt2).bytes) }
-    requires sound { TellSound member.old.checkpoint.tables }
+    requires sound { P.tells → TellSound member.old.checkpoint.tables }
     requires texts { P.tells → ∥ HasTexts (lost_now (P.view complex.old.plant)) (spools_at (P.view complex.old.plant) (P.view complex.old.plant).now) complex.old.base.config.groups (run complex.old.base (kept_all complex.old.journal.batches ++ member.old.batch)) ∥₁ }
     requires kept { AreAllKept complex.old.journal.batches (P.view complex.old.plant).now }
     requires untold { P.tells → IsUntold (setting C.reads complex.old.base complex.old.since) (P.view complex.old.plant) member.old.batch }
@@ -51,17 +56,20 @@ pub fn play_batch<P: Plant + Drop, C: Steady + Drop>(
     ensures since { complex.new.since ≡ complex.old.since }
     ensures book { complex.new.book ≡ complex.old.book }
     ensures id { member.new.id ≡ member.old.id }
+    ensures room { member.new.room ≡ member.old.room }
+    ensures behind { member.new.behind ≡ false }
     ensures tables { member.new.checkpoint.tables ≡ member.old.checkpoint.tables }
     ensures step { IsStep P.tells member.old.id.0 lines.now (begun (P.view complex.old.plant).now member.old.id member.old.batch)
         complex.old.journal.batches (end_of complex.new.placed complex.new.current complex.new.journal.batches)
         complex.old.pair.first.alive complex.new.pair.first.alive complex.old.pair.second.alive complex.new.pair.second.alive
         (P.view complex.old.plant) (P.view complex.new.plant) result }
     ensures unreserved { OnOk result (complex.new.reserved ≡ None) }
-    ensures between { OnOk result (IsBetween complex.new.base complex.new.journal.batches complex.new.current complex.new.placed complex.new.level member.new.batch member.new.checkpoint) }
+    ensures between { OnOk result (IsBetween P.tells complex.new.base complex.new.journal.batches complex.new.current complex.new.placed complex.new.level member.new.batch member.new.checkpoint) }
     ensures rests1 { OnOk result (RestsAt P.tells complex.new.pair.first.alive complex.new.first (C.count complex.new.pair.first.copy) member.new.checkpoint.pages (C.reads (disk_now (P.view complex.new.plant) Ckpt1).bytes)) }
     ensures rests2 { OnOk result (RestsAt P.tells complex.new.pair.second.alive complex.new.second (C.count complex.new.pair.second.copy) member.new.checkpoint.pages (C.reads (disk_now (P.view complex.new.plant) Ckpt2).bytes)) }
     ensures kept { OnOk result (AreAllKept complex.new.journal.batches (P.view complex.new.plant).now) }
     ensures level { OnOk result (member.new.checkpoint.level ≤ member.old.checkpoint.level + 1) }
+    ensures reached { OnOk result (complex.new.level ≤ complex.old.level + 1) }
 {
     let Ok(draft) = member.ready(alloc, complex) else {
         return Err(NodeNo::NoMemory);

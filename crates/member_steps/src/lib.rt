@@ -1,4 +1,4 @@
-//! A member's steps: it takes the lock, a command is done, written to both copies, and told on the console, and the lock is given up.
+//! A member's steps: it takes the lock, reads the copies, does a command, writes it to both, tells it on the console, and gives the lock up.
 #![tactic(auto)]
 
 mod batches;

@@ -1,5 +1,5 @@
 //! A step of a member that takes the lock.
-ghost use Rattle.std.specs.Prelude.{◌≡◌, ◌+◌, ◌≤◌, ◌<◌, ◌^◌, [], ◌∷◌, Some, None, true, false, IfOk, OnOk};
+ghost use Rattle.std.specs.Prelude.{◌≡◌, ◌+◌, ◌≤◌, ◌<◌, [], ◌∷◌, length, Some, None, true, false, IfOk, OnOk};
 ghost use Rattle.mas_types.specs.declared.ids.Dev.{Dev};
 ghost use Rattle.mas_types.specs.declared.ids.Dev.TheVariants.{Ckpt1, Ckpt2};
 ghost use Rattle.mas_types.specs.Closings.{AreMembersNamed};
@@ -10,13 +10,13 @@ ghost use Rattle.lock_cycle.specs.declared.answers.LockNo.{LockNo};
 ghost use Rattle.lock_cycle.specs.Books.{try_refusal, after_try, after_free};
 ghost use Rattle.spool_disk.specs.View.{disk_now};
 ghost use Rattle.mas_complex.specs.Crash.{IsUntold, setting};
-ghost use Rattle.mas_complex.specs.Journals.{begun, end_of, kept_all};
+ghost use Rattle.mas_complex.specs.Journals.{end_of, kept_all};
 ghost use Rattle.mas_complex.specs.Locking.{IsUp};
 ghost use Rattle.mas_complex.specs.Meaning.{run};
 ghost use Rattle.table_commands.specs.Given.{IsGiver, is_plain};
-ghost use Rattle.member_node.specs.Copies.{RestsAt};
+ghost use Rattle.member_node.specs.Reads.{IsCalm, ReadsLow, orders_after, too_high};
 ghost use Rattle.member_steps.specs.Locked.{IsDenial, IsOpenTo, closing_of as closing_of_lem, denied_lines as denied_lines_lem};
-ghost use Rattle.member_steps.specs.Steps.{AreAllKept, IsBetween, IsStep, entry_of, step_lines};
+ghost use Rattle.member_steps.specs.Steps.{AreAllKept, GivesStep, IsAtLock, IsToldSound, entry_of};
 
 use crate::playing::play_command;
 use crate::telling::tell_lines;
@@ -88,8 +88,9 @@ pub fn deny<P: Plant + Drop, C: Steady + Drop>(
     tell_lines(member, complex, &lines)
 }
 
-/// Plays a step of the member: it takes the lock by a try, its command is played, and the lock is given up. Where the member doesn't get
-/// the lock the step closes with why, and nothing else is done.
+/// Plays a step of the member: it takes the lock by a try, reads what the copies have, makes room for a put, gives its command, writes and
+/// tells it, and gives the lock up. Its checkpoint may be of any time: another member may have written since. Where it doesn't get the lock
+/// the step closes with why, and nothing else is done.
 ///
 /// After BothLost, ConsoleFault or Halted in a step that got the lock, or want of memory, the member holds it still, and can't go on.
 pub fn play_locked<P: Plant + Drop, C: Steady + Drop>(
@@ -104,23 +105,26 @@ pub fn play_locked<P: Plant + Drop, C: Steady + Drop>(
     requires plain { is_plain command ≡ true }
     requires command { IsFit command }
     requires giver { IsGiver member.old.id command }
-    requires may_give { may_give (run complex.old.base (kept_all complex.old.journal.batches)) member.old.id command ≡ true }
-    requires between { IsBetween complex.old.base complex.old.journal.batches complex.old.current complex.old.placed complex.old.level member.old.batch member.old.checkpoint }
-    requires rests1 { RestsAt P.tells complex.old.pair.first.alive complex.old.first (C.count complex.old.pair.first.copy) member.old.checkpoint.pages (C.reads (disk_now (P.view complex.old.plant) Ckpt1).bytes) }
-    requires rests2 { RestsAt P.tells complex.old.pair.second.alive complex.old.second (C.count complex.old.pair.second.copy) member.old.checkpoint.pages (C.reads (disk_now (P.view complex.old.plant) Ckpt2).bytes) }
+    requires may_give { may_give complex.old.base member.old.id command ≡ true }
+    requires at_lock { IsAtLock complex.old.current complex.old.placed member.old.batch member.old.checkpoint member.old.room }
+    requires calm1 { IsCalm complex.old.pair.first.alive complex.old.first (C.count complex.old.pair.first.copy) (length member.old.room) }
+    requires calm2 { IsCalm complex.old.pair.second.alive complex.old.second (C.count complex.old.pair.second.copy) (length member.old.room) }
+    requires low1 { ReadsLow P.tells complex.old.pair.first.alive member.old.checkpoint.tables.config (length complex.old.journal.batches) (C.reads (disk_now (P.view complex.old.plant) Ckpt1).bytes) }
+    requires low2 { ReadsLow P.tells complex.old.pair.second.alive member.old.checkpoint.tables.config (length complex.old.journal.batches) (C.reads (disk_now (P.view complex.old.plant) Ckpt2).bytes) }
+    requires sound { P.tells → IsToldSound (run complex.old.base (kept_all complex.old.journal.batches)) }
+    requires config { complex.old.base.config ≡ member.old.checkpoint.tables.config }
+    requires most { 1 ≤ C.room_most }
     requires kept { AreAllKept complex.old.journal.batches (P.view complex.old.plant).now }
     requires untold { P.tells → IsUntold (setting C.reads complex.old.base complex.old.since) (P.view complex.old.plant) (entry_of (run complex.old.base (kept_all complex.old.journal.batches)) member.old.id step command ∷ []) }
-    requires order { member.old.checkpoint.tables.order + 32 < 2 ^ 63 }
-    requires level { member.old.checkpoint.level + 1 < 2 ^ 63 }
-    requires room1 { complex.old.pair.first.alive ≡ true → 1 ≤ C.room complex.old.pair.first.copy }
-    requires room2 { complex.old.pair.second.alive ≡ true → 1 ≤ C.room complex.old.pair.second.copy }
+    requires since { complex.old.since ≤ (P.view complex.old.plant).now }
+    requires orders { orders_after (length complex.old.journal.batches) < too_high }
+    requires level { complex.old.level < too_high }
     ensures base { complex.new.base ≡ complex.old.base }
     ensures since { complex.new.since ≡ complex.old.since }
     ensures id { member.new.id ≡ member.old.id }
     ensures lock { OnOk result (IsOpenTo complex.new.book complex.new.reserved member.old.id) }
     ensures book { OnOk result (complex.new.book ≡ after_free (after_try complex.old.book member.old.id false) member.old.id false) }
-    ensures granted { try_refusal complex.old.book member.old.id false ≡ None → IsStep P.tells member.old.id.0 (step_lines (run complex.old.base (kept_all complex.old.journal.batches)) member.old.id step command)
-        (begun (P.view complex.old.plant).now member.old.id (entry_of (run complex.old.base (kept_all complex.old.journal.batches)) member.old.id step command ∷ []))
+    ensures granted { try_refusal complex.old.book member.old.id false ≡ None → GivesStep P.tells member.old.id step command (run complex.old.base (kept_all complex.old.journal.batches))
         complex.old.journal.batches (end_of complex.new.placed complex.new.current complex.new.journal.batches)
         complex.old.pair.first.alive complex.new.pair.first.alive complex.old.pair.second.alive complex.new.pair.second.alive
         (P.view complex.old.plant) (P.view complex.new.plant) result }
@@ -128,20 +132,23 @@ pub fn play_locked<P: Plant + Drop, C: Steady + Drop>(
         complex.old.journal.batches (end_of complex.new.placed complex.new.current complex.new.journal.batches)
         complex.old.pair.first.alive complex.new.pair.first.alive complex.old.pair.second.alive complex.new.pair.second.alive
         (P.view complex.old.plant) (P.view complex.new.plant) result }
-    ensures between { OnOk result (IsBetween complex.new.base complex.new.journal.batches complex.new.current complex.new.placed complex.new.level member.new.batch member.new.checkpoint) }
-    ensures rests1 { OnOk result (RestsAt P.tells complex.new.pair.first.alive complex.new.first (C.count complex.new.pair.first.copy) member.new.checkpoint.pages (C.reads (disk_now (P.view complex.new.plant) Ckpt1).bytes)) }
-    ensures rests2 { OnOk result (RestsAt P.tells complex.new.pair.second.alive complex.new.second (C.count complex.new.pair.second.copy) member.new.checkpoint.pages (C.reads (disk_now (P.view complex.new.plant) Ckpt2).bytes)) }
     ensures kept { OnOk result (AreAllKept complex.new.journal.batches (P.view complex.new.plant).now) }
-    ensures config { member.new.checkpoint.tables.config ≡ member.old.checkpoint.tables.config }
-    ensures order { member.new.checkpoint.tables.order ≤ member.old.checkpoint.tables.order + 32 }
-    ensures level { OnOk result (member.new.checkpoint.level ≤ member.old.checkpoint.level + 1) }
+    ensures sound { OnOk result (P.tells → IsToldSound (run complex.new.base (kept_all complex.new.journal.batches))) }
+    ensures config { OnOk result (member.new.checkpoint.tables.config ≡ member.old.checkpoint.tables.config) }
+    ensures low1 { OnOk result (ReadsLow P.tells complex.new.pair.first.alive member.old.checkpoint.tables.config (length complex.new.journal.batches) (C.reads (disk_now (P.view complex.new.plant) Ckpt1).bytes)) }
+    ensures low2 { OnOk result (ReadsLow P.tells complex.new.pair.second.alive member.old.checkpoint.tables.config (length complex.new.journal.batches) (C.reads (disk_now (P.view complex.new.plant) Ckpt2).bytes)) }
+    ensures at_lock { OnOk result (IsAtLock complex.new.current complex.new.placed member.new.batch member.new.checkpoint member.new.room) }
+    ensures calm1 { OnOk result (IsCalm complex.new.pair.first.alive complex.new.first (C.count complex.new.pair.first.copy) (length member.new.room)) }
+    ensures calm2 { OnOk result (IsCalm complex.new.pair.second.alive complex.new.second (C.count complex.new.pair.second.copy) (length member.new.room)) }
+    ensures level { OnOk result (complex.new.level ≤ complex.old.level + 1) }
 {
-    let by = member.id;
-    if let Err(why) = complex.try_lock(by, false) {
+    if let Err(why) = member.lock(complex, false) {
         return deny(member, alloc, complex, step, why);
     }
+    member.read_in(alloc, complex)?;
+    member.primary(complex)?;
     play_command(member, alloc, complex, step, command)?;
-    let Ok(()) = complex.free(by, false) else {
+    let Ok(()) = member.free(complex, false) else {
         unreachable!();
     };
     Ok(())

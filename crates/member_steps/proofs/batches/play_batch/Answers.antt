@@ -38,6 +38,14 @@ returns-in_err-write-clause-step g c =
     rw (p.1, p.2) (step_unwritten P.tells by.0 c.args.lines.now (begun (P.view x.plant).now by c.args.member.now.batch)
     x.journal.batches (end_of z.placed z.current z.journal.batches) x.pair.first.alive z.pair.first.alive x.pair.second.alive z.pair.second.alive (P.view x.plant) (P.view z.plant) _ write)
 
+pub ready-requires-clause-done : goal.ready-requires-clause-done
+ready-requires-clause-done g c told = ∣ c.requires.done told ∣₁
+
+pub write-requires-clause-replied : goal.write-requires-clause-replied
+write-requires-clause-replied g c told =
+    let e = c.ready.ensures in
+    rw (e.base, e.kept, c.in-Ok.ensures.reserved) (∣ (c.requires.done told).replied ∣₁)
+
 pub write-requires-clause-texts : goal.write-requires-clause-texts
 write-requires-clause-texts g c told =
     let e = c.ready.ensures in
@@ -99,13 +107,13 @@ returns-clause-between g c =
     ok_of c.tell_lines.result (record {
       none = t.current ∙ k.none;
       unplaced = t.placed ∙ k.unplaced;
-      same_level = t.level ∙ k.level ∙ ap (level_with c.in-Ok.draft) (e.same_level ∙ c.requires.same_level) ∙ sym c.in-Ok.ensures.level;
+      same_level = λ told. t.level ∙ k.level ∙ ap (level_with c.in-Ok.draft) (e.same_level ∙ c.requires.same_level told) ∙ sym c.in-Ok.ensures.level;
       nothing = c.in-Ok.ensures.empty;
       drawn = c.in-Ok.ensures.drawn;
-      queue = subst (Tell n.tables) (queue_kept x.base w.base Q (run Q c.args.member.now.batch) x.journal.batches w.journal.batches (P.view z.plant).now b c.args.member.now.batch
-          (t.base ∙ k.base ∙ e.base) refl journal (ap entries_reserved c.in-Ok.ensures.reserved) refl) (subst (λ (u : Tables). Tell u (run Q c.args.member.now.batch)) (sym e.tables) c.requires.done.queue);
-      fit = rw e.tables c.requires.done.fit;
-      sound = subst TellSound (sym e.tables) c.requires.sound;
+      queue = λ told. subst (Tell n.tables) (queue_kept x.base w.base Q (run Q c.args.member.now.batch) x.journal.batches w.journal.batches (P.view z.plant).now b c.args.member.now.batch
+          (t.base ∙ k.base ∙ e.base) refl journal (ap entries_reserved c.in-Ok.ensures.reserved) refl) (subst (λ (u : Tables). Tell u (run Q c.args.member.now.batch)) (sym e.tables) (c.requires.done told).queue);
+      fit = rw e.tables c.requires.fit;
+      sound = λ told. subst TellSound (sym e.tables) (c.requires.sound told);
     })
 
 pub returns-clause-rests1 : goal.returns-clause-rests1
@@ -152,3 +160,8 @@ pub returns-clause-level : goal.returns-clause-level
 returns-clause-level g c =
     let old : ℕ = c.args.member.now.checkpoint.level in
     ok_of c.tell_lines.result (subst (λ (n : ℕ). n ≤ old + 1) (sym c.in-Ok.ensures.level) (level_most c.in-Ok.draft old))
+
+pub returns-clause-reached : goal.returns-clause-reached
+returns-clause-reached g c =
+    let old : ℕ = c.args.complex.now.level in
+    ok_of c.tell_lines.result (subst (λ (n : ℕ). n ≤ old + 1) (sym (c.tell_lines.ensures.level ∙ c.in_ok-write.ensures.level ∙ ap (level_with c.in-Ok.draft) c.ready.ensures.same_level)) (level_most c.in-Ok.draft old))

@@ -5,26 +5,30 @@ use Rattle.mas_types.specs.Closings.{IsReplyNamed}
 use Rattle.table_queues.specs.Telling.{Tell}
 use Rattle.member_node.specs.Batches.{last_reply}
 use Rattle.member_node.specs.Lines.{reply_lines}
-use Rattle.member_steps.specs.Steps.{entry_of, step_lines}
-use Rattle.member_node.proofs.EntryLemmas.{plain_groups}
+use Rattle.member_steps.specs.Steps.{IsGiven, entry_of, entry_with, step_lines}
 use Rattle.member_steps.proofs.StepLemmas.{if_ok, ok_of, only_entry}
 use Rattle.member_steps.proofs.playing.give.Goals as goal
-
-pub do_command-requires-clause-groups : goal.do_command-requires-clause-groups
-do_command-requires-clause-groups c = plain_groups c.args.member.now.checkpoint.tables c.args.member.now.id c.args.command c.requires.plain
 
 pub last_reply-requires : goal.last_reply-requires
 last_reply-requires c =
     let m = c.args.member.now in
-    let s = c.requires.sound in
-    subst (λ (es : List Entry). 1 ≤ length es) (sym (only_entry m.batch c.do_command.new.self.batch (entry_of s.queue m.id c.args.step c.args.command) (c.in_ok-do_command.ensures.entry s.queue s.told) c.requires.nothing)) (omega arith)
+    let p = c.in_ok-do_command.ensures.pushed in
+    subst (λ (es : List Entry). 1 ≤ length es) (sym (only_entry m.batch c.do_command.new.self.batch (entry_with m.id c.args.step c.args.command p.0) p.1 c.requires.nothing)) (omega arith)
 
 pub reply_lines-requires-clause-named : goal.reply_lines-requires-clause-named
 reply_lines-requires-clause-named c =
     let m = c.args.member.now in
-    let s = c.requires.sound in
-    let batch = only_entry m.batch c.do_command.new.self.batch (entry_of s.queue m.id c.args.step c.args.command) (c.in_ok-do_command.ensures.entry s.queue s.told) c.requires.nothing in
-    subst IsReplyNamed (sym (c.last_reply.ensures ∙ ap last_reply batch)) (c.in_ok-do_command.ensures.named s.queue s.told)
+    let p = c.in_ok-do_command.ensures.pushed in
+    let batch = only_entry m.batch c.do_command.new.self.batch (entry_with m.id c.args.step c.args.command p.0) p.1 c.requires.nothing in
+    subst IsReplyNamed (sym (c.last_reply.ensures ∙ ap last_reply batch)) p.2
+
+pub returns-clause-given : goal.returns-clause-given
+returns-clause-given c =
+    let m = c.args.member.now in
+    let p = c.in_ok-do_command.ensures.pushed in
+    let batch = only_entry m.batch c.do_command.new.self.batch (entry_with m.id c.args.step c.args.command p.0) p.1 c.requires.nothing in
+    if_ok _ (λ lines. IsGiven m.id c.args.step c.args.command lines c.do_command.new.self.batch) c.reply_lines.result
+    (λ lines is. (p.0, rw c.do_command.ensures.id at is ∙ ap (reply_lines m.id c.args.step) (c.last_reply.ensures ∙ ap last_reply batch), batch)) c.reply_lines.ensures
 
 pub returns-clause-entry : goal.returns-clause-entry
 returns-clause-entry c =

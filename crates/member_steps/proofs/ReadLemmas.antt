@@ -1,0 +1,239 @@
+-- What a member that holds the lock does before its first command, and what it knows of the copies then.
+use Rattle.std.proofs.Common.{◌≡◌, inl, ⊎_elim, ℕ, ◌+◌, ◌≤◌, ◌<◌, Bool, true, false, List, [], ◌∷◌, length, drop, Option, None, Result, Ok, Err, refl, sym, ◌∙◌, ap, subst, arith}
+use Rattle.std.proofs.lemmas.List.{length-append}
+use Rattle.mas_types.specs.declared.commands.Command.{Command}
+use Rattle.mas_types.specs.declared.ids.Dev.{Dev}
+use Rattle.mas_types.specs.declared.ids.MemberId.{MemberId}
+use Rattle.mas_types.specs.declared.ids.Page.{Page}
+use Rattle.mas_types.specs.declared.journals.Batch.{Batch}
+use Rattle.mas_types.specs.declared.journals.Entry.{Entry}
+use Rattle.mas_types.specs.declared.journals.Fate.TheVariants.{Kept}
+use Rattle.mas_types.specs.declared.queues.Config.{Config}
+use Rattle.mas_types.specs.declared.queues.Queue.{Queue}
+use Rattle.queue_laws.proofs.RunLaws.{runs_keep_configuration}
+use Rattle.spool_disk.specs.declared.plant.Part.TheVariants.{Console}
+use Rattle.spool_disk.specs.View.{View, Line}
+use Rattle.spool_disk.specs.Acts.{Goes}
+use Rattle.ckpt_pages.specs.declared.tables.Tables.{Tables}
+use Rattle.ckpt_pages.specs.Checkpoints.{IsCheckpoint}
+use Rattle.ckpt_pages.specs.Shape.{page_count}
+use Rattle.ckpt_pages.proofs.DecodingLemmas.{one_value}
+use Rattle.table_queues.specs.Telling.{Tell, TellSound}
+use Rattle.table_queues.proofs.ToldLemmas.{tell_alike}
+use Rattle.duplex_pair.specs.Halves.{SomeAlive}
+use Rattle.queue_effect.specs.Standing.{AreFit}
+use Rattle.mas_complex.specs.declared.places.Place.{Place}
+use Rattle.mas_complex.specs.Crash.{EachTells, IsUntold, setting}
+use Rattle.mas_complex.specs.Journals.{begun, end_of, fated, has_step, kept_all}
+use Rattle.mas_complex.specs.Meaning.{Closes, run}
+use Rattle.member_node.specs.declared.checkpoint.Checkpoint.{Checkpoint}
+use Rattle.member_node.specs.declared.member.NodeNo.{NodeNo}
+use Rattle.member_node.specs.declared.member.NodeNo.TheVariants.{BothLost, Halted, ConsoleFault, NoMemory}
+use Rattle.member_node.specs.Calls.{Apart, Course, IsLeft, console_now}
+use Rattle.member_node.specs.Copies.{RestsAt}
+use Rattle.member_node.specs.Drawn.{AreDrawn}
+use Rattle.member_node.specs.Lines.{reply_lines}
+use Rattle.member_node.specs.Reads.{AreLow, HasRead, IsCalm, IsSettle, IsUpTo, ReadCauses, ReadInCauses, ReadsLow, orders_after, too_high}
+use Rattle.member_node.specs.Writes.{HasKept}
+use Rattle.member_node.proofs.CourseLemmas.{apart_then, course_then, only_on, rose_later}
+use Rattle.member_node.proofs.DrawnLemmas.{drawn_level}
+use Rattle.member_node.proofs.ReadLemmas.{low_again, same_pages}
+use Rattle.member_node.proofs.WriteLemmas.{none_out}
+use Rattle.member_steps.specs.Steps.{GivesStep, IsAtLock, IsBetween, IsStep, IsToldSound, StepCauses, StepTells, entry_with, reply_to}
+use Rattle.member_steps.proofs.Codes.{tell_is}
+
+-- BEFORE THE FIRST COMMAND
+
+-- reads and a settle: nothing but the copies changed, and where content is told none was lost by a call
+pub record HasBegun (told : Type 0) (was1 is1 was2 is2 : Bool) (old new : View) : Type 0 where
+  pub course : Course was1 is1 was2 is2 old new
+  pub loses : told → (d : Dev) → new.loses d ≡ old.loses d
+  pub apart : told → Apart old new
+
+pub begun_read : (told : Type 0) (was1 is1 was2 is2 : Bool) (old new : View) → HasRead told was1 is1 was2 is2 old new → HasBegun told was1 is1 was2 is2 old new
+begun_read told was1 is1 was2 is2 old new read = record { course = read.course; loses = read.loses; apart = read.apart }
+
+pub begun_settle : {T : Type 0} (told : Type 0) (by : ℕ) (was1 mid1 is1 was2 mid2 is2 : Bool) (v0 v1 v2 : View) (r : Result T NodeNo) → HasRead told was1 mid1 was2 mid2 v0 v1 → IsSettle told by mid1 is1 mid2 is2 v1 v2 r → HasBegun told was1 is1 was2 is2 v0 v2
+begun_settle told by was1 mid1 is1 was2 mid2 is2 v0 v1 v2 r read settle = record {
+  course = course_then was1 mid1 is1 was2 mid2 is2 v0 v1 v2 read.course settle.course;
+  loses = λ t d. settle.loses d ∙ read.loses t d;
+  apart = λ t. apart_then v0 v1 v2 read.course.goes.later settle.course.goes (read.apart t) (settle.apart t);
+}
+
+-- the cause of the settle's answer is one of both
+pub cause_settle : (by : ℕ) (is1 is2 : Bool) (v0 v1 v2 : View) (e : NodeNo) → Goes v0 v1 → ReadCauses {T = Unit {0}} (Err e) by is1 is2 v1 v2 → ReadInCauses {T = Unit {0}} (Err e) by is1 is2 v0 v2
+cause_settle by is1 is2 v0 v1 v2 BothLost goes cause = cause
+cause_settle by is1 is2 v0 v1 v2 Halted goes cause = (cause.0, rose_later (v0.stops by) (v1.stops by) (v2.stops by) (goes.stops by) cause.1)
+cause_settle by is1 is2 v0 v1 v2 ConsoleFault goes cause = absurd cause
+cause_settle by is1 is2 v0 v1 v2 NoMemory goes cause = absurd cause
+
+-- A STEP THAT ENDS THERE
+
+module _ (told : Type 0) (by : ℕ) (was1 is1 was2 is2 : Bool) (v0 v1 : View) (acts : HasBegun told was1 is1 was2 is2 v0 v1) where
+  -- it gives no command
+  pub step_unbegun : (lines : List (List ℕ)) (b : Batch) (front batches : List Batch) (e : NodeNo) → batches ≡ front → ReadInCauses {T = Unit {0}} (Err e) by is1 is2 v0 v1 → IsStep {T = Unit {0}} told by lines b front batches was1 is1 was2 is2 v0 v1 (Err e)
+  step_unbegun lines b front batches BothLost same cause = record {
+    course = acts.course;
+    loses = acts.loses;
+    cause = cause;
+    journal = inl same;
+    others = λ t. (acts.apart t).others;
+    console = λ t. (acts.apart t).console;
+  }
+  step_unbegun lines b front batches Halted same cause = record {
+    course = acts.course;
+    loses = acts.loses;
+    cause = (inl cause.0, cause.1);
+    journal = inl same;
+    others = λ t. (acts.apart t).others;
+    console = λ t. inl (acts.apart t).console;
+  }
+  step_unbegun lines b front batches NoMemory same cause = record {
+    course = acts.course;
+    loses = acts.loses;
+    cause = inl cause;
+    journal = same;
+    others = λ t. (acts.apart t).others;
+    console = λ t. (acts.apart t).console;
+  }
+  step_unbegun lines b front batches ConsoleFault same cause = absurd cause
+
+-- AND ONE THAT GOES ON
+
+left_behind : (was1 mid1 is1 was2 mid2 is2 : Bool) → SomeAlive mid1 mid2 → IsLeft mid1 is1 mid2 is2 → IsLeft was1 is1 was2 is2
+left_behind was1 mid1 is1 was2 mid2 is2 some left = ⊎_elim
+    (λ alive. inl alive)
+    (λ same. inl (subst (λ (a : Bool). SomeAlive a is2) (sym same.0) (subst (λ (b : Bool). SomeAlive mid1 b) (sym same.1) some)))
+    left
+
+module _ (told : Type 0) (by : ℕ) (was1 mid1 is1 was2 mid2 is2 : Bool) (v0 v1 v2 : View) (acts : HasBegun told was1 mid1 was2 mid2 v0 v1) (some : SomeAlive mid1 mid2) where
+  causes_behind : (r : Result (Unit {0}) NodeNo) → StepCauses r by mid1 is1 mid2 is2 v1 v2 → StepCauses r by was1 is1 was2 is2 v0 v2
+  causes_behind (Ok done) cause = left_behind was1 mid1 is1 was2 mid2 is2 some cause
+  causes_behind (Err NoMemory) cause = left_behind was1 mid1 is1 was2 mid2 is2 some cause
+  causes_behind (Err BothLost) cause = cause
+  causes_behind (Err ConsoleFault) cause = (left_behind was1 mid1 is1 was2 mid2 is2 some cause.0, rose_later (v0.faults Console) (v1.faults Console) (v2.faults Console) (acts.course.goes.faults Console) cause.1)
+  causes_behind (Err Halted) cause = (left_behind was1 mid1 is1 was2 mid2 is2 some cause.0, rose_later (v0.stops by) (v1.stops by) (v2.stops by) (acts.course.goes.stops by) cause.1)
+
+  pub step_behind : (lines : List (List ℕ)) (b : Batch) (front batches : List Batch) (r : Result (Unit {0}) NodeNo) → IsStep told by lines b front batches mid1 is1 mid2 is2 v1 v2 r → IsStep told by lines b front batches was1 is1 was2 is2 v0 v2 r
+  step_behind lines b front batches r step = record {
+    course = course_then was1 mid1 is1 was2 mid2 is2 v0 v1 v2 acts.course step.course;
+    loses = λ t d. step.loses t d ∙ acts.loses t d;
+    cause = causes_behind r step.cause;
+    journal = step.journal;
+    others = λ t. only_on v0 v1 v2 acts.course.goes.later step.course.goes (acts.apart t).others (step.others t);
+    console = λ t. subst (λ (l : List Line). StepTells r lines (HasKept front batches b v2.now) l (console_now v2)) (acts.apart t).console (step.console t);
+  }
+
+module _ (told : Type 0) (by : MemberId) (at : ℕ) (c : Command) (Q : Queue) (front batches : List Batch) where
+  pub gives_unbegun : (was1 is1 was2 is2 : Bool) (v0 v1 : View) → HasBegun told was1 is1 was2 is2 v0 v1 → (e : NodeNo) → batches ≡ front → ReadInCauses {T = Unit {0}} (Err e) by.0 is1 is2 v0 v1
+      → GivesStep {T = Unit {0}} told by at c Q front batches was1 is1 was2 is2 v0 v1 (Err e)
+  gives_unbegun was1 is1 was2 is2 v0 v1 acts e same cause = record {
+    reply = reply_to Q by c;
+    is = λ t. refl;
+    first = v0.now;
+    later = (omega arith, acts.course.goes.later);
+    step = step_unbegun told by.0 was1 is1 was2 is2 v0 v1 acts (reply_lines by at (reply_to Q by c)) (begun v0.now by (entry_with by at c (reply_to Q by c) ∷ [])) front batches e same cause;
+  }
+
+  pub gives_behind : (was1 mid1 is1 was2 mid2 is2 : Bool) (v0 v1 v2 : View) → HasBegun told was1 mid1 was2 mid2 v0 v1 → SomeAlive mid1 mid2 → (r : Result (Unit {0}) NodeNo) → GivesStep told by at c Q front batches mid1 is1 mid2 is2 v1 v2 r
+      → GivesStep told by at c Q front batches was1 is1 was2 is2 v0 v2 r
+  gives_behind was1 mid1 is1 was2 mid2 is2 v0 v1 v2 acts some r g = record {
+    reply = g.reply;
+    is = g.is;
+    first = g.first;
+    later = (omega (arith, acts.course.goes.later, g.later.0), g.later.1);
+    step = step_behind told by.0 was1 mid1 is1 was2 mid2 is2 v0 v1 v2 acts some (reply_lines by at g.reply) (begun g.first by (entry_with by at c g.reply ∷ [])) front batches r g.step;
+  }
+
+-- a step is untold later, where nothing was said
+pub untold_later : (reads : List ℕ → Option (List ℕ)) (base : Queue) (since : ℕ) (v w : View) (es : List Entry) → since ≤ v.now → Goes v w → console_now w ≡ console_now v → IsUntold (setting reads base since) v es → IsUntold (setting reads base since) w es
+untold_later reads base since v w es le goes same untold =
+    let said : drop (length (w.world since).console) (console_now w) ≡ drop (length (v.world since).console) (console_now v) =
+    ap (λ (l : List Line). drop (length (w.world since).console) l) same ∙ ap (λ x. drop (length x.console) (console_now v)) (goes.past since le) in
+    subst (λ (l : List Line). EachTells Closes l (λ m s. has_step m s es ≡ false)) (sym said) untold
+
+-- WHAT THE TABLES TELL
+
+-- tables that tell a queue and a sound one: each that tell the queue do
+pub told_sound : (t : Tables) (Q : Queue) → TellSound t → Tell t Q → IsToldSound Q
+told_sound t Q s told u here = record { queue = s.queue; told = tell_alike t Q s.queue told s.told u here; sound = s.sound }
+
+-- WHAT THE COPIES READ
+
+-- what a copy reads is low later
+pub low_later : (told : Type 0) (was is : Bool) (config : Config) (batches : ℕ) (read read' : Option (List ℕ)) → (is ≡ true → was ≡ true) → (told → read' ≡ read) → ReadsLow told was config batches read → ReadsLow told is config batches read'
+low_later told was is config batches read read' alives same low t on pages u sized reads = low t (alives on) pages u sized (sym (same t) ∙ reads)
+
+either : {A : Type 0} (x y : Bool) → SomeAlive x y → (x ≡ true → A) → (y ≡ true → A) → A
+either true y some f g = f refl
+either false true some f g = g refl
+either false false some f g = absurd (cc)
+
+-- so are the tables of a member whose pages each copy reads
+pub low_read : (told : Type 0) (one two : Bool) (place1 place2 : Place) (count1 count2 : ℕ) (config : Config) (batches : ℕ) (k : Checkpoint) (read1 read2 : Option (List ℕ)) → SomeAlive one two → AreDrawn k.tables k.level k.levels k.pages
+    → RestsAt told one place1 count1 k.pages read1 → RestsAt told two place2 count2 k.pages read2 → ReadsLow told one config batches read1 → ReadsLow told two config batches read2 → told → AreLow config batches k.tables
+low_read told one two place1 place2 count1 count2 config batches k read1 read2 some drawn rests1 rests2 low1 low2 t =
+    let own : IsCheckpoint k.pages k.tables = record { level = k.level; levels = k.levels; fit = drawn.spelling; ages = drawn.leveled; spell = drawn.spelled } in
+    either one two some (λ on. low1 t on k.pages k.tables drawn.sized (rests1.reads t on) own) (λ on. low2 t on k.pages k.tables drawn.sized (rests2.reads t on) own)
+
+-- and after a command
+pub low_more : (config : Config) (batches more : ℕ) (t u : Tables) → AreLow config batches t → u.config ≡ t.config → AreFit u → u.order ≤ t.order + 32 → more ≡ batches + 1 → AreLow config more u
+low_more config batches more t u low same fit order one = record {
+  same = same ∙ low.same;
+  fit = fit;
+  order = subst (λ (n : ℕ). u.order ≤ orders_after n) (sym one) (orders t.order u.order batches low.order order);
+} where
+  orders : (n m k : ℕ) → n ≤ orders_after k → m ≤ n + 32 → m ≤ orders_after (k + 1)
+  orders n m k le more = omega (arith, le, more)
+
+-- what a copy reads behind the command's write is low
+pub low_written : (told : Type 0) (alive : Bool) (place : Place) (count : ℕ) (config : Config) (batches : ℕ) (k : Checkpoint) (read : Option (List ℕ)) → AreDrawn k.tables k.level k.levels k.pages → (told → AreLow config batches k.tables)
+    → RestsAt told alive place count k.pages read → ReadsLow told alive config batches read
+low_written told alive place count config batches k read drawn low rests t = low_again one_value same_pages told alive place count config batches k read drawn (low t) rests t
+
+-- AT THE LOCK AGAIN
+
+-- its room is as long as its pages still
+pub same_many : (k n : Checkpoint) (room was : List Page) → room ≡ was → length was ≡ length k.pages → AreDrawn k.tables k.level k.levels k.pages → AreDrawn n.tables n.level n.levels n.pages → n.tables.config ≡ k.tables.config → length room ≡ length n.pages
+same_many k n room was same many one two config = ap (λ (ps : List Page). length ps) same ∙ many ∙ one.spelled.count ∙ sym (ap page_count config) ∙ sym two.spelled.count
+
+pub at_lock : (tells : Type 0) (base : Queue) (batches : List Batch) (current : Option Batch) (placed : Bool) (level : ℕ) (batch : List Entry) (k : Checkpoint) (room : List Page) → IsBetween tells base batches current placed level batch k → length room ≡ length k.pages
+    → IsAtLock current placed batch k room
+at_lock tells base batches current placed level batch k room between many = record {
+  none = between.none;
+  unplaced = between.unplaced;
+  nothing = between.nothing;
+  drawn = between.drawn;
+  many = many;
+}
+
+pub calm_rest : (tells : Type 0) (alive : Bool) (place : Place) (count : ℕ) (pages : List Page) (read : Option (List ℕ)) (n : ℕ) → n ≡ length pages → RestsAt tells alive place count pages read → IsCalm alive place count n
+calm_rest tells alive place count pages read n many rests = record { before = rests.before; as_many = λ on. many ∙ rests.as_many on }
+
+-- the journal has one batch more
+pub one_batch : (front batches : List Batch) (placed : Bool) (current : Option Batch) (b : Batch) (now : ℕ) → placed ≡ false → current ≡ None → HasKept front (end_of placed current batches) b now → length batches ≡ length front + 1
+one_batch front batches placed current b now unplaced none kept =
+    ap (λ (bs : List Batch). length bs) (sym (none_out batches batches placed current refl unplaced none) ∙ kept.3) ∙ length-append front (fated Kept kept.0 b ∷ [])
+
+-- IN THE STEP
+
+-- a member that is at the lock, and has read
+pub between_read : (tells : Type 0) (base : Queue) (batches : List Batch) (current : Option Batch) (placed : Bool) (level : ℕ) (batch : List Entry) (k : Checkpoint) (config : Config) → current ≡ None → placed ≡ false → batch ≡ [] → IsUpTo config k.pages k
+    → (tells → ∥ Tell k.tables (run base (kept_all batches)) ∥₁) → (tells → level ≡ k.level) → (tells → IsToldSound (run base (kept_all batches))) → IsBetween tells base batches current placed level batch k
+between_read tells base batches current placed level batch k config none unplaced nothing up told at sound = record {
+  none = none;
+  unplaced = unplaced;
+  same_level = at;
+  nothing = nothing;
+  drawn = up.drawn;
+  queue = λ t. tell_is k.tables (run base (kept_all batches)) (told t);
+  fit = up.may.fit;
+  sound = λ t. sound t k.tables (tell_is k.tables (run base (kept_all batches)) (told t));
+}
+
+-- its pages are as many as the configuration of a run has
+pub pages_of_run : (base : Queue) (es : List Entry) (k : Checkpoint) (room : List Page) → base.config ≡ k.tables.config → AreDrawn k.tables k.level k.levels k.pages → length room ≡ length k.pages → page_count (run base es).config ≡ length room
+pages_of_run base es k room same drawn many = ap page_count ((runs_keep_configuration base es).config ∙ same) ∙ sym drawn.spelled.count ∙ sym many
+
+pub level_low : (config : Config) (k : Checkpoint) → IsUpTo config k.pages k → k.level < too_high
+level_low config k up = subst (λ (l : ℕ). l < too_high) (drawn_level k.tables k.level k.levels k.pages up.drawn) up.may.low_level
