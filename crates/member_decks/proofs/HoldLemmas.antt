@@ -80,3 +80,7 @@ module _ (b : Book) (m : MemberId) (member : IsMember b m) (free : b.holder ≡ 
 
   pub whole_after : left_of (after_try b m false) m ≡ (after_try b m false).hold
   whole_after = subst (λ (c : Book). left_of c m ≡ c.hold) (sym tried) (whole_hold (ticked b false) m member)
+
+-- the same book and the same member have the same left
+pub book_by : (b c : Book) (m i : MemberId) → c ≡ b → i ≡ m → left_of b m ≡ b.hold → left_of c i ≡ c.hold
+book_by b c m i one two whole = subst (λ (k : MemberId). left_of c k ≡ c.hold) (sym two) (subst (λ (d : Book). left_of d m ≡ d.hold) (sym one) whole)

@@ -1,5 +1,5 @@
 -- A batch that is kept, with nothing said.
-use Rattle.std.proofs.Common.{◌≡◌, inl, inr, ℕ, ◌-◌, Bool, List, [], length, reverse, All, Some, Ok, Err, append-nil, sym, ◌∙◌, subst, arith}
+use Rattle.std.proofs.Common.{◌≡◌, inl, inr, ℕ, ◌-◌, ◌≤◌, Bool, List, length, reverse, All, Some, Ok, Err, refl, sym, subst, arith}
 use Rattle.std.specs.List.{find}
 use Rattle.std.proofs.lemmas.List.{get_or-reverse, length-reverse}
 use Rattle.mas_types.specs.declared.journals.Entry.{Entry}
@@ -8,37 +8,55 @@ use Rattle.queue_laws.proofs.Finds.{find-All}
 use Rattle.member_decks.specs.Decks.{closes}
 use Rattle.mas_types.specs.declared.journals.Batch.{Batch}
 use Rattle.spool_disk.specs.View.{View}
-use Rattle.member_node.specs.declared.checkpoint.Draft.{Draft}
-use Rattle.member_node.specs.declared.checkpoint.Draft.TheVariants as draft
 use Rattle.member_node.specs.declared.member.NodeNo.{NodeNo}
 use Rattle.member_node.specs.declared.member.NodeNo.TheVariants.{BothLost, Halted, ConsoleFault, NoMemory}
-use Rattle.member_node.specs.Calls.{console_now}
-use Rattle.member_node.specs.Copies.{room_with}
-use Rattle.member_node.specs.Writes.{IsWrite, WriteCauses}
-use Rattle.member_steps.specs.Steps.{IsStep}
-use Rattle.member_decks.specs.Steps.{IsRoomLeft}
+use Rattle.member_node.specs.Writes.{IsWrite}
+use Rattle.member_node.proofs.CourseLemmas.{course_none, only_none}
+use Rattle.member_decks.specs.Keeping.{CopyCauses, GivesUpLeaves, IsOnCopies, KeepLeaves}
 
-pub step_kept : (told : Type 0) (by : ℕ) (b : Batch) (front batches : List Batch) (was1 is1 was2 is2 : Bool) (v0 v1 : View) → IsWrite {T = Unit {0}} told by b front batches was1 is1 was2 is2 v0 v1 (Ok tt) → IsStep {T = Unit {0}} told by [] b front batches was1 is1 was2 is2 v0 v1 (Ok tt)
-step_kept told by b front batches was1 is1 was2 is2 v0 v1 write = record {
-  course = write.course;
-  loses = write.loses;
-  cause = write.cause;
-  journal = write.journal;
-  others = λ t. (write.apart t).others;
-  console = λ t. (write.apart t).console ∙ sym (append-nil (console_now v0));
+-- nothing was done
+pub copies_none : (told : Type 0) (by : ℕ) (a b : Bool) (v : View) → IsOnCopies {T = Unit {0}} told by a a b b v v (Err NoMemory)
+copies_none told by a b v = record {
+  course = course_none a b v;
+  loses = λ t d. refl;
+  cause = inr (refl, refl);
+  apart = λ t. record { others = only_none v; console = refl };
 }
 
--- the console isn't why
-pub never_console : (e : NodeNo) (by : ℕ) (was1 is1 was2 is2 : Bool) (v0 v1 : View) → WriteCauses {T = Unit {0}} (Err e) by was1 is1 was2 is2 v0 v1 → e ≡ ConsoleFault → ⊥
-never_console ConsoleFault by was1 is1 was2 is2 v0 v1 cause is = cause
-never_console BothLost by was1 is1 was2 is2 v0 v1 cause is = absurd (cc)
-never_console Halted by was1 is1 was2 is2 v0 v1 cause is = absurd (cc)
-never_console NoMemory by was1 is1 was2 is2 v0 v1 cause is = absurd (cc)
+module _ (told : Type 0) (by : ℕ) (b : Batch) (front batches : List Batch) (was1 is1 was2 is2 : Bool) (v0 v1 : View) where
+  pub copies_kept : IsWrite {T = Unit {0}} told by b front batches was1 is1 was2 is2 v0 v1 (Ok tt) → IsOnCopies {T = Unit {0}} told by was1 is1 was2 is2 v0 v1 (Ok tt)
+  copies_kept write = record { course = write.course; loses = λ t d. write.loses d; cause = write.cause; apart = write.apart }
 
--- the room of a copy once a draft is written
-pub room_left : (d : Draft) (after : ℕ → ℕ) (was is : ℕ) → is ≡ room_with d after was → IsRoomLeft after was is
-room_left draft.Same after was is e = inl e
-room_left (draft.Changed numbers) after was is e = inr e
+  causes : (e : NodeNo) → IsWrite {T = Unit {0}} told by b front batches was1 is1 was2 is2 v0 v1 (Err e) → CopyCauses {T = Unit {0}} (Err e) by was1 is1 was2 is2 v0 v1
+  causes BothLost write = write.cause
+  causes Halted write = write.cause
+  causes ConsoleFault write = absurd write.cause
+  causes NoMemory write = absurd write.cause
+
+  pub copies_unwritten : (e : NodeNo) → IsWrite {T = Unit {0}} told by b front batches was1 is1 was2 is2 v0 v1 (Err e) → IsOnCopies {T = Unit {0}} told by was1 is1 was2 is2 v0 v1 (Err e)
+  copies_unwritten e write = record { course = write.course; loses = λ t d. write.loses d; cause = causes e write; apart = write.apart }
+
+  pub keep_unwritten : (e : NodeNo) → IsWrite {T = Unit {0}} told by b front batches was1 is1 was2 is2 v0 v1 (Err e) → KeepLeaves {T = Unit {0}} (Err e) front batches b v1.now
+  keep_unwritten BothLost write = write.journal
+  keep_unwritten Halted write = write.journal
+  keep_unwritten ConsoleFault write = absurd write.journal
+  keep_unwritten NoMemory write = absurd write.journal
+
+-- WHERE MEMORY WANTED BEFORE
+
+module _ (front batches : List Batch) (b : Batch) (now : ℕ) (some : 1 ≤ length b.entries) where
+  pub up_kept : KeepLeaves {T = Unit {0}} (Ok tt) front batches b now → GivesUpLeaves NoMemory front batches b now
+  up_kept kept = inr (some, kept)
+
+  pub up_unkept : (e : NodeNo) → KeepLeaves {T = Unit {0}} (Err e) front batches b now → GivesUpLeaves e front batches b now
+  up_unkept NoMemory same = inl same
+  up_unkept BothLost flies = (some, flies)
+  up_unkept Halted flies = (some, flies)
+  up_unkept ConsoleFault never = absurd never
+
+-- the answer of such a step is that memory wanted
+pub up_copies : (told : Type 0) (by : ℕ) (a a' b b' : Bool) (v w : View) → IsOnCopies {T = Unit {0}} told by a a' b b' v w (Ok tt) → IsOnCopies {T = Unit {0}} told by a a' b b' v w (Err NoMemory)
+up_copies told by a a' b b' v w acts = record { course = acts.course; loses = acts.loses; cause = acts.cause; apart = acts.apart }
 
 -- THE REPLY WITH WHICH A STEP CLOSES
 

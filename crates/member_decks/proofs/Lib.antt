@@ -3,10 +3,11 @@ pub mod HeldLemmas
 pub mod TakeLemmas
 pub mod DeckLemmas
 pub mod OpenLemmas
+pub mod BatchLemmas
 pub mod OutcomeLemmas
 pub mod PlayLemmas
 pub mod FinishLemmas
 pub mod KeepLemmas
 pub mod HoldLemmas
-pub mod ConfigLemmas
+pub mod HoldingLemmas
 pub mod LockedLemmas

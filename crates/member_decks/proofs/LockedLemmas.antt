@@ -33,17 +33,15 @@ card_line by at card card' why why' same =
 
 -- THE STEP BY OTHER NAMES
 
-abbrev DeckOf : Type 0 → MemberId → ℕ → JobFields → List (List ℕ) → Result (Unit {0}) NodeNo → List Batch → Bool → Bool → View → Queue → List Batch → Bool → Bool → View → Type 0
-DeckOf told by at fields text r batches is1 is2 new base front was1 was2 old =
+abbrev DeckOf : Type 0 → ℕ → Result (Unit {0}) NodeNo → List Batch → Bool → Bool → Bool → Bool → View → View → MemberId → JobFields → List (List ℕ) → Queue → List Batch → Type 0
+DeckOf told at r batches was1 is1 was2 is2 old new by fields text base front =
     IsDeckStep told by at base.config.groups (run base (kept_all front)) fields text front batches was1 is1 was2 is2 old new r
 
-pub deck_as : (told : Type 0) (by : MemberId) (at : ℕ) (fields fields' : JobFields) (text text' : List (List ℕ)) (r : Result (Unit {0}) NodeNo) (base base' : Queue) (front front' batches : List Batch) (was1 was1' is1 was2 was2' is2 : Bool) (old old' new : View)
-    → fields' ≡ fields → text' ≡ text → base' ≡ base → front' ≡ front → was1' ≡ was1 → was2' ≡ was2 → old' ≡ old → DeckOf told by at fields' text' r batches is1 is2 new base' front' was1' was2' old' → DeckOf told by at fields text r batches is1 is2 new base front was1 was2 old
-deck_as told by at fields fields' text text' r base base' front front' batches was1 was1' is1 was2 was2' is2 old old' new six seven one two three four five step =
-    subst (λ (x : JobFields). DeckOf told by at x text r batches is1 is2 new base front was1 was2 old) six
-    (subst (λ (x : List (List ℕ)). DeckOf told by at fields' x r batches is1 is2 new base front was1 was2 old) seven
-    (subst (λ (x : Queue). DeckOf told by at fields' text' r batches is1 is2 new x front was1 was2 old) one
-    (subst (λ (x : List Batch). DeckOf told by at fields' text' r batches is1 is2 new base' x was1 was2 old) two
-    (subst (λ (x : Bool). DeckOf told by at fields' text' r batches is1 is2 new base' front' x was2 old) three
-    (subst (λ (x : Bool). DeckOf told by at fields' text' r batches is1 is2 new base' front' was1' x old) four
-    (subst (λ (x : View). DeckOf told by at fields' text' r batches is1 is2 new base' front' was1' was2' x) five step))))))
+pub deck_as : (told : Type 0) (at : ℕ) (r : Result (Unit {0}) NodeNo) (batches : List Batch) (was1 is1 was2 is2 : Bool) (old new : View) (by by' : MemberId) (fields fields' : JobFields) (text text' : List (List ℕ)) (base base' : Queue) (front front' : List Batch)
+    → by' ≡ by → fields' ≡ fields → text' ≡ text → base' ≡ base → front' ≡ front → DeckOf told at r batches was1 is1 was2 is2 old new by' fields' text' base' front' → DeckOf told at r batches was1 is1 was2 is2 old new by fields text base front
+deck_as told at r batches was1 is1 was2 is2 old new by by' fields fields' text text' base base' front front' one two three four five step =
+    subst (λ (x : MemberId). DeckOf told at r batches was1 is1 was2 is2 old new x fields text base front) one
+    (subst (λ (x : JobFields). DeckOf told at r batches was1 is1 was2 is2 old new by' x text base front) two
+    (subst (λ (x : List (List ℕ)). DeckOf told at r batches was1 is1 was2 is2 old new by' fields' x base front) three
+    (subst (λ (x : Queue). DeckOf told at r batches was1 is1 was2 is2 old new by' fields' text' x front) four
+    (subst (λ (x : List Batch). DeckOf told at r batches was1 is1 was2 is2 old new by' fields' text' base' x) five step))))

@@ -1,8 +1,11 @@
 -- The first commands of a deck's step, as they are done one after another.
-use Rattle.std.proofs.Common.{OnOk, ◌≡◌, ℕ, zero, suc, ◌-◌, ◌≤◌, Bool, true, false, not, List, [], ◌∷◌, ◌++◌, All, None, Result, Ok, Err, append_assoc, append-nil, refl, sym, ◌∙◌, ap, subst, arith}
+use Rattle.std.proofs.Common.{OnOk, ◌≡◌, ℕ, zero, suc, ◌-◌, ◌≤◌, Bool, true, false, not, if◌then◌else◌, List, [], ◌∷◌, ◌++◌, length, All, None, Result, Ok, Err, append_assoc, append-nil, refl, sym, ◌∙◌, ap, subst, arith}
+use Rattle.std.proofs.lemmas.List.{length-append}
 use Rattle.std.proofs.lemmas.List.Elements.{All-nil, All-push}
 use Rattle.mas_types.specs.declared.ids.MemberId.{MemberId}
 use Rattle.mas_types.specs.declared.ids.JobNo.{JobNo}
+use Rattle.mas_types.specs.declared.jobs.Text.{Text}
+use Rattle.mas_types.specs.declared.jobs.Text.TheVariants.{Gone}
 use Rattle.mas_types.specs.declared.commands.Command.TheVariants as command
 use Rattle.mas_types.specs.declared.commands.Reply.{Reply}
 use Rattle.mas_types.specs.declared.commands.Reply.TheVariants as reply
@@ -10,12 +13,22 @@ use Rattle.mas_types.specs.declared.journals.Entry.{Entry}
 use Rattle.mas_types.specs.declared.queues.Queue.{Queue}
 use Rattle.mas_types.specs.Closings.{IsReplyNamed}
 use Rattle.mas_types.specs.declared.jobs.JobFields.{JobFields}
+use Rattle.lay_bytes.specs.declared.records.JobRec.{JobRec}
+use Rattle.lay_bytes.specs.declared.records.OutRec.{OutRec}
+use Rattle.ckpt_pages.specs.declared.tables.Tables.{Tables}
+use Rattle.ckpt_pages.specs.QueueOf.{queue_of}
+use Rattle.table_queues.specs.Telling.{Tell, TellSound}
+use Rattle.table_queues.proofs.ToldLemmas.{tell_given}
+use Rattle.queue_texts.specs.Leaving.{OthersLeaveTexts, ToldAreTheirOwn}
 use Rattle.mas_complex.specs.Meaning.{run, step}
+use Rattle.mas_complex.specs.Texts.{HasTexts}
 use Rattle.member_node.specs.Batches.{last_reply}
+use Rattle.member_node.proofs.TextLemmas.{texts_after}
 use Rattle.member_node.proofs.WriteLemmas.{run_append}
 use Rattle.member_steps.specs.Steps.{entry_of}
-use Rattle.member_decks.specs.Decks.{are_refused, given_in, left_after, opening, takes}
-use Rattle.member_decks.proofs.DeckLemmas.{opening_dropped, opening_taken}
+use Rattle.member_decks.specs.Decks.{are_refused, behind_begin, given_in, left_after, opening, takes}
+use Rattle.member_decks.specs.Taking.{IsOpening, IsPart, IsTaking, LeaveTexts}
+use Rattle.member_decks.proofs.DeckLemmas.{given_append, opening_alone}
 use Rattle.member_decks.proofs.TakeLemmas.{refused_last, refused_more, refused_none, take_counts, takes_last, takes_more, takes_none}
 
 -- ANSWERS
@@ -23,6 +36,15 @@ use Rattle.member_decks.proofs.TakeLemmas.{refused_last, refused_more, refused_n
 pub on_ok : {T E A B : Type 0} (r : Result T E) → (A → B) → OnOk r A → OnOk r B
 on_ok (Ok done) f a = f a
 on_ok (Err why) f a = tt
+
+-- TABLES
+
+-- whatever tables tell some queue, if only its texts are gone
+pub tells_some : (t : Tables) → (Q : Queue) × Tell t Q
+tells_some t =
+    let deck : JobRec → Text = λ j. Gone (record { 0 = 0 }) j.cards in
+    let print : OutRec → Text = λ o. Gone (record { 0 = 0 }) o.lines in
+    (queue_of t deck print, tell_given t deck print (record { decks = λ k d lt. refl; prints = λ k d lt. refl }))
 
 -- THE LAST REPLY
 
@@ -42,11 +64,17 @@ named_push batch mid e is named all = subst (All (λ (f : Entry). IsReplyNamed f
 
 -- nothing is missing
 module _ (Q : Queue) (by : MemberId) (at times missing : ℕ) (none : missing ≡ 0) where
-  pub entries_none : (batch : List Entry) → batch ≡ batch ++ given_in Q by at (takes times Q by missing)
-  entries_none batch = subst (λ (n : ℕ). batch ≡ batch ++ given_in Q by at (takes times Q by n)) (sym none) (sym (append-nil batch) ∙ ap (λ (es : List Entry). batch ++ es) (sym (takes_none Q by at times)))
+  none_given : [] ≡ given_in Q by at (takes times Q by missing)
+  none_given = subst (λ (n : ℕ). [] ≡ given_in Q by at (takes times Q by n)) (sym none) (sym (takes_none Q by at times))
 
-  pub after_none : (P : Queue → Type 0) → P Q → P (run Q (given_in Q by at (takes times Q by missing)))
-  after_none P has = subst (λ (n : ℕ). P (run Q (given_in Q by at (takes times Q by n)))) (sym none) (subst (λ (es : List Entry). P (run Q es)) (sym (takes_none Q by at times)) has)
+  pub taking_none : {E : Type 0} (t : Tables) (batch : List Entry) (all : Bool) → Tell t Q → IsTaking {E = E} Q by at times missing t t batch batch (Ok all)
+  taking_none t batch all told = record {
+    gave = [];
+    batch = sym (append-nil batch);
+    part = none_given;
+    effect = told;
+    texts = λ sound gone disks per has. has;
+  }
 
   pub all_none : true ≡ not (are_refused times Q by missing)
   all_none = subst (λ (n : ℕ). true ≡ not (are_refused times Q by n)) (sym none) (ap not (sym (refused_none Q by times)))
@@ -60,24 +88,28 @@ module _ (Q : Queue) (by : MemberId) (at missing : ℕ) (some : 1 ≤ missing) w
 
   -- a Take, and those behind it
   module _ (n : ℕ) (got : (step Q by (command.Take missing)).1 ≡ reply.Count n) where
-    pub entries_more : (by' : MemberId) (times : ℕ) (batch mid new : List Entry) → by' ≡ by → missing ≤ times → mid ≡ batch ++ e ∷ []
-        → ((ts : ℕ) → missing - n ≤ ts → new ≡ mid ++ given_in Q1 by' at (takes ts Q1 by' (missing - n))) → new ≡ batch ++ given_in Q by at (takes times Q by missing)
-    entries_more by' zero batch mid new same le is rest = absurd (omega (arith, some, le))
-    entries_more by' (suc times) batch mid new same le is rest =
-        let counts = take_counts Q by missing n some got in
-        rest times (omega (arith, le, counts.0))
-        ∙ ap (λ (m : MemberId). mid ++ given_in Q1 m at (takes times Q1 m (missing - n))) same
-        ∙ ap (λ (es : List Entry). es ++ given_in Q1 by at (takes times Q1 by (missing - n))) is
-        ∙ append_assoc batch (e ∷ []) (given_in Q1 by at (takes times Q1 by (missing - n)))
-        ∙ ap (λ (es : List Entry). batch ++ es) (sym (takes_more Q by at times missing n some le got))
+    part_more : {T E : Type 0} (r : Result T E) (times : ℕ) (gave : List Entry) → missing ≤ suc times → IsPart r gave (given_in Q1 by at (takes times Q1 by (missing - n))) → IsPart r (e ∷ gave) (given_in Q by at (takes (suc times) Q by missing))
+    part_more (Ok done) times gave le part = ap (λ (es : List Entry). e ∷ es) part ∙ sym (takes_more Q by at times missing n some le got)
+    part_more (Err why) times gave le part = (part.0, takes_more Q by at times missing n some le got ∙ ap (λ (es : List Entry). e ∷ es) part.1, part.2)
 
-    pub after_more : (P : Queue → Type 0) (by' : MemberId) (times : ℕ) → by' ≡ by → missing ≤ times
-        → ((ts : ℕ) → missing - n ≤ ts → P (run Q1 (given_in Q1 by' at (takes ts Q1 by' (missing - n))))) → P (run Q (given_in Q by at (takes times Q by missing)))
-    after_more P by' zero same le rest = absurd (omega (arith, some, le))
-    after_more P by' (suc times) same le rest =
+    more_by : {T E : Type 0} (others : OthersLeaveTexts) (own : ToldAreTheirOwn) (times : ℕ) (t u v : Tables) (was mid is : List Entry) (r : Result T E) → missing ≤ times → mid ≡ was ++ e ∷ [] → Tell t Q → (TellSound t → TellSound u)
+        → ((ts : ℕ) → missing - n ≤ ts → IsTaking Q1 by at ts (missing - n) u v mid is r) → IsTaking Q by at times missing t v was is r
+    more_by others own zero t u v was mid is r le one told sound rest = absurd (omega (arith, some, le))
+    more_by others own (suc times) t u v was mid is r le one told sound rest =
         let counts = take_counts Q by missing n some got in
-        subst (λ (es : List Entry). P (run Q es)) (sym (takes_more Q by at times missing n some le got))
-        (subst (λ (m : MemberId). P (run Q1 (given_in Q1 m at (takes times Q1 m (missing - n))))) same (rest times (omega (arith, le, counts.0))))
+        let behind = rest times (omega (arith, le, counts.0)) in
+        record {
+          gave = e ∷ behind.gave;
+          batch = behind.batch ∙ ap (λ (es : List Entry). es ++ behind.gave) one ∙ append_assoc was (e ∷ []) behind.gave;
+          part = part_more r times behind.gave le behind.part;
+          effect = behind.effect;
+          texts = λ s gone disks per has. behind.texts (sound s) gone disks per (texts_after others gone disks per Q by (command.Take missing) refl (own t Q s told) has);
+        }
+
+    pub taking_more : {T E : Type 0} (others : OthersLeaveTexts) (own : ToldAreTheirOwn) (by' : MemberId) (times : ℕ) (t u v : Tables) (was mid is : List Entry) (r : Result T E) → by' ≡ by → missing ≤ times → mid ≡ was ++ e ∷ [] → Tell t Q → (TellSound t → TellSound u)
+        → ((ts : ℕ) → missing - n ≤ ts → IsTaking Q1 by' at ts (missing - n) u v mid is r) → IsTaking Q by at times missing t v was is r
+    taking_more others own by' times t u v was mid is r same le one told sound rest =
+        more_by others own times t u v was mid is r le one told sound (λ ts fewer. subst (λ (m : MemberId). IsTaking Q1 m at ts (missing - n) u v mid is r) same (rest ts fewer))
 
     pub all_more : (all : Bool) (by' : MemberId) (times : ℕ) → by' ≡ by → missing ≤ times → ((ts : ℕ) → missing - n ≤ ts → all ≡ not (are_refused ts Q1 by' (missing - n))) → all ≡ not (are_refused times Q by missing)
     all_more all by' zero same le rest = absurd (omega (arith, some, le))
@@ -95,17 +127,34 @@ module _ (Q : Queue) (by : MemberId) (at missing : ℕ) (some : 1 ≤ missing) w
     none_left (reply.Shown lines) other = refl
     none_left (reply.No why) other = refl
 
-    pub entries_last : (times : ℕ) (batch mid : List Entry) → missing ≤ times → mid ≡ batch ++ e ∷ [] → mid ≡ batch ++ given_in Q by at (takes times Q by missing)
-    entries_last zero batch mid le is = absurd (omega (arith, some, le))
-    entries_last (suc times) batch mid le is = is ∙ ap (λ (es : List Entry). batch ++ es) (sym (takes_last Q by at times missing some (none_left (step Q by (command.Take missing)).1 not_count)))
-
-    pub after_last : (P : Queue → Type 0) (times : ℕ) → missing ≤ times → P Q1 → P (run Q (given_in Q by at (takes times Q by missing)))
-    after_last P zero le has = absurd (omega (arith, some, le))
-    after_last P (suc times) le has = subst (λ (es : List Entry). P (run Q es)) (sym (takes_last Q by at times missing some (none_left (step Q by (command.Take missing)).1 not_count))) has
+    pub taking_last : {E : Type 0} (others : OthersLeaveTexts) (own : ToldAreTheirOwn) (times : ℕ) (t u : Tables) (was is : List Entry) (all : Bool) → missing ≤ times → is ≡ was ++ e ∷ [] → Tell t Q → Tell u Q1 → IsTaking {E = E} Q by at times missing t u was is (Ok all)
+    taking_last others own zero t u was is all le one told after = absurd (omega (arith, some, le))
+    taking_last others own (suc times) t u was is all le one told after = record {
+      gave = e ∷ [];
+      batch = one;
+      part = sym (takes_last Q by at times missing some (none_left (step Q by (command.Take missing)).1 not_count));
+      effect = after;
+      texts = λ s gone disks per has. texts_after others gone disks per Q by (command.Take missing) refl (own t Q s told) has;
+    }
 
     pub all_last : (times : ℕ) → missing ≤ times → false ≡ not (are_refused times Q by missing)
     all_last zero le = absurd (omega (arith, some, le))
     all_last (suc times) le = ap not (sym (refused_last Q by times missing some (none_left (step Q by (command.Take missing)).1 not_count)))
+
+-- a Take for which memory wants
+some_taken : (Q : Queue) (by : MemberId) (at times missing : ℕ) → 1 ≤ missing → missing ≤ times → 1 ≤ length (given_in Q by at (takes times Q by missing))
+some_taken Q by at zero missing some le = absurd (omega (arith, some, le))
+some_taken Q by at (suc times) zero some le = absurd (omega (arith, some))
+some_taken Q by at (suc times) (suc missing) some le = omega arith
+
+pub taking_wanted : {T E : Type 0} (Q : Queue) (by : MemberId) (at times missing : ℕ) (t u : Tables) (was is : List Entry) (e : E) → 1 ≤ missing → missing ≤ times → Tell t Q → u ≡ t → is ≡ was → IsTaking {T = T} Q by at times missing t u was is (Err e)
+taking_wanted Q by at times missing t u was is e some le told same none = record {
+  gave = [];
+  batch = none ∙ sym (append-nil was);
+  part = (given_in Q by at (takes times Q by missing), refl, some_taken Q by at times missing some le);
+  effect = subst (λ (x : Tables). Tell x Q) (sym same) told;
+  texts = λ s gone disks per has. has;
+}
 
 -- THE FIRST BATCH
 
@@ -120,7 +169,8 @@ pub is_not : (b : Bool) → not b ≡ false → b ≡ true
 is_not true is = refl
 is_not false is = absurd (cc)
 
-module _ (by : MemberId) (at : ℕ) (fields : JobFields) (groups : ℕ) (Q : Queue) where
+-- begun from these tables
+module _ (others : OthersLeaveTexts) (own : ToldAreTheirOwn) (by : MemberId) (at : ℕ) (fields : JobFields) (groups : ℕ) (Q : Queue) (t : Tables) (told : Tell t Q) where
   abbrev begun : Queue
   begun = (step Q by (command.Begin fields)).0
 
@@ -133,19 +183,112 @@ module _ (by : MemberId) (at : ℕ) (fields : JobFields) (groups : ℕ) (Q : Que
   abbrev All_of : List Entry
   All_of = given_in Q by at (opening Q by fields groups)
 
+  begun_texts : TellSound t → LeaveTexts (Unit {0}) Q (begin ∷ [])
+  begun_texts s u gone disks per has = texts_after others gone disks per Q by (command.Begin fields) refl (own t Q s told) has
+
+  named_so : {T E : Type 0} (u : Tables) (es is : List Entry) (r : Result T E) → is ≡ es → IsOpening Q by at groups fields t u es r → IsOpening Q by at groups fields t u is r
+  named_so u es is r same o = subst (λ (l : List Entry). IsOpening Q by at groups fields t u l r) (sym same) o
+
+  -- memory wanted for Begin
+  pub opening_wanted : {T E : Type 0} (u : Tables) (is : List Entry) (e : E) → u ≡ t → is ≡ [] → IsOpening {T = T} Q by at groups fields t u is (Err e)
+  opening_wanted {T} {E} u is e same none = named_so u [] is (let r : Result T E = Err e in r) none (record {
+    part = (All_of, refl, omega arith);
+    effect = subst (λ (x : Tables). Tell x Q) (sym same) told;
+    texts = λ s gone disks per has. has;
+  })
+
+  -- it was refused
+  pub opening_refused : {T E : Type 0} (u : Tables) (is : List Entry) (x : T) → ((n : JobNo) → begin.reply ≡ reply.Job n → ⊥) → is ≡ begin ∷ [] → Tell u begun → IsOpening {E = E} Q by at groups fields t u is (Ok x)
+  opening_refused {T} {E} u is x other one after = named_so u (begin ∷ []) is (let r : Result T E = Ok x in r) one (record {
+    part = sym (opening_alone by at fields groups Q other);
+    effect = after;
+    texts = λ s. begun_texts s tt;
+  })
+
   module _ (n : JobNo) (got : begin.reply ≡ reply.Job n) where
-    pub all_taken : (one two : List Entry) → are_refused groups begun by groups ≡ false → one ≡ begin ∷ [] → two ≡ one ++ taking → two ≡ All_of
-    all_taken one two all first rest = rest ∙ ap (λ (es : List Entry). es ++ taking) first ∙ sym (opening_taken by at fields groups Q n got all)
+    -- what follows the Takes
+    abbrev dropping : List Entry
+    dropping = given_in (run begun taking) by at (if are_refused groups begun by groups then command.Drop n ∷ [] else [])
 
-    pub all_dropped : (one two three : List Entry) → are_refused groups begun by groups ≡ true → one ≡ begin ∷ [] → two ≡ one ++ taking → three ≡ two ++ entry_of (run begun taking) by at (command.Drop n) ∷ [] → three ≡ All_of
-    all_dropped one two three refused first rest last =
-        last ∙ ap (λ (es : List Entry). es ++ entry_of (run begun taking) by at (command.Drop n) ∷ []) (rest ∙ ap (λ (es : List Entry). es ++ taking) first)
-        ∙ sym (opening_dropped by at fields groups Q n got refused)
+    all_is : All_of ≡ begin ∷ (taking ++ dropping)
+    all_is =
+        ap (λ (r : Reply). begin ∷ given_in begun by at (behind_begin begun by groups r)) got
+        ∙ ap (λ (es : List Entry). begin ∷ es) (given_append by at (takes groups begun by groups) (if are_refused groups begun by groups then command.Drop n ∷ [] else []) begun)
 
-    pub after_taken : (P : Queue → Type 0) → are_refused groups begun by groups ≡ false → P (run begun taking) → P (run Q All_of)
-    after_taken P all has = subst (λ (es : List Entry). P (run Q es)) (sym (opening_taken by at fields groups Q n got all)) has
+    none_dropped : are_refused groups begun by groups ≡ false → dropping ≡ []
+    none_dropped all = ap (λ (b : Bool). given_in (run begun taking) by at (if b then command.Drop n ∷ [] else [])) all
 
-    pub after_dropped : (P : Queue → Type 0) → are_refused groups begun by groups ≡ true → P (step (run begun taking) by (command.Drop n)).0 → P (run Q All_of)
-    after_dropped P refused has =
-        subst (λ (es : List Entry). P (run Q es)) (sym (opening_dropped by at fields groups Q n got refused))
-        (subst P (sym (run_append begun taking (entry_of (run begun taking) by at (command.Drop n) ∷ []))) has)
+    one_dropped : are_refused groups begun by groups ≡ true → dropping ≡ entry_of (run begun taking) by at (command.Drop n) ∷ []
+    one_dropped refused = ap (λ (b : Bool). given_in (run begun taking) by at (if b then command.Drop n ∷ [] else [])) refused
+
+    module _ (by' : MemberId) (same_by : by' ≡ by) (u v : Tables) (mid is : List Entry) (one : mid ≡ begin ∷ []) (sound : TellSound t → TellSound u) where
+      by_it : {T E : Type 0} (r : Result T E) → IsTaking begun by' at groups groups u v mid is r → IsTaking begun by at groups groups u v mid is r
+      by_it r k = subst (λ (m : MemberId). IsTaking begun m at groups groups u v mid is r) same_by k
+
+      refused_by : (b : Bool) → are_refused groups begun by' groups ≡ b → are_refused groups begun by groups ≡ b
+      refused_by b is_so = subst (λ (m : MemberId). are_refused groups begun m groups ≡ b) same_by is_so
+
+      -- the batch behind the Takes
+      behind_takes : {T E : Type 0} (r : Result T E) (k : IsTaking begun by at groups groups u v mid is r) → is ≡ begin ∷ k.gave
+      behind_takes r k = k.batch ∙ ap (λ (es : List Entry). es ++ k.gave) one
+
+      -- memory wanted for one of them
+      pub opening_cut : {T A E : Type 0} (e : E) → IsTaking {T = A} begun by' at groups groups u v mid is (Err e) → IsOpening {T = T} Q by at groups fields t v is (Err e)
+      opening_cut {T} {A} {E} e k' = let k = by_it (let r : Result A E = Err e in r) k' in named_so v (begin ∷ k.gave) is (let r : Result T E = Err e in r) (behind_takes (let r : Result A E = Err e in r) k) (record {
+        part = (
+          k.part.0 ++ dropping,
+          all_is ∙ ap (λ (es : List Entry). begin ∷ (es ++ dropping)) k.part.1 ∙ ap (λ (es : List Entry). begin ∷ es) (append_assoc k.gave k.part.0 dropping),
+          let long = length-append k.part.0 dropping in let some = k.part.2 in omega (arith, long, some),
+        );
+        effect = k.effect;
+        texts = λ s gone disks per has. k.texts (sound s) gone disks per (begun_texts s tt gone disks per has);
+      })
+
+      -- the groups were taken
+      pub opening_got : {T A E F : Type 0} (a : A) (x : T) → are_refused groups begun by' groups ≡ false → IsTaking {E = E} begun by' at groups groups u v mid is (Ok a) → IsOpening {E = F} Q by at groups fields t v is (Ok x)
+      opening_got {T} {A} {E} {F} a x all' k' = let k = by_it (let r : Result A E = Ok a in r) k' in let all = refused_by false all' in named_so v (begin ∷ k.gave) is (let r : Result T F = Ok x in r) (behind_takes (let r : Result A E = Ok a in r) k) (record {
+        part = ap (λ (es : List Entry). begin ∷ es) (k.part ∙ sym (append-nil taking) ∙ ap (λ (es : List Entry). taking ++ es) (sym (none_dropped all))) ∙ sym all_is;
+        effect = k.effect;
+        texts = λ s gone disks per has. k.texts (sound s) gone disks per (begun_texts s tt gone disks per has);
+      })
+
+      module _ {A E : Type 0} (a : A) (refused' : are_refused groups begun by' groups ≡ true) (k' : IsTaking {E = E} begun by' at groups groups u v mid is (Ok a)) where
+        k : IsTaking {E = E} begun by at groups groups u v mid is (Ok a)
+        k = by_it (let r : Result A E = Ok a in r) k'
+
+        refused : are_refused groups begun by groups ≡ true
+        refused = refused_by true refused'
+
+        abbrev drop_it : Entry
+        drop_it = entry_of (run begun taking) by at (command.Drop n)
+
+        pub tells_taken : Tell v (run begun taking)
+        tells_taken = subst (λ (es : List Entry). Tell v (run begun es)) k.part k.effect
+
+        all_dropped : All_of ≡ begin ∷ (taking ++ drop_it ∷ [])
+        all_dropped = all_is ∙ ap (λ (es : List Entry). begin ∷ (taking ++ es)) (one_dropped refused)
+
+        taken_is : is ≡ begin ∷ taking
+        taken_is = behind_takes (let r : Result A E = Ok a in r) k ∙ ap (λ (es : List Entry). begin ∷ es) k.part
+
+        taken_texts : LeaveTexts (TellSound t) Q (begin ∷ taking)
+        taken_texts s gone disks per has = subst (λ (es : List Entry). HasTextsAfter es) k.part (k.texts (sound s) gone disks per (begun_texts s tt gone disks per has)) where
+          HasTextsAfter : List Entry → Type 0
+          HasTextsAfter es = HasTexts gone disks per (run begun es)
+
+        -- a Take was refused, and memory wanted for Drop
+        pub opening_undropped : {T F : Type 0} (w : Tables) (last : List Entry) (e : F) → w ≡ v → last ≡ is → IsOpening {T = T} Q by at groups fields t w last (Err e)
+        opening_undropped {T} {F} w last e same none = named_so w (begin ∷ taking) last (let r : Result T F = Err e in r) (none ∙ taken_is) (record {
+          part = (drop_it ∷ [], all_dropped, omega arith);
+          effect = subst (λ (x : Tables). Tell x (run begun taking)) (sym same) tells_taken;
+          texts = taken_texts;
+        })
+
+        -- and the job is dropped
+        pub opening_dropped : {T F : Type 0} (w : Tables) (last : List Entry) (x : T) → (TellSound u → TellSound v) → last ≡ is ++ drop_it ∷ [] → Tell w (step (run begun taking) by (command.Drop n)).0 → IsOpening {E = F} Q by at groups fields t w last (Ok x)
+        opening_dropped {T} {F} w last x still then_dropped after = named_so w (begin ∷ (taking ++ drop_it ∷ [])) last (let r : Result T F = Ok x in r) (then_dropped ∙ ap (λ (es : List Entry). es ++ drop_it ∷ []) taken_is) (record {
+          part = sym all_dropped;
+          effect = subst (Tell w) (sym (run_append begun taking (drop_it ∷ []))) after;
+          texts = λ s gone disks per has. subst (HasTexts gone disks per) (sym (run_append begun taking (drop_it ∷ [])))
+              (texts_after others gone disks per (run begun taking) by (command.Drop n) refl (own v (run begun taking) (still (sound s)) tells_taken) (taken_texts s gone disks per has));
+        })

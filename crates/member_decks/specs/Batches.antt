@@ -1,5 +1,5 @@
 -- The batches of a step, one after another, in the journal.
-use Rattle.std.specs.Prelude.{◌≡◌, ◌⊎◌, ℕ, ◌≤◌, List, [], ◌∷◌, ◌++◌, Result, Ok, Err}
+use Rattle.std.specs.Prelude.{◌≡◌, ◌⊎◌, ℕ, ◌≤◌, List, [], ◌∷◌, ◌++◌, length, Result, Ok, Err}
 use Rattle.mas_types.specs.declared.ids.MemberId.{MemberId}
 use Rattle.mas_types.specs.declared.journals.Batch.{Batch}
 use Rattle.mas_types.specs.declared.journals.Entry.{Entry}
@@ -33,23 +33,40 @@ AreAll by from now (es ∷ ess) (b ∷ bs) = IsKeptBatch by es from now b × Are
 abbrev pub HasAll : MemberId → ℕ → ℕ → List (List Entry) → List Batch → List Batch → Type 0
 HasAll by from now ess front batches = (rest : List Batch) × (batches ≡ front ++ rest) × AreAll by from now ess rest
 
--- the first ones of them, but not all
+-- WHERE A STEP ENDS BEFORE ITS BATCHES ARE ALL KEPT
+
+-- the first entries of a batch, or all of them
+abbrev pub IsFront : List Entry → List Entry → Type 0
+IsFront es all = (1 ≤ length es) × ((rest : List Entry) × (all ≡ es ++ rest))
+
+-- the first ones, but not all
+abbrev pub IsCut : List Entry → List Entry → Type 0
+IsCut es all = (1 ≤ length es) × ((rest : List Entry) × (all ≡ es ++ rest) × (1 ≤ length rest))
+
+-- the first ones of the batches, but not all
 abbrev pub AreSome : MemberId → ℕ → ℕ → List (List Entry) → List Batch → Type 0
 AreSome by from now [] bs = ⊥
 AreSome by from now (es ∷ ess) [] = Unit {0}
 AreSome by from now (es ∷ ess) (b ∷ bs) = IsKeptBatch by es from now b × AreSome by b.last now ess bs
 
--- the first ones of them, and behind these the next one in flight
+-- the first ones of them, but not all, and behind these perhaps a batch with the first entries of the next one
+abbrev pub AreCut : MemberId → ℕ → ℕ → List (List Entry) → List Batch → Type 0
+AreCut by from now [] bs = ⊥
+AreCut by from now (es ∷ ess) [] = Unit {0}
+AreCut by from now (es ∷ ess) (b ∷ bs) = ((bs ≡ []) × ((cut : List Entry) × IsCut cut es × IsKeptBatch by cut from now b)) ⊎ (IsKeptBatch by es from now b × AreCut by b.last now ess bs)
+
+-- the first ones of them, and behind these the next one in flight, or a batch with its first entries
 abbrev pub OneFlies : MemberId → ℕ → ℕ → List (List Entry) → List Batch → Type 0
 OneFlies by from now [] bs = ⊥
 OneFlies by from now (es ∷ ess) [] = ⊥
-OneFlies by from now (es ∷ ess) (b ∷ bs) = (IsFlyingBatch by es from now b × (bs ≡ [])) ⊎ (IsKeptBatch by es from now b × OneFlies by b.last now ess bs)
+OneFlies by from now (es ∷ ess) (b ∷ bs) = ((bs ≡ []) × ((cut : List Entry) × IsFront cut es × IsFlyingBatch by cut from now b)) ⊎ (IsKeptBatch by es from now b × OneFlies by b.last now ess bs)
 
--- All are kept where the lines are said, or where the console failed at one; one is in flight where both copies were lost; where
--- memory wanted not all were begun; where the member was stopped it is any of these.
+-- All are kept where the lines are said, or where the console failed at one. Where memory wanted not all were begun, and what was done of the
+-- next one may be kept without the rest. Where both copies were lost one is in flight, perhaps with the first entries alone since memory
+-- wanted before, or none was begun since; where the member was stopped it is one of these, or all are kept.
 abbrev pub BatchesLeave : {T : Type 0} → Result T NodeNo → MemberId → ℕ → ℕ → List (List Entry) → List Batch → Type 0
 BatchesLeave (Ok done) by from now ess bs = AreAll by from now ess bs
-BatchesLeave (Err NoMemory) by from now ess bs = AreSome by from now ess bs
-BatchesLeave (Err BothLost) by from now ess bs = OneFlies by from now ess bs
+BatchesLeave (Err NoMemory) by from now ess bs = AreCut by from now ess bs
+BatchesLeave (Err BothLost) by from now ess bs = AreSome by from now ess bs ⊎ OneFlies by from now ess bs
 BatchesLeave (Err ConsoleFault) by from now ess bs = AreAll by from now ess bs
-BatchesLeave (Err Halted) by from now ess bs = OneFlies by from now ess bs ⊎ AreSome by from now ess bs ⊎ AreAll by from now ess bs
+BatchesLeave (Err Halted) by from now ess bs = AreSome by from now ess bs ⊎ OneFlies by from now ess bs ⊎ AreAll by from now ess bs

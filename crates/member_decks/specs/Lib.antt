@@ -2,4 +2,6 @@ pub mod Spooling
 pub mod Decks
 pub mod Batches
 pub mod Steps
+pub mod Keeping
+pub mod Taking
 pub mod Examples

@@ -1,5 +1,5 @@
 //! Batches of a step that are kept, and the lines with which it closes.
-ghost use Rattle.std.specs.Prelude.{◌≡◌, ◌+◌, ◌*◌, ◌≤◌, ◌<◌, ◌^◌, ◌++◌, ◌∷◌, [], ℕ, List, All, None, Some, Option, length, reverse, true, false, IfOk, IsErrOf, OnOk};
+ghost use Rattle.std.specs.Prelude.{◌≡◌, ◌+◌, ◌≤◌, ◌<◌, ◌^◌, ◌++◌, All, None, Some, Option, length, reverse, true, false, Err, IfOk, OnOk};
 ghost use Rattle.std.specs.List.{find};
 ghost use Rattle.std.specs.Option.{option_copied};
 ghost use Rattle.mas_types.specs.declared.commands.Reply.TheVariants.{Plain};
@@ -13,12 +13,12 @@ ghost use Rattle.mas_complex.specs.Locking.{MayAct};
 ghost use Rattle.mas_complex.specs.Meaning.{run};
 ghost use Rattle.mas_complex.specs.Texts.{HasTexts, lost_now, spools_at};
 ghost use Rattle.table_queues.specs.Telling.{TellSound};
-ghost use Rattle.member_node.specs.declared.member.NodeNo.TheVariants.{ConsoleFault};
-ghost use Rattle.member_node.specs.Batches.{HasDone};
+ghost use Rattle.queue_effect.specs.Standing.{AreFit};
+ghost use Rattle.member_node.specs.Batches.{CanDraw, HasDone};
 ghost use Rattle.member_node.specs.Copies.{RestsAt};
 ghost use Rattle.member_steps.specs.Steps.{AreAllKept, IsBetween, IsStep};
 ghost use Rattle.member_decks.specs.Decks.{closes as closes_lem, closing_reply, finishing as finishing_lem, lines_by};
-ghost use Rattle.member_decks.specs.Steps.{IsRoomLeft};
+ghost use Rattle.member_decks.specs.Keeping.{GivesUpLeaves, IsOnCopies, KeepLeaves};
 
 use cmd_report::closing;
 use mas_complex::{Complex, Steady};
@@ -87,24 +87,31 @@ pub(crate) fn finishing(job: JobNo, text: Lines, lost: Option<u8>) -> Command
 }
 
 /// Keeps the member's batch, one of several of a step: nothing is said.
+///
+/// BothLost comes only where both copies count as lost at the end of the call, Halted only where the member was stopped in it: the batch is
+/// in flight then. NoMemory leaves it unbegun.
 pub fn keep_batch<P: Plant + Drop, C: Steady + Drop>(
     member: &mut Member,
     alloc: Global,
     complex: &mut Complex<P, C>,
 ) -> Result<(), NodeNo>
     requires may { MayAct complex.old.book member.old.id }
-    requires entries { 1 ≤ length member.old.batch }
+    requires some { 1 ≤ length member.old.batch }
     requires own { All (λ e. e.by ≡ member.old.id) member.old.batch }
     requires none { complex.old.current ≡ None }
     requires unplaced { complex.old.placed ≡ false }
-    requires same_level { complex.old.level ≡ member.old.checkpoint.level }
-    requires done { HasDone (run complex.old.base (kept_all complex.old.journal.batches)) member.old.batch member.old.checkpoint }
+    requires here { member.old.behind ≡ false }
+    requires draws { CanDraw member.old.checkpoint }
+    requires fit { AreFit member.old.checkpoint.tables }
+    requires same_level { P.tells → complex.old.level ≡ member.old.checkpoint.level }
+    requires done { P.tells → HasDone (run complex.old.base (kept_all complex.old.journal.batches)) member.old.batch member.old.checkpoint }
+    requires small { complex.old.level + 1 < 2 ^ 63 }
     requires rests1 { RestsAt P.tells complex.old.pair.first.alive complex.old.first (C.count complex.old.pair.first.copy) member.old.checkpoint.pages (C.reads (disk_now (P.view complex.old.plant) Ckpt1).bytes) }
     requires rests2 { RestsAt P.tells complex.old.pair.second.alive complex.old.second (C.count complex.old.pair.second.copy) member.old.checkpoint.pages (C.reads (disk_now (P.view complex.old.plant) Ckpt2).bytes) }
     requires kept { AreAllKept complex.old.journal.batches (P.view complex.old.plant).now }
     requires untold { P.tells → IsUntold (setting C.reads complex.old.base complex.old.since) (P.view complex.old.plant) member.old.batch }
     requires texts { P.tells → ∥ HasTexts (lost_now (P.view complex.old.plant)) (spools_at (P.view complex.old.plant) (P.view complex.old.plant).now) complex.old.base.config.groups (run complex.old.base (kept_all complex.old.journal.batches ++ member.old.batch)) ∥₁ }
-    requires sound { TellSound member.old.checkpoint.tables }
+    requires sound { P.tells → TellSound member.old.checkpoint.tables }
     requires level { member.old.checkpoint.level + 1 < 2 ^ 63 }
     requires room1 { complex.old.pair.first.alive ≡ true → 1 ≤ C.room complex.old.pair.first.copy }
     requires room2 { complex.old.pair.second.alive ≡ true → 1 ≤ C.room complex.old.pair.second.copy }
@@ -112,26 +119,68 @@ pub fn keep_batch<P: Plant + Drop, C: Steady + Drop>(
     ensures since { complex.new.since ≡ complex.old.since }
     ensures book { complex.new.book ≡ complex.old.book }
     ensures id { member.new.id ≡ member.old.id }
+    ensures room { member.new.room ≡ member.old.room }
+    ensures here { member.new.behind ≡ false }
     ensures tables { member.new.checkpoint.tables ≡ member.old.checkpoint.tables }
-    ensures step { IsStep P.tells member.old.id.0 [] (begun (P.view complex.old.plant).now member.old.id member.old.batch)
-        complex.old.journal.batches (end_of complex.new.placed complex.new.current complex.new.journal.batches)
-        complex.old.pair.first.alive complex.new.pair.first.alive complex.old.pair.second.alive complex.new.pair.second.alive
+    ensures acts { IsOnCopies P.tells member.old.id.0 complex.old.pair.first.alive complex.new.pair.first.alive complex.old.pair.second.alive complex.new.pair.second.alive
         (P.view complex.old.plant) (P.view complex.new.plant) result }
-    ensures unsaid { IsErrOf result ConsoleFault → ⊥ }
+    ensures leaves { KeepLeaves result complex.old.journal.batches (end_of complex.new.placed complex.new.current complex.new.journal.batches)
+        (begun (P.view complex.old.plant).now member.old.id member.old.batch) (P.view complex.new.plant).now }
     ensures unreserved { OnOk result (complex.new.reserved ≡ None) }
-    ensures between { OnOk result (IsBetween complex.new.base complex.new.journal.batches complex.new.current complex.new.placed complex.new.level member.new.batch member.new.checkpoint) }
+    ensures between { OnOk result (IsBetween P.tells complex.new.base complex.new.journal.batches complex.new.current complex.new.placed complex.new.level member.new.batch member.new.checkpoint) }
     ensures rests1 { OnOk result (RestsAt P.tells complex.new.pair.first.alive complex.new.first (C.count complex.new.pair.first.copy) member.new.checkpoint.pages (C.reads (disk_now (P.view complex.new.plant) Ckpt1).bytes)) }
     ensures rests2 { OnOk result (RestsAt P.tells complex.new.pair.second.alive complex.new.second (C.count complex.new.pair.second.copy) member.new.checkpoint.pages (C.reads (disk_now (P.view complex.new.plant) Ckpt2).bytes)) }
     ensures kept { OnOk result (AreAllKept complex.new.journal.batches (P.view complex.new.plant).now) }
-    ensures room1 { OnOk result (complex.new.pair.first.alive ≡ true → IsRoomLeft C.room_after (C.room complex.old.pair.first.copy) (C.room complex.new.pair.first.copy)) }
-    ensures room2 { OnOk result (complex.new.pair.second.alive ≡ true → IsRoomLeft C.room_after (C.room complex.old.pair.second.copy) (C.room complex.new.pair.second.copy)) }
     ensures level { OnOk result (member.new.checkpoint.level ≤ member.old.checkpoint.level + 1) }
+    ensures reached { OnOk result (complex.new.level ≤ complex.old.level + 1) }
 {
     let Ok(draft) = member.ready(alloc, complex) else {
         return Err(NodeNo::NoMemory);
     };
     member.write(complex, &draft)?;
     Ok(())
+}
+
+/// Ends a step in which memory wanted: what was done before is kept, where there is memory for that. Answers how the step ends.
+pub(crate) fn give_up<P: Plant + Drop, C: Steady + Drop>(
+    member: &mut Member,
+    alloc: Global,
+    complex: &mut Complex<P, C>,
+) -> NodeNo
+    requires may { MayAct complex.old.book member.old.id }
+    requires own { All (λ e. e.by ≡ member.old.id) member.old.batch }
+    requires none { complex.old.current ≡ None }
+    requires unplaced { complex.old.placed ≡ false }
+    requires here { member.old.behind ≡ false }
+    requires draws { CanDraw member.old.checkpoint }
+    requires fit { AreFit member.old.checkpoint.tables }
+    requires same_level { P.tells → complex.old.level ≡ member.old.checkpoint.level }
+    requires done { P.tells → HasDone (run complex.old.base (kept_all complex.old.journal.batches)) member.old.batch member.old.checkpoint }
+    requires small { complex.old.level + 1 < 2 ^ 63 }
+    requires rests1 { RestsAt P.tells complex.old.pair.first.alive complex.old.first (C.count complex.old.pair.first.copy) member.old.checkpoint.pages (C.reads (disk_now (P.view complex.old.plant) Ckpt1).bytes) }
+    requires rests2 { RestsAt P.tells complex.old.pair.second.alive complex.old.second (C.count complex.old.pair.second.copy) member.old.checkpoint.pages (C.reads (disk_now (P.view complex.old.plant) Ckpt2).bytes) }
+    requires kept { AreAllKept complex.old.journal.batches (P.view complex.old.plant).now }
+    requires untold { P.tells → IsUntold (setting C.reads complex.old.base complex.old.since) (P.view complex.old.plant) member.old.batch }
+    requires texts { P.tells → ∥ HasTexts (lost_now (P.view complex.old.plant)) (spools_at (P.view complex.old.plant) (P.view complex.old.plant).now) complex.old.base.config.groups (run complex.old.base (kept_all complex.old.journal.batches ++ member.old.batch)) ∥₁ }
+    requires sound { P.tells → TellSound member.old.checkpoint.tables }
+    requires level { member.old.checkpoint.level + 1 < 2 ^ 63 }
+    requires room1 { complex.old.pair.first.alive ≡ true → 1 ≤ C.room complex.old.pair.first.copy }
+    requires room2 { complex.old.pair.second.alive ≡ true → 1 ≤ C.room complex.old.pair.second.copy }
+    ensures base { complex.new.base ≡ complex.old.base }
+    ensures since { complex.new.since ≡ complex.old.since }
+    ensures id { member.new.id ≡ member.old.id }
+    ensures acts { IsOnCopies {T = Unit {0}} P.tells member.old.id.0 complex.old.pair.first.alive complex.new.pair.first.alive complex.old.pair.second.alive complex.new.pair.second.alive
+        (P.view complex.old.plant) (P.view complex.new.plant) (Err result) }
+    ensures leaves { GivesUpLeaves result complex.old.journal.batches (end_of complex.new.placed complex.new.current complex.new.journal.batches)
+        (begun (P.view complex.old.plant).now member.old.id member.old.batch) (P.view complex.new.plant).now }
+{
+    if member.batch.len() == 0 {
+        return NodeNo::NoMemory;
+    }
+    match keep_batch(member, alloc, complex) {
+        Ok(()) => NodeNo::NoMemory,
+        Err(no) => no,
+    }
 }
 
 /// Keeps the member's batch, the last of a deck's step, and says the lines with which it closes.
@@ -145,18 +194,22 @@ pub(crate) fn close_deck<P: Plant + Drop, C: Steady + Drop>(
     requires may { MayAct complex.old.book member.old.id }
     requires by { member.old.id.0 ≤ members_most }
     requires named { All (λ e. IsReplyNamed e.reply) member.old.batch }
-    requires entries { 1 ≤ length member.old.batch }
+    requires some { 1 ≤ length member.old.batch }
     requires own { All (λ e. e.by ≡ member.old.id) member.old.batch }
     requires none { complex.old.current ≡ None }
     requires unplaced { complex.old.placed ≡ false }
-    requires same_level { complex.old.level ≡ member.old.checkpoint.level }
-    requires done { HasDone (run complex.old.base (kept_all complex.old.journal.batches)) member.old.batch member.old.checkpoint }
+    requires here { member.old.behind ≡ false }
+    requires draws { CanDraw member.old.checkpoint }
+    requires fit { AreFit member.old.checkpoint.tables }
+    requires same_level { P.tells → complex.old.level ≡ member.old.checkpoint.level }
+    requires done { P.tells → HasDone (run complex.old.base (kept_all complex.old.journal.batches)) member.old.batch member.old.checkpoint }
+    requires small { complex.old.level + 1 < 2 ^ 63 }
     requires rests1 { RestsAt P.tells complex.old.pair.first.alive complex.old.first (C.count complex.old.pair.first.copy) member.old.checkpoint.pages (C.reads (disk_now (P.view complex.old.plant) Ckpt1).bytes) }
     requires rests2 { RestsAt P.tells complex.old.pair.second.alive complex.old.second (C.count complex.old.pair.second.copy) member.old.checkpoint.pages (C.reads (disk_now (P.view complex.old.plant) Ckpt2).bytes) }
     requires kept { AreAllKept complex.old.journal.batches (P.view complex.old.plant).now }
     requires untold { P.tells → IsUntold (setting C.reads complex.old.base complex.old.since) (P.view complex.old.plant) member.old.batch }
     requires texts { P.tells → ∥ HasTexts (lost_now (P.view complex.old.plant)) (spools_at (P.view complex.old.plant) (P.view complex.old.plant).now) complex.old.base.config.groups (run complex.old.base (kept_all complex.old.journal.batches ++ member.old.batch)) ∥₁ }
-    requires sound { TellSound member.old.checkpoint.tables }
+    requires sound { P.tells → TellSound member.old.checkpoint.tables }
     requires level { member.old.checkpoint.level + 1 < 2 ^ 63 }
     requires room1 { complex.old.pair.first.alive ≡ true → 1 ≤ C.room complex.old.pair.first.copy }
     requires room2 { complex.old.pair.second.alive ≡ true → 1 ≤ C.room complex.old.pair.second.copy }
@@ -164,17 +217,20 @@ pub(crate) fn close_deck<P: Plant + Drop, C: Steady + Drop>(
     ensures since { complex.new.since ≡ complex.old.since }
     ensures book { complex.new.book ≡ complex.old.book }
     ensures id { member.new.id ≡ member.old.id }
+    ensures room { member.new.room ≡ member.old.room }
+    ensures here { member.new.behind ≡ false }
     ensures tables { member.new.checkpoint.tables ≡ member.old.checkpoint.tables }
     ensures step { IsStep P.tells member.old.id.0 (lines_by member.old.id step lost (closing_reply member.old.batch)) (begun (P.view complex.old.plant).now member.old.id member.old.batch)
         complex.old.journal.batches (end_of complex.new.placed complex.new.current complex.new.journal.batches)
         complex.old.pair.first.alive complex.new.pair.first.alive complex.old.pair.second.alive complex.new.pair.second.alive
         (P.view complex.old.plant) (P.view complex.new.plant) result }
     ensures unreserved { OnOk result (complex.new.reserved ≡ None) }
-    ensures between { OnOk result (IsBetween complex.new.base complex.new.journal.batches complex.new.current complex.new.placed complex.new.level member.new.batch member.new.checkpoint) }
+    ensures between { OnOk result (IsBetween P.tells complex.new.base complex.new.journal.batches complex.new.current complex.new.placed complex.new.level member.new.batch member.new.checkpoint) }
     ensures rests1 { OnOk result (RestsAt P.tells complex.new.pair.first.alive complex.new.first (C.count complex.new.pair.first.copy) member.new.checkpoint.pages (C.reads (disk_now (P.view complex.new.plant) Ckpt1).bytes)) }
     ensures rests2 { OnOk result (RestsAt P.tells complex.new.pair.second.alive complex.new.second (C.count complex.new.pair.second.copy) member.new.checkpoint.pages (C.reads (disk_now (P.view complex.new.plant) Ckpt2).bytes)) }
     ensures kept { OnOk result (AreAllKept complex.new.journal.batches (P.view complex.new.plant).now) }
     ensures level { OnOk result (member.new.checkpoint.level ≤ member.old.checkpoint.level + 1) }
+    ensures reached { OnOk result (complex.new.level ≤ complex.old.level + 1) }
 {
     let Ok(lines) = last_lines(member, alloc, step, lost) else {
         return Err(NodeNo::NoMemory);

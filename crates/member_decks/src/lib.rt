@@ -2,6 +2,7 @@
 #![tactic(auto)]
 
 mod examples;
+mod holding;
 mod keeping;
 mod locked;
 mod opening;
@@ -10,6 +11,7 @@ mod refusing;
 mod spooling;
 
 pub use examples::examples_of_deck_steps;
+pub use holding::take_hold;
 pub use keeping::keep_batch;
 pub use locked::play_locked_deck;
 pub use opening::{Opened, take_groups};

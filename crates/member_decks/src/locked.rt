@@ -1,5 +1,5 @@
 //! A deck's step of a member that takes the lock.
-ghost use Rattle.std.specs.Prelude.{◌≡◌, ◌+◌, ◌≤◌, ◌<◌, ◌^◌, ◌∷◌, [], ℕ, List, None, Some, true, false, OnOk, Ok, Err};
+ghost use Rattle.std.specs.Prelude.{◌≡◌, ◌+◌, ◌≤◌, ◌<◌, ◌∷◌, [], ℕ, List, None, Some, length, true, false, OnOk, Ok, Err};
 ghost use Rattle.mas_types.specs.declared.answers.CardCause.{CardCause};
 ghost use Rattle.mas_types.specs.declared.answers.Closing.TheVariants.{BadCard};
 ghost use Rattle.mas_types.specs.declared.ids.Dev.TheVariants.{Ckpt1, Ckpt2};
@@ -16,12 +16,13 @@ ghost use Rattle.spool_disk.specs.View.{disk_now};
 ghost use Rattle.mas_complex.specs.Crash.{IsUntold, setting};
 ghost use Rattle.mas_complex.specs.Journals.{end_of, kept_all};
 ghost use Rattle.mas_complex.specs.Meaning.{run};
-ghost use Rattle.member_node.specs.Copies.{RestsAt};
+ghost use Rattle.member_node.specs.Reads.{IsCalm, ReadsLow, orders_after, too_high};
 ghost use Rattle.member_steps.specs.Locked.{IsDenial, IsOpenTo, denied_lines};
-ghost use Rattle.member_steps.specs.Steps.{AreAllKept, IsBetween};
+ghost use Rattle.member_steps.specs.Steps.{AreAllKept, IsAtLock, IsToldSound};
 ghost use Rattle.member_decks.specs.Spooling.{AreRoomy};
-ghost use Rattle.member_decks.specs.Steps.{AreOf, HasRoomForTwo, IsDeckStep, orders_most};
+ghost use Rattle.member_decks.specs.Steps.{AreOf, IsDeckStep};
 
+use crate::holding::take_hold;
 use crate::playing::play_deck;
 use crate::refusing::refuse;
 use card_reader::{DeckNo, read_deck};
@@ -32,7 +33,8 @@ use member_steps::deny;
 use spool_disk::Plant;
 use std::alloc::Global;
 
-/// Plays a deck's step of the member: it reads the deck at its own node, takes the lock by a try, plays the deck, and gives the lock up.
+/// Plays a deck's step of the member: it reads the deck at its own node, takes the lock by a try, reads what the copies have and makes room
+/// for a put, plays the deck, and gives the lock up. Its checkpoint may be of any time: another member may have written since.
 /// A deck with a wrong card closes with that before any try; where the member doesn't get the lock the step closes with why. In both
 /// nothing else is done.
 ///
@@ -50,17 +52,20 @@ pub fn play_locked_deck<P: Plant + Drop, C: Steady + Drop>(
     requires by { member.old.id.0 ≤ members_most }
     requires member { is_member complex.old.base.config member.old.id ≡ true }
     requires own { IsName own }
-    requires between { IsBetween complex.old.base complex.old.journal.batches complex.old.current complex.old.placed complex.old.level member.old.batch member.old.checkpoint }
-    requires rests1 { RestsAt P.tells complex.old.pair.first.alive complex.old.first (C.count complex.old.pair.first.copy) member.old.checkpoint.pages (C.reads (disk_now (P.view complex.old.plant) Ckpt1).bytes) }
-    requires rests2 { RestsAt P.tells complex.old.pair.second.alive complex.old.second (C.count complex.old.pair.second.copy) member.old.checkpoint.pages (C.reads (disk_now (P.view complex.old.plant) Ckpt2).bytes) }
+    requires at_lock { IsAtLock complex.old.current complex.old.placed member.old.batch member.old.checkpoint member.old.room }
+    requires calm1 { IsCalm complex.old.pair.first.alive complex.old.first (C.count complex.old.pair.first.copy) (length member.old.room) }
+    requires calm2 { IsCalm complex.old.pair.second.alive complex.old.second (C.count complex.old.pair.second.copy) (length member.old.room) }
+    requires low1 { ReadsLow P.tells complex.old.pair.first.alive member.old.checkpoint.tables.config (length complex.old.journal.batches) (C.reads (disk_now (P.view complex.old.plant) Ckpt1).bytes) }
+    requires low2 { ReadsLow P.tells complex.old.pair.second.alive member.old.checkpoint.tables.config (length complex.old.journal.batches) (C.reads (disk_now (P.view complex.old.plant) Ckpt2).bytes) }
+    requires sound { P.tells → IsToldSound (run complex.old.base (kept_all complex.old.journal.batches)) }
+    requires config { complex.old.base.config ≡ member.old.checkpoint.tables.config }
+    requires most { 1 ≤ C.room_most }
     requires kept { AreAllKept complex.old.journal.batches (P.view complex.old.plant).now }
     requires untold { P.tells → (es : List Entry) → AreOf member.old.id step es → IsUntold (setting C.reads complex.old.base complex.old.since) (P.view complex.old.plant) es }
     requires since { complex.old.since ≤ (P.view complex.old.plant).now }
     requires roomy { P.tells → AreRoomy (P.view complex.old.plant) complex.old.base.config }
-    requires order { member.old.checkpoint.tables.order + orders_most < 2 ^ 63 }
-    requires level { member.old.checkpoint.level + 2 < 2 ^ 63 }
-    requires room1 { complex.old.pair.first.alive ≡ true → HasRoomForTwo C.room_after (C.room complex.old.pair.first.copy) }
-    requires room2 { complex.old.pair.second.alive ≡ true → HasRoomForTwo C.room_after (C.room complex.old.pair.second.copy) }
+    requires orders { orders_after (length complex.old.journal.batches + 1) < too_high }
+    requires level { complex.old.level + 1 < too_high }
     ensures base { complex.new.base ≡ complex.old.base }
     ensures since { complex.new.since ≡ complex.old.since }
     ensures id { member.new.id ≡ member.old.id }
@@ -82,13 +87,15 @@ pub fn play_locked_deck<P: Plant + Drop, C: Steady + Drop>(
         complex.old.journal.batches (end_of complex.new.placed complex.new.current complex.new.journal.batches)
         complex.old.pair.first.alive complex.new.pair.first.alive complex.old.pair.second.alive complex.new.pair.second.alive
         (P.view complex.old.plant) (P.view complex.new.plant) result }
-    ensures between { OnOk result (IsBetween complex.new.base complex.new.journal.batches complex.new.current complex.new.placed complex.new.level member.new.batch member.new.checkpoint) }
-    ensures rests1 { OnOk result (RestsAt P.tells complex.new.pair.first.alive complex.new.first (C.count complex.new.pair.first.copy) member.new.checkpoint.pages (C.reads (disk_now (P.view complex.new.plant) Ckpt1).bytes)) }
-    ensures rests2 { OnOk result (RestsAt P.tells complex.new.pair.second.alive complex.new.second (C.count complex.new.pair.second.copy) member.new.checkpoint.pages (C.reads (disk_now (P.view complex.new.plant) Ckpt2).bytes)) }
     ensures kept { OnOk result (AreAllKept complex.new.journal.batches (P.view complex.new.plant).now) }
-    ensures config { member.new.checkpoint.tables.config ≡ member.old.checkpoint.tables.config }
-    ensures order { member.new.checkpoint.tables.order ≤ member.old.checkpoint.tables.order + orders_most }
-    ensures level { OnOk result (member.new.checkpoint.level ≤ member.old.checkpoint.level + 2) }
+    ensures sound { OnOk result (P.tells → IsToldSound (run complex.new.base (kept_all complex.new.journal.batches))) }
+    ensures config { OnOk result (member.new.checkpoint.tables.config ≡ member.old.checkpoint.tables.config) }
+    ensures at_lock { OnOk result (IsAtLock complex.new.current complex.new.placed member.new.batch member.new.checkpoint member.new.room) }
+    ensures calm1 { OnOk result (IsCalm complex.new.pair.first.alive complex.new.first (C.count complex.new.pair.first.copy) (length member.new.room)) }
+    ensures calm2 { OnOk result (IsCalm complex.new.pair.second.alive complex.new.second (C.count complex.new.pair.second.copy) (length member.new.room)) }
+    ensures low1 { OnOk result (ReadsLow P.tells complex.new.pair.first.alive member.old.checkpoint.tables.config (length complex.new.journal.batches) (C.reads (disk_now (P.view complex.new.plant) Ckpt1).bytes)) }
+    ensures low2 { OnOk result (ReadsLow P.tells complex.new.pair.second.alive member.old.checkpoint.tables.config (length complex.new.journal.batches) (C.reads (disk_now (P.view complex.new.plant) Ckpt2).bytes)) }
+    ensures level { OnOk result (complex.new.level ≤ complex.old.level + 2) }
 {
     let deck = match read_deck(alloc, own, cards) {
         Ok(deck) => deck,
@@ -97,12 +104,12 @@ pub fn play_locked_deck<P: Plant + Drop, C: Steady + Drop>(
         }
         Err(DeckNo::NoMemory) => return Err(NodeNo::NoMemory),
     };
-    let by = member.id;
-    if let Err(why) = complex.try_lock(by, false) {
+    if let Err(why) = member.lock(complex, false) {
         return deny(member, alloc, complex, step, why);
     }
+    take_hold(member, alloc, complex)?;
     play_deck(member, alloc, complex, step, deck.fields, deck.text)?;
-    let Ok(()) = complex.free(by, false) else {
+    let Ok(()) = member.free(complex, false) else {
         unreachable!();
     };
     Ok(())

@@ -1,11 +1,9 @@
 //! A text into a member's groups on the spool volumes.
 ghost use Rattle.std.specs.Prelude.{◌≡◌, ◌≢◌, ◌≤◌, ◌<◌, ◌==◌, ◌∷◌, [], ℕ, All, None, Some, OnOk, length, slice_get};
-ghost use Rattle.mas_types.specs.declared.ids.Dev.TheVariants.{Spool};
 ghost use Rattle.mas_types.specs.declared.jobs.Text.TheVariants.{Whole};
 ghost use Rattle.mas_types.specs.Fit.{AreLines};
 ghost use Rattle.mas_types.specs.declared.ids.GroupNo.{GroupNo};
 ghost use Rattle.mas_types.specs.Owners.{groups_needed};
-ghost use Rattle.spool_disk.specs.View.{disk_now};
 ghost use Rattle.spool_text.specs.Texts.{packed};
 ghost use Rattle.spool_volumes.specs.Volumes.{volume_of as volume_of_lem};
 ghost use Rattle.mas_complex.specs.Journals.{kept_all};
@@ -89,7 +87,7 @@ fn write_page<P: Plant + Drop, C: Steady + Drop>(
     requires text { AreLines text.now }
     requires place { place < groups_needed text.now }
     requires group { IsGroupOf complex.old.base.config group }
-    requires held { IsHeldBy by group (run complex.old.base (kept_all complex.old.journal.batches)) }
+    requires held { P.tells → IsHeldBy by group (run complex.old.base (kept_all complex.old.journal.batches)) }
     ensures pair { complex.new.pair ≡ complex.old.pair }
     ensures base { complex.new.base ≡ complex.old.base }
     ensures since { complex.new.since ≡ complex.old.since }
@@ -129,7 +127,7 @@ pub fn write_pages<P: Plant + Drop, C: Steady + Drop>(
     requires as_many { length groups.now ≡ groups_needed text.now }
     requires rise { Rise groups.now }
     requires within { All (IsGroupOf complex.old.base.config) groups.now }
-    requires held { All (λ g. IsHeldBy by g (run complex.old.base (kept_all complex.old.journal.batches))) groups.now }
+    requires held { P.tells → All (λ g. IsHeldBy by g (run complex.old.base (kept_all complex.old.journal.batches))) groups.now }
     ensures pair { complex.new.pair ≡ complex.old.pair }
     ensures base { complex.new.base ≡ complex.old.base }
     ensures since { complex.new.since ≡ complex.old.since }
@@ -234,7 +232,7 @@ pub fn spool_text<P: Plant + Drop, C: Steady + Drop>(
     requires rise { Rise groups.now }
     requires some { 1 ≤ complex.old.base.config.groups }
     requires within { All (IsGroupOf complex.old.base.config) groups.now }
-    requires held { All (λ g. IsHeldBy by g (run complex.old.base (kept_all complex.old.journal.batches))) groups.now }
+    requires held { P.tells → All (λ g. IsHeldBy by g (run complex.old.base (kept_all complex.old.journal.batches))) groups.now }
     ensures pair { complex.new.pair ≡ complex.old.pair }
     ensures base { complex.new.base ≡ complex.old.base }
     ensures since { complex.new.since ≡ complex.old.since }

@@ -8,43 +8,63 @@ use Rattle.table_queues.specs.Telling.{Tell, TellSound}
 use Rattle.mas_complex.specs.Journals.{begun, end_of, entries_reserved, fated, kept_all}
 use Rattle.mas_complex.specs.Meaning.{run}
 use Rattle.member_node.specs.Batches.{level_with}
-use Rattle.member_node.specs.Copies.{room_with}
 use Rattle.member_node.proofs.WriteLemmas.{none_out, queue_kept}
 use Rattle.member_steps.specs.Steps.{AreAllKept}
-use Rattle.member_steps.proofs.StepLemmas.{journal_kept, kept_push, level_most, step_unplayed, step_unwritten}
-use Rattle.member_decks.proofs.KeepLemmas.{room_left, step_kept}
+use Rattle.member_steps.proofs.StepLemmas.{journal_kept, kept_push, level_most}
+use Rattle.member_decks.proofs.KeepLemmas.{copies_kept, copies_none, copies_unwritten, keep_unwritten}
 use Rattle.member_decks.proofs.keeping.keep_batch.Goals as goal
 
-pub returns-in_default-clause-step : goal.returns-in_default-clause-step
-returns-in_default-clause-step g c =
+pub returns-in_default-clause-acts : goal.returns-in_default-clause-acts
+returns-in_default-clause-acts g c =
     let P = g.P.Plant in
+    let x = c.args.complex.now in
+    rw (c.ready.ensures.pair, c.ready.ensures.plant) (copies_none P.tells c.args.member.now.id.0 x.pair.first.alive x.pair.second.alive (P.view x.plant))
+
+pub returns-in_default-clause-leaves : goal.returns-in_default-clause-leaves
+returns-in_default-clause-leaves g c =
     let x = c.args.complex.now in
     let e = c.in_default.ensures.err in
-    rw (c.ready.ensures.pair, c.ready.ensures.plant, c.ready.ensures.current, e.0, e.2)
-    (step_unplayed P.tells c.args.member.now.id.0 [] (begun (P.view x.plant).now c.args.member.now.id c.args.member.now.batch) x.journal.batches (end_of x.placed x.current x.journal.batches)
-    x.pair.first.alive x.pair.second.alive (P.view x.plant) (none_out x.journal.batches x.journal.batches x.placed x.current refl c.requires.unplaced c.requires.none))
+    rw (c.ready.ensures.current, e.0, e.2) (none_out x.journal.batches x.journal.batches x.placed x.current refl c.requires.unplaced c.requires.none)
 
-pub returns-in_err-write-clause-step : goal.returns-in_err-write-clause-step
-returns-in_err-write-clause-step g c =
+pub returns-in_err-write-clause-acts : goal.returns-in_err-write-clause-acts
+returns-in_err-write-clause-acts g c =
     let P = g.P.Plant in
     let x = c.args.complex.now in
-    let y = c.ready.new.complex in
     let z = c.write.new.complex in
     let e = c.ready.ensures in
     let by = c.args.member.now.id in
     let grown = c.in-Ok.ensures.grown c.requires.unplaced in
     let write = rw (e.id, e.plant, e.pair, c.in-Ok.ensures.reserved) at (c.in_err-write.ensures.write x.journal.batches grown.0 grown.1) in
     let p = err_from_is_err_and c.from_residual.result c.from_residual.ensures.1 in
-    rw (p.1, p.2) (step_unwritten P.tells by.0 [] (begun (P.view x.plant).now by c.args.member.now.batch)
-    x.journal.batches (end_of z.placed z.current z.journal.batches) x.pair.first.alive z.pair.first.alive x.pair.second.alive z.pair.second.alive (P.view x.plant) (P.view z.plant) _ write)
+    rw (p.1, p.2) (copies_unwritten P.tells by.0 (begun (P.view x.plant).now by c.args.member.now.batch) x.journal.batches (end_of z.placed z.current z.journal.batches) x.pair.first.alive z.pair.first.alive x.pair.second.alive z.pair.second.alive (P.view x.plant) (P.view z.plant) _ write)
+
+pub returns-in_err-write-clause-leaves : goal.returns-in_err-write-clause-leaves
+returns-in_err-write-clause-leaves g c =
+    let P = g.P.Plant in
+    let x = c.args.complex.now in
+    let z = c.write.new.complex in
+    let e = c.ready.ensures in
+    let by = c.args.member.now.id in
+    let grown = c.in-Ok.ensures.grown c.requires.unplaced in
+    let write = rw (e.id, e.plant, e.pair, c.in-Ok.ensures.reserved) at (c.in_err-write.ensures.write x.journal.batches grown.0 grown.1) in
+    let p = err_from_is_err_and c.from_residual.result c.from_residual.ensures.1 in
+    rw (p.1, p.2) (keep_unwritten P.tells by.0 (begun (P.view x.plant).now by c.args.member.now.batch) x.journal.batches (end_of z.placed z.current z.journal.batches) x.pair.first.alive z.pair.first.alive x.pair.second.alive z.pair.second.alive (P.view x.plant) (P.view z.plant) _ write)
+
+pub ready-requires-clause-done : goal.ready-requires-clause-done
+ready-requires-clause-done g c told = ∣ c.requires.done told ∣₁
+
+pub write-requires-clause-replied : goal.write-requires-clause-replied
+write-requires-clause-replied g c told =
+    let e = c.ready.ensures in
+    rw (e.base, e.kept, c.in-Ok.ensures.reserved) (∣ (c.requires.done told).replied ∣₁)
 
 pub write-requires-clause-texts : goal.write-requires-clause-texts
 write-requires-clause-texts g c told =
     let e = c.ready.ensures in
     rw (e.plant, e.base, e.kept, c.in-Ok.ensures.reserved) (c.requires.texts told)
 
-pub returns-clause-step : goal.returns-clause-step
-returns-clause-step g c =
+pub returns-clause-acts : goal.returns-clause-acts
+returns-clause-acts g c =
     let P = g.P.Plant in
     let x = c.args.complex.now in
     let z = c.write.new.complex in
@@ -52,8 +72,18 @@ returns-clause-step g c =
     let by = c.args.member.now.id in
     let grown = c.in-Ok.ensures.grown c.requires.unplaced in
     let write = rw (e.id, e.plant, e.pair, c.in-Ok.ensures.reserved) at (c.in_ok-write.ensures.write x.journal.batches grown.0 grown.1) in
-    step_kept P.tells by.0 (begun (P.view x.plant).now by c.args.member.now.batch)
-    x.journal.batches (end_of z.placed z.current z.journal.batches) x.pair.first.alive z.pair.first.alive x.pair.second.alive z.pair.second.alive (P.view x.plant) (P.view z.plant) write
+    copies_kept P.tells by.0 (begun (P.view x.plant).now by c.args.member.now.batch) x.journal.batches (end_of z.placed z.current z.journal.batches) x.pair.first.alive z.pair.first.alive x.pair.second.alive z.pair.second.alive (P.view x.plant) (P.view z.plant) write
+
+pub returns-clause-leaves : goal.returns-clause-leaves
+returns-clause-leaves g c =
+    let P = g.P.Plant in
+    let x = c.args.complex.now in
+    let z = c.write.new.complex in
+    let e = c.ready.ensures in
+    let by = c.args.member.now.id in
+    let grown = c.in-Ok.ensures.grown c.requires.unplaced in
+    let write = rw (e.id, e.plant, e.pair, c.in-Ok.ensures.reserved) at (c.in_ok-write.ensures.write x.journal.batches grown.0 grown.1) in
+    write.journal
 
 pub returns-clause-between : goal.returns-clause-between
 returns-clause-between g c =
@@ -72,13 +102,13 @@ returns-clause-between g c =
     record {
       none = k.none;
       unplaced = k.unplaced;
-      same_level = k.level ∙ ap (level_with c.in-Ok.draft) (e.same_level ∙ c.requires.same_level) ∙ sym c.in-Ok.ensures.level;
+      same_level = λ told. k.level ∙ ap (level_with c.in-Ok.draft) (e.same_level ∙ c.requires.same_level told) ∙ sym c.in-Ok.ensures.level;
       nothing = c.in-Ok.ensures.empty;
       drawn = c.in-Ok.ensures.drawn;
-      queue = subst (Tell n.tables) (queue_kept x.base z.base Q (run Q c.args.member.now.batch) x.journal.batches z.journal.batches (P.view z.plant).now b c.args.member.now.batch
-          (k.base ∙ e.base) refl journal (ap entries_reserved c.in-Ok.ensures.reserved) refl) (subst (λ (u : Tables). Tell u (run Q c.args.member.now.batch)) (sym e.tables) c.requires.done.queue);
-      fit = rw e.tables c.requires.done.fit;
-      sound = subst TellSound (sym e.tables) c.requires.sound;
+      queue = λ told. subst (Tell n.tables) (queue_kept x.base z.base Q (run Q c.args.member.now.batch) x.journal.batches z.journal.batches (P.view z.plant).now b c.args.member.now.batch
+          (k.base ∙ e.base) refl journal (ap entries_reserved c.in-Ok.ensures.reserved) refl) (subst (λ (u : Tables). Tell u (run Q c.args.member.now.batch)) (sym e.tables) (c.requires.done told).queue);
+      fit = rw e.tables c.requires.fit;
+      sound = λ told. subst TellSound (sym e.tables) (c.requires.sound told);
     }
 
 pub returns-clause-kept : goal.returns-clause-kept
@@ -101,12 +131,7 @@ returns-clause-level g c =
     let old : ℕ = c.args.member.now.checkpoint.level in
     subst (λ (n : ℕ). n ≤ old + 1) (sym c.in-Ok.ensures.level) (level_most c.in-Ok.draft old)
 
-pub returns-clause-room1 : goal.returns-clause-room1
-returns-clause-room1 g c on =
-    let C = g.C.Copying in
-    room_left c.in-Ok.draft C.room_after _ _ (c.in_ok-write.ensures.room1 on ∙ ap (λ p. room_with c.in-Ok.draft C.room_after (C.room p.first.copy)) c.ready.ensures.pair)
-
-pub returns-clause-room2 : goal.returns-clause-room2
-returns-clause-room2 g c on =
-    let C = g.C.Copying in
-    room_left c.in-Ok.draft C.room_after _ _ (c.in_ok-write.ensures.room2 on ∙ ap (λ p. room_with c.in-Ok.draft C.room_after (C.room p.second.copy)) c.ready.ensures.pair)
+pub returns-clause-reached : goal.returns-clause-reached
+returns-clause-reached g c =
+    let old : ℕ = c.args.complex.now.level in
+    subst (λ (n : ℕ). n ≤ old + 1) (sym (c.in_ok-write.ensures.level ∙ ap (level_with c.in-Ok.draft) c.ready.ensures.same_level)) (level_most c.in-Ok.draft old)

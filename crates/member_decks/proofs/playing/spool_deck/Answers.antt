@@ -38,9 +38,9 @@ spool_text-requires-clause-within g c =
     (subst (λ (k : Config). All (IsGroupOf k) (take c.args.groups (held_by m.id m.checkpoint.tables.owners))) (sym config) (all_within m.id m.checkpoint.tables.owners c.args.groups m.checkpoint.tables.config c.requires.shape.owners))
 
 pub spool_text-requires-clause-held : goal.spool_text-requires-clause-held
-spool_text-requires-clause-held g c =
+spool_text-requires-clause-held g c told =
     let m = c.args.member.now in
     let y = c.free.new.self in
     let list : c.as_slice-2.result.now ≡ held_by m.id m.checkpoint.tables.owners = c.as_slice-2.ensures ∙ c.in-Ok.ensures ∙ ap (held_by m.id) c.as_slice.ensures in
-    let owners : (run y.base (kept_all y.journal.batches)).owners ≡ m.checkpoint.tables.owners = rw (c.free.ensures.base, c.free.ensures.journal) c.requires.owners in
+    let owners : (run y.base (kept_all y.journal.batches)).owners ≡ m.checkpoint.tables.owners = rw (c.free.ensures.base, c.free.ensures.journal) (c.requires.owners told) in
     subst (λ (l : List GroupNo). All (λ h. IsHeldBy m.id h (run y.base (kept_all y.journal.batches))) (take c.args.groups l)) (sym list) (all_held m.id m.checkpoint.tables.owners c.args.groups (run y.base (kept_all y.journal.batches)) owners)

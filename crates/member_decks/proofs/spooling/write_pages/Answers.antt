@@ -35,9 +35,9 @@ write_page-requires-clause-group g c =
     rw c.loop-place.invariant.base (all_at (λ (g : GroupNo). IsGroupOf c.args.complex.now.base.config g) c.args.groups.now c.loop-place.place c.group_at.result c.requires.within c.group_at.ensures)
 
 pub write_page-requires-clause-held : goal.write_page-requires-clause-held
-write_page-requires-clause-held g c =
+write_page-requires-clause-held g c told =
     rw (c.loop-place.invariant.base, c.loop-place.invariant.journal)
-    (all_at (λ (g : GroupNo). IsHeldBy c.args.by g (run c.args.complex.now.base (kept_all c.args.complex.now.journal.batches))) c.args.groups.now c.loop-place.place c.group_at.result c.requires.held c.group_at.ensures)
+    (all_at (λ (g : GroupNo). IsHeldBy c.args.by g (run c.args.complex.now.base (kept_all c.args.complex.now.journal.batches))) c.args.groups.now c.loop-place.place c.group_at.result (c.requires.held told) c.group_at.ensures)
 
 pub loop-place-preserved : goal.loop-place-preserved
 loop-place-preserved g c =

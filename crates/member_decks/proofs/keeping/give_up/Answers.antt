@@ -1,0 +1,37 @@
+use Rattle.std.proofs.Common.{inl, refl, arith}
+use Rattle.mas_complex.specs.Journals.{begun, end_of}
+use Rattle.member_node.proofs.WriteLemmas.{none_out}
+use Rattle.member_decks.proofs.KeepLemmas.{copies_none, up_copies, up_kept, up_unkept}
+use Rattle.member_decks.proofs.keeping.give_up.Goals as goal
+
+pub returns-then-len-eq0-clause-acts : goal.returns-then-len-eq0-clause-acts
+returns-then-len-eq0-clause-acts g c =
+    let P = g.P.Plant in
+    let x = c.args.complex.now in
+    copies_none P.tells c.args.member.now.id.0 x.pair.first.alive x.pair.second.alive (P.view x.plant)
+
+pub returns-then-len-eq0-clause-leaves : goal.returns-then-len-eq0-clause-leaves
+returns-then-len-eq0-clause-leaves g c =
+    let x = c.args.complex.now in
+    inl (none_out x.journal.batches x.journal.batches x.placed x.current refl c.requires.unplaced c.requires.none)
+
+pub returns-in-Ok-clause-acts : goal.returns-in-Ok-clause-acts
+returns-in-Ok-clause-acts g c =
+    let P = g.P.Plant in
+    let x = c.args.complex.now in
+    let z = c.keep_batch.new.complex in
+    up_copies P.tells c.args.member.now.id.0 x.pair.first.alive z.pair.first.alive x.pair.second.alive z.pair.second.alive (P.view x.plant) (P.view z.plant) c.in-Ok.ensures.acts
+
+pub returns-in-Ok-clause-leaves : goal.returns-in-Ok-clause-leaves
+returns-in-Ok-clause-leaves g c =
+    let P = g.P.Plant in
+    let x = c.args.complex.now in
+    let z = c.keep_batch.new.complex in
+    up_kept x.journal.batches (end_of z.placed z.current z.journal.batches) (begun (P.view x.plant).now c.args.member.now.id c.args.member.now.batch) (P.view z.plant).now (omega arith) c.in-Ok.ensures.leaves
+
+pub returns-in-Err-clause-leaves : goal.returns-in-Err-clause-leaves
+returns-in-Err-clause-leaves g c =
+    let P = g.P.Plant in
+    let x = c.args.complex.now in
+    let z = c.keep_batch.new.complex in
+    up_unkept x.journal.batches (end_of z.placed z.current z.journal.batches) (begun (P.view x.plant).now c.args.member.now.id c.args.member.now.batch) (P.view z.plant).now (omega arith) c.in-Err.no c.in-Err.ensures.leaves
