@@ -1,5 +1,5 @@
 -- Batches that are kept one after another.
-use Rattle.std.proofs.Common.{◌≡◌, ◌⊎◌, ⊎_elim, ℕ, ◌≤◌, List, [], ◌∷◌, ◌++◌, if◌then◌else◌, refl, sym, ◌∙◌, ap, subst, arith, append_assoc, All}
+use Rattle.std.proofs.Common.{◌≡◌, inr, ⊎_elim, ℕ, suc, ◌≤◌, List, [], ◌∷◌, ◌++◌, length, if◌then◌else◌, refl, sym, ◌∙◌, ap, arith, append_assoc}
 use Rattle.std.proofs.lemmas.List.Elements.{All-nil, All-cons}
 use Rattle.mas_types.specs.declared.ids.MemberId.{MemberId}
 use Rattle.mas_types.specs.declared.journals.Batch.{Batch}
@@ -8,7 +8,7 @@ use Rattle.mas_types.specs.declared.journals.Fate.{Fate}
 use Rattle.mas_types.specs.declared.journals.Fate.TheVariants.{Kept, Flying}
 use Rattle.mas_types.specs.Journal.{is_kept}
 use Rattle.mas_complex.specs.Journals.{kept_all}
-use Rattle.member_decks.specs.Batches.{IsKeptBatch, AreAll, AreSome, OneFlies}
+use Rattle.member_decks.specs.Batches.{IsKeptBatch, AreAll, AreCut, AreSome, OneFlies}
 use Rattle.member_decks.specs.Decks.{all_entries}
 use Rattle.member_steps.specs.Steps.{AreAllKept}
 
@@ -64,12 +64,24 @@ module _ (by : MemberId) where
   flies_not_all from now [] bs flies all = absurd flies
   flies_not_all from now (es ∷ ess) [] flies all = absurd all
   flies_not_all from now (es ∷ ess) (b ∷ bs) flies all = ⊎_elim
-      (λ here. clash (sym here.0.flies ∙ all.0.kept))
+      (λ here. clash (sym here.1.2.flies ∙ all.0.kept))
       (λ behind. flies_not_all b.last now ess bs behind.1 all.1)
       flies
     where
       clash : Flying ≡ Kept → ⊥
       clash e = absurd (cc)
+
+  -- the first ones of them, with the first entries of the next one perhaps
+  pub some_cut : (from now : ℕ) (ess : List (List Entry)) (bs : List Batch) → AreSome by from now ess bs → AreCut by from now ess bs
+  some_cut from now [] bs some = some
+  some_cut from now (es ∷ ess) [] some = tt
+  some_cut from now (es ∷ ess) (b ∷ bs) some = inr (some.0, some_cut b.last now ess bs some.1)
+
+  pub all_length : (from now : ℕ) (ess : List (List Entry)) (bs : List Batch) → AreAll by from now ess bs → length bs ≡ length ess
+  all_length from now [] [] all = refl
+  all_length from now [] (b ∷ bs) all = absurd all
+  all_length from now (es ∷ ess) [] all = absurd all
+  all_length from now (es ∷ ess) (b ∷ bs) all = ap (λ (n : ℕ). suc n) (all_length b.last now ess bs all.1)
 
 pub entries_append : (xs ys : List (List Entry)) → all_entries (xs ++ ys) ≡ all_entries xs ++ all_entries ys
 entries_append [] ys = refl

@@ -9,6 +9,7 @@ pub mod TurnLemmas
 pub mod PlayLemmas
 pub mod ScriptLemmas
 pub mod RunLemmas
+pub mod OnlyLemmas
 pub mod RefusalLemmas
 pub mod ResetLemmas
 pub mod WarmLemmas

@@ -17,12 +17,11 @@ use Rattle.lock_cycle.specs.declared.standings.Standing.{Standing}
 use Rattle.lock_cycle.specs.declared.answers.LockNo.{LockNo}
 use Rattle.lock_cycle.specs.Books.{Book, beginner, new_book, standing, try_refusal, after_try, after_free}
 use Rattle.spool_disk.specs.View.{View}
-use Rattle.mas_complex.specs.Journals.{begun}
 use Rattle.member_decks.specs.Steps.{IsDeckStep}
 use Rattle.member_node.specs.declared.member.NodeNo.{NodeNo}
 use Rattle.member_node.specs.declared.member.NodeNo.TheVariants as no_node
 use Rattle.member_steps.specs.Locked.{IsDenial, IsOpenTo, denied_lines}
-use Rattle.member_steps.specs.Steps.{IsStep, entry_of, step_lines}
+use Rattle.member_steps.specs.Steps.{GivesStep}
 use Rattle.mas_run.specs.Stops.{IsStepOf}
 use Rattle.mas_run.specs.Turns.{Task, Reads, Gives, Granted, Denied, task_turn, deck_turn, after_deck}
 use Rattle.mas_run.proofs.StepLemmas.{closed_step_of, command_step_of, deck_step_of, denied_counts, denied_step_of, granted_counts, unplayed_step_of}
@@ -47,12 +46,12 @@ module _ {T : Type 0} (told : Type 0) (Q : Queue) (per at : ℕ) (front batches 
 
   -- what the member's call says of a command, where the member is SYSA
   pub command_by_try : (k : Book) (by : MemberId) (c given : Command) → by ≡ sysa → c ≡ given
-      → (try_refusal k by false ≡ None → IsStep told by.0 (step_lines Q by at c) (begun old.now by (entry_of Q by at c ∷ [])) front batches a a' b b' old new result)
+      → (try_refusal k by false ≡ None → GivesStep told by at c Q front batches a a' b b' old new result)
       → ((why : LockNo) → try_refusal k by false ≡ Some why → IsDenial told by.0 (denied_lines by at why) front batches a a' b b' old new result)
       → IsStepOf told (task_turn (try_refusal k sysa false) (Gives given)) Q per at front batches a a' b b' old new result
   command_by_try k by c given same copied got refused =
-      let got_so = subst (λ (m : MemberId). try_refusal k m false ≡ None → IsStep told m.0 (step_lines Q m at given) (begun old.now m (entry_of Q m at given ∷ [])) front batches a a' b b' old new result) same
-      (subst (λ (d : Command). try_refusal k by false ≡ None → IsStep told by.0 (step_lines Q by at d) (begun old.now by (entry_of Q by at d ∷ [])) front batches a a' b b' old new result) copied got) in
+      let got_so = subst (λ (m : MemberId). try_refusal k m false ≡ None → GivesStep told m at given Q front batches a a' b b' old new result) same
+      (subst (λ (d : Command). try_refusal k by false ≡ None → GivesStep told by at d Q front batches a a' b b' old new result) copied got) in
       let refused_so = subst (λ (m : MemberId). (why : LockNo) → try_refusal k m false ≡ Some why → IsDenial told m.0 (denied_lines m at why) front batches a a' b b' old new result) same refused in
       by_try (try_refusal k sysa false) (Gives given)
       (λ is. command_step_of told given Q per at front batches a a' b b' old new result (got_so is))

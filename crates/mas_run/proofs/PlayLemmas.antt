@@ -1,9 +1,11 @@
 -- Steps that are played one after another.
-use Rattle.std.proofs.Common.{◌≡◌, ◌⊎◌, inl, inr, ⊎_elim, ℕ, suc, ◌+◌, ◌≤◌, ◌<◌, Bool, List, [], ◌∷◌, ◌++◌, length, map, take, drop, All, Option, Some, None, Result, Ok, Err, refl, sym, ◌∙◌, ap, subst, arith, append_assoc, append-nil}
+use Rattle.std.proofs.Common.{◌≡◌, ◌⊎◌, inl, inr, ⊎_elim, ℕ, suc, ◌+◌, ◌*◌, ◌≤◌, ◌<◌, Bool, List, [], ◌∷◌, ◌++◌, length, map, take, drop, All, Option, Some, None, Ok, Err, refl, sym, ◌∙◌, ap, subst, arith, append_assoc, append-nil}
 use Rattle.std.proofs.Math.Seq.{take-append_seam, take-append-add, drop-append_seam}
 use Rattle.std.proofs.lemmas.List.{length-append, take_all}
 use Rattle.std.proofs.lemmas.List.Elements.{All-nil, All-cons, All-head, All-tail, All-append, All-weaker}
 use Rattle.mas_types.specs.declared.answers.Status.TheVariants as status
+use Rattle.mas_types.specs.declared.commands.Command.{Command}
+use Rattle.mas_types.specs.declared.jobs.JobFields.{JobFields}
 use Rattle.mas_types.specs.declared.ids.Dev.{Dev}
 use Rattle.mas_types.specs.declared.ids.Dev.TheVariants.{Spool}
 use Rattle.mas_types.specs.declared.journals.Batch.{Batch}
@@ -18,105 +20,165 @@ use Rattle.spool_disk.specs.Acts.{Goes}
 use Rattle.spool_disk.specs.declared.plant.Part.TheVariants.{Disk, Console}
 use Rattle.mas_complex.specs.Headline.{whole}
 use Rattle.mas_complex.specs.Journals.{kept_all}
-use Rattle.mas_complex.specs.Meaning.{run}
+use Rattle.mas_complex.specs.Meaning.{run, step}
 use Rattle.mas_complex.proofs.Batches.{kept_all_append}
 use Rattle.member_decks.specs.declared.opening.Opened.{Opened}
 use Rattle.member_decks.specs.declared.opening.Opened.TheVariants as opened
-use Rattle.member_decks.specs.Batches.{AreAll, OneFlies}
-use Rattle.member_decks.specs.Decks.{all_entries, ends_as}
-use Rattle.member_decks.specs.Steps.{IsFoundLost, opened_queue}
+use Rattle.member_decks.specs.Batches.{AreAll, AreSome, OneFlies}
+use Rattle.member_decks.specs.Decks.{all_entries, batches_behind, closing_reply, deck_batches, ends_as, finishing, given_in, opening}
+use Rattle.member_decks.specs.Steps.{AreOf, IsFoundLost, LiesOn, opened_queue}
 use Rattle.member_node.specs.declared.member.NodeNo.{NodeNo}
 use Rattle.member_node.specs.declared.member.NodeNo.TheVariants as no_node
 use Rattle.member_node.specs.Calls.{Course, Grows, console_now}
 use Rattle.member_node.proofs.CourseLemmas.{course_none, course_then, rose_later, rose_more}
 use Rattle.member_node.proofs.WriteLemmas.{run_append}
 use Rattle.member_steps.specs.Saying.{torn, Breaks}
-use Rattle.member_steps.specs.Steps.{AreAllKept}
+use Rattle.member_steps.specs.Steps.{AreAllKept, entry_of, reply_to}
 use Rattle.mas_run.specs.Plays.{HavePlayed, ArePlayed}
-use Rattle.mas_run.specs.Runs.{IsHistory, IsSettled, Adds, HasLost, IsStopped}
-use Rattle.mas_run.specs.Steps.{FindsLost, FindLost, LeavesVolumes, step_batches, step_lines, after_step, queue_after, batches_from, batches_of, output_from, output, first_batches, next_batches, loses_after_step, loses_after}
+use Rattle.mas_run.specs.Runs.{IsBegun, IsHistory, IsSettled, Adds, HasLost, IsStopped}
+use Rattle.mas_run.specs.Steps.{AreOutcomes, FindsLost, FindLost, IsOutcome, LeavesVolumes, Outcome, after_step, batches_in, first_in, lines_in, loses_after, loses_after_step, next_in, outcome_of, outcomes_from, outcomes_of, queue_after, step_batches}
 use Rattle.mas_run.specs.Stops.{IsLeftOrLost, IsStepOf}
 use Rattle.mas_run.specs.Turns.{Reads, Gives, Turn, Granted, Denied, Closed, Loss, Unplayed}
 use Rattle.mas_run.specs.Volumes.{AreVolumesKept}
-use Rattle.mas_run.proofs.BatchLemmas.{all_join, all_kept, entries_append, flies_not_all, kept_entries, some_not_all}
+use Rattle.mas_run.proofs.BatchLemmas.{all_join, all_kept, all_length, entries_append, flies_not_all, kept_entries, some_cut, some_not_all}
 use Rattle.mas_run.proofs.CourseLemmas.{has_lost_more, has_lost_later}
 use Rattle.mas_run.proofs.VolumeLemmas.{kept_none, kept_then}
 
 -- ONE STEP MORE
 
-module _ (s : Turn) where
-  pub queue_more : (Q : Queue) (at : ℕ) (xs : List Turn) → queue_after Q at (xs ++ s ∷ []) ≡ after_step (queue_after Q at xs) (at + length xs) s
-  queue_more Q at [] = let e : at + 0 ≡ at = omega arith in ap (λ (n : ℕ). after_step Q n s) (sym e)
-  queue_more Q at (x ∷ xs) =
-      let e : at + 1 + length xs ≡ at + length (x ∷ xs) = omega arith in
-      queue_more (after_step Q at x) (at + 1) xs ∙ ap (λ (n : ℕ). after_step (queue_after (after_step Q at x) (at + 1) xs) n s) e
+-- what the table gives for steps, and for others behind them
+outcomes_join : (Q : Queue) (at : ℕ) (xs ys : List Turn) → outcomes_from Q at (xs ++ ys) ≡ outcomes_from Q at xs ++ outcomes_from (queue_after Q at xs) (at + length xs) ys
+outcomes_join Q at [] ys = let e : at + 0 ≡ at = omega arith in ap (λ (n : ℕ). outcomes_from Q n ys) (sym e)
+outcomes_join Q at (x ∷ xs) ys =
+    let e : at + 1 + length xs ≡ at + length (x ∷ xs) = omega arith in
+    ap (λ (os : List Outcome). outcome_of Q at x ∷ os) (outcomes_join (after_step Q at x) (at + 1) xs ys)
+    ∙ ap (λ (n : ℕ). outcome_of Q at x ∷ (outcomes_from (after_step Q at x) (at + 1) xs ++ outcomes_from (queue_after (after_step Q at x) (at + 1) xs) n ys)) e
 
-  output_more : (Q : Queue) (at : ℕ) (xs : List Turn) → output_from Q at (xs ++ s ∷ []) ≡ output_from Q at xs ++ step_lines (queue_after Q at xs) (at + length xs) s
-  output_more Q at [] = let e : at + 0 ≡ at = omega arith in append-nil (step_lines Q at s) ∙ ap (λ (n : ℕ). step_lines Q n s) (sym e)
-  output_more Q at (x ∷ xs) =
-      let e : at + 1 + length xs ≡ at + length (x ∷ xs) = omega arith in
-      ap (λ (l : List (List ℕ)). step_lines Q at x ++ l) (output_more (after_step Q at x) (at + 1) xs ∙ ap (λ (n : ℕ). output_from (after_step Q at x) (at + 1) xs ++ step_lines (queue_after (after_step Q at x) (at + 1) xs) n s) e)
-      ∙ sym (append_assoc (step_lines Q at x) (output_from (after_step Q at x) (at + 1) xs) (step_lines (queue_after (after_step Q at x) (at + 1) xs) (at + length (x ∷ xs)) s))
+batches_join : (os ps : List Outcome) → batches_in (os ++ ps) ≡ batches_in os ++ batches_in ps
+batches_join [] ps = refl
+batches_join (o ∷ os) ps = ap (λ (l : List (List Entry)). o.batches ++ l) (batches_join os ps) ∙ sym (append_assoc o.batches (batches_in os) (batches_in ps))
 
-  batches_more : (Q : Queue) (at : ℕ) (xs : List Turn) → batches_from Q at (xs ++ s ∷ []) ≡ batches_from Q at xs ++ step_batches (queue_after Q at xs) (at + length xs) s
-  batches_more Q at [] = let e : at + 0 ≡ at = omega arith in append-nil (step_batches Q at s) ∙ ap (λ (n : ℕ). step_batches Q n s) (sym e)
-  batches_more Q at (x ∷ xs) =
-      let e : at + 1 + length xs ≡ at + length (x ∷ xs) = omega arith in
-      ap (λ (l : List (List Entry)). step_batches Q at x ++ l) (batches_more (after_step Q at x) (at + 1) xs ∙ ap (λ (n : ℕ). batches_from (after_step Q at x) (at + 1) xs ++ step_batches (queue_after (after_step Q at x) (at + 1) xs) n s) e)
-      ∙ sym (append_assoc (step_batches Q at x) (batches_from (after_step Q at x) (at + 1) xs) (step_batches (queue_after (after_step Q at x) (at + 1) xs) (at + length (x ∷ xs)) s))
+lines_join : (os ps : List Outcome) → lines_in (os ++ ps) ≡ lines_in os ++ lines_in ps
+lines_join [] ps = refl
+lines_join (o ∷ os) ps = ap (λ (l : List (List ℕ)). o.lines ++ l) (lines_join os ps) ∙ sym (append_assoc o.lines (lines_in os) (lines_in ps))
 
-  loses_more : (d : Dev) (xs : List Turn) (n : ℕ) → loses_after d (xs ++ s ∷ []) n ≡ loses_after_step d s (loses_after d xs n)
-  loses_more d [] n = refl
-  loses_more d (x ∷ xs) n = loses_more d xs (loses_after_step d x n)
+loses_more : (s : Turn) (d : Dev) (xs : List Turn) (n : ℕ) → loses_after d (xs ++ s ∷ []) n ≡ loses_after_step d s (loses_after d xs n)
+loses_more s d [] n = refl
+loses_more s d (x ∷ xs) n = loses_more s d xs (loses_after_step d x n)
 
--- the queue after their batches
-run_batches : (Q : Queue) (at : ℕ) (steps : List Turn) → run Q (all_entries (batches_from Q at steps)) ≡ queue_after Q at steps
-run_batches Q at [] = refl
-run_batches Q at (x ∷ steps) =
-    ap (run Q) (entries_append (step_batches Q at x) (batches_from (after_step Q at x) (at + 1) steps))
-    ∙ run_append Q (all_entries (step_batches Q at x)) (all_entries (batches_from (after_step Q at x) (at + 1) steps))
-    ∙ run_batches (after_step Q at x) (at + 1) steps
+-- the queue after the table's batches
+run_outcomes : (Q : Queue) (at : ℕ) (steps : List Turn) → run Q (all_entries (batches_in (outcomes_from Q at steps))) ≡ queue_after Q at steps
+run_outcomes Q at [] = refl
+run_outcomes Q at (x ∷ steps) =
+    ap (run Q) (entries_append (step_batches Q at x) (batches_in (outcomes_from (after_step Q at x) (at + 1) steps)))
+    ∙ run_append Q (all_entries (step_batches Q at x)) (all_entries (batches_in (outcomes_from (after_step Q at x) (at + 1) steps)))
+    ∙ run_outcomes (after_step Q at x) (at + 1) steps
+
+-- outcomes are as many as the steps
+pub outcomes_length : (at : ℕ) (steps : List Turn) (os : List Outcome) → AreOutcomes at steps os → length os ≡ length steps
+outcomes_length at [] [] are = refl
+outcomes_length at [] (o ∷ os) are = absurd are
+outcomes_length at (s ∷ steps) [] are = absurd are
+outcomes_length at (s ∷ steps) (o ∷ os) are = ap (λ (n : ℕ). suc n) (outcomes_length (at + 1) steps os are.1)
+
+shapes_join : (at : ℕ) (xs ys : List Turn) (os ps : List Outcome) → AreOutcomes at xs os → AreOutcomes (at + length xs) ys ps → AreOutcomes at (xs ++ ys) (os ++ ps)
+shapes_join at [] ys [] ps one two = let e : at + 0 ≡ at = omega arith in subst (λ (n : ℕ). AreOutcomes n ys ps) e two
+shapes_join at [] ys (o ∷ os) ps one two = absurd one
+shapes_join at (x ∷ xs) ys [] ps one two = absurd one
+shapes_join at (x ∷ xs) ys (o ∷ os) ps one two =
+    let e : at + length (x ∷ xs) ≡ at + 1 + length xs = omega arith in
+    (one.0, shapes_join (at + 1) xs ys os ps one.1 (subst (λ (n : ℕ). AreOutcomes n ys ps) e two))
+
+-- WHAT THE TABLE GIVES
+
+given_of : (Q : Queue) (at : ℕ) (cs : List Command) → AreOf sysa at (given_in Q sysa at cs)
+given_of Q at [] = All-nil (λ (e : Entry). (e.by ≡ sysa) × (e.step ≡ at))
+given_of Q at (c ∷ cs) = All-cons (λ (e : Entry). (e.by ≡ sysa) × (e.step ≡ at)) (entry_of Q sysa at c) (given_in (step Q sysa c).0 sysa at cs) (refl, refl) (given_of (step Q sysa c).0 at cs)
+
+module _ (Q : Queue) (at : ℕ) (text : List (List ℕ)) (lost : Option ℕ) where
+  behind_of : (ends : Opened) → All (AreOf sysa at) (batches_behind Q sysa at text lost ends)
+  behind_of opened.Closed = All-nil (AreOf sysa at)
+  behind_of (opened.Ready n) = All-cons (AreOf sysa at) (given_in Q sysa at (finishing lost n text ∷ [])) [] (given_of Q at (finishing lost n text ∷ [])) (All-nil (AreOf sysa at))
+
+  behind_few : (ends : Opened) → length (batches_behind Q sysa at text lost ends) ≤ 1
+  behind_few opened.Closed = omega arith
+  behind_few (opened.Ready n) = omega arith
+
+deck_shape : (Q : Queue) (at : ℕ) (fields : JobFields) (text : List (List ℕ)) (lost : Option ℕ) → IsOutcome at (Granted (Reads fields text lost)) (outcome_of Q at (Granted (Reads fields text lost)))
+deck_shape Q at fields text lost =
+    let first = given_in Q sysa at (opening Q sysa fields (groups_needed text)) in
+    let ends = ends_as Q sysa fields (groups_needed text) in
+    let few = behind_few (run Q first) at text lost ends in (
+      All-cons (AreOf sysa at) first (batches_behind (run Q first) sysa at text lost ends) (given_of Q at (opening Q sysa fields (groups_needed text))) (behind_of (run Q first) at text lost ends),
+      omega (arith, few),
+      (closing_reply (all_entries (deck_batches Q sysa at fields text lost)), refl),
+    )
+
+-- and so for any step
+pub shape_of : (Q : Queue) (at : ℕ) (s : Turn) → IsOutcome at s (outcome_of Q at s)
+shape_of Q at (Granted (Reads fields text lost)) = deck_shape Q at fields text lost
+shape_of Q at (Granted (Gives given)) = (reply_to Q sysa given, refl, refl)
+shape_of Q at (Denied why) = (refl, refl)
+shape_of Q at (Closed end) = (refl, refl)
+shape_of Q at (Loss dev) = (refl, refl)
+shape_of Q at Unplayed = (refl, refl)
+
+pub shapes_of : (Q : Queue) (at : ℕ) (steps : List Turn) → AreOutcomes at steps (outcomes_from Q at steps)
+shapes_of Q at [] = tt
+shapes_of Q at (s ∷ steps) = (shape_of Q at s, shapes_of (after_step Q at s) (at + 1) steps)
 
 -- VOLUMES THAT WERE FOUND LOST
 
 module _ (v0 v v' : View) (per : ℕ) (before : Goes v0 v) (after : Goes v v') where
-  found_in : (ends : Opened) (Q : Queue) (text : List (List ℕ)) (lost : Option ℕ) → IsFoundLost ends per Q sysa text lost v v' → IsFoundLost ends per Q sysa text lost v0 v'
-  found_in ends Q text None found = tt
-  found_in opened.Closed Q text (Some volume) found = absurd found
-  found_in (opened.Ready n) Q text (Some volume) found = (found.0, found.1, rose_later (v0.faults (Disk (Spool volume))) (v.faults (Disk (Spool volume))) (v'.faults (Disk (Spool volume))) (before.faults (Disk (Spool volume))) found.2)
+  found_in : (lost : Option ℕ) → IsFoundLost lost v v' → IsFoundLost lost v0 v'
+  found_in None found = tt
+  found_in (Some volume) found = (found.0, rose_later (v0.faults (Disk (Spool volume))) (v.faults (Disk (Spool volume))) (v'.faults (Disk (Spool volume))) (before.faults (Disk (Spool volume))) found.1)
 
-  found_on : (ends : Opened) (Q : Queue) (text : List (List ℕ)) (lost : Option ℕ) → IsFoundLost ends per Q sysa text lost v0 v → IsFoundLost ends per Q sysa text lost v0 v'
-  found_on ends Q text None found = tt
-  found_on opened.Closed Q text (Some volume) found = absurd found
-  found_on (opened.Ready n) Q text (Some volume) found = (found.0, after.lost (Disk (Spool volume)) found.1, rose_more (v0.faults (Disk (Spool volume))) (v.faults (Disk (Spool volume))) (v'.faults (Disk (Spool volume))) found.2 (after.faults (Disk (Spool volume))))
+  found_on : (lost : Option ℕ) → IsFoundLost lost v0 v → IsFoundLost lost v0 v'
+  found_on None found = tt
+  found_on (Some volume) found = (after.lost (Disk (Spool volume)) found.0, rose_more (v0.faults (Disk (Spool volume))) (v.faults (Disk (Spool volume))) (v'.faults (Disk (Spool volume))) found.1 (after.faults (Disk (Spool volume))))
 
-  finds_in : (Q : Queue) (at : ℕ) (s : Turn) → FindsLost v v' per Q at s → FindsLost v0 v' per Q at s
-  finds_in Q at (Granted (Reads fields text lost)) found = found_in (ends_as Q sysa fields (groups_needed text)) (opened_queue Q sysa at fields text) text lost found
-  finds_in Q at (Granted (Gives given)) found = tt
-  finds_in Q at (Denied why) found = tt
-  finds_in Q at (Closed end) found = tt
-  finds_in Q at (Loss dev) found = tt
-  finds_in Q at Unplayed found = tt
+  module _ (told : Type 0) where
+    finds_in : (Q : Queue) (at : ℕ) (s : Turn) → FindsLost told v v' per Q at s → FindsLost told v0 v' per Q at s
+    finds_in Q at (Granted (Reads fields text lost)) found = (found_in lost found.0, found.1)
+    finds_in Q at (Granted (Gives given)) found = tt
+    finds_in Q at (Denied why) found = tt
+    finds_in Q at (Closed end) found = tt
+    finds_in Q at (Loss dev) found = tt
+    finds_in Q at Unplayed found = tt
 
-  finds_on : (Q : Queue) (at : ℕ) (s : Turn) → FindsLost v0 v per Q at s → FindsLost v0 v' per Q at s
-  finds_on Q at (Granted (Reads fields text lost)) found = found_on (ends_as Q sysa fields (groups_needed text)) (opened_queue Q sysa at fields text) text lost found
-  finds_on Q at (Granted (Gives given)) found = tt
-  finds_on Q at (Denied why) found = tt
-  finds_on Q at (Closed end) found = tt
-  finds_on Q at (Loss dev) found = tt
-  finds_on Q at Unplayed found = tt
+    finds_on : (Q : Queue) (at : ℕ) (s : Turn) → FindsLost told v0 v per Q at s → FindsLost told v0 v' per Q at s
+    finds_on Q at (Granted (Reads fields text lost)) found = (found_on lost found.0, found.1)
+    finds_on Q at (Granted (Gives given)) found = tt
+    finds_on Q at (Denied why) found = tt
+    finds_on Q at (Closed end) found = tt
+    finds_on Q at (Loss dev) found = tt
+    finds_on Q at Unplayed found = tt
 
-  -- those of steps, and of others behind them
-  find_join : (Q : Queue) (at : ℕ) (xs ys : List Turn) → FindLost v0 v per Q at xs → FindLost v0 v' per (queue_after Q at xs) (at + length xs) ys → FindLost v0 v' per Q at (xs ++ ys)
-  find_join Q at [] ys one two = let e : at + 0 ≡ at = omega arith in subst (λ (n : ℕ). FindLost v0 v' per Q n ys) e two
-  find_join Q at (x ∷ xs) ys one two =
-      let e : at + length (x ∷ xs) ≡ at + 1 + length xs = omega arith in
-      (finds_on Q at x one.0, find_join (after_step Q at x) (at + 1) xs ys one.1 (subst (λ (n : ℕ). FindLost v0 v' per (queue_after (after_step Q at x) (at + 1) xs) n ys) e two))
+    -- those of steps, and of others behind them
+    find_join : (Q : Queue) (at : ℕ) (xs ys : List Turn) → FindLost told v0 v per Q at xs → FindLost told v0 v' per (queue_after Q at xs) (at + length xs) ys → FindLost told v0 v' per Q at (xs ++ ys)
+    find_join Q at [] ys one two = let e : at + 0 ≡ at = omega arith in subst (λ (n : ℕ). FindLost told v0 v' per Q n ys) e two
+    find_join Q at (x ∷ xs) ys one two =
+        let e : at + length (x ∷ xs) ≡ at + 1 + length xs = omega arith in
+        (finds_on Q at x one.0, find_join (after_step Q at x) (at + 1) xs ys one.1 (subst (λ (n : ℕ). FindLost told v0 v' per (queue_after (after_step Q at x) (at + 1) xs) n ys) e two))
+
+-- a step at a queue, where content is told, and of a number
+finds_at : (told : Type 0) (old new : View) (per : ℕ) (Q R : Queue) (at n : ℕ) (s : Turn) → (told → Q ≡ R) → at ≡ n → FindsLost told old new per Q at s → FindsLost told old new per R n s
+finds_at told old new per Q R at n (Granted (Reads fields text lost)) same number found = (
+  found.0,
+  λ t. subst (λ (P : Queue). LiesOn (ends_as P sysa fields (groups_needed text)) per (opened_queue P sysa n fields text) sysa text lost) (same t)
+      (subst (λ (m : ℕ). LiesOn (ends_as Q sysa fields (groups_needed text)) per (opened_queue Q sysa m fields text) sysa text lost) number (found.1 t)),
+)
+finds_at told old new per Q R at n (Granted (Gives given)) same number found = tt
+finds_at told old new per Q R at n (Denied why) same number found = tt
+finds_at told old new per Q R at n (Closed end) same number found = tt
+finds_at told old new per Q R at n (Loss dev) same number found = tt
+finds_at told old new per Q R at n Unplayed same number found = tt
 
 -- a run that began sooner
-pub find_since : (v0 v v' : View) (per : ℕ) → Goes v0 v → Goes v v' → (Q : Queue) (at : ℕ) (steps : List Turn) → FindLost v v' per Q at steps → FindLost v0 v' per Q at steps
-find_since v0 v v' per before after Q at [] found = tt
-find_since v0 v v' per before after Q at (x ∷ steps) found = (finds_in v0 v v' per before after Q at x found.0, find_since v0 v v' per before after (after_step Q at x) (at + 1) steps found.1)
+pub find_since : (told : Type 0) (v0 v v' : View) (per : ℕ) → Goes v0 v → Goes v v' → (Q : Queue) (at : ℕ) (steps : List Turn) → FindLost told v v' per Q at steps → FindLost told v0 v' per Q at steps
+find_since told v0 v v' per before after Q at [] found = tt
+find_since told v0 v v' per before after Q at (x ∷ steps) found = (finds_in v0 v v' per before after told Q at x found.0, find_since told v0 v v' per before after (after_step Q at x) (at + 1) steps found.1)
 
 -- of all steps, the first ones and those behind them
 all_front : (P : Turn → Type 0) (xs ys : List Turn) → All P (xs ++ ys) → All P xs
@@ -167,36 +229,45 @@ module _ (closed lines kept : List (List ℕ)) (are : kept ≡ closed ++ lines) 
 -- ONE STEP BEHIND OTHERS
 
 module _ (told : Type 0) (base : Queue) (per : ℕ) (steps : List Turn) (s : Turn) (rest : List Batch) (a0 a a' b0 b b' : Bool) (v0 v v' : View)
-    (played : HavePlayed told base per steps rest a0 a b0 b v0 v) (Q : Queue) (at : ℕ) (here : Q ≡ queue_after base 1 steps) (numbered : at ≡ 1 + length steps) where
-  lines_more : output base (steps ++ s ∷ []) ≡ output base steps ++ step_lines Q at s
-  lines_more =
-      output_more s base 1 steps
-      ∙ ap (λ (R : Queue). output base steps ++ step_lines R (1 + length steps) s) (sym here)
-      ∙ ap (λ (n : ℕ). output base steps ++ step_lines Q n s) (sym numbered)
+    (played : HavePlayed told base per steps rest a0 a b0 b v0 v) (Q : Queue) (at : ℕ) (here : told → Q ≡ queue_after base 1 steps) (numbered : at ≡ 1 + length steps) where
+  many_did : length played.did ≡ length steps
+  many_did = outcomes_length 1 steps played.did played.shaped
 
-  all_batches : batches_of base (steps ++ s ∷ []) ≡ batches_of base steps ++ step_batches Q at s
-  all_batches =
-      batches_more s base 1 steps
-      ∙ ap (λ (R : Queue). batches_of base steps ++ step_batches R (1 + length steps) s) (sym here)
-      ∙ ap (λ (n : ℕ). batches_of base steps ++ step_batches Q n s) (sym numbered)
+  module _ (o : Outcome) where
+    batches_more : batches_in (played.did ++ o ∷ []) ≡ batches_in played.did ++ o.batches
+    batches_more = batches_join played.did (o ∷ []) ∙ ap (λ (l : List (List Entry)). batches_in played.did ++ l) (append-nil o.batches)
 
-  all_now : (more : List Batch) → v.now ≤ v'.now → AreAll sysa v.now v'.now (step_batches Q at s) more → AreAll sysa v0.now v'.now (batches_of base (steps ++ s ∷ [])) (rest ++ more)
-  all_now more le all = subst (λ (ess : List (List Entry)). AreAll sysa v0.now v'.now ess (rest ++ more)) (sym all_batches)
-      (all_join sysa v0.now v.now v'.now (batches_of base steps) (step_batches Q at s) rest more played.course.goes.later le played.kept all)
+    lines_more : lines_in (played.did ++ o ∷ []) ≡ lines_in played.did ++ o.lines
+    lines_more = lines_join played.did (o ∷ []) ∙ ap (λ (l : List (List ℕ)). lines_in played.did ++ l) (append-nil o.lines)
 
-  said_more : console_now v ≡ console_now v0 ++ map whole (output base steps) → console_now v' ≡ console_now v ++ map whole (step_lines Q at s) → console_now v' ≡ console_now v0 ++ map whole (output base (steps ++ s ∷ []))
-  said_more before now =
-      now ∙ ap (λ (ls : List Line). ls ++ map whole (step_lines Q at s)) before ∙ append_assoc (console_now v0) (map whole (output base steps)) (map whole (step_lines Q at s))
-      ∙ ap (λ (ls : List Line). console_now v0 ++ ls) (sym (map_append (output base steps) (step_lines Q at s)) ∙ ap (map whole) (sym lines_more))
+    shaped_now : (later : List Turn) (os : List Outcome) → IsOutcome at s o → AreOutcomes (at + 1) later os → AreOutcomes 1 (steps ++ s ∷ later) (played.did ++ o ∷ os)
+    shaped_now later os is are = shapes_join 1 steps (s ∷ later) played.did (o ∷ os) played.shaped (subst (λ (n : ℕ). AreOutcomes n (s ∷ later) (o ∷ os)) numbered (is, are))
 
-  loses_now : (d : Dev) → v'.loses d ≡ loses_after_step d s (v.loses d) → v'.loses d ≡ loses_after d (steps ++ s ∷ []) (v0.loses d)
-  loses_now d step = step ∙ ap (loses_after_step d s) (played.loses d) ∙ sym (loses_more s d steps (v0.loses d))
+    are_now : (later : List Turn) → o ≡ outcome_of Q at s → told → played.did ++ o ∷ outcomes_from (after_step Q at s) (at + 1) later ≡ outcomes_of base (steps ++ s ∷ later)
+    are_now later is t =
+        ap (λ (os : List Outcome). os ++ o ∷ outcomes_from (after_step Q at s) (at + 1) later) (played.are t)
+        ∙ ap (λ (p : Outcome). outcomes_of base steps ++ p ∷ outcomes_from (after_step Q at s) (at + 1) later) is
+        ∙ ap (λ (R : Queue). outcomes_of base steps ++ outcomes_from R at (s ∷ later)) (here t)
+        ∙ ap (λ (n : ℕ). outcomes_of base steps ++ outcomes_from (queue_after base 1 steps) n (s ∷ later)) numbered
+        ∙ sym (outcomes_join base 1 steps (s ∷ later))
+
+    all_now : (more : List Batch) → v.now ≤ v'.now → AreAll sysa v.now v'.now o.batches more → AreAll sysa v0.now v'.now (batches_in (played.did ++ o ∷ [])) (rest ++ more)
+    all_now more le all = subst (λ (ess : List (List Entry)). AreAll sysa v0.now v'.now ess (rest ++ more)) (sym batches_more)
+        (all_join sysa v0.now v.now v'.now (batches_in played.did) o.batches rest more played.course.goes.later le played.kept all)
+
+    said_more : console_now v ≡ console_now v0 ++ map whole (lines_in played.did) → console_now v' ≡ console_now v ++ map whole o.lines → console_now v' ≡ console_now v0 ++ map whole (lines_in (played.did ++ o ∷ []))
+    said_more before now =
+        now ∙ ap (λ (ls : List Line). ls ++ map whole o.lines) before ∙ append_assoc (console_now v0) (map whole (lines_in played.did)) (map whole o.lines)
+        ∙ ap (λ (ls : List Line). console_now v0 ++ ls) (sym (map_append (lines_in played.did) o.lines) ∙ ap (map whole) (sym lines_more))
+
+  loses_now : told → (d : Dev) → v'.loses d ≡ loses_after_step d s (v.loses d) → v'.loses d ≡ loses_after d (steps ++ s ∷ []) (v0.loses d)
+  loses_now t d step = step ∙ ap (loses_after_step d s) (played.loses t d) ∙ sym (loses_more s d steps (v0.loses d))
 
   -- the steps behind it, of which none found a volume lost
-  module _ (goes : Goes v v') (later : List Turn) (clean : (R : Queue) (n : ℕ) → FindLost v0 v' per R n later) where
-    found_now : FindsLost v v' per Q at s → FindLost v0 v' per base 1 (steps ++ s ∷ later)
-    found_now found = find_join v0 v v' per played.course.goes goes base 1 steps (s ∷ later) played.found
-        (subst (λ (R : Queue). FindsLost v0 v' per R (1 + length steps) s) here (subst (λ (n : ℕ). FindsLost v0 v' per Q n s) numbered (finds_in v0 v v' per played.course.goes goes Q at s found)), clean _ _)
+  module _ (goes : Goes v v') (later : List Turn) (clean : (R : Queue) (n : ℕ) → FindLost told v0 v' per R n later) where
+    found_now : FindsLost told v v' per Q at s → FindLost told v0 v' per base 1 (steps ++ s ∷ later)
+    found_now found = find_join v0 v v' per played.course.goes goes told base 1 steps (s ∷ later) played.found
+        (finds_at told v0 v' per Q (queue_after base 1 steps) at (1 + length steps) s here numbered (finds_in v0 v v' per played.course.goes goes told Q at s found), clean _ _)
 
     volumes_now : (LeavesVolumes s → AreVolumesKept v v') → (All LeavesVolumes steps → AreVolumesKept v0 v) → All LeavesVolumes (steps ++ s ∷ later) → AreVolumesKept v0 v'
     volumes_now step before all = kept_then v'.now v0 v v' played.course.goes.later goes
@@ -207,18 +278,24 @@ module _ (told : Type 0) (base : Queue) (per : ℕ) (steps : List Turn) (s : Tur
   module _ {T : Type 0} (done : T) (front batches : List Batch) (step : IsStepOf told s Q per at front batches a a' b b' v v' (Ok done)) where
     pub played_on : HavePlayed told base per (steps ++ s ∷ []) (rest ++ step.more) a0 a' b0 b' v0 v'
     played_on = record {
+      did = played.did ++ step.did ∷ [];
+      shaped = shaped_now step.did [] [] step.shaped tt;
+      are = λ t. are_now step.did [] (step.is t) t;
       course = course_then a0 a a' b0 b b' v0 v v' played.course step.course;
       left = left_then a a' b b' v0 v v' played.left step.course played.course.grow step.cause;
-      kept = all_now step.more step.course.goes.later step.leaves;
-      loses = λ d. loses_now d (step.loses d);
+      kept = all_now step.did step.more step.course.goes.later step.leaves;
+      loses = λ t d. loses_now t d (step.loses t d);
       found = found_now step.course.goes [] (λ R n. tt) step.found;
       volumes = λ t. volumes_now step.course.goes [] (λ R n. tt) (step.volumes t) (played.volumes t);
-      said = λ t. said_more (played.said t) (step.console t);
+      said = λ t. said_more step.did (played.said t) (step.console t);
     }
 
   -- THE STEP THAT ENDS THE RUN
 
-  module _ (later : List Turn) (clean : (R : Queue) (n : ℕ) → FindLost v0 v' per R n later) where
+  module _ (later : List Turn) (clean : (R : Queue) (n : ℕ) → FindLost told v0 v' per R n later) where
+    abbrev all_did : Outcome → List Outcome
+    all_did o = played.did ++ o ∷ outcomes_from (after_step Q at s) (at + 1) later
+
     many : length (steps ++ s ∷ later) ≡ length steps + suc (length later)
     many = length-append steps (s ∷ later)
 
@@ -228,50 +305,60 @@ module _ (told : Type 0) (base : Queue) (per : ℕ) (steps : List Turn) (s : Tur
     with_it : take (length steps + 1) (steps ++ s ∷ later) ≡ steps ++ s ∷ []
     with_it = take-append-add steps (s ∷ later) 1
 
-    next_is : next_batches base (length steps) (steps ++ s ∷ later) ≡ step_batches Q at s
-    next_is =
-        ap (λ (xs : List Turn). first_batches (queue_after base 1 xs) (1 + length steps) (drop (length steps) (steps ++ s ∷ later))) first_ones
-        ∙ ap (λ (ys : List Turn). first_batches (queue_after base 1 steps) (1 + length steps) ys) (drop-append_seam steps (s ∷ later))
-        ∙ ap (λ (R : Queue). step_batches R (1 + length steps) s) (sym here)
-        ∙ ap (λ (n : ℕ). step_batches Q n s) (sym numbered)
+    module _ (o : Outcome) where
+      first_did : take (length steps) (all_did o) ≡ played.did
+      first_did = subst (λ (n : ℕ). take n (all_did o) ≡ played.did) many_did (take-append_seam played.did (o ∷ outcomes_from (after_step Q at s) (at + 1) later))
 
-    module _ (more : List Batch) (goes : Goes v v') where
-      -- it isn't kept as a whole
-      unkept_history : IsSettled (step_batches Q at s) v.now v'.now more ⊎ OneFlies sysa v.now v'.now (step_batches Q at s) more → IsHistory base (steps ++ s ∷ later) (length steps) v0.now v'.now (rest ++ more)
-      unkept_history next = record {
-        front = rest;
-        begun = more;
-        are = refl;
-        between = v.now;
-        moments = (played.course.goes.later, goes.later);
-        are_kept = subst (λ (xs : List Turn). AreAll sysa v0.now v.now (batches_of base xs) rest) (sym first_ones) played.kept;
-        next = subst (λ (ess : List (List Entry)). IsSettled ess v.now v'.now more ⊎ OneFlies sysa v.now v'.now ess more) (sym next_is) next;
-      }
+      did_it : take (length steps + 1) (all_did o) ≡ played.did ++ o ∷ []
+      did_it = subst (λ (n : ℕ). take (n + 1) (all_did o) ≡ played.did ++ o ∷ []) many_did (take-append-add played.did (o ∷ outcomes_from (after_step Q at s) (at + 1) later) 1)
 
-      -- or it is
-      kept_history : AreAll sysa v.now v'.now (step_batches Q at s) more → IsHistory base (steps ++ s ∷ later) (length steps + 1) v0.now v'.now (rest ++ more)
-      kept_history all = record {
-        front = rest ++ more;
-        begun = [];
-        are = sym (append-nil (rest ++ more));
-        between = v'.now;
-        moments = (omega (arith, played.course.goes.later, goes.later), omega arith);
-        are_kept = subst (λ (xs : List Turn). AreAll sysa v0.now v'.now (batches_of base xs) (rest ++ more)) (sym with_it) (all_now more goes.later all);
-        next = inl (inl refl);
-      }
+      next_is : next_in (length steps) (all_did o) ≡ o.batches
+      next_is = ap first_in (subst (λ (n : ℕ). drop n (all_did o) ≡ o ∷ outcomes_from (after_step Q at s) (at + 1) later) many_did (drop-append_seam played.did (o ∷ outcomes_from (after_step Q at s) (at + 1) later)))
 
-    unkept_loses : (d : Dev) → v'.loses d ≡ v.loses d → v'.loses d ≡ loses_after d (take (length steps) (steps ++ s ∷ later)) (v0.loses d)
-    unkept_loses d same = same ∙ played.loses d ∙ ap (λ (xs : List Turn). loses_after d xs (v0.loses d)) (sym first_ones)
+      -- none, or some of its batches
+      settled_next : (more : List Batch) → IsSettled o.batches v.now v'.now more → IsSettled (next_in (length steps) (all_did o)) v.now v'.now more
+      settled_next more settled = subst (λ (ess : List (List Entry)). IsSettled ess v.now v'.now more) (sym next_is) settled
+
+      begun_next : (more : List Batch) → IsBegun o.batches v.now v'.now more → IsBegun (next_in (length steps) (all_did o)) v.now v'.now more
+      begun_next more begun = subst (λ (ess : List (List Entry)). IsBegun ess v.now v'.now more) (sym next_is) begun
+
+      module _ (more : List Batch) (goes : Goes v v') where
+        -- it isn't kept as a whole
+        unkept_history : IsSettled o.batches v.now v'.now more ⊎ OneFlies sysa v.now v'.now o.batches more → IsHistory (all_did o) (length steps) v0.now v'.now (rest ++ more)
+        unkept_history next = record {
+          front = rest;
+          begun = more;
+          are = refl;
+          between = v.now;
+          moments = (played.course.goes.later, goes.later);
+          are_kept = subst (λ (os : List Outcome). AreAll sysa v0.now v.now (batches_in os) rest) (sym first_did) played.kept;
+          next = subst (λ (ess : List (List Entry)). IsSettled ess v.now v'.now more ⊎ OneFlies sysa v.now v'.now ess more) (sym next_is) next;
+        }
+
+        -- or it is
+        kept_history : AreAll sysa v.now v'.now o.batches more → IsHistory (all_did o) (length steps + 1) v0.now v'.now (rest ++ more)
+        kept_history all = record {
+          front = rest ++ more;
+          begun = [];
+          are = sym (append-nil (rest ++ more));
+          between = v'.now;
+          moments = (omega (arith, played.course.goes.later, goes.later), omega arith);
+          are_kept = subst (λ (os : List Outcome). AreAll sysa v0.now v'.now (batches_in os) (rest ++ more)) (sym did_it) (all_now o more goes.later all);
+          next = inl (inl refl);
+        }
+
+      said_before : console_now v ≡ console_now v0 ++ map whole (lines_in played.did) → console_now v ≡ console_now v0 ++ map whole (lines_in (take (length steps) (all_did o)))
+      said_before said = said ∙ ap (λ (os : List Outcome). console_now v0 ++ map whole (lines_in os)) (sym first_did)
+
+      lines_are : lines_in (take (length steps + 1) (all_did o)) ≡ lines_in (take (length steps) (all_did o)) ++ o.lines
+      lines_are = ap lines_in did_it ∙ lines_more o ∙ ap (λ (os : List Outcome). lines_in os ++ o.lines) (sym first_did)
+
+    unkept_loses : told → (d : Dev) → v'.loses d ≡ v.loses d → v'.loses d ≡ loses_after d (take (length steps) (steps ++ s ∷ later)) (v0.loses d)
+    unkept_loses t d same = same ∙ played.loses t d ∙ ap (λ (xs : List Turn). loses_after d xs (v0.loses d)) (sym first_ones)
 
     -- a step that ends the run loses nothing
-    kept_loses : (d : Dev) → (v'.loses d ≡ v.loses d) × (loses_after_step d s (v.loses d) ≡ v.loses d) → v'.loses d ≡ loses_after d (take (length steps + 1) (steps ++ s ∷ later)) (v0.loses d)
-    kept_loses d same = loses_now d (same.0 ∙ sym same.1) ∙ ap (λ (xs : List Turn). loses_after d xs (v0.loses d)) (sym with_it)
-
-    said_before : console_now v ≡ console_now v0 ++ map whole (output base steps) → console_now v ≡ console_now v0 ++ map whole (output base (take (length steps) (steps ++ s ∷ later)))
-    said_before before = before ∙ ap (λ (xs : List Turn). console_now v0 ++ map whole (output base xs)) (sym first_ones)
-
-    lines_are : output base (take (length steps + 1) (steps ++ s ∷ later)) ≡ output base (take (length steps) (steps ++ s ∷ later)) ++ step_lines Q at s
-    lines_are = ap (output base) with_it ∙ lines_more ∙ ap (λ (xs : List Turn). output base xs ++ step_lines Q at s) (sym first_ones)
+    kept_loses : told → (d : Dev) → (v'.loses d ≡ v.loses d) × (loses_after_step d s (v.loses d) ≡ v.loses d) → v'.loses d ≡ loses_after d (take (length steps + 1) (steps ++ s ∷ later)) (v0.loses d)
+    kept_loses t d same = loses_now t d (same.0 ∙ sym same.1) ∙ ap (λ (xs : List Turn). loses_after d xs (v0.loses d)) (sym with_it)
 
     left_now : Course a a' b b' v v' → IsLeftOrLost a a' b b' v v' → SomeAlive a' b' ⊎ HasLost v0 v'
     left_now course left = left_then a a' b b' v0 v v' played.left course played.course.grow left
@@ -280,88 +367,107 @@ module _ (told : Type 0) (base : Queue) (per : ℕ) (steps : List Turn) (s : Tur
       unplayed : (step : IsStepOf {T = T} told s Q per at front batches a a' b b' v v' (Err no_node.NoMemory)) → ArePlayed {T = T} told base per (steps ++ s ∷ later) (rest ++ step.more) a0 a' b0 b' v0 v' (Err no_node.NoMemory)
       unfolding unkept_history
       unplayed step = record {
+        did = all_did step.did;
+        shaped = shaped_now step.did later (outcomes_from (after_step Q at s) (at + 1) later) step.shaped (shapes_of (after_step Q at s) (at + 1) later);
+        are = λ t. are_now step.did later (step.is t) t;
         kept = length steps;
         closed = length steps;
         few = (omega arith, omega arith, omega (arith, many));
         course = course_then a0 a a' b0 b b' v0 v v' played.course step.course;
         left = left_now step.course step.cause;
-        history = unkept_history step.more step.course.goes (inl step.leaves);
-        ends = (refl, subst (λ (ess : List (List Entry)). IsSettled ess v.now v'.now step.more) (sym next_is) step.leaves);
-        loses = λ d. unkept_loses d (step.loses d).0;
+        history = unkept_history step.did step.more step.course.goes (inl step.leaves);
+        ends = (refl, settled_next step.did step.more step.leaves);
+        loses = λ t d. unkept_loses t d (step.loses t d).0;
         found = found_now step.course.goes later clean step.found;
         volumes = λ t. volumes_now step.course.goes later clean (step.volumes t) (played.volumes t);
-        said = λ t. inl (step.console t ∙ said_before (played.said t));
+        said = λ t. inl (step.console t ∙ said_before step.did (played.said t));
       }
 
       lost_both : (step : IsStepOf {T = T} told s Q per at front batches a a' b b' v v' (Err no_node.BothLost)) → ArePlayed {T = T} told base per (steps ++ s ∷ later) (rest ++ step.more) a0 a' b0 b' v0 v' (Err no_node.BothLost)
+      unfolding unkept_history
       lost_both step = record {
+        did = all_did step.did;
+        shaped = shaped_now step.did later (outcomes_from (after_step Q at s) (at + 1) later) step.shaped (shapes_of (after_step Q at s) (at + 1) later);
+        are = λ t. are_now step.did later (step.is t) t;
         kept = length steps;
         closed = length steps;
         few = (omega arith, omega arith, omega (arith, many));
         course = course_then a0 a a' b0 b b' v0 v v' played.course step.course;
         left = tt;
-        history = unkept_history step.more step.course.goes (inr step.leaves);
-        ends = (refl, step.cause);
-        loses = λ d. unkept_loses d (step.loses d).0;
+        history = unkept_history step.did step.more step.course.goes (⊎_elim (λ some. inl (inr (some_cut sysa v.now v'.now step.did.batches step.more some))) (λ flies. inr flies) step.leaves);
+        ends = (refl, step.cause, begun_next step.did step.more (inr step.leaves));
+        loses = λ t d. unkept_loses t d (step.loses t d).0;
         found = found_now step.course.goes later clean step.found;
         volumes = λ t. volumes_now step.course.goes later clean (step.volumes t) (played.volumes t);
-        said = λ t. inl (step.console t ∙ said_before (played.said t));
+        said = λ t. inl (step.console t ∙ said_before step.did (played.said t));
       }
 
       unsaid : (step : IsStepOf {T = T} told s Q per at front batches a a' b b' v v' (Err no_node.ConsoleFault)) → ArePlayed {T = T} told base per (steps ++ s ∷ later) (rest ++ step.more) a0 a' b0 b' v0 v' (Err no_node.ConsoleFault)
       unfolding kept_history
       unsaid step = record {
+        did = all_did step.did;
+        shaped = shaped_now step.did later (outcomes_from (after_step Q at s) (at + 1) later) step.shaped (shapes_of (after_step Q at s) (at + 1) later);
+        are = λ t. are_now step.did later (step.is t) t;
         kept = length steps + 1;
         closed = length steps;
         few = (omega arith, omega arith, omega (arith, many));
         course = course_then a0 a a' b0 b b' v0 v v' played.course step.course;
         left = left_now step.course step.cause.0;
-        history = kept_history step.more step.course.goes step.leaves;
-        ends = (refl, refl, inl refl, rose_later (v0.faults Console) (v.faults Console) (v'.faults Console) (played.course.goes.faults Console) step.cause.1);
-        loses = λ d. kept_loses d (step.loses d);
+        history = kept_history step.did step.more step.course.goes step.leaves;
+        ends = (refl, refl, rose_later (v0.faults Console) (v.faults Console) (v'.faults Console) (played.course.goes.faults Console) step.cause.1);
+        loses = λ t d. kept_loses t d (step.loses t d);
         found = found_now step.course.goes later clean step.found;
         volumes = λ t. volumes_now step.course.goes later clean (step.volumes t) (played.volumes t);
-        said = λ t. adds_failed (output base (take (length steps) (steps ++ s ∷ later))) (step_lines Q at s) (output base (take (length steps + 1) (steps ++ s ∷ later))) lines_are
-            (console_now v0) (console_now v) (console_now v') (said_before (played.said t)) (status.ConsoleFault ≡ status.ConsoleFault) (IsStopped v0 v') refl (step.console t);
+        said = λ t. adds_failed (lines_in (take (length steps) (all_did step.did))) step.did.lines (lines_in (take (length steps + 1) (all_did step.did))) (lines_are step.did)
+            (console_now v0) (console_now v) (console_now v') (said_before step.did (played.said t)) (status.ConsoleFault ≡ status.ConsoleFault) (IsStopped v0 v') refl (step.console t);
       }
 
       stopped : (step : IsStepOf {T = T} told s Q per at front batches a a' b b' v v' (Err no_node.Halted)) → ArePlayed {T = T} told base per (steps ++ s ∷ later) (rest ++ step.more) a0 a' b0 b' v0 v' (Err no_node.Halted)
-      stopped step = ⊎_elim (λ flies. in_the_middle (inr flies) (flies_not_all sysa v.now v'.now (step_batches Q at s) step.more flies))
-          (λ others. ⊎_elim (λ some. in_the_middle (inl (inr some)) (some_not_all sysa v.now v'.now (step_batches Q at s) step.more some)) at_the_end others) step.leaves
+      unfolding unkept_history kept_history
+      stopped step = ⊎_elim (λ some. in_the_middle (inl some)) (λ others. ⊎_elim (λ flies. in_the_middle (inr flies)) at_the_end others) step.leaves
         where
           was_stopped : IsStopped v0 v'
           was_stopped = rose_later (v0.stops sysa.0) (v.stops sysa.0) (v'.stops sysa.0) (played.course.goes.stops sysa.0) step.cause.1
 
-          in_the_middle : IsSettled (step_batches Q at s) v.now v'.now step.more ⊎ OneFlies sysa v.now v'.now (step_batches Q at s) step.more → (AreAll sysa v.now v'.now (step_batches Q at s) step.more → ⊥) → ArePlayed {T = T} told base per (steps ++ s ∷ later) (rest ++ step.more) a0 a' b0 b' v0 v' (Err no_node.Halted)
-          in_the_middle next not_all = record {
+          not_all : AreSome sysa v.now v'.now step.did.batches step.more ⊎ OneFlies sysa v.now v'.now step.did.batches step.more → AreAll sysa v.now v'.now step.did.batches step.more → ⊥
+          not_all next all = ⊎_elim (λ some. some_not_all sysa v.now v'.now step.did.batches step.more some all) (λ flies. flies_not_all sysa v.now v'.now step.did.batches step.more flies all) next
+
+          in_the_middle : AreSome sysa v.now v'.now step.did.batches step.more ⊎ OneFlies sysa v.now v'.now step.did.batches step.more → ArePlayed {T = T} told base per (steps ++ s ∷ later) (rest ++ step.more) a0 a' b0 b' v0 v' (Err no_node.Halted)
+          in_the_middle next = record {
+            did = all_did step.did;
+            shaped = shaped_now step.did later (outcomes_from (after_step Q at s) (at + 1) later) step.shaped (shapes_of (after_step Q at s) (at + 1) later);
+            are = λ t. are_now step.did later (step.is t) t;
             kept = length steps;
             closed = length steps;
             few = (omega arith, omega arith, omega (arith, many));
             course = course_then a0 a a' b0 b b' v0 v v' played.course step.course;
             left = left_now step.course step.cause.0;
-            history = unkept_history step.more step.course.goes next;
-            ends = was_stopped;
-            loses = λ d. unkept_loses d (step.loses d).0;
+            history = unkept_history step.did step.more step.course.goes (⊎_elim (λ some. inl (inr (some_cut sysa v.now v'.now step.did.batches step.more some))) (λ flies. inr flies) next);
+            ends = (was_stopped, begun_next step.did step.more (inr next));
+            loses = λ t d. unkept_loses t d (step.loses t d).0;
             found = found_now step.course.goes later clean step.found;
             volumes = λ t. volumes_now step.course.goes later clean (step.volumes t) (played.volumes t);
-            said = λ t. ⊎_elim (λ none. inl (none ∙ said_before (played.said t))) (λ more. absurd (not_all more.0)) (step.console t);
+            said = λ t. ⊎_elim (λ none. inl (none ∙ said_before step.did (played.said t))) (λ more. absurd (not_all next more.0)) (step.console t);
           }
 
-          at_the_end : AreAll sysa v.now v'.now (step_batches Q at s) step.more → ArePlayed {T = T} told base per (steps ++ s ∷ later) (rest ++ step.more) a0 a' b0 b' v0 v' (Err no_node.Halted)
+          at_the_end : AreAll sysa v.now v'.now step.did.batches step.more → ArePlayed {T = T} told base per (steps ++ s ∷ later) (rest ++ step.more) a0 a' b0 b' v0 v' (Err no_node.Halted)
           at_the_end all = record {
+            did = all_did step.did;
+            shaped = shaped_now step.did later (outcomes_from (after_step Q at s) (at + 1) later) step.shaped (shapes_of (after_step Q at s) (at + 1) later);
+            are = λ t. are_now step.did later (step.is t) t;
             kept = length steps + 1;
             closed = length steps;
             few = (omega arith, omega arith, omega (arith, many));
             course = course_then a0 a a' b0 b b' v0 v v' played.course step.course;
             left = left_now step.course step.cause.0;
-            history = kept_history step.more step.course.goes all;
-            ends = was_stopped;
-            loses = λ d. kept_loses d (step.loses d);
+            history = kept_history step.did step.more step.course.goes all;
+            ends = (was_stopped, inl refl);
+            loses = λ t d. kept_loses t d (step.loses t d);
             found = found_now step.course.goes later clean step.found;
             volumes = λ t. volumes_now step.course.goes later clean (step.volumes t) (played.volumes t);
-            said = λ t. ⊎_elim (λ none. inl (none ∙ said_before (played.said t)))
-                (λ more. adds_stopped (output base (take (length steps) (steps ++ s ∷ later))) (step_lines Q at s) (output base (take (length steps + 1) (steps ++ s ∷ later))) lines_are
-                (console_now v0) (console_now v) (console_now v') (said_before (played.said t)) (status.Done ≡ status.ConsoleFault) (IsStopped v0 v') was_stopped more.1 more.2 more.3)
+            said = λ t. ⊎_elim (λ none. inl (none ∙ said_before step.did (played.said t)))
+                (λ more. adds_stopped (lines_in (take (length steps) (all_did step.did))) step.did.lines (lines_in (take (length steps + 1) (all_did step.did))) (lines_are step.did)
+                (console_now v0) (console_now v) (console_now v') (said_before step.did (played.said t)) (status.Done ≡ status.ConsoleFault) (IsStopped v0 v') was_stopped more.1 more.2 more.3)
                 (step.console t);
           }
 
@@ -375,9 +481,15 @@ module _ (told : Type 0) (base : Queue) (per : ℕ) (steps : List Turn) (s : Tur
 pub played_all : {T : Type 0} (done : T) (told : Type 0) (base : Queue) (per : ℕ) (asked : List Turn) (rest : List Batch) (a0 a b0 b : Bool) (v0 v : View)
     → HavePlayed told base per asked rest a0 a b0 b v0 v → ArePlayed told base per asked rest a0 a b0 b v0 v (Ok done)
 played_all done told base per asked rest a0 a b0 b v0 v played =
+    let many = outcomes_length 1 asked played.did played.shaped in
     let le : length asked ≤ length asked = omega arith in
+    let le_did : length played.did ≤ length asked = omega (arith, many) in
     let whole_list : take (length asked) asked ≡ asked = take_all (length asked) asked le in
+    let all_did : take (length asked) played.did ≡ played.did = take_all (length asked) played.did le_did in
     record {
+      did = played.did;
+      shaped = played.shaped;
+      are = played.are;
       kept = length asked;
       closed = length asked;
       few = (omega arith, omega arith, omega arith);
@@ -389,23 +501,26 @@ played_all done told base per asked rest a0 a b0 b v0 v played =
         are = sym (append-nil rest);
         between = v.now;
         moments = (played.course.goes.later, omega arith);
-        are_kept = subst (λ (xs : List Turn). AreAll sysa v0.now v.now (batches_of base xs) rest) (sym whole_list) played.kept;
+        are_kept = subst (λ (os : List Outcome). AreAll sysa v0.now v.now (batches_in os) rest) (sym all_did) played.kept;
         next = inl (inl refl);
       };
-      ends = (refl, refl, inl refl);
-      loses = λ d. played.loses d ∙ ap (λ (xs : List Turn). loses_after d xs (v0.loses d)) (sym whole_list);
+      ends = (refl, refl, refl);
+      loses = λ t d. played.loses t d ∙ ap (λ (xs : List Turn). loses_after d xs (v0.loses d)) (sym whole_list);
       found = played.found;
       volumes = played.volumes;
-      said = λ t. inl (played.said t ∙ ap (λ (xs : List Turn). console_now v0 ++ map whole (output base xs)) (sym whole_list));
+      said = λ t. inl (played.said t ∙ ap (λ (os : List Outcome). console_now v0 ++ map whole (lines_in os)) (sym all_did));
     }
 
 -- no step has been played
 pub played_none : (told : Type 0) (base : Queue) (per : ℕ) (batches : List Batch) (a b : Bool) (v : View) → batches ≡ [] → SomeAlive a b → HavePlayed told base per [] batches a a b b v v
 played_none told base per batches a b v none some = record {
+  did = [];
+  shaped = tt;
+  are = λ t. refl;
   course = course_none a b v;
   left = inl some;
   kept = subst (AreAll sysa v.now v.now []) (sym none) tt;
-  loses = λ d. refl;
+  loses = λ t d. refl;
   found = tt;
   volumes = λ t all. kept_none v;
   said = λ t. sym (append-nil (console_now v));
@@ -414,12 +529,40 @@ played_none told base per batches a b v none some = record {
 -- BEHIND BATCHES THAT STOOD THERE BEFORE
 
 -- the queue behind steps that have been played
-pub queue_played : (told : Type 0) (base : Queue) (per : ℕ) (steps : List Turn) (rest : List Batch) (a0 a b0 b : Bool) (v0 v : View) → HavePlayed told base per steps rest a0 a b0 b v0 v → run base (kept_all rest) ≡ queue_after base 1 steps
-queue_played told base per steps rest a0 a b0 b v0 v played =
-    ap (run base) (kept_entries sysa v0.now v.now (batches_of base steps) rest played.kept) ∙ run_batches base 1 steps
+pub queue_played : (told : Type 0) (base : Queue) (per : ℕ) (steps : List Turn) (rest : List Batch) (a0 a b0 b : Bool) (v0 v : View) → HavePlayed told base per steps rest a0 a b0 b v0 v → told → run base (kept_all rest) ≡ queue_after base 1 steps
+queue_played told base per steps rest a0 a b0 b v0 v played t =
+    ap (run base) (kept_entries sysa v0.now v.now (batches_in played.did) rest played.kept) ∙ ap (λ (os : List Outcome). run base (all_entries (batches_in os))) (played.are t) ∙ run_outcomes base 1 steps
 
 pub kept_played : (told : Type 0) (base : Queue) (per : ℕ) (steps : List Turn) (rest : List Batch) (a0 a b0 b : Bool) (v0 v : View) → HavePlayed told base per steps rest a0 a b0 b v0 v → AreAllKept rest v.now
-kept_played told base per steps rest a0 a b0 b v0 v played = all_kept sysa v0.now v.now (batches_of base steps) rest played.kept
+kept_played told base per steps rest a0 a b0 b v0 v played = all_kept sysa v0.now v.now (batches_in played.did) rest played.kept
+
+-- a step has two batches at most
+few_of : (ess fss : List (List Entry)) → ess ≡ fss → length fss ≤ 2 → length ess ≤ 2
+few_of ess fss is le = subst (λ (l : List (List Entry)). length l ≤ 2) (sym is) le
+
+shape_few : (at : ℕ) (s : Turn) (o : Outcome) → IsOutcome at s o → length o.batches ≤ 2
+shape_few at (Granted (Reads fields text lost)) o is = is.1
+shape_few at (Granted (Gives given)) o is = few_of o.batches _ is.1 (omega arith)
+shape_few at (Denied why) o is = few_of o.batches [] is.0 (omega arith)
+shape_few at (Closed end) o is = few_of o.batches [] is.0 (omega arith)
+shape_few at (Loss dev) o is = few_of o.batches [] is.0 (omega arith)
+shape_few at Unplayed o is = few_of o.batches [] is.0 (omega arith)
+
+shapes_few : (at : ℕ) (steps : List Turn) (os : List Outcome) → AreOutcomes at steps os → length (batches_in os) ≤ 2 * length steps
+shapes_few at [] [] are = omega arith
+shapes_few at [] (o ∷ os) are = absurd are
+shapes_few at (s ∷ steps) [] are = absurd are
+shapes_few at (s ∷ steps) (o ∷ os) are =
+    let one = shape_few at s o are.0 in
+    let more = shapes_few (at + 1) steps os are.1 in
+    let e = length-append o.batches (batches_in os) in
+    omega (arith, one, more, e)
+
+pub few_played : (told : Type 0) (base : Queue) (per : ℕ) (steps : List Turn) (rest : List Batch) (a0 a b0 b : Bool) (v0 v : View) → HavePlayed told base per steps rest a0 a b0 b v0 v → length rest ≤ 2 * length steps
+few_played told base per steps rest a0 a b0 b v0 v played =
+    let e = all_length sysa v0.now v.now (batches_in played.did) rest played.kept in
+    let few = shapes_few 1 steps played.did played.shaped in
+    omega (arith, e, few)
 
 pub queue_behind : (base : Queue) (opening rest batches : List Batch) → batches ≡ opening ++ rest → run base (kept_all batches) ≡ run (run base (kept_all opening)) (kept_all rest)
 queue_behind base opening rest batches are = ap (λ (bs : List Batch). run base (kept_all bs)) are ∙ ap (run base) (kept_all_append opening rest) ∙ run_append base (kept_all opening) (kept_all rest)

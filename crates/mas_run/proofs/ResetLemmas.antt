@@ -1,5 +1,6 @@
 -- Restart as the first batch, by how it ended.
-use Rattle.std.proofs.Common.{◌≡◌, inl, inr, ⊎_elim, ℕ, ◌++◌, ◌≤◌, Bool, true, false, List, [], ◌∷◌, length, drop, Option, Result, Ok, Err, OnOk, All, refl, sym, subst, ◌∙◌, ap, arith}
+use Rattle.std.proofs.Common.{◌≡◌, inl, inr, ⊎_elim, ℕ, ◌+◌, ◌++◌, ◌≤◌, ◌<◌, ◌^◌, Bool, true, false, List, [], ◌∷◌, length, drop, Option, Result, Ok, Err, OnOk, All, refl, sym, subst, ◌∙◌, ap, arith}
+use Rattle.std.proofs.lemmas.List.{length-append}
 use Rattle.std.proofs.lemmas.List.Elements.{All-nil, All-cons}
 use Rattle.mas_types.specs.declared.ids.MemberId.{MemberId}
 use Rattle.mas_types.specs.declared.ids.Dev.TheVariants.{Ckpt1, Ckpt2}
@@ -18,17 +19,26 @@ use Rattle.ckpt_copy.specs.Areas.{reads}
 use Rattle.duplex_pair.specs.Halves.{SomeAlive}
 use Rattle.mas_complex.specs.Crash.{EachTells, IsUntold, setting}
 use Rattle.mas_complex.specs.Headline.{Headline}
-use Rattle.mas_complex.specs.Journals.{begun, fated, has_step, kept_all}
+use Rattle.mas_complex.specs.Journals.{begun, fated, has_step, kept_all, with_last}
 use Rattle.mas_complex.specs.Meaning.{Closes, run, step}
+use Rattle.ckpt_pages.specs.declared.tables.Tables.{Tables}
+use Rattle.queue_effect.specs.Standing.{AreFit}
+use Rattle.table_queues.specs.Telling.{Tell}
+use Rattle.member_node.specs.declared.checkpoint.Checkpoint.{Checkpoint}
+use Rattle.member_node.specs.Batches.{HasDone}
+use Rattle.member_node.specs.Drawn.{AreDrawn}
+use Rattle.member_node.specs.Reads.{AreLow}
+use Rattle.member_node.proofs.EntryLemmas.{nothing_done}
 use Rattle.member_node.specs.declared.member.NodeNo.{NodeNo}
 use Rattle.member_node.specs.declared.member.NodeNo.TheVariants as no_node
 use Rattle.member_node.specs.Calls.{IsLeft}
 use Rattle.member_node.specs.Writes.{IsWrite}
 use Rattle.member_node.proofs.CourseLemmas.{course_none, left, only_none}
 use Rattle.member_steps.specs.Steps.{AreAllKept}
+use Rattle.member_steps.proofs.StepLemmas.{journal_kept}
 use Rattle.mas_run.specs.Resets.{HasReset, restart_entries}
 use Rattle.mas_run.specs.Runs.{HasSteps}
-use Rattle.mas_run.specs.Statuses.{IsCausedFrom, status_of}
+use Rattle.mas_run.specs.Statuses.{IsCausedFrom, is_of_play, status_of}
 use Rattle.lock_cycle.specs.Books.{Book}
 use Rattle.script_lang.specs.declared.types.Step.{Step}
 use Rattle.mas_run.specs.Steps.{FindLost}
@@ -51,7 +61,26 @@ pub ok_then : {T E A B : Type 0} (r : Result T E) → (A → B) → OnOk r A →
 ok_then (Ok done) f a = f a
 ok_then (Err why) f a = tt
 
+-- BEFORE IT
+
+pub tell_none : (t : Tables) (base : Queue) (batches : List Batch) → batches ≡ [] → Tell t base → Tell t (run base (kept_all batches))
+tell_none t base batches none told = subst (λ (bs : List Batch). Tell t (run base (kept_all bs))) (sym none) told
+
+-- nothing is done yet
+pub reset_done : (base : Queue) (batches : List Batch) (batch : List Entry) (k : Checkpoint) → batches ≡ [] → batch ≡ [] → AreDrawn k.tables k.level k.levels k.pages → AreFit k.tables → Tell k.tables base → HasDone (run base (kept_all batches)) batch k
+reset_done base batches batch k none nothing drawn fit told = subst (λ (es : List Entry). HasDone (run base (kept_all batches)) es k) (sym nothing) (nothing_done (run base (kept_all batches)) k drawn fit (tell_none k.tables base batches none told))
+
 -- WHAT IT LEAVES
+
+-- its batch stands in the journal
+pub some_kept : (front was batches : List Batch) (place b : Batch) → was ≡ front ++ place ∷ [] → batches ≡ with_last b was → 1 ≤ length batches
+some_kept front was batches place b grown kept =
+    let same = ap (λ (bs : List Batch). length bs) (journal_kept front was batches place b grown kept) ∙ length-append front (b ∷ []) in
+    omega (arith, same)
+
+-- its orders are those of a run's first batch
+pub low_first : (t : Tables) (was batches : ℕ) → AreFit t → was < 2 ^ 62 → t.order ≤ was + 32 → 1 ≤ batches → AreLow t.config batches t
+low_first t was batches fit small le some = record { same = refl; fit = fit; order = omega (arith, small, le, some) }
 
 some_left : (was1 is1 was2 is2 : Bool) → SomeAlive was1 was2 → IsLeft was1 is1 was2 is2 → SomeAlive is1 is2
 some_left was1 is1 was2 is2 some is = ⊎_elim (λ here. here) (λ same. subst (λ (x : Bool). SomeAlive x is2) (sym same.0) (subst (λ (y : Bool). SomeAlive was1 y) (sym same.1) some)) is
@@ -83,7 +112,7 @@ restart_entry batch more Q m none same is =
 -- A WARM RUN AFTER RESTART
 
 reset_left : (tells : Type 0) (asked : List Turn) (base : Queue) (journal : Journal) (since : ℕ) (old new : View) (a a' c c' : Bool) → since ≡ old.now → SomeAlive a c → (a ≡ true → old.lost (DiskPart Ckpt1) ≡ false) → (c ≡ true → old.lost (DiskPart Ckpt2) ≡ false)
-    → (tells → ∥ Headline reads base since journal new ∥₁) → ((opening : List Batch) → FindLost old new base.config.groups (run base (kept_all opening)) 1 asked) → {T : Type 0} (why : NodeNo) → HasReset {T = T} tells (begun old.now nobody restart_entries) journal.batches a a' c c' old new (Err why)
+    → (tells → ∥ Headline reads base since journal new ∥₁) → ((opening : List Batch) → FindLost tells old new base.config.groups (run base (kept_all opening)) 1 asked) → {T : Type 0} (why : NodeNo) → HasReset {T = T} tells (begun old.now nobody restart_entries) journal.batches a a' c c' old new (Err why)
     → HasSteps false tells asked (status_of {T = T} (Err why)) base journal since old.loses old new
 reset_left tells asked base journal since old new a a' c c' is some there1 there2 head found no_node.NoMemory r =
     let one : SomeAlive a' c' = subst (λ (x : Bool). SomeAlive x c') (sym r.ends.1) (subst (λ (y : Bool). SomeAlive a y) (sym r.ends.2) some) in
@@ -101,7 +130,14 @@ pub reset_ended : {T : Type 0} (tells : Type 0) (config : Config) (book : Book) 
     → (tells → ∥ Headline reads base since journal new ∥₁) → HasReset {T = T} tells (begun old.now nobody restart_entries) journal.batches a a' c c' old new (Err why)
     → (lost : List (Option ℕ)) × HasSteps false tells (turns_from config book lost steps) (status_of {T = T} (Err why)) base journal since old.loses old new
 reset_ended {T = T} tells config book steps base journal since old new a a' c c' why is some there1 there2 head r =
-    ([], reset_left tells (turns_from config book [] steps) base journal since old new a a' c c' is some there1 there2 head (λ opening. none_found old new base.config.groups config book steps (run base (kept_all opening)) 1) {T = T} why r)
+    ([], reset_left tells (turns_from config book [] steps) base journal since old new a a' c c' is some there1 there2 head (λ opening. none_found tells old new base.config.groups config book steps (run base (kept_all opening)) 1) {T = T} why r)
+
+-- it ends as a run that has begun does
+pub err_plays : (T : Type 0) (why : NodeNo) → is_of_play (status_of {T = T} (Err why)) ≡ true
+err_plays T no_node.NoMemory = refl
+err_plays T no_node.BothLost = refl
+err_plays T no_node.ConsoleFault = refl
+err_plays T no_node.Halted = refl
 
 pub reset_caused : {T : Type 0} (told : Type 0) (b : Batch) (batches : List Batch) (a a' c c' : Bool) (old new : View) (why : NodeNo) → HasReset {T = T} told b batches a a' c c' old new (Err why) → (a' ≡ false → new.lost (DiskPart Ckpt1) ≡ true) → (c' ≡ false → new.lost (DiskPart Ckpt2) ≡ true)
     → IsCausedFrom a c (status_of {T = T} (Err why)) old new

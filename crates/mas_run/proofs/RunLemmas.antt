@@ -7,6 +7,7 @@ use Rattle.std.proofs.lemmas.List.Elements.{All-nil}
 use Rattle.ckpt_pages.specs.Shape.{HasShape}
 use Rattle.queue_effect.specs.Standing.{AreFit, IsFitJob, IsFitOutput}
 use Rattle.member_node.specs.Calls.{Course, Grows, console_now}
+use Rattle.member_node.specs.Reads.{AreLow, orders_after}
 use Rattle.member_node.proofs.CourseLemmas.{left, lost_later, lost_more}
 use Rattle.member_steps.specs.Saying.{torn}
 use Rattle.member_steps.specs.Steps.{AreAllKept}
@@ -45,13 +46,14 @@ use Rattle.member_node.specs.declared.member.NodeNo.{NodeNo}
 use Rattle.member_node.specs.declared.member.NodeNo.TheVariants as no_node
 use Rattle.first_script.specs.Played.{sysa}
 use Rattle.lock_cycle.specs.Books.{Book}
+use Rattle.script_lang.specs.declared.types.Script.{Script}
 use Rattle.script_lang.specs.declared.types.Step.{Step}
-use Rattle.mas_run.specs.Turns.{Turn, turns_from}
-use Rattle.mas_run.specs.Steps.{FindLost, loses_after, next_batches, output}
+use Rattle.mas_run.specs.Turns.{Turn, turns_from, turns_of}
+use Rattle.mas_run.specs.Steps.{FindLost, LeavesVolumes, lines_in, loses_after, next_in, outcomes_of}
 use Rattle.mas_run.specs.Plays.{Ends, IfNotLost, ArePlayed, HasPlay}
-use Rattle.mas_run.specs.Runs.{has_begun, Adds, HasLost, IsSettled, IsStopped, IsRestart, IsReset, HavePassed, IsSafe, IsPlay, HasSteps}
+use Rattle.mas_run.specs.Runs.{has_begun, IsRun, Adds, HasLost, IsBegun, IsSettled, IsStopped, IsRestart, IsReset, HavePassed, IsSafe, IsPlay, HasSteps}
 use Rattle.mas_run.specs.Volumes.{AreVolumesKept, AreVolumesKeptUntil}
-use Rattle.mas_run.proofs.PlayLemmas.{find_since}
+use Rattle.mas_run.proofs.PlayLemmas.{find_since, shapes_of}
 use Rattle.mas_run.proofs.VolumeLemmas.{kept_none, kept_past, kept_then}
 use Rattle.mas_types.specs.declared.journals.Batch.{Batch}
 use Rattle.mas_complex.specs.Journals.{kept_all, fated}
@@ -96,73 +98,87 @@ left_now : (old new : View) (a a' b b' : Bool) → (a ≡ true → old.lost (Dis
 left_now old new a a' b b' there1 there2 course some =
     ⊎_elim (λ alive. inl (left a' b' alive (λ is. course.there1 is (there1 (course.alive1 is))) (λ is. course.there2 is (there2 (course.alive2 is))))) inr some
 
-module _ {T : Type 0} (one two : Bool) (old new : View) (all : ℕ) (begun : List Batch) where
-  settled : (answer : Result T NodeNo) (kept closed : ℕ) (A : Type 0) → status_of answer ≢ status.BothLost → Ends answer kept closed all begun A one two old new → A ⊎ IsStopped old new
-  settled (Ok done) kept closed A ne ends = inl ends.2
-  settled (Err no_node.NoMemory) kept closed A ne ends = inl ends.1
-  settled (Err no_node.BothLost) kept closed A ne ends = absurd (ne refl)
-  settled (Err no_node.ConsoleFault) kept closed A ne ends = inl ends.2
-  settled (Err no_node.Halted) kept closed A ne ends = inr ends
+module _ {T : Type 0} (one two : Bool) (old new : View) (all : ℕ) (begun : List Batch) (A U : Type 0) where
+  settled : (begun ≡ [] → A) → (answer : Result T NodeNo) (kept closed : ℕ) → status_of answer ≢ status.BothLost → Ends answer kept closed all begun A U one two old new → A ⊎ IsStopped old new
+  settled none (Ok done) kept closed ne ends = inl (none ends.2)
+  settled none (Err no_node.NoMemory) kept closed ne ends = inl ends.1
+  settled none (Err no_node.BothLost) kept closed ne ends = absurd (ne refl)
+  settled none (Err no_node.ConsoleFault) kept closed ne ends = inl (none ends.1)
+  settled none (Err no_node.Halted) kept closed ne ends = inr ends.0
 
-  finished : (answer : Result T NodeNo) (kept closed : ℕ) (A : Type 0) → status_of answer ≡ status.Done → Ends answer kept closed all begun A one two old new → (closed ≡ all) ⊎ IsStopped old new
-  finished (Ok done) kept closed A e ends = inl ends.1
-  finished (Err no_node.NoMemory) kept closed A e ends = absurd (cc)
-  finished (Err no_node.BothLost) kept closed A e ends = absurd (cc)
-  finished (Err no_node.ConsoleFault) kept closed A e ends = absurd (cc)
-  finished (Err no_node.Halted) kept closed A e ends = inr ends
+  uncut : (begun ≡ [] → U) → (answer : Result T NodeNo) (kept closed : ℕ) → status_of answer ≢ status.NoMemory → Ends answer kept closed all begun A U one two old new → U
+  uncut none (Ok done) kept closed ne ends = none ends.2
+  uncut none (Err no_node.NoMemory) kept closed ne ends = absurd (ne refl)
+  uncut none (Err no_node.BothLost) kept closed ne ends = ends.2
+  uncut none (Err no_node.ConsoleFault) kept closed ne ends = none ends.1
+  uncut none (Err no_node.Halted) kept closed ne ends = ends.1
 
-  one_unsaid : (answer : Result T NodeNo) (kept closed : ℕ) (A : Type 0) → status_of answer ≡ status.ConsoleFault → Ends answer kept closed all begun A one two old new → (kept ≡ closed + 1) × (begun ≡ [])
-  one_unsaid (Ok done) kept closed A e ends = absurd (cc)
-  one_unsaid (Err no_node.NoMemory) kept closed A e ends = absurd (cc)
-  one_unsaid (Err no_node.BothLost) kept closed A e ends = absurd (cc)
-  one_unsaid (Err no_node.ConsoleFault) kept closed A e ends = (ends.0, ends.1)
-  one_unsaid (Err no_node.Halted) kept closed A e ends = absurd (cc)
+  finished : (answer : Result T NodeNo) (kept closed : ℕ) → status_of answer ≡ status.Done → Ends answer kept closed all begun A U one two old new → (closed ≡ all) ⊎ IsStopped old new
+  finished (Ok done) kept closed e ends = inl ends.1
+  finished (Err no_node.NoMemory) kept closed e ends = absurd (cc)
+  finished (Err no_node.BothLost) kept closed e ends = absurd (cc)
+  finished (Err no_node.ConsoleFault) kept closed e ends = absurd (cc)
+  finished (Err no_node.Halted) kept closed e ends = inr ends.0
 
-  none_unplayed : (answer : Result T NodeNo) (kept closed : ℕ) (A : Type 0) → status_of answer ≡ status.NoMemory → Ends answer kept closed all begun A one two old new → kept ≡ closed
-  none_unplayed (Ok done) kept closed A e ends = absurd (cc)
-  none_unplayed (Err no_node.NoMemory) kept closed A e ends = ends.0
-  none_unplayed (Err no_node.BothLost) kept closed A e ends = absurd (cc)
-  none_unplayed (Err no_node.ConsoleFault) kept closed A e ends = absurd (cc)
-  none_unplayed (Err no_node.Halted) kept closed A e ends = absurd (cc)
+  one_unsaid : (answer : Result T NodeNo) (kept closed : ℕ) → status_of answer ≡ status.ConsoleFault → Ends answer kept closed all begun A U one two old new → (kept ≡ closed + 1) × (begun ≡ [])
+  one_unsaid (Ok done) kept closed e ends = absurd (cc)
+  one_unsaid (Err no_node.NoMemory) kept closed e ends = absurd (cc)
+  one_unsaid (Err no_node.BothLost) kept closed e ends = absurd (cc)
+  one_unsaid (Err no_node.ConsoleFault) kept closed e ends = (ends.0, ends.1)
+  one_unsaid (Err no_node.Halted) kept closed e ends = absurd (cc)
 
-  none_unkept : (answer : Result T NodeNo) (kept closed : ℕ) (A : Type 0) → status_of answer ≡ status.BothLost → Ends answer kept closed all begun A one two old new → (kept ≡ closed) × IsBothLost one two
-  none_unkept (Ok done) kept closed A e ends = absurd (cc)
-  none_unkept (Err no_node.NoMemory) kept closed A e ends = absurd (cc)
-  none_unkept (Err no_node.BothLost) kept closed A e ends = ends
-  none_unkept (Err no_node.ConsoleFault) kept closed A e ends = absurd (cc)
-  none_unkept (Err no_node.Halted) kept closed A e ends = absurd (cc)
+  none_unplayed : (answer : Result T NodeNo) (kept closed : ℕ) → status_of answer ≡ status.NoMemory → Ends answer kept closed all begun A U one two old new → kept ≡ closed
+  none_unplayed (Ok done) kept closed e ends = absurd (cc)
+  none_unplayed (Err no_node.NoMemory) kept closed e ends = ends.0
+  none_unplayed (Err no_node.BothLost) kept closed e ends = absurd (cc)
+  none_unplayed (Err no_node.ConsoleFault) kept closed e ends = absurd (cc)
+  none_unplayed (Err no_node.Halted) kept closed e ends = absurd (cc)
 
-  console_failed : (answer : Result T NodeNo) (kept closed : ℕ) (A : Type 0) → status_of answer ≡ status.ConsoleFault → Ends answer kept closed all begun A one two old new → Rose (old.faults Console) (new.faults Console)
-  console_failed (Ok done) kept closed A e ends = absurd (cc)
-  console_failed (Err no_node.NoMemory) kept closed A e ends = absurd (cc)
-  console_failed (Err no_node.BothLost) kept closed A e ends = absurd (cc)
-  console_failed (Err no_node.ConsoleFault) kept closed A e ends = ends.3
-  console_failed (Err no_node.Halted) kept closed A e ends = absurd (cc)
+  none_unkept : (answer : Result T NodeNo) (kept closed : ℕ) → status_of answer ≡ status.BothLost → Ends answer kept closed all begun A U one two old new → (kept ≡ closed) × IsBothLost one two
+  none_unkept (Ok done) kept closed e ends = absurd (cc)
+  none_unkept (Err no_node.NoMemory) kept closed e ends = absurd (cc)
+  none_unkept (Err no_node.BothLost) kept closed e ends = (ends.0, ends.1)
+  none_unkept (Err no_node.ConsoleFault) kept closed e ends = absurd (cc)
+  none_unkept (Err no_node.Halted) kept closed e ends = absurd (cc)
+
+  console_failed : (answer : Result T NodeNo) (kept closed : ℕ) → status_of answer ≡ status.ConsoleFault → Ends answer kept closed all begun A U one two old new → Rose (old.faults Console) (new.faults Console)
+  console_failed (Ok done) kept closed e ends = absurd (cc)
+  console_failed (Err no_node.NoMemory) kept closed e ends = absurd (cc)
+  console_failed (Err no_node.BothLost) kept closed e ends = absurd (cc)
+  console_failed (Err no_node.ConsoleFault) kept closed e ends = ends.2
+  console_failed (Err no_node.Halted) kept closed e ends = absurd (cc)
 
 module _ {T : Type 0} (told : Type 0) (asked : List Turn) (from : Queue) (per : ℕ) (rest : List Batch) (old new : View) (a a' b b' : Bool) (answer : Result T NodeNo)
     (p : ArePlayed told from per asked rest a a' b b' old new answer) where
   abbrev Next : Type 0
-  Next = IsSettled (next_batches from p.kept asked) p.history.between new.now p.history.begun
+  Next = IsSettled (next_in p.kept p.did) p.history.between new.now p.history.begun
+
+  abbrev Uncut : Type 0
+  Uncut = IsBegun (next_in p.kept p.did) p.history.between new.now p.history.begun
 
   pub caused_by_steps : (a' ≡ false → new.lost (DiskPart Ckpt1) ≡ true) → (b' ≡ false → new.lost (DiskPart Ckpt2) ≡ true) → IsCausedFrom a b (status_of answer) old new
   caused_by_steps lost1 lost2 = record {
-    lost = λ e. let both = (none_unkept a' b' old new (length asked) p.history.begun answer p.kept p.closed Next e p.ends).1 in (lost1 both.0, lost2 both.1);
-    failed1 = λ e was. p.course.failed1 was (none_unkept a' b' old new (length asked) p.history.begun answer p.kept p.closed Next e p.ends).1.0;
-    failed2 = λ e was. p.course.failed2 was (none_unkept a' b' old new (length asked) p.history.begun answer p.kept p.closed Next e p.ends).1.1;
-    console = λ e. console_failed a' b' old new (length asked) p.history.begun answer p.kept p.closed Next e p.ends;
+    lost = λ e. let both = (none_unkept a' b' old new (length asked) p.history.begun Next Uncut answer p.kept p.closed e p.ends).1 in (lost1 both.0, lost2 both.1);
+    failed1 = λ e was. p.course.failed1 was (none_unkept a' b' old new (length asked) p.history.begun Next Uncut answer p.kept p.closed e p.ends).1.0;
+    failed2 = λ e was. p.course.failed2 was (none_unkept a' b' old new (length asked) p.history.begun Next Uncut answer p.kept p.closed e p.ends).1.1;
+    console = λ e. console_failed a' b' old new (length asked) p.history.begun Next Uncut answer p.kept p.closed e p.ends;
   }
 
   passed : (a ≡ true → old.lost (DiskPart Ckpt1) ≡ false) → (b ≡ true → old.lost (DiskPart Ckpt2) ≡ false) → HavePassed told asked (status_of answer) from per old.now rest old.loses old new
   passed there1 there2 = record {
+    did = p.did;
+    shaped = p.shaped;
+    are = p.are;
     kept = p.kept;
     closed = p.closed;
     few = p.few;
     history = p.history;
-    settled = λ ne. settled a' b' old new (length asked) p.history.begun answer p.kept p.closed Next ne p.ends;
-    done = λ e. finished a' b' old new (length asked) p.history.begun answer p.kept p.closed Next e p.ends;
-    unsaid = λ e. one_unsaid a' b' old new (length asked) p.history.begun answer p.kept p.closed Next e p.ends;
-    unplayed = λ e. none_unplayed a' b' old new (length asked) p.history.begun answer p.kept p.closed Next e p.ends;
-    unkept = λ e. (none_unkept a' b' old new (length asked) p.history.begun answer p.kept p.closed Next e p.ends).0;
+    settled = λ ne. settled a' b' old new (length asked) p.history.begun Next Uncut (λ none. inl none) answer p.kept p.closed ne p.ends;
+    uncut = λ ne. uncut a' b' old new (length asked) p.history.begun Next Uncut (λ none. inl none) answer p.kept p.closed ne p.ends;
+    done = λ e. finished a' b' old new (length asked) p.history.begun Next Uncut answer p.kept p.closed e p.ends;
+    unsaid = λ e. one_unsaid a' b' old new (length asked) p.history.begun Next Uncut answer p.kept p.closed e p.ends;
+    unplayed = λ e. none_unplayed a' b' old new (length asked) p.history.begun Next Uncut answer p.kept p.closed e p.ends;
+    unkept = λ e. (none_unkept a' b' old new (length asked) p.history.begun Next Uncut answer p.kept p.closed e p.ends).0;
     said = p.said;
     loses = p.loses;
     found = p.found;
@@ -236,18 +252,22 @@ module _ (entry old new : View) (goes : Goes entry old) (on : Goes old new) wher
   passed_since : (tells : Type 0) (asked : List Turn) (answer : Status) (from : Queue) (per at : ℕ) (rest : List Batch) (first other : Dev → ℕ) → (tells → console_now old ≡ console_now entry) → ((d : Dev) → first d ≡ other d)
       → HavePassed tells asked answer from per at rest first old new → HavePassed tells asked answer from per at rest other entry new
   passed_since tells asked answer from per at rest first other quiet same p = record {
+    did = p.did;
+    shaped = p.shaped;
+    are = p.are;
     kept = p.kept;
     closed = p.closed;
     few = p.few;
     history = p.history;
     settled = λ ne. ⊎_elim inl (λ s. inr (stopped_since s)) (p.settled ne);
+    uncut = p.uncut;
     done = λ d. ⊎_elim inl (λ s. inr (stopped_since s)) (p.done d);
     unsaid = p.unsaid;
     unplayed = p.unplayed;
     unkept = p.unkept;
-    said = λ t. adds_since (output from (take p.closed asked)) (output from (take p.kept asked)) (answer ≡ status.ConsoleFault) (quiet t) (p.said t);
-    loses = λ d. p.loses d ∙ ap (loses_after d (take p.kept asked)) (same d);
-    found = find_since entry old new per goes on from 1 asked p.found;
+    said = λ t. adds_since (lines_in (take p.closed p.did)) (lines_in (take p.kept p.did)) (answer ≡ status.ConsoleFault) (quiet t) (p.said t);
+    loses = λ t d. p.loses t d ∙ ap (loses_after d (take p.kept asked)) (same d);
+    found = find_since tells entry old new per goes on from 1 asked p.found;
     there = λ ne. ⊎_elim inl (λ lost. inr (⊎_elim (λ one. inl (subst (λ (n : ℕ). Rose n (new.loses Ckpt1)) (same Ckpt1) one)) (λ two. inr (subst (λ (n : ℕ). Rose n (new.loses Ckpt2)) (same Ckpt2) two)) lost)) (p.there ne);
   }
 
@@ -286,7 +306,7 @@ module _ (entry old new : View) (goes : Goes entry old) (on : Goes old new) wher
 -- a warm run in which Restart isn't kept plays no step
 pub reset_alone : (tells : Type 0) (asked : List Turn) (answer : Status) (base : Queue) (opening : List Batch) (journal : Journal) (since : ℕ) (old new : View) → journal.batches ≡ opening → since ≡ old.now → Goes old new → IsReset answer since since opening 0 []
     → (answer ≢ status.Done) → (answer ≢ status.ConsoleFault) → ((d : Dev) → new.loses d ≡ old.loses d) → (tells → console_now new ≡ console_now old) → (tells → ∥ Headline reads base since journal new ∥₁)
-    → (answer ≢ status.BothLost → (new.lost (DiskPart Ckpt1) ≡ false) ⊎ (new.lost (DiskPart Ckpt2) ≡ false)) → FindLost old new base.config.groups (run base (kept_all opening)) 1 asked → (tells → AreVolumesKept old new)
+    → (answer ≢ status.BothLost → (new.lost (DiskPart Ckpt1) ≡ false) ⊎ (new.lost (DiskPart Ckpt2) ≡ false)) → FindLost tells old new base.config.groups (run base (kept_all opening)) 1 asked → (tells → AreVolumesKept old new)
     → HasSteps false tells asked answer base journal since old.loses old new
 reset_alone tells asked answer base opening journal since old new are is goes reset not_done not_unsaid same quiet head there found kept = record {
   opening = opening;
@@ -295,17 +315,21 @@ reset_alone tells asked answer base opening journal since old new are is goes re
   at = since;
   began = (omega arith, omega (arith, is, goes.later));
   played = record {
+    did = outcomes_of (run base (kept_all opening)) asked;
+    shaped = shapes_of (run base (kept_all opening)) 1 asked;
+    are = λ t. refl;
     kept = 0;
     closed = 0;
     few = (omega arith, omega arith, omega arith);
     history = record { front = []; begun = []; are = refl; between = since; moments = (omega arith, omega (arith, is, goes.later)); are_kept = tt; next = inl (inl refl) };
     settled = λ ne. inl (inl refl);
+    uncut = λ ne. inl refl;
     done = λ e. absurd (not_done e);
     unsaid = λ e. absurd (not_unsaid e);
     unplayed = λ e. refl;
     unkept = λ e. refl;
     said = λ t. inl (quiet t ∙ sym (append-nil (console_now old)));
-    loses = same;
+    loses = λ t. same;
     found = found;
     there = λ ne. inl (there ne);
   };
@@ -361,6 +385,9 @@ module _ (config : Config) (routes : List Route) (t : Tables) (is : t ≡ empty_
     outputs = subst (λ (u : Tables). All (IsFitOutput u.order) (used u.outputs)) (sym is) (none_used (IsFitOutput 0) config.outputs);
   }
 
+  pub low_empty : (batches : ℕ) → HasShape t → AreLow t.config batches t
+  low_empty batches shape = record { same = refl; fit = fit_empty shape; order = subst (λ (u : Tables). u.order ≤ orders_after batches) (sym is) (omega arith) }
+
   pub told_empty : (Q : Queue) → Q ≡ empty_queue config routes → Tell (empty_tables config routes) (empty_queue config routes) → Tell t Q
   told_empty Q queue told = subst (Tell t) (sym queue) (subst (λ (u : Tables). Tell u (empty_queue config routes)) (sym is) told)
 
@@ -391,3 +418,13 @@ caused_through a a' c c' answer v0 v1 v2 course goes grow caused = record {
   failed2 = λ e was. by_alive c' (λ is. lost_later Ckpt2 v0 v1 v2 course.goes (course.grow Ckpt2) (caused.failed2 e is)) (λ not. lost_more Ckpt2 v0 v1 v2 (course.failed2 was not) goes (grow Ckpt2));
   console = λ e. omega (arith, course.goes.faults Console, caused.console e);
 }
+
+-- a run without steps leaves the volumes
+pub stepless_kept : (cold : Bool) (tells : Type 0) (script : Script) (answer : Status) (base : Queue) (journal : Journal) (since : ℕ) (old new : View) → script.steps ≡ [] → (tells → has_begun base ≡ false → AreVolumesKept old new)
+    → (has_begun base ≡ true → IsRun cold tells script answer base journal since old new) → tells → AreVolumesKept old new
+stepless_kept cold tells script answer base journal since old new none unbegun run t = by_begun (has_begun base) refl where
+  by_begun : (begun : Bool) → has_begun base ≡ begun → AreVolumesKept old new
+  by_begun false is = unbegun t is
+  by_begun true is =
+      let r = run is in
+      r.steps.volumes t (subst (λ (steps : List Step). All LeavesVolumes (turns_of base.config r.lost steps)) (sym none) (All-nil LeavesVolumes))

@@ -1,5 +1,5 @@
 -- The steps of a script, as they are taken.
-use Rattle.std.proofs.Common.{◌≡◌, ℕ, suc, ◌+◌, ◌*◌, ◌≤◌, ◌<◌, ◌^◌, Bool, true, false, List, [], ◌∷◌, ◌++◌, length, map, take, drop, get_or, All, Option, Some, None, Result, Ok, Err, refl, sym, ◌∙◌, ap, subst, arith, append-nil}
+use Rattle.std.proofs.Common.{◌≡◌, ℕ, suc, ◌+◌, ◌*◌, ◌≤◌, ◌<◌, ◌^◌, Bool, true, false, List, [], ◌∷◌, ◌++◌, length, take, drop, get_or, Option, Result, Ok, Err, refl, sym, ◌∙◌, ap, subst, arith, append-nil}
 use Rattle.std.proofs.lemmas.List.{length-append, length-take, take_all, take_more}
 use Rattle.mas_types.specs.declared.ids.Dev.TheVariants.{Spool}
 use Rattle.mas_types.specs.declared.journals.Batch.{Batch}
@@ -16,7 +16,6 @@ use Rattle.spool_disk.specs.declared.plant.Part.TheVariants.{Disk}
 use Rattle.spool_disk.specs.View.{View}
 use Rattle.spool_disk.specs.Acts.{Goes}
 use Rattle.mas_complex.specs.Crash.{IsUntold, setting}
-use Rattle.mas_complex.specs.Headline.{whole}
 use Rattle.mas_complex.specs.Journals.{kept_all}
 use Rattle.mas_complex.specs.Meaning.{run}
 use Rattle.member_decks.specs.Spooling.{AreRoomy}
@@ -25,11 +24,11 @@ use Rattle.member_node.specs.declared.member.NodeNo.{NodeNo}
 use Rattle.member_node.specs.Calls.{console_now}
 use Rattle.member_steps.specs.Steps.{AreAllKept}
 use Rattle.mas_run.specs.Plays.{ArePlayed, HasPlay, HavePlay, HavePlayed}
-use Rattle.mas_run.specs.Steps.{output, queue_after}
+use Rattle.mas_run.specs.Steps.{queue_after}
 use Rattle.mas_run.specs.Stops.{IsStepOf}
 use Rattle.mas_run.specs.Turns.{Turn, book_after, turn_at, turns_from}
 use Rattle.mas_run.proofs.LineLemmas.{step_untold}
-use Rattle.mas_run.proofs.PlayLemmas.{all_kept_behind, behind, kept_played, played_all, played_none, played_on, played_out, queue_behind, queue_played}
+use Rattle.mas_run.proofs.PlayLemmas.{all_kept_behind, behind, few_played, kept_played, played_all, played_none, played_on, played_out, queue_behind, queue_played}
 use Rattle.mas_run.proofs.TurnLemmas.{book_behind, book_more, none_found, steps_split, turns_length, turns_split}
 
 -- volumes that have room keep it
@@ -60,15 +59,24 @@ module _ (told : Type 0) (from : Queue) (config : Config) (book : Book) (asked :
   abbrev turns : List Turn
   turns = turns_from config book play.lost (take i asked)
 
-  queue_here : (base : Queue) → from ≡ run base (kept_all opening) → run base (kept_all batches) ≡ queue_after from 1 (turns_from config book play.lost (take i asked))
-  queue_here base is =
+  queue_here : (base : Queue) → from ≡ run base (kept_all opening) → told → run base (kept_all batches) ≡ queue_after from 1 (turns_from config book play.lost (take i asked))
+  queue_here base is t =
       queue_behind base opening play.rest batches play.batches_are ∙ ap (λ (q : Queue). run q (kept_all play.rest)) (sym is)
-      ∙ queue_played told from config.groups (turns_from config book play.lost (take i asked)) play.rest a0 a b0 b v0 v play.played
+      ∙ queue_played told from config.groups (turns_from config book play.lost (take i asked)) play.rest a0 a b0 b v0 v play.played t
 
   -- the batches so far are kept
   pub kept_here : AreAllKept opening v0.now → AreAllKept batches v.now
   kept_here before = all_kept_behind opening play.rest batches v0.now v.now play.played.course.goes.later play.batches_are before
       (kept_played told from config.groups (turns_from config book play.lost (take i asked)) play.rest a0 a b0 b v0 v play.played)
+
+  -- each step has two of them at most
+  pub few_here : length batches ≤ length opening + 2 * i
+  few_here =
+      let e = ap length play.batches_are ∙ length-append opening play.rest in
+      let few = few_played told from config.groups (turns_from config book play.lost (take i asked)) play.rest a0 a b0 b v0 v play.played in
+      let many = turns_length config book play.lost (take i asked) in
+      let taken = length-take i asked in
+      omega (arith, e, few, many, taken)
 
   module _ (lt : i < length asked) where
     many_turns : length (turns_from config book play.lost (take i asked)) ≡ i
@@ -76,7 +84,7 @@ module _ (told : Type 0) (from : Queue) (config : Config) (book : Book) (asked :
 
     -- the next step is untold
     pub untold_here : (reads : List ℕ → Option (List ℕ)) (base : Queue) (since k : ℕ) → k ≡ 1 + i → k < 2 ^ 64 → (v.world since).console ≡ console_now v0 → told → (es : List Entry) → AreOf sysa k es → IsUntold (setting reads base since) v es
-    untold_here reads base since k numbered small before t es of = step_untold es k small of reads base from since 1 (turns_from config book play.lost (take i asked)) v (console_now v0)
+    untold_here reads base since k numbered small before t es of = step_untold es k small of reads base since 1 (turns_from config book play.lost (take i asked)) play.played.did v (console_now v0) play.played.shaped
         (omega (arith, many_turns, numbered)) before (play.played.said t)
 
     module _ (s : Step) (here : s ≡ get_or asked i s) (c : Book) (at_book : c ≡ book_behind config book (take i asked)) (x : Option ℕ) where
@@ -123,7 +131,7 @@ module _ (told : Type 0) (from : Queue) (config : Config) (book : Book) (asked :
           batches_are = behind opening play.rest step.more batches now play.batches_are step.are;
           played = subst (λ (ts : List Turn). ArePlayed {T = T} told from config.groups ts (play.rest ++ step.more) a0 a' b0 b' v0 v' (Err why)) (sym all_turns)
               (played_out told from config.groups (turns_from config book play.lost (take i asked)) (turn_at config c x s.what) play.rest a0 a a' b0 b b' v0 v v' play.played (run base (kept_all batches)) k (queue_here base is_from) number_here
-              (turns_from config (book_after config c s.what) [] (drop (suc i) asked)) (λ R n. none_found v0 v' config.groups config (book_after config c s.what) (drop (suc i) asked) R n) batches now why step);
+              (turns_from config (book_after config c s.what) [] (drop (suc i) asked)) (λ R n. none_found told v0 v' config.groups config (book_after config c s.what) (drop (suc i) asked) R n) batches now why step);
         }
 
   -- all of them have been played

@@ -1,8 +1,9 @@
 -- A step, from what the member's call says.
-use Rattle.std.proofs.Common.{◌≡◌, ◌≢◌, ◌≤◌, inl, inr, ⊎_elim, ℕ, ◌==◌, if◌then◌else◌, Bool, true, false, List, [], ◌∷◌, ◌++◌, Option, Some, None, Result, Ok, Err, refl, sym, ◌∙◌, ap, subst, arith, append-nil, eq-eqb, eqb-true}
-use Rattle.std.proofs.lemmas.List.{append_cancel_left}
+use Rattle.std.proofs.Common.{◌≡◌, ◌≢◌, ◌≤◌, inl, inr, ⊎_elim, ℕ, ◌==◌, if◌then◌else◌, Bool, true, false, List, [], ◌∷◌, ◌++◌, length, Option, Result, Ok, Err, refl, sym, ◌∙◌, ap, subst, arith, append-nil, eq-eqb, eqb-true}
+use Rattle.std.proofs.lemmas.List.{append_cancel_left, length-append}
 use Rattle.mas_types.specs.declared.answers.Closing.{Closing}
 use Rattle.mas_types.specs.declared.commands.Command.{Command}
+use Rattle.mas_types.specs.declared.commands.Reply.{Reply}
 use Rattle.mas_types.specs.declared.ids.Dev.{Dev}
 use Rattle.mas_types.specs.declared.ids.Dev.TheVariants.{Ckpt1, Ckpt2, Spool}
 use Rattle.mas_types.specs.declared.jobs.JobFields.{JobFields}
@@ -18,7 +19,7 @@ use Rattle.spool_disk.specs.declared.plant.Part.TheVariants.{Disk}
 use Rattle.spool_disk.specs.View.{View, Line}
 use Rattle.spool_disk.specs.Acts.{Loses, next}
 use Rattle.mas_complex.specs.Journals.{begun, fated}
-use Rattle.member_decks.specs.Batches.{AreAll, HasAll}
+use Rattle.member_decks.specs.Batches.{AreAll, HasAll, OneFlies}
 use Rattle.member_decks.specs.Decks.{deck_batches, deck_lines}
 use Rattle.member_decks.specs.Steps.{IsDeckStep}
 use Rattle.member_node.specs.declared.member.NodeNo.{NodeNo}
@@ -29,12 +30,13 @@ use Rattle.duplex_pair.specs.Halves.{IsCkpt, other, pick}
 use Rattle.mas_complex.specs.Elsewhere.{Elsewhere}
 use Rattle.member_node.proofs.CourseLemmas.{apart_first, apart_second, course_first, course_none, course_second}
 use Rattle.member_steps.specs.Locked.{IsDenial, denied_lines}
-use Rattle.member_steps.specs.Steps.{IsStep, StepTells}
-use Rattle.member_steps.specs.Steps as command_step
-use Rattle.mas_run.specs.Steps.{FindsLost, LeavesVolumes, step_batches, step_lines, loses_after_step}
+use Rattle.member_node.specs.Lines.{reply_lines}
+use Rattle.member_steps.specs.Steps.{GivesStep, StepTells, entry_with}
+use Rattle.mas_run.specs.Steps.{FindsLost, IsOutcome, LeavesVolumes, Outcome, loses_after_step, outcome_of}
 use Rattle.mas_run.specs.Stops.{IsLeftOrLost, IsStepOf}
 use Rattle.mas_run.specs.Turns.{Task, Reads, Gives, Turn, Granted, Denied, Closed, Loss}
 use Rattle.mas_run.specs.Volumes.{AreVolumesKept}
+use Rattle.mas_run.proofs.PlayLemmas.{shape_of}
 use Rattle.mas_run.proofs.VolumeLemmas.{kept_none, kept_on}
 
 -- HOW OFTEN A DEVICE WAS LOST
@@ -103,103 +105,171 @@ not_both front batches b now flies flying k =
     let same : Flying ≡ Kept = sym flies ∙ sym (last_fate_is front b) ∙ ap last_fate (sym flying ∙ k.3) ∙ last_fate_is front (fated Kept k.0 b) in
     absurd (cc)
 
+-- one batch more isn't none
+one_more : (front batches : List Batch) (b : Batch) (now : ℕ) → batches ≡ front → HasKept front batches b now → ⊥
+one_more front batches b now none k =
+    let same = ap length (sym none ∙ k.3) ∙ length-append front (fated Kept k.0 b ∷ []) in
+    absurd (omega (arith, same))
+
 module _ (told : Type 0) (given : Command) (Q : Queue) (per at : ℕ) (front batches : List Batch) (a a' b b' : Bool) (v v' : View) where
-  abbrev its_entries : List Entry
-  its_entries = command_step.entry_of Q sysa at given ∷ []
-
-  abbrev its_batch : Batch
-  its_batch = begun v.now sysa its_entries
-
-  kept_now : (last : ℕ) → v.now ≤ last → last ≤ v'.now → AreAll sysa v.now v'.now (its_entries ∷ []) (fated Kept last its_batch ∷ [])
-  kept_now last one two = (record { by_it = refl; entries = refl; kept = refl; moments = (omega arith, one, two) }, tt)
-
   abbrev Given : {T : Type 0} → Result T NodeNo → Type 0
-  Given result = IsStep told sysa.0 (command_step.step_lines Q sysa at given) its_batch front batches a a' b b' v v' result
+  Given result = GivesStep told sysa at given Q front batches a a' b b' v v' result
 
   abbrev GivenPlays : {T : Type 0} → Result T NodeNo → Type 0
   GivenPlays result = IsStepOf told (Granted (Gives given)) Q per at front batches a a' b b' v v' result
 
+  abbrev its_entries : Reply → List Entry
+  its_entries r = entry_with sysa at given r ∷ []
+
+  abbrev its_did : Reply → Outcome
+  its_did r = record { batches = its_entries r ∷ []; lines = reply_lines sysa at r }
+
+  module _ (r : Reply) (first : ℕ) (later : (v.now ≤ first) × (first ≤ v'.now)) where
+    abbrev its_batch : Batch
+    its_batch = begun first sysa (its_entries r)
+
+    kept_now : (last : ℕ) → first ≤ last → last ≤ v'.now → AreAll sysa v.now v'.now (its_entries r ∷ []) (fated Kept last its_batch ∷ [])
+    kept_now last one two = (record { by_it = refl; entries = refl; kept = refl; moments = (later.0, one, two) }, tt)
+
+    flies_now : OneFlies sysa v.now v'.now (its_entries r ∷ []) (its_batch ∷ [])
+    flies_now = inl (refl, (its_entries r, (omega arith, ([], sym (append-nil (its_entries r)))), record { by_it = refl; entries = refl; flies = refl; moments = (later.0, later.1, refl) }))
+
   given_done : {T : Type 0} (done : T) → Given (Ok done) → GivenPlays (Ok done)
-  given_done done step = record {
-    course = step.course;
-    cause = inl step.cause;
-    loses = λ d. step.loses d ∙ sym (granted_counts d (Gives given) (v.loses d));
-    more = fated Kept step.journal.0 its_batch ∷ [];
-    are = step.journal.3;
-    leaves = kept_now step.journal.0 step.journal.1 step.journal.2;
+  given_done done g = record {
+    course = g.step.course;
+    cause = inl g.step.cause;
+    did = its_did g.reply;
+    shaped = (g.reply, refl, refl);
+    is = λ t. ap its_did (g.is t);
+    loses = λ t d. g.step.loses t d ∙ sym (granted_counts d (Gives given) (v.loses d));
+    more = fated Kept g.step.journal.0 (its_batch g.reply g.first g.later) ∷ [];
+    are = g.step.journal.3;
+    leaves = kept_now g.reply g.first g.later g.step.journal.0 g.step.journal.1 g.step.journal.2;
     found = tt;
-    volumes = λ t none. kept_on v v' (step.others t);
-    console = step.console;
+    volumes = λ t none. kept_on v v' (g.step.others t);
+    console = g.step.console;
   }
 
   given_unplayed : {T : Type 0} → Given {T = T} (Err no_node.NoMemory) → GivenPlays {T = T} (Err no_node.NoMemory)
-  given_unplayed step = record {
-    course = step.course;
-    cause = inl (inr step.cause);
-    loses = λ d. (step.loses d, granted_counts d (Gives given) (v.loses d));
+  given_unplayed g = record {
+    course = g.step.course;
+    cause = inl g.step.cause;
+    did = its_did g.reply;
+    shaped = (g.reply, refl, refl);
+    is = λ t. ap its_did (g.is t);
+    loses = λ t d. (g.step.loses t d, granted_counts d (Gives given) (v.loses d));
     more = [];
-    are = step.journal ∙ sym (append-nil front);
+    are = g.step.journal ∙ sym (append-nil front);
     leaves = inl refl;
     found = tt;
-    volumes = λ t none. kept_on v v' (step.others t);
-    console = step.console;
+    volumes = λ t none. kept_on v v' (g.step.others t);
+    console = g.step.console;
   }
 
+  -- the batch is in flight, or isn't begun
   given_lost : {T : Type 0} → Given {T = T} (Err no_node.BothLost) → GivenPlays {T = T} (Err no_node.BothLost)
-  given_lost step = record {
-    course = step.course;
-    cause = step.cause;
-    loses = λ d. (step.loses d, granted_counts d (Gives given) (v.loses d));
-    more = its_batch ∷ [];
-    are = step.journal;
-    leaves = inl (record { by_it = refl; entries = refl; flies = refl; moments = (omega arith, step.course.goes.later, refl) }, refl);
-    found = tt;
-    volumes = λ t none. kept_on v v' (step.others t);
-    console = step.console;
-  }
-
-  given_unsaid : {T : Type 0} → Given {T = T} (Err no_node.ConsoleFault) → GivenPlays {T = T} (Err no_node.ConsoleFault)
-  given_unsaid step = record {
-    course = step.course;
-    cause = (inl step.cause.0, step.cause.1);
-    loses = λ d. (step.loses d, granted_counts d (Gives given) (v.loses d));
-    more = fated Kept step.journal.0 its_batch ∷ [];
-    are = step.journal.3;
-    leaves = kept_now step.journal.0 step.journal.1 step.journal.2;
-    found = tt;
-    volumes = λ t none. kept_on v v' (step.others t);
-    console = step.console;
-  }
-
-  -- the batch is in flight, or it is kept
-  given_stopped : {T : Type 0} → Given {T = T} (Err no_node.Halted) → GivenPlays {T = T} (Err no_node.Halted)
-  given_stopped {T = T} step = ⊎_elim flies kept step.journal where
-    flies : HasFlying front batches its_batch → GivenPlays {T = T} (Err no_node.Halted)
-    flies are = record {
-      course = step.course;
-      cause = (inl step.cause.0, step.cause.1);
-      loses = λ d. (step.loses d, granted_counts d (Gives given) (v.loses d));
-      more = its_batch ∷ [];
-      are = are;
-      leaves = inl (inl (record { by_it = refl; entries = refl; flies = refl; moments = (omega arith, step.course.goes.later, refl) }, refl));
+  given_lost {T = T} g = ⊎_elim none flies g.step.journal where
+    none : batches ≡ front → GivenPlays {T = T} (Err no_node.BothLost)
+    none are = record {
+      course = g.step.course;
+      cause = g.step.cause;
+      did = its_did g.reply;
+      shaped = (g.reply, refl, refl);
+      is = λ t. ap its_did (g.is t);
+      loses = λ t d. (g.step.loses t d, granted_counts d (Gives given) (v.loses d));
+      more = [];
+      are = are ∙ sym (append-nil front);
+      leaves = inl tt;
       found = tt;
-      volumes = λ t none. kept_on v v' (step.others t);
-      console = λ t. tells_as (let r : Result T NodeNo = Err no_node.Halted in r) (command_step.step_lines Q sysa at given) (HasKept front batches its_batch v'.now) (AreAll sysa v.now v'.now (its_entries ∷ []) (its_batch ∷ [])) (console_now v) (console_now v')
-          (λ k. absurd (not_both front batches its_batch v'.now refl are k)) (step.console t);
+      volumes = λ t quiet. kept_on v v' (g.step.others t);
+      console = g.step.console;
     }
 
-    kept : HasKept front batches its_batch v'.now → GivenPlays {T = T} (Err no_node.Halted)
-    kept k = record {
-      course = step.course;
-      cause = (inl step.cause.0, step.cause.1);
-      loses = λ d. (step.loses d, granted_counts d (Gives given) (v.loses d));
-      more = fated Kept k.0 its_batch ∷ [];
-      are = k.3;
-      leaves = inr (inr (kept_now k.0 k.1 k.2));
+    flies : HasFlying front batches (its_batch g.reply g.first g.later) → GivenPlays {T = T} (Err no_node.BothLost)
+    flies are = record {
+      course = g.step.course;
+      cause = g.step.cause;
+      did = its_did g.reply;
+      shaped = (g.reply, refl, refl);
+      is = λ t. ap its_did (g.is t);
+      loses = λ t d. (g.step.loses t d, granted_counts d (Gives given) (v.loses d));
+      more = its_batch g.reply g.first g.later ∷ [];
+      are = are;
+      leaves = inr (flies_now g.reply g.first g.later);
       found = tt;
-      volumes = λ t none. kept_on v v' (step.others t);
-      console = λ t. tells_as (let r : Result T NodeNo = Err no_node.Halted in r) (command_step.step_lines Q sysa at given) (HasKept front batches its_batch v'.now) (AreAll sysa v.now v'.now (its_entries ∷ []) (fated Kept k.0 its_batch ∷ [])) (console_now v) (console_now v')
-          (λ l. kept_now k.0 k.1 k.2) (step.console t);
+      volumes = λ t quiet. kept_on v v' (g.step.others t);
+      console = g.step.console;
+    }
+
+  given_unsaid : {T : Type 0} → Given {T = T} (Err no_node.ConsoleFault) → GivenPlays {T = T} (Err no_node.ConsoleFault)
+  given_unsaid g = record {
+    course = g.step.course;
+    cause = (inl g.step.cause.0, g.step.cause.1);
+    did = its_did g.reply;
+    shaped = (g.reply, refl, refl);
+    is = λ t. ap its_did (g.is t);
+    loses = λ t d. (g.step.loses t d, granted_counts d (Gives given) (v.loses d));
+    more = fated Kept g.step.journal.0 (its_batch g.reply g.first g.later) ∷ [];
+    are = g.step.journal.3;
+    leaves = kept_now g.reply g.first g.later g.step.journal.0 g.step.journal.1 g.step.journal.2;
+    found = tt;
+    volumes = λ t none. kept_on v v' (g.step.others t);
+    console = g.step.console;
+  }
+
+  -- the batch isn't begun, is in flight, or is kept
+  given_stopped : {T : Type 0} → Given {T = T} (Err no_node.Halted) → GivenPlays {T = T} (Err no_node.Halted)
+  given_stopped {T = T} g = ⊎_elim none (λ others. ⊎_elim flies kept others) g.step.journal where
+    tells_it : (more : List Batch) → (HasKept front batches (its_batch g.reply g.first g.later) v'.now → AreAll sysa v.now v'.now (its_entries g.reply ∷ []) more) → told
+        → StepTells {T = T} (Err no_node.Halted) (reply_lines sysa at g.reply) (AreAll sysa v.now v'.now (its_entries g.reply ∷ []) more) (console_now v) (console_now v')
+    tells_it more f t = tells_as (let r : Result T NodeNo = Err no_node.Halted in r) (reply_lines sysa at g.reply) (HasKept front batches (its_batch g.reply g.first g.later) v'.now) (AreAll sysa v.now v'.now (its_entries g.reply ∷ []) more) (console_now v) (console_now v') f (g.step.console t)
+
+    none : batches ≡ front → GivenPlays {T = T} (Err no_node.Halted)
+    none are = record {
+      course = g.step.course;
+      cause = (inl g.step.cause.0, g.step.cause.1);
+      did = its_did g.reply;
+      shaped = (g.reply, refl, refl);
+      is = λ t. ap its_did (g.is t);
+      loses = λ t d. (g.step.loses t d, granted_counts d (Gives given) (v.loses d));
+      more = [];
+      are = are ∙ sym (append-nil front);
+      leaves = inl tt;
+      found = tt;
+      volumes = λ t quiet. kept_on v v' (g.step.others t);
+      console = tells_it [] (λ k. absurd (one_more front batches (its_batch g.reply g.first g.later) v'.now are k));
+    }
+
+    flies : HasFlying front batches (its_batch g.reply g.first g.later) → GivenPlays {T = T} (Err no_node.Halted)
+    flies are = record {
+      course = g.step.course;
+      cause = (inl g.step.cause.0, g.step.cause.1);
+      did = its_did g.reply;
+      shaped = (g.reply, refl, refl);
+      is = λ t. ap its_did (g.is t);
+      loses = λ t d. (g.step.loses t d, granted_counts d (Gives given) (v.loses d));
+      more = (its_batch g.reply g.first g.later) ∷ [];
+      are = are;
+      leaves = inr (inl (flies_now g.reply g.first g.later));
+      found = tt;
+      volumes = λ t quiet. kept_on v v' (g.step.others t);
+      console = tells_it ((its_batch g.reply g.first g.later) ∷ []) (λ k. absurd (not_both front batches (its_batch g.reply g.first g.later) v'.now refl are k));
+    }
+
+    kept : HasKept front batches (its_batch g.reply g.first g.later) v'.now → GivenPlays {T = T} (Err no_node.Halted)
+    kept k = record {
+      course = g.step.course;
+      cause = (inl g.step.cause.0, g.step.cause.1);
+      did = its_did g.reply;
+      shaped = (g.reply, refl, refl);
+      is = λ t. ap its_did (g.is t);
+      loses = λ t d. (g.step.loses t d, granted_counts d (Gives given) (v.loses d));
+      more = fated Kept k.0 (its_batch g.reply g.first g.later) ∷ [];
+      are = k.3;
+      leaves = inr (inr (kept_now g.reply g.first g.later k.0 k.1 k.2));
+      found = tt;
+      volumes = λ t quiet. kept_on v v' (g.step.others t);
+      console = tells_it (fated Kept k.0 (its_batch g.reply g.first g.later) ∷ []) (λ l. kept_now g.reply g.first g.later k.0 k.1 k.2);
     }
 
   pub command_step_of : {T : Type 0} (result : Result T NodeNo) → Given result → GivenPlays result
@@ -211,6 +281,9 @@ module _ (told : Type 0) (given : Command) (Q : Queue) (per at : ℕ) (front bat
 
 -- A DECK
 
+outcome_is : (xs ys : List (List Entry)) (ls ms : List (List ℕ)) → xs ≡ ys → ls ≡ ms → (let o : Outcome = record { batches = xs; lines = ls } in o) ≡ record { batches = ys; lines = ms }
+outcome_is xs ys ls ms one two = ap (λ (l : List (List Entry)). let o : Outcome = record { batches = l; lines = ls } in o) one ∙ ap (λ (l : List (List ℕ)). let o : Outcome = record { batches = ys; lines = l } in o) two
+
 module _ (told : Type 0) (fields : JobFields) (text : List (List ℕ)) (Q : Queue) (per at : ℕ) (front batches : List Batch) (a a' b b' : Bool) (v v' : View) where
   abbrev Deck : {T : Type 0} → Result T NodeNo → Type 0
   Deck result = IsDeckStep told sysa at per Q fields text front batches a a' b b' v v' result
@@ -218,67 +291,88 @@ module _ (told : Type 0) (fields : JobFields) (text : List (List ℕ)) (Q : Queu
   abbrev DeckPlays : {T : Type 0} → Option ℕ → Result T NodeNo → Type 0
   DeckPlays lost result = IsStepOf told (Granted (Reads fields text lost)) Q per at front batches a a' b b' v v' result
 
-  -- the batches behind those before it are its own
-  own_batches : {T : Type 0} (result : Result T NodeNo) (step : Deck result) → HasAll sysa v.now v'.now (deck_batches Q sysa at fields text step.lost) front batches → AreAll sysa v.now v'.now (deck_batches Q sysa at fields text step.lost) step.rest
-  own_batches result step all = subst (AreAll sysa v.now v'.now (deck_batches Q sysa at fields text step.lost)) (append_cancel_left front all.0 step.rest (sym all.1 ∙ step.batches_are)) all.2
+  module _ {T : Type 0} (result : Result T NodeNo) (step : Deck result) where
+    abbrev deck_did : Outcome
+    deck_did = record { batches = step.gave; lines = step.lines }
 
-  tells_own : {T : Type 0} (result : Result T NodeNo) (step : Deck result) → told → StepTells result (deck_lines Q sysa at fields text step.lost) (AreAll sysa v.now v'.now (deck_batches Q sysa at fields text step.lost) step.rest) (console_now v) (console_now v')
-  tells_own result step t = tells_as result (deck_lines Q sysa at fields text step.lost) (HasAll sysa v.now v'.now (deck_batches Q sysa at fields text step.lost) front batches) (AreAll sysa v.now v'.now (deck_batches Q sysa at fields text step.lost) step.rest)
-      (console_now v) (console_now v') (own_batches result step) (step.console t)
+    deck_is : told → deck_did ≡ outcome_of Q at (Granted (Reads fields text step.lost))
+    deck_is t = outcome_is step.gave (deck_batches Q sysa at fields text step.lost) step.lines (deck_lines Q sysa at fields text step.lost) (step.is t).batches (step.is t).lines_are
+
+    -- the batches behind those before it are its own
+    own_batches : HasAll sysa v.now v'.now step.gave front batches → AreAll sysa v.now v'.now step.gave step.rest
+    own_batches all = subst (AreAll sysa v.now v'.now step.gave) (append_cancel_left front all.0 step.rest (sym all.1 ∙ step.batches_are)) all.2
+
+    tells_own : told → StepTells result step.lines (AreAll sysa v.now v'.now step.gave step.rest) (console_now v) (console_now v')
+    tells_own t = tells_as result step.lines (HasAll sysa v.now v'.now step.gave front batches) (AreAll sysa v.now v'.now step.gave step.rest) (console_now v) (console_now v') own_batches (step.console t)
 
   pub deck_step_of : {T : Type 0} (result : Result T NodeNo) → (step : Deck result) → DeckPlays step.lost result
   deck_step_of {T = T} (Ok done) step = record {
     course = step.course;
     cause = inl step.cause;
-    loses = λ d. step.loses d ∙ sym (granted_counts d (Reads fields text step.lost) (v.loses d));
+    did = deck_did (let r : Result T NodeNo = Ok done in r) step;
+    shaped = (step.of, step.few, step.closes);
+    is = deck_is (let r : Result T NodeNo = Ok done in r) step;
+    loses = λ t d. step.loses t d ∙ sym (granted_counts d (Reads fields text step.lost) (v.loses d));
     more = step.rest;
     are = step.batches_are;
     leaves = step.journal;
-    found = step.found;
+    found = (step.found, λ t. (step.is t).lies);
     volumes = λ t none. absurd none;
     console = tells_own (let r : Result T NodeNo = Ok done in r) step;
   }
   deck_step_of {T = T} (Err no_node.NoMemory) step = record {
     course = step.course;
     cause = inl step.cause;
-    loses = λ d. (step.loses d, granted_counts d (Reads fields text step.lost) (v.loses d));
+    did = deck_did (let r : Result T NodeNo = Err no_node.NoMemory in r) step;
+    shaped = (step.of, step.few, step.closes);
+    is = deck_is (let r : Result T NodeNo = Err no_node.NoMemory in r) step;
+    loses = λ t d. (step.loses t d, granted_counts d (Reads fields text step.lost) (v.loses d));
     more = step.rest;
     are = step.batches_are;
     leaves = inr step.journal;
-    found = step.found;
+    found = (step.found, λ t. (step.is t).lies);
     volumes = λ t none. absurd none;
     console = tells_own (let r : Result T NodeNo = Err no_node.NoMemory in r) step;
   }
   deck_step_of {T = T} (Err no_node.BothLost) step = record {
     course = step.course;
     cause = step.cause;
-    loses = λ d. (step.loses d, granted_counts d (Reads fields text step.lost) (v.loses d));
+    did = deck_did (let r : Result T NodeNo = Err no_node.BothLost in r) step;
+    shaped = (step.of, step.few, step.closes);
+    is = deck_is (let r : Result T NodeNo = Err no_node.BothLost in r) step;
+    loses = λ t d. (step.loses t d, granted_counts d (Reads fields text step.lost) (v.loses d));
     more = step.rest;
     are = step.batches_are;
     leaves = step.journal;
-    found = step.found;
+    found = (step.found, λ t. (step.is t).lies);
     volumes = λ t none. absurd none;
     console = tells_own (let r : Result T NodeNo = Err no_node.BothLost in r) step;
   }
   deck_step_of {T = T} (Err no_node.ConsoleFault) step = record {
     course = step.course;
     cause = (inl step.cause.0, step.cause.1);
-    loses = λ d. (step.loses d, granted_counts d (Reads fields text step.lost) (v.loses d));
+    did = deck_did (let r : Result T NodeNo = Err no_node.ConsoleFault in r) step;
+    shaped = (step.of, step.few, step.closes);
+    is = deck_is (let r : Result T NodeNo = Err no_node.ConsoleFault in r) step;
+    loses = λ t d. (step.loses t d, granted_counts d (Reads fields text step.lost) (v.loses d));
     more = step.rest;
     are = step.batches_are;
     leaves = step.journal;
-    found = step.found;
+    found = (step.found, λ t. (step.is t).lies);
     volumes = λ t none. absurd none;
     console = tells_own (let r : Result T NodeNo = Err no_node.ConsoleFault in r) step;
   }
   deck_step_of {T = T} (Err no_node.Halted) step = record {
     course = step.course;
     cause = (inl step.cause.0, step.cause.1);
-    loses = λ d. (step.loses d, granted_counts d (Reads fields text step.lost) (v.loses d));
+    did = deck_did (let r : Result T NodeNo = Err no_node.Halted in r) step;
+    shaped = (step.of, step.few, step.closes);
+    is = deck_is (let r : Result T NodeNo = Err no_node.Halted in r) step;
+    loses = λ t d. (step.loses t d, granted_counts d (Reads fields text step.lost) (v.loses d));
     more = step.rest;
     are = step.batches_are;
     leaves = step.journal;
-    found = step.found;
+    found = (step.found, λ t. (step.is t).lies);
     volumes = λ t none. absurd none;
     console = tells_own (let r : Result T NodeNo = Err no_node.Halted in r) step;
   }
@@ -286,36 +380,39 @@ module _ (told : Type 0) (fields : JobFields) (text : List (List ℕ)) (Q : Queu
 -- A STEP WITHOUT A COMMAND
 
 module _ (told : Type 0) (turn : Turn) (Q : Queue) (per at : ℕ) (lines : List (List ℕ)) (front batches : List Batch) (a a' b b' : Bool) (v v' : View)
-    (none : [] ≡ step_batches Q at turn) (says : lines ≡ step_lines Q at turn) (counts : (d : Dev) (n : ℕ) → loses_after_step d turn n ≡ n) (found : FindsLost v v' per Q at turn) where
+    (shaped : IsOutcome at turn (record { batches = []; lines = lines })) (is : (let o : Outcome = record { batches = []; lines = lines } in o) ≡ outcome_of Q at turn)
+    (counts : (d : Dev) (n : ℕ) → loses_after_step d turn n ≡ n) (found : FindsLost told v v' per Q at turn) where
   abbrev Aside : {T : Type 0} → Result T NodeNo → Type 0
   Aside result = IsDenial told sysa.0 lines front batches a a' b b' v v' result
 
   abbrev AsidePlays : {T : Type 0} → Result T NodeNo → Type 0
   AsidePlays result = IsStepOf told turn Q per at front batches a a' b b' v v' result
 
-  no_batch : AreAll sysa v.now v'.now (step_batches Q at turn) []
-  no_batch = subst (λ (ess : List (List Entry)). AreAll sysa v.now v'.now ess []) none tt
-
-  tells_so : {T : Type 0} (result : Result T NodeNo) → StepTells result lines (Unit {0}) (console_now v) (console_now v') → StepTells result (step_lines Q at turn) (AreAll sysa v.now v'.now (step_batches Q at turn) []) (console_now v) (console_now v')
-  tells_so result t = subst (λ (ls : List (List ℕ)). StepTells result ls (AreAll sysa v.now v'.now (step_batches Q at turn) []) (console_now v) (console_now v')) says
-      (tells_as result lines (Unit {0}) (AreAll sysa v.now v'.now (step_batches Q at turn) []) (console_now v) (console_now v') (λ u. no_batch) t)
+  tells_so : {T : Type 0} (result : Result T NodeNo) → StepTells result lines (Unit {0}) (console_now v) (console_now v') → StepTells result lines (AreAll sysa v.now v'.now [] []) (console_now v) (console_now v')
+  tells_so result t = tells_as result lines (Unit {0}) (AreAll sysa v.now v'.now [] []) (console_now v) (console_now v') (λ u. tt) t
 
   aside : {T : Type 0} (result : Result T NodeNo) → Aside result → AsidePlays result
   aside {T = T} (Ok done) step = record {
     course = step.course;
     cause = inl step.cause;
-    loses = λ d. step.loses d ∙ sym (counts d (v.loses d));
+    did = record { batches = []; lines = lines };
+    shaped = shaped;
+    is = λ t. is;
+    loses = λ t d. step.loses d ∙ sym (counts d (v.loses d));
     more = [];
     are = step.same ∙ sym (append-nil front);
-    leaves = no_batch;
+    leaves = tt;
     found = found;
     volumes = λ t quiet. kept_on v v' (step.others t);
     console = λ t. tells_so (let r : Result T NodeNo = Ok done in r) (step.console t);
   }
   aside {T = T} (Err no_node.NoMemory) step = record {
     course = step.course;
-    cause = inl (inr step.cause);
-    loses = λ d. (step.loses d, counts d (v.loses d));
+    cause = inl step.cause;
+    did = record { batches = []; lines = lines };
+    shaped = shaped;
+    is = λ t. is;
+    loses = λ t d. (step.loses d, counts d (v.loses d));
     more = [];
     are = step.same ∙ sym (append-nil front);
     leaves = inl refl;
@@ -327,10 +424,13 @@ module _ (told : Type 0) (turn : Turn) (Q : Queue) (per at : ℕ) (lines : List 
   aside {T = T} (Err no_node.ConsoleFault) step = record {
     course = step.course;
     cause = (inl step.cause.0, step.cause.1);
-    loses = λ d. (step.loses d, counts d (v.loses d));
+    did = record { batches = []; lines = lines };
+    shaped = shaped;
+    is = λ t. is;
+    loses = λ t d. (step.loses d, counts d (v.loses d));
     more = [];
     are = step.same ∙ sym (append-nil front);
-    leaves = no_batch;
+    leaves = tt;
     found = found;
     volumes = λ t quiet. kept_on v v' (step.others t);
     console = λ t. tells_so (let r : Result T NodeNo = Err no_node.ConsoleFault in r) (step.console t);
@@ -338,10 +438,13 @@ module _ (told : Type 0) (turn : Turn) (Q : Queue) (per at : ℕ) (lines : List 
   aside {T = T} (Err no_node.Halted) step = record {
     course = step.course;
     cause = (inl step.cause.0, step.cause.1);
-    loses = λ d. (step.loses d, counts d (v.loses d));
+    did = record { batches = []; lines = lines };
+    shaped = shaped;
+    is = λ t. is;
+    loses = λ t d. (step.loses d, counts d (v.loses d));
     more = [];
     are = step.same ∙ sym (append-nil front);
-    leaves = inr (inr no_batch);
+    leaves = inr (inr tt);
     found = found;
     volumes = λ t quiet. kept_on v v' (step.others t);
     console = λ t. tells_so (let r : Result T NodeNo = Err no_node.Halted in r) (step.console t);
@@ -349,11 +452,11 @@ module _ (told : Type 0) (turn : Turn) (Q : Queue) (per at : ℕ) (lines : List 
 
 pub denied_step_of : {T : Type 0} (told : Type 0) (why : LockNo) (Q : Queue) (per at : ℕ) (front batches : List Batch) (a a' b b' : Bool) (v v' : View) (result : Result T NodeNo)
     → IsDenial told sysa.0 (denied_lines sysa at why) front batches a a' b b' v v' result → IsStepOf told (Denied why) Q per at front batches a a' b b' v v' result
-denied_step_of told why Q per at front batches a a' b b' v v' result step = aside told (Denied why) Q per at (denied_lines sysa at why) front batches a a' b b' v v' refl refl (λ d n. denied_counts d why n) tt result step
+denied_step_of told why Q per at front batches a a' b b' v v' result step = aside told (Denied why) Q per at (denied_lines sysa at why) front batches a a' b b' v v' (refl, refl) refl (λ d n. denied_counts d why n) tt result step
 
 pub closed_step_of : {T : Type 0} (told : Type 0) (end : Closing) (Q : Queue) (per at : ℕ) (front batches : List Batch) (a a' b b' : Bool) (v v' : View) (result : Result T NodeNo)
     → IsDenial told sysa.0 (closing_line sysa at end ∷ []) front batches a a' b b' v v' result → IsStepOf told (Closed end) Q per at front batches a a' b b' v v' result
-closed_step_of told end Q per at front batches a a' b b' v v' result step = aside told (Closed end) Q per at (closing_line sysa at end ∷ []) front batches a a' b b' v v' refl refl (λ d n. closed_counts d end n) tt result step
+closed_step_of told end Q per at front batches a a' b b' v v' result step = aside told (Closed end) Q per at (closing_line sysa at end ∷ []) front batches a a' b b' v v' (refl, refl) refl (λ d n. closed_counts d end n) tt result step
 
 -- A LOSS
 
@@ -363,7 +466,10 @@ pub loss_step_of : {T : Type 0} (done : T) (told : Type 0) (dev : Dev) (Q : Queu
 loss_step_of done told dev Q per at front batches a a' b b' v v' course left loses same volumes console = record {
   course = course;
   cause = left;
-  loses = λ d. loss_counts dev d v v' loses;
+  did = record { batches = []; lines = [] };
+  shaped = (refl, refl);
+  is = λ t. refl;
+  loses = λ t d. loss_counts dev d v v' loses;
   more = [];
   are = same ∙ sym (append-nil front);
   leaves = tt;
@@ -374,12 +480,15 @@ loss_step_of done told dev Q per at front batches a a' b b' v v' course left los
 
 -- A STEP FOR WHICH MEMORY WANTS, BEFORE ANYTHING IS DONE
 
-pub unplayed_step_of : {T : Type 0} (told : Type 0) (turn : Turn) (Q : Queue) (per at : ℕ) (front batches : List Batch) (a b : Bool) (v : View) → batches ≡ front → ((d : Dev) (n : ℕ) → loses_after_step d turn n ≡ n) → FindsLost v v per Q at turn
+pub unplayed_step_of : {T : Type 0} (told : Type 0) (turn : Turn) (Q : Queue) (per at : ℕ) (front batches : List Batch) (a b : Bool) (v : View) → batches ≡ front → ((d : Dev) (n : ℕ) → loses_after_step d turn n ≡ n) → FindsLost told v v per Q at turn
     → IsStepOf {T = T} told turn Q per at front batches a a b b v v (Err no_node.NoMemory)
 unplayed_step_of told turn Q per at front batches a b v same counts found = record {
   course = course_none a b v;
   cause = inl (inr (refl, refl));
-  loses = λ d. (refl, counts d (v.loses d));
+  did = outcome_of Q at turn;
+  shaped = shape_of Q at turn;
+  is = λ t. refl;
+  loses = λ t d. (refl, counts d (v.loses d));
   more = [];
   are = same ∙ sym (append-nil front);
   leaves = inl refl;
@@ -434,3 +543,19 @@ module _ {H : Type 0} (alive : H → Bool) (p1 q1 p2 q2 : H) (told : Type 0) (Q 
       loss_step_of tt told (Spool n) Q per at front batches (alive p1) (alive q1) (alive p2) (alive q2) v v'
       (subst (λ (x : Bool). Course (alive p1) x (alive p2) (alive q2) v v') (sym both.0) (subst (λ (x : Bool). Course (alive p1) (alive p1) (alive p2) x v v') (sym both.1) (course_volume n (alive p1) (alive p2) v v' loses)))
       (inl (inr both)) loses same (λ t leaves. absurd leaves) (λ t. (elsewhere t).console v'.now loses.goes.later (let le : v'.now ≤ v'.now = omega arith in le))
+
+-- A COPY THAT COUNTS AS ALIVE DID SO BEFORE A LOSS
+
+module _ {H : Type 0} (p1 q1 p2 q2 : H) (alive : H → Bool) where
+  clash_alive : (x : Bool) → x ≡ false → x ≡ true → ⊥
+  clash_alive x off on = absurd (cc)
+
+  pub first_was : (dev : Dev) → (IsCkpt dev → alive (pick dev q1 q2) ≡ false) → ((n : ℕ) → dev ≡ Spool n → (q1 ≡ p1) × (q2 ≡ p2)) → other dev q1 q2 ≡ other dev p1 p2 → alive q1 ≡ true → alive p1 ≡ true
+  first_was Ckpt1 dead volume others is = absurd (clash_alive (alive q1) (dead tt) is)
+  first_was Ckpt2 dead volume others is = sym (ap alive others) ∙ is
+  first_was (Spool n) dead volume others is = sym (ap alive (volume n refl).0) ∙ is
+
+  pub second_was : (dev : Dev) → (IsCkpt dev → alive (pick dev q1 q2) ≡ false) → ((n : ℕ) → dev ≡ Spool n → (q1 ≡ p1) × (q2 ≡ p2)) → other dev q1 q2 ≡ other dev p1 p2 → alive q2 ≡ true → alive p2 ≡ true
+  second_was Ckpt1 dead volume others is = sym (ap alive others) ∙ is
+  second_was Ckpt2 dead volume others is = absurd (clash_alive (alive q2) (dead tt) is)
+  second_was (Spool n) dead volume others is = sym (ap alive (volume n refl).1) ∙ is

@@ -9,7 +9,6 @@ use Rattle.mas_types.specs.declared.jobs.JobFields.{JobFields}
 use Rattle.mas_types.specs.declared.queues.Config.{Config}
 use Rattle.mas_types.specs.declared.queues.Queue.{Queue}
 use Rattle.mas_types.specs.Limits.{members_most}
-use Rattle.mas_types.specs.Owners.{groups_needed}
 use Rattle.card_reader.specs.declared.decks.Refused.{Refused}
 use Rattle.card_reader.specs.Decks.{read_as, text_of}
 use Rattle.lock_cycle.specs.declared.answers.LockNo.{LockNo}
@@ -23,15 +22,12 @@ use Rattle.spool_disk.specs.declared.plant.Part.TheVariants.{Disk}
 use Rattle.spool_disk.specs.View.{View}
 use Rattle.spool_disk.specs.Acts.{Rose}
 use Rattle.first_script.specs.Played.{sysa}
-use Rattle.member_decks.specs.declared.opening.Opened.{Opened}
-use Rattle.member_decks.specs.declared.opening.Opened.TheVariants as opened
-use Rattle.member_decks.specs.Decks.{ends_as}
-use Rattle.member_decks.specs.Steps.{IsFoundLost, opened_queue}
+use Rattle.member_decks.specs.Steps.{IsFoundLost}
 use Rattle.member_steps.specs.Locked.{IsOpenTo}
 use Rattle.member_steps.proofs.LockLemmas.{refused_so, opens_again}
 use Rattle.mas_run.specs.Found.{FindNone}
 use Rattle.mas_run.specs.Steps.{FindsLost, FindLost, after_step}
-use Rattle.mas_run.specs.Turns.{Reads, Gives, Turn, Granted, task_turn, deck_turn, command_turn, resets, turn_by, turn_at, after_tried, after_deck, after_command, book_after, turns_from, turns_of, granted_all, AreAwake}
+use Rattle.mas_run.specs.Turns.{Reads, Gives, Turn, Granted, task_turn, deck_turn, command_turn, resets, turn_by, turn_at, after_tried, after_deck, after_command, book_after, turns_from, granted_all, AreAwake}
 use Rattle.mas_run.proofs.LockLemmas.{begins_open}
 
 -- ONE STEP MORE
@@ -120,23 +116,22 @@ all_awake config lost steps some none =
 
 -- WITHOUT LOST VOLUMES
 
-module _ (old new : View) (per : ℕ) (sound : (volume : ℕ) → Rose (old.faults (Disk (Spool volume))) (new.faults (Disk (Spool volume))) → ⊥) where
-  found_none : (ends : Opened) (Q : Queue) (text : List (List ℕ)) (lost : Option ℕ) → IsFoundLost ends per Q sysa text lost old new → lost ≡ None
-  found_none ends Q text None found = refl
-  found_none opened.Closed Q text (Some volume) found = absurd found
-  found_none (opened.Ready n) Q text (Some volume) found = absurd (sound volume found.2)
+module _ (told : Type 0) (old new : View) (per : ℕ) (sound : (volume : ℕ) → Rose (old.faults (Disk (Spool volume))) (new.faults (Disk (Spool volume))) → ⊥) where
+  found_none : (lost : Option ℕ) → IsFoundLost lost old new → lost ≡ None
+  found_none None found = refl
+  found_none (Some volume) found = absurd (sound volume found.1)
 
-  task_none : (why : Option LockNo) (Q : Queue) (at : ℕ) (fields : JobFields) (text : List (List ℕ)) (lost : Option ℕ) → FindsLost old new per Q at (task_turn why (Reads fields text lost))
+  task_none : (why : Option LockNo) (Q : Queue) (at : ℕ) (fields : JobFields) (text : List (List ℕ)) (lost : Option ℕ) → FindsLost told old new per Q at (task_turn why (Reads fields text lost))
       → task_turn why (Reads fields text lost) ≡ task_turn why (Reads fields text None)
-  task_none None Q at fields text lost found = ap (λ (l : Option ℕ). Granted (Reads fields text l)) (found_none (ends_as Q sysa fields (groups_needed text)) (opened_queue Q sysa at fields text) text lost found)
+  task_none None Q at fields text lost found = ap (λ (l : Option ℕ). Granted (Reads fields text l)) (found_none lost found.0)
   task_none (Some why) Q at fields text lost found = refl
 
-  deck_none : (why : Option LockNo) (Q : Queue) (at : ℕ) (text : List (List ℕ)) (lost : Option ℕ) (said : Result JobFields Refused) → FindsLost old new per Q at (deck_turn why text lost said)
+  deck_none : (why : Option LockNo) (Q : Queue) (at : ℕ) (text : List (List ℕ)) (lost : Option ℕ) (said : Result JobFields Refused) → FindsLost told old new per Q at (deck_turn why text lost said)
       → deck_turn why text lost said ≡ deck_turn why text None said
   deck_none why Q at text lost (Err bad) found = refl
   deck_none why Q at text lost (Ok fields) found = task_none why Q at fields text lost found
 
-  turn_none : (config : Config) (why : Option LockNo) (Q : Queue) (at : ℕ) (lost : Option ℕ) (what : Ask) → FindsLost old new per Q at (turn_by config why lost what) → turn_by config why lost what ≡ turn_by config why None what
+  turn_none : (config : Config) (why : Option LockNo) (Q : Queue) (at : ℕ) (lost : Option ℕ) (what : Ask) → FindsLost told old new per Q at (turn_by config why lost what) → turn_by config why lost what ≡ turn_by config why None what
   turn_none config why Q at lost (ask.Deck cards) found = deck_none why Q at (text_of cards) lost (read_as config.node cards) found
   turn_none config why Q at lost (ask.Command given) found = refl
   turn_none config why Q at lost (ask.Lose dev) found = refl
@@ -148,7 +143,7 @@ module _ (old new : View) (per : ℕ) (sound : (volume : ℕ) → Rose (old.faul
   turn_none config why Q at lost ask.Stop found = refl
   turn_none config why Q at lost (ask.StopIn fuse n) found = refl
 
-  turns_none : (config : Config) (b : Book) (lost : List (Option ℕ)) (steps : List Step) (Q : Queue) (at : ℕ) → FindLost old new per Q at (turns_from config b lost steps) → turns_from config b lost steps ≡ turns_from config b [] steps
+  turns_none : (config : Config) (b : Book) (lost : List (Option ℕ)) (steps : List Step) (Q : Queue) (at : ℕ) → FindLost told old new per Q at (turns_from config b lost steps) → turns_from config b lost steps ≡ turns_from config b [] steps
   turns_none config b lost [] Q at found = refl
   turns_none config b lost (s ∷ steps) Q at found =
       let one = turn_none config (try_refusal b sysa false) Q at (get_or lost 0 None) s.what found.0 in
@@ -156,31 +151,31 @@ module _ (old new : View) (per : ℕ) (sound : (volume : ℕ) → Rose (old.faul
       ap (λ (t : Turn). t ∷ turns_from config (book_after config b s.what) (drop 1 lost) steps) one
       ∙ ap (λ (ts : List Turn). turn_at config b None s.what ∷ ts) more
 
-pub all_sound : FindNone
-all_sound config lost steps old new per Q sound found = turns_none old new per sound config _ lost steps Q 1 found
+pub all_sound : (told : Type 0) → FindNone told
+all_sound told config lost steps old new per Q sound found = turns_none told old new per sound config _ lost steps Q 1 found
 
 -- steps that found no volume lost
-pub none_found : (old new : View) (per : ℕ) (config : Config) (b : Book) (steps : List Step) (Q : Queue) (at : ℕ) → FindLost old new per Q at (turns_from config b [] steps)
-none_found old new per config b [] Q at = tt
-none_found old new per config b (s ∷ steps) Q at =
-    (one (try_refusal b sysa false) s.what, none_found old new per config (book_after config b s.what) steps (after_step Q at (turn_at config b None s.what)) (at + 1)) where
-      task_found : (why : Option LockNo) (fields : JobFields) (text : List (List ℕ)) → FindsLost old new per Q at (task_turn why (Reads fields text None))
-      task_found None fields text = tt
+pub none_found : (told : Type 0) (old new : View) (per : ℕ) (config : Config) (b : Book) (steps : List Step) (Q : Queue) (at : ℕ) → FindLost told old new per Q at (turns_from config b [] steps)
+none_found told old new per config b [] Q at = tt
+none_found told old new per config b (s ∷ steps) Q at =
+    (one (try_refusal b sysa false) s.what, none_found told old new per config (book_after config b s.what) steps (after_step Q at (turn_at config b None s.what)) (at + 1)) where
+      task_found : (why : Option LockNo) (fields : JobFields) (text : List (List ℕ)) → FindsLost told old new per Q at (task_turn why (Reads fields text None))
+      task_found None fields text = (tt, λ t. tt)
       task_found (Some why) fields text = tt
 
-      deck_found : (why : Option LockNo) (text : List (List ℕ)) (said : Result JobFields Refused) → FindsLost old new per Q at (deck_turn why text None said)
+      deck_found : (why : Option LockNo) (text : List (List ℕ)) (said : Result JobFields Refused) → FindsLost told old new per Q at (deck_turn why text None said)
       deck_found why text (Err bad) = tt
       deck_found why text (Ok fields) = task_found why fields text
 
-      gives_found : (why : Option LockNo) (given : Command) → FindsLost old new per Q at (task_turn why (Gives given))
+      gives_found : (why : Option LockNo) (given : Command) → FindsLost told old new per Q at (task_turn why (Gives given))
       gives_found None given = tt
       gives_found (Some why) given = tt
 
-      command_found : (why : Option LockNo) (given : Command) (of : Option MemberId) → FindsLost old new per Q at (command_turn config why given of)
+      command_found : (why : Option LockNo) (given : Command) (of : Option MemberId) → FindsLost told old new per Q at (command_turn config why given of)
       command_found why given None = gives_found why given
       command_found why given (Some of) = tt
 
-      one : (why : Option LockNo) (what : Ask) → FindsLost old new per Q at (turn_by config why None what)
+      one : (why : Option LockNo) (what : Ask) → FindsLost told old new per Q at (turn_by config why None what)
       one why (ask.Deck cards) = deck_found why (text_of cards) (read_as config.node cards)
       one why (ask.Command given) = command_found why given (resets given)
       one why (ask.Lose dev) = tt

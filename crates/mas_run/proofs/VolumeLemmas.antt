@@ -1,7 +1,7 @@
 -- Volumes of which no byte changes.
-use Rattle.std.proofs.Common.{◌≡◌, ◌≤◌, ◌⊎◌, inl, inr, ⊎_elim, ℕ, nat_le, Bool, true, false, refl, sym, ap, subst, arith}
+use Rattle.std.proofs.Common.{◌≡◌, ◌≤◌, ◌⊎◌, inl, inr, ⊎_elim, ℕ, nat_le, Bool, true, false, refl, sym, subst, arith}
 use Rattle.std.proofs.lemmas.Bool.Decides.{nat_tests}
-use Rattle.mas_types.specs.declared.ids.Dev.TheVariants.{Ckpt1, Ckpt2, Spool}
+use Rattle.mas_types.specs.declared.ids.Dev.TheVariants.{Spool}
 use Rattle.spool_disk.specs.View.{View, World, Disk, disk_now}
 use Rattle.spool_disk.specs.Acts.{Goes}
 use Rattle.ckpt_copy.specs.Changes.{NoMore}

@@ -1,5 +1,5 @@
 -- A warm run: what its start leaves, and why it doesn't begin.
-use Rattle.std.proofs.Common.{◌≡◌, ◌≢◌, ◌⊎◌, inl, inr, ⊎_elim, ℕ, ◌≤◌, nat_le, nat_lt, Bool, true, false, List, [], ◌∷◌, refl, sym, ◌∙◌, ap, subst, arith}
+use Rattle.std.proofs.Common.{◌≡◌, ◌≢◌, ◌⊎◌, inl, inr, ⊎_elim, ℕ, ◌≤◌, nat_lt, Bool, true, false, List, [], ◌∷◌, refl, sym, ◌∙◌, ap, subst, arith}
 use Rattle.std.proofs.lemmas.Bool.{or_parts}
 use Rattle.std.proofs.lemmas.Bool.Decides.{nat_tests}
 use Rattle.std.proofs.lemmas.List.Elements.{All-weaker}
@@ -17,8 +17,10 @@ use Rattle.ckpt_copy.specs.Areas.{reads, areas_size}
 use Rattle.ckpt_copy.specs.Pages.{bytes_of, level}
 use Rattle.ckpt_pages.specs.declared.tables.Tables.{Tables}
 use Rattle.ckpt_pages.specs.Checkpoints.{IsCheckpoint}
+use Rattle.ckpt_pages.specs.Given.{levels_given}
+use Rattle.ckpt_pages.proofs.GivenLevels.{their_levels}
 use Rattle.spool_disk.specs.declared.plant.Part.TheVariants.{Console, Disk as DiskPart}
-use Rattle.spool_disk.specs.View.{View, World, Disk, disk_now}
+use Rattle.spool_disk.specs.View.{View, World, disk_now}
 use Rattle.spool_disk.specs.Acts.{Goes}
 use Rattle.table_queues.specs.Telling.{Tell}
 use Rattle.mas_complex.specs.Texts.{HasTexts, IsThereUnless, lies_on, lost_now, spools_at}
@@ -26,10 +28,8 @@ use Rattle.spool_volumes.specs.Volumes.{volume_of}
 use Rattle.track_groups.specs.Places.{groups_of}
 use Rattle.warm_start.specs.declared.choosing.StartNo.{StartNo}
 use Rattle.warm_start.specs.declared.choosing.StartNo.TheVariants as no_start
-use Rattle.warm_start.specs.Levels.{levels_of}
 use Rattle.warm_start.specs.Starting.{IsCauseOf, Starts, IsOnce, IsHeld, WhileStarting}
 use Rattle.warm_start.specs.Usable.{AreOf, HaveSize}
-use Rattle.warm_start.proofs.LevelLemmas.{their_levels}
 use Rattle.member_node.specs.Calls.{Grows}
 use Rattle.member_node.specs.Drawn.{AreDrawn}
 use Rattle.member_node.proofs.CourseLemmas.{lost_later, lost_more}
@@ -41,7 +41,7 @@ use Rattle.mas_run.specs.Unstarted.{status_of_start, IsNotStarted}
 -- WHAT IS FOUND
 
 -- the pages found are drawn from their tables
-pub found_drawn : (pages : List Page) (t : Tables) (levels : List ℕ) (at : ℕ) → AreOf pages t → HaveSize pages → levels ≡ levels_of pages → at ≡ level (bytes_of pages) → AreDrawn t at levels pages
+pub found_drawn : (pages : List Page) (t : Tables) (levels : List ℕ) (at : ℕ) → AreOf pages t → HaveSize pages → levels ≡ levels_given pages → at ≡ level (bytes_of pages) → AreDrawn t at levels pages
 found_drawn pages t levels at are sized leveled is =
     let c : IsCheckpoint pages t = are.0 in
     let drawn : AreDrawn t c.level c.levels pages = record { spelling = c.fit; leveled = c.ages; spelled = c.spell; sized = sized } in

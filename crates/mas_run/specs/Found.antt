@@ -11,7 +11,7 @@ use Rattle.mas_run.specs.Steps.{FindLost}
 use Rattle.mas_run.specs.Turns.{turns_of}
 
 -- then no deck found one lost, whichever are said to have been found
-abbrev pub FindNone : Type 0
-FindNone = (config : Config) (lost : List (Option ℕ)) (steps : List Step) (old new : View) (per : ℕ) (Q : Queue)
+abbrev pub FindNone : Type 0 → Type 0
+FindNone told = (config : Config) (lost : List (Option ℕ)) (steps : List Step) (old new : View) (per : ℕ) (Q : Queue)
     → ((volume : ℕ) → Rose (old.faults (Disk (Spool volume))) (new.faults (Disk (Spool volume))) → ⊥)
-    → FindLost old new per Q 1 (turns_of config lost steps) → turns_of config lost steps ≡ turns_of config [] steps
+    → FindLost told old new per Q 1 (turns_of config lost steps) → turns_of config lost steps ≡ turns_of config [] steps

@@ -15,31 +15,35 @@ use Rattle.member_node.specs.declared.member.NodeNo.{NodeNo}
 use Rattle.member_node.specs.declared.member.NodeNo.TheVariants as no_node
 use Rattle.member_node.specs.Calls.{Course, console_now}
 use Rattle.member_decks.specs.Batches.{AreAll}
-use Rattle.mas_run.specs.Runs.{IsHistory, IsSettled, Adds, IsStopped, HasLost}
+use Rattle.mas_run.specs.Runs.{IsBegun, IsHistory, IsSettled, Adds, IsStopped, HasLost}
 use Rattle.first_script.specs.Played.{sysa}
 use Rattle.mas_run.specs.Turns.{Turn, turns_from}
-use Rattle.mas_run.specs.Steps.{batches_of, next_batches, output, loses_after, FindLost, LeavesVolumes}
+use Rattle.mas_run.specs.Steps.{AreOutcomes, FindLost, LeavesVolumes, Outcome, batches_in, lines_in, loses_after, next_in, outcomes_of}
 use Rattle.mas_run.specs.Statuses.{status_of}
 use Rattle.mas_run.specs.Volumes.{AreVolumesKept}
 use Rattle.mas_types.specs.declared.answers.Status.TheVariants as status
 
--- These steps have been played since the plant showed `old`; each volume has so many groups.
+-- These steps have been played since the plant showed `old`; each volume has so many groups. Where content is told each did what the table
+-- of commands gives.
 pub record HavePlayed (told : Type 0) (base : Queue) (per : ℕ) (steps : List Turn) (batches : List Batch) (was1 is1 was2 is2 : Bool) (old new : View) : Type 0 where
+  pub did : List Outcome
+  pub shaped : AreOutcomes 1 steps did
+  pub are : told → did ≡ outcomes_of base steps
   pub course : Course was1 is1 was2 is2 old new
   pub left : SomeAlive is1 is2 ⊎ HasLost old new
-  pub kept : AreAll sysa old.now new.now (batches_of base steps) batches
-  pub loses : (d : Dev) → new.loses d ≡ loses_after d steps (old.loses d)
-  pub found : FindLost old new per base 1 steps
+  pub kept : AreAll sysa old.now new.now (batches_in did) batches
+  pub loses : told → (d : Dev) → new.loses d ≡ loses_after d steps (old.loses d)
+  pub found : FindLost told old new per base 1 steps
   pub volumes : told → All LeavesVolumes steps → AreVolumesKept old new
-  pub said : told → console_now new ≡ console_now old ++ map whole (output base steps)
+  pub said : told → console_now new ≡ console_now old ++ map whole (lines_in did)
 
 -- what an answer says: how many steps are kept and closed, which batches of the next one were begun, whether one is in flight, and why
-abbrev pub Ends : {T : Type 0} → Result T NodeNo → ℕ → ℕ → ℕ → List Batch → Type 0 → Bool → Bool → View → View → Type 0
-Ends (Ok done) kept closed all begun settled one two old new = (kept ≡ all) × (closed ≡ all) × settled
-Ends (Err no_node.NoMemory) kept closed all begun settled one two old new = (kept ≡ closed) × settled
-Ends (Err no_node.BothLost) kept closed all begun settled one two old new = (kept ≡ closed) × IsBothLost one two
-Ends (Err no_node.ConsoleFault) kept closed all begun settled one two old new = (kept ≡ closed + 1) × (begun ≡ []) × settled × Rose (old.faults Console) (new.faults Console)
-Ends (Err no_node.Halted) kept closed all begun settled one two old new = IsStopped old new
+abbrev pub Ends : {T : Type 0} → Result T NodeNo → ℕ → ℕ → ℕ → List Batch → Type 0 → Type 0 → Bool → Bool → View → View → Type 0
+Ends (Ok done) kept closed all begun settled uncut one two old new = (kept ≡ all) × (closed ≡ all) × (begun ≡ [])
+Ends (Err no_node.NoMemory) kept closed all begun settled uncut one two old new = (kept ≡ closed) × settled
+Ends (Err no_node.BothLost) kept closed all begun settled uncut one two old new = (kept ≡ closed) × IsBothLost one two × uncut
+Ends (Err no_node.ConsoleFault) kept closed all begun settled uncut one two old new = (kept ≡ closed + 1) × (begun ≡ []) × Rose (old.faults Console) (new.faults Console)
+Ends (Err no_node.Halted) kept closed all begun settled uncut one two old new = IsStopped old new × uncut
 
 abbrev pub IfNotLost : {T : Type 0} → Result T NodeNo → Type 0 → Type 0
 IfNotLost (Err no_node.BothLost) P = Unit {0}
@@ -47,17 +51,20 @@ IfNotLost _ P = P
 
 -- The steps were played up to the end, or to one that ends the run.
 pub record ArePlayed {T : Type 0} (told : Type 0) (base : Queue) (per : ℕ) (asked : List Turn) (batches : List Batch) (was1 is1 was2 is2 : Bool) (old new : View) (result : Result T NodeNo) : Type 0 where
+  pub did : List Outcome
+  pub shaped : AreOutcomes 1 asked did
+  pub are : told → did ≡ outcomes_of base asked
   pub kept : ℕ
   pub closed : ℕ
   pub few : (closed ≤ kept) × (kept ≤ closed + 1) × (kept ≤ length asked)
   pub course : Course was1 is1 was2 is2 old new
   pub left : IfNotLost result (SomeAlive is1 is2 ⊎ HasLost old new)
-  pub history : IsHistory base asked kept old.now new.now batches
-  pub ends : Ends result kept closed (length asked) history.begun (IsSettled (next_batches base kept asked) history.between new.now history.begun) is1 is2 old new
-  pub loses : (d : Dev) → new.loses d ≡ loses_after d (take kept asked) (old.loses d)
-  pub found : FindLost old new per base 1 asked
+  pub history : IsHistory did kept old.now new.now batches
+  pub ends : Ends result kept closed (length asked) history.begun (IsSettled (next_in kept did) history.between new.now history.begun) (IsBegun (next_in kept did) history.between new.now history.begun) is1 is2 old new
+  pub loses : told → (d : Dev) → new.loses d ≡ loses_after d (take kept asked) (old.loses d)
+  pub found : FindLost told old new per base 1 asked
   pub volumes : told → All LeavesVolumes asked → AreVolumesKept old new
-  pub said : told → Adds (output base (take closed asked)) (output base (take kept asked)) (console_now old) (console_now new) (status_of result ≡ status.ConsoleFault) (IsStopped old new)
+  pub said : told → Adds (lines_in (take closed did)) (lines_in (take kept did)) (console_now old) (console_now new) (status_of result ≡ status.ConsoleFault) (IsStopped old new)
 
 -- They are the steps of a script, from a book of the lock on, and were played over a journal that had these batches, and has so many now.
 pub record HasPlay {T : Type 0} (told : Type 0) (base : Queue) (config : Config) (book : Book) (steps : List Step) (front batches : List Batch) (was1 is1 was2 is2 : Bool) (old new : View) (result : Result T NodeNo) : Type 0 where

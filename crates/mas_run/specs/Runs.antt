@@ -23,16 +23,18 @@ use Rattle.mas_complex.specs.Journals.{kept_all}
 use Rattle.mas_complex.specs.Meaning.{run}
 use Rattle.mas_complex.specs.Texts.{HasTexts, lost_now, spools_at}
 use Rattle.table_queues.specs.Telling.{Tell}
-use Rattle.warm_start.specs.Usable.{AreOf}
+use Rattle.spool_volumes.specs.Volumes.{IsSteady}
+use Rattle.warm_start.specs.Spooled.{AreGiven}
+use Rattle.warm_start.specs.Usable.{AreOf, HaveSize}
 use Rattle.mas_run.specs.Resets.{restart_entries}
 use Rattle.warm_start.specs.Starting.{IsFound, IsUnfit, IsHeld}
 use Rattle.member_node.specs.Calls.{console_now}
 use Rattle.member_steps.specs.Saying.{torn}
-use Rattle.member_decks.specs.Batches.{AreAll, AreSome, OneFlies}
+use Rattle.member_decks.specs.Batches.{AreAll, AreCut, AreSome, OneFlies}
 use Rattle.mas_complex.specs.Headline.{whole, IsCrashSafe, AreAlwaysAlike, AreTextsLeft, LeavesQueue, AreToldKept}
 use Rattle.first_script.specs.Played.{sysa}
 use Rattle.mas_run.specs.Turns.{Turn, turns_of}
-use Rattle.mas_run.specs.Steps.{batches_of, next_batches, output, loses_after, FindLost, LeavesVolumes}
+use Rattle.mas_run.specs.Steps.{AreOutcomes, FindLost, LeavesVolumes, Outcome, batches_in, lines_in, loses_after, next_in, outcomes_of}
 use Rattle.mas_run.specs.Volumes.{AreVolumesKept, AreVolumesKeptUntil}
 
 -- a run has begun where its first queue has members
@@ -55,20 +57,24 @@ pub record IsUnbegun (base : Queue) (journal : Journal) (since now : ℕ) : Type
 
 -- THE HISTORY
 
--- some batches of the next step, if any, and nothing is in flight
+-- some batches of the next step, if any, of which the last may have its first entries alone, and nothing is in flight
 abbrev pub IsSettled : List (List Entry) → ℕ → ℕ → List Batch → Type 0
-IsSettled next from now begun = (begun ≡ []) ⊎ AreSome sysa from now next begun
+IsSettled next from now begun = (begun ≡ []) ⊎ AreCut sysa from now next begun
 
--- So many steps are kept, from the first on. Behind their batches stand none, or the first ones of the next step, of which the last may be
--- in flight.
-pub record IsHistory (base : Queue) (asked : List Turn) (kept : ℕ) (since now : ℕ) (batches : List Batch) : Type 0 where
+-- some batches of the next step, if any, each with all its entries, and behind them perhaps one in flight
+abbrev pub IsBegun : List (List Entry) → ℕ → ℕ → List Batch → Type 0
+IsBegun next from now begun = (begun ≡ []) ⊎ AreSome sysa from now next begun ⊎ OneFlies sysa from now next begun
+
+-- So many steps, which did this, are kept, from the first on. Behind their batches stand none, or the first ones of the next step, of which
+-- the last may be in flight, or have its first entries alone.
+pub record IsHistory (did : List Outcome) (kept : ℕ) (since now : ℕ) (batches : List Batch) : Type 0 where
   pub front : List Batch
   pub begun : List Batch
   pub are : batches ≡ front ++ begun
   pub between : ℕ
   pub moments : (since ≤ between) × (between ≤ now)
-  pub are_kept : AreAll sysa since between (batches_of base (take kept asked)) front
-  pub next : IsSettled (next_batches base kept asked) between now begun ⊎ OneFlies sysa between now (next_batches base kept asked) begun
+  pub are_kept : AreAll sysa since between (batches_in (take kept did)) front
+  pub next : IsSettled (next_in kept did) between now begun ⊎ OneFlies sysa between now (next_in kept did) begun
 
 -- THE CONSOLE
 
@@ -117,14 +123,17 @@ IsOpened true answer since at opening kept rest = (opening ≡ []) × (at ≡ si
 IsOpened false answer since at opening kept rest = IsReset answer since at opening kept rest
 
 -- The queue of the pages that a warm run finds: their tables tell it, and its texts stood on the spool volumes at the run's first
--- moment, all of them synced, but for those with a group on a volume that is lost. A copy had been lost by a call before the steps
--- only where it may not stay beside these pages.
+-- moment, all of them synced, but for those with a group on a volume that is lost. Where no volume is lost in the run, each text is
+-- what the volumes gave at the entry: one with a group on a lost volume is gone, and names the first such group. A copy had been
+-- lost by a call before the steps only where it may not stay beside these pages.
 pub record IsFoundQueue (tells : Type 0) (old new : View) (since : ℕ) (first : Dev → ℕ) (base : Queue) : Type 0 where
   pub pages : List Page
   pub tables : Tables
   pub are : AreOf pages tables
+  pub sized : HaveSize pages
   pub told : Tell tables base
   pub texts : tells → HasTexts (lost_now new) (spools_at new since) base.config.groups base
+  pub given : tells → IsSteady old new → AreGiven old base.config.groups base
   pub found : tells → IsFound reads old new (bytes_of pages)
   pub kept1 : tells → (first Ckpt1 ≡ old.loses Ckpt1) ⊎ IsUnfit reads Ckpt1 old new pages
   pub kept2 : tells → (first Ckpt2 ≡ old.loses Ckpt2) ⊎ IsUnfit reads Ckpt2 old new pages
@@ -153,21 +162,27 @@ LosesFirst false was is = (is ≡ was) ⊎ (is ≡ next was)
 
 -- The steps of a run, on a plant that showed `old` when they began, from a queue on: what is known of them at its end.
 pub record HavePassed (tells : Type 0) (asked : List Turn) (answer : Status) (from : Queue) (per at : ℕ) (rest : List Batch) (first : Dev → ℕ) (old new : View) : Type 0 where
+  -- what they did, or would have done: where content is told it is what the table of commands gives for each, at its queue
+  pub did : List Outcome
+  pub shaped : AreOutcomes 1 asked did
+  pub are : tells → did ≡ outcomes_of from asked
   -- so many of its steps are kept, from the first on, and so many of these are known to be closed
   pub kept : ℕ
   pub closed : ℕ
   pub few : (closed ≤ kept) × (kept ≤ closed + 1) × (kept ≤ length asked)
-  pub history : IsHistory from asked kept at new.now rest
-  pub settled : answer ≢ status.BothLost → IsSettled (next_batches from kept asked) history.between new.now history.begun ⊎ IsStopped old new
+  pub history : IsHistory did kept at new.now rest
+  pub settled : answer ≢ status.BothLost → IsSettled (next_in kept did) history.between new.now history.begun ⊎ IsStopped old new
+  -- only where memory wanted what was done of a batch is kept without the rest
+  pub uncut : answer ≢ status.NoMemory → IsBegun (next_in kept did) history.between new.now history.begun
   pub done : answer ≡ status.Done → (closed ≡ length asked) ⊎ IsStopped old new
   pub unsaid : answer ≡ status.ConsoleFault → (kept ≡ closed + 1) × (history.begun ≡ [])
   pub unplayed : answer ≡ status.NoMemory → kept ≡ closed
   pub unkept : answer ≡ status.BothLost → kept ≡ closed
   -- its lines are those of the steps that are closed
-  pub said : tells → Adds (output from (take closed asked)) (output from (take kept asked)) (console_now old) (console_now new) (answer ≡ status.ConsoleFault) (IsStopped old new)
+  pub said : tells → Adds (lines_in (take closed did)) (lines_in (take kept did)) (console_now old) (console_now new) (answer ≡ status.ConsoleFault) (IsStopped old new)
   -- a device is lost by a call as often as a step that was played says so, and a deck finds only a volume lost that failed and is lost
-  pub loses : (d : Dev) → new.loses d ≡ loses_after d (take kept asked) (first d)
-  pub found : FindLost old new per from 1 asked
+  pub loses : tells → (d : Dev) → new.loses d ≡ loses_after d (take kept asked) (first d)
+  pub found : FindLost tells old new per from 1 asked
   -- a copy is left but where both are lost
   pub there : answer ≢ status.BothLost → ((new.lost (Disk Ckpt1) ≡ false) ⊎ (new.lost (Disk Ckpt2) ≡ false)) ⊎ HasLostSince first new
 

@@ -1,7 +1,8 @@
 -- What the steps of a script give, one after another: each its batches, the lines with which it closes, and how often a device was
 -- lost. A step whose member doesn't get the lock, or that closes before any try, has no batch, and its line says why; a step that
 -- loses a device has no batch and no line.
-use Rattle.std.specs.Prelude.{ℕ, ◌+◌, ◌==◌, if◌then◌else◌, List, [], ◌∷◌, ◌++◌, drop, take}
+use Rattle.std.specs.Prelude.{◌≡◌, ℕ, ◌+◌, ◌≤◌, ◌==◌, if◌then◌else◌, List, [], ◌∷◌, ◌++◌, drop, length, All}
+use Rattle.mas_types.specs.declared.commands.Reply.{Reply}
 use Rattle.mas_types.specs.declared.ids.Dev.{Dev}
 use Rattle.mas_types.specs.declared.ids.Dev.TheVariants.{Ckpt1, Ckpt2, Spool}
 use Rattle.mas_types.specs.declared.journals.Entry.{Entry}
@@ -11,10 +12,11 @@ use Rattle.mas_types.specs.Owners.{groups_needed}
 use Rattle.spool_disk.specs.View.{View}
 use Rattle.spool_disk.specs.Acts.{next}
 use Rattle.mas_complex.specs.Meaning.{run}
+use Rattle.member_node.specs.Lines.{reply_lines}
 use Rattle.member_steps.specs.Locked.{denied_lines}
 use Rattle.member_steps.specs.Steps as command_step
-use Rattle.member_decks.specs.Decks.{all_entries, deck_batches, deck_lines, ends_as}
-use Rattle.member_decks.specs.Steps.{IsFoundLost, opened_queue}
+use Rattle.member_decks.specs.Decks.{all_entries, deck_batches, deck_lines, ends_as, lines_by}
+use Rattle.member_decks.specs.Steps.{AreOf, IsFoundLost, LiesOn, opened_queue}
 use Rattle.first_script.specs.Played.{sysa}
 use Rattle.mas_run.specs.Turns.{Task, Reads, Gives, Turn, Granted, Denied, Closed, Loss, Unplayed}
 
@@ -55,31 +57,58 @@ abbrev pub queue_after : Queue → ℕ → List Turn → Queue
 queue_after Q at [] = Q
 queue_after Q at (turn ∷ steps) = queue_after (after_step Q at turn) (at + 1) steps
 
--- their batches
-abbrev pub batches_from : Queue → ℕ → List Turn → List (List Entry)
-batches_from Q at [] = []
-batches_from Q at (turn ∷ steps) = step_batches Q at turn ++ batches_from (after_step Q at turn) (at + 1) steps
+-- what a step does: its batches, and the lines with which it closes
+pub record Outcome : Type 0 where
+  pub batches : List (List Entry)
+  pub lines : List (List ℕ)
 
--- the lines with which they close
-abbrev pub output_from : Queue → ℕ → List Turn → List (List ℕ)
-output_from Q at [] = []
-output_from Q at (turn ∷ steps) = step_lines Q at turn ++ output_from (after_step Q at turn) (at + 1) steps
+-- what the table of commands gives for a step, at its queue
+abbrev pub outcome_of : Queue → ℕ → Turn → Outcome
+outcome_of Q at turn = record { batches = step_batches Q at turn; lines = step_lines Q at turn }
 
--- The batches and the lines of a script's steps. Steps are numbered from 1.
-abbrev pub batches_of : Queue → List Turn → List (List Entry)
-batches_of Q steps = batches_from Q 1 steps
+-- and for steps one after another, of which the first has this number
+abbrev pub outcomes_from : Queue → ℕ → List Turn → List Outcome
+outcomes_from Q at [] = []
+outcomes_from Q at (turn ∷ steps) = outcome_of Q at turn ∷ outcomes_from (after_step Q at turn) (at + 1) steps
 
-abbrev pub output : Queue → List Turn → List (List ℕ)
-output Q steps = output_from Q 1 steps
+-- What the table gives for a script's steps. Steps are numbered from 1.
+abbrev pub outcomes_of : Queue → List Turn → List Outcome
+outcomes_of Q steps = outcomes_from Q 1 steps
 
--- the batches of the first of some steps
-abbrev pub first_batches : Queue → ℕ → List Turn → List (List Entry)
-first_batches Q at [] = []
-first_batches Q at (turn ∷ steps) = step_batches Q at turn
+-- the batches of steps, and their lines
+abbrev pub batches_in : List Outcome → List (List Entry)
+batches_in [] = []
+batches_in (o ∷ os) = o.batches ++ batches_in os
 
--- those of the step behind so many
-abbrev pub next_batches : Queue → ℕ → List Turn → List (List Entry)
-next_batches Q kept steps = first_batches (queue_after Q 1 (take kept steps)) (1 + kept) (drop kept steps)
+abbrev pub lines_in : List Outcome → List (List ℕ)
+lines_in [] = []
+lines_in (o ∷ os) = o.lines ++ lines_in os
+
+-- the batches of the first of some steps, and those of the step behind so many
+abbrev pub first_in : List Outcome → List (List Entry)
+first_in [] = []
+first_in (o ∷ os) = o.batches
+
+abbrev pub next_in : ℕ → List Outcome → List (List Entry)
+next_in kept os = first_in (drop kept os)
+
+-- What is known of a step's outcome even where nothing is told of what the copies hold, so that the replies may be others than the
+-- table's: a command's batch is that command with a reply, and its lines are those of this reply; a deck's batches are of its step, and
+-- its lines those of a reply or of a lost volume; every other step has no batch, and its own line.
+abbrev pub IsOutcome : ℕ → Turn → Outcome → Type 0
+IsOutcome at (Granted (Reads fields text lost)) o = All (AreOf sysa at) o.batches × (length o.batches ≤ 2) × ((r : Reply) × (o.lines ≡ lines_by sysa at lost r))
+IsOutcome at (Granted (Gives given)) o = (r : Reply) × (o.batches ≡ (command_step.entry_with sysa at given r ∷ []) ∷ []) × (o.lines ≡ reply_lines sysa at r)
+IsOutcome at (Denied why) o = (o.batches ≡ []) × (o.lines ≡ denied_lines sysa at why)
+IsOutcome at (Closed end) o = (o.batches ≡ []) × (o.lines ≡ closing_line sysa at end ∷ [])
+IsOutcome at (Loss dev) o = (o.batches ≡ []) × (o.lines ≡ [])
+IsOutcome at Unplayed o = (o.batches ≡ []) × (o.lines ≡ [])
+
+-- of each of the steps, of which the first has this number
+abbrev pub AreOutcomes : ℕ → List Turn → List Outcome → Type 0
+AreOutcomes at [] [] = Unit {0}
+AreOutcomes at [] (o ∷ os) = ⊥
+AreOutcomes at (turn ∷ steps) [] = ⊥
+AreOutcomes at (turn ∷ steps) (o ∷ os) = IsOutcome at turn o × AreOutcomes (at + 1) steps os
 
 -- LOST DEVICES
 
@@ -96,19 +125,19 @@ loses_after d [] loses = loses
 loses_after d (turn ∷ steps) loses = loses_after d steps (loses_after_step d turn loses)
 
 -- A deck that found a volume lost had its groups, one of which lies on it, and the volume failed and is lost; each volume has so many
--- groups.
-abbrev pub FindsLost : View → View → ℕ → Queue → ℕ → Turn → Type 0
-FindsLost old new per Q at (Granted (Reads fields text lost)) = IsFoundLost (ends_as Q sysa fields (groups_needed text)) per (opened_queue Q sysa at fields text) sysa text lost old new
-FindsLost old new per Q at (Granted (Gives given)) = Unit {0}
-FindsLost old new per Q at (Denied why) = Unit {0}
-FindsLost old new per Q at (Closed end) = Unit {0}
-FindsLost old new per Q at (Loss dev) = Unit {0}
-FindsLost old new per Q at Unplayed = Unit {0}
+-- groups. What is said of the groups is said where content is told.
+abbrev pub FindsLost : Type 0 → View → View → ℕ → Queue → ℕ → Turn → Type 0
+FindsLost told old new per Q at (Granted (Reads fields text lost)) = IsFoundLost lost old new × (told → LiesOn (ends_as Q sysa fields (groups_needed text)) per (opened_queue Q sysa at fields text) sysa text lost)
+FindsLost told old new per Q at (Granted (Gives given)) = Unit {0}
+FindsLost told old new per Q at (Denied why) = Unit {0}
+FindsLost told old new per Q at (Closed end) = Unit {0}
+FindsLost told old new per Q at (Loss dev) = Unit {0}
+FindsLost told old new per Q at Unplayed = Unit {0}
 
 -- so does each of the steps
-abbrev pub FindLost : View → View → ℕ → Queue → ℕ → List Turn → Type 0
-FindLost old new per Q at [] = Unit {0}
-FindLost old new per Q at (turn ∷ steps) = FindsLost old new per Q at turn × FindLost old new per (after_step Q at turn) (at + 1) steps
+abbrev pub FindLost : Type 0 → View → View → ℕ → Queue → ℕ → List Turn → Type 0
+FindLost told old new per Q at [] = Unit {0}
+FindLost told old new per Q at (turn ∷ steps) = FindsLost told old new per Q at turn × FindLost told old new per (after_step Q at turn) (at + 1) steps
 
 -- a step that leaves the volumes as they are: it reads no deck, and loses no volume
 abbrev pub LeavesVolumes : Turn → Type 0

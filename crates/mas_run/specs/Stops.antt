@@ -14,7 +14,7 @@ use Rattle.member_node.specs.Calls.{Course, IsLeft, console_now}
 use Rattle.member_steps.specs.Steps.{StepTells}
 use Rattle.member_decks.specs.Batches.{AreAll, AreSome, OneFlies}
 use Rattle.mas_run.specs.Runs.{HasLost, IsSettled, IsStopped}
-use Rattle.mas_run.specs.Steps.{FindsLost, LeavesVolumes, loses_after_step, step_batches, step_lines}
+use Rattle.mas_run.specs.Steps.{FindsLost, IsOutcome, LeavesVolumes, Outcome, loses_after_step, outcome_of}
 use Rattle.first_script.specs.Played.{sysa}
 use Rattle.mas_run.specs.Turns.{Turn}
 use Rattle.mas_run.specs.Volumes.{AreVolumesKept}
@@ -31,28 +31,33 @@ TurnCauses (Err BothLost) was1 is1 was2 is2 old new = IsBothLost is1 is2
 TurnCauses (Err ConsoleFault) was1 is1 was2 is2 old new = IsLeftOrLost was1 is1 was2 is2 old new × Rose (old.faults Console) (new.faults Console)
 TurnCauses (Err Halted) was1 is1 was2 is2 old new = IsLeftOrLost was1 is1 was2 is2 old new × IsStopped old new
 
--- All its batches are kept where its lines are said, or where the console failed at one; one is in flight where both copies were lost; where
--- memory wanted not all were begun, or none; where the member was stopped it is one of these.
+-- All its batches are kept where its lines are said, or where the console failed at one. Where memory wanted not all were begun, or none,
+-- and what was done of the next one may be kept without the rest; where both copies were lost not all were begun, or one is in flight; where
+-- the member was stopped it is one of these, or all are kept.
 abbrev pub TurnLeaves : {T : Type 0} → Result T NodeNo → List (List Entry) → ℕ → ℕ → List Batch → Type 0
 TurnLeaves (Ok done) ess from now more = AreAll sysa from now ess more
 TurnLeaves (Err NoMemory) ess from now more = IsSettled ess from now more
-TurnLeaves (Err BothLost) ess from now more = OneFlies sysa from now ess more
+TurnLeaves (Err BothLost) ess from now more = AreSome sysa from now ess more ⊎ OneFlies sysa from now ess more
 TurnLeaves (Err ConsoleFault) ess from now more = AreAll sysa from now ess more
-TurnLeaves (Err Halted) ess from now more = OneFlies sysa from now ess more ⊎ AreSome sysa from now ess more ⊎ AreAll sysa from now ess more
+TurnLeaves (Err Halted) ess from now more = AreSome sysa from now ess more ⊎ OneFlies sysa from now ess more ⊎ AreAll sysa from now ess more
 
 -- how often a device was lost; a step that ends the run loses none
 abbrev pub TurnLoses : {T : Type 0} → Result T NodeNo → Turn → Dev → ℕ → ℕ → Type 0
 TurnLoses (Ok done) turn dev was is = is ≡ loses_after_step dev turn was
 TurnLoses (Err why) turn dev was is = (is ≡ was) × (loses_after_step dev turn was ≡ was)
 
--- A step of this number, as it comes to be played at a queue, behind batches that were kept before; each volume has so many groups.
+-- A step of this number, as it comes to be played at a queue, behind batches that were kept before; each volume has so many groups. Where
+-- content is told it does what the table of commands gives.
 pub record IsStepOf {T : Type 0} (told : Type 0) (turn : Turn) (Q : Queue) (per at : ℕ) (front batches : List Batch) (was1 is1 was2 is2 : Bool) (old new : View) (result : Result T NodeNo) : Type 0 where
   pub course : Course was1 is1 was2 is2 old new
   pub cause : TurnCauses result was1 is1 was2 is2 old new
-  pub loses : (d : Dev) → TurnLoses result turn d (old.loses d) (new.loses d)
+  pub did : Outcome
+  pub shaped : IsOutcome at turn did
+  pub is : told → did ≡ outcome_of Q at turn
+  pub loses : told → (d : Dev) → TurnLoses result turn d (old.loses d) (new.loses d)
   pub more : List Batch
   pub are : batches ≡ front ++ more
-  pub leaves : TurnLeaves result (step_batches Q at turn) old.now new.now more
-  pub found : FindsLost old new per Q at turn
+  pub leaves : TurnLeaves result did.batches old.now new.now more
+  pub found : FindsLost told old new per Q at turn
   pub volumes : told → LeavesVolumes turn → AreVolumesKept old new
-  pub console : told → StepTells result (step_lines Q at turn) (AreAll sysa old.now new.now (step_batches Q at turn) more) (console_now old) (console_now new)
+  pub console : told → StepTells result did.lines (AreAll sysa old.now new.now did.batches more) (console_now old) (console_now new)

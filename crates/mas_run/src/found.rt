@@ -1,7 +1,6 @@
 //! A script that is played from the queue that is found.
-ghost use Rattle.std.specs.Prelude.{◌≡◌, ◌≢◌, ◌⊎◌, ◌≤◌, ◌<◌, ◌^◌, [], List as ListOf, Option as OptionOf, ℕ, true, false, length, All};
+ghost use Rattle.std.specs.Prelude.{◌≡◌, ◌≢◌, ◌⊎◌, ◌≤◌, ◌<◌, ◌^◌, [], List as ListOf, Option as OptionOf, ℕ, true, false, length, All, None};
 ghost use Rattle.mas_types.specs.Fit.{IsConfig};
-ghost use Rattle.mas_types.specs.Ids.{nobody};
 ghost use Rattle.mas_types.specs.Limits.{steps_most};
 ghost use Rattle.mas_types.specs.declared.ids.Dev.TheVariants.{Ckpt1, Ckpt2};
 ghost use Rattle.mas_types.specs.declared.ids.Dev.{Dev};
@@ -16,8 +15,10 @@ ghost use Rattle.warm_start.specs.Starting.{OnlyLookedAtAll};
 ghost use Rattle.member_decks.specs.Spooling.{AreRoomy};
 ghost use Rattle.member_node.specs.Calls.{Grows, console_now};
 ghost use Rattle.member_node.specs.Copies.{RestsAt};
+ghost use Rattle.member_node.specs.Drawn.{AreDrawn};
 ghost use Rattle.member_steps.specs.Locked.{IsOpenTo};
-ghost use Rattle.member_steps.specs.Steps.{IsBetween};
+ghost use Rattle.queue_effect.specs.Standing.{AreFit};
+ghost use Rattle.table_queues.specs.Telling.{Tell, TellSound};
 ghost use Rattle.mas_run.specs.Turns.{turns_from};
 ghost use Rattle.mas_run.specs.Runs.{has_begun, Begins, IsUnbegun, HasSteps, IsRun};
 ghost use Rattle.mas_run.specs.Statuses.{IsCaused, IsCausedFrom, is_of_play, is_of_text};
@@ -56,15 +57,39 @@ pub fn status_of_start(why: StartNo) -> Status
     }
 }
 
-// The run of a warm start, at which the operator is first.
-fn running_of<P: Plant + Drop>(alloc: Global, found: Started<P, AreaCopy>) -> Running<P, AreaCopy>
-    ensures complex { result.complex ≡ found.complex }
-    ensures id { result.member.id ≡ nobody }
-    ensures batch { result.member.batch ≡ [] }
-    ensures tables { result.member.checkpoint.tables ≡ found.tables }
-    ensures pages { result.member.checkpoint.pages ≡ found.pages }
-    ensures levels { result.member.checkpoint.levels ≡ found.levels }
-    ensures level { result.member.checkpoint.level ≡ found.complex.level }
+// Gives Restart, by the operator with the checkpoint that is found, and then plays what the script asks for.
+fn play_reset<P: Plant + Drop>(
+    alloc: Global,
+    asked: &[Step],
+    found: Started<P, AreaCopy>,
+) -> Ended<P>
+    requires lock { IsOpenTo found.complex.book found.complex.reserved sysa }
+    requires config { IsConfig found.complex.base.config }
+    requires few { length asked.now ≤ steps_most }
+    requires may { All IsPlayed asked.now }
+    requires roomy { P.tells → AreRoomy (P.view found.complex.plant) found.complex.base.config }
+    requires none { found.complex.current ≡ None }
+    requires unplaced { found.complex.placed ≡ false }
+    requires drawn { AreDrawn found.tables found.complex.level found.levels found.pages }
+    requires queue { Tell found.tables found.complex.base }
+    requires fit { AreFit found.tables }
+    requires sound { TellSound found.tables }
+    requires rests1 { RestsAt P.tells found.complex.pair.first.alive found.complex.first (⟦<AreaCopy as Copying>⟧.count found.complex.pair.first.copy) found.pages (reads (disk_now (P.view found.complex.plant) Ckpt1).bytes) }
+    requires rests2 { RestsAt P.tells found.complex.pair.second.alive found.complex.second (⟦<AreaCopy as Copying>⟧.count found.complex.pair.second.copy) found.pages (reads (disk_now (P.view found.complex.plant) Ckpt2).bytes) }
+    requires order { found.tables.order < 2 ^ 62 }
+    requires level { found.complex.level < 2 ^ 62 }
+    requires journal { found.complex.journal.batches ≡ [] }
+    requires since { found.complex.since ≡ (P.view found.complex.plant).now }
+    requires some { SomeAlive found.complex.pair.first.alive found.complex.pair.second.alive }
+    requires there1 { found.complex.pair.first.alive ≡ true → (P.view found.complex.plant).lost (Disk Ckpt1) ≡ false }
+    requires there2 { found.complex.pair.second.alive ≡ true → (P.view found.complex.plant).lost (Disk Ckpt2) ≡ false }
+    ensures base { result.base ≡ found.complex.base }
+    ensures since { result.since ≡ found.complex.since }
+    ensures kind { is_of_play result.status ≡ true }
+    ensures goes { Goes (P.view found.complex.plant) (P.view result.plant) }
+    ensures grow { (d : Dev) → Grows ((P.view found.complex.plant).loses d) ((P.view result.plant).loses d) }
+    ensures cause { IsCausedFrom found.complex.pair.first.alive found.complex.pair.second.alive result.status (P.view found.complex.plant) (P.view result.plant) }
+    ensures steps { (lost : ListOf (OptionOf ℕ)) × HasSteps false P.tells (turns_from result.base.config found.complex.book lost asked.now) result.status result.base result.journal result.since (P.view found.complex.plant).loses (P.view found.complex.plant) (P.view result.plant) }
 {
     let Started {
         complex,
@@ -78,43 +103,16 @@ fn running_of<P: Plant + Drop>(alloc: Global, found: Started<P, AreaCopy>) -> Ru
         levels,
         pages,
     };
-    let member = Member::new(alloc, OPERATOR, checkpoint);
-    Running { complex, member }
-}
-
-// Gives Restart, and then plays what the script asks for.
-fn play_reset<P: Plant + Drop>(alloc: Global, asked: &[Step], run: Running<P, AreaCopy>) -> Ended<P>
-    requires lock { IsOpenTo run.complex.book run.complex.reserved sysa }
-    requires config { IsConfig run.complex.base.config }
-    requires few { length asked.now ≤ steps_most }
-    requires id { run.member.id ≡ nobody }
-    requires may { All IsPlayed asked.now }
-    requires roomy { P.tells → AreRoomy (P.view run.complex.plant) run.complex.base.config }
-    requires between { IsBetween run.complex.base run.complex.journal.batches run.complex.current run.complex.placed run.complex.level run.member.batch run.member.checkpoint }
-    requires rests1 { RestsAt P.tells run.complex.pair.first.alive run.complex.first (⟦<AreaCopy as Copying>⟧.count run.complex.pair.first.copy) run.member.checkpoint.pages (reads (disk_now (P.view run.complex.plant) Ckpt1).bytes) }
-    requires rests2 { RestsAt P.tells run.complex.pair.second.alive run.complex.second (⟦<AreaCopy as Copying>⟧.count run.complex.pair.second.copy) run.member.checkpoint.pages (reads (disk_now (P.view run.complex.plant) Ckpt2).bytes) }
-    requires order { run.member.checkpoint.tables.order < 2 ^ 62 }
-    requires level { run.member.checkpoint.level < 2 ^ 62 }
-    requires journal { run.complex.journal.batches ≡ [] }
-    requires since { run.complex.since ≡ (P.view run.complex.plant).now }
-    requires some { SomeAlive run.complex.pair.first.alive run.complex.pair.second.alive }
-    requires there1 { run.complex.pair.first.alive ≡ true → (P.view run.complex.plant).lost (Disk Ckpt1) ≡ false }
-    requires there2 { run.complex.pair.second.alive ≡ true → (P.view run.complex.plant).lost (Disk Ckpt2) ≡ false }
-    ensures base { result.base ≡ run.complex.base }
-    ensures since { result.since ≡ run.complex.since }
-    ensures kind { is_of_play result.status ≡ true }
-    ensures goes { Goes (P.view run.complex.plant) (P.view result.plant) }
-    ensures grow { (d : Dev) → Grows ((P.view run.complex.plant).loses d) ((P.view result.plant).loses d) }
-    ensures cause { IsCausedFrom run.complex.pair.first.alive run.complex.pair.second.alive result.status (P.view run.complex.plant) (P.view result.plant) }
-    ensures steps { (lost : ListOf (OptionOf ℕ)) × HasSteps false P.tells (turns_from result.base.config run.complex.book lost asked.now) result.status result.base result.journal result.since (P.view run.complex.plant).loses (P.view run.complex.plant) (P.view result.plant) }
-{
-    let mut run = run;
+    let Ok(member) = Member::with(alloc, OPERATOR, checkpoint) else {
+        return ended(Status::NoMemory, complex);
+    };
+    let mut run = Running { complex, member };
     match run.restart(alloc) {
         Ok(()) => {
             run.member.id = SYSA;
             play_asked(alloc, asked, run)
         }
-        Err(why) => ended(status_of(&Err(why)), run),
+        Err(why) => ended(status_of(&Err(why)), run.complex),
     }
 }
 
@@ -146,5 +144,5 @@ pub(crate) fn play_warm<P: Plant + Drop>(alloc: Global, script: &Script, plant: 
     };
     law_of_fit_tables();
     law_of_told_queues();
-    play_reset(alloc, script.steps.as_slice(), running_of(alloc, found))
+    play_reset(alloc, script.steps.as_slice(), found)
 }

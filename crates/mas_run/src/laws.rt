@@ -2,6 +2,8 @@
 ghost use Rattle.mas_run.specs.Found.{FindNone};
 ghost use Rattle.mas_run.specs.Turns.{AreAwake};
 
+use spool_disk::Plant;
+
 /// Where the configuration has no dormancy, each try of the lock by a script's step gets it.
 pub fn law_of_awake_runs()
     ensures { AreAwake }
@@ -9,6 +11,6 @@ pub fn law_of_awake_runs()
 
 /// Where no volume failed in a run, no deck found one lost: what becomes of its steps, and so its commands and lines, follows from its
 /// script and the queue that it began with.
-pub fn law_of_sound_volumes()
-    ensures { FindNone }
+pub fn law_of_sound_volumes<P: Plant>()
+    ensures { FindNone P.tells }
 {}

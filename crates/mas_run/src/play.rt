@@ -17,14 +17,15 @@ ghost use Rattle.duplex_pair.specs.Halves.{SomeAlive};
 ghost use Rattle.first_script.specs.Played.{IsPlayed, sysa};
 ghost use Rattle.script_laws.specs.Limits.{IsScript};
 ghost use Rattle.mas_complex.specs.Headline.{Headline};
-ghost use Rattle.mas_complex.specs.Journals.{end_of};
+ghost use Rattle.mas_complex.specs.Journals.{end_of, kept_all};
+ghost use Rattle.mas_complex.specs.Meaning.{run as run_of};
 ghost use Rattle.mas_run.specs.Refusals.{bytes_needed, refused_devices, Answers, IsTooSmall, IsDeviceSize};
 ghost use Rattle.member_decks.specs.Spooling.{AreRoomy};
 ghost use Rattle.member_node.specs.Calls.{Grows, console_now};
-ghost use Rattle.member_node.specs.Copies.{RestsAt};
 ghost use Rattle.member_node.specs.Drawn.{AreDrawn};
+ghost use Rattle.member_node.specs.Reads.{IsCalm, ReadsLow};
 ghost use Rattle.member_steps.specs.Locked.{IsOpenTo};
-ghost use Rattle.member_steps.specs.Steps.{AreAllKept, IsBetween};
+ghost use Rattle.member_steps.specs.Steps.{AreAllKept, IsAtLock, IsToldSound};
 ghost use Rattle.mas_run.specs.Turns.{turns_from};
 ghost use Rattle.mas_run.specs.Runs.{has_begun, Begins, IsUnbegun, IsPlay, IsRun};
 ghost use Rattle.mas_run.specs.Statuses.{IsCaused, IsCausedFrom, status_of as status_of_lem, is_of_play, is_of_text};
@@ -40,7 +41,7 @@ use mas_complex::Complex;
 use mas_types::{
     Config, Dev, Journal, List, MemberId, NoMemory, Queue, Route, Status, empty_queue, no_queue,
 };
-use member_node::{Checkpoint, Member, NodeNo, blank};
+use member_node::{Member, NodeNo, blank};
 use script_lang::{Script, Step};
 use spool_disk::Plant;
 use std::alloc::Global;
@@ -90,15 +91,14 @@ pub(crate) fn status_of(answer: &Result<(), NodeNo>) -> Status
 }
 
 /// The end of a run that has begun.
-pub(crate) fn ended<P: Plant + Drop>(status: Status, run: Running<P, AreaCopy>) -> Ended<P>
+pub(crate) fn ended<P: Plant + Drop>(status: Status, complex: Complex<P, AreaCopy>) -> Ended<P>
     ensures status { result.status ≡ status }
-    ensures base { result.base ≡ run.complex.base }
-    ensures since { result.since ≡ run.complex.since }
-    ensures plant { result.plant ≡ run.complex.plant }
-    ensures journal { result.journal.batches ≡ end_of run.complex.placed run.complex.current run.complex.journal.batches }
+    ensures base { result.base ≡ complex.base }
+    ensures since { result.since ≡ complex.since }
+    ensures plant { result.plant ≡ complex.plant }
+    ensures journal { result.journal.batches ≡ end_of complex.placed complex.current complex.journal.batches }
     ensures headline { P.tells → ∥ Headline reads result.base result.since result.journal (P.view result.plant) ∥₁ }
 {
-    let Running { complex, member: _ } = run;
     let end = complex.end();
     Ended {
         status,
@@ -121,11 +121,15 @@ pub(crate) fn play_asked<P: Plant + Drop>(
     requires few { length asked.now ≤ steps_most }
     requires may { All IsPlayed asked.now }
     requires roomy { P.tells → AreRoomy (P.view run.complex.plant) run.complex.base.config }
-    requires between { IsBetween run.complex.base run.complex.journal.batches run.complex.current run.complex.placed run.complex.level run.member.batch run.member.checkpoint }
-    requires rests1 { RestsAt P.tells run.complex.pair.first.alive run.complex.first (⟦<AreaCopy as Copying>⟧.count run.complex.pair.first.copy) run.member.checkpoint.pages (reads (disk_now (P.view run.complex.plant) Ckpt1).bytes) }
-    requires rests2 { RestsAt P.tells run.complex.pair.second.alive run.complex.second (⟦<AreaCopy as Copying>⟧.count run.complex.pair.second.copy) run.member.checkpoint.pages (reads (disk_now (P.view run.complex.plant) Ckpt2).bytes) }
-    requires order { run.member.checkpoint.tables.order < 2 ^ 62 + 64 }
-    requires level { run.member.checkpoint.level < 2 ^ 62 + 64 }
+    requires at_lock { IsAtLock run.complex.current run.complex.placed run.member.batch run.member.checkpoint run.member.room }
+    requires calm1 { IsCalm run.complex.pair.first.alive run.complex.first (⟦<AreaCopy as Copying>⟧.count run.complex.pair.first.copy) (length run.member.room) }
+    requires calm2 { IsCalm run.complex.pair.second.alive run.complex.second (⟦<AreaCopy as Copying>⟧.count run.complex.pair.second.copy) (length run.member.room) }
+    requires low1 { ReadsLow P.tells run.complex.pair.first.alive run.member.checkpoint.tables.config (length run.complex.journal.batches) (reads (disk_now (P.view run.complex.plant) Ckpt1).bytes) }
+    requires low2 { ReadsLow P.tells run.complex.pair.second.alive run.member.checkpoint.tables.config (length run.complex.journal.batches) (reads (disk_now (P.view run.complex.plant) Ckpt2).bytes) }
+    requires sound { P.tells → IsToldSound (run_of run.complex.base (kept_all run.complex.journal.batches)) }
+    requires own { run.complex.base.config ≡ run.member.checkpoint.tables.config }
+    requires fresh { length run.complex.journal.batches ≤ 1 }
+    requires level { run.complex.level < 2 ^ 62 + 64 }
     requires kept { AreAllKept run.complex.journal.batches (P.view run.complex.plant).now }
     requires since { run.complex.since ≤ (P.view run.complex.plant).now }
     requires quiet { P.tells → ((P.view run.complex.plant).world run.complex.since).console ≡ console_now (P.view run.complex.plant) }
@@ -142,26 +146,26 @@ pub(crate) fn play_asked<P: Plant + Drop>(
 {
     let mut run = run;
     let answer = run.play_steps(alloc, asked);
-    ended(status_of(&answer), run)
+    ended(status_of(&answer), run.complex)
 }
 
-// The empty queue of a configuration and routes, and its checkpoint.
-fn start(
-    alloc: Global,
-    config: &Config,
-    routes: &List<Route>,
-) -> Result<(Queue, Checkpoint), NoMemory>
+// The empty queue of a configuration and routes, and SYSA with its checkpoint.
+fn start(alloc: Global, config: &Config, routes: &List<Route>) -> Result<(Queue, Member), NoMemory>
     requires config { IsConfig config.now }
     requires few { length routes.now ≤ routes_most }
     requires routes { All IsRoute routes.now }
     ensures base { IfOk result (λ start. start.0 ≡ queue_without_jobs config.now routes.now) }
-    ensures tables { IfOk result (λ start. start.1.tables ≡ empty_tables config.now routes.now) }
-    ensures level { IfOk result (λ start. start.1.level ≡ 1) }
-    ensures drawn { IfOk result (λ start. AreDrawn start.1.tables start.1.level start.1.levels start.1.pages) }
+    ensures id { IfOk result (λ start. start.1.id ≡ sysa) }
+    ensures batch { IfOk result (λ start. start.1.batch ≡ []) }
+    ensures room { IfOk result (λ start. length start.1.room ≡ length start.1.checkpoint.pages) }
+    ensures tables { IfOk result (λ start. start.1.checkpoint.tables ≡ empty_tables config.now routes.now) }
+    ensures level { IfOk result (λ start. start.1.checkpoint.level ≡ 1) }
+    ensures drawn { IfOk result (λ start. AreDrawn start.1.checkpoint.tables start.1.checkpoint.level start.1.checkpoint.levels start.1.checkpoint.pages) }
 {
     let base = empty_queue(alloc, config, routes)?;
     let checkpoint = blank(alloc, config, routes)?;
-    Ok((base, checkpoint))
+    let member = Member::with(alloc, SYSA, checkpoint)?;
+    Ok((base, member))
 }
 
 // How many bytes a checkpoint device needs.
@@ -214,22 +218,21 @@ pub(crate) fn play_cold<P: Plant + Drop>(alloc: Global, script: &Script, plant: 
     if let Err(status) = refuse_devices(&plant, config) {
         return unbegun(alloc, status, plant);
     }
-    let Ok((base, checkpoint)) = start(alloc, config, &script.routes) else {
+    let Ok((base, member)) = start(alloc, config, &script.routes) else {
         return unbegun(alloc, Status::NoMemory, plant);
     };
     let mut plant = plant;
-    let pages = page_count(config);
+    let count = page_count(config);
     let mut pair = Pair::new(
-        AreaCopy::new(Dev::Ckpt1, pages),
-        AreaCopy::new(Dev::Ckpt2, pages),
+        AreaCopy::new(Dev::Ckpt1, count),
+        AreaCopy::new(Dev::Ckpt2, count),
     );
     // The operator never halts.
-    let Ok(()) = pair.form(&mut plant, OPERATOR, checkpoint.pages.as_slice()) else {
+    let Ok(()) = pair.form(&mut plant, OPERATOR, member.checkpoint.pages.as_slice()) else {
         return unbegun(alloc, Status::BothLost, plant);
     };
     law_of_told_queues();
-    let level = checkpoint.level;
+    let level = member.checkpoint.level;
     let complex = Complex::make(alloc, plant, pair, base, level);
-    let member = Member::new(alloc, SYSA, checkpoint);
     play_asked(alloc, script.steps.as_slice(), Running { complex, member })
 }

@@ -1,14 +1,15 @@
 //! Restart of all members, as the first batch of a warm run.
-ghost use Rattle.std.specs.Prelude.{◌≡◌, ◌+◌, ◌≤◌, ◌<◌, ◌^◌, [], true, None, OnOk};
+ghost use Rattle.std.specs.Prelude.{◌≡◌, ◌+◌, ◌≤◌, ◌<◌, ◌^◌, [], length, true, false, None, OnOk};
 ghost use Rattle.mas_types.specs.declared.ids.Dev.TheVariants.{Ckpt1, Ckpt2};
 ghost use Rattle.mas_types.specs.Ids.{nobody};
 ghost use Rattle.mas_types.specs.declared.queues.Queue.{Queue};
 ghost use Rattle.spool_disk.specs.View.{disk_now};
 ghost use Rattle.ckpt_pages.specs.Shape.{HasSpelling};
 ghost use Rattle.duplex_pair.specs.Halves.{SomeAlive};
-ghost use Rattle.mas_complex.specs.Journals.{begun, end_of};
+ghost use Rattle.mas_complex.specs.Journals.{begun, end_of, kept_all};
+ghost use Rattle.mas_complex.specs.Meaning.{run};
 ghost use Rattle.queue_effect.specs.Standing.{AreFit};
-ghost use Rattle.table_queues.specs.Telling.{TellSound};
+ghost use Rattle.table_queues.specs.Telling.{Tell, TellSound};
 ghost use Rattle.member_node.specs.Batches.{HasDone};
 ghost use Rattle.mas_run.specs.Resets.{restart_entries};
 
@@ -27,10 +28,16 @@ fn give_restart(member: &mut Member, alloc: Global) -> Result<(), NoMemory>
     requires spelling { HasSpelling member.old.checkpoint.tables }
     requires fit { AreFit member.old.checkpoint.tables }
     requires sound { TellSound member.old.checkpoint.tables }
+    requires here { member.old.behind ≡ false }
     requires order { member.old.checkpoint.tables.order + 32 < 2 ^ 63 }
     ensures id { member.new.id ≡ member.old.id }
+    ensures room { member.new.room ≡ member.old.room }
+    ensures behind { member.new.behind ≡ member.old.behind }
+    ensures levels { member.new.checkpoint.levels ≡ member.old.checkpoint.levels }
     ensures level { member.new.checkpoint.level ≡ member.old.checkpoint.level }
     ensures pages { member.new.checkpoint.pages ≡ member.old.checkpoint.pages }
+    ensures spelling { HasSpelling member.new.checkpoint.tables }
+    ensures fit { AreFit member.new.checkpoint.tables }
     ensures entries { OnOk result (member.new.batch ≡ restart_entries) }
     ensures done { OnOk result ((Q : Queue) → HasDone Q member.old.batch member.old.checkpoint → HasDone Q member.new.batch member.new.checkpoint) }
     ensures sound { OnOk result (TellSound member.new.checkpoint.tables) }
@@ -42,22 +49,28 @@ fn give_restart(member: &mut Member, alloc: Global) -> Result<(), NoMemory>
 
 impl<P: Plant + Drop, C: Steady + Drop> Running<P, C> {
     ghost use Rattle.member_node.specs.Copies.{RestsAt};
-    ghost use Rattle.member_steps.specs.Steps.{IsBetween};
+    ghost use Rattle.member_node.specs.Reads.{IsCalm, ReadsLow};
+    ghost use Rattle.member_steps.specs.Steps.{IsAtLock, IsToldSound};
     ghost use Rattle.mas_run.specs.Resets.{HasReset};
 
     /// Gives Restart as the first batch, by the operator, while nobody holds the lock. It is kept once each copy that is left has
     /// it. All memory is taken before the first write.
     pub(crate) fn restart(&mut self, alloc: Global) -> Result<(), NodeNo>
         requires id { self.old.member.id ≡ nobody }
+        requires here { self.old.member.behind ≡ false }
         requires some { SomeAlive self.old.complex.pair.first.alive self.old.complex.pair.second.alive }
         requires free { self.old.complex.book.holder ≡ nobody }
         requires journal { self.old.complex.journal.batches ≡ [] }
         requires since { self.old.complex.since ≡ (P.view self.old.complex.plant).now }
-        requires between { IsBetween self.old.complex.base self.old.complex.journal.batches self.old.complex.current self.old.complex.placed self.old.complex.level self.old.member.batch self.old.member.checkpoint }
+        requires at_lock { IsAtLock self.old.complex.current self.old.complex.placed self.old.member.batch self.old.member.checkpoint self.old.member.room }
+        requires same_level { self.old.complex.level ≡ self.old.member.checkpoint.level }
+        requires queue { Tell self.old.member.checkpoint.tables self.old.complex.base }
+        requires fit { AreFit self.old.member.checkpoint.tables }
+        requires sound { TellSound self.old.member.checkpoint.tables }
         requires rests1 { RestsAt P.tells self.old.complex.pair.first.alive self.old.complex.first (C.count self.old.complex.pair.first.copy) self.old.member.checkpoint.pages (C.reads (disk_now (P.view self.old.complex.plant) Ckpt1).bytes) }
         requires rests2 { RestsAt P.tells self.old.complex.pair.second.alive self.old.complex.second (C.count self.old.complex.pair.second.copy) self.old.member.checkpoint.pages (C.reads (disk_now (P.view self.old.complex.plant) Ckpt2).bytes) }
-        requires order { self.old.member.checkpoint.tables.order + 32 < 2 ^ 63 }
-        requires level { self.old.member.checkpoint.level + 1 < 2 ^ 63 }
+        requires order { self.old.member.checkpoint.tables.order < 2 ^ 62 }
+        requires level { self.old.complex.level + 1 < 2 ^ 63 }
         requires room1 { self.old.complex.pair.first.alive ≡ true → 1 ≤ C.room self.old.complex.pair.first.copy }
         requires room2 { self.old.complex.pair.second.alive ≡ true → 1 ≤ C.room self.old.complex.pair.second.copy }
         ensures base { self.new.complex.base ≡ self.old.complex.base }
@@ -69,12 +82,15 @@ impl<P: Plant + Drop, C: Steady + Drop> Running<P, C> {
             (end_of self.new.complex.placed self.new.complex.current self.new.complex.journal.batches)
             self.old.complex.pair.first.alive self.new.complex.pair.first.alive self.old.complex.pair.second.alive self.new.complex.pair.second.alive
             (P.view self.old.complex.plant) (P.view self.new.complex.plant) result }
-        ensures between { OnOk result (IsBetween self.new.complex.base self.new.complex.journal.batches self.new.complex.current self.new.complex.placed self.new.complex.level self.new.member.batch self.new.member.checkpoint) }
-        ensures rests1 { OnOk result (RestsAt P.tells self.new.complex.pair.first.alive self.new.complex.first (C.count self.new.complex.pair.first.copy) self.new.member.checkpoint.pages (C.reads (disk_now (P.view self.new.complex.plant) Ckpt1).bytes)) }
-        ensures rests2 { OnOk result (RestsAt P.tells self.new.complex.pair.second.alive self.new.complex.second (C.count self.new.complex.pair.second.copy) self.new.member.checkpoint.pages (C.reads (disk_now (P.view self.new.complex.plant) Ckpt2).bytes)) }
+        ensures fresh { OnOk result (length self.new.complex.journal.batches ≡ 1) }
+        ensures at_lock { OnOk result (IsAtLock self.new.complex.current self.new.complex.placed self.new.member.batch self.new.member.checkpoint self.new.member.room) }
+        ensures calm1 { OnOk result (IsCalm self.new.complex.pair.first.alive self.new.complex.first (C.count self.new.complex.pair.first.copy) (length self.new.member.room)) }
+        ensures calm2 { OnOk result (IsCalm self.new.complex.pair.second.alive self.new.complex.second (C.count self.new.complex.pair.second.copy) (length self.new.member.room)) }
+        ensures low1 { OnOk result (ReadsLow P.tells self.new.complex.pair.first.alive self.new.member.checkpoint.tables.config (length self.new.complex.journal.batches) (C.reads (disk_now (P.view self.new.complex.plant) Ckpt1).bytes)) }
+        ensures low2 { OnOk result (ReadsLow P.tells self.new.complex.pair.second.alive self.new.member.checkpoint.tables.config (length self.new.complex.journal.batches) (C.reads (disk_now (P.view self.new.complex.plant) Ckpt2).bytes)) }
+        ensures sound { OnOk result (IsToldSound (run self.new.complex.base (kept_all self.new.complex.journal.batches))) }
         ensures config { self.new.member.checkpoint.tables.config ≡ self.old.member.checkpoint.tables.config }
-        ensures order { self.new.member.checkpoint.tables.order ≤ self.old.member.checkpoint.tables.order + 32 }
-        ensures level { OnOk result (self.new.member.checkpoint.level ≤ self.old.member.checkpoint.level + 1) }
+        ensures level { OnOk result (self.new.complex.level ≤ self.old.complex.level + 1) }
     {
         let Ok(()) = give_restart(&mut self.member, alloc) else {
             return Err(NodeNo::NoMemory);

@@ -56,11 +56,11 @@ fn reset_of(given: &Command) -> Option<MemberId>
 impl<P: Plant + Drop, C: Steady + Drop> Running<P, C> {
     ghost use Rattle.lock_cycle.specs.Books.{try_refusal};
     ghost use Rattle.member_decks.specs.Spooling.{AreRoomy};
-    ghost use Rattle.member_decks.specs.Steps.{AreOf, HasRoomForTwo, orders_most};
+    ghost use Rattle.member_decks.specs.Steps.{AreOf};
     ghost use Rattle.member_node.specs.Calls.{console_now};
-    ghost use Rattle.member_node.specs.Copies.{RestsAt};
+    ghost use Rattle.member_node.specs.Reads.{IsCalm, ReadsLow, orders_after, too_high};
     ghost use Rattle.member_steps.specs.Locked.{IsOpenTo};
-    ghost use Rattle.member_steps.specs.Steps.{AreAllKept, IsBetween};
+    ghost use Rattle.member_steps.specs.Steps.{AreAllKept, IsAtLock, IsToldSound};
     ghost use Rattle.mas_run.specs.Plays.{HasPlay};
     ghost use Rattle.mas_run.specs.Stops.{IsStepOf};
     ghost use Rattle.first_script.specs.Played.{sysa};
@@ -75,14 +75,17 @@ impl<P: Plant + Drop, C: Steady + Drop> Running<P, C> {
         requires since { self.old.complex.since ≤ (P.view self.old.complex.plant).now }
         requires roomy { P.tells → AreRoomy (P.view self.old.complex.plant) self.old.complex.base.config }
         requires untold { P.tells → (es : List Entry) → AreOf sysa step es → IsUntold (setting C.reads self.old.complex.base self.old.complex.since) (P.view self.old.complex.plant) es }
-        requires between { IsBetween self.old.complex.base self.old.complex.journal.batches self.old.complex.current self.old.complex.placed self.old.complex.level self.old.member.batch self.old.member.checkpoint }
-        requires rests1 { RestsAt P.tells self.old.complex.pair.first.alive self.old.complex.first (C.count self.old.complex.pair.first.copy) self.old.member.checkpoint.pages (C.reads (disk_now (P.view self.old.complex.plant) Ckpt1).bytes) }
-        requires rests2 { RestsAt P.tells self.old.complex.pair.second.alive self.old.complex.second (C.count self.old.complex.pair.second.copy) self.old.member.checkpoint.pages (C.reads (disk_now (P.view self.old.complex.plant) Ckpt2).bytes) }
+        requires at_lock { IsAtLock self.old.complex.current self.old.complex.placed self.old.member.batch self.old.member.checkpoint self.old.member.room }
+        requires calm1 { IsCalm self.old.complex.pair.first.alive self.old.complex.first (C.count self.old.complex.pair.first.copy) (length self.old.member.room) }
+        requires calm2 { IsCalm self.old.complex.pair.second.alive self.old.complex.second (C.count self.old.complex.pair.second.copy) (length self.old.member.room) }
+        requires low1 { ReadsLow P.tells self.old.complex.pair.first.alive self.old.member.checkpoint.tables.config (length self.old.complex.journal.batches) (C.reads (disk_now (P.view self.old.complex.plant) Ckpt1).bytes) }
+        requires low2 { ReadsLow P.tells self.old.complex.pair.second.alive self.old.member.checkpoint.tables.config (length self.old.complex.journal.batches) (C.reads (disk_now (P.view self.old.complex.plant) Ckpt2).bytes) }
+        requires sound { P.tells → IsToldSound (run self.old.complex.base (kept_all self.old.complex.journal.batches)) }
+        requires own { self.old.complex.base.config ≡ self.old.member.checkpoint.tables.config }
+        requires most { 1 ≤ C.room_most }
         requires kept { AreAllKept self.old.complex.journal.batches (P.view self.old.complex.plant).now }
-        requires order { self.old.member.checkpoint.tables.order + orders_most < 2 ^ 63 }
-        requires level { self.old.member.checkpoint.level + 2 < 2 ^ 63 }
-        requires room1 { self.old.complex.pair.first.alive ≡ true → HasRoomForTwo C.room_after (C.room self.old.complex.pair.first.copy) }
-        requires room2 { self.old.complex.pair.second.alive ≡ true → HasRoomForTwo C.room_after (C.room self.old.complex.pair.second.copy) }
+        requires orders { orders_after (length self.old.complex.journal.batches + 1) < too_high }
+        requires level { self.old.complex.level + 1 < too_high }
         ensures base { self.new.complex.base ≡ self.old.complex.base }
         ensures since { self.new.complex.since ≡ self.old.complex.since }
         ensures id { self.new.member.id ≡ self.old.member.id }
@@ -91,11 +94,14 @@ impl<P: Plant + Drop, C: Steady + Drop> Running<P, C> {
             self.old.complex.journal.batches (end_of self.new.complex.placed self.new.complex.current self.new.complex.journal.batches)
             self.old.complex.pair.first.alive self.new.complex.pair.first.alive self.old.complex.pair.second.alive self.new.complex.pair.second.alive
             (P.view self.old.complex.plant) (P.view self.new.complex.plant) result }
-        ensures between { OnOk result (IsBetween self.new.complex.base self.new.complex.journal.batches self.new.complex.current self.new.complex.placed self.new.complex.level self.new.member.batch self.new.member.checkpoint) }
-        ensures rests1 { OnOk result (RestsAt P.tells self.new.complex.pair.first.alive self.new.complex.first (C.count self.new.complex.pair.first.copy) self.new.member.checkpoint.pages (C.reads (disk_now (P.view self.new.complex.plant) Ckpt1).bytes)) }
-        ensures rests2 { OnOk result (RestsAt P.tells self.new.complex.pair.second.alive self.new.complex.second (C.count self.new.complex.pair.second.copy) self.new.member.checkpoint.pages (C.reads (disk_now (P.view self.new.complex.plant) Ckpt2).bytes)) }
-        ensures order { self.new.member.checkpoint.tables.order ≤ self.old.member.checkpoint.tables.order + orders_most }
-        ensures level { OnOk result (self.new.member.checkpoint.level ≤ self.old.member.checkpoint.level + 2) }
+        ensures at_lock { OnOk result (IsAtLock self.new.complex.current self.new.complex.placed self.new.member.batch self.new.member.checkpoint self.new.member.room) }
+        ensures calm1 { OnOk result (IsCalm self.new.complex.pair.first.alive self.new.complex.first (C.count self.new.complex.pair.first.copy) (length self.new.member.room)) }
+        ensures calm2 { OnOk result (IsCalm self.new.complex.pair.second.alive self.new.complex.second (C.count self.new.complex.pair.second.copy) (length self.new.member.room)) }
+        ensures low1 { OnOk result (ReadsLow P.tells self.new.complex.pair.first.alive self.old.member.checkpoint.tables.config (length self.new.complex.journal.batches) (C.reads (disk_now (P.view self.new.complex.plant) Ckpt1).bytes)) }
+        ensures low2 { OnOk result (ReadsLow P.tells self.new.complex.pair.second.alive self.old.member.checkpoint.tables.config (length self.new.complex.journal.batches) (C.reads (disk_now (P.view self.new.complex.plant) Ckpt2).bytes)) }
+        ensures sound { OnOk result (P.tells → IsToldSound (run self.new.complex.base (kept_all self.new.complex.journal.batches))) }
+        ensures own { OnOk result (self.new.member.checkpoint.tables.config ≡ self.old.member.checkpoint.tables.config) }
+        ensures level { OnOk result (self.new.complex.level ≤ self.old.complex.level + 2) }
         ensures lock { OnOk result (IsOpenTo self.new.complex.book self.new.complex.reserved sysa) }
         ensures book { OnOk result (self.new.complex.book ≡ after_deck self.old.complex.book (read_as self.old.complex.base.config.node cards.now)) }
     {
@@ -114,14 +120,17 @@ impl<P: Plant + Drop, C: Steady + Drop> Running<P, C> {
         requires since { self.old.complex.since ≤ (P.view self.old.complex.plant).now }
         requires roomy { P.tells → AreRoomy (P.view self.old.complex.plant) self.old.complex.base.config }
         requires untold { P.tells → (es : List Entry) → AreOf sysa step es → IsUntold (setting C.reads self.old.complex.base self.old.complex.since) (P.view self.old.complex.plant) es }
-        requires between { IsBetween self.old.complex.base self.old.complex.journal.batches self.old.complex.current self.old.complex.placed self.old.complex.level self.old.member.batch self.old.member.checkpoint }
-        requires rests1 { RestsAt P.tells self.old.complex.pair.first.alive self.old.complex.first (C.count self.old.complex.pair.first.copy) self.old.member.checkpoint.pages (C.reads (disk_now (P.view self.old.complex.plant) Ckpt1).bytes) }
-        requires rests2 { RestsAt P.tells self.old.complex.pair.second.alive self.old.complex.second (C.count self.old.complex.pair.second.copy) self.old.member.checkpoint.pages (C.reads (disk_now (P.view self.old.complex.plant) Ckpt2).bytes) }
+        requires at_lock { IsAtLock self.old.complex.current self.old.complex.placed self.old.member.batch self.old.member.checkpoint self.old.member.room }
+        requires calm1 { IsCalm self.old.complex.pair.first.alive self.old.complex.first (C.count self.old.complex.pair.first.copy) (length self.old.member.room) }
+        requires calm2 { IsCalm self.old.complex.pair.second.alive self.old.complex.second (C.count self.old.complex.pair.second.copy) (length self.old.member.room) }
+        requires low1 { ReadsLow P.tells self.old.complex.pair.first.alive self.old.member.checkpoint.tables.config (length self.old.complex.journal.batches) (C.reads (disk_now (P.view self.old.complex.plant) Ckpt1).bytes) }
+        requires low2 { ReadsLow P.tells self.old.complex.pair.second.alive self.old.member.checkpoint.tables.config (length self.old.complex.journal.batches) (C.reads (disk_now (P.view self.old.complex.plant) Ckpt2).bytes) }
+        requires sound { P.tells → IsToldSound (run self.old.complex.base (kept_all self.old.complex.journal.batches)) }
+        requires own { self.old.complex.base.config ≡ self.old.member.checkpoint.tables.config }
+        requires most { 1 ≤ C.room_most }
         requires kept { AreAllKept self.old.complex.journal.batches (P.view self.old.complex.plant).now }
-        requires order { self.old.member.checkpoint.tables.order + orders_most < 2 ^ 63 }
-        requires level { self.old.member.checkpoint.level + 2 < 2 ^ 63 }
-        requires room1 { self.old.complex.pair.first.alive ≡ true → HasRoomForTwo C.room_after (C.room self.old.complex.pair.first.copy) }
-        requires room2 { self.old.complex.pair.second.alive ≡ true → HasRoomForTwo C.room_after (C.room self.old.complex.pair.second.copy) }
+        requires orders { orders_after (length self.old.complex.journal.batches + 1) < too_high }
+        requires level { self.old.complex.level + 1 < too_high }
         ensures base { self.new.complex.base ≡ self.old.complex.base }
         ensures since { self.new.complex.since ≡ self.old.complex.since }
         ensures id { self.new.member.id ≡ self.old.member.id }
@@ -130,11 +139,14 @@ impl<P: Plant + Drop, C: Steady + Drop> Running<P, C> {
             self.old.complex.journal.batches (end_of self.new.complex.placed self.new.complex.current self.new.complex.journal.batches)
             self.old.complex.pair.first.alive self.new.complex.pair.first.alive self.old.complex.pair.second.alive self.new.complex.pair.second.alive
             (P.view self.old.complex.plant) (P.view self.new.complex.plant) result }
-        ensures between { OnOk result (IsBetween self.new.complex.base self.new.complex.journal.batches self.new.complex.current self.new.complex.placed self.new.complex.level self.new.member.batch self.new.member.checkpoint) }
-        ensures rests1 { OnOk result (RestsAt P.tells self.new.complex.pair.first.alive self.new.complex.first (C.count self.new.complex.pair.first.copy) self.new.member.checkpoint.pages (C.reads (disk_now (P.view self.new.complex.plant) Ckpt1).bytes)) }
-        ensures rests2 { OnOk result (RestsAt P.tells self.new.complex.pair.second.alive self.new.complex.second (C.count self.new.complex.pair.second.copy) self.new.member.checkpoint.pages (C.reads (disk_now (P.view self.new.complex.plant) Ckpt2).bytes)) }
-        ensures order { self.new.member.checkpoint.tables.order ≤ self.old.member.checkpoint.tables.order + orders_most }
-        ensures level { OnOk result (self.new.member.checkpoint.level ≤ self.old.member.checkpoint.level + 2) }
+        ensures at_lock { OnOk result (IsAtLock self.new.complex.current self.new.complex.placed self.new.member.batch self.new.member.checkpoint self.new.member.room) }
+        ensures calm1 { OnOk result (IsCalm self.new.complex.pair.first.alive self.new.complex.first (C.count self.new.complex.pair.first.copy) (length self.new.member.room)) }
+        ensures calm2 { OnOk result (IsCalm self.new.complex.pair.second.alive self.new.complex.second (C.count self.new.complex.pair.second.copy) (length self.new.member.room)) }
+        ensures low1 { OnOk result (ReadsLow P.tells self.new.complex.pair.first.alive self.old.member.checkpoint.tables.config (length self.new.complex.journal.batches) (C.reads (disk_now (P.view self.new.complex.plant) Ckpt1).bytes)) }
+        ensures low2 { OnOk result (ReadsLow P.tells self.new.complex.pair.second.alive self.old.member.checkpoint.tables.config (length self.new.complex.journal.batches) (C.reads (disk_now (P.view self.new.complex.plant) Ckpt2).bytes)) }
+        ensures sound { OnOk result (P.tells → IsToldSound (run self.new.complex.base (kept_all self.new.complex.journal.batches))) }
+        ensures own { OnOk result (self.new.member.checkpoint.tables.config ≡ self.old.member.checkpoint.tables.config) }
+        ensures level { OnOk result (self.new.complex.level ≤ self.old.complex.level + 2) }
         ensures lock { OnOk result (IsOpenTo self.new.complex.book self.new.complex.reserved sysa) }
         ensures book { OnOk result (self.new.complex.book ≡ after_tried self.old.complex.book) }
     {
@@ -152,14 +164,17 @@ impl<P: Plant + Drop, C: Steady + Drop> Running<P, C> {
         requires since { self.old.complex.since ≤ (P.view self.old.complex.plant).now }
         requires roomy { P.tells → AreRoomy (P.view self.old.complex.plant) self.old.complex.base.config }
         requires untold { P.tells → (es : List Entry) → AreOf sysa step es → IsUntold (setting C.reads self.old.complex.base self.old.complex.since) (P.view self.old.complex.plant) es }
-        requires between { IsBetween self.old.complex.base self.old.complex.journal.batches self.old.complex.current self.old.complex.placed self.old.complex.level self.old.member.batch self.old.member.checkpoint }
-        requires rests1 { RestsAt P.tells self.old.complex.pair.first.alive self.old.complex.first (C.count self.old.complex.pair.first.copy) self.old.member.checkpoint.pages (C.reads (disk_now (P.view self.old.complex.plant) Ckpt1).bytes) }
-        requires rests2 { RestsAt P.tells self.old.complex.pair.second.alive self.old.complex.second (C.count self.old.complex.pair.second.copy) self.old.member.checkpoint.pages (C.reads (disk_now (P.view self.old.complex.plant) Ckpt2).bytes) }
+        requires at_lock { IsAtLock self.old.complex.current self.old.complex.placed self.old.member.batch self.old.member.checkpoint self.old.member.room }
+        requires calm1 { IsCalm self.old.complex.pair.first.alive self.old.complex.first (C.count self.old.complex.pair.first.copy) (length self.old.member.room) }
+        requires calm2 { IsCalm self.old.complex.pair.second.alive self.old.complex.second (C.count self.old.complex.pair.second.copy) (length self.old.member.room) }
+        requires low1 { ReadsLow P.tells self.old.complex.pair.first.alive self.old.member.checkpoint.tables.config (length self.old.complex.journal.batches) (C.reads (disk_now (P.view self.old.complex.plant) Ckpt1).bytes) }
+        requires low2 { ReadsLow P.tells self.old.complex.pair.second.alive self.old.member.checkpoint.tables.config (length self.old.complex.journal.batches) (C.reads (disk_now (P.view self.old.complex.plant) Ckpt2).bytes) }
+        requires sound { P.tells → IsToldSound (run self.old.complex.base (kept_all self.old.complex.journal.batches)) }
+        requires own { self.old.complex.base.config ≡ self.old.member.checkpoint.tables.config }
+        requires most { 1 ≤ C.room_most }
         requires kept { AreAllKept self.old.complex.journal.batches (P.view self.old.complex.plant).now }
-        requires order { self.old.member.checkpoint.tables.order + orders_most < 2 ^ 63 }
-        requires level { self.old.member.checkpoint.level + 2 < 2 ^ 63 }
-        requires room1 { self.old.complex.pair.first.alive ≡ true → HasRoomForTwo C.room_after (C.room self.old.complex.pair.first.copy) }
-        requires room2 { self.old.complex.pair.second.alive ≡ true → HasRoomForTwo C.room_after (C.room self.old.complex.pair.second.copy) }
+        requires orders { orders_after (length self.old.complex.journal.batches + 1) < too_high }
+        requires level { self.old.complex.level + 1 < too_high }
         ensures base { self.new.complex.base ≡ self.old.complex.base }
         ensures since { self.new.complex.since ≡ self.old.complex.since }
         ensures id { self.new.member.id ≡ self.old.member.id }
@@ -168,11 +183,14 @@ impl<P: Plant + Drop, C: Steady + Drop> Running<P, C> {
             self.old.complex.journal.batches (end_of self.new.complex.placed self.new.complex.current self.new.complex.journal.batches)
             self.old.complex.pair.first.alive self.new.complex.pair.first.alive self.old.complex.pair.second.alive self.new.complex.pair.second.alive
             (P.view self.old.complex.plant) (P.view self.new.complex.plant) result }
-        ensures between { OnOk result (IsBetween self.new.complex.base self.new.complex.journal.batches self.new.complex.current self.new.complex.placed self.new.complex.level self.new.member.batch self.new.member.checkpoint) }
-        ensures rests1 { OnOk result (RestsAt P.tells self.new.complex.pair.first.alive self.new.complex.first (C.count self.new.complex.pair.first.copy) self.new.member.checkpoint.pages (C.reads (disk_now (P.view self.new.complex.plant) Ckpt1).bytes)) }
-        ensures rests2 { OnOk result (RestsAt P.tells self.new.complex.pair.second.alive self.new.complex.second (C.count self.new.complex.pair.second.copy) self.new.member.checkpoint.pages (C.reads (disk_now (P.view self.new.complex.plant) Ckpt2).bytes)) }
-        ensures order { self.new.member.checkpoint.tables.order ≤ self.old.member.checkpoint.tables.order + orders_most }
-        ensures level { OnOk result (self.new.member.checkpoint.level ≤ self.old.member.checkpoint.level + 2) }
+        ensures at_lock { OnOk result (IsAtLock self.new.complex.current self.new.complex.placed self.new.member.batch self.new.member.checkpoint self.new.member.room) }
+        ensures calm1 { OnOk result (IsCalm self.new.complex.pair.first.alive self.new.complex.first (C.count self.new.complex.pair.first.copy) (length self.new.member.room)) }
+        ensures calm2 { OnOk result (IsCalm self.new.complex.pair.second.alive self.new.complex.second (C.count self.new.complex.pair.second.copy) (length self.new.member.room)) }
+        ensures low1 { OnOk result (ReadsLow P.tells self.new.complex.pair.first.alive self.old.member.checkpoint.tables.config (length self.new.complex.journal.batches) (C.reads (disk_now (P.view self.new.complex.plant) Ckpt1).bytes)) }
+        ensures low2 { OnOk result (ReadsLow P.tells self.new.complex.pair.second.alive self.old.member.checkpoint.tables.config (length self.new.complex.journal.batches) (C.reads (disk_now (P.view self.new.complex.plant) Ckpt2).bytes)) }
+        ensures sound { OnOk result (P.tells → IsToldSound (run self.new.complex.base (kept_all self.new.complex.journal.batches))) }
+        ensures own { OnOk result (self.new.member.checkpoint.tables.config ≡ self.old.member.checkpoint.tables.config) }
+        ensures level { OnOk result (self.new.complex.level ≤ self.old.complex.level + 2) }
         ensures lock { OnOk result (IsOpenTo self.new.complex.book self.new.complex.reserved sysa) }
         ensures book { OnOk result (self.new.complex.book ≡ self.old.complex.book) }
     {
@@ -190,14 +208,17 @@ impl<P: Plant + Drop, C: Steady + Drop> Running<P, C> {
         requires since { self.old.complex.since ≤ (P.view self.old.complex.plant).now }
         requires roomy { P.tells → AreRoomy (P.view self.old.complex.plant) self.old.complex.base.config }
         requires untold { P.tells → (es : List Entry) → AreOf sysa step es → IsUntold (setting C.reads self.old.complex.base self.old.complex.since) (P.view self.old.complex.plant) es }
-        requires between { IsBetween self.old.complex.base self.old.complex.journal.batches self.old.complex.current self.old.complex.placed self.old.complex.level self.old.member.batch self.old.member.checkpoint }
-        requires rests1 { RestsAt P.tells self.old.complex.pair.first.alive self.old.complex.first (C.count self.old.complex.pair.first.copy) self.old.member.checkpoint.pages (C.reads (disk_now (P.view self.old.complex.plant) Ckpt1).bytes) }
-        requires rests2 { RestsAt P.tells self.old.complex.pair.second.alive self.old.complex.second (C.count self.old.complex.pair.second.copy) self.old.member.checkpoint.pages (C.reads (disk_now (P.view self.old.complex.plant) Ckpt2).bytes) }
+        requires at_lock { IsAtLock self.old.complex.current self.old.complex.placed self.old.member.batch self.old.member.checkpoint self.old.member.room }
+        requires calm1 { IsCalm self.old.complex.pair.first.alive self.old.complex.first (C.count self.old.complex.pair.first.copy) (length self.old.member.room) }
+        requires calm2 { IsCalm self.old.complex.pair.second.alive self.old.complex.second (C.count self.old.complex.pair.second.copy) (length self.old.member.room) }
+        requires low1 { ReadsLow P.tells self.old.complex.pair.first.alive self.old.member.checkpoint.tables.config (length self.old.complex.journal.batches) (C.reads (disk_now (P.view self.old.complex.plant) Ckpt1).bytes) }
+        requires low2 { ReadsLow P.tells self.old.complex.pair.second.alive self.old.member.checkpoint.tables.config (length self.old.complex.journal.batches) (C.reads (disk_now (P.view self.old.complex.plant) Ckpt2).bytes) }
+        requires sound { P.tells → IsToldSound (run self.old.complex.base (kept_all self.old.complex.journal.batches)) }
+        requires own { self.old.complex.base.config ≡ self.old.member.checkpoint.tables.config }
+        requires most { 1 ≤ C.room_most }
         requires kept { AreAllKept self.old.complex.journal.batches (P.view self.old.complex.plant).now }
-        requires order { self.old.member.checkpoint.tables.order + orders_most < 2 ^ 63 }
-        requires level { self.old.member.checkpoint.level + 2 < 2 ^ 63 }
-        requires room1 { self.old.complex.pair.first.alive ≡ true → HasRoomForTwo C.room_after (C.room self.old.complex.pair.first.copy) }
-        requires room2 { self.old.complex.pair.second.alive ≡ true → HasRoomForTwo C.room_after (C.room self.old.complex.pair.second.copy) }
+        requires orders { orders_after (length self.old.complex.journal.batches + 1) < too_high }
+        requires level { self.old.complex.level + 1 < too_high }
         ensures base { self.new.complex.base ≡ self.old.complex.base }
         ensures since { self.new.complex.since ≡ self.old.complex.since }
         ensures id { self.new.member.id ≡ self.old.member.id }
@@ -206,11 +227,14 @@ impl<P: Plant + Drop, C: Steady + Drop> Running<P, C> {
             self.old.complex.journal.batches (end_of self.new.complex.placed self.new.complex.current self.new.complex.journal.batches)
             self.old.complex.pair.first.alive self.new.complex.pair.first.alive self.old.complex.pair.second.alive self.new.complex.pair.second.alive
             (P.view self.old.complex.plant) (P.view self.new.complex.plant) result }
-        ensures between { OnOk result (IsBetween self.new.complex.base self.new.complex.journal.batches self.new.complex.current self.new.complex.placed self.new.complex.level self.new.member.batch self.new.member.checkpoint) }
-        ensures rests1 { OnOk result (RestsAt P.tells self.new.complex.pair.first.alive self.new.complex.first (C.count self.new.complex.pair.first.copy) self.new.member.checkpoint.pages (C.reads (disk_now (P.view self.new.complex.plant) Ckpt1).bytes)) }
-        ensures rests2 { OnOk result (RestsAt P.tells self.new.complex.pair.second.alive self.new.complex.second (C.count self.new.complex.pair.second.copy) self.new.member.checkpoint.pages (C.reads (disk_now (P.view self.new.complex.plant) Ckpt2).bytes)) }
-        ensures order { self.new.member.checkpoint.tables.order ≤ self.old.member.checkpoint.tables.order + orders_most }
-        ensures level { OnOk result (self.new.member.checkpoint.level ≤ self.old.member.checkpoint.level + 2) }
+        ensures at_lock { OnOk result (IsAtLock self.new.complex.current self.new.complex.placed self.new.member.batch self.new.member.checkpoint self.new.member.room) }
+        ensures calm1 { OnOk result (IsCalm self.new.complex.pair.first.alive self.new.complex.first (C.count self.new.complex.pair.first.copy) (length self.new.member.room)) }
+        ensures calm2 { OnOk result (IsCalm self.new.complex.pair.second.alive self.new.complex.second (C.count self.new.complex.pair.second.copy) (length self.new.member.room)) }
+        ensures low1 { OnOk result (ReadsLow P.tells self.new.complex.pair.first.alive self.old.member.checkpoint.tables.config (length self.new.complex.journal.batches) (C.reads (disk_now (P.view self.new.complex.plant) Ckpt1).bytes)) }
+        ensures low2 { OnOk result (ReadsLow P.tells self.new.complex.pair.second.alive self.old.member.checkpoint.tables.config (length self.new.complex.journal.batches) (C.reads (disk_now (P.view self.new.complex.plant) Ckpt2).bytes)) }
+        ensures sound { OnOk result (P.tells → IsToldSound (run self.new.complex.base (kept_all self.new.complex.journal.batches))) }
+        ensures own { OnOk result (self.new.member.checkpoint.tables.config ≡ self.old.member.checkpoint.tables.config) }
+        ensures level { OnOk result (self.new.complex.level ≤ self.old.complex.level + 2) }
         ensures lock { OnOk result (IsOpenTo self.new.complex.book self.new.complex.reserved sysa) }
         ensures book { OnOk result (self.new.complex.book ≡ after_command self.old.complex.book (resets given.now)) }
     {
@@ -228,14 +252,17 @@ impl<P: Plant + Drop, C: Steady + Drop> Running<P, C> {
         requires since { self.old.complex.since ≤ (P.view self.old.complex.plant).now }
         requires roomy { P.tells → AreRoomy (P.view self.old.complex.plant) self.old.complex.base.config }
         requires untold { P.tells → (es : List Entry) → AreOf sysa step es → IsUntold (setting C.reads self.old.complex.base self.old.complex.since) (P.view self.old.complex.plant) es }
-        requires between { IsBetween self.old.complex.base self.old.complex.journal.batches self.old.complex.current self.old.complex.placed self.old.complex.level self.old.member.batch self.old.member.checkpoint }
-        requires rests1 { RestsAt P.tells self.old.complex.pair.first.alive self.old.complex.first (C.count self.old.complex.pair.first.copy) self.old.member.checkpoint.pages (C.reads (disk_now (P.view self.old.complex.plant) Ckpt1).bytes) }
-        requires rests2 { RestsAt P.tells self.old.complex.pair.second.alive self.old.complex.second (C.count self.old.complex.pair.second.copy) self.old.member.checkpoint.pages (C.reads (disk_now (P.view self.old.complex.plant) Ckpt2).bytes) }
+        requires at_lock { IsAtLock self.old.complex.current self.old.complex.placed self.old.member.batch self.old.member.checkpoint self.old.member.room }
+        requires calm1 { IsCalm self.old.complex.pair.first.alive self.old.complex.first (C.count self.old.complex.pair.first.copy) (length self.old.member.room) }
+        requires calm2 { IsCalm self.old.complex.pair.second.alive self.old.complex.second (C.count self.old.complex.pair.second.copy) (length self.old.member.room) }
+        requires low1 { ReadsLow P.tells self.old.complex.pair.first.alive self.old.member.checkpoint.tables.config (length self.old.complex.journal.batches) (C.reads (disk_now (P.view self.old.complex.plant) Ckpt1).bytes) }
+        requires low2 { ReadsLow P.tells self.old.complex.pair.second.alive self.old.member.checkpoint.tables.config (length self.old.complex.journal.batches) (C.reads (disk_now (P.view self.old.complex.plant) Ckpt2).bytes) }
+        requires sound { P.tells → IsToldSound (run self.old.complex.base (kept_all self.old.complex.journal.batches)) }
+        requires own { self.old.complex.base.config ≡ self.old.member.checkpoint.tables.config }
+        requires most { 1 ≤ C.room_most }
         requires kept { AreAllKept self.old.complex.journal.batches (P.view self.old.complex.plant).now }
-        requires order { self.old.member.checkpoint.tables.order + orders_most < 2 ^ 63 }
-        requires level { self.old.member.checkpoint.level + 2 < 2 ^ 63 }
-        requires room1 { self.old.complex.pair.first.alive ≡ true → HasRoomForTwo C.room_after (C.room self.old.complex.pair.first.copy) }
-        requires room2 { self.old.complex.pair.second.alive ≡ true → HasRoomForTwo C.room_after (C.room self.old.complex.pair.second.copy) }
+        requires orders { orders_after (length self.old.complex.journal.batches + 1) < too_high }
+        requires level { self.old.complex.level + 1 < too_high }
         ensures base { self.new.complex.base ≡ self.old.complex.base }
         ensures since { self.new.complex.since ≡ self.old.complex.since }
         ensures id { self.new.member.id ≡ self.old.member.id }
@@ -244,11 +271,14 @@ impl<P: Plant + Drop, C: Steady + Drop> Running<P, C> {
             self.old.complex.journal.batches (end_of self.new.complex.placed self.new.complex.current self.new.complex.journal.batches)
             self.old.complex.pair.first.alive self.new.complex.pair.first.alive self.old.complex.pair.second.alive self.new.complex.pair.second.alive
             (P.view self.old.complex.plant) (P.view self.new.complex.plant) result }
-        ensures between { OnOk result (IsBetween self.new.complex.base self.new.complex.journal.batches self.new.complex.current self.new.complex.placed self.new.complex.level self.new.member.batch self.new.member.checkpoint) }
-        ensures rests1 { OnOk result (RestsAt P.tells self.new.complex.pair.first.alive self.new.complex.first (C.count self.new.complex.pair.first.copy) self.new.member.checkpoint.pages (C.reads (disk_now (P.view self.new.complex.plant) Ckpt1).bytes)) }
-        ensures rests2 { OnOk result (RestsAt P.tells self.new.complex.pair.second.alive self.new.complex.second (C.count self.new.complex.pair.second.copy) self.new.member.checkpoint.pages (C.reads (disk_now (P.view self.new.complex.plant) Ckpt2).bytes)) }
-        ensures order { self.new.member.checkpoint.tables.order ≤ self.old.member.checkpoint.tables.order + orders_most }
-        ensures level { OnOk result (self.new.member.checkpoint.level ≤ self.old.member.checkpoint.level + 2) }
+        ensures at_lock { OnOk result (IsAtLock self.new.complex.current self.new.complex.placed self.new.member.batch self.new.member.checkpoint self.new.member.room) }
+        ensures calm1 { OnOk result (IsCalm self.new.complex.pair.first.alive self.new.complex.first (C.count self.new.complex.pair.first.copy) (length self.new.member.room)) }
+        ensures calm2 { OnOk result (IsCalm self.new.complex.pair.second.alive self.new.complex.second (C.count self.new.complex.pair.second.copy) (length self.new.member.room)) }
+        ensures low1 { OnOk result (ReadsLow P.tells self.new.complex.pair.first.alive self.old.member.checkpoint.tables.config (length self.new.complex.journal.batches) (C.reads (disk_now (P.view self.new.complex.plant) Ckpt1).bytes)) }
+        ensures low2 { OnOk result (ReadsLow P.tells self.new.complex.pair.second.alive self.old.member.checkpoint.tables.config (length self.new.complex.journal.batches) (C.reads (disk_now (P.view self.new.complex.plant) Ckpt2).bytes)) }
+        ensures sound { OnOk result (P.tells → IsToldSound (run self.new.complex.base (kept_all self.new.complex.journal.batches))) }
+        ensures own { OnOk result (self.new.member.checkpoint.tables.config ≡ self.old.member.checkpoint.tables.config) }
+        ensures level { OnOk result (self.new.complex.level ≤ self.old.complex.level + 2) }
         ensures lock { OnOk result (IsOpenTo self.new.complex.book self.new.complex.reserved sysa) }
         ensures book { OnOk result (self.new.complex.book ≡ self.old.complex.book) }
     {
@@ -265,14 +295,17 @@ impl<P: Plant + Drop, C: Steady + Drop> Running<P, C> {
         requires since { self.old.complex.since ≤ (P.view self.old.complex.plant).now }
         requires roomy { P.tells → AreRoomy (P.view self.old.complex.plant) self.old.complex.base.config }
         requires untold { P.tells → (es : List Entry) → AreOf sysa step es → IsUntold (setting C.reads self.old.complex.base self.old.complex.since) (P.view self.old.complex.plant) es }
-        requires between { IsBetween self.old.complex.base self.old.complex.journal.batches self.old.complex.current self.old.complex.placed self.old.complex.level self.old.member.batch self.old.member.checkpoint }
-        requires rests1 { RestsAt P.tells self.old.complex.pair.first.alive self.old.complex.first (C.count self.old.complex.pair.first.copy) self.old.member.checkpoint.pages (C.reads (disk_now (P.view self.old.complex.plant) Ckpt1).bytes) }
-        requires rests2 { RestsAt P.tells self.old.complex.pair.second.alive self.old.complex.second (C.count self.old.complex.pair.second.copy) self.old.member.checkpoint.pages (C.reads (disk_now (P.view self.old.complex.plant) Ckpt2).bytes) }
+        requires at_lock { IsAtLock self.old.complex.current self.old.complex.placed self.old.member.batch self.old.member.checkpoint self.old.member.room }
+        requires calm1 { IsCalm self.old.complex.pair.first.alive self.old.complex.first (C.count self.old.complex.pair.first.copy) (length self.old.member.room) }
+        requires calm2 { IsCalm self.old.complex.pair.second.alive self.old.complex.second (C.count self.old.complex.pair.second.copy) (length self.old.member.room) }
+        requires low1 { ReadsLow P.tells self.old.complex.pair.first.alive self.old.member.checkpoint.tables.config (length self.old.complex.journal.batches) (C.reads (disk_now (P.view self.old.complex.plant) Ckpt1).bytes) }
+        requires low2 { ReadsLow P.tells self.old.complex.pair.second.alive self.old.member.checkpoint.tables.config (length self.old.complex.journal.batches) (C.reads (disk_now (P.view self.old.complex.plant) Ckpt2).bytes) }
+        requires sound { P.tells → IsToldSound (run self.old.complex.base (kept_all self.old.complex.journal.batches)) }
+        requires own { self.old.complex.base.config ≡ self.old.member.checkpoint.tables.config }
+        requires most { 1 ≤ C.room_most }
         requires kept { AreAllKept self.old.complex.journal.batches (P.view self.old.complex.plant).now }
-        requires order { self.old.member.checkpoint.tables.order + orders_most < 2 ^ 63 }
-        requires level { self.old.member.checkpoint.level + 2 < 2 ^ 63 }
-        requires room1 { self.old.complex.pair.first.alive ≡ true → HasRoomForTwo C.room_after (C.room self.old.complex.pair.first.copy) }
-        requires room2 { self.old.complex.pair.second.alive ≡ true → HasRoomForTwo C.room_after (C.room self.old.complex.pair.second.copy) }
+        requires orders { orders_after (length self.old.complex.journal.batches + 1) < too_high }
+        requires level { self.old.complex.level + 1 < too_high }
         ensures base { self.new.complex.base ≡ self.old.complex.base }
         ensures since { self.new.complex.since ≡ self.old.complex.since }
         ensures id { self.new.member.id ≡ self.old.member.id }
@@ -281,11 +314,14 @@ impl<P: Plant + Drop, C: Steady + Drop> Running<P, C> {
             self.old.complex.journal.batches (end_of self.new.complex.placed self.new.complex.current self.new.complex.journal.batches)
             self.old.complex.pair.first.alive self.new.complex.pair.first.alive self.old.complex.pair.second.alive self.new.complex.pair.second.alive
             (P.view self.old.complex.plant) (P.view self.new.complex.plant) result }
-        ensures between { OnOk result (IsBetween self.new.complex.base self.new.complex.journal.batches self.new.complex.current self.new.complex.placed self.new.complex.level self.new.member.batch self.new.member.checkpoint) }
-        ensures rests1 { OnOk result (RestsAt P.tells self.new.complex.pair.first.alive self.new.complex.first (C.count self.new.complex.pair.first.copy) self.new.member.checkpoint.pages (C.reads (disk_now (P.view self.new.complex.plant) Ckpt1).bytes)) }
-        ensures rests2 { OnOk result (RestsAt P.tells self.new.complex.pair.second.alive self.new.complex.second (C.count self.new.complex.pair.second.copy) self.new.member.checkpoint.pages (C.reads (disk_now (P.view self.new.complex.plant) Ckpt2).bytes)) }
-        ensures order { self.new.member.checkpoint.tables.order ≤ self.old.member.checkpoint.tables.order + orders_most }
-        ensures level { OnOk result (self.new.member.checkpoint.level ≤ self.old.member.checkpoint.level + 2) }
+        ensures at_lock { OnOk result (IsAtLock self.new.complex.current self.new.complex.placed self.new.member.batch self.new.member.checkpoint self.new.member.room) }
+        ensures calm1 { OnOk result (IsCalm self.new.complex.pair.first.alive self.new.complex.first (C.count self.new.complex.pair.first.copy) (length self.new.member.room)) }
+        ensures calm2 { OnOk result (IsCalm self.new.complex.pair.second.alive self.new.complex.second (C.count self.new.complex.pair.second.copy) (length self.new.member.room)) }
+        ensures low1 { OnOk result (ReadsLow P.tells self.new.complex.pair.first.alive self.old.member.checkpoint.tables.config (length self.new.complex.journal.batches) (C.reads (disk_now (P.view self.new.complex.plant) Ckpt1).bytes)) }
+        ensures low2 { OnOk result (ReadsLow P.tells self.new.complex.pair.second.alive self.old.member.checkpoint.tables.config (length self.new.complex.journal.batches) (C.reads (disk_now (P.view self.new.complex.plant) Ckpt2).bytes)) }
+        ensures sound { OnOk result (P.tells → IsToldSound (run self.new.complex.base (kept_all self.new.complex.journal.batches))) }
+        ensures own { OnOk result (self.new.member.checkpoint.tables.config ≡ self.old.member.checkpoint.tables.config) }
+        ensures level { OnOk result (self.new.complex.level ≤ self.old.complex.level + 2) }
         ensures lock { OnOk result (IsOpenTo self.new.complex.book self.new.complex.reserved sysa) }
         ensures book { OnOk result (self.new.complex.book ≡ book_after self.old.complex.base.config self.old.complex.book asked.now.what) }
     {
@@ -297,7 +333,7 @@ impl<P: Plant + Drop, C: Steady + Drop> Running<P, C> {
         }
     }
 
-    /// Plays the steps of SYSA one after another, up to one that ends the run. Each copy has room for two batches at all times.
+    /// Plays the steps of SYSA one after another, up to one that ends the run.
     pub(crate) fn play_steps(&mut self, alloc: Global, asked: &[Step]) -> Result<(), NodeNo>
         requires id { self.old.member.id ≡ sysa }
         requires lock { IsOpenTo self.old.complex.book self.old.complex.reserved sysa }
@@ -309,12 +345,16 @@ impl<P: Plant + Drop, C: Steady + Drop> Running<P, C> {
         requires roomy { P.tells → AreRoomy (P.view self.old.complex.plant) self.old.complex.base.config }
         requires kept { AreAllKept self.old.complex.journal.batches (P.view self.old.complex.plant).now }
         requires some { SomeAlive self.old.complex.pair.first.alive self.old.complex.pair.second.alive }
-        requires order { self.old.member.checkpoint.tables.order < 2 ^ 62 + 64 }
-        requires level { self.old.member.checkpoint.level < 2 ^ 62 + 64 }
-        requires rooms { (copy : C) → HasRoomForTwo C.room_after (C.room copy) }
-        requires between { IsBetween self.old.complex.base self.old.complex.journal.batches self.old.complex.current self.old.complex.placed self.old.complex.level self.old.member.batch self.old.member.checkpoint }
-        requires rests1 { RestsAt P.tells self.old.complex.pair.first.alive self.old.complex.first (C.count self.old.complex.pair.first.copy) self.old.member.checkpoint.pages (C.reads (disk_now (P.view self.old.complex.plant) Ckpt1).bytes) }
-        requires rests2 { RestsAt P.tells self.old.complex.pair.second.alive self.old.complex.second (C.count self.old.complex.pair.second.copy) self.old.member.checkpoint.pages (C.reads (disk_now (P.view self.old.complex.plant) Ckpt2).bytes) }
+        requires fresh { length self.old.complex.journal.batches ≤ 1 }
+        requires level { self.old.complex.level < 2 ^ 62 + 64 }
+        requires at_lock { IsAtLock self.old.complex.current self.old.complex.placed self.old.member.batch self.old.member.checkpoint self.old.member.room }
+        requires calm1 { IsCalm self.old.complex.pair.first.alive self.old.complex.first (C.count self.old.complex.pair.first.copy) (length self.old.member.room) }
+        requires calm2 { IsCalm self.old.complex.pair.second.alive self.old.complex.second (C.count self.old.complex.pair.second.copy) (length self.old.member.room) }
+        requires low1 { ReadsLow P.tells self.old.complex.pair.first.alive self.old.member.checkpoint.tables.config (length self.old.complex.journal.batches) (C.reads (disk_now (P.view self.old.complex.plant) Ckpt1).bytes) }
+        requires low2 { ReadsLow P.tells self.old.complex.pair.second.alive self.old.member.checkpoint.tables.config (length self.old.complex.journal.batches) (C.reads (disk_now (P.view self.old.complex.plant) Ckpt2).bytes) }
+        requires sound { P.tells → IsToldSound (run self.old.complex.base (kept_all self.old.complex.journal.batches)) }
+        requires own { self.old.complex.base.config ≡ self.old.member.checkpoint.tables.config }
+        requires most { 1 ≤ C.room_most }
         ensures base { self.new.complex.base ≡ self.old.complex.base }
         ensures since { self.new.complex.since ≡ self.old.complex.since }
         ensures played { HasPlay P.tells (run self.old.complex.base (kept_all self.old.complex.journal.batches)) self.old.complex.base.config self.old.complex.book asked.now self.old.complex.journal.batches (end_of self.new.complex.placed self.new.complex.current self.new.complex.journal.batches)

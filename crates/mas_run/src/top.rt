@@ -1,5 +1,5 @@
 //! A script that is played.
-ghost use Rattle.std.specs.Prelude.{◌≡◌, ◌≢◌, ◌⊎◌, Bool, ℕ, ◌≤◌, true, false, [], None, Ok, All, IfOk, IfErr, OnOk, IsErrOf};
+ghost use Rattle.std.specs.Prelude.{◌≡◌, ◌≢◌, ◌⊎◌, ℕ, ◌≤◌, true, false, [], None, All, IfOk, IfErr, OnOk, IsErrOf};
 ghost use Rattle.mas_types.specs.declared.answers.CopyState.{CopyState};
 ghost use Rattle.mas_types.specs.declared.ids.Dev.{Dev};
 ghost use Rattle.mas_types.specs.declared.ids.Dev.TheVariants.{Ckpt1, Ckpt2};
@@ -38,6 +38,7 @@ fn read_all<S: Source>(
     ensures fits { IfOk result IsScript }
     ensures plays { IfOk result (λ script. All IsPlayed script.steps) }
     ensures said { S.tells → IfOk result (IsSaid cold only (S.left source.old)) }
+    ensures only { only ≡ true → IfOk result (λ script. script.steps ≡ []) }
     ensures read { S.tells → OnOk result (S.left source.new ≡ []) }
     ensures kind { IfErr result (λ status. is_of_script status ≡ true) }
     ensures refused { S.tells → IfErr result (λ status. (v : View) → Answers cold (refusal_before_play cold only (S.left source.old) v) status) }
@@ -77,6 +78,7 @@ pub fn play_steps<P: Plant + Drop>(alloc: Global, cold: bool, script: Script, pl
     ensures volumes { P.tells → has_begun result.base ≡ false → AreVolumesKept (P.view plant) (P.view result.plant) }
     ensures room { has_begun result.base ≡ true → (areas_size (page_count result.base.config) ≤ (P.view plant).size Ckpt1) × (areas_size (page_count result.base.config) ≤ (P.view plant).size Ckpt2) }
     ensures run { has_begun result.base ≡ true → IsRun cold P.tells script result.status result.base result.journal result.since (P.view plant) (P.view result.plant) }
+    ensures stepless { script.steps ≡ [] → P.tells → AreVolumesKept (P.view plant) (P.view result.plant) }
 {
     if cold {
         play_cold(alloc, &script, plant)
@@ -136,6 +138,7 @@ pub fn play_script<P: Plant + Drop, S: Source>(
     ensures read { S.tells → has_begun result.base ≡ true → S.left script.new ≡ [] }
     ensures run { has_begun result.base ≡ true → ((read : ScriptLem) × (S.tells → IsSaid cold only (S.left script.old) read)
         × IsRun cold P.tells read result.status result.base result.journal result.since (P.view plant) (P.view result.plant)) }
+    ensures formats { only ≡ true → P.tells → AreVolumesKept (P.view plant) (P.view result.plant) }
 
     // What nothing hinders is played to its end, where a warm run finds a queue and its devices are large enough for it.
     ensures complete { S.tells → refusal_before_play cold only (S.left script.old) (P.view plant) ≡ None

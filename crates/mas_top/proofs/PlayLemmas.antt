@@ -58,6 +58,7 @@ not_played cold only source tells same answer base journal since old new none st
   untouched = λ not. inr (inl stays);
   loses = λ not lost d. ap (λ (v : View). v.loses d) view;
   volumes = λ told not. subst (AreVolumesKept old) (sym view) (kept_none old);
+  formats = λ o told. subst (AreVolumesKept old) (sym view) (kept_none old);
   room = λ begun. absurd (not_begun base none begun);
   read = λ told begun. absurd (not_begun base none begun);
   run = λ begun. absurd (not_begun base none begun);

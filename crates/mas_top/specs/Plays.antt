@@ -41,9 +41,10 @@ pub record IsPlayed (cold only : Bool) (source : Sourced) (tells same : Type 0) 
   pub unstarted : cold ≡ false → has_begun base ≡ false → IsNotStarted tells answer old new
   pub faulted : answer ≡ status.SourceFault → Rose source.before source.after
   -- one that has not begun leaves all as it was, but where both copies were lost in the formatting or the start; a warm one looked
-  -- at the copies
+  -- at the copies; and one that only formats changes no byte of a volume
   pub untouched : has_begun base ≡ false → (answer ≡ status.BothLost) ⊎ (same ⊎ ((cold ≡ false) × (tells → OnlyLookedAtAll old new)))
   pub volumes : tells → has_begun base ≡ false → AreVolumesKept old new
+  pub formats : only ≡ true → tells → AreVolumesKept old new
   pub loses : has_begun base ≡ false → (answer ≢ status.BothLost) ⊎ (cold ≡ true) → (d : Dev) → new.loses d ≡ old.loses d
   -- one that has begun plays what its script asks for
   pub room : has_begun base ≡ true → (areas_size (page_count base.config) ≤ old.size Ckpt1) × (areas_size (page_count base.config) ≤ old.size Ckpt2)

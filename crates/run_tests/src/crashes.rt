@@ -1,8 +1,8 @@
 // A crash at each moment of a run of three decks, or of a long one, and the warm start after it.
 use crate::pages::{BLOCKS, page};
 use crate::playing::{
-    BEGUN, DECK, FORM, FORMED, KEPT, OPEN, PUT, PUT_AGAIN, SPOOLED, failing, halting, plant, play,
-    play_long, start, without,
+    BEGUN, DECK, FORM, FORMED, KEPT, OPEN, PUT, PUT_AGAIN, READ_AGAIN, READ_IN, failing, halting,
+    plant, play, play_long, start, without,
 };
 use crate::starts::found;
 use mas_run::Ended;
@@ -29,12 +29,12 @@ const THREE: &[u8] =
 
 /// Acts of the first deck, of both its batches: amid the pages that it puts on CKPT1 and on CKPT2, and the gates that it opens there.
 const FAILING: [u64; 8] = [
-    FORMED + 4,
-    FORMED + PUT + 4,
+    READ_IN + 4,
+    READ_IN + PUT + 4,
     BEGUN - 2 * OPEN,
     BEGUN - OPEN,
-    SPOOLED + 4,
-    SPOOLED + PUT_AGAIN + 4,
+    READ_AGAIN + 4,
+    READ_AGAIN + PUT_AGAIN + 4,
     KEPT - 2 * OPEN,
     KEPT - OPEN,
 ];

@@ -1,6 +1,7 @@
 // An act that fails, two that do, and one that halts: each act of a run of one deck.
 use crate::playing::{
-    BEGUN, DECK, FORM, FORMED, KEPT, OPEN, PUT, PUT_AGAIN, SPOOLED, failing, halting, play, start,
+    BEGUN, DECK, FORM, FORMED, KEPT, OPEN, PUT, PUT_AGAIN, READ, READ_AGAIN, READ_IN, SPOOLED,
+    failing, halting, play, start,
 };
 use crate::starts::found;
 use mas_types::{Batch, Dev, Fate, JobNo, Owner, Status};
@@ -12,21 +13,27 @@ use std::test::Fail;
 /// The acts after which one copy is formatted, where the other is lost by its first act.
 const ONE_FORMED: u64 = FORM + 1;
 
+/// And it is read for the deck.
+const ONE_READ: u64 = ONE_FORMED + READ;
+
 /// And the deck's first batch is kept.
-const ONE_BEGUN: u64 = ONE_FORMED + PUT + OPEN;
+const ONE_BEGUN: u64 = ONE_READ + PUT + OPEN;
 
 /// And its text is in its group.
 const ONE_SPOOLED: u64 = ONE_BEGUN + 2;
 
+/// And the copy is read again.
+const ONE_READ_AGAIN: u64 = ONE_SPOOLED + READ;
+
 /// And its second batch is kept.
-const ONE_KEPT: u64 = ONE_SPOOLED + PUT_AGAIN + OPEN;
+const ONE_KEPT: u64 = ONE_READ_AGAIN + PUT_AGAIN + OPEN;
 
 /// The acts that are made on CKPT1: from each first one up to the one before the second.
 const ON_FIRST: [(u64, u64); 5] = [
     (0, FORM),
-    (FORMED, FORMED + PUT),
+    (FORMED, READ_IN + PUT),
     (BEGUN - 2 * OPEN, BEGUN - OPEN),
-    (SPOOLED, SPOOLED + PUT_AGAIN),
+    (SPOOLED, READ_AGAIN + PUT_AGAIN),
     (KEPT - 2 * OPEN, KEPT - OPEN),
 ];
 
@@ -123,9 +130,10 @@ fn two_acts_fail(rt: HostRuntime) -> Result<(), Fail> {
     for act in 1..=ONE_KEPT {
         let (outcome, _) = outcome(alloc, failing(alloc, 0, act)?)?;
         let wanted = match act {
-            _ if act < ONE_FORMED => (Status::BothLost, 0, 0, 0, [true, true]),
+            _ if act < ONE_READ => (Status::BothLost, 0, 0, 0, [true, true]),
             _ if act < ONE_BEGUN => (Status::BothLost, 0, 1, 0, [true, true]),
             _ if act < ONE_SPOOLED => (Status::Done, 2, 0, 1, [true, false]),
+            _ if act < ONE_READ_AGAIN => (Status::BothLost, 1, 0, 0, [true, true]),
             _ if act < ONE_KEPT => (Status::BothLost, 1, 1, 0, [true, true]),
             _ => (Status::ConsoleFault, 2, 0, 0, [true, false]),
         };
@@ -153,8 +161,9 @@ fn an_act_halts(rt: HostRuntime) -> Result<(), Fail> {
         let (outcome, left) = outcome(alloc, halting(alloc, act, 10)?)?;
         let wanted = match act {
             _ if act < FORMED => (Status::Done, 2, 0, 1, [false, false]),
+            _ if act < READ_IN => (Status::Done, 0, 0, 0, [false, false]),
             _ if act < BEGUN => (Status::Done, 0, 1, 0, [false, false]),
-            _ if act < SPOOLED => (Status::Done, 1, 0, 0, [false, false]),
+            _ if act < READ_AGAIN => (Status::Done, 1, 0, 0, [false, false]),
             _ if act < KEPT => (Status::Done, 1, 1, 0, [false, false]),
             _ => (Status::Done, 2, 0, 0, [false, false]),
         };

@@ -38,6 +38,9 @@ pub const COMMENT: &[u8] =
 /// The acts of formatting one copy: VALID, a sync, block 0, the pages, a sync, VALID, a sync.
 pub const FORM: u64 = PAGES + 6;
 
+/// Those of reading what the copies have, as a member does for each batch: each page, of CKPT1 while it is left.
+pub const READ: u64 = PAGES;
+
 /// Those of putting pages on one copy for the first time: the pages, a sync.
 pub const PUT: u64 = PAGES + 1;
 
@@ -50,14 +53,20 @@ pub const OPEN: u64 = 2;
 /// The acts after which both copies are formatted.
 pub const FORMED: u64 = 2 * FORM;
 
-/// And the first deck's job has begun and its group is taken, which is its first batch.
-pub const BEGUN: u64 = FORMED + 2 * PUT + 2 * OPEN;
+/// And they are read for the first deck.
+pub const READ_IN: u64 = FORMED + READ;
+
+/// And its job has begun and its group is taken, which is its first batch.
+pub const BEGUN: u64 = READ_IN + 2 * PUT + 2 * OPEN;
 
 /// And its text is in the group: it is written, and the volume is synced.
 pub const SPOOLED: u64 = BEGUN + 2;
 
+/// And the copies are read again.
+pub const READ_AGAIN: u64 = SPOOLED + READ;
+
 /// And it is entered, which is its second batch. Its line is said then.
-pub const KEPT: u64 = SPOOLED + 2 * PUT_AGAIN + 2 * OPEN;
+pub const KEPT: u64 = READ_AGAIN + 2 * PUT_AGAIN + 2 * OPEN;
 
 /// Devices of which each checkpoint and a volume have so many bytes.
 pub fn sizes(ckpt: u64, volume: u64) -> Sizes {

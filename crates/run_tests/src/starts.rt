@@ -81,11 +81,19 @@ fn are_cards(lines: &Lines, at: usize, long: bool) -> bool {
         && are_comments(lines)
 }
 
-// The text of the deck at a place. It is gone with the volume, but for how many cards it has.
+// The first group of the deck at a place: a long deck has two groups, a short one has one.
+fn first_group(at: usize, long: bool) -> usize {
+    if long { at.saturating_add(at) } else { at }
+}
+
+// The text of the deck at a place. It is gone with the volume, but for its first group and how many cards it has.
 fn is_text(text: &Text, at: usize, long: bool, lost: bool) -> bool {
     match text {
         Text::Whole(lines) => !lost && are_cards(lines, at, long),
-        Text::Gone(_, count) => lost && (*count as usize).saturating_sub(1) == comments(long),
+        Text::Gone(group, count) => {
+            lost && group.0 as usize == first_group(at, long)
+                && (*count as usize).saturating_sub(1) == comments(long)
+        }
     }
 }
 

@@ -3,7 +3,6 @@ use Rattle.std.proofs.Math.Logic.{∥∥₁_map}
 use Rattle.mas_types.specs.Fit.{IsConfig}
 use Rattle.mas_types.specs.Limits.{members_most}
 use Rattle.mas_types.specs.declared.ids.Dev.TheVariants.{Ckpt1, Ckpt2}
-use Rattle.mas_types.specs.declared.journals.Batch.{Batch}
 use Rattle.mas_types.specs.declared.queues.Config.{Config}
 use Rattle.mas_types.specs.declared.queues.Queue.{Queue}
 use Rattle.table_queues.specs.Telling.{Tell}
@@ -12,12 +11,15 @@ use Rattle.ckpt_copy.specs.Areas.{reads, areas_size}
 use Rattle.ckpt_copy.specs.Moments.{goes_on}
 use Rattle.ckpt_copy.specs.Pages.{bytes_of}
 use Rattle.ckpt_pages.specs.Shape.{page_count}
-use Rattle.spool_disk.specs.View.{World}
+use Rattle.spool_disk.specs.View.{World, disk_now}
 use Rattle.spool_disk.specs.Acts.{Goes}
-use Rattle.mas_complex.specs.Journals.{kept_all}
 use Rattle.mas_complex.specs.Locking.{book_of}
-use Rattle.mas_complex.specs.Meaning.{run}
+use Rattle.spool_volumes.specs.Volumes.{IsSteady}
+use Rattle.warm_start.specs.Spooled.{AreGiven}
+use Rattle.warm_start.specs.Starting.{IsHeld}
 use Rattle.warm_start.proofs.Begun.{found_later, kept_later}
+use Rattle.warm_start.proofs.Prepared.{given_before}
+use Rattle.warm_start.proofs.Spooling.{steady_first}
 use Rattle.first_script.specs.Played.{sysa}
 use Rattle.member_decks.specs.Spooling.{AreRoomy}
 use Rattle.member_node.specs.Calls.{console_now}
@@ -69,67 +71,59 @@ play_reset-requires-clause-lock g c =
     let x = c.in-Ok.found.complex in
     let s = f.started in
     let some : 1 ≤ min x.base.config.members members_most = omega (arith, ap (λ (k : Config). k.members) s.tells_base.config, s.usable.0.fit.shape.config.members.0) in
-    rw (c.running_of.ensures.complex, f.book, f.unreserved) (begins_open (min x.base.config.members members_most) x.base.config.hold x.base.config.dormancy sysa (omega arith) some)
+    rw (f.book, f.unreserved) (begins_open (min x.base.config.members members_most) x.base.config.hold x.base.config.dormancy sysa (omega arith) some)
 
 pub play_reset-requires-clause-config : goal.play_reset-requires-clause-config
 play_reset-requires-clause-config g c =
     let s = c.in-Ok.ensures.started in
-    rw c.running_of.ensures.complex (subst IsConfig (sym s.tells_base.config) s.usable.0.fit.shape.config)
+    subst IsConfig (sym s.tells_base.config) s.usable.0.fit.shape.config
 
 pub play_reset-requires-clause-roomy : goal.play_reset-requires-clause-roomy
 play_reset-requires-clause-roomy g c told =
     let P = g.P.Plant in
     let x = c.in-Ok.found.complex in
     let s = c.in-Ok.ensures.started in
-    rw c.running_of.ensures.complex (subst (AreRoomy (P.view x.plant)) (sym s.tells_base.config) s.roomy)
+    subst (AreRoomy (P.view x.plant)) (sym s.tells_base.config) s.roomy
 
-pub play_reset-requires-clause-between : goal.play_reset-requires-clause-between
-play_reset-requires-clause-between g c =
+pub play_reset-requires-clause-drawn : goal.play_reset-requires-clause-drawn
+play_reset-requires-clause-drawn g c =
     let w = c.in-Ok.found in
-    let f = c.in-Ok.ensures in
-    let s = f.started in
-    let r = c.running_of.ensures in
-    record {
-      none = rw r.complex f.none.0;
-      unplaced = rw r.complex f.none.1;
-      same_level = rw r.complex (sym r.level);
-      drawn = rw (r.tables, r.level, r.levels, r.pages) (found_drawn w.pages w.tables w.levels w.complex.level s.usable s.sized s.leveled s.at_level);
-      queue = rw (r.tables, r.complex) (subst (λ (bs : List Batch). Tell w.tables (run w.complex.base (kept_all bs))) (sym f.journal) s.tells_base);
-      nothing = r.batch;
-      fit = rw r.tables (c.law_of_fit_tables.ensures w.tables s.usable.0.fit.shape s.usable.1.sound);
-      sound = rw r.tables (c.law_of_told_queues.ensures.sound w.tables s.usable.0.fit s.usable.1.sound);
-    }
+    let s = c.in-Ok.ensures.started in
+    found_drawn w.pages w.tables w.levels w.complex.level s.usable s.sized s.leveled s.at_level
+
+pub play_reset-requires-clause-fit : goal.play_reset-requires-clause-fit
+play_reset-requires-clause-fit g c =
+    let w = c.in-Ok.found in
+    let s = c.in-Ok.ensures.started in
+    c.law_of_fit_tables.ensures w.tables s.usable.0.fit.shape s.usable.1.sound
+
+pub play_reset-requires-clause-sound : goal.play_reset-requires-clause-sound
+play_reset-requires-clause-sound g c =
+    let w = c.in-Ok.found in
+    let s = c.in-Ok.ensures.started in
+    c.law_of_told_queues.ensures.sound w.tables s.usable.0.fit s.usable.1.sound
 
 pub play_reset-requires-clause-rests1 : goal.play_reset-requires-clause-rests1
 play_reset-requires-clause-rests1 g c =
     let f = c.in-Ok.ensures in
-    rw (c.running_of.ensures.complex, c.running_of.ensures.pages) (record { before = f.places.0; as_many = f.started.as_many1; reads = f.started.reads1 })
+    record { before = f.places.0; as_many = f.started.as_many1; reads = f.started.reads1 }
 
 pub play_reset-requires-clause-rests2 : goal.play_reset-requires-clause-rests2
 play_reset-requires-clause-rests2 g c =
     let f = c.in-Ok.ensures in
-    rw (c.running_of.ensures.complex, c.running_of.ensures.pages) (record { before = f.places.1; as_many = f.started.as_many2; reads = f.started.reads2 })
+    record { before = f.places.1; as_many = f.started.as_many2; reads = f.started.reads2 }
 
 pub play_reset-requires-clause-order : goal.play_reset-requires-clause-order
-play_reset-requires-clause-order g c = rw c.running_of.ensures.tables c.in-Ok.ensures.started.usable.1.low_order
+play_reset-requires-clause-order g c = c.in-Ok.ensures.started.usable.1.low_order
 
 pub play_reset-requires-clause-level : goal.play_reset-requires-clause-level
-play_reset-requires-clause-level g c = rw (c.running_of.ensures.level, c.in-Ok.ensures.started.at_level) c.in-Ok.ensures.started.usable.1.low_level
-
-pub play_reset-requires-clause-journal : goal.play_reset-requires-clause-journal
-play_reset-requires-clause-journal g c = rw c.running_of.ensures.complex c.in-Ok.ensures.journal
-
-pub play_reset-requires-clause-since : goal.play_reset-requires-clause-since
-play_reset-requires-clause-since g c = rw c.running_of.ensures.complex c.in-Ok.ensures.since
-
-pub play_reset-requires-clause-some : goal.play_reset-requires-clause-some
-play_reset-requires-clause-some g c = rw c.running_of.ensures.complex c.in-Ok.ensures.started.some
+play_reset-requires-clause-level g c = rw c.in-Ok.ensures.started.at_level c.in-Ok.ensures.started.usable.1.low_level
 
 pub play_reset-requires-clause-there1 : goal.play_reset-requires-clause-there1
-play_reset-requires-clause-there1 g c = rw c.running_of.ensures.complex c.in-Ok.ensures.started.starts.there1
+play_reset-requires-clause-there1 g c = c.in-Ok.ensures.started.starts.there1
 
 pub play_reset-requires-clause-there2 : goal.play_reset-requires-clause-there2
-play_reset-requires-clause-there2 g c = rw c.running_of.ensures.complex c.in-Ok.ensures.started.starts.there2
+play_reset-requires-clause-there2 g c = c.in-Ok.ensures.started.starts.there2
 
 pub returns-clause-no_source : goal.returns-clause-no_source
 returns-clause-no_source g c e = play_not_source c.play_reset.result.status c.play_reset.ensures.kind e
@@ -143,55 +137,54 @@ returns-clause-cause g c =
     let x = c.in-Ok.found.complex in
     let z = c.play_reset.result in
     let d = c.play_reset.ensures in
-    let r = c.running_of.ensures in
-    start_causes x.pair.first.alive x.pair.second.alive z.status (P.view c.args.plant) (P.view x.plant) (P.view z.plant) c.in-Ok.ensures.started.starts (rw r.complex at d.goes) (λ k. rw r.complex at (d.grow k)) (rw r.complex at d.cause)
+    start_causes x.pair.first.alive x.pair.second.alive z.status (P.view c.args.plant) (P.view x.plant) (P.view z.plant) c.in-Ok.ensures.started.starts d.goes d.grow d.cause
 
 pub returns-clause-goes : goal.returns-clause-goes
 returns-clause-goes g c =
     let P = g.P.Plant in
     let x = c.in-Ok.found.complex in
-    goes_on (P.view c.args.plant) (P.view x.plant) (P.view c.play_reset.result.plant) c.in-Ok.ensures.started.starts.goes (rw c.running_of.ensures.complex at c.play_reset.ensures.goes)
+    goes_on (P.view c.args.plant) (P.view x.plant) (P.view c.play_reset.result.plant) c.in-Ok.ensures.started.starts.goes c.play_reset.ensures.goes
 
 pub returns-clause-begun : goal.returns-clause-begun
 returns-clause-begun g c =
     let s = c.in-Ok.ensures.started in
-    let base : Tell c.in-Ok.found.tables c.play_reset.result.base = subst (Tell c.in-Ok.found.tables) (sym (c.play_reset.ensures.base ∙ ap (λ x. x.base) c.running_of.ensures.complex)) s.tells_base in
+    let base : Tell c.in-Ok.found.tables c.play_reset.result.base = subst (Tell c.in-Ok.found.tables) (sym c.play_reset.ensures.base) s.tells_base in
     play_begins c.play_reset.result.status c.play_reset.result.base c.play_reset.ensures.kind (found_begun c.in-Ok.found.pages c.in-Ok.found.tables c.play_reset.result.base s.usable base)
 
 pub returns-clause-unbegun : goal.returns-clause-unbegun
 returns-clause-unbegun g c none =
     let s = c.in-Ok.ensures.started in
-    let base : Tell c.in-Ok.found.tables c.play_reset.result.base = subst (Tell c.in-Ok.found.tables) (sym (c.play_reset.ensures.base ∙ ap (λ x. x.base) c.running_of.ensures.complex)) s.tells_base in
+    let base : Tell c.in-Ok.found.tables c.play_reset.result.base = subst (Tell c.in-Ok.found.tables) (sym c.play_reset.ensures.base) s.tells_base in
     absurd (no c.play_reset.result.base (found_begun c.in-Ok.found.pages c.in-Ok.found.tables c.play_reset.result.base s.usable base) none)
 
 pub returns-clause-unstarted : goal.returns-clause-unstarted
 returns-clause-unstarted g c none =
     let s = c.in-Ok.ensures.started in
-    let base : Tell c.in-Ok.found.tables c.play_reset.result.base = subst (Tell c.in-Ok.found.tables) (sym (c.play_reset.ensures.base ∙ ap (λ x. x.base) c.running_of.ensures.complex)) s.tells_base in
+    let base : Tell c.in-Ok.found.tables c.play_reset.result.base = subst (Tell c.in-Ok.found.tables) (sym c.play_reset.ensures.base) s.tells_base in
     absurd (no c.play_reset.result.base (found_begun c.in-Ok.found.pages c.in-Ok.found.tables c.play_reset.result.base s.usable base) none)
 
 pub returns-clause-untouched : goal.returns-clause-untouched
 returns-clause-untouched g c none =
     let s = c.in-Ok.ensures.started in
-    let base : Tell c.in-Ok.found.tables c.play_reset.result.base = subst (Tell c.in-Ok.found.tables) (sym (c.play_reset.ensures.base ∙ ap (λ x. x.base) c.running_of.ensures.complex)) s.tells_base in
+    let base : Tell c.in-Ok.found.tables c.play_reset.result.base = subst (Tell c.in-Ok.found.tables) (sym c.play_reset.ensures.base) s.tells_base in
     absurd (no c.play_reset.result.base (found_begun c.in-Ok.found.pages c.in-Ok.found.tables c.play_reset.result.base s.usable base) none)
 
 pub returns-clause-unsaid : goal.returns-clause-unsaid
 returns-clause-unsaid g c told none =
     let s = c.in-Ok.ensures.started in
-    let base : Tell c.in-Ok.found.tables c.play_reset.result.base = subst (Tell c.in-Ok.found.tables) (sym (c.play_reset.ensures.base ∙ ap (λ x. x.base) c.running_of.ensures.complex)) s.tells_base in
+    let base : Tell c.in-Ok.found.tables c.play_reset.result.base = subst (Tell c.in-Ok.found.tables) (sym c.play_reset.ensures.base) s.tells_base in
     absurd (no c.play_reset.result.base (found_begun c.in-Ok.found.pages c.in-Ok.found.tables c.play_reset.result.base s.usable base) none)
 
 pub returns-clause-loses : goal.returns-clause-loses
 returns-clause-loses g c none =
     let s = c.in-Ok.ensures.started in
-    let base : Tell c.in-Ok.found.tables c.play_reset.result.base = subst (Tell c.in-Ok.found.tables) (sym (c.play_reset.ensures.base ∙ ap (λ x. x.base) c.running_of.ensures.complex)) s.tells_base in
+    let base : Tell c.in-Ok.found.tables c.play_reset.result.base = subst (Tell c.in-Ok.found.tables) (sym c.play_reset.ensures.base) s.tells_base in
     absurd (no c.play_reset.result.base (found_begun c.in-Ok.found.pages c.in-Ok.found.tables c.play_reset.result.base s.usable base) none)
 
 pub returns-clause-volumes : goal.returns-clause-volumes
 returns-clause-volumes g c told none =
     let s = c.in-Ok.ensures.started in
-    let base : Tell c.in-Ok.found.tables c.play_reset.result.base = subst (Tell c.in-Ok.found.tables) (sym (c.play_reset.ensures.base ∙ ap (λ x. x.base) c.running_of.ensures.complex)) s.tells_base in
+    let base : Tell c.in-Ok.found.tables c.play_reset.result.base = subst (Tell c.in-Ok.found.tables) (sym c.play_reset.ensures.base) s.tells_base in
     absurd (no c.play_reset.result.base (found_begun c.in-Ok.found.pages c.in-Ok.found.tables c.play_reset.result.base s.usable base) none)
 
 pub returns-clause-room : goal.returns-clause-room
@@ -199,7 +192,7 @@ returns-clause-room g c begun =
     let P = g.P.Plant in
     let s = c.in-Ok.ensures.started in
     let t = c.in-Ok.found.tables in
-    let base : Tell c.in-Ok.found.tables c.play_reset.result.base = subst (Tell c.in-Ok.found.tables) (sym (c.play_reset.ensures.base ∙ ap (λ x. x.base) c.running_of.ensures.complex)) s.tells_base in
+    let base : Tell c.in-Ok.found.tables c.play_reset.result.base = subst (Tell c.in-Ok.found.tables) (sym c.play_reset.ensures.base) s.tells_base in
     let many : areas_size (length c.in-Ok.found.pages) ≡ areas_size (page_count c.play_reset.result.base.config) = ap areas_size s.usable.0.spell.count ∙ ap (λ (k : Config). areas_size (page_count k)) (sym base.config) in
     (subst (λ (n : ℕ). n ≤ (P.view c.args.plant).size Ckpt1) many s.large1, subst (λ (n : ℕ). n ≤ (P.view c.args.plant).size Ckpt2) many s.large2)
 
@@ -212,18 +205,17 @@ returns-clause-run g c begun =
     let x = w.complex in
     let z = c.play_reset.result in
     let d = c.play_reset.ensures in
-    let r = c.running_of.ensures in
     let v0 = P.view c.args.plant in
     let v1 = P.view x.plant in
     let v2 = P.view z.plant in
-    let goes : Goes v1 v2 = rw r.complex at d.goes in
-    let base0 : z.base ≡ x.base = d.base ∙ ap (λ y. y.base) r.complex in
+    let goes : Goes v1 v2 = d.goes in
+    let base0 : z.base ≡ x.base = d.base in
     let base : Tell w.tables z.base = subst (Tell w.tables) (sym base0) s.tells_base in
-    let since : z.since ≡ v1.now = d.since ∙ ap (λ y. y.since) r.complex ∙ f.since in
+    let since : z.since ≡ v1.now = d.since ∙ f.since in
     let script = c.args.script.now in
     let quiet : P.tells → console_now v1 ≡ console_now v0 = λ t. (s.held t).console v1.now s.starts.goes.later (omega arith) in
     let book : x.book ≡ book_of z.base.config = f.book ∙ ap (λ (q : Queue). book_of q.config) (sym base0) in
-    let played : (lost : List (Option ℕ)) × HasSteps false P.tells (turns_of z.base.config lost script.steps) z.status z.base z.journal z.since v1.loses v1 v2 = rw (r.complex, c.as_slice.ensures, book) at d.steps in
+    let played : (lost : List (Option ℕ)) × HasSteps false P.tells (turns_of z.base.config lost script.steps) z.status z.base z.journal z.since v1.loses v1 v2 = rw (c.as_slice.ensures, book) at d.steps in
     record {
       first = v1.loses;
       before = starts_first x.pair.first.alive x.pair.second.alive v0 v1 s.starts;
@@ -231,9 +223,14 @@ returns-clause-run g c begun =
         pages = w.pages;
         tables = w.tables;
         are = s.usable;
+        sized = s.sized;
         told = base;
         texts = λ t. rw since (subst (λ (Q : Queue). HasTexts (lost_now v2) (spools_at v2 v1.now) Q.config.groups Q) (sym base0)
             (subst (λ (k : Config). HasTexts (lost_now v2) (spools_at v2 v1.now) k.groups x.base) (sym s.tells_base.config) (texts_later v1 v2 w.tables.config.groups x.base goes (s.texts t))));
+        given = λ t steady.
+            let here : IsSteady v0 v1 = steady_first v0 v1 v2 s.starts.goes goes steady in
+            let was : AreGiven v0 w.tables.config.groups x.base = given_before w.tables.config.groups x.base (IsHeld reads (disk_now v0 Ckpt1) (bytes_of w.pages)) (IsHeld reads (disk_now v0 Ckpt2) (bytes_of w.pages)) v0 v1 (s.held t) here (s.given t here) in
+            subst (λ (Q : Queue). AreGiven v0 Q.config.groups Q) (sym base0) (subst (λ (k : Config). AreGiven v0 k.groups x.base) (sym s.tells_base.config) was);
         found = λ t. found_later reads v0 v1 v2 (bytes_of w.pages) goes (s.found t);
         kept1 = λ t. kept_later reads Ckpt1 v0 v1 v2 w.pages (v1.loses Ckpt1) goes (s.kept1 t);
         kept2 = λ t. kept_later reads Ckpt2 v0 v1 v2 w.pages (v1.loses Ckpt2) goes (s.kept2 t);

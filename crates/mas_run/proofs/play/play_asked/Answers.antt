@@ -1,4 +1,4 @@
-use Rattle.std.proofs.Common.{List, subst, sym, arith}
+use Rattle.std.proofs.Common.{List, subst, sym}
 use Rattle.mas_types.specs.declared.journals.Batch.{Batch}
 use Rattle.mas_types.specs.declared.queues.Queue.{Queue}
 use Rattle.ckpt_copy.specs.Areas.{reads}
@@ -9,9 +9,6 @@ use Rattle.mas_run.specs.Plays.{HasPlay}
 use Rattle.mas_run.specs.Turns.{turns_from}
 use Rattle.mas_run.proofs.RunLemmas.{play_of_steps, caused_by_steps}
 use Rattle.mas_run.proofs.play.play_asked.Goals as goal
-
-pub play_steps-answer-requires-clause-rooms : goal.play_steps-answer-requires-clause-rooms
-play_steps-answer-requires-clause-rooms g c copy = (omega arith, omega arith)
 
 pub returns-clause-play : goal.returns-clause-play
 returns-clause-play g c =

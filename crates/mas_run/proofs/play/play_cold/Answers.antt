@@ -20,13 +20,16 @@ use Rattle.table_queues.specs.Telling.{Tell}
 use Rattle.mas_complex.specs.Texts.{lost_now, spools_at}
 use Rattle.member_node.proofs.DrawnLemmas.{drawn_stand, drawn_level}
 use Rattle.member_steps.specs.Steps.{AreAllKept}
+use Rattle.member_steps.proofs.ReadLemmas.{low_written, told_sound}
+use Rattle.member_node.specs.Copies.{RestsAt}
+use Rattle.ckpt_pages.specs.declared.tables.Tables.{Tables}
 use Rattle.mas_run.specs.Runs.{IsPlay}
 use Rattle.mas_run.specs.Statuses.{IsCausedFrom}
 use Rattle.first_script.specs.Played.{sysa}
 use Rattle.mas_run.specs.Turns.{turns_from, turns_of}
 use Rattle.mas_run.proofs.LockLemmas.{begins_open}
 use Rattle.mas_types.specs.Limits.{members_most}
-use Rattle.mas_run.proofs.RunLemmas.{begun_empty, caused_unformed, cold_steps, steps_since, none_kept, caused_since, formed_copy, empty_texts, fit_empty, sound_empty, told_empty}
+use Rattle.mas_run.proofs.RunLemmas.{begun_empty, caused_unformed, cold_steps, steps_since, none_kept, caused_since, formed_copy, empty_texts, low_empty, sound_empty, told_empty}
 use Rattle.mas_run.proofs.ScriptLemmas.{roomy_later}
 use Rattle.mas_run.proofs.VolumeLemmas.{kept_on}
 use Rattle.mas_run.proofs.WarmLemmas.{no, play_begins, play_not_text}
@@ -38,7 +41,7 @@ use Rattle.mas_run.proofs.play.play_cold.Goals as goal
 pub make-complex-requires-clause-begins : goal.make-complex-requires-clause-begins
 make-complex-requires-clause-begins g c told =
     let v = g.P.Plant.view c.form.new.plant in
-    let k = c.in-Ok.checkpoint in
+    let k = c.in-Ok.member.checkpoint in
     let n = c.form.new.self in
     let f = c.in-Ok-form.ensures in
     let config = c.args.script.now.config in
@@ -78,55 +81,95 @@ play_asked-requires-clause-quiet g c told =
     let P = g.P.Plant in
     ap (λ (t : ℕ). ((P.view c.make-complex.result.plant).world t).console) (m.since ∙ ap (λ p. (P.view p).now) (sym m.plant))
 
-pub play_asked-requires-clause-rests1 : goal.play_asked-requires-clause-rests1
-play_asked-requires-clause-rests1 g c =
-    let v = g.P.Plant.view c.form.new.plant in
+pub play_asked-requires-clause-calm1 : goal.play_asked-requires-clause-calm1
+play_asked-requires-clause-calm1 g c =
     let n = c.form.new.self.first in
     let m = c.make-complex.ensures in
-    rw c.new-member.ensures.checkpoint (record {
+    record {
+      before = m.places.0;
+      as_many = λ is.
+          let alive : n.alive ≡ true = sym (ap (λ p. p.first.alive) m.pair) ∙ is in
+          c.in-Ok.ensures.room ∙ ap length (sym c.as_slice.ensures) ∙ sym (ap (λ p. p.first.copy.pages) m.pair ∙ c.in-Ok-form.ensures.count1 alive);
+    }
+
+pub play_asked-requires-clause-low1 : goal.play_asked-requires-clause-low1
+play_asked-requires-clause-low1 g c =
+    let P = g.P.Plant in
+    let k = c.in-Ok.member.checkpoint in
+    let v = P.view c.form.new.plant in
+    let n = c.form.new.self.first in
+    let y = c.make-complex.result in
+    let m = c.make-complex.ensures in
+    let rests : RestsAt P.tells y.pair.first.alive y.first y.pair.first.copy.pages k.pages (reads (disk_now (P.view y.plant) Ckpt1).bytes) = record {
       before = m.places.0;
       as_many = λ is.
           let alive : n.alive ≡ true = sym (ap (λ p. p.first.alive) m.pair) ∙ is in
           ap length (sym c.as_slice.ensures) ∙ sym (ap (λ p. p.first.copy.pages) m.pair ∙ c.in-Ok-form.ensures.count1 alive);
       reads = λ told is.
           let alive : n.alive ≡ true = sym (ap (λ p. p.first.alive) m.pair) ∙ is in
-          ap (λ p. reads (disk_now (g.P.Plant.view p) Ckpt1).bytes) m.plant
-          ∙ area_rests_now n.copy.pages n.copy.second n.copy.stale (bytes_of c.in-Ok.checkpoint.pages) (disk_now v Ckpt1) (rw c.as_slice.ensures at (c.in-Ok-form.ensures.formed1 told alive));
-    })
+          ap (λ p. reads (disk_now (P.view p) Ckpt1).bytes) m.plant
+          ∙ area_rests_now n.copy.pages n.copy.second n.copy.stale (bytes_of k.pages) (disk_now v Ckpt1) (rw c.as_slice.ensures at (c.in-Ok-form.ensures.formed1 told alive));
+    } in
+    low_written P.tells y.pair.first.alive y.first y.pair.first.copy.pages k.tables.config (length y.journal.batches) k (reads (disk_now (P.view y.plant) Ckpt1).bytes) c.in-Ok.ensures.drawn
+    (λ told. low_empty c.args.script.now.config c.args.script.now.routes k.tables c.in-Ok.ensures.tables (length y.journal.batches) c.in-Ok.ensures.drawn.spelling.shape) rests
 
-pub play_asked-requires-clause-rests2 : goal.play_asked-requires-clause-rests2
-play_asked-requires-clause-rests2 g c =
-    let v = g.P.Plant.view c.form.new.plant in
+pub play_asked-requires-clause-calm2 : goal.play_asked-requires-clause-calm2
+play_asked-requires-clause-calm2 g c =
     let n = c.form.new.self.second in
     let m = c.make-complex.ensures in
-    rw c.new-member.ensures.checkpoint (record {
+    record {
+      before = m.places.1;
+      as_many = λ is.
+          let alive : n.alive ≡ true = sym (ap (λ p. p.second.alive) m.pair) ∙ is in
+          c.in-Ok.ensures.room ∙ ap length (sym c.as_slice.ensures) ∙ sym (ap (λ p. p.second.copy.pages) m.pair ∙ c.in-Ok-form.ensures.count2 alive);
+    }
+
+pub play_asked-requires-clause-low2 : goal.play_asked-requires-clause-low2
+play_asked-requires-clause-low2 g c =
+    let P = g.P.Plant in
+    let k = c.in-Ok.member.checkpoint in
+    let v = P.view c.form.new.plant in
+    let n = c.form.new.self.second in
+    let y = c.make-complex.result in
+    let m = c.make-complex.ensures in
+    let rests : RestsAt P.tells y.pair.second.alive y.second y.pair.second.copy.pages k.pages (reads (disk_now (P.view y.plant) Ckpt2).bytes) = record {
       before = m.places.1;
       as_many = λ is.
           let alive : n.alive ≡ true = sym (ap (λ p. p.second.alive) m.pair) ∙ is in
           ap length (sym c.as_slice.ensures) ∙ sym (ap (λ p. p.second.copy.pages) m.pair ∙ c.in-Ok-form.ensures.count2 alive);
       reads = λ told is.
           let alive : n.alive ≡ true = sym (ap (λ p. p.second.alive) m.pair) ∙ is in
-          ap (λ p. reads (disk_now (g.P.Plant.view p) Ckpt2).bytes) m.plant
-          ∙ area_rests_now n.copy.pages n.copy.second n.copy.stale (bytes_of c.in-Ok.checkpoint.pages) (disk_now v Ckpt2) (rw c.as_slice.ensures at (c.in-Ok-form.ensures.formed2 told alive));
-    })
+          ap (λ p. reads (disk_now (P.view p) Ckpt2).bytes) m.plant
+          ∙ area_rests_now n.copy.pages n.copy.second n.copy.stale (bytes_of k.pages) (disk_now v Ckpt2) (rw c.as_slice.ensures at (c.in-Ok-form.ensures.formed2 told alive));
+    } in
+    low_written P.tells y.pair.second.alive y.second y.pair.second.copy.pages k.tables.config (length y.journal.batches) k (reads (disk_now (P.view y.plant) Ckpt2).bytes) c.in-Ok.ensures.drawn
+    (λ told. low_empty c.args.script.now.config c.args.script.now.routes k.tables c.in-Ok.ensures.tables (length y.journal.batches) c.in-Ok.ensures.drawn.spelling.shape) rests
 
-pub play_asked-requires-clause-between : goal.play_asked-requires-clause-between
-play_asked-requires-clause-between g c =
-    let k = c.in-Ok.checkpoint in
+pub play_asked-requires-clause-at_lock : goal.play_asked-requires-clause-at_lock
+play_asked-requires-clause-at_lock g c =
+    let m = c.make-complex.ensures in
+    let i = c.in-Ok.ensures in
+    record { none = m.current; unplaced = m.placed; nothing = i.batch; drawn = i.drawn; many = i.room }
+
+pub play_asked-requires-clause-sound : goal.play_asked-requires-clause-sound
+play_asked-requires-clause-sound g c told =
+    let k = c.in-Ok.member.checkpoint in
+    let y = c.make-complex.result in
     let m = c.make-complex.ensures in
     let config = c.args.script.now.config in
     let routes = c.args.script.now.routes in
     let told_base : Tell k.tables c.in-Ok.base = told_empty config routes k.tables c.in-Ok.ensures.tables c.in-Ok.base c.in-Ok.ensures.base (c.law_of_told_queues.ensures.empty config routes) in
-    record {
-      none = m.current;
-      unplaced = m.placed;
-      same_level = rw c.new-member.ensures.checkpoint m.level;
-      drawn = rw c.new-member.ensures.checkpoint c.in-Ok.ensures.drawn;
-      queue = rw c.new-member.ensures.checkpoint (subst (λ (bs : List Batch). Tell k.tables (run c.make-complex.result.base (kept_all bs))) (sym m.journal) (subst (Tell k.tables) (sym m.base) told_base));
-      nothing = c.new-member.ensures.batch;
-      sound = rw c.new-member.ensures.checkpoint (sound_empty config routes k.tables c.in-Ok.ensures.tables c.requires.fits.config c.requires.fits.few (c.law_of_told_queues.ensures.empty config routes));
-      fit = rw c.new-member.ensures.checkpoint (fit_empty config routes k.tables c.in-Ok.ensures.tables c.in-Ok.ensures.drawn.spelling.shape);
-    }
+    told_sound k.tables (run y.base (kept_all y.journal.batches)) (sound_empty config routes k.tables c.in-Ok.ensures.tables c.requires.fits.config c.requires.fits.few (c.law_of_told_queues.ensures.empty config routes))
+    (subst (λ (bs : List Batch). Tell k.tables (run y.base (kept_all bs))) (sym m.journal) (subst (Tell k.tables) (sym m.base) told_base))
+
+pub play_asked-requires-clause-own : goal.play_asked-requires-clause-own
+play_asked-requires-clause-own g c = ap (λ (q : Queue). q.config) (c.make-complex.ensures.base ∙ c.in-Ok.ensures.base) ∙ sym (ap (λ (t : Tables). t.config) c.in-Ok.ensures.tables)
+
+pub play_asked-requires-clause-fresh : goal.play_asked-requires-clause-fresh
+play_asked-requires-clause-fresh g c = omega (arith, ap (λ (bs : List Batch). length bs) c.make-complex.ensures.journal)
+
+pub play_asked-requires-clause-level : goal.play_asked-requires-clause-level
+play_asked-requires-clause-level g c = omega (arith, c.make-complex.ensures.level, c.in-Ok.ensures.level)
 
 pub returns-in_default-form-clause-volumes : goal.returns-in_default-form-clause-volumes
 returns-in_default-form-clause-volumes g c t none =

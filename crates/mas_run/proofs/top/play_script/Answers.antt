@@ -26,3 +26,9 @@ returns-in-Ok-clause-run g c begun = (c.in-Ok.script, c.in-Ok.ensures.said, c.pl
 
 pub returns-in-Err-clause-volumes : goal.returns-in-Err-clause-volumes
 returns-in-Err-clause-volumes g c told none = rw c.unbegun.ensures.plant (kept_none (g.P.Plant.view c.args.plant))
+
+pub returns-in-Ok-clause-formats : goal.returns-in-Ok-clause-formats
+returns-in-Ok-clause-formats g c only told = c.play_steps.ensures.stepless (c.in-Ok.ensures.only only) told
+
+pub returns-in-Err-clause-formats : goal.returns-in-Err-clause-formats
+returns-in-Err-clause-formats g c only told = rw c.unbegun.ensures.plant (kept_none (g.P.Plant.view c.args.plant))

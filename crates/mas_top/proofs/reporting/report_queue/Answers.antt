@@ -1,7 +1,6 @@
 use Rattle.std.proofs.Common.{◌∙◌, List, ℕ, sym, ap, subst}
 use Rattle.cmd_report.specs.Named.{IsNamed}
 use Rattle.warm_start.specs.Bare.{bare_deck, bare_print}
-use Rattle.mas_types.specs.declared.answers.Status.TheVariants as status
 use Rattle.warm_start.specs.declared.choosing.StartNo.TheVariants as no_start
 use Rattle.mas_run.specs.Runs.{has_begun}
 use Rattle.mas_top.specs.Saying.{Says}

@@ -33,7 +33,7 @@ returns-in-Play-clause-play g c cold is =
     let e = c.play_script.ensures in
     let same : c.in-Play.cold ≡ cold = play_same (task_asked (map string_bytes c.args.words.now)) c.in-Play.cold cold (c.in-Ok.ensures ∙ ap Some c.in-Play.is) is in
     subst (λ (x : Bool). IsPlayed x false (source_of S.tells (S.faults c.args.script.now) (S.faults c.play_script.new.script) left (S.left c.play_script.new.script)) P.tells (r.plant ≡ c.args.plant) r.status r.base r.journal r.since old (P.view r.plant)) same
-    (record { refused = e.refused; words = e.words; device = e.device; formatted = e.formatted; unstarted = e.unstarted; faulted = e.source; untouched = e.untouched; volumes = e.volumes; loses = e.loses; room = e.room; read = e.read; run = e.run; complete = e.complete })
+    (record { refused = e.refused; words = e.words; device = e.device; formatted = e.formatted; unstarted = e.unstarted; faulted = e.source; untouched = e.untouched; volumes = e.volumes; formats = e.formats; loses = e.loses; room = e.room; read = e.read; run = e.run; complete = e.complete })
 
 pub returns-in-Play-clause-report : goal.returns-in-Play-clause-report
 returns-in-Play-clause-report g c is = absurd (play_not_report (task_asked (map string_bytes c.args.words.now)) c.in-Play.cold (c.in-Ok.ensures ∙ ap Some c.in-Play.is) is)
@@ -81,7 +81,7 @@ returns-in-Format-clause-report g c is = absurd (report_not_format (task_asked (
 pub returns-in-Format-clause-format : goal.returns-in-Format-clause-format
 returns-in-Format-clause-format g c is =
     let e = c.play_script-in-Format.ensures in
-    record { refused = e.refused; words = e.words; device = e.device; formatted = e.formatted; unstarted = e.unstarted; faulted = e.source; untouched = e.untouched; volumes = e.volumes; loses = e.loses; room = e.room; read = e.read; run = e.run; complete = e.complete }
+    record { refused = e.refused; words = e.words; device = e.device; formatted = e.formatted; unstarted = e.unstarted; faulted = e.source; untouched = e.untouched; volumes = e.volumes; formats = e.formats; loses = e.loses; room = e.room; read = e.read; run = e.run; complete = e.complete }
 
 -- WORDS THAT AREN'T READ
 

@@ -1,9 +1,8 @@
-use Rattle.std.proofs.Common.{◌≡◌, ◌∙◌, ◌∷◌, [], None, ap, sym, subst, arith}
+use Rattle.std.proofs.Common.{◌∷◌, [], None, refl, subst, arith}
 use Rattle.mas_types.specs.declared.answers.Closing.{Closing}
 use Rattle.mas_types.specs.declared.ids.Dev.TheVariants.{Ckpt1, Ckpt2}
 use Rattle.mas_types.specs.declared.ids.MemberId.{MemberId}
 use Rattle.mas_types.specs.Closings.{closing_line}
-use Rattle.first_script.specs.Played.{sysa}
 use Rattle.mas_complex.specs.Journals.{end_of, kept_all}
 use Rattle.mas_complex.specs.Meaning.{run}
 use Rattle.member_steps.specs.Locked.{IsDenial}
@@ -31,32 +30,38 @@ returns-clause-step g c =
           (subst (λ (e : Closing). IsDenial P.tells by.0 (closing_line by c.args.step e ∷ []) x.journal.batches (end_of y.placed y.current y.journal.batches) x.pair.first.alive y.pair.first.alive x.pair.second.alive y.pair.second.alive (P.view x.plant) (P.view y.plant) c.refuse.result) c.no_reset-end.ensures.is c.refuse.ensures.denial)),
     )
 
-pub returns-clause-between : goal.returns-clause-between
-returns-clause-between g c =
+pub returns-clause-at_lock : goal.returns-clause-at_lock
+returns-clause-at_lock g c =
     let d = c.refuse.ensures in
-    ok_of c.refuse.result (rw (d.base, d.journal, d.current, d.placed, d.level) c.requires.between)
+    ok_of c.refuse.result (rw (d.current, d.placed) c.requires.at_lock)
 
-pub returns-clause-rests1 : goal.returns-clause-rests1
-returns-clause-rests1 g c =
-    let C = g.C.Copying in
+pub returns-clause-calm1 : goal.returns-clause-calm1
+returns-clause-calm1 g c =
     let d = c.refuse.ensures in
-    let r = c.requires.rests1 in
-    ok_of c.refuse.result (record {
-      before = d.first ∙ r.before;
-      as_many = λ on. r.as_many (sym (ap (λ p. p.first.alive) d.pair) ∙ on) ∙ sym (ap (λ p. C.count p.first.copy) d.pair);
-      reads = λ told on. ap (λ k. C.reads k.bytes) (d.disks told Ckpt1) ∙ r.reads told (sym (ap (λ p. p.first.alive) d.pair) ∙ on);
-    })
+    ok_of c.refuse.result (rw (d.pair, d.first) c.requires.calm1)
 
-pub returns-clause-rests2 : goal.returns-clause-rests2
-returns-clause-rests2 g c =
-    let C = g.C.Copying in
+pub returns-clause-calm2 : goal.returns-clause-calm2
+returns-clause-calm2 g c =
     let d = c.refuse.ensures in
-    let r = c.requires.rests2 in
-    ok_of c.refuse.result (record {
-      before = d.second ∙ r.before;
-      as_many = λ on. r.as_many (sym (ap (λ p. p.second.alive) d.pair) ∙ on) ∙ sym (ap (λ p. C.count p.second.copy) d.pair);
-      reads = λ told on. ap (λ k. C.reads k.bytes) (d.disks told Ckpt2) ∙ r.reads told (sym (ap (λ p. p.second.alive) d.pair) ∙ on);
-    })
+    ok_of c.refuse.result (rw (d.pair, d.second) c.requires.calm2)
+
+pub returns-clause-low1 : goal.returns-clause-low1
+returns-clause-low1 g c =
+    let d = c.refuse.ensures in
+    ok_of c.refuse.result (rw (d.pair, d.journal) (λ told. rw (d.disks told Ckpt1) (c.requires.low1 told)))
+
+pub returns-clause-low2 : goal.returns-clause-low2
+returns-clause-low2 g c =
+    let d = c.refuse.ensures in
+    ok_of c.refuse.result (rw (d.pair, d.journal) (λ told. rw (d.disks told Ckpt2) (c.requires.low2 told)))
+
+pub returns-clause-sound : goal.returns-clause-sound
+returns-clause-sound g c =
+    let d = c.refuse.ensures in
+    ok_of c.refuse.result (rw (d.base, d.journal) c.requires.sound)
+
+pub returns-clause-own : goal.returns-clause-own
+returns-clause-own g c = ok_of c.refuse.result refl
 
 pub returns-clause-lock : goal.returns-clause-lock
 returns-clause-lock g c =

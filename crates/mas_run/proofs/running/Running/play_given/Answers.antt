@@ -1,5 +1,4 @@
-use Rattle.std.proofs.Common.{◌≡◌, ◌≤◌, false, None, [], ◌∷◌, ap, arith, refl}
-use Rattle.mas_types.specs.declared.queues.Config.{Config}
+use Rattle.std.proofs.Common.{false, None, [], ◌∷◌, arith, refl}
 use Rattle.mas_types.specs.declared.queues.Queue.{Queue}
 use Rattle.lock_cycle.specs.Books.{try_refusal}
 use Rattle.first_script.specs.Played.{sysa}
@@ -27,11 +26,7 @@ pub play_locked-requires-clause-giver : goal.play_locked-requires-clause-giver
 play_locked-requires-clause-giver g c = rw (c.requires.id, c.in-Ok.ensures) (played c.args.given.now c.requires.typed c.requires.no_reset).1
 
 pub play_locked-requires-clause-may_give : goal.play_locked-requires-clause-may_give
-play_locked-requires-clause-may_give g c =
-    let x = c.args.self.now.complex in
-    let b = c.requires.between in
-    let some : 1 ≤ (run x.base (kept_all x.journal.batches)).config.members = omega (arith, ap (λ (k : Config). k.members) b.queue.config, b.drawn.spelling.shape.config.members.0) in
-    rw (c.requires.id, c.in-Ok.ensures) (may_played (run x.base (kept_all x.journal.batches)) c.args.given.now c.requires.typed c.requires.no_reset some)
+play_locked-requires-clause-may_give g c = rw (c.requires.id, c.in-Ok.ensures) (may_played c.args.self.now.complex.base c.args.given.now c.requires.typed c.requires.no_reset c.requires.config.members.0)
 
 pub play_locked-requires-clause-untold : goal.play_locked-requires-clause-untold
 play_locked-requires-clause-untold g c told =
@@ -39,17 +34,11 @@ play_locked-requires-clause-untold g c told =
     let Q : Queue = run x.base (kept_all x.journal.batches) in
     c.requires.untold told (entry_of Q c.args.self.now.member.id c.args.step c.in-Ok.given ∷ []) (of_one c.args.self.now.member.id c.args.step (entry_of Q c.args.self.now.member.id c.args.step c.in-Ok.given) c.requires.id (refl, refl))
 
-pub play_locked-requires-clause-order : goal.play_locked-requires-clause-order
-play_locked-requires-clause-order g c = omega (arith, c.requires.order)
+pub play_locked-requires-clause-orders : goal.play_locked-requires-clause-orders
+play_locked-requires-clause-orders g c = omega (arith, c.requires.orders)
 
 pub play_locked-requires-clause-level : goal.play_locked-requires-clause-level
 play_locked-requires-clause-level g c = omega (arith, c.requires.level)
-
-pub play_locked-requires-clause-room1 : goal.play_locked-requires-clause-room1
-play_locked-requires-clause-room1 g c on = (c.requires.room1 on).0
-
-pub play_locked-requires-clause-room2 : goal.play_locked-requires-clause-room2
-play_locked-requires-clause-room2 g c on = (c.requires.room2 on).0
 
 pub returns-clause-step : goal.returns-clause-step
 returns-clause-step g c =
@@ -68,11 +57,8 @@ returns-clause-lock g c = rw c.requires.id at c.play_locked.ensures.lock
 pub returns-clause-book : goal.returns-clause-book
 returns-clause-book g c = rw c.requires.id at c.play_locked.ensures.book
 
-pub returns-clause-order : goal.returns-clause-order
-returns-clause-order g c = omega (arith, c.play_locked.ensures.order)
-
 pub returns-clause-level : goal.returns-clause-level
-returns-clause-level g c = ok_more c.play_locked.result c.play_locked.new.member.checkpoint.level c.args.self.now.member.checkpoint.level c.play_locked.ensures.level
+returns-clause-level g c = ok_more c.play_locked.result c.play_locked.new.complex.level c.args.self.now.complex.level c.play_locked.ensures.level
 
 pub returns-in_default-clause-step : goal.returns-in_default-clause-step
 returns-in_default-clause-step g c =
@@ -81,5 +67,5 @@ returns-in_default-clause-step g c =
     let front = x.journal.batches in (
       None,
       unplayed_task P.tells (try_refusal x.book sysa false) c.args.given.now (run x.base (kept_all front)) x.base.config.groups c.args.step front (end_of x.placed x.current front)
-          x.pair.first.alive x.pair.second.alive (P.view x.plant) (none_out front front x.placed x.current refl c.requires.between.unplaced c.requires.between.none),
+          x.pair.first.alive x.pair.second.alive (P.view x.plant) (none_out front front x.placed x.current refl c.requires.at_lock.unplaced c.requires.at_lock.none),
     )

@@ -7,7 +7,7 @@ use Rattle.mas_complex.specs.Journals.{kept_all}
 use Rattle.mas_complex.specs.Meaning.{run}
 use Rattle.member_decks.specs.Spooling.{AreRoomy}
 use Rattle.member_node.proofs.WriteLemmas.{none_out}
-use Rattle.mas_run.proofs.ScriptLemmas.{book_at_base, book_now, kept_here, play_done, play_ends, play_more, play_none, roomy_later, step_at_base, untold_here}
+use Rattle.mas_run.proofs.ScriptLemmas.{book_at_base, book_now, few_here, kept_here, play_done, play_ends, play_more, play_none, roomy_later, step_at_base, untold_here}
 use Rattle.mas_run.proofs.running.Running.play_steps.Goals as goal
 
 pub loop-step-init : goal.loop-step-init
@@ -20,10 +20,13 @@ loop-step-init g c =
       since = refl;
       lock = c.requires.lock;
       book = refl;
-      between = c.requires.between;
-      rests1 = c.requires.rests1;
-      rests2 = c.requires.rests2;
-      order = omega arith;
+      at_lock = c.requires.at_lock;
+      calm1 = c.requires.calm1;
+      calm2 = c.requires.calm2;
+      low1 = c.requires.low1;
+      low2 = c.requires.low2;
+      sound = c.requires.sound;
+      own = c.requires.own;
       level = omega arith;
       play = play_none g.P.Plant.tells (run x.base (kept_all x.journal.batches)) x.base.config x.book c.args.asked.now x.journal.batches x.pair.first.alive x.pair.second.alive (g.P.Plant.view x.plant) c.requires.some;
     }
@@ -68,8 +71,14 @@ play_step-requires-clause-kept g c =
     let i = c.loop-step.invariant in
     kept_here P.tells (run x.base (kept_all x.journal.batches)) x.base.config x.book c.args.asked.now c.loop-step.step-index x.journal.batches y.journal.batches x.pair.first.alive y.pair.first.alive x.pair.second.alive y.pair.second.alive (P.view x.plant) (P.view y.plant) i.play c.requires.kept
 
-pub play_step-requires-clause-order : goal.play_step-requires-clause-order
-play_step-requires-clause-order g c = omega (arith, c.loop-step.invariant.order, c.requires.order, c.requires.few, c.loop-step-test.true)
+pub play_step-requires-clause-orders : goal.play_step-requires-clause-orders
+play_step-requires-clause-orders g c =
+    let P = g.P.Plant in
+    let x = c.args.self.now.complex in
+    let y = c.loop-step.self.complex in
+    let i = c.loop-step.invariant in
+    let few = few_here P.tells (run x.base (kept_all x.journal.batches)) x.base.config x.book c.args.asked.now c.loop-step.step-index x.journal.batches y.journal.batches x.pair.first.alive y.pair.first.alive x.pair.second.alive y.pair.second.alive (P.view x.plant) (P.view y.plant) i.play in
+    omega (arith, few, c.requires.fresh, c.requires.few, c.loop-step-test.true)
 
 pub play_step-requires-clause-level : goal.play_step-requires-clause-level
 play_step-requires-clause-level g c = omega (arith, c.loop-step.invariant.level, c.requires.level, c.requires.few, c.loop-step-test.true)
@@ -87,7 +96,7 @@ loop-step-preserved g c =
     let w = P.view z.plant in
     let from : Queue = run x.base (kept_all x.journal.batches) in
     let next : c.loop-step.number + 1 ≡ 1 + c.loop-step.step-index = omega (arith, i.number) in
-    let out = none_out z.journal.batches z.journal.batches z.placed z.current refl e.between.unplaced e.between.none in
+    let out = none_out z.journal.batches z.journal.batches z.placed z.current refl e.at_lock.unplaced e.at_lock.none in
     let step = step_at_base P.tells x.base y.base i.base y.book c.step-item.result.what e.step.0 (c.loop-step.number + 1) y.journal.batches _ z.journal.batches out y.pair.first.alive z.pair.first.alive y.pair.second.alive z.pair.second.alive v w _ e.step.1 in
     record {
       number = omega (arith, i.number);
@@ -97,10 +106,13 @@ loop-step-preserved g c =
       lock = e.lock;
       book = book_now P.tells from x.base.config x.book c.args.asked.now c.loop-step.step-index x.journal.batches y.journal.batches x.pair.first.alive y.pair.first.alive x.pair.second.alive y.pair.second.alive v0 v i.play
           c.loop-step-test.true c.step-item.result c.step-item.is y.book i.book e.step.0 z.book (book_at_base x.base y.base i.base y.book z.book c.step-item.result.what e.book);
-      between = e.between;
-      rests1 = e.rests1;
-      rests2 = e.rests2;
-      order = omega (arith, c.play_step.ensures.order, i.order);
+      at_lock = e.at_lock;
+      calm1 = e.calm1;
+      calm2 = e.calm2;
+      low1 = rw e.own e.low1;
+      low2 = rw e.own e.low2;
+      sound = e.sound;
+      own = ap (λ (q : Queue). q.config) e.base ∙ i.own ∙ sym e.own;
       level = omega (arith, e.level, i.level);
       play = play_more P.tells from x.base.config x.book c.args.asked.now c.loop-step.step-index x.journal.batches y.journal.batches x.pair.first.alive y.pair.first.alive x.pair.second.alive y.pair.second.alive v0 v i.play
           c.loop-step-test.true c.step-item.result c.step-item.is y.book i.book e.step.0 x.base refl (c.loop-step.number + 1) next z.journal.batches z.pair.first.alive z.pair.second.alive w tt step;
@@ -130,6 +142,6 @@ returns-clause-played g c =
     let x = c.args.self.now.complex in
     let y = c.loop-step.self.complex in
     let i = c.loop-step.invariant in
-    let out = none_out y.journal.batches y.journal.batches y.placed y.current refl i.between.unplaced i.between.none in
+    let out = none_out y.journal.batches y.journal.batches y.placed y.current refl i.at_lock.unplaced i.at_lock.none in
     play_done P.tells (run x.base (kept_all x.journal.batches)) x.base.config x.book c.args.asked.now c.loop-step.step-index x.journal.batches y.journal.batches x.pair.first.alive y.pair.first.alive x.pair.second.alive y.pair.second.alive (P.view x.plant) (P.view y.plant) i.play
     tt _ out (omega arith)

@@ -1,4 +1,4 @@
-use Rattle.std.proofs.Common.{◌≡◌, ◌∙◌, ◌+◌, ◌≤◌, ◌++◌, ℕ, List, [], ◌∷◌, length, Ok, ap, refl, subst, sym, arith}
+use Rattle.std.proofs.Common.{◌≡◌, ◌∙◌, ◌+◌, ◌≤◌, ◌<◌, ◌^◌, ◌++◌, ℕ, List, [], ◌∷◌, length, Ok, ap, refl, subst, sym, arith}
 use Rattle.std.proofs.lemmas.Result.{err_from_is_err_and}
 use Rattle.std.proofs.Math.Logic.{∥∥₁_map}
 use Rattle.mas_types.specs.declared.ids.MemberId.{MemberId}
@@ -7,17 +7,21 @@ use Rattle.mas_types.specs.declared.journals.Entry.{Entry}
 use Rattle.mas_types.specs.declared.journals.Batch.{Batch}
 use Rattle.mas_types.specs.declared.queues.Queue.{Queue}
 use Rattle.mas_types.specs.Ids.{nobody}
+use Rattle.mas_types.specs.declared.ids.Dev.TheVariants.{Ckpt1, Ckpt2}
+use Rattle.spool_disk.specs.View.{disk_now}
 use Rattle.mas_types.specs.declared.journals.Fate.TheVariants.{Kept}
 use Rattle.mas_complex.specs.Journals.{begun, end_of, entries_reserved, fated, kept_all}
 use Rattle.mas_complex.specs.Meaning.{run}
 use Rattle.mas_complex.specs.Texts.{lost_now, spools_at}
 use Rattle.member_node.specs.Batches.{HasDone, level_with}
 use Rattle.ckpt_pages.specs.declared.tables.Tables.{Tables}
-use Rattle.table_queues.specs.Telling.{Tell, TellSound}
+use Rattle.table_queues.specs.Telling.{Tell}
 use Rattle.member_node.proofs.WriteLemmas.{none_out, queue_kept}
-use Rattle.member_steps.proofs.StepLemmas.{between_done, journal_kept, level_most, step_texts}
+use Rattle.member_node.specs.Reads.{AreLow}
+use Rattle.member_steps.proofs.ReadLemmas.{calm_rest, low_written, same_many, told_sound}
+use Rattle.member_steps.proofs.StepLemmas.{can_draw, journal_kept, level_most, step_texts}
 use Rattle.mas_run.specs.Resets.{restart_entries}
-use Rattle.mas_run.proofs.ResetLemmas.{none_untold, reset_none, reset_written, restart_own}
+use Rattle.mas_run.proofs.ResetLemmas.{low_first, none_untold, reset_done, reset_none, reset_written, restart_own, some_kept, tell_none}
 use Rattle.mas_run.proofs.running.Running.restart.Goals as goal
 
 pub ready-requires-clause-may : goal.ready-requires-clause-may
@@ -31,11 +35,25 @@ ready-requires-clause-some g c = subst (λ (es : List Entry). 1 ≤ length es) (
 pub ready-requires-clause-own : goal.ready-requires-clause-own
 ready-requires-clause-own g c = restart_own c.give_restart.new.member.batch c.give_restart.new.member.id c.in-Ok.ensures.entries (c.give_restart.ensures.id ∙ c.requires.id)
 
+pub ready-requires-clause-here : goal.ready-requires-clause-here
+ready-requires-clause-here g c = c.give_restart.ensures.behind ∙ c.requires.here
+
+pub ready-requires-clause-draws : goal.ready-requires-clause-draws
+ready-requires-clause-draws g c =
+    let e = c.give_restart.ensures in
+    can_draw c.args.self.now.member.checkpoint c.give_restart.new.member.checkpoint c.requires.at_lock.drawn e.pages e.level e.levels e.config e.spelling
+
+pub ready-requires-clause-level : goal.ready-requires-clause-level
+ready-requires-clause-level g c told = c.requires.same_level ∙ sym c.give_restart.ensures.level
+
 pub ready-requires-clause-done : goal.ready-requires-clause-done
-ready-requires-clause-done g c =
+ready-requires-clause-done g c told =
     let x = c.args.self.now.complex in
     let m = c.args.self.now.member in
-    c.in-Ok.ensures.done (run x.base (kept_all x.journal.batches)) (between_done x.base x.journal.batches x.current x.placed x.level m.batch m.checkpoint c.requires.between)
+    ∣ c.in-Ok.ensures.done (run x.base (kept_all x.journal.batches)) (reset_done x.base x.journal.batches m.batch m.checkpoint c.requires.journal c.requires.at_lock.nothing c.requires.at_lock.drawn c.requires.fit c.requires.queue) ∣₁
+
+pub ready-requires-clause-small : goal.ready-requires-clause-small
+ready-requires-clause-small g c = subst (λ (n : ℕ). n + 1 < 2 ^ 63) (c.requires.same_level ∙ sym c.give_restart.ensures.level) c.requires.level
 
 pub write-requires-clause-may : goal.write-requires-clause-may
 write-requires-clause-may g c =
@@ -50,12 +68,12 @@ pub write-requires-clause-some : goal.write-requires-clause-some
 write-requires-clause-some g c = subst (λ (es : List Entry). 1 ≤ length es) (sym (ap entries_reserved c.in-Ok-ready.ensures.reserved ∙ c.in-Ok.ensures.entries)) (omega arith)
 
 pub write-requires-clause-replied : goal.write-requires-clause-replied
-write-requires-clause-replied g c =
+write-requires-clause-replied g c told =
     let x = c.args.self.now.complex in
     let m = c.args.self.now.member in
     let done : HasDone (run x.base (kept_all x.journal.batches)) c.give_restart.new.member.batch c.give_restart.new.member.checkpoint =
-    c.in-Ok.ensures.done (run x.base (kept_all x.journal.batches)) (between_done x.base x.journal.batches x.current x.placed x.level m.batch m.checkpoint c.requires.between) in
-    rw (c.ready.ensures.base, c.ready.ensures.kept, c.in-Ok-ready.ensures.reserved) done.replied
+    c.in-Ok.ensures.done (run x.base (kept_all x.journal.batches)) (reset_done x.base x.journal.batches m.batch m.checkpoint c.requires.journal c.requires.at_lock.nothing c.requires.at_lock.drawn c.requires.fit c.requires.queue) in
+    rw (c.ready.ensures.base, c.ready.ensures.kept, c.in-Ok-ready.ensures.reserved) (∣ done.replied ∣₁)
 
 pub write-requires-clause-texts : goal.write-requires-clause-texts
 write-requires-clause-texts g c told =
@@ -63,9 +81,10 @@ write-requires-clause-texts g c told =
     let m = c.args.self.now.member in
     let v = g.P.Plant.view x.plant in
     let e = c.ready.ensures in
+    let Q : Queue = run x.base (kept_all x.journal.batches) in
     rw (e.plant, e.base, e.kept, c.in-Ok-ready.ensures.reserved)
     (∥∥₁_map (c.kept_texts.ensures.kept told) (λ has. step_texts c.law_of_texts.ensures.texts c.law_of_texts.ensures.told (lost_now v) (spools_at v v.now) x.base.config.groups x.base x.base x.journal.batches x.journal.batches
-    m.checkpoint.tables nobody 0 Restart c.give_restart.new.member.batch refl c.requires.between.sound c.requires.between.queue refl refl c.in-Ok.ensures.entries has))
+    m.checkpoint.tables nobody 0 Restart c.give_restart.new.member.batch refl c.requires.sound (tell_none m.checkpoint.tables x.base x.journal.batches c.requires.journal c.requires.queue) refl refl c.in-Ok.ensures.entries has))
 
 pub write-requires-clause-untold : goal.write-requires-clause-untold
 write-requires-clause-untold g c told =
@@ -78,7 +97,7 @@ returns-in_default-clause-reset g c =
     let P = g.P.Plant in
     let x = c.args.self.now.complex in
     reset_none P.tells (begun (P.view x.plant).now nobody restart_entries) (end_of x.placed x.current x.journal.batches) x.pair.first.alive x.pair.second.alive (P.view x.plant)
-    (none_out x.journal.batches x.journal.batches x.placed x.current refl c.requires.between.unplaced c.requires.between.none ∙ c.requires.journal)
+    (none_out x.journal.batches x.journal.batches x.placed x.current refl c.requires.at_lock.unplaced c.requires.at_lock.none ∙ c.requires.journal)
 
 pub returns-in_default-ready-clause-reset : goal.returns-in_default-ready-clause-reset
 returns-in_default-ready-clause-reset g c =
@@ -88,7 +107,7 @@ returns-in_default-ready-clause-reset g c =
     let e = c.in_default-ready.ensures.err in
     rw (c.ready.ensures.pair, c.ready.ensures.plant, c.ready.ensures.current, e.0, e.2)
     (reset_none P.tells (begun (P.view x.plant).now nobody restart_entries) (end_of x.placed x.current x.journal.batches) x.pair.first.alive x.pair.second.alive (P.view x.plant)
-    (none_out x.journal.batches x.journal.batches x.placed x.current refl c.requires.between.unplaced c.requires.between.none ∙ c.requires.journal))
+    (none_out x.journal.batches x.journal.batches x.placed x.current refl c.requires.at_lock.unplaced c.requires.at_lock.none ∙ c.requires.journal))
 
 pub returns-in_err-write-clause-reset : goal.returns-in_err-write-clause-reset
 returns-in_err-write-clause-reset g c =
@@ -96,7 +115,7 @@ returns-in_err-write-clause-reset g c =
     let x = c.args.self.now.complex in
     let z = c.write.new.complex in
     let e = c.ready.ensures in
-    let grown = c.in-Ok-ready.ensures.grown c.requires.between.unplaced in
+    let grown = c.in-Ok-ready.ensures.grown c.requires.at_lock.unplaced in
     let same = e.id ∙ c.give_restart.ensures.id ∙ c.requires.id in
     let write = rw (same, e.plant, e.pair, c.in-Ok-ready.ensures.reserved, c.in-Ok.ensures.entries) at (c.in_err-write.ensures.write [] grown.0 (grown.1 ∙ ap (λ (bs : List Batch). bs ++ grown.0 ∷ []) c.requires.journal)) in
     let p = err_from_is_err_and c.from_residual.result c.from_residual.ensures.1 in
@@ -109,42 +128,109 @@ returns-clause-reset g c =
     let x = c.args.self.now.complex in
     let z = c.write.new.complex in
     let e = c.ready.ensures in
-    let grown = c.in-Ok-ready.ensures.grown c.requires.between.unplaced in
+    let grown = c.in-Ok-ready.ensures.grown c.requires.at_lock.unplaced in
     let same = e.id ∙ c.give_restart.ensures.id ∙ c.requires.id in
     let write = rw (same, e.plant, e.pair, c.in-Ok-ready.ensures.reserved, c.in-Ok.ensures.entries) at (c.in_ok-write.ensures.write [] grown.0 (grown.1 ∙ ap (λ (bs : List Batch). bs ++ grown.0 ∷ []) c.requires.journal)) in
     reset_written P.tells (begun (P.view x.plant).now nobody restart_entries) (end_of z.placed z.current z.journal.batches) x.pair.first.alive z.pair.first.alive x.pair.second.alive z.pair.second.alive (P.view x.plant) (P.view z.plant) (Ok tt)
     c.requires.some (λ e. absurd (cc)) write
 
-pub returns-clause-between : goal.returns-clause-between
-returns-clause-between g c =
+pub returns-clause-fresh : goal.returns-clause-fresh
+returns-clause-fresh g c =
+    let P = g.P.Plant in
+    let x = c.args.self.now.complex in
+    let y = c.ready.new.complex in
+    let z = c.write.new.complex in
+    let grown = c.in-Ok-ready.ensures.grown c.requires.at_lock.unplaced in
+    let b : Batch = begun (P.view y.plant).now c.ready.new.self.id (entries_reserved y.reserved) in
+    let journal : z.journal.batches ≡ x.journal.batches ++ fated Kept (P.view z.plant).now b ∷ [] =
+    journal_kept x.journal.batches y.journal.batches z.journal.batches grown.0 (fated Kept (P.view z.plant).now b) grown.1 c.in_ok-write.ensures.kept in
+    ap (λ (bs : List Batch). length bs) (journal ∙ ap (λ (bs : List Batch). bs ++ fated Kept (P.view z.plant).now b ∷ []) c.requires.journal)
+
+pub returns-clause-at_lock : goal.returns-clause-at_lock
+returns-clause-at_lock g c =
+    let e = c.ready.ensures in
+    let m = c.args.self.now.member in
+    record {
+      none = c.in_ok-write.ensures.none;
+      unplaced = c.in_ok-write.ensures.unplaced;
+      nothing = c.in-Ok-ready.ensures.empty;
+      drawn = c.in-Ok-ready.ensures.drawn;
+      many = same_many m.checkpoint c.ready.new.self.checkpoint c.ready.new.self.room m.room (e.room ∙ c.give_restart.ensures.room) c.requires.at_lock.many c.requires.at_lock.drawn c.in-Ok-ready.ensures.drawn
+          (ap (λ (t : Tables). t.config) e.tables ∙ c.give_restart.ensures.config);
+    }
+
+pub returns-clause-calm1 : goal.returns-clause-calm1
+returns-clause-calm1 g c =
+    let P = g.P.Plant in
+    let C = g.C.Copying in
+    let z = c.write.new.complex in
+    let e = c.ready.ensures in
+    let m = c.args.self.now.member in
+    let n = c.ready.new.self in
+    let many = same_many m.checkpoint n.checkpoint n.room m.room (e.room ∙ c.give_restart.ensures.room) c.requires.at_lock.many c.requires.at_lock.drawn c.in-Ok-ready.ensures.drawn (ap (λ (t : Tables). t.config) e.tables ∙ c.give_restart.ensures.config) in
+    calm_rest P.tells z.pair.first.alive z.first (C.count z.pair.first.copy) n.checkpoint.pages (C.reads (disk_now (P.view z.plant) Ckpt1).bytes) (length n.room) many c.in_ok-write.ensures.rests1
+
+pub returns-clause-calm2 : goal.returns-clause-calm2
+returns-clause-calm2 g c =
+    let P = g.P.Plant in
+    let C = g.C.Copying in
+    let z = c.write.new.complex in
+    let e = c.ready.ensures in
+    let m = c.args.self.now.member in
+    let n = c.ready.new.self in
+    let many = same_many m.checkpoint n.checkpoint n.room m.room (e.room ∙ c.give_restart.ensures.room) c.requires.at_lock.many c.requires.at_lock.drawn c.in-Ok-ready.ensures.drawn (ap (λ (t : Tables). t.config) e.tables ∙ c.give_restart.ensures.config) in
+    calm_rest P.tells z.pair.second.alive z.second (C.count z.pair.second.copy) n.checkpoint.pages (C.reads (disk_now (P.view z.plant) Ckpt2).bytes) (length n.room) many c.in_ok-write.ensures.rests2
+
+pub returns-clause-low1 : goal.returns-clause-low1
+returns-clause-low1 g c =
+    let P = g.P.Plant in
+    let C = g.C.Copying in
+    let x = c.args.self.now.complex in
+    let y = c.ready.new.complex in
+    let z = c.write.new.complex in
+    let grown = c.in-Ok-ready.ensures.grown c.requires.at_lock.unplaced in
+    let b : Batch = begun (P.view y.plant).now c.ready.new.self.id (entries_reserved y.reserved) in
+    let n = c.ready.new.self.checkpoint in
+    let u = c.give_restart.ensures in
+    let low : AreLow n.tables.config (length z.journal.batches) n.tables = rw c.ready.ensures.tables
+    (low_first c.give_restart.new.member.checkpoint.tables c.args.self.now.member.checkpoint.tables.order (length z.journal.batches) u.fit c.requires.order u.order (some_kept x.journal.batches y.journal.batches z.journal.batches grown.0 (fated Kept (P.view z.plant).now b) grown.1 c.in_ok-write.ensures.kept)) in
+    low_written P.tells z.pair.first.alive z.first (C.count z.pair.first.copy) n.tables.config (length z.journal.batches) n (C.reads (disk_now (P.view z.plant) Ckpt1).bytes) c.in-Ok-ready.ensures.drawn (λ told. low) c.in_ok-write.ensures.rests1
+
+pub returns-clause-low2 : goal.returns-clause-low2
+returns-clause-low2 g c =
+    let P = g.P.Plant in
+    let C = g.C.Copying in
+    let x = c.args.self.now.complex in
+    let y = c.ready.new.complex in
+    let z = c.write.new.complex in
+    let grown = c.in-Ok-ready.ensures.grown c.requires.at_lock.unplaced in
+    let b : Batch = begun (P.view y.plant).now c.ready.new.self.id (entries_reserved y.reserved) in
+    let n = c.ready.new.self.checkpoint in
+    let u = c.give_restart.ensures in
+    let low : AreLow n.tables.config (length z.journal.batches) n.tables = rw c.ready.ensures.tables
+    (low_first c.give_restart.new.member.checkpoint.tables c.args.self.now.member.checkpoint.tables.order (length z.journal.batches) u.fit c.requires.order u.order (some_kept x.journal.batches y.journal.batches z.journal.batches grown.0 (fated Kept (P.view z.plant).now b) grown.1 c.in_ok-write.ensures.kept)) in
+    low_written P.tells z.pair.second.alive z.second (C.count z.pair.second.copy) n.tables.config (length z.journal.batches) n (C.reads (disk_now (P.view z.plant) Ckpt2).bytes) c.in-Ok-ready.ensures.drawn (λ told. low) c.in_ok-write.ensures.rests2
+
+pub returns-clause-sound : goal.returns-clause-sound
+returns-clause-sound g c =
     let P = g.P.Plant in
     let x = c.args.self.now.complex in
     let y = c.ready.new.complex in
     let z = c.write.new.complex in
     let m = c.args.self.now.member in
     let d = c.give_restart.new.member in
-    let n = c.ready.new.self.checkpoint in
     let e = c.ready.ensures in
     let k = c.in_ok-write.ensures in
     let Q : Queue = run x.base (kept_all x.journal.batches) in
-    let grown = c.in-Ok-ready.ensures.grown c.requires.between.unplaced in
+    let grown = c.in-Ok-ready.ensures.grown c.requires.at_lock.unplaced in
     let b : Batch = begun (P.view y.plant).now c.ready.new.self.id (entries_reserved y.reserved) in
     let journal : z.journal.batches ≡ x.journal.batches ++ fated Kept (P.view z.plant).now b ∷ [] =
     journal_kept x.journal.batches y.journal.batches z.journal.batches grown.0 (fated Kept (P.view z.plant).now b) grown.1 k.kept in
-    let done : HasDone Q d.batch d.checkpoint = c.in-Ok.ensures.done Q (between_done x.base x.journal.batches x.current x.placed x.level m.batch m.checkpoint c.requires.between) in
-    record {
-      none = k.none;
-      unplaced = k.unplaced;
-      same_level = k.level ∙ ap (level_with c.in-Ok-ready.draft) (e.same_level ∙ c.requires.between.same_level ∙ sym c.give_restart.ensures.level) ∙ sym c.in-Ok-ready.ensures.level;
-      nothing = c.in-Ok-ready.ensures.empty;
-      drawn = c.in-Ok-ready.ensures.drawn;
-      queue = subst (Tell n.tables) (queue_kept x.base z.base Q (run Q d.batch) x.journal.batches z.journal.batches (P.view z.plant).now b d.batch
-          (k.base ∙ e.base) refl journal (ap entries_reserved c.in-Ok-ready.ensures.reserved) refl) (subst (λ (u : Tables). Tell u (run Q d.batch)) (sym e.tables) done.queue);
-      fit = rw e.tables done.fit;
-      sound = subst TellSound (sym e.tables) c.in-Ok.ensures.sound;
-    }
+    let done : HasDone Q d.batch d.checkpoint = c.in-Ok.ensures.done Q (reset_done x.base x.journal.batches m.batch m.checkpoint c.requires.journal c.requires.at_lock.nothing c.requires.at_lock.drawn c.requires.fit c.requires.queue) in
+    told_sound d.checkpoint.tables (run z.base (kept_all z.journal.batches)) c.in-Ok.ensures.sound
+    (subst (Tell d.checkpoint.tables) (queue_kept x.base z.base Q (run Q d.batch) x.journal.batches z.journal.batches (P.view z.plant).now b d.batch (k.base ∙ e.base) refl journal (ap entries_reserved c.in-Ok-ready.ensures.reserved) refl) done.queue)
 
 pub returns-clause-level : goal.returns-clause-level
 returns-clause-level g c =
-    let old : ℕ = c.args.self.now.member.checkpoint.level in
-    subst (λ (n : ℕ). n ≤ old + 1) (sym (c.in-Ok-ready.ensures.level ∙ ap (level_with c.in-Ok-ready.draft) c.give_restart.ensures.level)) (level_most c.in-Ok-ready.draft old)
+    let old : ℕ = c.args.self.now.complex.level in
+    subst (λ (n : ℕ). n ≤ old + 1) (sym (c.in_ok-write.ensures.level ∙ ap (level_with c.in-Ok-ready.draft) c.ready.ensures.same_level)) (level_most c.in-Ok-ready.draft old)
