@@ -1,0 +1,6 @@
+//! What the next run finds of what a run left.
+#![tactic(auto)]
+
+mod laws;
+
+pub use laws::{law_of_crashes, law_of_next_runs};
