@@ -31,7 +31,7 @@ fn reads_each_spelling(rt: HostRuntime) -> Result<(), Fail> {
     ] {
         let command = read_command(rt.alloc(), text)?;
         let line = write_command(rt.alloc(), &command)?;
-        assert_eq!(rt; line.as_slice(), want);
+        assert!(rt; line.as_slice() == want);
     }
     Ok(())
 }

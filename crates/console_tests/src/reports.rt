@@ -25,7 +25,7 @@ fn assert_closing(
     requires { AreMembersNamed end.now }
 {
     let line = closing(alloc, SYSA, 1, end)?;
-    assert_eq!(rt; line.as_slice(), want);
+    assert!(rt; line.as_slice() == want);
     Ok(())
 }
 
@@ -148,10 +148,10 @@ fn a_queue(alloc: Global) -> Result<Queue, NoMemory>
 }
 
 fn assert_lines(rt: &impl std::process::Abort, lines: &Lines, want: &[&[u8]]) {
-    assert_eq!(rt; lines.len(), want.len());
+    assert!(rt; lines.len() == want.len());
     for (at, line) in want.iter().enumerate() {
         if at < lines.len() {
-            assert_eq!(rt; lines.line(at), *line);
+            assert!(rt; lines.line(at) == *line);
         }
     }
 }

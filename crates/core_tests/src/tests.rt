@@ -13,10 +13,10 @@ fn old_gate_drops_the_batch(rt: HostRuntime) -> Result<(), Fail> {
     let mut events = half_open(alloc)?;
     add_take_over(&mut events, Left::Old)?;
     let world = no_run_loses(alloc, &base, &events)?;
-    assert_eq!(rt; world.journal.batches.len(), 1);
-    assert_eq!(rt; world.journal.batches.item(0).fate, Fate::Dropped);
-    assert_eq!(rt; world.told.len(), 0);
-    assert_eq!(rt; world.holder, SECOND);
+    assert!(rt; world.journal.batches.len() == 1);
+    assert!(rt; world.journal.batches.item(0).fate == Fate::Dropped);
+    assert!(rt; world.told.len() == 0);
+    assert!(rt; world.holder == SECOND);
     Ok(())
 }
 
@@ -27,9 +27,9 @@ fn new_gate_keeps_the_batch(rt: HostRuntime) -> Result<(), Fail> {
     let mut events = half_open(alloc)?;
     add_take_over(&mut events, Left::New)?;
     let world = no_run_loses(alloc, &base, &events)?;
-    assert_eq!(rt; world.journal.batches.len(), 1);
-    assert_eq!(rt; world.journal.batches.item(0).fate, Fate::Kept);
-    assert_eq!(rt; world.told.len(), 0);
+    assert!(rt; world.journal.batches.len() == 1);
+    assert!(rt; world.journal.batches.item(0).fate == Fate::Kept);
+    assert!(rt; world.told.len() == 0);
     Ok(())
 }
 
@@ -41,10 +41,10 @@ fn second_lock_waits(rt: HostRuntime) -> Result<(), Fail> {
     add(&mut events, Event::Lock(FIRST))?;
     add(&mut events, Event::Lock(SECOND))?;
     let world = no_run_loses(alloc, &base, &events)?;
-    assert_eq!(rt; world.holder, FIRST);
-    assert_eq!(rt; world.members.len(), 3);
-    assert_eq!(rt; world.members.item(1).stage, At::Locked);
-    assert_eq!(rt; world.members.item(2).stage, At::Away);
+    assert!(rt; world.holder == FIRST);
+    assert!(rt; world.members.len() == 3);
+    assert!(rt; world.members.item(1).stage == At::Locked);
+    assert!(rt; world.members.item(2).stage == At::Away);
     Ok(())
 }
 
@@ -55,9 +55,9 @@ fn whole_turn_is_told(rt: HostRuntime) -> Result<(), Fail> {
     let mut events = half_open(alloc)?;
     add_end_of_turn(&mut events)?;
     let world = no_run_loses(alloc, &base, &events)?;
-    assert_eq!(rt; world.told.len(), 1);
-    assert_eq!(rt; *world.told.item(0), Said { by: FIRST, step: 1 });
-    assert_eq!(rt; world.holder, MemberId(0));
+    assert!(rt; world.told.len() == 1);
+    assert!(rt; *world.told.item(0) == Said { by: FIRST, step: 1 });
+    assert!(rt; world.holder == MemberId(0));
     Ok(())
 }
 
@@ -68,9 +68,9 @@ fn start_keeps_what_a_copy_reads(rt: HostRuntime) -> Result<(), Fail> {
     let mut events = half_open(alloc)?;
     add_crash_and_start(&mut events)?;
     let world = no_run_loses(alloc, &base, &events)?;
-    assert_eq!(rt; world.journal.batches.len(), 2);
-    assert_eq!(rt; world.journal.batches.item(0).fate, Fate::Kept);
-    assert_eq!(rt; world.journal.batches.item(1).fate, Fate::Kept);
-    assert_eq!(rt; world.journal.batches.item(1).by, MemberId(0));
+    assert!(rt; world.journal.batches.len() == 2);
+    assert!(rt; world.journal.batches.item(0).fate == Fate::Kept);
+    assert!(rt; world.journal.batches.item(1).fate == Fate::Kept);
+    assert!(rt; world.journal.batches.item(1).by == MemberId(0));
     Ok(())
 }

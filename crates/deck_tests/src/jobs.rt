@@ -147,8 +147,8 @@ fn runs_steps(rt: HostRuntime) -> Result<(), Fail> {
         let cards = cards_of(rt.alloc(), text)?;
         let steps = convert(rt.alloc(), &fields(), &cards)?;
         let ran = run_steps(rt.alloc(), &steps)?;
-        assert_eq!(rt; ran.code, *code, "at {i}");
-        assert_eq!(rt; ran.outputs.len(), *count, "at {i}");
+        assert!(rt; ran.code == *code, "at {i}");
+        assert!(rt; ran.outputs.len() == *count, "at {i}");
         if let [output] = ran.outputs.as_slice() {
             assert!(rt; is_output(output, *class, line, *lines), "at {i}");
         }
@@ -161,9 +161,9 @@ fn lists_a_line(rt: HostRuntime) -> Result<(), Fail> {
     let outputs = listing(rt.alloc(), &fields(), b"NO ERROR")?;
     if let [output] = outputs.as_slice() {
         assert!(rt; is_output(output, b'M', b"NO ERROR", 1));
-        assert_eq!(rt; output.dest, Name8(*b"SYSB    "));
-        assert_eq!(rt; output.copies, 1);
+        assert!(rt; output.dest == Name8(*b"SYSB    "));
+        assert!(rt; output.copies == 1);
     }
-    assert_eq!(rt; outputs.len(), 1);
+    assert!(rt; outputs.len() == 1);
     Ok(())
 }

@@ -28,8 +28,8 @@ fn takes_the_lowest(rt: HostRuntime) {
         (9, 3, [mine, others, mine, mine]),
     ] {
         let mut owners = before;
-        assert_eq!(rt; take(&mut owners, SECOND, want), Ok(count), "of {want}");
-        assert_eq!(rt; owners, after, "of {want}");
+        assert!(rt; take(&mut owners, SECOND, want) == Ok(count), "of {want}");
+        assert!(rt; owners == after, "of {want}");
     }
 }
 
@@ -37,11 +37,11 @@ fn takes_the_lowest(rt: HostRuntime) {
 fn is_full_only_where_all_volumes_are(rt: HostRuntime) {
     // Two volumes of one group each, the first of which is taken.
     let mut owners = [deck(1, 0), Owner::Free];
-    assert_eq!(rt; free_count(&owners), 1);
-    assert_eq!(rt; take(&mut owners, FIRST, 1), Ok(1));
-    assert_eq!(rt; owner(&owners, GroupNo(1)), Owner::Member(FIRST));
-    assert_eq!(rt; take(&mut owners, FIRST, 0), Err(SpoolFull));
-    assert_eq!(rt; owners, [deck(1, 0), Owner::Member(FIRST)]);
+    assert!(rt; free_count(&owners) == 1);
+    assert!(rt; take(&mut owners, FIRST, 1) == Ok(1));
+    assert!(rt; owner(&owners, GroupNo(1)) == Owner::Member(FIRST));
+    assert!(rt; take(&mut owners, FIRST, 0) == Err(SpoolFull));
+    assert!(rt; owners == [deck(1, 0), Owner::Member(FIRST)]);
 }
 
 #[test]
@@ -56,19 +56,16 @@ fn gives_and_frees(rt: HostRuntime) -> Result<(), Fail> {
         index: OutNo(1),
         place: 0,
     };
-    assert_eq!(rt;
-        owners,
-        [deck(7, 0), others, deck(7, 1), first, mine, Owner::Free]
-    );
+    assert!(rt; owners == [deck(7, 0), others, deck(7, 1), first, mine, Owner::Free]);
     let held = held_by(rt.alloc(), &owners, FIRST)?;
-    assert_eq!(rt; held.as_slice(), [GroupNo(4)].as_slice());
-    assert_eq!(rt; member_count(&owners, FIRST), 1);
+    assert!(rt; held.as_slice() == [GroupNo(4)].as_slice());
+    assert!(rt; member_count(&owners, FIRST) == 1);
     free_member(&mut owners, FIRST);
     free_thing(&mut owners, Thing::Deck(JobNo(7)));
     let free = Owner::Free;
-    assert_eq!(rt; owners, [free, others, free, first, free, free]);
+    assert!(rt; owners == [free, others, free, first, free, free]);
     free_thing(&mut owners, print);
-    assert_eq!(rt; free_count(&owners), 5);
+    assert!(rt; free_count(&owners) == 5);
     Ok(())
 }
 
@@ -83,11 +80,8 @@ fn a_text_in_the_order_of_its_places(rt: HostRuntime) -> Result<(), Fail> {
         deck(2, 0),
     ];
     let groups = groups_of(rt.alloc(), &owners, Thing::Deck(JobNo(1)))?;
-    assert_eq!(rt;
-        groups.as_slice(),
-        [GroupNo(3), GroupNo(4), GroupNo(1)].as_slice()
-    );
+    assert!(rt; groups.as_slice() == [GroupNo(3), GroupNo(4), GroupNo(1)].as_slice());
     let none = groups_of(rt.alloc(), &owners, Thing::Output(JobNo(1), OutNo(1)))?;
-    assert_eq!(rt; none.len(), 0);
+    assert!(rt; none.len() == 0);
     Ok(())
 }

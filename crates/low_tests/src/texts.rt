@@ -49,9 +49,9 @@ fn groups_read_back(alloc: Global, lines: &Lines) -> Result<Lines, Fail>
 }
 
 fn assert_same(rt: &impl Abort, a: &Lines, b: &Lines) {
-    assert_eq!(rt; a.len(), b.len());
+    assert!(rt; a.len() == b.len());
     for at in 0..a.len() {
-        assert_eq!(rt; a.line(at), b.line(at));
+        assert!(rt; a.line(at) == b.line(at));
     }
 }
 
@@ -61,7 +61,7 @@ fn cards_fill_groups(rt: HostRuntime) -> Result<(), Fail> {
     card[..3].copy_from_slice(b"//*");
     for (more, groups) in [(0, 1), (50, 1), (51, 2), (101, 3)] {
         let lines = text(&rt, rt.alloc(), b"//A JOB", &card, more)?;
-        assert_eq!(rt; groups_needed(&lines), groups, "with {more} cards");
+        assert!(rt; groups_needed(&lines) == groups, "with {more} cards");
     }
     Ok(())
 }
@@ -70,12 +70,12 @@ fn cards_fill_groups(rt: HostRuntime) -> Result<(), Fail> {
 fn a_group_byte_by_byte(rt: HostRuntime) -> Result<(), Fail> {
     let lines = text(&rt, rt.alloc(), b"AB", b"", 1)?;
     let mut page = Page([0x55; 4096]);
-    assert_eq!(rt; groups_needed(&lines), 1);
+    assert!(rt; groups_needed(&lines) == 1);
     pack(&lines, 0, &mut page);
-    assert_eq!(rt; page.0[..5], [0x02, 0x41, 0x42, 0x00, 0xFF][..]);
+    assert!(rt; page.0[..5] == [0x02, 0x41, 0x42, 0x00, 0xFF][..]);
     assert!(rt; page.0[5..].iter().all(|byte| *byte == 0));
     let mut read = Lines::new(rt.alloc());
-    assert_eq!(rt; unpack(rt.alloc(), &page, &mut read), Ok(()));
+    assert!(rt; unpack(rt.alloc(), &page, &mut read) == Ok(()));
     assert_same(&rt, &read, &lines);
     Ok(())
 }
@@ -91,25 +91,22 @@ fn no_records(rt: HostRuntime) -> Result<(), Fail> {
     ] {
         let mut page = Page([0x20; 4096]);
         page.0[..begin.len()].copy_from_slice(begin);
-        assert_eq!(rt; unpack(rt.alloc(), &page, &mut read), Err(TextNo::Bad));
-        assert_eq!(rt; read.len(), 1);
+        assert!(rt; unpack(rt.alloc(), &page, &mut read) == Err(TextNo::Bad));
+        assert!(rt; read.len() == 1);
     }
-    assert_eq!(rt;
-        unpack(rt.alloc(), &Page([0; 4096]), &mut read),
-        Err(TextNo::Bad)
-    );
+    assert!(rt; unpack(rt.alloc(), &Page([0; 4096]), &mut read) == Err(TextNo::Bad));
     Ok(())
 }
 
 #[test]
 fn the_longest_text_and_the_shortest(rt: HostRuntime) -> Result<(), Fail> {
     let longest = text(&rt, rt.alloc(), &[b'~'; 132], &[b' '; 132], 9_998)?;
-    assert_eq!(rt; groups_needed(&longest), 334);
+    assert!(rt; groups_needed(&longest) == 334);
     let read = groups_read_back(rt.alloc(), &longest)?;
     assert_same(&rt, &read, &longest);
     let empty = Lines::new(rt.alloc());
-    assert_eq!(rt; groups_needed(&empty), 1);
+    assert!(rt; groups_needed(&empty) == 1);
     let read = groups_read_back(rt.alloc(), &empty)?;
-    assert_eq!(rt; read.len(), 0);
+    assert!(rt; read.len() == 0);
     Ok(())
 }

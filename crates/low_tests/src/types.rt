@@ -22,9 +22,8 @@ fn reads_names_and_classes(rt: HostRuntime) {
         ("A B", None),
         ("A-B", None),
     ] {
-        assert_eq!(rt;
-            read_name(text.as_bytes()).ok(),
-            name.map(Name8),
+        assert!(rt;
+            read_name(text.as_bytes()).ok() == name.map(Name8),
             "at {text}"
         );
     }
@@ -40,7 +39,7 @@ fn reads_names_and_classes(rt: HostRuntime) {
         (b'a', false),
         (b'$', false),
     ] {
-        assert_eq!(rt; read_class(byte).is_ok(), good, "at {byte}");
+        assert!(rt; read_class(byte).is_ok() == good, "at {byte}");
     }
 }
 
@@ -61,7 +60,10 @@ fn reads_numbers(rt: HostRuntime) {
         ("1 ", 9, None),
         ("A", 99, None),
     ] {
-        assert_eq!(rt; read_number(text.as_bytes(), max).ok(), number, "at {text}");
+        assert!(rt;
+            read_number(text.as_bytes(), max).ok() == number,
+            "at {text}"
+        );
     }
 }
 
@@ -75,7 +77,7 @@ fn names_jobs_and_members(rt: HostRuntime) {
     ] {
         let mut into = [0; 8];
         write_key(JobNo(number), &mut into);
-        assert_eq!(rt; into, *key, "at {number}");
+        assert!(rt; into == *key, "at {number}");
     }
     for (text, member) in [
         ("SYSA", Some(1)),
@@ -86,21 +88,20 @@ fn names_jobs_and_members(rt: HostRuntime) {
         ("SYSA ", None),
         ("SYS", None),
     ] {
-        assert_eq!(rt;
-            read_member(text.as_bytes()).ok(),
-            member.map(MemberId),
+        assert!(rt;
+            read_member(text.as_bytes()).ok() == member.map(MemberId),
             "at {text}"
         );
     }
-    assert_eq!(rt; member_name(MemberId(0)), Name8(*b"OPER    "));
-    assert_eq!(rt; member_name(MemberId(8)), Name8(*b"SYSH    "));
+    assert!(rt; member_name(MemberId(0)) == Name8(*b"OPER    "));
+    assert!(rt; member_name(MemberId(8)) == Name8(*b"SYSH    "));
 }
 
 fn closes(rt: &impl Abort, alloc: Global, end: &Closing, text: &str) -> Result<(), Fail>
     requires { AreMembersNamed end.now }
 {
     let line = closing_line(alloc, MemberId(1), 1, end)?;
-    assert_eq!(rt; line.as_slice(), text.as_bytes(), "at {text}");
+    assert!(rt; line.as_slice() == text.as_bytes(), "at {text}");
     Ok(())
 }
 
@@ -129,7 +130,7 @@ fn closes_steps(rt: HostRuntime) -> Result<(), Fail> {
     let served = Closing::Line(2, 10);
     closes(&rt, alloc, &served, "SYSA 00001 OK SENT 2 GOT 10")?;
     let line = closing_line(alloc, MemberId(0), 123_456, &Closing::Down)?;
-    assert_eq!(rt; line.as_slice(), "OPER 123456 DOWN".as_bytes());
+    assert!(rt; line.as_slice() == "OPER 123456 DOWN".as_bytes());
     Ok(())
 }
 
@@ -143,10 +144,10 @@ fn ends_with_a_status(rt: HostRuntime) -> Result<(), Fail> {
     let Some(line) = status_line(alloc, &small)? else {
         return Err("no line".into());
     };
-    assert_eq!(rt; line.as_slice(), "MAS DEVICE SPOOL2 SIZE 4096".as_bytes());
-    assert_eq!(rt; status_code(&small), 7);
+    assert!(rt; line.as_slice() == "MAS DEVICE SPOOL2 SIZE 4096".as_bytes());
+    assert!(rt; status_code(&small) == 7);
     assert!(rt; status_line(alloc, &Status::Done)?.is_none());
-    assert_eq!(rt; status_code(&Status::Done), 0);
+    assert!(rt; status_code(&Status::Done) == 0);
     Ok(())
 }
 
@@ -154,17 +155,17 @@ fn ends_with_a_status(rt: HostRuntime) -> Result<(), Fail> {
 fn begins_empty(rt: HostRuntime) -> Result<(), Fail> {
     let alloc = rt.alloc();
     let queue = empty_queue(alloc, &default_config(), &List::new(alloc))?;
-    assert_eq!(rt; queue.config.node, Name8(*b"HERE    "));
-    assert_eq!(rt; queue.owners.len(), 512);
-    assert_eq!(rt; queue.members.len(), 2);
-    assert_eq!(rt; queue.lines.len(), 8);
+    assert!(rt; queue.config.node == Name8(*b"HERE    "));
+    assert!(rt; queue.owners.len() == 512);
+    assert!(rt; queue.members.len() == 2);
+    assert!(rt; queue.lines.len() == 8);
     for setting in queue.members.as_slice() {
-        assert_eq!(rt; setting.init.len(), 36);
-        assert_eq!(rt; setting.prt.as_slice().last(), Some(&Class(b'9')));
-        assert_eq!(rt; setting.lines, 20);
+        assert!(rt; setting.init.len() == 36);
+        assert!(rt; setting.prt.as_slice().last() == Some(&Class(b'9')));
+        assert!(rt; setting.lines == 20);
     }
     let none = no_queue(alloc);
-    assert_eq!(rt; none.owners.len(), 0);
+    assert!(rt; none.owners.len() == 0);
     Ok(())
 }
 
@@ -215,17 +216,17 @@ fn copies_a_queue(rt: HostRuntime) -> Result<(), Fail> {
         text: Text::Gone(GroupNo(9), 4),
     })?;
     let copy = queue.copy(alloc)?;
-    assert_eq!(rt; copy.owners.len(), 512);
+    assert!(rt; copy.owners.len() == 512);
     for job in copy.jobs.as_slice() {
         let Text::Whole(lines) = &job.text else {
             return Err("the text is gone".into());
         };
-        assert_eq!(rt; lines.len(), 2);
-        assert_eq!(rt; lines.line(0), b"//COPY JOB".as_slice());
-        assert_eq!(rt; job.fields, fields());
+        assert!(rt; lines.len() == 2);
+        assert!(rt; lines.line(0) == b"//COPY JOB".as_slice());
+        assert!(rt; job.fields == fields());
     }
     for output in copy.outputs.as_slice() {
-        assert_eq!(rt; (output.mark, output.busy), (3, MemberId(2)));
+        assert!(rt; (output.mark, output.busy) == (3, MemberId(2)));
     }
     Ok(())
 }
@@ -263,19 +264,19 @@ fn copies_a_journal(rt: HostRuntime) -> Result<(), Fail> {
         entries,
     })?;
     let copy = journal.copy(alloc)?;
-    assert_eq!(rt; copy.batches.len(), 1);
+    assert!(rt; copy.batches.len() == 1);
     let batch = copy.batches.item(0);
-    assert_eq!(rt; (batch.last, batch.entries.len()), (9, 1));
+    assert!(rt; (batch.last, batch.entries.len()) == (9, 1));
     let Command::Ended { job, outputs } = &batch.entries.item(0).command else {
         return Err("another command".into());
     };
-    assert_eq!(rt; (*job, outputs.len()), (JobNo(7), 1));
-    assert_eq!(rt; outputs.item(0).text.len(), 2);
+    assert!(rt; (*job, outputs.len()) == (JobNo(7), 1));
+    assert!(rt; outputs.item(0).text.len() == 2);
     let end = Closing::Reply(Reply::Shown(lines_of(alloc, "VOL1")?)).copy(alloc)?;
     let Closing::Reply(Reply::Shown(shown)) = &end else {
         return Err("another closing".into());
     };
-    assert_eq!(rt; shown.len(), 2);
+    assert!(rt; shown.len() == 2);
     Ok(())
 }
 
@@ -285,12 +286,12 @@ fn changes_lists(rt: HostRuntime) -> Result<(), Fail> {
     for n in [1u8, 2, 3] {
         list.push(n)?;
     }
-    assert_eq!(rt; list.len(), 3);
+    assert!(rt; list.len() == 3);
     *list.item_mut(1) = 5;
     for n in list.as_mut_slice() {
         *n = n.wrapping_add(1);
     }
-    assert_eq!(rt; list.remove(0), 2);
-    assert_eq!(rt; list.as_slice(), [6, 4].as_slice());
+    assert!(rt; list.remove(0) == 2);
+    assert!(rt; list.as_slice() == [6, 4].as_slice());
     Ok(())
 }

@@ -27,7 +27,7 @@ fn write_line(rt: &impl Abort, plant: &mut MemPlant, volume: u8, at: u64, line: 
     let records = [1, line, 0xFF];
     let room = plant.size(dev);
     assert!(rt; at <= room && records.len() as u64 <= room - at);
-    assert_eq!(rt; plant.write(SYSA, dev, at, &records), Act::Done);
+    assert!(rt; plant.write(SYSA, dev, at, &records) == Act::Done);
 }
 
 // The text of the last group of the first volume and the first group of the second.
@@ -52,8 +52,8 @@ fn assert_gone(rt: &impl Abort, text: Text, group: u32, count: u16) {
         assert!(rt; false, "a text that is gone was read");
         return;
     };
-    assert_eq!(rt; first, GroupNo(group));
-    assert_eq!(rt; lines, count);
+    assert!(rt; first == GroupNo(group));
+    assert!(rt; lines == count);
 }
 
 fn assert_whole(rt: &impl Abort, text: Text, wanted: &[u8]) {
@@ -61,10 +61,10 @@ fn assert_whole(rt: &impl Abort, text: Text, wanted: &[u8]) {
         assert!(rt; false, "a text that is there is gone");
         return;
     };
-    assert_eq!(rt; lines.len(), wanted.len());
+    assert!(rt; lines.len() == wanted.len());
     for (at, line) in wanted.iter().enumerate() {
         if at < lines.len() {
-            assert_eq!(rt; lines.line(at), [*line].as_slice());
+            assert!(rt; lines.line(at) == [*line].as_slice());
         }
     }
 }

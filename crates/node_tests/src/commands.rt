@@ -97,8 +97,8 @@ fn commands_stand_in_the_batch(rt: HostRuntime) -> Result<(), Fail> {
     assert!(rt; did(alloc, &mut member, 2, Command::Hold { job: ONE }));
     assert!(rt; did(alloc, &mut member, 3, Command::Hold { job: JobNo(2) }));
     assert!(rt; did(alloc, &mut member, 4, Command::Release { job: ONE }));
-    assert_eq!(rt; member.batch.len(), 4);
-    assert_eq!(rt; numbers(&member), [1, 1, 0, 1]);
+    assert!(rt; member.batch.len() == 4);
+    assert!(rt; numbers(&member) == [1, 1, 0, 1]);
     Ok(())
 }
 
@@ -122,12 +122,9 @@ fn a_display_has_its_lines_before_the_closing_line(rt: HostRuntime) -> Result<()
     let mut shown = Lines::new(alloc);
     shown.push(b"JOB00001 A A 05 INPUT SYSA -")?;
     let lines = reply_lines(alloc, MemberId(1), 2, &Reply::Shown(shown))?;
-    assert_eq!(rt; lines.len(), 2);
-    assert_eq!(rt;
-        line_at(&lines, 0),
-        b"SYSA 00002 - JOB00001 A A 05 INPUT SYSA -".as_slice()
-    );
-    assert_eq!(rt; line_at(&lines, 1), b"SYSA 00002 OK 1".as_slice());
+    assert!(rt; lines.len() == 2);
+    assert!(rt; line_at(&lines, 0) == b"SYSA 00002 - JOB00001 A A 05 INPUT SYSA -".as_slice());
+    assert!(rt; line_at(&lines, 1) == b"SYSA 00002 OK 1".as_slice());
     Ok(())
 }
 
@@ -173,13 +170,10 @@ fn a_deck_is_entered_in_its_groups(rt: HostRuntime) -> Result<(), Fail> {
         job: ONE,
         text: cards(alloc, 52)?,
     };
-    assert_eq!(rt; carried(alloc, &mut tables, &begin), 1);
-    assert_eq!(rt; carried(alloc, &mut tables, &Command::Take { want: 3 }), 3);
-    assert_eq!(rt; carried(alloc, &mut tables, &enter), 1);
+    assert!(rt; carried(alloc, &mut tables, &begin) == 1);
+    assert!(rt; carried(alloc, &mut tables, &Command::Take { want: 3 }) == 3);
+    assert!(rt; carried(alloc, &mut tables, &enter) == 1);
     assert!(rt; is_deck(&tables, 0, 0) && is_deck(&tables, 1, 1));
-    assert_eq!(rt;
-        carried(alloc, &mut tables, &Command::Take { want: 511 }),
-        510
-    );
+    assert!(rt; carried(alloc, &mut tables, &Command::Take { want: 511 }) == 510);
     Ok(())
 }

@@ -187,10 +187,9 @@ fn a_job_from_its_deck_to_its_last_line(rt: HostRuntime) -> Result<(), Fail> {
         ),
     ];
     for (next, command, reply) in &steps {
-        assert_eq!(rt; unit(&tables, FIRST), *next);
-        assert_eq!(rt;
-            give(alloc, &mut tables, FIRST, command),
-            Some(*reply),
+        assert!(rt; unit(&tables, FIRST) == *next);
+        assert!(rt;
+            give(alloc, &mut tables, FIRST, command) == Some(*reply),
             "{next:?}"
         );
     }
@@ -258,9 +257,8 @@ fn each_refusal(rt: HostRuntime) -> Result<(), Fail> {
         ),
     ];
     for (by, command, reply) in &steps {
-        assert_eq!(rt;
-            give(alloc, &mut tables, *by, command),
-            Some(*reply),
+        assert!(rt;
+            give(alloc, &mut tables, *by, command) == Some(*reply),
             "{reply:?}"
         );
     }
@@ -275,10 +273,7 @@ fn full_slots(rt: HostRuntime) -> Result<(), Fail> {
         fields: fields(b"HERE    "),
     };
     for number in 1..=16u32 {
-        assert_eq!(rt;
-            give(alloc, &mut tables, FIRST, &begin),
-            Some(Said::Job(number))
-        );
+        assert!(rt; give(alloc, &mut tables, FIRST, &begin) == Some(Said::Job(number)));
     }
     let steps = [
         (begin, Said::No(Refusal::JobsFull)),
@@ -294,9 +289,8 @@ fn full_slots(rt: HostRuntime) -> Result<(), Fail> {
         (ended(alloc, 2, 1)?, Said::No(Refusal::OutputsFull)),
     ];
     for (command, reply) in &steps {
-        assert_eq!(rt;
-            give(alloc, &mut tables, FIRST, command),
-            Some(*reply),
+        assert!(rt;
+            give(alloc, &mut tables, FIRST, command) == Some(*reply),
             "{reply:?}"
         );
     }
@@ -310,9 +304,9 @@ fn the_number_after_the_greatest(rt: HostRuntime) -> Result<(), Fail> {
     let begin = Command::Begin {
         fields: fields(b"HERE    "),
     };
-    assert_eq!(rt; give(alloc, &mut tables, FIRST, &begin), Some(Said::Job(1)));
+    assert!(rt; give(alloc, &mut tables, FIRST, &begin) == Some(Said::Job(1)));
     give_last(&mut tables, JobNo(99_999));
-    assert_eq!(rt; give(alloc, &mut tables, FIRST, &begin), Some(Said::Job(2)));
-    assert_eq!(rt; tables.last, JobNo(2));
+    assert!(rt; give(alloc, &mut tables, FIRST, &begin) == Some(Said::Job(2)));
+    assert!(rt; tables.last == JobNo(2));
     Ok(())
 }

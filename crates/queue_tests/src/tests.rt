@@ -78,7 +78,7 @@ fn the_number_after_the_greatest_is_the_first_that_is_free(rt: HostRuntime) {
     let mut slots = [None, Some(job(1, 5, b'A', Phase::Convert, 7)), None];
     let new = fields(5, b'A');
     let number = add(&mut slots, JobNo(99_999), 8, &new, FIRST);
-    assert_eq!(rt; number, Ok(JobNo(2)));
+    assert!(rt; number == Ok(JobNo(2)));
     let expected = JobRec {
         number: JobNo(2),
         fields: new,
@@ -88,7 +88,7 @@ fn the_number_after_the_greatest_is_the_first_that_is_free(rt: HostRuntime) {
         cards: 0,
         order: 8,
     };
-    assert_eq!(rt; slots[0], Some(expected), "the lowest free slot");
+    assert!(rt; slots[0] == Some(expected), "the lowest free slot");
 }
 
 #[test]
@@ -103,9 +103,9 @@ fn converts_by_priority_and_then_by_order(rt: HostRuntime) {
         (held(raised), JobNo(1)),
     ] {
         let slots = [Some(second), None, Some(older)];
-        assert_eq!(rt; select_convert(&slots), Some(first));
+        assert!(rt; select_convert(&slots) == Some(first));
     }
-    assert_eq!(rt; select_convert(&[None, Some(held(older))]), None);
+    assert!(rt; select_convert(&[None, Some(held(older))]) == None);
 }
 
 #[test]
@@ -117,12 +117,12 @@ fn executes_by_class_first(rt: HostRuntime) -> Result<(), Fail> {
     ];
     let mut classes = List::new(rt.alloc());
     classes.push(Class(b'C'))?;
-    assert_eq!(rt; select_exec(&slots, &classes), None);
+    assert!(rt; select_exec(&slots, &classes) == None);
     classes.push(Class(b'A'))?;
     classes.push(Class(b'B'))?;
-    assert_eq!(rt; select_exec(&slots, &classes), Some(JobNo(2)));
-    assert_eq!(rt; first_in(&slots, Phase::Execute), Some(JobNo(1)));
-    assert_eq!(rt; first_in(&slots, Phase::Purge), None);
+    assert!(rt; select_exec(&slots, &classes) == Some(JobNo(2)));
+    assert!(rt; first_in(&slots, Phase::Execute) == Some(JobNo(1)));
+    assert!(rt; first_in(&slots, Phase::Purge) == None);
     Ok(())
 }
 
@@ -146,7 +146,7 @@ fn advances_or_refuses(rt: HostRuntime) {
         let mut slots = [None, Some(mine)];
         let before = slots;
         let result = advance(&mut slots, by, JobNo(number), from, Phase::Execute);
-        assert_eq!(rt; result, answer);
+        assert!(rt; result == answer);
         let moved = JobRec {
             phase: Phase::Execute,
             busy: NOBODY,
@@ -157,10 +157,10 @@ fn advances_or_refuses(rt: HostRuntime) {
         } else {
             before
         };
-        assert_eq!(rt; slots, after);
+        assert!(rt; slots == after);
     }
-    assert_eq!(rt; place_of(&[None, Some(mine)], JobNo(1)), Ok(1));
-    assert_eq!(rt; place_of(&[None, Some(mine)], JobNo(2)), Err(NoJob));
+    assert!(rt; place_of(&[None, Some(mine)], JobNo(1)) == Ok(1));
+    assert!(rt; place_of(&[None, Some(mine)], JobNo(2)) == Err(NoJob));
 }
 
 #[test]
@@ -184,24 +184,15 @@ fn a_printer_takes_by_class_then_priority(rt: HostRuntime) -> Result<(), Fail> {
         forms: STANDARD,
         lines: 10,
     };
-    assert_eq!(rt;
-        select(&outputs, &jobs, FIRST, &setting),
-        Some((JobNo(1), OutNo(1)))
-    );
+    assert!(rt; select(&outputs, &jobs, FIRST, &setting) == Some((JobNo(1), OutNo(1))));
     let mut other = List::new(rt.alloc());
     other.push(Class(b'A'))?;
     setting.prt = other;
-    assert_eq!(rt;
-        select(&outputs, &jobs, FIRST, &setting),
-        Some((JobNo(2), OutNo(1)))
-    );
+    assert!(rt; select(&outputs, &jobs, FIRST, &setting) == Some((JobNo(2), OutNo(1))));
     setting.forms = Name8(*b"WIDE    ");
-    assert_eq!(rt; select(&outputs, &jobs, FIRST, &setting), None);
-    assert_eq!(rt; output_queue::place_of(&outputs, JobNo(1), OutNo(2)), Ok(3));
-    assert_eq!(rt;
-        output_queue::place_of(&outputs, JobNo(2), OutNo(2)),
-        Err(NoOutput)
-    );
+    assert!(rt; select(&outputs, &jobs, FIRST, &setting) == None);
+    assert!(rt; output_queue::place_of(&outputs, JobNo(1), OutNo(2)) == Ok(3));
+    assert!(rt; output_queue::place_of(&outputs, JobNo(2), OutNo(2)) == Err(NoOutput));
     assert!(rt; has_output(&outputs, JobNo(3)) && !has_output(&outputs, JobNo(4)));
     Ok(())
 }
@@ -220,16 +211,16 @@ fn copies_follow_one_another(rt: HostRuntime) -> Result<(), Fail> {
         (3, b"JOB00001.01 00000003 HELLO".as_slice()),
     ] {
         let printed = print_line(rt.alloc(), JobNo(1), OutNo(1), line, &text)?;
-        assert_eq!(rt; printed.as_slice(), paper);
+        assert!(rt; printed.as_slice() == paper);
     }
     Ok(())
 }
 
 #[test]
 fn chunks_end_at_the_total(rt: HostRuntime) {
-    assert_eq!(rt; next_chunk(0, 25, 10), (1, 10));
-    assert_eq!(rt; next_chunk(20, 25, 10), (21, 25));
-    assert_eq!(rt; (backspace(10, 4), backspace(3, 4)), (6, 0));
-    assert_eq!(rt; (forward(6, 100, 25), forward(6, 1, 25)), (25, 7));
-    assert_eq!(rt; forward(4_294_967_295, 4_294_967_295, 7), 7);
+    assert!(rt; next_chunk(0, 25, 10) == (1, 10));
+    assert!(rt; next_chunk(20, 25, 10) == (21, 25));
+    assert!(rt; (backspace(10, 4), backspace(3, 4)) == (6, 0));
+    assert!(rt; (forward(6, 100, 25), forward(6, 1, 25)) == (25, 7));
+    assert!(rt; forward(4_294_967_295, 4_294_967_295, 7) == 7);
 }

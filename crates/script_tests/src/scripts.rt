@@ -326,9 +326,9 @@ fn assert_step(
     }
     let step = script.steps.item(at);
     let (found, n) = summary(&step.what);
-    assert_eq!(rt; step.by.0, by);
-    assert_eq!(rt; found, word);
-    assert_eq!(rt; n, number);
+    assert!(rt; step.by.0 == by);
+    assert!(rt; found == word);
+    assert!(rt; n == number);
 }
 
 #[test]
@@ -336,7 +336,7 @@ fn reads_steps(rt: HostRuntime) -> Result<(), Fail> {
     let text =
         b"SYSA WORK 0040\nSYSH LOCK \r\n  \n\nSYSB FREE\nSYSC LINE 8\nSYSA REPLACE CKPT2\nSYSA $HJ7\nSTOP SYSB\nSTOP SYSA IN 999999\nSTOP SYSA PRINT 1\nLOSE CKPT1\nLOSE SPOOL08";
     let script = read(rt.alloc(), Mode::Cold, text)?;
-    assert_eq!(rt; script.steps.len(), 11);
+    assert!(rt; script.steps.len() == 11);
     for (at, by, word, number) in [
         (0, 1, b"WORK".as_slice(), 40),
         (1, 8, b"LOCK".as_slice(), 0),
@@ -381,10 +381,10 @@ fn assert_deck(rt: &impl std::process::Abort, step: &Step, want: &[&[u8]]) {
         assert!(rt; false);
         return;
     };
-    assert_eq!(rt; cards.len(), want.len());
+    assert!(rt; cards.len() == want.len());
     for (at, card) in want.iter().enumerate() {
         if at < cards.len() {
-            assert_eq!(rt; cards.line(at), *card);
+            assert!(rt; cards.line(at) == *card);
         }
     }
 }
@@ -398,14 +398,14 @@ fn reads_configurations(rt: HostRuntime) -> Result<(), Fail> {
     assert!(rt; config.members == 8 && config.jobs == 32 && config.outputs == 64);
     assert!(rt; config.volumes == 8 && config.groups == 4096);
     assert!(rt; config.hold == 9999 && config.dormancy == 0 && config.node == Name8(*b"@A      "));
-    assert_eq!(rt; script.routes.len(), 2);
+    assert!(rt; script.routes.len() == 2);
     for route in script.routes.as_slice() {
         let known = if route.name == Name8(*b"B       ") {
             1
         } else {
             8
         };
-        assert_eq!(rt; route.line, known);
+        assert!(rt; route.line == known);
     }
     let script = read(rt.alloc(), Mode::Warm, b"")?;
     assert!(rt;
