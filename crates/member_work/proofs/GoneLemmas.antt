@@ -1,0 +1,322 @@
+-- A text is gone only where it was when the run began.
+use Rattle.std.proofs.Common.{◌≡◌, ℕ, ◌+◌, ◌<◌, ◌≤◌, ◌==◌, nat_le, not, ◌&&◌, ◌||◌, if◌then◌else◌, Bool, true, false, List, [], ◌∷◌, ◌++◌, map, length, Option, Some, None, All, refl, sym, ◌∙◌, ap, subst, arith}
+use Rattle.std.specs.List.{list_any, find}
+use Rattle.std.specs.Option.{option_map_or}
+use Rattle.std.specs.Coded.{Coded, Coded-set, coded_ℕ, coded_option, code_by}
+use Rattle.std.proofs.Math.Logic.{∥∥₁_elim}
+use Rattle.std.proofs.lemmas.Bool.Decides.{nat_tests}
+use Rattle.std.proofs.lemmas.List.Elements.{All-nil, All-cons, All-weaker, All-push, All-map}
+use Rattle.mas_types.specs.declared.ids.GroupNo.{GroupNo}
+use Rattle.mas_types.specs.declared.ids.JobNo.{JobNo}
+use Rattle.mas_types.specs.declared.ids.MemberId.{MemberId}
+use Rattle.mas_types.specs.declared.jobs.Job.{Job}
+use Rattle.mas_types.specs.declared.jobs.JobFields.{JobFields}
+use Rattle.mas_types.specs.declared.jobs.Phase.TheVariants as phase
+use Rattle.mas_types.specs.declared.jobs.Text.TheVariants.{Whole}
+use Rattle.mas_types.specs.declared.journals.Batch.{Batch}
+use Rattle.mas_types.specs.declared.journals.Entry.{Entry}
+use Rattle.mas_types.specs.declared.commands.Command.{Command}
+use Rattle.mas_types.specs.declared.commands.Command.TheVariants as command
+use Rattle.mas_types.specs.declared.commands.Refusal.{Refusal}
+use Rattle.mas_types.specs.declared.commands.Refusal.TheVariants as refusal
+use Rattle.mas_types.specs.declared.commands.Reply.{Reply}
+use Rattle.mas_types.specs.declared.commands.Reply.TheVariants as reply
+use Rattle.mas_types.specs.declared.queues.Queue.{Queue}
+use Rattle.mas_types.specs.Fit.{AreDistinct, IsConfig}
+use Rattle.mas_types.specs.Ids.{is_somebody, nobody, same_member, same_number}
+use Rattle.mas_types.specs.Limits.{jobs_most}
+use Rattle.mas_types.specs.Journal.{is_kept}
+use Rattle.mas_types.specs.Lists.{change_first, first_some, without_first}
+use Rattle.mas_types.specs.Number.{next_number}
+use Rattle.mas_types.specs.Queue.{has_number, has_output, in_hardcopy, in_output, in_purge, is_current_on, is_in, is_member, job_at, knows_node}
+use Rattle.mas_types.specs.Reset.{reset_job}
+use Rattle.mas_types.specs.Row.{refused_where}
+use Rattle.mas_types.specs.Selection.{is_for_convert, is_for_execute}
+use Rattle.mas_types.specs.Step.{row_of, step}
+use Rattle.mas_types.specs.Commands.Input.{begin_row, drop_row, new_job, phase_entered}
+use Rattle.mas_types.specs.Commands.Life.{converted, ended, gathered, made_busy}
+use Rattle.mas_types.specs.Commands.Operator.{cancel_row, cancelled, is_busy, with_class, with_held, with_prio}
+use Rattle.mas_types.specs.Commands.Printing.{outputs_over, output_removed}
+use Rattle.mas_complex.specs.Journals.{in_flight, kept_all}
+use Rattle.mas_complex.specs.Meaning.{run}
+use Rattle.mas_complex.specs.Replies.{AreReplied, HaveReplies, after_batch}
+use Rattle.mas_complex.proofs.Replied.{replied_front}
+use Rattle.queue_laws.proofs.Configuration.{keeps_configuration}
+use Rattle.queue_laws.proofs.Done.{done-effect, done-refused, where_not}
+use Rattle.queue_laws.proofs.Finds.{any_none, find-All, test_cases}
+use Rattle.queue_laws.proofs.Freed.{AreDistinct-map}
+use Rattle.queue_laws.proofs.NewNumber.{next_number_free}
+use Rattle.queue_laws.proofs.Others.{found_itself, second_none}
+use Rattle.queue_laws.proofs.SoundBegin.{AreDistinct-push}
+use Rattle.queue_laws.proofs.SoundRemove.{All-without_first, AreDistinct-without_first}
+use Rattle.queue_laws.proofs.Soundness.{All-change, AreDistinct-change}
+use Rattle.member_work.specs.Gone.{brings_job, gone_in, gone_since, gone_with, is_brought}
+
+-- BATCHES
+
+or_parts : (a b c : Bool) → (a || (b || c)) ≡ ((a || b) || c)
+or_parts true b c = refl
+or_parts false b c = refl
+
+any_append : (n : JobNo) (es fs : List Entry) → is_brought n (es ++ fs) ≡ (is_brought n es || is_brought n fs)
+any_append n [] fs = refl
+any_append n (e ∷ es) fs = ap (λ (b : Bool). brings_job n e.command e.reply || b) (any_append n es fs) ∙ or_parts (brings_job n e.command e.reply) (is_brought n es) (is_brought n fs)
+
+-- a job is brought in the kept entries where it is by a kept batch
+pub brought_in : (n : JobNo) (bs : List Batch) → list_any (λ b. is_kept b.fate && is_brought n b.entries) bs ≡ is_brought n (kept_all bs)
+brought_in n [] = refl
+brought_in n (b ∷ bs) =
+    test_cases (is_kept b.fate) (list_any (λ b. is_kept b.fate && is_brought n b.entries) (b ∷ bs) ≡ is_brought n (kept_all (b ∷ bs)))
+    (λ e. rw e (ap (λ (x : Bool). is_brought n b.entries || x) (brought_in n bs) ∙ sym (any_append n b.entries (kept_all bs))))
+    (λ e. rw e (brought_in n bs))
+
+replies_append : (Q : Queue) (es fs : List Entry) → HaveReplies Q es → HaveReplies (run Q es) fs → HaveReplies Q (es ++ fs)
+replies_append Q [] fs one two = two
+replies_append Q (e ∷ es) fs one two = (one.0, replies_append (step Q e.by e.command).0 es fs one.1 two)
+
+kept_have : (Q : Queue) (bs : List Batch) → AreReplied Q bs → HaveReplies Q (kept_all bs)
+kept_have Q [] are = tt
+kept_have Q (b ∷ bs) are = by_fate (is_kept b.fate) (kept_have (after_batch Q b) bs are.1) where
+  by_fate : (c : Bool) → HaveReplies (if c then run Q b.entries else Q) (kept_all bs) → HaveReplies Q ((if c then b.entries else []) ++ kept_all bs)
+  by_fate true rest = replies_append Q b.entries (kept_all bs) are.0 rest
+  by_fate false rest = rest
+
+-- A JOB'S TEXT
+
+abbrev same : Job → Job → Bool
+same a b = same_number a.number b.number
+
+-- a change of a job that keeps its number and its text
+record IsMild (f : Job → Job) : Type 0 where
+  pub number : (j : Job) → (f j).number ≡ j.number
+  pub text : (j : Job) → (f j).text ≡ j.text
+
+-- a change that keeps the number, and brings lines
+record IsEntering (f : Job → Job) : Type 0 where
+  pub number : (j : Job) → (f j).number ≡ j.number
+  pub whole : (j : Job) → gone_with (f j).text ≡ None
+
+mild_purged : (a : Bool) (j k : Job) → k.number ≡ j.number → k.text ≡ j.text → ((if a then k else j).number ≡ j.number) × ((if a then k else j).text ≡ j.text)
+mild_purged true j k number text = (number, text)
+mild_purged false j k number text = (refl, refl)
+
+over_mild : (R : Queue) → IsMild (outputs_over R)
+over_mild R = record {
+  number = λ j. (mild_purged (in_hardcopy j.phase && not (has_output j.number R)) j (record j { phase = phase.Purge }) refl refl).0;
+  text = λ j. (mild_purged (in_hardcopy j.phase && not (has_output j.number R)) j (record j { phase = phase.Purge }) refl refl).1;
+}
+
+reset_mild : (picks : MemberId → Bool) → IsMild (λ j. if picks j.busy then reset_job j else j)
+reset_mild picks = record {
+  number = λ j. (mild_purged (picks j.busy) j (reset_job j) refl refl).0;
+  text = λ j. (mild_purged (picks j.busy) j (reset_job j) refl refl).1;
+}
+
+cancelled_as : (a : Bool) (j : Job) → ((if a then record j { cancelled = true } else record j { phase = phase.Purge }).number ≡ j.number) × ((if a then record j { cancelled = true } else record j { phase = phase.Purge }).text ≡ j.text)
+cancelled_as true j = (refl, refl)
+cancelled_as false j = (refl, refl)
+
+cancelled_mild : IsMild cancelled
+cancelled_mild = record { number = λ j. (cancelled_as (is_somebody j.busy) j).0; text = λ j. (cancelled_as (is_somebody j.busy) j).1 }
+
+module _ (n : JobNo) where
+  -- the text of a job of this number is gone with this group
+  abbrev Is : Option GroupNo → Job → Type 0
+  Is g j = has_number n j ≡ true → gone_with j.text ≡ g
+
+  -- numbers are different, and so it is of each job
+  record Are (g : Option GroupNo) (js : List Job) : Type 0 where
+    pub numbers : AreDistinct same js
+    pub texts : All (Is g) js
+
+  is_mild : (f : Job → Job) → IsMild f → (g : Option GroupNo) (j : Job) → Is g j → Is g (f j)
+  is_mild f mild g j is at_n = ap gone_with (mild.text j) ∙ is (ap (λ (k : JobNo). same_number k n) (sym (mild.number j)) ∙ at_n)
+
+  changed : (f : Job → Job) (p : Job → Bool) (g : Option GroupNo) (js : List Job) → IsMild f → Are g js → Are g (change_first p f js)
+  changed f p g js mild are = record {
+    numbers = AreDistinct-change p f same (λ x y. ap (λ (k : JobNo). same_number k y.number) (mild.number x)) (λ x y. ap (λ (k : JobNo). same_number x.number k) (mild.number y)) js are.numbers;
+    texts = All-change p f (Is g) js are.texts (λ j found is. is_mild f mild g j is);
+  }
+
+  mapped : (f : Job → Job) (g : Option GroupNo) (js : List Job) → IsMild f → Are g js → Are g (map f js)
+  mapped f g js mild are = record {
+    numbers = AreDistinct-map f same (λ x y apart. ap (λ (k : JobNo). same_number k (f y).number) (mild.number x) ∙ ap (λ (k : JobNo). same_number x.number k) (mild.number y) ∙ apart) js are.numbers;
+    texts = All-map (Is g) f js (All-weaker (Is g) (λ j. Is g (f j)) (is_mild f mild g) js are.texts);
+  }
+
+  without_one : (p : Job → Bool) (g : Option GroupNo) (js : List Job) → Are g js → Are g (without_first p js)
+  without_one p g js are = record { numbers = AreDistinct-without_first p same js are.numbers; texts = All-without_first p (Is g) js are.texts }
+
+  -- BEGIN
+
+  apart_of : (j k : Job) → same j k ≡ false → has_number n k ≡ true → has_number n j ≡ true → ⊥
+  apart_of j k apart here there = absurd (grind (arith, nat_tests))
+
+  begun_at : (g : Option GroupNo) (js : List Job) (x : Job) → x.text ≡ Whole [] → list_any (λ j. same j x) js ≡ false → Are g js → Are (if has_number n x then None else g) (js ++ x ∷ [])
+  begun_at g js x blank new are = record {
+    numbers = AreDistinct-push same js x are.numbers new;
+    texts = test_cases (has_number n x) (All (Is (if has_number n x then None else g)) (js ++ x ∷ []))
+        (λ e. rw e (All-push (Is None) js x (All-weaker (λ j. same j x ≡ false) (Is None) (λ j apart at_n. absurd (apart_of j x apart e at_n)) js (any_none (λ j. same j x) js new)) (λ at_n. ap gone_with blank)))
+        (λ e. rw e (All-push (Is g) js x are.texts (λ at_n. absurd (cc))));
+  }
+
+  -- ENTER
+
+  clash : (k : JobNo) (j x : Job) → same_number k n ≡ true → has_number k j ≡ true → same j x ≡ false → has_number n x ≡ true → ⊥
+  clash k j x here e apart at_n = absurd (grind (arith, nat_tests))
+
+  other : (k : JobNo) (j : Job) → same_number k n ≡ true → has_number k j ≡ false → has_number n j ≡ true → ⊥
+  other k j here e at_n = absurd (grind (arith, nat_tests))
+
+  another : (k : JobNo) (j : Job) → same_number k n ≡ false → has_number k j ≡ true → has_number n j ≡ true → ⊥
+  another k j e here at_n = absurd (grind (arith, nat_tests))
+
+  at_number : (f : Job → Job) → IsEntering f → (k : JobNo) → same_number k n ≡ true → (js : List Job) → AreDistinct same js → All (Is None) (change_first (has_number k) f js)
+  at_number f enters k here [] distinct = All-nil (Is None)
+  at_number f enters k here (j ∷ js) distinct =
+      test_cases (has_number k j) (All (Is None) (change_first (has_number k) f (j ∷ js)))
+      (λ e. rw e (All-cons (Is None) (f j) js (λ at_n. enters.whole j)
+      (All-weaker (λ x. same j x ≡ false) (Is None) (λ x apart at_n. absurd (clash k j x here e apart at_n)) js (any_none (same j) js distinct.0))))
+      (λ e. rw e (All-cons (Is None) j (change_first (has_number k) f js) (λ at_n. absurd (other k j here e at_n)) (at_number f enters k here js distinct.1)))
+
+  entered_at : (f : Job → Job) → IsEntering f → (g : Option GroupNo) (k : JobNo) (js : List Job) → Are g js → Are (if same_number k n then None else g) (change_first (has_number k) f js)
+  entered_at f enters g k js are = record {
+    numbers = AreDistinct-change (has_number k) f same (λ x y. ap (λ (l : JobNo). same_number l y.number) (enters.number x)) (λ x y. ap (λ (l : JobNo). same_number x.number l) (enters.number y)) js are.numbers;
+    texts = test_cases (same_number k n) (All (Is (if same_number k n then None else g)) (change_first (has_number k) f js))
+        (λ e. rw e (at_number f enters k e js are.numbers))
+        (λ e. rw e (All-change (has_number k) f (Is g) js are.texts
+        (λ j found is at_n. absurd (another k j e (find-All (Is g) (has_number k) js j are.texts found).1 (ap (λ (l : JobNo). same_number l n) (sym (enters.number j)) ∙ at_n)))));
+  }
+
+  -- COMMANDS
+
+  begun_row : (g : Option GroupNo) (Q : Queue) (m : MemberId) (fields : JobFields) → IsConfig Q.config → first_some (begin_row Q m fields).refusals ≡ None → Are g Q.jobs
+      → Are (if same_number (next_number Q.jobs Q.last) n then None else g) (begin_row Q m fields).effect.jobs
+  begun_row g Q m fields config none are =
+      let room : nat_le Q.config.jobs (length Q.jobs) ≡ false = where_not (nat_le Q.config.jobs (length Q.jobs)) refusal.JobsFull (second_none (refused_where (not (knows_node Q fields.node)) refusal.NoNode) (refused_where (nat_le Q.config.jobs (length Q.jobs)) refusal.JobsFull) [] none) in
+      begun_at g Q.jobs (new_job m (next_number Q.jobs Q.last) fields) refl (next_number_free Q.jobs Q.last (few Q.config.jobs (length Q.jobs) room config.jobs.1)) are
+    where
+      few : (a b : ℕ) → nat_le a b ≡ false → a ≤ jobs_most → b < 99999
+      few a b room most = grind (arith, nat_tests)
+
+  effect_are : (g : Option GroupNo) (Q : Queue) (m : MemberId) (c : Command) → IsConfig Q.config → first_some (row_of Q m c).refusals ≡ None → Are g Q.jobs
+      → Are (if brings_job n c (row_of Q m c).answer then None else g) (row_of Q m c).effect.jobs
+  effect_are g Q m (command.Begin fields) config none are = begun_row g Q m fields config none are
+  effect_are g Q m (command.Take want) config none are = are
+  effect_are g Q m (command.Drop job) config none are = test_cases (job.0 == 0) (Are g (drop_row Q m job).effect.jobs) (λ e. rw e are) (λ e. rw e (without_one (has_number job) g Q.jobs are))
+  effect_are g Q m (command.Enter job text) config none are = entered_at (λ j. record j { text = Whole text; busy = nobody; phase = phase_entered Q.config.node j }) (record { number = λ j. refl; whole = λ j. refl }) g job Q.jobs are
+  effect_are g Q m command.TakeConvert config none are = changed (made_busy m) (is_for_convert Q) g Q.jobs (record { number = λ j. refl; text = λ j. refl }) are
+  effect_are g Q m (command.Converted job) config none are = changed converted (has_number job) g Q.jobs (record { number = λ j. refl; text = λ j. refl }) are
+  effect_are g Q m command.TakeExec config none are = changed (made_busy m) (is_for_execute Q m) g Q.jobs (record { number = λ j. refl; text = λ j. refl }) are
+  effect_are g Q m (command.Ended job specs) config none are = changed ended (has_number job) g Q.jobs (record { number = λ j. refl; text = λ j. refl }) are
+  effect_are g Q m command.Gather config none are = changed (gathered Q) (is_in in_output) g Q.jobs (record { number = λ j. refl; text = λ j. refl }) are
+  effect_are g Q m command.Pick config none are = are
+  effect_are g Q m (command.Mark job index at) config none are = are
+  effect_are g Q m (command.Done job index) config none are = let R = output_removed job index Q in changed (outputs_over R) (has_number job) g Q.jobs (over_mild R) are
+  effect_are g Q m command.Purge config none are = without_one (is_in in_purge) g Q.jobs are
+  effect_are g Q m (command.Hold job) config none are = changed (with_held true) (has_number job) g Q.jobs (record { number = λ j. refl; text = λ j. refl }) are
+  effect_are g Q m (command.Release job) config none are = changed (with_held false) (has_number job) g Q.jobs (record { number = λ j. refl; text = λ j. refl }) are
+  effect_are g Q m (command.Cancel job) config none are =
+      test_cases (is_busy (job_at Q job)) (Are g (cancel_row Q m job).effect.jobs) (λ e. rw e (changed cancelled (has_number job) g Q.jobs cancelled_mild are)) (λ e. rw e (changed cancelled (has_number job) g Q.jobs cancelled_mild are))
+  effect_are g Q m (command.SetPrio job prio) config none are = changed (with_prio prio) (has_number job) g Q.jobs (record { number = λ j. refl; text = λ j. refl }) are
+  effect_are g Q m (command.SetClass job class) config none are = changed (with_class class) (has_number job) g Q.jobs (record { number = λ j. refl; text = λ j. refl }) are
+  effect_are g Q m (command.Out job) config none are = are
+  effect_are g Q m (command.CancelOut job index) config none are = let R = output_removed job index Q in changed (outputs_over R) (has_number job) g Q.jobs (over_mild R) are
+  effect_are g Q m (command.SetOut job index class) config none are = are
+  effect_are g Q m (command.Show what) config none are = are
+  effect_are g Q m (command.SetInit classes) config none are = are
+  effect_are g Q m (command.SetPrt classes forms lines) config none are = are
+  effect_are g Q m (command.Back lines) config none are = are
+  effect_are g Q m (command.Forward lines) config none are = are
+  effect_are g Q m (command.Reset of_member) config none are = let picks = λ (h : MemberId). same_member h of_member in mapped (λ j. if picks j.busy then reset_job j else j) g Q.jobs (reset_mild picks) are
+  effect_are g Q m command.Restart config none are = let picks = is_member Q.config in mapped (λ j. if picks j.busy then reset_job j else j) g Q.jobs (reset_mild picks) are
+  effect_are g Q m (command.Load line) config none are = are
+  effect_are g Q m (command.Sent line number) config none are = changed (λ j. record j { phase = phase.Purge }) (is_current_on Q line) g Q.jobs (record { number = λ j. refl; text = λ j. refl }) are
+  effect_are g Q m (command.Got line number job text) config none are = entered_at (λ j. record j { text = Whole text; busy = nobody; phase = phase_entered Q.config.node j }) (record { number = λ j. refl; whole = λ j. refl }) g job Q.jobs are
+
+  -- a refused command brings no job
+  refused_brings : (c : Command) (why : Refusal) → brings_job n c (reply.No why) ≡ false
+  refused_brings (command.Begin fields) why = refl
+  refused_brings (command.Enter job text) why = refl
+  refused_brings (command.Got line number job text) why = refl
+  refused_brings (command.Take want) why = refl
+  refused_brings (command.Drop job) why = refl
+  refused_brings command.TakeConvert why = refl
+  refused_brings (command.Converted job) why = refl
+  refused_brings command.TakeExec why = refl
+  refused_brings (command.Ended job specs) why = refl
+  refused_brings command.Gather why = refl
+  refused_brings command.Pick why = refl
+  refused_brings (command.Mark job index at) why = refl
+  refused_brings (command.Done job index) why = refl
+  refused_brings command.Purge why = refl
+  refused_brings (command.Hold job) why = refl
+  refused_brings (command.Release job) why = refl
+  refused_brings (command.Cancel job) why = refl
+  refused_brings (command.SetPrio job prio) why = refl
+  refused_brings (command.SetClass job class) why = refl
+  refused_brings (command.Out job) why = refl
+  refused_brings (command.CancelOut job index) why = refl
+  refused_brings (command.SetOut job index class) why = refl
+  refused_brings (command.Show what) why = refl
+  refused_brings (command.SetInit classes) why = refl
+  refused_brings (command.SetPrt classes forms lines) why = refl
+  refused_brings (command.Back lines) why = refl
+  refused_brings (command.Forward lines) why = refl
+  refused_brings (command.Reset of_member) why = refl
+  refused_brings command.Restart why = refl
+  refused_brings (command.Load line) why = refl
+  refused_brings (command.Sent line number) why = refl
+
+  abbrev After : Option GroupNo → Command → Queue × Reply → Type 0
+  After g c left = Are (if brings_job n c left.1 then None else g) left.0.jobs
+
+  step_are : (g : Option GroupNo) (Q : Queue) (m : MemberId) (c : Command) → IsConfig Q.config → Are g Q.jobs → After g c (step Q m c)
+  step_are g Q m c config are = by_refusal (first_some (row_of Q m c).refusals) refl where
+    by_refusal : (o : Option Refusal) → first_some (row_of Q m c).refusals ≡ o → After g c (step Q m c)
+    by_refusal None e = subst (After g c) (sym (done-effect Q (row_of Q m c) e)) (effect_are g Q m c config e are)
+    by_refusal (Some why) e = subst (After g c) (sym (done-refused Q (row_of Q m c) why e)) (subst (λ (b : Bool). Are (if b then None else g) Q.jobs) (sym (refused_brings c why)) are)
+
+  either : (a b : Bool) (g : Option GroupNo) (js : List Job) → Are (if b then None else (if a then None else g)) js → Are (if a || b then None else g) js
+  either true true g js are = are
+  either true false g js are = are
+  either false b g js are = are
+
+  run_are : (g : Option GroupNo) (Q : Queue) (es : List Entry) → HaveReplies Q es → IsConfig Q.config → Are g Q.jobs → Are (if is_brought n es then None else g) (run Q es).jobs
+  run_are g Q [] have config are = are
+  run_are g Q (e ∷ es) have config are =
+      let R : Queue = (step Q e.by e.command).0 in
+      let b : Bool = brings_job n e.command e.reply in
+      let here : Are (if b then None else g) R.jobs = subst (λ (answer : Reply). Are (if brings_job n e.command answer then None else g) R.jobs) (sym have.0) (step_are g Q e.by e.command config are) in
+      either b (is_brought n es) g (run R es).jobs (run_are (if b then None else g) R es have.1 (subst IsConfig (sym (keeps_configuration Q e.by e.command).config) config) here)
+
+  -- each job of that number in the queue with which the run began is the one that is found
+  at_first : (Q : Queue) → AreDistinct same Q.jobs → Are (gone_in Q n) Q.jobs
+  at_first Q distinct = record {
+    numbers = distinct;
+    texts = All-weaker (λ j. find (has_number j.number) Q.jobs ≡ Some j) (Is (gone_in Q n)) (λ j found at_n. sym (ap (λ (o : Option Job). option_map_or (λ (k : Job). gone_with k.text) o None) (by_number j found at_n))) Q.jobs (found_itself Q.jobs distinct);
+  } where
+    numbered : (j : Job) → has_number n j ≡ true → n ≡ j.number
+    numbered j at_n = ap (λ (k : ℕ). record { 0 = k }) (equal j at_n) where
+      equal : (j : Job) → has_number n j ≡ true → n.0 ≡ j.number.0
+      equal j at_n = grind (arith, nat_tests)
+
+    by_number : (j : Job) → find (has_number j.number) Q.jobs ≡ Some j → has_number n j ≡ true → job_at Q n ≡ Some j
+    by_number j found at_n = subst (λ (k : JobNo). find (has_number k) Q.jobs ≡ Some j) (sym (numbered j at_n)) found
+
+  gone_as : (Q : Queue) (es : List Entry) → HaveReplies Q es → IsConfig Q.config → AreDistinct same Q.jobs → (j : Job) → job_at (run Q es) n ≡ Some j → gone_since Q es n ≡ gone_with j.text
+  gone_as Q es have config distinct j found =
+      let are = run_are (gone_in Q n) Q es have config (at_first Q distinct) in
+      let here = find-All (Is (gone_since Q es n)) (has_number n) (run Q es).jobs j are.texts found in
+      sym (here.0 here.1)
+
+abbrev coded_group : Coded GroupNo
+coded_group = code_by ℕ coded_ℕ (λ g. g.0) (λ n. record { 0 = n }) (λ _. refl)
+
+pub gone_deck_is : (n : JobNo) (Q : Queue) (bs : List Batch) (current : Option Batch) → ∥ AreReplied Q (bs ++ in_flight current) ∥₁ → IsConfig Q.config → AreDistinct (λ a b. same_number a.number b.number) Q.jobs
+    → (j : Job) → job_at (run Q (kept_all bs)) n ≡ Some j → gone_since Q (kept_all bs) n ≡ gone_with j.text
+gone_deck_is n Q bs current some config distinct j found =
+    ∥∥₁_elim some (Coded-set (coded_option coded_group) _ _) (λ are. gone_as n Q (kept_all bs) (kept_have Q bs (replied_front Q bs (in_flight current) are)) config distinct j found)
+
+pub since_when : (n : JobNo) (Q : Queue) (bs slice : List Batch) (b : Bool) → slice ≡ bs → b ≡ list_any (λ b. is_kept b.fate && is_brought n b.entries) slice → gone_since Q (kept_all bs) n ≡ (if b then None else gone_in Q n)
+since_when n Q bs slice b at is = ap (λ (x : Bool). if x then None else gone_in Q n) (sym (is ∙ ap (λ (l : List Batch). list_any (λ b. is_kept b.fate && is_brought n b.entries) l) at ∙ brought_in n bs))

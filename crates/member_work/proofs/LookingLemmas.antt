@@ -1,0 +1,144 @@
+-- Looking at a job's text.
+use Rattle.std.proofs.Common.{◌≡◌, ◌==◌, ℕ, zero, suc, ◌+◌, ◌*◌, ◌≤◌, ◌<◌, Bool, true, List, [], ◌∷◌, length, All, slice_get, Some, refl, sym, ap, subst, ◌∙◌, arith}
+use Rattle.std.proofs.Math.Logic.{∥∥₁_elim}
+use Rattle.std.specs.Prelude.{find}
+use Rattle.std.specs.Coded.{Coded, Coded-set, coded_list, coded_ℕ, coded×, code_by}
+use Rattle.std.proofs.lemmas.Bool.{eq-eqb}
+use Rattle.std.proofs.lemmas.Bool.Decides.{nat_tests}
+use Rattle.std.proofs.lemmas.List.Elements.{All-nil, All-cons}
+use Rattle.std.proofs.lemmas.List.Sorted.{All-permutation}
+use Rattle.mas_types.specs.declared.ids.GroupNo.{GroupNo}
+use Rattle.mas_types.specs.declared.ids.JobNo.{JobNo}
+use Rattle.mas_types.specs.declared.ids.MemberId.{MemberId}
+use Rattle.mas_types.specs.declared.jobs.Job.{Job}
+use Rattle.mas_types.specs.declared.jobs.Text.{Text}
+use Rattle.mas_types.specs.declared.queues.Config.{Config}
+use Rattle.mas_types.specs.declared.queues.Owner.{Owner}
+use Rattle.mas_types.specs.declared.queues.Queue.{Queue}
+use Rattle.mas_types.specs.declared.queues.Thing.{Thing}
+use Rattle.mas_types.specs.declared.queues.Thing.TheVariants.{Deck}
+use Rattle.mas_types.specs.Ids.{same_number}
+use Rattle.mas_types.specs.Queue.{has_number, job_at, line_count}
+use Rattle.queue_laws.proofs.Finds.{find-All, test_cases}
+use Rattle.lay_bytes.specs.declared.records.JobRec.{JobRec}
+use Rattle.lay_bytes.specs.Slots.{IfUsed, IsJobRec}
+use Rattle.ckpt_pages.specs.declared.tables.Tables.{Tables}
+use Rattle.ckpt_pages.specs.Shape.{HasSpelling}
+use Rattle.job_queue.specs.Jobs.{AreJobs, HasJob}
+use Rattle.lock_cycle.specs.Books.{Book, IsMember, after_free, is_holder}
+use Rattle.spool_disk.specs.View.{View}
+use Rattle.table_queues.specs.Telling.{Tell}
+use Rattle.track_groups.specs.Groups.{groups_where, is_things}
+use Rattle.track_groups.specs.Laws.{AreItsOwn}
+use Rattle.track_groups.specs.Places.{groups_of}
+use Rattle.mas_complex.specs.Spool.{IsGroupOf}
+use Rattle.mas_complex.specs.Texts.{HasTexts, IsThereUnless, lost_now, spools_at}
+use Rattle.member_decks.specs.Spooling.{AreRoomy}
+use Rattle.member_decks.proofs.PageLemmas.{all_at}
+use Rattle.work_units.specs.declared.outcomes.Read.{Read}
+use Rattle.work_units.specs.declared.outcomes.Read.TheVariants as read
+use Rattle.member_work.specs.Reading.{IsFailedRead, IsReadOf}
+use Rattle.member_work.specs.Rounds.{HasFailed, IsReadAs, IsWhole}
+use Rattle.member_work.specs.Steps.{IsTold}
+
+-- THE LOCK IN BETWEEN
+
+pub freed_member : (b : Book) (m : MemberId) → b.holder ≡ m → IsMember b m → IsMember (after_free b m true) m
+freed_member b m holds member =
+    let holder : is_holder b m ≡ true = subst (λ (h : MemberId). (h.0 == m.0) ≡ true) (sym holds) (eq-eqb m.0 m.0 refl) in
+    rw holder member
+
+-- THE GROUPS OF A TEXT are of the configuration
+
+where_below : (test : Owner → Bool) (most at : ℕ) (gs : List Owner) → at + length gs ≤ most → All (λ g. g.0 < most) (groups_where test at gs)
+where_below test most at [] few = All-nil (λ g. g.0 < most)
+where_below test most at (o ∷ gs) few =
+    test_cases (test o) (All (λ g. g.0 < most) (groups_where test at (o ∷ gs)))
+    (λ e. rw e (All-cons (λ (g : GroupNo). g.0 < most) (record { 0 = at }) (groups_where test (at + 1) gs) (omega arith) (where_below test most (at + 1) gs (omega arith))))
+    (λ e. rw e (where_below test most (at + 1) gs (omega arith)))
+
+pub groups_within : AreItsOwn → (t : Thing) (gs : List Owner) (config : Config) → length gs ≡ config.volumes * config.groups → All (IsGroupOf config) (groups_of t gs)
+groups_within own t gs config long =
+    All-permutation (IsGroupOf config) (groups_where (is_things t) 0 gs) (groups_of t gs) (own t gs)
+    (subst (λ (most : ℕ). All (λ g. g.0 < most) (groups_where (is_things t) 0 gs)) long (where_below (is_things t) (length gs) 0 gs (omega arith)))
+
+-- THE RECORD OF A JOB
+
+pub same_numbers : (a b : JobNo) → same_number a b ≡ true → a ≡ b
+same_numbers a b e = let same : a.0 ≡ b.0 = grind (arith, nat_tests) in ap (λ (v : ℕ). record { 0 = v }) same
+
+pub number_of : (n : JobNo) (x : Job) (js : List Job) → find (has_number n) js ≡ Some x → x.number ≡ n
+number_of n x js e = same_numbers x.number n (find-All (λ (y : Job). Unit {0}) (has_number n) js x (λ k d lt. tt) e).1
+
+pub told_job : (t : Tables) (n : JobNo) (at : ℕ) (r : JobRec) → HasSpelling t → ((js : List Job) → AreJobs t.jobs js → HasJob (has_number n) t.jobs js at r) → slice_get t.jobs at ≡ Some (Some r) → IsTold t r
+told_job t n at r spelled some here = record {
+  fields = record { name = rec.name; class = rec.class; msgclass = rec.msgclass; prio = rec.prio; dest = rec.dest; node = rec.node; origin = rec.origin };
+  few = rec.cards;
+  same = λ Q j told found. alike Q j (some Q.jobs told.jobs) found;
+} where
+  rec : IsJobRec r
+  rec = all_at (IfUsed IsJobRec) t.jobs at (Some r) spelled.jobs here
+
+  alike : (Q : Queue) (j : Job) → HasJob (has_number n) t.jobs Q.jobs at r → job_at Q r.number ≡ Some j → (j.number ≡ r.number) × (j.fields ≡ r.fields) × (line_count j.text ≡ r.cards)
+  alike Q j has found =
+      let number : has.item.number ≡ r.number = ap (λ (x : JobRec). x.number) has.is in
+      let item : find (has_number n) Q.jobs ≡ Some has.item = has.found in
+      let its : has.item.number ≡ n = number_of n has.item Q.jobs item in
+      let same : j ≡ has.item = one (sym found ∙ ap (λ (k : JobNo). job_at Q k) (sym number ∙ its) ∙ item) in (
+        ap (λ (x : Job). x.number) same ∙ number,
+        ap (λ (x : Job). x.fields) same ∙ ap (λ (x : JobRec). x.fields) has.is,
+        ap (λ (x : Job). line_count x.text) same ∙ ap (λ (x : JobRec). x.cards) has.is,
+      )
+    where
+      one : Some j ≡ Some has.item → j ≡ has.item
+      one e = cc
+
+-- WHAT WAS READ
+
+abbrev read_code : Read → ℕ × (List (List ℕ) × ℕ)
+read_code (read.Lines lines) = (0, (lines, 0))
+read_code (read.Gone group) = (1, ([], group.0))
+read_code (read.Lost volume) = (2, ([], volume))
+
+abbrev read_by : ℕ → List (List ℕ) → ℕ → Read
+read_by zero lines n = read.Lines lines
+read_by (suc zero) lines n = read.Gone (record { 0 = n })
+read_by (suc (suc k)) lines n = read.Lost n
+
+read_back : (r : Read) → (let p = read_code r in read_by p.0 p.1.0 p.1.1) ≡ r
+read_back (read.Lines lines) = refl
+read_back (read.Gone group) = refl
+read_back (read.Lost volume) = refl
+
+abbrev coded_read : Coded Read
+coded_read = code_by (ℕ × (List (List ℕ) × ℕ)) (coded× coded_ℕ (coded× (coded_list (coded_list coded_ℕ)) coded_ℕ)) read_code (λ p. read_by p.0 p.1.0 p.1.1) read_back
+
+module _ (told : Type 0) (config : Config) (t : Tables) (Q : Queue) (v w : View) (r : JobRec) (j : Job) where
+  abbrev groups : List GroupNo
+  groups = groups_of (Deck r.number) t.owners
+
+  abbrev its : List GroupNo
+  its = groups_of (Deck j.number) Q.owners
+
+  abbrev Stands : Type 0
+  Stands = HasTexts (lost_now v) (spools_at v v.now) config.groups Q
+
+  same_groups : Tell t Q → j.number ≡ r.number → its ≡ groups
+  same_groups tell number = ap (λ (n : JobNo). groups_of (Deck n) Q.owners) number ∙ ap (groups_of (Deck r.number)) tell.owners
+
+  stands_there : its ≡ groups → job_at Q r.number ≡ Some j → Stands → IsThereUnless (lost_now v) (spools_at v v.now) config.groups j.text groups
+  stands_there same found texts = subst (λ (gs : List GroupNo). IsThereUnless (lost_now v) (spools_at v v.now) config.groups j.text gs) same
+      (find-All (λ (x : Job). IsThereUnless (lost_now v) (spools_at v v.now) config.groups x.text (groups_of (Deck x.number) Q.owners)) (has_number r.number) Q.jobs j texts.decks found).0
+
+  pub seen_as : (o : Read) → Tell t Q → IsTold t r → job_at Q r.number ≡ Some j → told → IsWhole j.text → AreRoomy v config → ∥ Stands ∥₁
+      → ((text : Text) → line_count text ≡ r.cards → told → AreRoomy v config → IsThereUnless (lost_now v) (spools_at v v.now) config.groups text groups → IsReadOf config.groups text groups o v w)
+      → IsFailedRead config.groups groups o v w → IsReadAs told config.groups j.text its (Some o) v w
+  seen_as (read.Lines lines) tell job found tells whole roomy texts reads failed =
+      let same = job.same Q j tell found in
+      λ again. ∥∥₁_elim texts (Coded-set coded_read _ _) (λ stands. reads j.text same.2 tells roomy (stands_there (same_groups tell same.0) found stands))
+  seen_as (read.Gone group) tell job found tells whole roomy texts reads failed =
+      let same = job.same Q j tell found in
+      λ again. ∥∥₁_elim texts (Coded-set coded_read _ _) (λ stands. reads j.text same.2 tells roomy (stands_there (same_groups tell same.0) found stands))
+  seen_as (read.Lost volume) tell job found tells whole roomy texts reads failed =
+      let same = job.same Q j tell found in
+      (λ again. whole, subst (λ (gs : List GroupNo). HasFailed config.groups gs volume v w) (sym (same_groups tell same.0)) failed)

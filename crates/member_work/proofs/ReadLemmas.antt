@@ -1,0 +1,248 @@
+-- Reading the groups of a text.
+use Rattle.std.proofs.Common.{◌≡◌, ◌&&◌, ◌||◌, ◌==◌, ℕ, zero, suc, ◌+◌, ◌*◌, ◌%◌, ◌≤◌, ◌<◌, nat_le, Bool, true, false, List, [], ◌∷◌, ◌++◌, length, Option, Some, None, All, slice_get, unwrap_or, refl, sym, ap, subst, ◌∙◌, append_assoc, arith}
+use Rattle.std.specs.Prelude.{Result, Ok, Err}
+use Rattle.std.specs.Option.{option_or}
+use Rattle.std.proofs.lemmas.Bool.Decides.{nat_tests}
+use Rattle.std.proofs.lemmas.List.{append-nil}
+use Rattle.std.proofs.lemmas.List.Elements.{All-nil, All-cons, All-append, All-weaker}
+use Rattle.mas_types.specs.declared.ids.Dev.TheVariants.{Spool}
+use Rattle.mas_types.specs.declared.ids.GroupNo.{GroupNo}
+use Rattle.mas_types.specs.declared.ids.Page.{Page}
+use Rattle.mas_types.specs.declared.jobs.Text.{Text}
+use Rattle.mas_types.specs.declared.jobs.Text.TheVariants.{Whole, Gone}
+use Rattle.mas_types.specs.declared.queues.Config.{Config}
+use Rattle.mas_types.specs.Fit.{AreLines, is_text_line}
+use Rattle.mas_types.specs.Limits.{line_bytes, page_bytes, text_lines_most}
+use Rattle.mas_types.specs.Queue.{line_count}
+use Rattle.mas_types.specs.Records.{HoldsNoRecords, is_record, records_in}
+use Rattle.spool_disk.specs.declared.plant.Act.{Act}
+use Rattle.spool_disk.specs.declared.plant.Act.TheVariants.{Done, Failed}
+use Rattle.spool_disk.specs.declared.plant.Part.TheVariants.{Disk as DiskPart}
+use Rattle.spool_disk.specs.View.{View, disk_now, slice}
+use Rattle.spool_disk.specs.Acts.{Acts, Goes, ReadBy, Reads}
+use Rattle.spool_text.specs.Laws.{ReadsWhatIsHeld}
+use Rattle.spool_text.specs.Reading.{AddsRecords}
+use Rattle.spool_volumes.specs.Texts.{Held, all_records, first_gone, gone_or, held, records_on, text_of, text_unless}
+use Rattle.spool_volumes.specs.Volumes.{page_of, start_of, volume_of}
+use Rattle.mas_complex.specs.Spool.{IsGroupOf, ReadsGroup, device_of, is_within, page_part, page_start}
+use Rattle.mas_complex.specs.Texts.{Spools, bytes_on, lost_now, spools_at, IsThereUnless}
+use Rattle.mas_complex.proofs.Quotients.{few_quotient}
+use Rattle.mas_complex.proofs.Spooled.{each_quiet, read_quiet}
+use Rattle.queue_laws.proofs.Finds.{test_cases}
+use Rattle.queue_laws.proofs.SoundEnter.{All-none}
+use Rattle.member_decks.specs.Spooling.{AreQuiet, AreRoomy, OnVolumes, lies_there}
+use Rattle.member_node.specs.declared.member.NodeNo.{NodeNo}
+use Rattle.member_node.specs.declared.member.NodeNo.TheVariants as no
+use Rattle.member_decks.specs.Steps.{SpoolStops}
+use Rattle.member_decks.proofs.PageLemmas.{acts_none, acts_on, lies_alone, quiet_none, quiet_on, still_roomy, there_by}
+use Rattle.work_units.specs.declared.outcomes.Read.{Read}
+use Rattle.work_units.specs.declared.outcomes.Read.TheVariants as read
+use Rattle.member_work.specs.Looks.{as_it_is}
+use Rattle.member_work.specs.Reading.{AddsGroup, AreRecords, IsReadOf, OnlyReads}
+use Rattle.member_work.specs.Rounds.{HasFailed}
+
+-- ONE PAGE
+
+some_groups : (volumes groups n : ℕ) → n < volumes * groups → 1 ≤ groups
+some_groups volumes zero n lt = absurd (omega (arith, lt))
+some_groups volumes (suc groups) n lt = omega arith
+
+-- it lies within its volume
+within : (v : View) (config : Config) (g : GroupNo) → IsGroupOf config g → AreRoomy v config → v.lost (DiskPart (device_of config.groups g)) ≡ false → is_within v config.groups g ≡ true
+within v config g is roomy there =
+    let some : 1 ≤ config.groups = some_groups config.volumes config.groups g.0 is in
+    let few = few_quotient g.0 config.volumes config.groups some is in
+    let size = roomy (volume_of config.groups g) (omega arith) few there in
+    let below : g.0 % config.groups < config.groups = mod_below g.0 config.groups some in
+    fits (g.0 % config.groups) config.groups (v.size (device_of config.groups g)) below size
+  where
+    mod_below : (n m : ℕ) → 1 ≤ m → n % m < m
+    mod_below n m some = omega (arith, some)
+
+    fits : (r per size : ℕ) → r < per → page_bytes * per ≤ size → nat_le (page_bytes * r + page_bytes) size ≡ true
+    fits r per size below le = grind (arith, nat_tests, below, le)
+
+-- a page that was read is the one that stands there
+pub page_read : (v w : View) (config : Config) (g : GroupNo) (page : Page) (by : ℕ) → length page.0 ≡ page_bytes → IsGroupOf config g → AreRoomy v config
+    → Acts by (DiskPart (device_of config.groups g)) v w Done → ReadsGroup config.groups g v w page Done → page_of (bytes_on (spools_at v v.now)) config.groups g ≡ Some page.0
+page_read v w config g page by long is roomy acts reads =
+    let dev = device_of config.groups g in
+    let alive = there_by (v.lost (DiskPart dev)) (λ lost. acts.stays_lost lost refl) in
+    let read : ReadBy (start_of config.groups g) page.0 (disk_now v dev) (disk_now w dev) Done = subst (λ (b : Bool). ReadBy (page_start b (start_of config.groups g)) (page_part b page.0) (disk_now v dev) (disk_now w dev) Done) (within v config g is roomy alive) reads.disk in
+    ap Some (sym (subst (λ (n : ℕ). page.0 ≡ slice (start_of config.groups g) n (disk_now v dev).bytes) long read.1))
+
+pub page_alive : (v w : View) (per : ℕ) (g : GroupNo) (by : ℕ) → Acts by (DiskPart (device_of per g)) v w Done → v.lost (DiskPart (device_of per g)) ≡ false
+page_alive v w per g by acts = there_by (v.lost (DiskPart (device_of per g))) (λ lost. acts.stays_lost lost refl)
+
+quiet_read : (v at : ℕ) (old new : View) (into : List ℕ) (r : Act) → Reads (Spool v) at old new into r → AreQuiet (spools_at old old.now) (spools_at new new.now)
+quiet_read v at old new into r reads n =
+    let quiet = each_quiet v old new (read_quiet at into (disk_now old (Spool v)) (disk_now new (Spool v)) r reads.disk) reads.only n in
+    record { bytes = quiet.bytes; synced = quiet.unsynced }
+
+pub quiet_group : (per : ℕ) (g : GroupNo) (v w : View) (page : Page) (r : Act) → ReadsGroup per g v w page r → AreQuiet (spools_at v v.now) (spools_at w w.now)
+quiet_group per g v w page r reads = quiet_read (volume_of per g) (page_start (is_within v per g) (start_of per g)) v w (page_part (is_within v per g) page.0) r reads
+
+pub failed_read : (by per volume : ℕ) (g : GroupNo) (v w : View) → volume ≡ volume_of per g → Acts by (DiskPart (device_of per g)) v w Failed → HasFailed per (g ∷ []) volume v w
+failed_read by per volume g v w is acts = subst (λ (n : ℕ). HasFailed per (g ∷ []) n v w) (sym is) (record { there = lies_alone per g; lost = acts.is_lost refl; rose = acts.failed refl })
+
+-- ITS LINES
+
+record_short : (line : List ℕ) → is_record line ≡ true → length line ≤ line_bytes
+record_short line is = grind (arith, nat_tests)
+
+record_text : (a b : Bool) → (a && b) ≡ true → b ≡ true
+record_text true b e = e
+record_text false b e = absurd (cc)
+
+pub records_fit : (lines : List (List ℕ)) → All (λ line. is_record line ≡ true) lines → AreRecords lines
+records_fit lines each = record {
+  short = All-weaker (λ line. is_record line ≡ true) (λ line. length line ≤ line_bytes) record_short lines each;
+  text = All-weaker (λ line. is_record line ≡ true) (λ line. is_text_line line ≡ true) (λ line is. record_text (nat_le (length line) line_bytes) (is_text_line line) is) lines each;
+}
+
+pub none_fit : AreRecords []
+none_fit = record { short = All-nil (λ line. length line ≤ line_bytes); text = All-nil (λ line. is_text_line line ≡ true) }
+
+both_fit : (before lines : List (List ℕ)) → AreRecords before → AreRecords lines → AreRecords (before ++ lines)
+both_fit before lines one two = record {
+  short = All-append (λ line. length line ≤ line_bytes) before lines one.short two.short;
+  text = All-append (λ line. is_text_line line ≡ true) before lines one.text two.text;
+}
+
+no_records : ReadsWhatIsHeld → (page : List ℕ) → HoldsNoRecords page → records_in page ≡ None
+no_records law page none = by_records (records_in page) refl where
+  by_records : (r : Option (List (List ℕ))) → records_in page ≡ r → records_in page ≡ None
+  by_records None is = is
+  by_records (Some lines) is = absurd (none lines ((law page lines).0 is))
+
+-- the lines of a group that was read are added
+pub adds_lines : (told : Type 0) (config : Config) (g : GroupNo) (v : View) (page : List ℕ) (was is : List (List ℕ)) (gone : Option GroupNo) → ReadsWhatIsHeld → v.lost (DiskPart (Spool (volume_of config.groups g))) ≡ false
+    → (told → AreRoomy v config → page_of (bytes_on (spools_at v v.now)) config.groups g ≡ Some page) → AddsRecords page was is → AddsGroup told config g v was is gone gone
+adds_lines told config g v page was is gone law there read adds = record {
+  records = Some adds.lines;
+  added = adds.is;
+  fits = records_fit adds.lines adds.holds.each;
+  gone_is = or_none gone;
+  there = there;
+  are_held = λ t roomy. ap held (read t roomy) ∙ (law page adds.lines).1 adds.holds;
+} where
+  or_none : (o : Option GroupNo) → o ≡ option_or o None
+  or_none None = refl
+  or_none (Some h) = refl
+
+-- or the text is gone with it
+pub adds_none : (told : Type 0) (config : Config) (g : GroupNo) (v : View) (page : List ℕ) (was is : List (List ℕ)) (gone_before is_gone : Option GroupNo) → ReadsWhatIsHeld → v.lost (DiskPart (Spool (volume_of config.groups g))) ≡ false
+    → (told → AreRoomy v config → page_of (bytes_on (spools_at v v.now)) config.groups g ≡ Some page) → HoldsNoRecords page → is ≡ was → is_gone ≡ option_or gone_before (Some g) → AddsGroup told config g v was is gone_before is_gone
+adds_none told config g v page was is gone_before is_gone law there read none same gone_is = record {
+  records = None;
+  added = same ∙ sym (append-nil was);
+  fits = none_fit;
+  gone_is = gone_is;
+  there = there;
+  are_held = λ t roomy. ap held (read t roomy) ∙ no_records law page none;
+}
+
+-- GROUP BY GROUP
+
+all_push : (r : Held) (gs : List GroupNo) (g : GroupNo) → all_records r (gs ++ g ∷ []) ≡ all_records r gs ++ unwrap_or (r g) []
+all_push r [] g = append-nil (unwrap_or (r g) [])
+all_push r (h ∷ gs) g = ap (λ (l : List (List ℕ)). unwrap_or (r h) [] ++ l) (all_push r gs g) ∙ sym (append_assoc (unwrap_or (r h) []) (all_records r gs) (unwrap_or (r g) []))
+
+gone_push : (r : Held) (gs : List GroupNo) (g : GroupNo) → first_gone r (gs ++ g ∷ []) ≡ option_or (first_gone r gs) (gone_or g (r g) None)
+gone_push r [] g = refl
+gone_push r (h ∷ gs) g = behind (r h) (first_gone r (gs ++ g ∷ [])) (first_gone r gs) (gone_push r gs g) where
+  behind : (records : Option (List (List ℕ))) (all before : Option GroupNo) → all ≡ option_or before (gone_or g (r g) None) → gone_or h records all ≡ option_or (gone_or h records before) (gone_or g (r g) None)
+  behind None all before e = refl
+  behind (Some lines) all before e = e
+
+same_records : (per : ℕ) (g : GroupNo) (old new : Spools) → AreQuiet old new → records_on (bytes_on new) per g ≡ records_on (bytes_on old) per g
+same_records per g old new quiet = ap (λ (bytes : List ℕ). held (Some (slice (start_of per g) page_bytes bytes))) (quiet (volume_of per g)).bytes
+
+there_before : (v : ℕ) (old mid : View) → Goes old mid → mid.lost (DiskPart (Spool v)) ≡ false → old.lost (DiskPart (Spool v)) ≡ false
+there_before v old mid goes e = there_by (old.lost (DiskPart (Spool v))) (λ lost. absurd (let gone = goes.lost (DiskPart (Spool v)) lost in cc))
+
+-- the groups so far were read: none of them lies on a lost volume, and where content is told these are their records
+pub record HaveRead (told : Type 0) (by : ℕ) (config : Config) (old now : View) (groups : List GroupNo) (lines : List (List ℕ)) (gone : Option GroupNo) : Type 0 where
+  pub acts : OnVolumes told by old now
+  pub reads : OnlyReads told old now
+  pub fits : AreRecords lines
+  pub there : All (λ g. lost_now old (volume_of config.groups g) ≡ false) groups
+  pub lines_are : told → AreRoomy old config → lines ≡ all_records (records_on (bytes_on (spools_at old old.now)) config.groups) groups
+  pub gone_is : told → AreRoomy old config → gone ≡ first_gone (records_on (bytes_on (spools_at old old.now)) config.groups) groups
+
+pub read_none : (told : Type 0) (by : ℕ) (config : Config) (v : View) (lines : List (List ℕ)) → lines ≡ [] → HaveRead told by config v v [] lines None
+read_none told by config v lines none = record {
+  acts = acts_none told by v;
+  reads = λ t. quiet_none (spools_at v v.now);
+  fits = subst AreRecords (sym none) none_fit;
+  there = All-nil (λ g. lost_now v (volume_of config.groups g) ≡ false);
+  lines_are = λ t roomy. none;
+  gone_is = λ t roomy. refl;
+}
+
+pub read_more : (told : Type 0) (by : ℕ) (config : Config) (old mid new : View) (groups : List GroupNo) (g : GroupNo) (before lines : List (List ℕ)) (gone_before is_gone : Option GroupNo)
+    → HaveRead told by config old mid groups before gone_before → OnVolumes told by mid new → OnlyReads told mid new → AddsGroup told config g mid before lines gone_before is_gone
+    → HaveRead told by config old new (groups ++ g ∷ []) lines is_gone
+read_more told by config old mid new groups g before lines gone_before is_gone have acts reads adds =
+    let P = λ (h : GroupNo). lost_now old (volume_of config.groups h) ≡ false in
+    let R = records_on (bytes_on (spools_at old old.now)) config.groups in
+    let here : told → AreRoomy old config → R g ≡ adds.records
+    = λ t roomy. sym (same_records config.groups g (spools_at old old.now) (spools_at mid mid.now) (have.reads t)) ∙ adds.are_held t (still_roomy config old mid have.acts.goes roomy) in
+    record {
+      acts = acts_on told by old mid new have.acts acts;
+      reads = λ t. quiet_on (spools_at old old.now) (spools_at mid mid.now) (spools_at new new.now) (have.reads t) (reads t);
+      fits = subst AreRecords (sym adds.added) (both_fit before (unwrap_or adds.records []) have.fits adds.fits);
+      there = All-append P groups (g ∷ []) have.there (All-cons P g [] (there_before (volume_of config.groups g) old mid have.acts.goes adds.there) (All-nil P));
+      lines_are = λ t roomy. adds.added ∙ ap (λ (l : List (List ℕ)). l ++ unwrap_or adds.records []) (have.lines_are t roomy)
+          ∙ ap (λ (r : Option (List (List ℕ))). all_records R groups ++ unwrap_or r []) (sym (here t roomy)) ∙ sym (all_push R groups g);
+      gone_is = λ t roomy. adds.gone_is ∙ ap (λ (o : Option GroupNo). option_or o (gone_or g adds.records None)) (have.gone_is t roomy)
+          ∙ ap (λ (r : Option (List (List ℕ))). option_or (first_gone R groups) (gone_or g r None)) (sym (here t roomy)) ∙ sym (gone_push R groups g);
+    }
+
+-- WHAT WAS READ
+
+is_read : (per : ℕ) (text : Text) (groups : List GroupNo) (o : Read) (old new : View) → o ≡ as_it_is text → IsReadOf per text groups o old new
+is_read per text groups (read.Lines lines) old new e = e
+is_read per text groups (read.Gone group) old new e = e
+is_read per text groups (read.Lost volume) old new e = absurd (never text e) where
+  never : (text : Text) → read.Lost volume ≡ as_it_is text → ⊥
+  never (Whole lines) e = cc
+  never (Gone group count) e = cc
+
+-- it is the text as it stands there
+pub read_whole : (told : Type 0) (by : ℕ) (config : Config) (old new : View) (groups : List GroupNo) (lines : List (List ℕ)) (gone : Option GroupNo) (count : ℕ) (o : Read) → HaveRead told by config old new groups lines gone
+    → o ≡ as_it_is (text_unless count groups lines gone) → (text : Text) → line_count text ≡ count → told → AreRoomy old config → IsThereUnless (lost_now old) (spools_at old old.now) config.groups text groups → IsReadOf config.groups text groups o old new
+read_whole told by config old new groups lines gone count o have is text counted t roomy stands =
+    let R = records_on (bytes_on (spools_at old old.now)) config.groups in
+    let there = stands (All-none (λ (g : GroupNo). lost_now old (volume_of config.groups g)) groups have.there) in
+    is_read config.groups text groups o old new
+    (is ∙ ap as_it_is (ap (λ (l : List (List ℕ)). text_unless count groups l gone) (have.lines_are t roomy) ∙ ap (λ (g : Option GroupNo). text_unless count groups (all_records R groups) g) (have.gone_is t roomy)
+    ∙ ap (λ (k : ℕ). text_of R k groups) (sym counted) ∙ there.is))
+
+pub lines_fit : (lines : List (List ℕ)) (count : ℕ) → AreRecords lines → length lines ≡ count → count ≤ text_lines_most → AreLines lines
+lines_fit lines count are same few = record { few = omega (arith, same, few); short = are.short; text = are.text }
+
+lies_among : (per v : ℕ) (groups : List GroupNo) (k : ℕ) (g : GroupNo) → slice_get groups k ≡ Some g → lies_there per v (g ∷ []) ≡ true → lies_there per v groups ≡ true
+lies_among per v [] k g here there = absurd (cc)
+lies_among per v (h ∷ groups) zero g here there = let same : h ≡ g = cc in rw (same, alone (volume_of per g == v) there) refl
+  where
+    alone : (b : Bool) → (b || false) ≡ true → b ≡ true
+    alone true e = refl
+    alone false e = e
+lies_among per v (h ∷ groups) (suc k) g here there = test_cases (volume_of per h == v) (lies_there per v (h ∷ groups) ≡ true) (λ e. rw e refl) (λ e. rw e (lies_among per v groups k g here there))
+
+-- a volume that was found lost at a group among others
+pub failed_later : (per volume : ℕ) (groups : List GroupNo) (k : ℕ) (g : GroupNo) (old mid new : View) → slice_get groups k ≡ Some g → Goes old mid → HasFailed per (g ∷ []) volume mid new → HasFailed per groups volume old new
+failed_later per volume groups k g old mid new here goes failed = record {
+  there = lies_among per volume groups k g here failed.there;
+  lost = failed.lost;
+  rose = omega (arith, failed.rose, goes.faults (DiskPart (Spool volume)));
+}
+
+-- a stop after other acts
+pub stops_later : {T : Type 0} (by : ℕ) (old mid new : View) (r : Result T NodeNo) → Goes old mid → SpoolStops r by mid new → SpoolStops r by old new
+stops_later by old mid new (Ok done) goes stops = tt
+stops_later by old mid new (Err no.NoMemory) goes stops = tt
+stops_later by old mid new (Err no.Halted) goes stops = omega (arith, stops, goes.stops by)
+stops_later by old mid new (Err no.BothLost) goes stops = stops
+stops_later by old mid new (Err no.ConsoleFault) goes stops = stops

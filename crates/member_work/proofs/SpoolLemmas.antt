@@ -1,0 +1,116 @@
+-- The outputs of a job, one after another, in a member's groups.
+use Rattle.std.proofs.Common.{◌≡◌, ◌≢◌, ◌||◌, ℕ, zero, suc, ◌+◌, ◌-◌, ◌≤◌, ◌<◌, ◌==◌, Bool, true, false, List, [], ◌∷◌, ◌++◌, length, take, drop, All, Option, Some, Result, Ok, Err, slice_get, refl, sym, ◌∙◌, ap, subst, arith}
+use Rattle.std.proofs.lemmas.List.{length-drop, length-take-le, take-append-drop}
+use Rattle.std.proofs.lemmas.List.Elements.{All-drop, All-head, All-tail, All-take}
+use Rattle.std.proofs.lemmas.List.Folds.{list_any-append}
+use Rattle.std.proofs.lemmas.Option.{slice_get-get_or}
+use Rattle.mas_types.specs.declared.ids.GroupNo.{GroupNo}
+use Rattle.mas_types.specs.declared.jobs.OutSpec.{OutSpec}
+use Rattle.mas_types.specs.Commands.Life.{groups_of_outputs}
+use Rattle.mas_types.specs.Fit.{IsOutSpec}
+use Rattle.mas_types.specs.Owners.{groups_needed}
+use Rattle.spool_disk.specs.declared.plant.Part.TheVariants.{Disk as DiskPart}
+use Rattle.mas_types.specs.declared.ids.Dev.TheVariants.{Spool}
+use Rattle.spool_disk.specs.View.{View}
+use Rattle.spool_disk.specs.Acts.{Goes}
+use Rattle.spool_text.specs.Laws.{HasNeededGroups}
+use Rattle.spool_text.specs.Texts.{packed}
+use Rattle.spool_volumes.specs.Laws.{ReadsTexts}
+use Rattle.spool_volumes.specs.Volumes.{volume_of}
+use Rattle.mas_complex.specs.Texts.{IsSynced, Spools}
+use Rattle.queue_effect.proofs.GroupLemmas.{sum-groups}
+use Rattle.member_decks.specs.declared.spooling.SpoolNo.{SpoolNo}
+use Rattle.member_decks.specs.declared.spooling.SpoolNo.TheVariants.{Lost, Halted as Stopped}
+use Rattle.member_decks.specs.Spooling.{AreQuiet, Rise, SpoolCauses, StandBelow, lies_there, page_in}
+use Rattle.member_decks.proofs.PageLemmas.{text_there}
+use Rattle.member_work.specs.Spooled.{AreSpooled, AreWritten}
+
+-- SHARES OF GROUPS
+
+get_front : {A : Type 0} (n : ℕ) (xs : List A) (k : ℕ) (x : A) → slice_get (take n xs) k ≡ Some x → slice_get xs k ≡ Some x
+get_front zero xs k x here = absurd (cc)
+get_front (suc n) [] k x here = absurd (cc)
+get_front (suc n) (y ∷ xs) zero x here = here
+get_front (suc n) (y ∷ xs) (suc k) x here = get_front n xs k x here
+
+front_below : {A : Type 0} (n : ℕ) (xs : List A) (k : ℕ) (x : A) → slice_get (take n xs) k ≡ Some x → k < n
+front_below zero xs k x here = absurd (cc)
+front_below (suc n) [] k x here = absurd (cc)
+front_below (suc n) (y ∷ xs) zero x here = omega arith
+front_below (suc n) (y ∷ xs) (suc k) x here = let lt = front_below n xs k x here in omega (arith, lt)
+
+get_behind : {A : Type 0} (n : ℕ) (xs : List A) (k : ℕ) (x : A) → slice_get (drop n xs) k ≡ Some x → slice_get xs (n + k) ≡ Some x
+get_behind zero xs k x here = let same : k ≡ zero + k = omega arith in subst (λ (i : ℕ). slice_get xs i ≡ Some x) same here
+get_behind (suc n) [] k x here = absurd (cc)
+get_behind (suc n) (y ∷ xs) k x here = let same : suc (n + k) ≡ suc n + k = omega arith in subst (λ (i : ℕ). slice_get (y ∷ xs) i ≡ Some x) same (get_behind n xs k x here)
+
+pub rise_front : (n : ℕ) (groups : List GroupNo) → Rise groups → Rise (take n groups)
+rise_front n groups rise i j g h less at_i at_j = rise i j g h less (get_front n groups i g at_i) (get_front n groups j h at_j)
+
+pub rise_behind : (n : ℕ) (groups : List GroupNo) → Rise groups → Rise (drop n groups)
+rise_behind n groups rise i j g h less at_i at_j = rise (n + i) (n + j) g h (omega (arith, less)) (get_behind n groups i g at_i) (get_behind n groups j h at_j)
+
+-- a group of the first share is none of the others
+apart : (n : ℕ) (groups : List GroupNo) (k : ℕ) (h : GroupNo) → Rise groups → slice_get (take n groups) k ≡ Some h → All (λ (g : GroupNo). h.0 ≢ g.0) (drop n groups)
+apart n groups k h rise here j d lt same =
+    let behind = slice_get-get_or (drop n groups) j d lt in
+    let less = rise k (n + j) h _ (let below = front_below n groups k h here in omega (arith, below)) (get_front n groups k h here) (get_behind n groups j _ behind) in
+    absurd (omega (arith, less, same))
+
+-- lengths
+pub front_long : (n : ℕ) (groups : List GroupNo) → n ≤ length groups → length (take n groups) ≡ n
+front_long n groups le = length-take-le n groups le
+
+pub behind_long : (s : OutSpec) (specs : List OutSpec) (groups : List GroupNo) → length groups ≡ groups_of_outputs (s ∷ specs) → length (drop (groups_needed s.text) groups) ≡ groups_of_outputs specs
+behind_long s specs groups long =
+    let sum = sum-groups s specs in
+    let cut = length-drop (groups_needed s.text) groups in
+    omega (arith, sum, cut, long)
+
+pub first_fits : (s : OutSpec) (specs : List OutSpec) (groups : List GroupNo) → length groups ≡ groups_of_outputs (s ∷ specs) → groups_needed s.text ≤ length groups
+first_fits s specs groups long = let sum = sum-groups s specs in omega (arith, sum, long)
+
+-- CAUSES
+
+or_left : (a b : Bool) → a ≡ true → (a || b) ≡ true
+or_left true b e = refl
+or_left false b e = absurd (cc)
+
+or_right : (a b : Bool) → b ≡ true → (a || b) ≡ true
+or_right true b e = refl
+or_right false b e = e
+
+lies_by : (per v n : ℕ) (groups : List GroupNo) → lies_there per v (take n groups ++ drop n groups) ≡ true → lies_there per v groups ≡ true
+lies_by per v n groups there = subst (λ (gs : List GroupNo). lies_there per v gs ≡ true) (take-append-drop n groups) there
+
+pub lies_front : (per v n : ℕ) (groups : List GroupNo) → lies_there per v (take n groups) ≡ true → lies_there per v groups ≡ true
+lies_front per v n groups there = lies_by per v n groups (list_any-append (λ (g : GroupNo). volume_of per g == v) (take n groups) (drop n groups) ∙ or_left (lies_there per v (take n groups)) (lies_there per v (drop n groups)) there)
+
+pub lies_behind : (per v n : ℕ) (groups : List GroupNo) → lies_there per v (drop n groups) ≡ true → lies_there per v groups ≡ true
+lies_behind per v n groups there = lies_by per v n groups (list_any-append (λ (g : GroupNo). volume_of per g == v) (take n groups) (drop n groups) ∙ or_right (lies_there per v (take n groups)) (lies_there per v (drop n groups)) there)
+
+pub cause_wider : {T : Type 0} (by per : ℕ) (few groups : List GroupNo) (old mid new : View) (r : Result T SpoolNo) → ((v : ℕ) → lies_there per v few ≡ true → lies_there per v groups ≡ true) → Goes old mid → SpoolCauses r by per few mid new → SpoolCauses r by per groups old new
+cause_wider by per few groups old mid new (Ok done) wider goes cause = tt
+cause_wider by per few groups old mid new (Err (Lost v)) wider goes cause = (wider v cause.0, cause.1, omega (arith, cause.2, goes.faults (DiskPart (Spool v))))
+cause_wider by per few groups old mid new (Err Stopped) wider goes cause = (cause.0, omega (arith, cause.1, goes.stops by))
+
+-- WHAT STANDS
+
+-- the first output's pages, while others are written
+pub still_stand : (n per : ℕ) (pages : List (List ℕ)) (groups : List GroupNo) (old new : Spools) → Rise groups → ((h : GroupNo) → All (λ (g : GroupNo). h.0 ≢ g.0) (drop n groups) → page_in new per h ≡ page_in old per h)
+    → StandBelow n old per pages (take n groups) → StandBelow n new per pages (take n groups)
+still_stand n per pages groups old new rise spares stand k g lt here = stand k g lt here ∙ ap Some (sym (spares g (apart n groups k g rise here)))
+
+pub written_none : (disks : Spools) (per : ℕ) (specs : List OutSpec) (groups : List GroupNo) → specs ≡ [] → AreWritten disks per specs groups
+written_none disks per specs groups none = subst (λ (ss : List OutSpec). AreWritten disks per ss groups) (sym none) tt
+
+-- once all are synced the texts stand there
+pub all_spooled : ReadsTexts → HasNeededGroups → (old new : Spools) (per : ℕ) (specs : List OutSpec) (groups : List GroupNo) → All IsOutSpec specs → length groups ≡ groups_of_outputs specs → AreWritten old per specs groups → AreQuiet old new → All (IsSynced new per) groups → AreSpooled new per specs groups
+all_spooled reads needed old new per [] groups fit long written quiet synced = tt
+all_spooled reads needed old new per (s ∷ specs) groups fit long written quiet synced =
+    let n = groups_needed s.text in
+    let as_many = front_long n groups (first_fits s specs groups long) in
+    let stand : StandBelow (length (take n groups)) old per (packed s.text) (take n groups) = subst (λ (k : ℕ). StandBelow k old per (packed s.text) (take n groups)) (sym as_many) written.0 in (
+      text_there reads needed old new per s.text (take n groups) (All-head IsOutSpec s specs fit).text as_many stand quiet (All-take (IsSynced new per) n groups synced),
+      all_spooled reads needed old new per specs (drop n groups) (All-tail IsOutSpec s specs fit) (behind_long s specs groups long) written.1 quiet (All-drop (IsSynced new per) n groups synced),
+    )

@@ -1,0 +1,16 @@
+use Rattle.std.proofs.Common.{◌∙◌, List, Option, ap, subst, sym}
+use Rattle.lay_bytes.specs.declared.records.JobRec.{JobRec}
+use Rattle.mas_types.specs.declared.jobs.Job.{Job}
+use Rattle.mas_types.specs.Commands.Life.{is_cancelled as is_cancelled_lem}
+use Rattle.job_queue.specs.Jobs.{AreJobs}
+use Rattle.member_work.proofs.giving.is_cancelled.Goals as goal
+
+pub returns-in-Some : goal.returns-in-Some
+returns-in-Some c Q told =
+    let has = c.in-Some.ensures.some Q.jobs (subst (λ (slots : List (Option JobRec)). AreJobs slots Q.jobs) (sym c.as_slice.ensures) told.jobs) in
+    sym (ap (λ (o : Option Job). is_cancelled_lem o) has.found ∙ ap (λ (r : JobRec). r.cancelled) has.is)
+
+pub returns-in-None : goal.returns-in-None
+returns-in-None c Q told =
+    let none = c.in-None.ensures.none Q.jobs (subst (λ (slots : List (Option JobRec)). AreJobs slots Q.jobs) (sym c.as_slice.ensures) told.jobs) in
+    sym (ap (λ (o : Option Job). is_cancelled_lem o) none)

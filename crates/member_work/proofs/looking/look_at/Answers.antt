@@ -1,0 +1,74 @@
+use Rattle.std.proofs.Common.{◌≡◌, ◌<◌, ◌∙◌, true, List, All, None, Some, ap, subst, sym, arith}
+use Rattle.mas_types.specs.declared.ids.GroupNo.{GroupNo}
+use Rattle.mas_types.specs.declared.jobs.JobFields.{JobFields}
+use Rattle.mas_types.specs.declared.queues.Config.{Config}
+use Rattle.mas_types.specs.declared.queues.Queue.{Queue}
+use Rattle.mas_types.specs.declared.queues.Thing.TheVariants.{Deck}
+use Rattle.lock_cycle.specs.Books.{Book, IsMember, after_free, after_try, try_refusal}
+use Rattle.table_queues.specs.Telling.{Tell}
+use Rattle.track_groups.specs.Places.{groups_of}
+use Rattle.mas_complex.specs.Journals.{kept_all}
+use Rattle.mas_complex.specs.Meaning.{run}
+use Rattle.mas_complex.specs.Spool.{IsGroupOf}
+use Rattle.member_decks.proofs.HoldLemmas.{gets_again, keeps_book}
+use Rattle.work_units.specs.Outcomes.{outcome_of}
+use Rattle.member_work.proofs.LookingLemmas.{freed_member, groups_within, seen_as}
+use Rattle.member_work.proofs.looking.look_at.Goals as goal
+
+pub read_text-requires-clause-within : goal.read_text-requires-clause-within
+read_text-requires-clause-within g c =
+    let t = c.args.member.now.checkpoint.tables in
+    let its = Deck c.args.job.now.number in
+    let list : c.as_slice.result.now ≡ groups_of its t.owners = c.as_slice.ensures ∙ c.in-Ok.ensures ∙ ap (groups_of its) c.as_slice-owners.ensures in
+    let config : c.free.new.self.base.config ≡ t.config = ap (λ (q : Queue). q.config) c.free.ensures.base ∙ c.requires.work.config in
+    subst (λ (l : List GroupNo). All (IsGroupOf c.free.new.self.base.config) l) (sym list)
+    (subst (λ (k : Config). All (IsGroupOf k) (groups_of its t.owners)) (sym config) (groups_within c.law_of_places.ensures.own its t.owners t.config c.requires.work.draws.spelling.shape.owners))
+
+pub try_lock-requires-clause-member : goal.try_lock-requires-clause-member
+try_lock-requires-clause-member g c =
+    let b = c.args.complex.now.book in
+    let m = c.args.member.now.id in
+    let freed : c.read_text.new.complex.book ≡ after_free b m true = c.read_text.ensures.book ∙ c.free.ensures.book in
+    subst (λ (k : Book). IsMember k m) (sym freed) (freed_member b m c.requires.may.holds c.requires.seated)
+
+pub unreachable-requires-in_default-try_lock : goal.unreachable-requires-in_default-try_lock
+unreachable-requires-in_default-try_lock g c =
+    let b = c.args.complex.now.book in
+    let m = c.args.member.now.id in
+    let some : 0 < m.0 = omega (arith, c.requires.some) in
+    let freed : c.read_text.new.complex.book ≡ after_free b m true = c.read_text.ensures.book ∙ c.free.ensures.book in
+    let gets : try_refusal c.read_text.new.complex.book m true ≡ None = ap (λ (k : Book). try_refusal k m true) freed ∙ gets_again b m c.requires.may.holds some (c.requires.may.up some) in
+    absurd (cc (gets, c.in_default-try_lock.ensures.err))
+
+pub returns-clause-book : goal.returns-clause-book
+returns-clause-book g c =
+    let b = c.args.complex.now.book in
+    let m = c.args.member.now.id in
+    let some : 0 < m.0 = omega (arith, c.requires.some) in
+    c.try_lock.ensures.book ∙ ap (λ (k : Book). after_try k m true) (c.read_text.ensures.book ∙ c.free.ensures.book) ∙ keeps_book b m c.requires.may.holds some (c.requires.may.up some) c.requires.whole
+
+pub returns-clause-reads : goal.returns-clause-reads
+returns-clause-reads g c = rw c.try_lock.ensures.plant (rw c.free.ensures.plant at c.read_text.ensures.reads)
+
+pub returns-clause-looked : goal.returns-clause-looked
+returns-clause-looked g c =
+    let P = g.P.Plant in
+    let x = c.args.complex.now in
+    let t = c.args.member.now.checkpoint.tables in
+    let r = c.args.job.now in
+    let its = Deck r.number in
+    let list : c.as_slice.result.now ≡ groups_of its t.owners = c.as_slice.ensures ∙ c.in-Ok.ensures ∙ ap (groups_of its) c.as_slice-owners.ensures in
+    let o = c.in_ok-read.read in
+    let Q = run x.base (kept_all x.journal.batches) in
+    let reads = rw (c.free.ensures.plant, c.free.ensures.base, list) at c.in_ok-read.ensures.read in
+    let failed = rw (c.free.ensures.plant, c.free.ensures.base, list) at c.in_ok-read.ensures.failed in
+    rw c.try_lock.ensures.plant (record {
+      found = Some o;
+      is = λ told j found.
+          let done = rw c.requires.nothing at (c.requires.work.done told) in
+          let tell : Tell t Q = done.queue in
+          let same = c.requires.job.same Q j tell found in (
+            seen_as P.tells x.base.config t Q (P.view x.plant) (P.view c.read_text.new.complex.plant) r j o tell c.requires.job found told (c.requires.whole_text told j found) (c.requires.work.roomy told) (c.kept_texts.ensures.kept told) reads failed,
+            c.in-Ok-outcome_of.ensures.outcome ∙ ap (λ (f : JobFields). outcome_of c.args.runs f o) (sym same.1),
+          );
+    })

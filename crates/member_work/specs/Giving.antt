@@ -1,0 +1,66 @@
+-- Commands of a unit on a member's tables.
+use Rattle.std.specs.Prelude.{◌≡◌, ℕ, ◌+◌, ◌*◌, ◌≤◌, Bool, false, List, ◌++◌, length, take, Result}
+use Rattle.mas_types.specs.declared.ids.JobNo.{JobNo}
+use Rattle.mas_types.specs.declared.ids.MemberId.{MemberId}
+use Rattle.mas_types.specs.declared.commands.Command.{Command}
+use Rattle.mas_types.specs.declared.jobs.OutSpec.{OutSpec}
+use Rattle.mas_types.specs.declared.journals.Entry.{Entry}
+use Rattle.mas_types.specs.declared.queues.Queue.{Queue}
+use Rattle.mas_types.specs.Commands.Life.{outputs_at_end}
+use Rattle.mas_types.specs.Queue.{job_at}
+use Rattle.track_groups.specs.Groups.{held_by}
+use Rattle.ckpt_pages.specs.declared.tables.Tables.{Tables}
+use Rattle.ckpt_pages.specs.Shape.{HasSpelling}
+use Rattle.table_queues.specs.Telling.{Tell, TellSound}
+use Rattle.queue_effect.specs.Standing.{AreFit}
+use Rattle.queue_texts.specs.Leaving.{brings_text}
+use Rattle.mas_complex.specs.Meaning.{run}
+use Rattle.mas_complex.specs.Texts.{HasTexts, Spools}
+use Rattle.member_node.specs.declared.member.Member.{Member}
+use Rattle.member_node.specs.Batches.{HasDone}
+use Rattle.member_decks.specs.Decks.{given_in}
+use Rattle.member_decks.specs.Steps.{AreOf}
+use Rattle.member_decks.specs.Taking.{IsPart}
+use Rattle.member_work.specs.Spooled.{AreSpooled}
+use Rattle.member_work.specs.Steps.{IsUnderWay}
+use Rattle.member_work.specs.Units.{groups_for_end}
+
+-- A member before and after commands of a step, whatever their replies are.
+pub record HasGiven (at : ℕ) (m n : Member) : Type 0 where
+  pub id : n.id ≡ m.id
+  pub room : n.room ≡ m.room
+  pub behind : n.behind ≡ m.behind
+  pub level : n.checkpoint.level ≡ m.checkpoint.level
+  pub levels : n.checkpoint.levels ≡ m.checkpoint.levels
+  pub pages : n.checkpoint.pages ≡ m.checkpoint.pages
+  pub config : n.checkpoint.tables.config ≡ m.checkpoint.tables.config
+  pub spelling : HasSpelling n.checkpoint.tables
+  pub fit : AreFit n.checkpoint.tables
+  pub own : AreOf m.id at m.batch → AreOf m.id at n.batch
+  pub grows : length m.batch ≤ length n.batch
+  pub still : length n.batch ≡ length m.batch → n ≡ m
+  pub done : (Q : Queue) → HasDone Q m.batch m.checkpoint → HasDone Q n.batch n.checkpoint
+  pub sound : TellSound m.checkpoint.tables → TellSound n.checkpoint.tables
+  pub order : n.checkpoint.tables.order + 32 * length m.batch ≤ m.checkpoint.tables.order + 32 * length n.batch
+
+-- entries that leave a queue's texts on volumes where this holds
+abbrev pub LeaveWhere : (Spools → ℕ → Type 0) → Queue → List Entry → Type 0
+LeaveWhere holds Q es = (gone : ℕ → Bool) (disks : Spools) (per : ℕ) → holds disks per → HasTexts gone disks per Q → HasTexts gone disks per (run Q es)
+
+-- These commands, given at a queue that the tables told: all of them, or where memory wanted the first ones.
+pub record GivesAt {T E : Type 0} (Q : Queue) (by : MemberId) (at : ℕ) (cs : List Command) (holds : Spools → ℕ → Type 0) (m n : Member) (result : Result T E) : Type 0 where
+  pub gave : List Entry
+  pub batch : n.batch ≡ m.batch ++ gave
+  pub part : IsPart result gave (given_in Q by at cs)
+  pub effect : Tell n.checkpoint.tables (run Q gave)
+  pub texts : LeaveWhere holds Q gave
+
+-- the command brings no text, and is given to tables of a sound queue
+abbrev pub IsSoundPlain : Tables → Command → Type 0
+IsSoundPlain t c = TellSound t × (brings_text c ≡ false)
+
+-- the tables are those of a sound queue, in which the job may end, and its outputs stand in the lowest groups of the member
+pub record MayEnd (t : Tables) (Q : Queue) (by : MemberId) (n : JobNo) (specs : List OutSpec) (disks : Spools) (per : ℕ) : Type 0 where
+  pub sound : TellSound t
+  pub under_way : IsUnderWay Q n
+  pub spooled : AreSpooled disks per (outputs_at_end (job_at Q n) specs) (take (groups_for_end Q n specs) (held_by by Q.owners))

@@ -1,0 +1,44 @@
+-- Whether a job's text is gone, by the queue with which a run began and the entries that are kept since.
+use Rattle.std.specs.Prelude.{Bool, false, if◌then◌else◌, List, Option, Some, None}
+use Rattle.std.specs.List.{list_any}
+use Rattle.std.specs.Option.{option_map_or}
+use Rattle.mas_types.specs.declared.ids.GroupNo.{GroupNo}
+use Rattle.mas_types.specs.declared.ids.JobNo.{JobNo}
+use Rattle.mas_types.specs.declared.commands.Command.{Command}
+use Rattle.mas_types.specs.declared.commands.Command.TheVariants as command
+use Rattle.mas_types.specs.declared.commands.Reply.{Reply}
+use Rattle.mas_types.specs.declared.commands.Reply.TheVariants as reply
+use Rattle.mas_types.specs.declared.jobs.Text.{Text}
+use Rattle.mas_types.specs.declared.jobs.Text.TheVariants.{Whole, Gone}
+use Rattle.mas_types.specs.declared.journals.Entry.{Entry}
+use Rattle.mas_types.specs.declared.queues.Queue.{Queue}
+use Rattle.mas_types.specs.Ids.{same_number}
+use Rattle.mas_types.specs.Queue.{job_at}
+
+-- the group with which a text is gone
+abbrev pub gone_with : Text → Option GroupNo
+gone_with (Whole lines) = None
+gone_with (Gone group count) = Some group
+
+-- that of a job's text, None where it is whole
+abbrev pub gone_in : Queue → JobNo → Option GroupNo
+gone_in Q n = option_map_or (λ j. gone_with j.text) (job_at Q n) None
+
+abbrev pub names_job : JobNo → Reply → Bool
+names_job n (reply.Job job) = same_number job n
+names_job n _ = false
+
+-- the command began a job of this number, or gave it its text
+abbrev pub brings_job : JobNo → Command → Reply → Bool
+brings_job n (command.Begin fields) answer = names_job n answer
+brings_job n (command.Enter job text) answer = names_job n answer
+brings_job n (command.Got line number job text) answer = names_job n answer
+brings_job n _ answer = false
+
+-- one of the entries does
+abbrev pub is_brought : JobNo → List Entry → Bool
+is_brought n es = list_any (λ e. brings_job n e.command e.reply) es
+
+-- the group with which the text is gone of a job that was there at the beginning; None where one of its number was brought since
+abbrev pub gone_since : Queue → List Entry → JobNo → Option GroupNo
+gone_since base es n = if is_brought n es then None else gone_in base n

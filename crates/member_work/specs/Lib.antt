@@ -1,0 +1,13 @@
+pub mod Looks
+pub mod Units
+pub mod Work
+pub mod Rounds
+pub mod Reading
+pub mod Steps
+pub mod JobSteps
+pub mod Laws
+pub mod Examples
+pub mod Gone
+pub mod Spooled
+pub mod Giving
+pub mod Ending

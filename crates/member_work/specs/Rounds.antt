@@ -1,0 +1,76 @@
+-- What the spool volumes may give a unit.
+use Rattle.std.specs.Prelude.{◌≡◌, ℕ, ◌≤◌, Bool, true, false, List, take, Option, Some, None, IfSome}
+use Rattle.mas_types.specs.declared.ids.Dev.TheVariants.{Spool}
+use Rattle.mas_types.specs.declared.ids.GroupNo.{GroupNo}
+use Rattle.mas_types.specs.declared.ids.JobNo.{JobNo}
+use Rattle.mas_types.specs.declared.ids.MemberId.{MemberId}
+use Rattle.mas_types.specs.declared.jobs.Job.{Job}
+use Rattle.mas_types.specs.declared.jobs.Text.{Text}
+use Rattle.mas_types.specs.declared.jobs.Text.TheVariants.{Whole, Gone}
+use Rattle.mas_types.specs.declared.queues.Queue.{Queue}
+use Rattle.mas_types.specs.declared.queues.Thing.TheVariants.{Deck}
+use Rattle.mas_types.specs.declared.units.Unit as units
+use Rattle.mas_types.specs.declared.units.Unit.TheVariants as unit
+use Rattle.mas_types.specs.Queue.{job_at}
+use Rattle.spool_disk.specs.declared.plant.Part.TheVariants.{Disk as DiskPart}
+use Rattle.spool_disk.specs.View.{View}
+use Rattle.spool_disk.specs.Acts.{Rose}
+use Rattle.track_groups.specs.Groups.{held_by}
+use Rattle.track_groups.specs.Places.{groups_of}
+use Rattle.member_decks.specs.Decks.{are_refused}
+use Rattle.member_decks.specs.Spooling.{lies_there}
+use Rattle.work_units.specs.declared.outcomes.Outcome.{Outcome}
+use Rattle.work_units.specs.declared.outcomes.Outcome.TheVariants as outcome
+use Rattle.work_units.specs.declared.outcomes.Read.{Read}
+use Rattle.work_units.specs.declared.outcomes.Read.TheVariants as read
+use Rattle.work_units.specs.Next.{next_unit}
+use Rattle.member_work.specs.Looks.{Look, as_it_is}
+use Rattle.member_work.specs.Units.{groups_for_end, outcome_for, taken_queue}
+use Rattle.member_work.specs.Work.{Round}
+
+-- a volume that failed in a call on which one of the groups lies
+pub record HasFailed (per : ℕ) (groups : List GroupNo) (volume : ℕ) (old new : View) : Type 0 where
+  pub there : lies_there per volume groups ≡ true
+  pub lost : new.lost (DiskPart (Spool volume)) ≡ true
+  pub rose : Rose (old.faults (DiskPart (Spool volume))) (new.faults (DiskPart (Spool volume)))
+
+abbrev pub IsWhole : Text → Type 0
+IsWhole (Whole lines) = Unit {0}
+IsWhole (Gone group count) = ⊥
+
+-- How a text was read that stands in these groups. Where content is told it is as the queue has it, unless a volume was found lost; no
+-- volume is found lost at a text that is gone.
+abbrev pub IsReadAs : Type 0 → ℕ → Text → List GroupNo → Option Read → View → View → Type 0
+IsReadAs told per text groups None old new = Unit {0}
+IsReadAs told per text groups (Some (read.Lines lines)) old new = told → read.Lines lines ≡ as_it_is text
+IsReadAs told per text groups (Some (read.Gone group)) old new = told → read.Gone group ≡ as_it_is text
+IsReadAs told per text groups (Some (read.Lost volume)) old new = (told → IsWhole text) × HasFailed per groups volume old new
+
+-- A volume that was found lost where outputs were written: all groups were taken for them, and one of these lies on it.
+abbrev pub IsSpooledIn : ℕ → ℕ → Queue → MemberId → ℕ → Option ℕ → View → View → Type 0
+IsSpooledIn per needed Q by at None old new = Unit {0}
+IsSpooledIn per needed Q by at (Some volume) old new =
+    (1 ≤ needed) × (are_refused needed Q by needed ≡ false) × HasFailed per (take needed (held_by by (taken_queue Q by at needed).owners)) volume old new
+
+-- the same of a call that writes into these groups
+abbrev pub IsSpoolLost : ℕ → List GroupNo → Option ℕ → View → View → Type 0
+IsSpoolLost per groups None old new = Unit {0}
+IsSpoolLost per groups (Some volume) old new = HasFailed per groups volume old new
+
+abbrev pub IsSpooledFor : ℕ → Queue → MemberId → ℕ → JobNo → Outcome → Option ℕ → View → View → Type 0
+IsSpooledFor per Q by at n outcome.Convert lost old new = lost ≡ None
+IsSpooledFor per Q by at n (outcome.End specs) lost old new = IsSpooledIn per (groups_for_end Q n specs) Q by at lost old new
+IsSpooledFor per Q by at n (outcome.Stop end) lost old new = lost ≡ None
+
+-- of a job that is run, or else converted
+pub record IsLookOf (told : Type 0) (runs : Bool) (per : ℕ) (Q : Queue) (by : MemberId) (at : ℕ) (look : Look) (old new : View) (j : Job) : Type 0 where
+  pub is_read : IsReadAs told per j.text (groups_of (Deck j.number) Q.owners) look.read old new
+  pub is_spooled : IsSpooledFor per Q by at j.number (outcome_for runs look j) look.lost old new
+
+abbrev pub IsLookAt : Type 0 → ℕ → Queue → MemberId → ℕ → Look → View → View → units.Unit → Type 0
+IsLookAt told per Q by at look old new (unit.Run n) = IfSome (job_at Q n) (IsLookOf told true per Q by at look old new)
+IsLookAt told per Q by at look old new (unit.Convert n) = IfSome (job_at Q n) (IsLookOf told false per Q by at look old new)
+IsLookAt told per Q by at look old new _ = Unit {0}
+
+abbrev pub IsRound : Type 0 → ℕ → MemberId → ℕ → View → View → Round → Type 0
+IsRound told per by at old new r = IsLookAt told per r.queue by at r.look old new (next_unit r.queue by)

@@ -1,0 +1,20 @@
+-- A job's outputs in groups on the spool volumes.
+use Rattle.std.specs.Prelude.{ℕ, List, [], ◌∷◌, drop, take}
+use Rattle.mas_types.specs.declared.ids.GroupNo.{GroupNo}
+use Rattle.mas_types.specs.declared.jobs.OutSpec.{OutSpec}
+use Rattle.mas_types.specs.declared.jobs.Text.TheVariants.{Whole}
+use Rattle.mas_types.specs.Owners.{groups_needed}
+use Rattle.spool_text.specs.Texts.{packed}
+use Rattle.mas_complex.specs.Texts.{IsThere, Spools}
+use Rattle.member_decks.specs.Spooling.{StandBelow}
+
+-- the outputs' texts stand in their shares of the groups
+abbrev pub AreSpooled : Spools → ℕ → List OutSpec → List GroupNo → Type 0
+AreSpooled disks per [] groups = Unit {0}
+AreSpooled disks per (s ∷ specs) groups = IsThere disks per (Whole s.text) (take (groups_needed s.text) groups) × AreSpooled disks per specs (drop (groups_needed s.text) groups)
+
+-- their pages stand there, synced or not
+abbrev pub AreWritten : Spools → ℕ → List OutSpec → List GroupNo → Type 0
+AreWritten disks per [] groups = Unit {0}
+AreWritten disks per (s ∷ specs) groups =
+    StandBelow (groups_needed s.text) disks per (packed s.text) (take (groups_needed s.text) groups) × AreWritten disks per specs (drop (groups_needed s.text) groups)

@@ -1,0 +1,4 @@
+pub mod Meaning
+pub mod Outcomes
+pub mod Next
+pub mod Ending
