@@ -71,7 +71,7 @@ may_play : (by : MemberId) (what : Ask) → IsAsk what → not (may_ask by what)
 may_play by (ask.Deck cards) fits e = (is_sysa by (not_false (by.0 == 1) e), fits)
 may_play by (ask.Command given) fits e = let both = both_true (by.0 == 1) (is_typed given) e in (is_sysa by both.0, both.1, fits)
 may_play by (ask.Lose device) fits e = fits
-may_play by (ask.Work n) fits e = absurd (cc)
+may_play by (ask.Work n) fits e = (is_sysa by (not_false (by.0 == 1) e), fits)
 may_play by ask.Lock fits e = absurd (cc)
 may_play by ask.Free fits e = absurd (cc)
 may_play by (ask.Line line) fits e = absurd (cc)

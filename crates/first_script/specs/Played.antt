@@ -5,18 +5,19 @@ use Rattle.mas_types.specs.Fit.{IsFit}
 use Rattle.script_lang.specs.declared.types.Ask.{Ask}
 use Rattle.script_lang.specs.declared.types.Ask.TheVariants as ask
 use Rattle.script_lang.specs.declared.types.Step.{Step}
-use Rattle.script_laws.specs.Limits.{AreCards, IsDevice}
+use Rattle.script_lang.specs.Asks.{units_most}
+use Rattle.script_laws.specs.Limits.{AreCards, IsBetween, IsDevice}
 use Rattle.first_script.specs.Commands.{is_typed}
 
 abbrev pub sysa : MemberId
 sysa = record { 0 = 1 }
 
--- What a member may ask for, so far: SYSA reads a deck, or gives a command that an operator types; a device is lost.
+-- What a member may ask for, so far: SYSA reads a deck, gives a command that an operator types, or works; a device is lost.
 abbrev pub may_ask : MemberId → Ask → Bool
 may_ask by (ask.Deck cards) = by.0 == 1
 may_ask by (ask.Command given) = (by.0 == 1) && is_typed given
 may_ask by (ask.Lose device) = true
-may_ask by (ask.Work n) = false
+may_ask by (ask.Work n) = by.0 == 1
 may_ask by ask.Lock = false
 may_ask by ask.Free = false
 may_ask by (ask.Line line) = false
@@ -32,7 +33,7 @@ abbrev pub MayPlay : MemberId → Ask → Type 0
 MayPlay by (ask.Deck cards) = (by ≡ sysa) × AreCards cards
 MayPlay by (ask.Command given) = (by ≡ sysa) × (is_typed given ≡ true) × IsFit given
 MayPlay by (ask.Lose device) = IsDevice device
-MayPlay by (ask.Work n) = ⊥
+MayPlay by (ask.Work n) = (by ≡ sysa) × IsBetween 1 units_most n
 MayPlay by ask.Lock = ⊥
 MayPlay by ask.Free = ⊥
 MayPlay by (ask.Line line) = ⊥

@@ -110,7 +110,7 @@ fn refusal(alloc: Global, script: &[u8], cold: bool, only: bool) -> Option<(u32,
 fn refuses_the_least_line(rt: HostRuntime) {
     for (script, line, cause) in [
         (b"SYSA DECK\n//A JOB\n//\n".as_slice(), 1, LineCause::End),
-        (b"SYSA WORK 1\n\nSYSA $XX".as_slice(), 3, LineCause::Command),
+        (b"SYSA LOCK\n\nSYSA $XX".as_slice(), 3, LineCause::Command),
         (b"SYSA $DQ\nSYSA $HJ1 X".as_slice(), 2, LineCause::Verb),
         (b"LOSE CKPT1\nCONFIG".as_slice(), 2, LineCause::Late),
         (
@@ -134,7 +134,7 @@ fn refuses_the_least_line(rt: HostRuntime) {
             LineCause::NotBuilt,
         ),
         (b"SYSB $DQ".as_slice(), 1, LineCause::NotBuilt),
-        (b"SYSA WORK 1".as_slice(), 1, LineCause::NotBuilt),
+        (b"SYSA FREE".as_slice(), 1, LineCause::NotBuilt),
         (b"SYSA LINE 1".as_slice(), 1, LineCause::NotBuilt),
         (b"SYSA REPLACE CKPT2".as_slice(), 1, LineCause::NotBuilt),
         (b"LOSE SPOOL1\nSTOP SYSA".as_slice(), 2, LineCause::NotBuilt),
@@ -188,7 +188,7 @@ fn reads_a_source_to_its_end(rt: HostRuntime) -> Result<(), Fail> {
     let script = b"SYSA DECK\n//HELLO JOB\n++END\n";
     let mut source = MemSource::new(list_of(rt.alloc(), script)?, None);
     let bytes = read_source(rt.alloc(), &mut source)?;
-    assert_eq!(rt; bytes.as_slice(), script.as_slice());
+    assert!(rt; bytes.as_slice() == script.as_slice());
     for at in [0, 10] {
         let mut source = MemSource::new(list_of(rt.alloc(), script)?, Some(at));
         let failed = matches!(read_source(rt.alloc(), &mut source), Err(SourceNo::Fault));
@@ -196,13 +196,13 @@ fn reads_a_source_to_its_end(rt: HostRuntime) -> Result<(), Fail> {
     }
     let mut most = Zeros { left: SCRIPT_BYTES };
     let bytes = read_source(rt.alloc(), &mut most)?;
-    assert_eq!(rt; bytes.len(), SCRIPT_BYTES);
+    assert!(rt; bytes.len() == SCRIPT_BYTES);
     let mut endless = Zeros { left: usize::MAX };
     let too_long = matches!(
         read_source(rt.alloc(), &mut endless),
         Err(SourceNo::TooLong)
     );
     assert!(rt; too_long);
-    assert_eq!(rt; endless.left, usize::MAX - (SCRIPT_BYTES + 1));
+    assert!(rt; endless.left == usize::MAX - (SCRIPT_BYTES + 1));
     Ok(())
 }

@@ -1,5 +1,6 @@
 -- Batches that are kept one after another.
 use Rattle.std.proofs.Common.{◌≡◌, inr, ⊎_elim, ℕ, suc, ◌≤◌, List, [], ◌∷◌, ◌++◌, length, if◌then◌else◌, refl, sym, ◌∙◌, ap, arith, append_assoc}
+use Rattle.std.proofs.lemmas.List.{length-append}
 use Rattle.std.proofs.lemmas.List.Elements.{All-nil, All-cons}
 use Rattle.mas_types.specs.declared.ids.MemberId.{MemberId}
 use Rattle.mas_types.specs.declared.journals.Batch.{Batch}
@@ -8,7 +9,7 @@ use Rattle.mas_types.specs.declared.journals.Fate.{Fate}
 use Rattle.mas_types.specs.declared.journals.Fate.TheVariants.{Kept, Flying}
 use Rattle.mas_types.specs.Journal.{is_kept}
 use Rattle.mas_complex.specs.Journals.{kept_all}
-use Rattle.member_decks.specs.Batches.{IsKeptBatch, AreAll, AreCut, AreSome, OneFlies}
+use Rattle.member_decks.specs.Batches.{IsCut, IsKeptBatch, AreAll, AreCut, AreSome, OneFlies}
 use Rattle.member_decks.specs.Decks.{all_entries}
 use Rattle.member_steps.specs.Steps.{AreAllKept}
 
@@ -54,11 +55,17 @@ module _ (by : MemberId) where
   all_kept from now (es ∷ ess) [] all = absurd all
   all_kept from now (es ∷ ess) (b ∷ bs) all = All-cons (λ (b : Batch). (b.fate ≡ Kept) × (b.last ≤ now)) b bs (all.0.kept, all.0.moments.2) (all_kept b.last now ess bs all.1)
 
-  -- not all are kept where one wasn't begun, or is in flight
-  pub some_not_all : (from now : ℕ) (ess : List (List Entry)) (bs : List Batch) → AreSome by from now ess bs → AreAll by from now ess bs → ⊥
-  some_not_all from now [] bs some all = absurd some
-  some_not_all from now (es ∷ ess) [] some all = absurd all
-  some_not_all from now (es ∷ ess) (b ∷ bs) some all = some_not_all b.last now ess bs some.1 all.1
+  -- not all are kept where one wasn't begun, or has its first entries alone, or is in flight
+  pub cut_not_all : (from now : ℕ) (ess : List (List Entry)) (bs : List Batch) → AreCut by from now ess bs → AreAll by from now ess bs → ⊥
+  cut_not_all from now [] bs cut all = absurd cut
+  cut_not_all from now (es ∷ ess) [] cut all = absurd all
+  cut_not_all from now (es ∷ ess) (b ∷ bs) cut all = ⊎_elim
+      (λ here. shorter here.1.0 es here.1.1 (ap length (sym here.1.2.entries ∙ all.0.entries)))
+      (λ behind. cut_not_all b.last now ess bs behind.1 all.1)
+      cut
+    where
+      shorter : (cut all : List Entry) → IsCut cut all → length cut ≡ length all → ⊥
+      shorter cut all is same = let e = ap length is.1.1 ∙ length-append cut is.1.0 in absurd (omega (arith, e, same, is.1.2))
 
   pub flies_not_all : (from now : ℕ) (ess : List (List Entry)) (bs : List Batch) → OneFlies by from now ess bs → AreAll by from now ess bs → ⊥
   flies_not_all from now [] bs flies all = absurd flies

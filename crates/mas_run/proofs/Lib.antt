@@ -1,6 +1,8 @@
 pub mod CourseLemmas
 pub mod VolumeLemmas
 pub mod BatchLemmas
+pub mod NumberLemmas
+pub mod WorkLemmas
 pub mod StepLemmas
 pub mod LockLemmas
 pub mod CommandLemmas

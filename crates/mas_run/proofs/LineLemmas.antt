@@ -17,7 +17,7 @@ use Rattle.member_decks.specs.Decks.{lines_by}
 use Rattle.member_node.specs.Calls.{console_now}
 use Rattle.member_steps.specs.Locked.{closing_of}
 use Rattle.member_steps.proofs.UntoldLemmas.{both_untold, closing_untold, reply_untold}
-use Rattle.mas_run.specs.Turns.{Reads, Gives, Turn, Granted, Denied, Closed, Loss, Unplayed}
+use Rattle.mas_run.specs.Turns.{Reads, Gives, Works, Turn, Granted, Denied, Closed, Loss, Unplayed}
 use Rattle.mas_run.specs.Steps.{AreOutcomes, IsOutcome, Outcome, lines_in}
 
 module _ (es : List Entry) (k : ℕ) (small : k < 2 ^ 64) (of : All (λ (e : Entry). (e.by ≡ sysa) × (e.step ≡ k)) es) where
@@ -34,6 +34,7 @@ module _ (es : List Entry) (k : ℕ) (small : k < 2 ^ 64) (of : All (λ (e : Ent
   one_untold : (at : ℕ) (turn : Turn) (o : Outcome) → IsOutcome at turn o → at < k → Untold o.lines
   one_untold at (Granted (Reads fields text lost)) o is less = subst Untold (sym is.2.1) (lines_untold at lost is.2.0 less)
   one_untold at (Granted (Gives given)) o is less = subst Untold (sym is.2) (reply_untold sysa at k less small es of is.0)
+  one_untold at (Granted (Works n looks)) o is less = subst Untold (sym is.2.1) (closed_untold at is.2.0 less)
   one_untold at (Denied why) o is less = subst Untold (sym is.1) (closed_untold at (closing_of why) less)
   one_untold at (Closed end) o is less = subst Untold (sym is.1) (closed_untold at end less)
   one_untold at (Loss dev) o is less = subst Untold (sym is.1) tt

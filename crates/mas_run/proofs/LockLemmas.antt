@@ -18,13 +18,14 @@ use Rattle.lock_cycle.specs.declared.answers.LockNo.{LockNo}
 use Rattle.lock_cycle.specs.Books.{Book, beginner, new_book, standing, try_refusal, after_try, after_free}
 use Rattle.spool_disk.specs.View.{View}
 use Rattle.member_decks.specs.Steps.{IsDeckStep}
+use Rattle.member_work.specs.Steps.{IsWorkStep}
 use Rattle.member_node.specs.declared.member.NodeNo.{NodeNo}
 use Rattle.member_node.specs.declared.member.NodeNo.TheVariants as no_node
 use Rattle.member_steps.specs.Locked.{IsDenial, IsOpenTo, denied_lines}
 use Rattle.member_steps.specs.Steps.{GivesStep}
 use Rattle.mas_run.specs.Stops.{IsStepOf}
-use Rattle.mas_run.specs.Turns.{Task, Reads, Gives, Granted, Denied, task_turn, deck_turn, after_deck}
-use Rattle.mas_run.proofs.StepLemmas.{closed_step_of, command_step_of, deck_step_of, denied_counts, denied_step_of, granted_counts, unplayed_step_of}
+use Rattle.mas_run.specs.Turns.{Sight, Task, Reads, Gives, Works, Granted, Denied, clear, task_turn, deck_turn, after_deck}
+use Rattle.mas_run.proofs.StepLemmas.{closed_step_of, command_step_of, deck_step_of, denied_counts, denied_step_of, granted_counts, unplayed_step_of, work_step_of}
 
 -- the book of a run that begins
 pub begins_open : (count hold dormancy : ℕ) (m : MemberId) → 0 < m.0 → m.0 ≤ count → IsOpenTo (new_book count hold dormancy) None m
@@ -60,27 +61,42 @@ module _ {T : Type 0} (told : Type 0) (Q : Queue) (per at : ℕ) (front batches 
   -- and of a deck
   deck_by_try : (r : Option LockNo) (fields : JobFields) (text : List (List ℕ))
       → (r ≡ None → IsDeckStep told sysa at per Q fields text front batches a a' b b' old new result) → ((why : LockNo) → r ≡ Some why → IsDenial told sysa.0 (denied_lines sysa at why) front batches a a' b b' old new result)
-      → (lost : Option ℕ) × IsStepOf told (task_turn r (Reads fields text lost)) Q per at front batches a a' b b' old new result
-  deck_by_try None fields text got refused = let step = got refl in (step.lost, deck_step_of told fields text Q per at front batches a a' b b' old new result step)
-  deck_by_try (Some why) fields text got refused = (None, denied_step_of told why Q per at front batches a a' b b' old new result (refused why refl))
+      → (seen : Sight) × IsStepOf told (task_turn r (Reads fields text seen.lost)) Q per at front batches a a' b b' old new result
+  deck_by_try None fields text got refused = let step = got refl in (record { lost = step.lost; looks = [] }, deck_step_of told fields text Q per at front batches a a' b b' old new result step)
+  deck_by_try (Some why) fields text got refused = (clear, denied_step_of told why Q per at front batches a a' b b' old new result (refused why refl))
 
   deck_by_said : (r : Option LockNo) (text : List (List ℕ)) (said : Result JobFields Refused)
       → ((fields : JobFields) → said ≡ Ok fields → r ≡ None → IsDeckStep told sysa at per Q fields text front batches a a' b b' old new result)
       → ((fields : JobFields) (why : LockNo) → said ≡ Ok fields → r ≡ Some why → IsDenial told sysa.0 (denied_lines sysa at why) front batches a a' b b' old new result)
       → ((card : ℕ) (why : CardCause) → said ≡ Err (bad card why) → IsDenial told sysa.0 (closing_line sysa at (BadCard card why) ∷ []) front batches a a' b b' old new result)
-      → (lost : Option ℕ) × IsStepOf told (deck_turn r text lost said) Q per at front batches a a' b b' old new result
-  deck_by_said r text (Err worse) got denied refused = (None, closed_step_of told (BadCard worse.card worse.cause) Q per at front batches a a' b b' old new result (refused worse.card worse.cause refl))
+      → (seen : Sight) × IsStepOf told (deck_turn r text seen.lost said) Q per at front batches a a' b b' old new result
+  deck_by_said r text (Err worse) got denied refused = (clear, closed_step_of told (BadCard worse.card worse.cause) Q per at front batches a a' b b' old new result (refused worse.card worse.cause refl))
   deck_by_said r text (Ok fields) got denied refused = deck_by_try r fields text (got fields refl) (λ why. denied fields why refl)
 
   pub deck_of : (k : Book) (by : MemberId) (own : Name8) (cards : List (List ℕ)) → by ≡ sysa
       → ((fields : JobFields) → read_as own cards ≡ Ok fields → try_refusal k by false ≡ None → IsDeckStep told by at per Q fields (text_of cards) front batches a a' b b' old new result)
       → ((fields : JobFields) (why : LockNo) → read_as own cards ≡ Ok fields → try_refusal k by false ≡ Some why → IsDenial told by.0 (denied_lines by at why) front batches a a' b b' old new result)
       → ((card : ℕ) (why : CardCause) → read_as own cards ≡ Err (bad card why) → IsDenial told by.0 (closing_line by at (BadCard card why) ∷ []) front batches a a' b b' old new result)
-      → (lost : Option ℕ) × IsStepOf told (deck_turn (try_refusal k sysa false) (text_of cards) lost (read_as own cards)) Q per at front batches a a' b b' old new result
+      → (seen : Sight) × IsStepOf told (deck_turn (try_refusal k sysa false) (text_of cards) seen.lost (read_as own cards)) Q per at front batches a a' b b' old new result
   deck_of k by own cards same got denied refused = deck_by_said (try_refusal k sysa false) (text_of cards) (read_as own cards)
       (subst (λ (m : MemberId). (fields : JobFields) → read_as own cards ≡ Ok fields → try_refusal k m false ≡ None → IsDeckStep told m at per Q fields (text_of cards) front batches a a' b b' old new result) same got)
       (subst (λ (m : MemberId). (fields : JobFields) (why : LockNo) → read_as own cards ≡ Ok fields → try_refusal k m false ≡ Some why → IsDenial told m.0 (denied_lines m at why) front batches a a' b b' old new result) same denied)
       (subst (λ (m : MemberId). (card : ℕ) (why : CardCause) → read_as own cards ≡ Err (bad card why) → IsDenial told m.0 (closing_line m at (BadCard card why) ∷ []) front batches a a' b b' old new result) same refused)
+
+  -- and of work
+  work_by_try : (r : Option LockNo) (n : ℕ)
+      → (r ≡ None → IsWorkStep told sysa at per n Q front batches a a' b b' old new result) → ((why : LockNo) → r ≡ Some why → IsDenial told sysa.0 (denied_lines sysa at why) front batches a a' b b' old new result)
+      → (seen : Sight) × IsStepOf told (task_turn r (Works n seen.looks)) Q per at front batches a a' b b' old new result
+  work_by_try None n got refused = let step = got refl in (record { lost = None; looks = step.looks }, work_step_of told n Q per at front batches a a' b b' old new result step)
+  work_by_try (Some why) n got refused = (clear, denied_step_of told why Q per at front batches a a' b b' old new result (refused why refl))
+
+  pub work_by : (k : Book) (by : MemberId) (n : ℕ) → by ≡ sysa
+      → (try_refusal k by false ≡ None → IsWorkStep told by at per n Q front batches a a' b b' old new result)
+      → ((why : LockNo) → try_refusal k by false ≡ Some why → IsDenial told by.0 (denied_lines by at why) front batches a a' b b' old new result)
+      → (seen : Sight) × IsStepOf told (task_turn (try_refusal k sysa false) (Works n seen.looks)) Q per at front batches a a' b b' old new result
+  work_by k by n same got denied = work_by_try (try_refusal k sysa false) n
+      (subst (λ (m : MemberId). try_refusal k m false ≡ None → IsWorkStep told m at per n Q front batches a a' b b' old new result) same got)
+      (subst (λ (m : MemberId). (why : LockNo) → try_refusal k m false ≡ Some why → IsDenial told m.0 (denied_lines m at why) front batches a a' b b' old new result) same denied)
 
 -- a task for which memory wants before its try
 pub unplayed_task : {T : Type 0} (told : Type 0) (r : Option LockNo) (given : Command) (Q : Queue) (per at : ℕ) (front batches : List Batch) (a b : Bool) (v : View) → batches ≡ front

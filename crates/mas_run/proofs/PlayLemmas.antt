@@ -4,7 +4,6 @@ use Rattle.std.proofs.Math.Seq.{take-append_seam, take-append-add, drop-append_s
 use Rattle.std.proofs.lemmas.List.{length-append, take_all}
 use Rattle.std.proofs.lemmas.List.Elements.{All-nil, All-cons, All-head, All-tail, All-append, All-weaker}
 use Rattle.mas_types.specs.declared.answers.Status.TheVariants as status
-use Rattle.mas_types.specs.declared.commands.Command.{Command}
 use Rattle.mas_types.specs.declared.jobs.JobFields.{JobFields}
 use Rattle.mas_types.specs.declared.ids.Dev.{Dev}
 use Rattle.mas_types.specs.declared.ids.Dev.TheVariants.{Spool}
@@ -18,31 +17,36 @@ use Rattle.first_script.specs.Played.{sysa}
 use Rattle.spool_disk.specs.View.{View, Line}
 use Rattle.spool_disk.specs.Acts.{Goes}
 use Rattle.spool_disk.specs.declared.plant.Part.TheVariants.{Disk, Console}
+use Rattle.ckpt_copy.specs.Moments.{goes_none}
 use Rattle.mas_complex.specs.Headline.{whole}
 use Rattle.mas_complex.specs.Journals.{kept_all}
 use Rattle.mas_complex.specs.Meaning.{run, step}
 use Rattle.mas_complex.proofs.Batches.{kept_all_append}
 use Rattle.member_decks.specs.declared.opening.Opened.{Opened}
 use Rattle.member_decks.specs.declared.opening.Opened.TheVariants as opened
-use Rattle.member_decks.specs.Batches.{AreAll, AreSome, OneFlies}
+use Rattle.member_decks.specs.Batches.{AreAll, AreCut, OneFlies}
 use Rattle.member_decks.specs.Decks.{all_entries, batches_behind, closing_reply, deck_batches, ends_as, finishing, given_in, opening}
 use Rattle.member_decks.specs.Steps.{AreOf, IsFoundLost, LiesOn, opened_queue}
+use Rattle.member_work.specs.Rounds.{IsRound}
+use Rattle.member_work.specs.Work.{rounds, work_closing}
+use Rattle.member_work.proofs.RoundLemmas.{wider_seen}
 use Rattle.member_node.specs.declared.member.NodeNo.{NodeNo}
 use Rattle.member_node.specs.declared.member.NodeNo.TheVariants as no_node
 use Rattle.member_node.specs.Calls.{Course, Grows, console_now}
 use Rattle.member_node.proofs.CourseLemmas.{course_none, course_then, rose_later, rose_more}
 use Rattle.member_node.proofs.WriteLemmas.{run_append}
 use Rattle.member_steps.specs.Saying.{torn, Breaks}
-use Rattle.member_steps.specs.Steps.{AreAllKept, entry_of, reply_to}
+use Rattle.member_steps.specs.Steps.{AreAllKept, reply_to}
 use Rattle.mas_run.specs.Plays.{HavePlayed, ArePlayed}
-use Rattle.mas_run.specs.Runs.{IsBegun, IsHistory, IsSettled, Adds, HasLost, IsStopped}
-use Rattle.mas_run.specs.Steps.{AreOutcomes, FindsLost, FindLost, IsOutcome, LeavesVolumes, Outcome, after_step, batches_in, first_in, lines_in, loses_after, loses_after_step, next_in, outcome_of, outcomes_from, outcomes_of, queue_after, step_batches}
+use Rattle.mas_run.specs.Runs.{IsHistory, IsSettled, IsUnclosed, IsUncut, Adds, HasLost, IsStopped}
+use Rattle.mas_run.specs.Steps.{AreOutcomes, BeginsWork, FindsLost, FindLost, IsCounted, IsOutcome, IsWork, LeavesVolumes, Outcome, after_step, batches_in, batches_most, first_in, lines_in, loses_after, loses_after_step, next_in, outcome_of, outcomes_from, outcomes_of, queue_after, step_batches}
 use Rattle.mas_run.specs.Stops.{IsLeftOrLost, IsStepOf}
-use Rattle.mas_run.specs.Turns.{Reads, Gives, Turn, Granted, Denied, Closed, Loss, Unplayed}
+use Rattle.mas_run.specs.Turns.{Reads, Gives, Works, Turn, Granted, Denied, Closed, Loss, Unplayed}
 use Rattle.mas_run.specs.Volumes.{AreVolumesKept}
-use Rattle.mas_run.proofs.BatchLemmas.{all_join, all_kept, all_length, entries_append, flies_not_all, kept_entries, some_cut, some_not_all}
+use Rattle.mas_run.proofs.BatchLemmas.{all_join, all_kept, all_length, cut_not_all, entries_append, flies_not_all, kept_entries, some_cut}
 use Rattle.mas_run.proofs.CourseLemmas.{has_lost_more, has_lost_later}
 use Rattle.mas_run.proofs.VolumeLemmas.{kept_none, kept_then}
+use Rattle.mas_run.proofs.WorkLemmas.{given_of, work_few, work_of}
 
 -- ONE STEP MORE
 
@@ -91,14 +95,10 @@ shapes_join at (x ∷ xs) ys (o ∷ os) ps one two =
 
 -- WHAT THE TABLE GIVES
 
-given_of : (Q : Queue) (at : ℕ) (cs : List Command) → AreOf sysa at (given_in Q sysa at cs)
-given_of Q at [] = All-nil (λ (e : Entry). (e.by ≡ sysa) × (e.step ≡ at))
-given_of Q at (c ∷ cs) = All-cons (λ (e : Entry). (e.by ≡ sysa) × (e.step ≡ at)) (entry_of Q sysa at c) (given_in (step Q sysa c).0 sysa at cs) (refl, refl) (given_of (step Q sysa c).0 at cs)
-
 module _ (Q : Queue) (at : ℕ) (text : List (List ℕ)) (lost : Option ℕ) where
   behind_of : (ends : Opened) → All (AreOf sysa at) (batches_behind Q sysa at text lost ends)
   behind_of opened.Closed = All-nil (AreOf sysa at)
-  behind_of (opened.Ready n) = All-cons (AreOf sysa at) (given_in Q sysa at (finishing lost n text ∷ [])) [] (given_of Q at (finishing lost n text ∷ [])) (All-nil (AreOf sysa at))
+  behind_of (opened.Ready n) = All-cons (AreOf sysa at) (given_in Q sysa at (finishing lost n text ∷ [])) [] (given_of sysa at Q (finishing lost n text ∷ [])) (All-nil (AreOf sysa at))
 
   behind_few : (ends : Opened) → length (batches_behind Q sysa at text lost ends) ≤ 1
   behind_few opened.Closed = omega arith
@@ -109,7 +109,7 @@ deck_shape Q at fields text lost =
     let first = given_in Q sysa at (opening Q sysa fields (groups_needed text)) in
     let ends = ends_as Q sysa fields (groups_needed text) in
     let few = behind_few (run Q first) at text lost ends in (
-      All-cons (AreOf sysa at) first (batches_behind (run Q first) sysa at text lost ends) (given_of Q at (opening Q sysa fields (groups_needed text))) (behind_of (run Q first) at text lost ends),
+      All-cons (AreOf sysa at) first (batches_behind (run Q first) sysa at text lost ends) (given_of sysa at Q (opening Q sysa fields (groups_needed text))) (behind_of (run Q first) at text lost ends),
       omega (arith, few),
       (closing_reply (all_entries (deck_batches Q sysa at fields text lost)), refl),
     )
@@ -118,6 +118,7 @@ deck_shape Q at fields text lost =
 pub shape_of : (Q : Queue) (at : ℕ) (s : Turn) → IsOutcome at s (outcome_of Q at s)
 shape_of Q at (Granted (Reads fields text lost)) = deck_shape Q at fields text lost
 shape_of Q at (Granted (Gives given)) = (reply_to Q sysa given, refl, refl)
+shape_of Q at (Granted (Works n looks)) = (work_of sysa at Q n looks, work_few sysa at Q n looks, (work_closing Q sysa at n looks, refl))
 shape_of Q at (Denied why) = (refl, refl)
 shape_of Q at (Closed end) = (refl, refl)
 shape_of Q at (Loss dev) = (refl, refl)
@@ -139,9 +140,16 @@ module _ (v0 v v' : View) (per : ℕ) (before : Goes v0 v) (after : Goes v v') w
   found_on (Some volume) found = (after.lost (Disk (Spool volume)) found.0, rose_more (v0.faults (Disk (Spool volume))) (v.faults (Disk (Spool volume))) (v'.faults (Disk (Spool volume))) found.1 (after.faults (Disk (Spool volume))))
 
   module _ (told : Type 0) where
+    here : Goes v' v'
+    here = goes_none v'
+
+    start : Goes v0 v0
+    start = goes_none v0
+
     finds_in : (Q : Queue) (at : ℕ) (s : Turn) → FindsLost told v v' per Q at s → FindsLost told v0 v' per Q at s
     finds_in Q at (Granted (Reads fields text lost)) found = (found_in lost found.0, found.1)
     finds_in Q at (Granted (Gives given)) found = tt
+    finds_in Q at (Granted (Works n looks)) found = λ t. wider_seen told per sysa at v0 v v' v' before here (rounds n Q sysa at looks) (found t)
     finds_in Q at (Denied why) found = tt
     finds_in Q at (Closed end) found = tt
     finds_in Q at (Loss dev) found = tt
@@ -150,6 +158,7 @@ module _ (v0 v v' : View) (per : ℕ) (before : Goes v0 v) (after : Goes v v') w
     finds_on : (Q : Queue) (at : ℕ) (s : Turn) → FindsLost told v0 v per Q at s → FindsLost told v0 v' per Q at s
     finds_on Q at (Granted (Reads fields text lost)) found = (found_on lost found.0, found.1)
     finds_on Q at (Granted (Gives given)) found = tt
+    finds_on Q at (Granted (Works n looks)) found = λ t. wider_seen told per sysa at v0 v0 v v' start after (rounds n Q sysa at looks) (found t)
     finds_on Q at (Denied why) found = tt
     finds_on Q at (Closed end) found = tt
     finds_on Q at (Loss dev) found = tt
@@ -170,6 +179,8 @@ finds_at told old new per Q R at n (Granted (Reads fields text lost)) same numbe
       (subst (λ (m : ℕ). LiesOn (ends_as Q sysa fields (groups_needed text)) per (opened_queue Q sysa m fields text) sysa text lost) number (found.1 t)),
 )
 finds_at told old new per Q R at n (Granted (Gives given)) same number found = tt
+finds_at told old new per Q R at n (Granted (Works m looks)) same number found = λ t.
+    subst (λ (P : Queue). All (IsRound told per sysa n old new) (rounds m P sysa n looks)) (same t) (subst (λ (k : ℕ). All (IsRound told per sysa k old new) (rounds m Q sysa k looks)) number (found t))
 finds_at told old new per Q R at n (Denied why) same number found = tt
 finds_at told old new per Q R at n (Closed end) same number found = tt
 finds_at told old new per Q R at n (Loss dev) same number found = tt
@@ -302,6 +313,16 @@ module _ (told : Type 0) (base : Queue) (per : ℕ) (steps : List Turn) (s : Tur
     first_ones : take (length steps) (steps ++ s ∷ later) ≡ steps
     first_ones = take-append_seam steps (s ∷ later)
 
+    here_on : drop (length steps) (steps ++ s ∷ later) ≡ s ∷ later
+    here_on = drop-append_seam steps (s ∷ later)
+
+    -- it isn't kept as a whole, or it works
+    unclosed : (begun : List Batch) → IsUnclosed (steps ++ s ∷ later) (length steps) (length steps) begun
+    unclosed begun = inl refl
+
+    unclosed_work : (kept : ℕ) → IsWork s → IsUnclosed (steps ++ s ∷ later) kept (length steps) []
+    unclosed_work kept work = inr (subst BeginsWork (sym here_on) work, refl)
+
     with_it : take (length steps + 1) (steps ++ s ∷ later) ≡ steps ++ s ∷ []
     with_it = take-append-add steps (s ∷ later) 1
 
@@ -319,8 +340,12 @@ module _ (told : Type 0) (base : Queue) (per : ℕ) (steps : List Turn) (s : Tur
       settled_next : (more : List Batch) → IsSettled o.batches v.now v'.now more → IsSettled (next_in (length steps) (all_did o)) v.now v'.now more
       settled_next more settled = subst (λ (ess : List (List Entry)). IsSettled ess v.now v'.now more) (sym next_is) settled
 
-      begun_next : (more : List Batch) → IsBegun o.batches v.now v'.now more → IsBegun (next_in (length steps) (all_did o)) v.now v'.now more
-      begun_next more begun = subst (λ (ess : List (List Entry)). IsBegun ess v.now v'.now more) (sym next_is) begun
+      uncut_next : (more : List Batch) → IsUncut (s ∷ later) o.batches v.now v'.now more → IsUncut (drop (length steps) (steps ++ s ∷ later)) (next_in (length steps) (all_did o)) v.now v'.now more
+      uncut_next more uncut = subst (λ (ess : List (List Entry)). IsUncut (drop (length steps) (steps ++ s ∷ later)) ess v.now v'.now more) (sym next_is)
+          (subst (λ (turns : List Turn). IsUncut turns o.batches v.now v'.now more) (sym here_on) uncut)
+
+      uncut_with_it : IsUncut (drop (length steps + 1) (steps ++ s ∷ later)) (next_in (length steps + 1) (all_did o)) v'.now v'.now []
+      uncut_with_it = inl (inl refl)
 
       module _ (more : List Batch) (goes : Goes v v') where
         -- it isn't kept as a whole
@@ -365,42 +390,85 @@ module _ (told : Type 0) (base : Queue) (per : ℕ) (steps : List Turn) (s : Tur
 
     module _ {T : Type 0} (front batches : List Batch) where
       unplayed : (step : IsStepOf {T = T} told s Q per at front batches a a' b b' v v' (Err no_node.NoMemory)) → ArePlayed {T = T} told base per (steps ++ s ∷ later) (rest ++ step.more) a0 a' b0 b' v0 v' (Err no_node.NoMemory)
-      unfolding unkept_history
-      unplayed step = record {
-        did = all_did step.did;
-        shaped = shaped_now step.did later (outcomes_from (after_step Q at s) (at + 1) later) step.shaped (shapes_of (after_step Q at s) (at + 1) later);
-        are = λ t. are_now step.did later (step.is t) t;
-        kept = length steps;
-        closed = length steps;
-        few = (omega arith, omega arith, omega (arith, many));
-        course = course_then a0 a a' b0 b b' v0 v v' played.course step.course;
-        left = left_now step.course step.cause;
-        history = unkept_history step.did step.more step.course.goes (inl step.leaves);
-        ends = (refl, settled_next step.did step.more step.leaves);
-        loses = λ t d. unkept_loses t d (step.loses t d).0;
-        found = found_now step.course.goes later clean step.found;
-        volumes = λ t. volumes_now step.course.goes later clean (step.volumes t) (played.volumes t);
-        said = λ t. inl (step.console t ∙ said_before step.did (played.said t));
-      }
+      unfolding unkept_history kept_history
+      unplayed step = ⊎_elim in_the_middle (λ work. at_the_end work.0 work.1) step.leaves where
+        in_the_middle : IsSettled step.did.batches v.now v'.now step.more → ArePlayed {T = T} told base per (steps ++ s ∷ later) (rest ++ step.more) a0 a' b0 b' v0 v' (Err no_node.NoMemory)
+        in_the_middle settled = record {
+          did = all_did step.did;
+          shaped = shaped_now step.did later (outcomes_from (after_step Q at s) (at + 1) later) step.shaped (shapes_of (after_step Q at s) (at + 1) later);
+          are = λ t. are_now step.did later (step.is t) t;
+          kept = length steps;
+          closed = length steps;
+          few = (omega arith, omega arith, omega (arith, many));
+          course = course_then a0 a a' b0 b b' v0 v v' played.course step.course;
+          left = left_now step.course step.cause;
+          history = unkept_history step.did step.more step.course.goes (inl settled);
+          ends = (unclosed step.more, settled_next step.did step.more settled);
+          loses = λ t d. unkept_loses t d (step.loses t d).0;
+          found = found_now step.course.goes later clean step.found;
+          volumes = λ t. volumes_now step.course.goes later clean (step.volumes t) (played.volumes t);
+          said = λ t. inl (step.console t ∙ said_before step.did (played.said t));
+        }
+
+        at_the_end : IsWork s → AreAll sysa v.now v'.now step.did.batches step.more → ArePlayed {T = T} told base per (steps ++ s ∷ later) (rest ++ step.more) a0 a' b0 b' v0 v' (Err no_node.NoMemory)
+        at_the_end work all = record {
+          did = all_did step.did;
+          shaped = shaped_now step.did later (outcomes_from (after_step Q at s) (at + 1) later) step.shaped (shapes_of (after_step Q at s) (at + 1) later);
+          are = λ t. are_now step.did later (step.is t) t;
+          kept = length steps + 1;
+          closed = length steps;
+          few = (omega arith, omega arith, omega (arith, many));
+          course = course_then a0 a a' b0 b b' v0 v v' played.course step.course;
+          left = left_now step.course step.cause;
+          history = kept_history step.did step.more step.course.goes all;
+          ends = (unclosed_work (length steps + 1) work, inl refl);
+          loses = λ t d. kept_loses t d (step.loses t d);
+          found = found_now step.course.goes later clean step.found;
+          volumes = λ t. volumes_now step.course.goes later clean (step.volumes t) (played.volumes t);
+          said = λ t. inl (step.console t ∙ said_before step.did (played.said t));
+        }
 
       lost_both : (step : IsStepOf {T = T} told s Q per at front batches a a' b b' v v' (Err no_node.BothLost)) → ArePlayed {T = T} told base per (steps ++ s ∷ later) (rest ++ step.more) a0 a' b0 b' v0 v' (Err no_node.BothLost)
-      unfolding unkept_history
-      lost_both step = record {
-        did = all_did step.did;
-        shaped = shaped_now step.did later (outcomes_from (after_step Q at s) (at + 1) later) step.shaped (shapes_of (after_step Q at s) (at + 1) later);
-        are = λ t. are_now step.did later (step.is t) t;
-        kept = length steps;
-        closed = length steps;
-        few = (omega arith, omega arith, omega (arith, many));
-        course = course_then a0 a a' b0 b b' v0 v v' played.course step.course;
-        left = tt;
-        history = unkept_history step.did step.more step.course.goes (⊎_elim (λ some. inl (inr (some_cut sysa v.now v'.now step.did.batches step.more some))) (λ flies. inr flies) step.leaves);
-        ends = (refl, step.cause, begun_next step.did step.more (inr step.leaves));
-        loses = λ t d. unkept_loses t d (step.loses t d).0;
-        found = found_now step.course.goes later clean step.found;
-        volumes = λ t. volumes_now step.course.goes later clean (step.volumes t) (played.volumes t);
-        said = λ t. inl (step.console t ∙ said_before step.did (played.said t));
-      }
+      unfolding unkept_history kept_history
+      lost_both step = ⊎_elim (λ some. in_the_middle (inl (inr (some_cut sysa v.now v'.now step.did.batches step.more some))) (inl (inr (inl some))))
+          (λ others. ⊎_elim (λ flies. in_the_middle (inr flies) (inl (inr (inr flies))))
+          (λ work. ⊎_elim (λ cut. in_the_middle (inl (inr cut)) (inr (work.0, cut))) (λ all. at_the_end work.0 all) work.1) others)
+          step.leaves where
+            in_the_middle : IsSettled step.did.batches v.now v'.now step.more ⊎ OneFlies sysa v.now v'.now step.did.batches step.more → IsUncut (s ∷ later) step.did.batches v.now v'.now step.more → ArePlayed {T = T} told base per (steps ++ s ∷ later) (rest ++ step.more) a0 a' b0 b' v0 v' (Err no_node.BothLost)
+            in_the_middle next uncut = record {
+              did = all_did step.did;
+              shaped = shaped_now step.did later (outcomes_from (after_step Q at s) (at + 1) later) step.shaped (shapes_of (after_step Q at s) (at + 1) later);
+              are = λ t. are_now step.did later (step.is t) t;
+              kept = length steps;
+              closed = length steps;
+              few = (omega arith, omega arith, omega (arith, many));
+              course = course_then a0 a a' b0 b b' v0 v v' played.course step.course;
+              left = tt;
+              history = unkept_history step.did step.more step.course.goes next;
+              ends = (unclosed step.more, step.cause, uncut_next step.did step.more uncut);
+              loses = λ t d. unkept_loses t d (step.loses t d).0;
+              found = found_now step.course.goes later clean step.found;
+              volumes = λ t. volumes_now step.course.goes later clean (step.volumes t) (played.volumes t);
+              said = λ t. inl (step.console t ∙ said_before step.did (played.said t));
+            }
+
+            at_the_end : IsWork s → AreAll sysa v.now v'.now step.did.batches step.more → ArePlayed {T = T} told base per (steps ++ s ∷ later) (rest ++ step.more) a0 a' b0 b' v0 v' (Err no_node.BothLost)
+            at_the_end work all = record {
+              did = all_did step.did;
+              shaped = shaped_now step.did later (outcomes_from (after_step Q at s) (at + 1) later) step.shaped (shapes_of (after_step Q at s) (at + 1) later);
+              are = λ t. are_now step.did later (step.is t) t;
+              kept = length steps + 1;
+              closed = length steps;
+              few = (omega arith, omega arith, omega (arith, many));
+              course = course_then a0 a a' b0 b b' v0 v v' played.course step.course;
+              left = tt;
+              history = kept_history step.did step.more step.course.goes all;
+              ends = (unclosed_work (length steps + 1) work, step.cause, uncut_with_it step.did);
+              loses = λ t d. kept_loses t d (step.loses t d);
+              found = found_now step.course.goes later clean step.found;
+              volumes = λ t. volumes_now step.course.goes later clean (step.volumes t) (played.volumes t);
+              said = λ t. inl (step.console t ∙ said_before step.did (played.said t));
+            }
 
       unsaid : (step : IsStepOf {T = T} told s Q per at front batches a a' b b' v v' (Err no_node.ConsoleFault)) → ArePlayed {T = T} told base per (steps ++ s ∷ later) (rest ++ step.more) a0 a' b0 b' v0 v' (Err no_node.ConsoleFault)
       unfolding kept_history
@@ -424,16 +492,19 @@ module _ (told : Type 0) (base : Queue) (per : ℕ) (steps : List Turn) (s : Tur
 
       stopped : (step : IsStepOf {T = T} told s Q per at front batches a a' b b' v v' (Err no_node.Halted)) → ArePlayed {T = T} told base per (steps ++ s ∷ later) (rest ++ step.more) a0 a' b0 b' v0 v' (Err no_node.Halted)
       unfolding unkept_history kept_history
-      stopped step = ⊎_elim (λ some. in_the_middle (inl some)) (λ others. ⊎_elim (λ flies. in_the_middle (inr flies)) at_the_end others) step.leaves
+      stopped step = ⊎_elim (λ some. in_the_middle (inl (some_cut sysa v.now v'.now step.did.batches step.more some)) (inl (inr (inl some))))
+          (λ others. ⊎_elim (λ flies. in_the_middle (inr flies) (inl (inr (inr flies))))
+          (λ more. ⊎_elim at_the_end (λ work. in_the_middle (inl work.1) (inr work)) more) others)
+          step.leaves
         where
           was_stopped : IsStopped v0 v'
           was_stopped = rose_later (v0.stops sysa.0) (v.stops sysa.0) (v'.stops sysa.0) (played.course.goes.stops sysa.0) step.cause.1
 
-          not_all : AreSome sysa v.now v'.now step.did.batches step.more ⊎ OneFlies sysa v.now v'.now step.did.batches step.more → AreAll sysa v.now v'.now step.did.batches step.more → ⊥
-          not_all next all = ⊎_elim (λ some. some_not_all sysa v.now v'.now step.did.batches step.more some all) (λ flies. flies_not_all sysa v.now v'.now step.did.batches step.more flies all) next
+          not_all : AreCut sysa v.now v'.now step.did.batches step.more ⊎ OneFlies sysa v.now v'.now step.did.batches step.more → AreAll sysa v.now v'.now step.did.batches step.more → ⊥
+          not_all next all = ⊎_elim (λ cut. cut_not_all sysa v.now v'.now step.did.batches step.more cut all) (λ flies. flies_not_all sysa v.now v'.now step.did.batches step.more flies all) next
 
-          in_the_middle : AreSome sysa v.now v'.now step.did.batches step.more ⊎ OneFlies sysa v.now v'.now step.did.batches step.more → ArePlayed {T = T} told base per (steps ++ s ∷ later) (rest ++ step.more) a0 a' b0 b' v0 v' (Err no_node.Halted)
-          in_the_middle next = record {
+          in_the_middle : AreCut sysa v.now v'.now step.did.batches step.more ⊎ OneFlies sysa v.now v'.now step.did.batches step.more → IsUncut (s ∷ later) step.did.batches v.now v'.now step.more → ArePlayed {T = T} told base per (steps ++ s ∷ later) (rest ++ step.more) a0 a' b0 b' v0 v' (Err no_node.Halted)
+          in_the_middle next uncut = record {
             did = all_did step.did;
             shaped = shaped_now step.did later (outcomes_from (after_step Q at s) (at + 1) later) step.shaped (shapes_of (after_step Q at s) (at + 1) later);
             are = λ t. are_now step.did later (step.is t) t;
@@ -442,8 +513,8 @@ module _ (told : Type 0) (base : Queue) (per : ℕ) (steps : List Turn) (s : Tur
             few = (omega arith, omega arith, omega (arith, many));
             course = course_then a0 a a' b0 b b' v0 v v' played.course step.course;
             left = left_now step.course step.cause.0;
-            history = unkept_history step.did step.more step.course.goes (⊎_elim (λ some. inl (inr (some_cut sysa v.now v'.now step.did.batches step.more some))) (λ flies. inr flies) next);
-            ends = (was_stopped, begun_next step.did step.more (inr next));
+            history = unkept_history step.did step.more step.course.goes (⊎_elim (λ cut. inl (inr cut)) (λ flies. inr flies) next);
+            ends = (was_stopped, uncut_next step.did step.more uncut);
             loses = λ t d. unkept_loses t d (step.loses t d).0;
             found = found_now step.course.goes later clean step.found;
             volumes = λ t. volumes_now step.course.goes later clean (step.volumes t) (played.volumes t);
@@ -461,7 +532,7 @@ module _ (told : Type 0) (base : Queue) (per : ℕ) (steps : List Turn) (s : Tur
             course = course_then a0 a a' b0 b b' v0 v v' played.course step.course;
             left = left_now step.course step.cause.0;
             history = kept_history step.did step.more step.course.goes all;
-            ends = (was_stopped, inl refl);
+            ends = (was_stopped, uncut_with_it step.did);
             loses = λ t d. kept_loses t d (step.loses t d);
             found = found_now step.course.goes later clean step.found;
             volumes = λ t. volumes_now step.course.goes later clean (step.volumes t) (played.volumes t);
@@ -536,32 +607,33 @@ queue_played told base per steps rest a0 a b0 b v0 v played t =
 pub kept_played : (told : Type 0) (base : Queue) (per : ℕ) (steps : List Turn) (rest : List Batch) (a0 a b0 b : Bool) (v0 v : View) → HavePlayed told base per steps rest a0 a b0 b v0 v → AreAllKept rest v.now
 kept_played told base per steps rest a0 a b0 b v0 v played = all_kept sysa v0.now v.now (batches_in played.did) rest played.kept
 
--- a step has two batches at most
-few_of : (ess fss : List (List Entry)) → ess ≡ fss → length fss ≤ 2 → length ess ≤ 2
-few_of ess fss is le = subst (λ (l : List (List Entry)). length l ≤ 2) (sym is) le
+-- a step has so many batches at most
+few_of : (ess fss : List (List Entry)) → ess ≡ fss → length fss ≤ batches_most → length ess ≤ batches_most
+few_of ess fss is le = subst (λ (l : List (List Entry)). length l ≤ batches_most) (sym is) le
 
-shape_few : (at : ℕ) (s : Turn) (o : Outcome) → IsOutcome at s o → length o.batches ≤ 2
-shape_few at (Granted (Reads fields text lost)) o is = is.1
-shape_few at (Granted (Gives given)) o is = few_of o.batches _ is.1 (omega arith)
-shape_few at (Denied why) o is = few_of o.batches [] is.0 (omega arith)
-shape_few at (Closed end) o is = few_of o.batches [] is.0 (omega arith)
-shape_few at (Loss dev) o is = few_of o.batches [] is.0 (omega arith)
-shape_few at Unplayed o is = few_of o.batches [] is.0 (omega arith)
+shape_few : (at : ℕ) (s : Turn) (o : Outcome) → IsCounted s → IsOutcome at s o → length o.batches ≤ batches_most
+shape_few at (Granted (Reads fields text lost)) o few is = omega (arith, is.1)
+shape_few at (Granted (Gives given)) o few is = few_of o.batches _ is.1 (omega arith)
+shape_few at (Granted (Works n looks)) o few is = omega (arith, few, is.1)
+shape_few at (Denied why) o few is = few_of o.batches [] is.0 (omega arith)
+shape_few at (Closed end) o few is = few_of o.batches [] is.0 (omega arith)
+shape_few at (Loss dev) o few is = few_of o.batches [] is.0 (omega arith)
+shape_few at Unplayed o few is = few_of o.batches [] is.0 (omega arith)
 
-shapes_few : (at : ℕ) (steps : List Turn) (os : List Outcome) → AreOutcomes at steps os → length (batches_in os) ≤ 2 * length steps
-shapes_few at [] [] are = omega arith
-shapes_few at [] (o ∷ os) are = absurd are
-shapes_few at (s ∷ steps) [] are = absurd are
-shapes_few at (s ∷ steps) (o ∷ os) are =
-    let one = shape_few at s o are.0 in
-    let more = shapes_few (at + 1) steps os are.1 in
+shapes_few : (at : ℕ) (steps : List Turn) (os : List Outcome) → All IsCounted steps → AreOutcomes at steps os → length (batches_in os) ≤ batches_most * length steps
+shapes_few at [] [] few are = omega arith
+shapes_few at [] (o ∷ os) few are = absurd are
+shapes_few at (s ∷ steps) [] few are = absurd are
+shapes_few at (s ∷ steps) (o ∷ os) few are =
+    let one = shape_few at s o (All-head IsCounted s steps few) are.0 in
+    let more = shapes_few (at + 1) steps os (All-tail IsCounted s steps few) are.1 in
     let e = length-append o.batches (batches_in os) in
     omega (arith, one, more, e)
 
-pub few_played : (told : Type 0) (base : Queue) (per : ℕ) (steps : List Turn) (rest : List Batch) (a0 a b0 b : Bool) (v0 v : View) → HavePlayed told base per steps rest a0 a b0 b v0 v → length rest ≤ 2 * length steps
-few_played told base per steps rest a0 a b0 b v0 v played =
+pub few_played : (told : Type 0) (base : Queue) (per : ℕ) (steps : List Turn) (rest : List Batch) (a0 a b0 b : Bool) (v0 v : View) → All IsCounted steps → HavePlayed told base per steps rest a0 a b0 b v0 v → length rest ≤ batches_most * length steps
+few_played told base per steps rest a0 a b0 b v0 v counted played =
     let e = all_length sysa v0.now v.now (batches_in played.did) rest played.kept in
-    let few = shapes_few 1 steps played.did played.shaped in
+    let few = shapes_few 1 steps played.did counted played.shaped in
     omega (arith, e, few)
 
 pub queue_behind : (base : Queue) (opening rest batches : List Batch) → batches ≡ opening ++ rest → run base (kept_all batches) ≡ run (run base (kept_all opening)) (kept_all rest)

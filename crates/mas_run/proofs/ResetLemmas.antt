@@ -42,7 +42,7 @@ use Rattle.mas_run.specs.Statuses.{IsCausedFrom, is_of_play, status_of}
 use Rattle.lock_cycle.specs.Books.{Book}
 use Rattle.script_lang.specs.declared.types.Step.{Step}
 use Rattle.mas_run.specs.Steps.{FindLost}
-use Rattle.mas_run.specs.Turns.{Turn, turns_from}
+use Rattle.mas_run.specs.Turns.{Sight, Turn, turns_from}
 use Rattle.mas_run.proofs.TurnLemmas.{none_found}
 use Rattle.mas_run.proofs.VolumeLemmas.{kept_on}
 use Rattle.mas_run.proofs.RunLemmas.{reset_alone}
@@ -128,7 +128,7 @@ reset_left tells asked base journal since old new a a' c c' is some there1 there
 
 pub reset_ended : {T : Type 0} (tells : Type 0) (config : Config) (book : Book) (steps : List Step) (base : Queue) (journal : Journal) (since : ℕ) (old new : View) (a a' c c' : Bool) (why : NodeNo) → since ≡ old.now → SomeAlive a c → (a ≡ true → old.lost (DiskPart Ckpt1) ≡ false) → (c ≡ true → old.lost (DiskPart Ckpt2) ≡ false)
     → (tells → ∥ Headline reads base since journal new ∥₁) → HasReset {T = T} tells (begun old.now nobody restart_entries) journal.batches a a' c c' old new (Err why)
-    → (lost : List (Option ℕ)) × HasSteps false tells (turns_from config book lost steps) (status_of {T = T} (Err why)) base journal since old.loses old new
+    → (seen : List Sight) × HasSteps false tells (turns_from config book seen steps) (status_of {T = T} (Err why)) base journal since old.loses old new
 reset_ended {T = T} tells config book steps base journal since old new a a' c c' why is some there1 there2 head r =
     ([], reset_left tells (turns_from config book [] steps) base journal since old new a a' c c' is some there1 there2 head (λ opening. none_found tells old new base.config.groups config book steps (run base (kept_all opening)) 1) {T = T} why r)
 

@@ -1,5 +1,5 @@
 -- A run, from what its step leaves.
-use Rattle.std.proofs.Common.{◌≡◌, ◌≢◌, ◌⊎◌, inl, inr, ⊎_elim, ℕ, zero, suc, ◌+◌, ◌<◌, ◌≤◌, nat_lt, Bool, true, false, List, [], ◌∷◌, ◌++◌, length, map, take, Option, None, Result, Ok, Err, refl, sym, ◌∙◌, ap, subst, arith, replicate, All}
+use Rattle.std.proofs.Common.{◌≡◌, ◌≢◌, ◌⊎◌, inl, inr, ⊎_elim, ℕ, zero, suc, ◌+◌, ◌<◌, ◌≤◌, nat_lt, Bool, true, false, List, [], ◌∷◌, ◌++◌, length, map, take, drop, None, Result, Ok, Err, refl, sym, ◌∙◌, ap, subst, arith, replicate, All}
 use Rattle.std.proofs.Math.Logic.{∥∥₁_map, ∥∥₁_elim}
 use Rattle.std.specs.Coded.{Coded, Coded-set, coded_ℕ, code_by, ×_prop, le_prop}
 use Rattle.std.proofs.lemmas.Bool.Decides.{nat_tests}
@@ -48,10 +48,10 @@ use Rattle.first_script.specs.Played.{sysa}
 use Rattle.lock_cycle.specs.Books.{Book}
 use Rattle.script_lang.specs.declared.types.Script.{Script}
 use Rattle.script_lang.specs.declared.types.Step.{Step}
-use Rattle.mas_run.specs.Turns.{Turn, turns_from, turns_of}
+use Rattle.mas_run.specs.Turns.{Sight, Turn, turns_from, turns_of}
 use Rattle.mas_run.specs.Steps.{FindLost, LeavesVolumes, lines_in, loses_after, next_in, outcomes_of}
 use Rattle.mas_run.specs.Plays.{Ends, IfNotLost, ArePlayed, HasPlay}
-use Rattle.mas_run.specs.Runs.{has_begun, IsRun, Adds, HasLost, IsBegun, IsSettled, IsStopped, IsRestart, IsReset, HavePassed, IsSafe, IsPlay, HasSteps}
+use Rattle.mas_run.specs.Runs.{has_begun, IsRun, Adds, HasLost, IsSettled, IsStopped, IsUnclosed, IsUncut, IsRestart, IsReset, HavePassed, IsSafe, IsPlay, HasSteps}
 use Rattle.mas_run.specs.Volumes.{AreVolumesKept, AreVolumesKeptUntil}
 use Rattle.mas_run.proofs.PlayLemmas.{find_since, shapes_of}
 use Rattle.mas_run.proofs.VolumeLemmas.{kept_none, kept_past, kept_then}
@@ -98,50 +98,50 @@ left_now : (old new : View) (a a' b b' : Bool) → (a ≡ true → old.lost (Dis
 left_now old new a a' b b' there1 there2 course some =
     ⊎_elim (λ alive. inl (left a' b' alive (λ is. course.there1 is (there1 (course.alive1 is))) (λ is. course.there2 is (there2 (course.alive2 is))))) inr some
 
-module _ {T : Type 0} (one two : Bool) (old new : View) (all : ℕ) (begun : List Batch) (A U : Type 0) where
-  settled : (begun ≡ [] → A) → (answer : Result T NodeNo) (kept closed : ℕ) → status_of answer ≢ status.BothLost → Ends answer kept closed all begun A U one two old new → A ⊎ IsStopped old new
+module _ {T : Type 0} (one two : Bool) (old new : View) (asked : List Turn) (begun : List Batch) (A U : Type 0) where
+  settled : (begun ≡ [] → A) → (answer : Result T NodeNo) (kept closed : ℕ) → status_of answer ≢ status.BothLost → Ends answer asked kept closed begun A U one two old new → A ⊎ IsStopped old new
   settled none (Ok done) kept closed ne ends = inl (none ends.2)
   settled none (Err no_node.NoMemory) kept closed ne ends = inl ends.1
   settled none (Err no_node.BothLost) kept closed ne ends = absurd (ne refl)
   settled none (Err no_node.ConsoleFault) kept closed ne ends = inl (none ends.1)
   settled none (Err no_node.Halted) kept closed ne ends = inr ends.0
 
-  uncut : (begun ≡ [] → U) → (answer : Result T NodeNo) (kept closed : ℕ) → status_of answer ≢ status.NoMemory → Ends answer kept closed all begun A U one two old new → U
+  uncut : (begun ≡ [] → U) → (answer : Result T NodeNo) (kept closed : ℕ) → status_of answer ≢ status.NoMemory → Ends answer asked kept closed begun A U one two old new → U
   uncut none (Ok done) kept closed ne ends = none ends.2
   uncut none (Err no_node.NoMemory) kept closed ne ends = absurd (ne refl)
   uncut none (Err no_node.BothLost) kept closed ne ends = ends.2
   uncut none (Err no_node.ConsoleFault) kept closed ne ends = none ends.1
   uncut none (Err no_node.Halted) kept closed ne ends = ends.1
 
-  finished : (answer : Result T NodeNo) (kept closed : ℕ) → status_of answer ≡ status.Done → Ends answer kept closed all begun A U one two old new → (closed ≡ all) ⊎ IsStopped old new
+  finished : (answer : Result T NodeNo) (kept closed : ℕ) → status_of answer ≡ status.Done → Ends answer asked kept closed begun A U one two old new → (closed ≡ length asked) ⊎ IsStopped old new
   finished (Ok done) kept closed e ends = inl ends.1
   finished (Err no_node.NoMemory) kept closed e ends = absurd (cc)
   finished (Err no_node.BothLost) kept closed e ends = absurd (cc)
   finished (Err no_node.ConsoleFault) kept closed e ends = absurd (cc)
   finished (Err no_node.Halted) kept closed e ends = inr ends.0
 
-  one_unsaid : (answer : Result T NodeNo) (kept closed : ℕ) → status_of answer ≡ status.ConsoleFault → Ends answer kept closed all begun A U one two old new → (kept ≡ closed + 1) × (begun ≡ [])
+  one_unsaid : (answer : Result T NodeNo) (kept closed : ℕ) → status_of answer ≡ status.ConsoleFault → Ends answer asked kept closed begun A U one two old new → (kept ≡ closed + 1) × (begun ≡ [])
   one_unsaid (Ok done) kept closed e ends = absurd (cc)
   one_unsaid (Err no_node.NoMemory) kept closed e ends = absurd (cc)
   one_unsaid (Err no_node.BothLost) kept closed e ends = absurd (cc)
   one_unsaid (Err no_node.ConsoleFault) kept closed e ends = (ends.0, ends.1)
   one_unsaid (Err no_node.Halted) kept closed e ends = absurd (cc)
 
-  none_unplayed : (answer : Result T NodeNo) (kept closed : ℕ) → status_of answer ≡ status.NoMemory → Ends answer kept closed all begun A U one two old new → kept ≡ closed
+  none_unplayed : (answer : Result T NodeNo) (kept closed : ℕ) → status_of answer ≡ status.NoMemory → Ends answer asked kept closed begun A U one two old new → IsUnclosed asked kept closed begun
   none_unplayed (Ok done) kept closed e ends = absurd (cc)
   none_unplayed (Err no_node.NoMemory) kept closed e ends = ends.0
   none_unplayed (Err no_node.BothLost) kept closed e ends = absurd (cc)
   none_unplayed (Err no_node.ConsoleFault) kept closed e ends = absurd (cc)
   none_unplayed (Err no_node.Halted) kept closed e ends = absurd (cc)
 
-  none_unkept : (answer : Result T NodeNo) (kept closed : ℕ) → status_of answer ≡ status.BothLost → Ends answer kept closed all begun A U one two old new → (kept ≡ closed) × IsBothLost one two
+  none_unkept : (answer : Result T NodeNo) (kept closed : ℕ) → status_of answer ≡ status.BothLost → Ends answer asked kept closed begun A U one two old new → IsUnclosed asked kept closed begun × IsBothLost one two
   none_unkept (Ok done) kept closed e ends = absurd (cc)
   none_unkept (Err no_node.NoMemory) kept closed e ends = absurd (cc)
   none_unkept (Err no_node.BothLost) kept closed e ends = (ends.0, ends.1)
   none_unkept (Err no_node.ConsoleFault) kept closed e ends = absurd (cc)
   none_unkept (Err no_node.Halted) kept closed e ends = absurd (cc)
 
-  console_failed : (answer : Result T NodeNo) (kept closed : ℕ) → status_of answer ≡ status.ConsoleFault → Ends answer kept closed all begun A U one two old new → Rose (old.faults Console) (new.faults Console)
+  console_failed : (answer : Result T NodeNo) (kept closed : ℕ) → status_of answer ≡ status.ConsoleFault → Ends answer asked kept closed begun A U one two old new → Rose (old.faults Console) (new.faults Console)
   console_failed (Ok done) kept closed e ends = absurd (cc)
   console_failed (Err no_node.NoMemory) kept closed e ends = absurd (cc)
   console_failed (Err no_node.BothLost) kept closed e ends = absurd (cc)
@@ -154,14 +154,14 @@ module _ {T : Type 0} (told : Type 0) (asked : List Turn) (from : Queue) (per : 
   Next = IsSettled (next_in p.kept p.did) p.history.between new.now p.history.begun
 
   abbrev Uncut : Type 0
-  Uncut = IsBegun (next_in p.kept p.did) p.history.between new.now p.history.begun
+  Uncut = IsUncut (drop p.kept asked) (next_in p.kept p.did) p.history.between new.now p.history.begun
 
   pub caused_by_steps : (a' ≡ false → new.lost (DiskPart Ckpt1) ≡ true) → (b' ≡ false → new.lost (DiskPart Ckpt2) ≡ true) → IsCausedFrom a b (status_of answer) old new
   caused_by_steps lost1 lost2 = record {
-    lost = λ e. let both = (none_unkept a' b' old new (length asked) p.history.begun Next Uncut answer p.kept p.closed e p.ends).1 in (lost1 both.0, lost2 both.1);
-    failed1 = λ e was. p.course.failed1 was (none_unkept a' b' old new (length asked) p.history.begun Next Uncut answer p.kept p.closed e p.ends).1.0;
-    failed2 = λ e was. p.course.failed2 was (none_unkept a' b' old new (length asked) p.history.begun Next Uncut answer p.kept p.closed e p.ends).1.1;
-    console = λ e. console_failed a' b' old new (length asked) p.history.begun Next Uncut answer p.kept p.closed e p.ends;
+    lost = λ e. let both = (none_unkept a' b' old new asked p.history.begun Next Uncut answer p.kept p.closed e p.ends).1 in (lost1 both.0, lost2 both.1);
+    failed1 = λ e was. p.course.failed1 was (none_unkept a' b' old new asked p.history.begun Next Uncut answer p.kept p.closed e p.ends).1.0;
+    failed2 = λ e was. p.course.failed2 was (none_unkept a' b' old new asked p.history.begun Next Uncut answer p.kept p.closed e p.ends).1.1;
+    console = λ e. console_failed a' b' old new asked p.history.begun Next Uncut answer p.kept p.closed e p.ends;
   }
 
   passed : (a ≡ true → old.lost (DiskPart Ckpt1) ≡ false) → (b ≡ true → old.lost (DiskPart Ckpt2) ≡ false) → HavePassed told asked (status_of answer) from per old.now rest old.loses old new
@@ -173,12 +173,12 @@ module _ {T : Type 0} (told : Type 0) (asked : List Turn) (from : Queue) (per : 
     closed = p.closed;
     few = p.few;
     history = p.history;
-    settled = λ ne. settled a' b' old new (length asked) p.history.begun Next Uncut (λ none. inl none) answer p.kept p.closed ne p.ends;
-    uncut = λ ne. uncut a' b' old new (length asked) p.history.begun Next Uncut (λ none. inl none) answer p.kept p.closed ne p.ends;
-    done = λ e. finished a' b' old new (length asked) p.history.begun Next Uncut answer p.kept p.closed e p.ends;
-    unsaid = λ e. one_unsaid a' b' old new (length asked) p.history.begun Next Uncut answer p.kept p.closed e p.ends;
-    unplayed = λ e. none_unplayed a' b' old new (length asked) p.history.begun Next Uncut answer p.kept p.closed e p.ends;
-    unkept = λ e. (none_unkept a' b' old new (length asked) p.history.begun Next Uncut answer p.kept p.closed e p.ends).0;
+    settled = λ ne. settled a' b' old new asked p.history.begun Next Uncut (λ none. inl none) answer p.kept p.closed ne p.ends;
+    uncut = λ ne. uncut a' b' old new asked p.history.begun Next Uncut (λ none. inl (inl none)) answer p.kept p.closed ne p.ends;
+    done = λ e. finished a' b' old new asked p.history.begun Next Uncut answer p.kept p.closed e p.ends;
+    unsaid = λ e. one_unsaid a' b' old new asked p.history.begun Next Uncut answer p.kept p.closed e p.ends;
+    unplayed = λ e. none_unplayed a' b' old new asked p.history.begun Next Uncut answer p.kept p.closed e p.ends;
+    unkept = λ e. (none_unkept a' b' old new asked p.history.begun Next Uncut answer p.kept p.closed e p.ends).0;
     said = p.said;
     loses = p.loses;
     found = p.found;
@@ -198,13 +198,13 @@ safe_of told base journal since new head = record {
 pub play_of_steps : {T : Type 0} (told : Type 0) (book : Book) (steps : List Step) (base : Queue) (front : List Batch) (journal : Journal) (since : ℕ) (old new : View) (a a' b b' : Bool) → (told → ∥ Headline reads base since journal new ∥₁)
     → (a ≡ true → old.lost (DiskPart Ckpt1) ≡ false) → (b ≡ true → old.lost (DiskPart Ckpt2) ≡ false) → (answer : Result T NodeNo)
     → HasPlay told (run base (kept_all front)) base.config book steps front journal.batches a a' b b' old new answer
-    → (lost : List (Option ℕ)) × IsPlay told (turns_from base.config book lost steps) (status_of answer) base front journal since old new
+    → (seen : List Sight) × IsPlay told (turns_from base.config book seen steps) (status_of answer) base front journal since old new
 play_of_steps told book steps base front journal since old new a a' b b' head there1 there2 answer has = (
-  has.lost,
+  has.seen,
   record {
     rest = has.rest;
     batches = has.batches_are;
-    played = passed told (turns_from base.config book has.lost steps) (run base (kept_all front)) base.config.groups has.rest old new a a' b b' answer has.played there1 there2;
+    played = passed told (turns_from base.config book has.seen steps) (run base (kept_all front)) base.config.groups has.rest old new a a' b b' answer has.played there1 there2;
     volumes = has.played.volumes;
     safe = safe_of told base journal since new head;
   },
@@ -323,11 +323,11 @@ reset_alone tells asked answer base opening journal since old new are is goes re
     few = (omega arith, omega arith, omega arith);
     history = record { front = []; begun = []; are = refl; between = since; moments = (omega arith, omega (arith, is, goes.later)); are_kept = tt; next = inl (inl refl) };
     settled = λ ne. inl (inl refl);
-    uncut = λ ne. inl refl;
+    uncut = λ ne. inl (inl refl);
     done = λ e. absurd (not_done e);
     unsaid = λ e. absurd (not_unsaid e);
-    unplayed = λ e. refl;
-    unkept = λ e. refl;
+    unplayed = λ e. inl refl;
+    unkept = λ e. inl refl;
     said = λ t. inl (quiet t ∙ sym (append-nil (console_now old)));
     loses = λ t. same;
     found = found;
@@ -427,4 +427,4 @@ stepless_kept cold tells script answer base journal since old new none unbegun r
   by_begun false is = unbegun t is
   by_begun true is =
       let r = run is in
-      r.steps.volumes t (subst (λ (steps : List Step). All LeavesVolumes (turns_of base.config r.lost steps)) (sym none) (All-nil LeavesVolumes))
+      r.steps.volumes t (subst (λ (steps : List Step). All LeavesVolumes (turns_of base.config r.seen steps)) (sym none) (All-nil LeavesVolumes))

@@ -22,6 +22,9 @@ use Rattle.mas_complex.specs.Journals.{begun, fated}
 use Rattle.member_decks.specs.Batches.{AreAll, HasAll, OneFlies}
 use Rattle.member_decks.specs.Decks.{deck_batches, deck_lines}
 use Rattle.member_decks.specs.Steps.{IsDeckStep}
+use Rattle.member_work.specs.Looks.{Look}
+use Rattle.member_work.specs.Steps.{IsWorkStep, WorkLeaves}
+use Rattle.member_work.specs.Work.{work_batches, work_lines}
 use Rattle.member_node.specs.declared.member.NodeNo.{NodeNo}
 use Rattle.member_node.specs.declared.member.NodeNo.TheVariants as no_node
 use Rattle.member_node.specs.Calls.{Course, Grows, console_now}
@@ -33,8 +36,8 @@ use Rattle.member_steps.specs.Locked.{IsDenial, denied_lines}
 use Rattle.member_node.specs.Lines.{reply_lines}
 use Rattle.member_steps.specs.Steps.{GivesStep, StepTells, entry_with}
 use Rattle.mas_run.specs.Steps.{FindsLost, IsOutcome, LeavesVolumes, Outcome, loses_after_step, outcome_of}
-use Rattle.mas_run.specs.Stops.{IsLeftOrLost, IsStepOf}
-use Rattle.mas_run.specs.Turns.{Task, Reads, Gives, Turn, Granted, Denied, Closed, Loss}
+use Rattle.mas_run.specs.Stops.{IsLeftOrLost, IsStepOf, TurnLeaves}
+use Rattle.mas_run.specs.Turns.{Task, Reads, Gives, Works, Turn, Granted, Denied, Closed, Loss}
 use Rattle.mas_run.specs.Volumes.{AreVolumesKept}
 use Rattle.mas_run.proofs.PlayLemmas.{shape_of}
 use Rattle.mas_run.proofs.VolumeLemmas.{kept_none, kept_on}
@@ -160,7 +163,7 @@ module _ (told : Type 0) (given : Command) (Q : Queue) (per at : ℕ) (front bat
     loses = λ t d. (g.step.loses t d, granted_counts d (Gives given) (v.loses d));
     more = [];
     are = g.step.journal ∙ sym (append-nil front);
-    leaves = inl refl;
+    leaves = inl (inl refl);
     found = tt;
     volumes = λ t none. kept_on v v' (g.step.others t);
     console = g.step.console;
@@ -195,7 +198,7 @@ module _ (told : Type 0) (given : Command) (Q : Queue) (per at : ℕ) (front bat
       loses = λ t d. (g.step.loses t d, granted_counts d (Gives given) (v.loses d));
       more = its_batch g.reply g.first g.later ∷ [];
       are = are;
-      leaves = inr (flies_now g.reply g.first g.later);
+      leaves = inr (inl (flies_now g.reply g.first g.later));
       found = tt;
       volumes = λ t quiet. kept_on v v' (g.step.others t);
       console = g.step.console;
@@ -266,7 +269,7 @@ module _ (told : Type 0) (given : Command) (Q : Queue) (per at : ℕ) (front bat
       loses = λ t d. (g.step.loses t d, granted_counts d (Gives given) (v.loses d));
       more = fated Kept k.0 (its_batch g.reply g.first g.later) ∷ [];
       are = k.3;
-      leaves = inr (inr (kept_now g.reply g.first g.later k.0 k.1 k.2));
+      leaves = inr (inr (inl (kept_now g.reply g.first g.later k.0 k.1 k.2)));
       found = tt;
       volumes = λ t quiet. kept_on v v' (g.step.others t);
       console = tells_it (fated Kept k.0 (its_batch g.reply g.first g.later) ∷ []) (λ l. kept_now g.reply g.first g.later k.0 k.1 k.2);
@@ -329,7 +332,7 @@ module _ (told : Type 0) (fields : JobFields) (text : List (List ℕ)) (Q : Queu
     loses = λ t d. (step.loses t d, granted_counts d (Reads fields text step.lost) (v.loses d));
     more = step.rest;
     are = step.batches_are;
-    leaves = inr step.journal;
+    leaves = inl (inr step.journal);
     found = (step.found, λ t. (step.is t).lies);
     volumes = λ t none. absurd none;
     console = tells_own (let r : Result T NodeNo = Err no_node.NoMemory in r) step;
@@ -343,7 +346,7 @@ module _ (told : Type 0) (fields : JobFields) (text : List (List ℕ)) (Q : Queu
     loses = λ t d. (step.loses t d, granted_counts d (Reads fields text step.lost) (v.loses d));
     more = step.rest;
     are = step.batches_are;
-    leaves = step.journal;
+    leaves = ⊎_elim inl (λ flies. inr (inl flies)) step.journal;
     found = (step.found, λ t. (step.is t).lies);
     volumes = λ t none. absurd none;
     console = tells_own (let r : Result T NodeNo = Err no_node.BothLost in r) step;
@@ -371,10 +374,112 @@ module _ (told : Type 0) (fields : JobFields) (text : List (List ℕ)) (Q : Queu
     loses = λ t d. (step.loses t d, granted_counts d (Reads fields text step.lost) (v.loses d));
     more = step.rest;
     are = step.batches_are;
-    leaves = step.journal;
+    leaves = ⊎_elim inl (λ others. ⊎_elim (λ flies. inr (inl flies)) (λ all. inr (inr (inl all))) others) step.journal;
     found = (step.found, λ t. (step.is t).lies);
     volumes = λ t none. absurd none;
     console = tells_own (let r : Result T NodeNo = Err no_node.Halted in r) step;
+  }
+
+-- WORK
+
+module _ (told : Type 0) (n : ℕ) (Q : Queue) (per at : ℕ) (front batches : List Batch) (a a' b b' : Bool) (v v' : View) where
+  abbrev Worked : {T : Type 0} → Result T NodeNo → Type 0
+  Worked result = IsWorkStep told sysa at per n Q front batches a a' b b' v v' result
+
+  abbrev WorkPlays : {T : Type 0} → List Look → Result T NodeNo → Type 0
+  WorkPlays looks result = IsStepOf told (Granted (Works n looks)) Q per at front batches a a' b b' v v' result
+
+  module _ {T : Type 0} (result : Result T NodeNo) (step : Worked result) where
+    abbrev work_did : Outcome
+    work_did = record { batches = step.gave; lines = closing_line sysa at step.end ∷ [] }
+
+    work_is : told → work_did ≡ outcome_of Q at (Granted (Works n step.looks))
+    work_is t = outcome_is step.gave (work_batches Q sysa at n step.looks) (closing_line sysa at step.end ∷ []) (work_lines Q sysa at n step.looks)
+        (step.is t).batches (ap (λ (end : Closing). closing_line sysa at end ∷ []) (step.is t).ends)
+
+    its_batches : HasAll sysa v.now v'.now step.gave front batches → AreAll sysa v.now v'.now step.gave step.closes.rest
+    its_batches all = subst (AreAll sysa v.now v'.now step.gave) (append_cancel_left front all.0 step.closes.rest (sym all.1 ∙ step.closes.batches_are)) all.2
+
+    tells_work : told → StepTells result (closing_line sysa at step.end ∷ []) (AreAll sysa v.now v'.now step.gave step.closes.rest) (console_now v) (console_now v')
+    tells_work t = tells_as result (closing_line sysa at step.end ∷ []) (HasAll sysa v.now v'.now step.gave front batches) (AreAll sysa v.now v'.now step.gave step.closes.rest) (console_now v) (console_now v') its_batches (step.closes.console t)
+
+  work_leaves : {T : Type 0} (result : Result T NodeNo) (looks : List Look) (ess : List (List Entry)) (more : List Batch) → WorkLeaves result sysa v.now v'.now ess more → TurnLeaves result (Granted (Works n looks)) ess v.now v'.now more
+  work_leaves (Ok done) looks ess more leaves = leaves
+  work_leaves (Err no_node.NoMemory) looks ess more leaves = ⊎_elim (λ cut. inl (inr cut)) (λ all. inr (tt, all)) leaves
+  work_leaves (Err no_node.BothLost) looks ess more leaves = ⊎_elim (λ cut. inr (inr (tt, inl cut))) (λ others. ⊎_elim (λ flies. inr (inl flies)) (λ all. inr (inr (tt, inr all))) others) leaves
+  work_leaves (Err no_node.ConsoleFault) looks ess more leaves = leaves
+  work_leaves (Err no_node.Halted) looks ess more leaves = ⊎_elim (λ cut. inr (inr (inr (tt, cut)))) (λ others. ⊎_elim (λ flies. inr (inl flies)) (λ all. inr (inr (inl all))) others) leaves
+
+  pub work_step_of : {T : Type 0} (result : Result T NodeNo) → (step : Worked result) → WorkPlays step.looks result
+  work_step_of {T = T} (Ok done) step = record {
+    course = step.closes.course;
+    cause = inl step.closes.cause;
+    did = work_did (let r : Result T NodeNo = Ok done in r) step;
+    shaped = (step.of, step.few, (step.end, refl));
+    is = work_is (let r : Result T NodeNo = Ok done in r) step;
+    loses = λ t d. step.closes.loses t d ∙ sym (granted_counts d (Works n step.looks) (v.loses d));
+    more = step.closes.rest;
+    are = step.closes.batches_are;
+    leaves = work_leaves (let r : Result T NodeNo = Ok done in r) step.looks step.gave step.closes.rest step.closes.journal;
+    found = λ t. (step.is t).seen;
+    volumes = λ t none. absurd none;
+    console = tells_work (let r : Result T NodeNo = Ok done in r) step;
+  }
+  work_step_of {T = T} (Err no_node.NoMemory) step = record {
+    course = step.closes.course;
+    cause = inl step.closes.cause;
+    did = work_did (let r : Result T NodeNo = Err no_node.NoMemory in r) step;
+    shaped = (step.of, step.few, (step.end, refl));
+    is = work_is (let r : Result T NodeNo = Err no_node.NoMemory in r) step;
+    loses = λ t d. (step.closes.loses t d, granted_counts d (Works n step.looks) (v.loses d));
+    more = step.closes.rest;
+    are = step.closes.batches_are;
+    leaves = work_leaves (let r : Result T NodeNo = Err no_node.NoMemory in r) step.looks step.gave step.closes.rest step.closes.journal;
+    found = λ t. (step.is t).seen;
+    volumes = λ t none. absurd none;
+    console = tells_work (let r : Result T NodeNo = Err no_node.NoMemory in r) step;
+  }
+  work_step_of {T = T} (Err no_node.BothLost) step = record {
+    course = step.closes.course;
+    cause = step.closes.cause;
+    did = work_did (let r : Result T NodeNo = Err no_node.BothLost in r) step;
+    shaped = (step.of, step.few, (step.end, refl));
+    is = work_is (let r : Result T NodeNo = Err no_node.BothLost in r) step;
+    loses = λ t d. (step.closes.loses t d, granted_counts d (Works n step.looks) (v.loses d));
+    more = step.closes.rest;
+    are = step.closes.batches_are;
+    leaves = work_leaves (let r : Result T NodeNo = Err no_node.BothLost in r) step.looks step.gave step.closes.rest step.closes.journal;
+    found = λ t. (step.is t).seen;
+    volumes = λ t none. absurd none;
+    console = tells_work (let r : Result T NodeNo = Err no_node.BothLost in r) step;
+  }
+  work_step_of {T = T} (Err no_node.ConsoleFault) step = record {
+    course = step.closes.course;
+    cause = (inl step.closes.cause.0, step.closes.cause.1);
+    did = work_did (let r : Result T NodeNo = Err no_node.ConsoleFault in r) step;
+    shaped = (step.of, step.few, (step.end, refl));
+    is = work_is (let r : Result T NodeNo = Err no_node.ConsoleFault in r) step;
+    loses = λ t d. (step.closes.loses t d, granted_counts d (Works n step.looks) (v.loses d));
+    more = step.closes.rest;
+    are = step.closes.batches_are;
+    leaves = work_leaves (let r : Result T NodeNo = Err no_node.ConsoleFault in r) step.looks step.gave step.closes.rest step.closes.journal;
+    found = λ t. (step.is t).seen;
+    volumes = λ t none. absurd none;
+    console = tells_work (let r : Result T NodeNo = Err no_node.ConsoleFault in r) step;
+  }
+  work_step_of {T = T} (Err no_node.Halted) step = record {
+    course = step.closes.course;
+    cause = (inl step.closes.cause.0, step.closes.cause.1);
+    did = work_did (let r : Result T NodeNo = Err no_node.Halted in r) step;
+    shaped = (step.of, step.few, (step.end, refl));
+    is = work_is (let r : Result T NodeNo = Err no_node.Halted in r) step;
+    loses = λ t d. (step.closes.loses t d, granted_counts d (Works n step.looks) (v.loses d));
+    more = step.closes.rest;
+    are = step.closes.batches_are;
+    leaves = work_leaves (let r : Result T NodeNo = Err no_node.Halted in r) step.looks step.gave step.closes.rest step.closes.journal;
+    found = λ t. (step.is t).seen;
+    volumes = λ t none. absurd none;
+    console = tells_work (let r : Result T NodeNo = Err no_node.Halted in r) step;
   }
 
 -- A STEP WITHOUT A COMMAND
@@ -415,7 +520,7 @@ module _ (told : Type 0) (turn : Turn) (Q : Queue) (per at : ℕ) (lines : List 
     loses = λ t d. (step.loses d, counts d (v.loses d));
     more = [];
     are = step.same ∙ sym (append-nil front);
-    leaves = inl refl;
+    leaves = inl (inl refl);
     found = found;
     volumes = λ t quiet. kept_on v v' (step.others t);
     console = λ t. tells_so (let r : Result T NodeNo = Err no_node.NoMemory in r) (step.console t);
@@ -444,7 +549,7 @@ module _ (told : Type 0) (turn : Turn) (Q : Queue) (per at : ℕ) (lines : List 
     loses = λ t d. (step.loses d, counts d (v.loses d));
     more = [];
     are = step.same ∙ sym (append-nil front);
-    leaves = inr (inr tt);
+    leaves = inr (inr (inl tt));
     found = found;
     volumes = λ t quiet. kept_on v v' (step.others t);
     console = λ t. tells_so (let r : Result T NodeNo = Err no_node.Halted in r) (step.console t);
@@ -491,7 +596,7 @@ unplayed_step_of told turn Q per at front batches a b v same counts found = reco
   loses = λ t d. (refl, counts d (v.loses d));
   more = [];
   are = same ∙ sym (append-nil front);
-  leaves = inl refl;
+  leaves = inl (inl refl);
   found = found;
   volumes = λ t none. kept_none v;
   console = λ t. refl;

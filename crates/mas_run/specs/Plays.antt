@@ -1,5 +1,5 @@
 -- What steps leave that are played one after another.
-use Rattle.std.specs.Prelude.{◌≡◌, ◌⊎◌, ℕ, ◌+◌, ◌≤◌, Bool, List, [], ◌++◌, length, take, map, All, Option, Result, Ok, Err}
+use Rattle.std.specs.Prelude.{◌≡◌, ◌⊎◌, ℕ, ◌+◌, ◌≤◌, Bool, List, [], ◌++◌, drop, length, take, map, All, Result, Ok, Err}
 use Rattle.mas_types.specs.declared.ids.Dev.{Dev}
 use Rattle.mas_types.specs.declared.journals.Batch.{Batch}
 use Rattle.mas_types.specs.declared.queues.Config.{Config}
@@ -15,9 +15,9 @@ use Rattle.member_node.specs.declared.member.NodeNo.{NodeNo}
 use Rattle.member_node.specs.declared.member.NodeNo.TheVariants as no_node
 use Rattle.member_node.specs.Calls.{Course, console_now}
 use Rattle.member_decks.specs.Batches.{AreAll}
-use Rattle.mas_run.specs.Runs.{IsBegun, IsHistory, IsSettled, Adds, IsStopped, HasLost}
+use Rattle.mas_run.specs.Runs.{IsHistory, IsSettled, IsUnclosed, IsUncut, Adds, IsStopped, HasLost}
 use Rattle.first_script.specs.Played.{sysa}
-use Rattle.mas_run.specs.Turns.{Turn, turns_from}
+use Rattle.mas_run.specs.Turns.{Sight, Turn, turns_from}
 use Rattle.mas_run.specs.Steps.{AreOutcomes, FindLost, LeavesVolumes, Outcome, batches_in, lines_in, loses_after, next_in, outcomes_of}
 use Rattle.mas_run.specs.Statuses.{status_of}
 use Rattle.mas_run.specs.Volumes.{AreVolumesKept}
@@ -38,12 +38,12 @@ pub record HavePlayed (told : Type 0) (base : Queue) (per : ℕ) (steps : List T
   pub said : told → console_now new ≡ console_now old ++ map whole (lines_in did)
 
 -- what an answer says: how many steps are kept and closed, which batches of the next one were begun, whether one is in flight, and why
-abbrev pub Ends : {T : Type 0} → Result T NodeNo → ℕ → ℕ → ℕ → List Batch → Type 0 → Type 0 → Bool → Bool → View → View → Type 0
-Ends (Ok done) kept closed all begun settled uncut one two old new = (kept ≡ all) × (closed ≡ all) × (begun ≡ [])
-Ends (Err no_node.NoMemory) kept closed all begun settled uncut one two old new = (kept ≡ closed) × settled
-Ends (Err no_node.BothLost) kept closed all begun settled uncut one two old new = (kept ≡ closed) × IsBothLost one two × uncut
-Ends (Err no_node.ConsoleFault) kept closed all begun settled uncut one two old new = (kept ≡ closed + 1) × (begun ≡ []) × Rose (old.faults Console) (new.faults Console)
-Ends (Err no_node.Halted) kept closed all begun settled uncut one two old new = IsStopped old new × uncut
+abbrev pub Ends : {T : Type 0} → Result T NodeNo → List Turn → ℕ → ℕ → List Batch → Type 0 → Type 0 → Bool → Bool → View → View → Type 0
+Ends (Ok done) asked kept closed begun settled uncut one two old new = (kept ≡ length asked) × (closed ≡ length asked) × (begun ≡ [])
+Ends (Err no_node.NoMemory) asked kept closed begun settled uncut one two old new = IsUnclosed asked kept closed begun × settled
+Ends (Err no_node.BothLost) asked kept closed begun settled uncut one two old new = IsUnclosed asked kept closed begun × IsBothLost one two × uncut
+Ends (Err no_node.ConsoleFault) asked kept closed begun settled uncut one two old new = (kept ≡ closed + 1) × (begun ≡ []) × Rose (old.faults Console) (new.faults Console)
+Ends (Err no_node.Halted) asked kept closed begun settled uncut one two old new = IsStopped old new × uncut
 
 abbrev pub IfNotLost : {T : Type 0} → Result T NodeNo → Type 0 → Type 0
 IfNotLost (Err no_node.BothLost) P = Unit {0}
@@ -60,7 +60,7 @@ pub record ArePlayed {T : Type 0} (told : Type 0) (base : Queue) (per : ℕ) (as
   pub course : Course was1 is1 was2 is2 old new
   pub left : IfNotLost result (SomeAlive is1 is2 ⊎ HasLost old new)
   pub history : IsHistory did kept old.now new.now batches
-  pub ends : Ends result kept closed (length asked) history.begun (IsSettled (next_in kept did) history.between new.now history.begun) (IsBegun (next_in kept did) history.between new.now history.begun) is1 is2 old new
+  pub ends : Ends result asked kept closed history.begun (IsSettled (next_in kept did) history.between new.now history.begun) (IsUncut (drop kept asked) (next_in kept did) history.between new.now history.begun) is1 is2 old new
   pub loses : told → (d : Dev) → new.loses d ≡ loses_after d (take kept asked) (old.loses d)
   pub found : FindLost told old new per base 1 asked
   pub volumes : told → All LeavesVolumes asked → AreVolumesKept old new
@@ -68,15 +68,15 @@ pub record ArePlayed {T : Type 0} (told : Type 0) (base : Queue) (per : ℕ) (as
 
 -- They are the steps of a script, from a book of the lock on, and were played over a journal that had these batches, and has so many now.
 pub record HasPlay {T : Type 0} (told : Type 0) (base : Queue) (config : Config) (book : Book) (steps : List Step) (front batches : List Batch) (was1 is1 was2 is2 : Bool) (old new : View) (result : Result T NodeNo) : Type 0 where
-  pub lost : List (Option ℕ)
+  pub seen : List Sight
   pub rest : List Batch
   pub batches_are : batches ≡ front ++ rest
-  pub played : ArePlayed told base config.groups (turns_from config book lost steps) rest was1 is1 was2 is2 old new result
+  pub played : ArePlayed told base config.groups (turns_from config book seen steps) rest was1 is1 was2 is2 old new result
 
 -- And these first ones of them have been played.
 pub record HavePlay (told : Type 0) (base : Queue) (config : Config) (book : Book) (steps : List Step) (count : ℕ) (front batches : List Batch) (was1 is1 was2 is2 : Bool) (old new : View) : Type 0 where
-  pub lost : List (Option ℕ)
-  pub many : length lost ≡ count
+  pub seen : List Sight
+  pub many : length seen ≡ count
   pub rest : List Batch
   pub batches_are : batches ≡ front ++ rest
-  pub played : HavePlayed told base config.groups (turns_from config book lost (take count steps)) rest was1 is1 was2 is2 old new
+  pub played : HavePlayed told base config.groups (turns_from config book seen (take count steps)) rest was1 is1 was2 is2 old new

@@ -1,5 +1,5 @@
 -- What a run did.
-use Rattle.std.specs.Prelude.{◌≡◌, ◌≢◌, ◌⊎◌, ℕ, ◌+◌, ◌≤◌, ◌<◌, nat_lt, Bool, true, false, List, [], ◌∷◌, ◌++◌, length, take, map, All, Option}
+use Rattle.std.specs.Prelude.{◌≡◌, ◌≢◌, ◌⊎◌, ℕ, ◌+◌, ◌≤◌, ◌<◌, nat_lt, Bool, true, false, List, [], ◌∷◌, ◌++◌, drop, length, take, map, All}
 use Rattle.mas_types.specs.declared.ids.Dev.{Dev}
 use Rattle.mas_types.specs.declared.ids.Dev.TheVariants.{Ckpt1, Ckpt2}
 use Rattle.mas_types.specs.declared.journals.Batch.{Batch}
@@ -33,8 +33,8 @@ use Rattle.member_steps.specs.Saying.{torn}
 use Rattle.member_decks.specs.Batches.{AreAll, AreCut, AreSome, OneFlies}
 use Rattle.mas_complex.specs.Headline.{whole, IsCrashSafe, AreAlwaysAlike, AreTextsLeft, LeavesQueue, AreToldKept}
 use Rattle.first_script.specs.Played.{sysa}
-use Rattle.mas_run.specs.Turns.{Turn, turns_of}
-use Rattle.mas_run.specs.Steps.{AreOutcomes, FindLost, LeavesVolumes, Outcome, batches_in, lines_in, loses_after, next_in, outcomes_of}
+use Rattle.mas_run.specs.Turns.{Sight, Turn, turns_of}
+use Rattle.mas_run.specs.Steps.{AreOutcomes, BeginsWork, FindLost, LeavesVolumes, Outcome, batches_in, lines_in, loses_after, next_in, outcomes_of}
 use Rattle.mas_run.specs.Volumes.{AreVolumesKept, AreVolumesKeptUntil}
 
 -- a run has begun where its first queue has members
@@ -75,6 +75,14 @@ pub record IsHistory (did : List Outcome) (kept : ℕ) (since now : ℕ) (batche
   pub moments : (since ≤ between) × (between ≤ now)
   pub are_kept : AreAll sysa since between (batches_in (take kept did)) front
   pub next : IsSettled (next_in kept did) between now begun ⊎ OneFlies sysa between now (next_in kept did) begun
+
+-- only the first entries of one are kept without the rest where the step works
+abbrev pub IsUncut : List Turn → List (List Entry) → ℕ → ℕ → List Batch → Type 0
+IsUncut asked next from now begun = IsBegun next from now begun ⊎ (BeginsWork asked × AreCut sysa from now next begun)
+
+-- The step behind those that are closed isn't kept as a whole; or it works, and all of it is kept, and nothing behind it was begun.
+abbrev pub IsUnclosed : List Turn → ℕ → ℕ → List Batch → Type 0
+IsUnclosed asked kept closed begun = (kept ≡ closed) ⊎ (BeginsWork (drop closed asked) × (begun ≡ []))
 
 -- THE CONSOLE
 
@@ -172,15 +180,15 @@ pub record HavePassed (tells : Type 0) (asked : List Turn) (answer : Status) (fr
   pub few : (closed ≤ kept) × (kept ≤ closed + 1) × (kept ≤ length asked)
   pub history : IsHistory did kept at new.now rest
   pub settled : answer ≢ status.BothLost → IsSettled (next_in kept did) history.between new.now history.begun ⊎ IsStopped old new
-  -- only where memory wanted what was done of a batch is kept without the rest
-  pub uncut : answer ≢ status.NoMemory → IsBegun (next_in kept did) history.between new.now history.begun
+  -- but for work only where memory wanted what was done of a batch is kept without the rest
+  pub uncut : answer ≢ status.NoMemory → IsUncut (drop kept asked) (next_in kept did) history.between new.now history.begun
   pub done : answer ≡ status.Done → (closed ≡ length asked) ⊎ IsStopped old new
   pub unsaid : answer ≡ status.ConsoleFault → (kept ≡ closed + 1) × (history.begun ≡ [])
-  pub unplayed : answer ≡ status.NoMemory → kept ≡ closed
-  pub unkept : answer ≡ status.BothLost → kept ≡ closed
+  pub unplayed : answer ≡ status.NoMemory → IsUnclosed asked kept closed history.begun
+  pub unkept : answer ≡ status.BothLost → IsUnclosed asked kept closed history.begun
   -- its lines are those of the steps that are closed
   pub said : tells → Adds (lines_in (take closed did)) (lines_in (take kept did)) (console_now old) (console_now new) (answer ≡ status.ConsoleFault) (IsStopped old new)
-  -- a device is lost by a call as often as a step that was played says so, and a deck finds only a volume lost that failed and is lost
+  -- a device is lost by a call as often as a step that was played says so, and a deck or work finds only a volume lost that failed and is lost
   pub loses : tells → (d : Dev) → new.loses d ≡ loses_after d (take kept asked) (first d)
   pub found : FindLost tells old new per from 1 asked
   -- a copy is left but where both are lost
@@ -231,6 +239,6 @@ pub record IsRun (cold : Bool) (tells : Type 0) (script : Script) (answer : Stat
   pub fresh : tells → ∥ LeavesQueue reads base since new ∥₁
   pub quiet : tells → (new.world since).console ≡ console_now old
   pub held : tells → IsKeptUntil cold since old new
-  -- and then its steps were played, each where the book of the lock gives it to the member; of the decks so many found such a volume lost
-  pub lost : List (Option ℕ)
-  pub steps : HasSteps cold tells (turns_of base.config lost script.steps) answer base journal since first old new
+  -- and then its steps were played, each where the book of the lock gives it to the member; to the first ones the volumes gave this
+  pub seen : List Sight
+  pub steps : HasSteps cold tells (turns_of base.config seen script.steps) answer base journal since first old new

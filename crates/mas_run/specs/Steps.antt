@@ -2,6 +2,7 @@
 -- lost. A step whose member doesn't get the lock, or that closes before any try, has no batch, and its line says why; a step that
 -- loses a device has no batch and no line.
 use Rattle.std.specs.Prelude.{◌≡◌, ℕ, ◌+◌, ◌≤◌, ◌==◌, if◌then◌else◌, List, [], ◌∷◌, ◌++◌, drop, length, All}
+use Rattle.mas_types.specs.declared.answers.Closing.{Closing}
 use Rattle.mas_types.specs.declared.commands.Reply.{Reply}
 use Rattle.mas_types.specs.declared.ids.Dev.{Dev}
 use Rattle.mas_types.specs.declared.ids.Dev.TheVariants.{Ckpt1, Ckpt2, Spool}
@@ -17,8 +18,12 @@ use Rattle.member_steps.specs.Locked.{denied_lines}
 use Rattle.member_steps.specs.Steps as command_step
 use Rattle.member_decks.specs.Decks.{all_entries, deck_batches, deck_lines, ends_as, lines_by}
 use Rattle.member_decks.specs.Steps.{AreOf, IsFoundLost, LiesOn, opened_queue}
+use Rattle.member_work.specs.Rounds.{IsRound}
+use Rattle.member_work.specs.Steps.{levels_in}
+use Rattle.member_work.specs.Work.{rounds, work_batches, work_lines}
+use Rattle.script_lang.specs.Asks.{units_most}
 use Rattle.first_script.specs.Played.{sysa}
-use Rattle.mas_run.specs.Turns.{Task, Reads, Gives, Turn, Granted, Denied, Closed, Loss, Unplayed}
+use Rattle.mas_run.specs.Turns.{Task, Reads, Gives, Works, Turn, Granted, Denied, Closed, Loss, Unplayed}
 
 -- WHAT A STEP GIVES
 
@@ -26,11 +31,13 @@ use Rattle.mas_run.specs.Turns.{Task, Reads, Gives, Turn, Granted, Denied, Close
 abbrev pub task_batches : Queue → ℕ → Task → List (List Entry)
 task_batches Q at (Reads fields text lost) = deck_batches Q sysa at fields text lost
 task_batches Q at (Gives given) = (command_step.entry_of Q sysa at given ∷ []) ∷ []
+task_batches Q at (Works n looks) = work_batches Q sysa at n looks
 
 -- the lines with which it closes: of a display its lines first, and behind them the closing line
 abbrev pub task_lines : Queue → ℕ → Task → List (List ℕ)
 task_lines Q at (Reads fields text lost) = deck_lines Q sysa at fields text lost
 task_lines Q at (Gives given) = command_step.step_lines Q sysa at given
+task_lines Q at (Works n looks) = work_lines Q sysa at n looks
 
 abbrev pub step_batches : Queue → ℕ → Turn → List (List Entry)
 step_batches Q at (Granted task) = task_batches Q at task
@@ -92,12 +99,18 @@ first_in (o ∷ os) = o.batches
 abbrev pub next_in : ℕ → List Outcome → List (List Entry)
 next_in kept os = first_in (drop kept os)
 
+-- how many batches a step has at most, and how many levels its pages get
+abbrev pub batches_most : ℕ
+batches_most = levels_in units_most
+
 -- What is known of a step's outcome even where nothing is told of what the copies hold, so that the replies may be others than the
 -- table's: a command's batch is that command with a reply, and its lines are those of this reply; a deck's batches are of its step, and
--- its lines those of a reply or of a lost volume; every other step has no batch, and its own line.
+-- its lines those of a reply or of a lost volume; the batches of work are of its step, at most three a unit and one more, and it has
+-- a closing line; every other step has no batch, and its own line.
 abbrev pub IsOutcome : ℕ → Turn → Outcome → Type 0
 IsOutcome at (Granted (Reads fields text lost)) o = All (AreOf sysa at) o.batches × (length o.batches ≤ 2) × ((r : Reply) × (o.lines ≡ lines_by sysa at lost r))
 IsOutcome at (Granted (Gives given)) o = (r : Reply) × (o.batches ≡ (command_step.entry_with sysa at given r ∷ []) ∷ []) × (o.lines ≡ reply_lines sysa at r)
+IsOutcome at (Granted (Works n looks)) o = All (AreOf sysa at) o.batches × (length o.batches ≤ levels_in n) × ((end : Closing) × (o.lines ≡ closing_line sysa at end ∷ []))
 IsOutcome at (Denied why) o = (o.batches ≡ []) × (o.lines ≡ denied_lines sysa at why)
 IsOutcome at (Closed end) o = (o.batches ≡ []) × (o.lines ≡ closing_line sysa at end ∷ [])
 IsOutcome at (Loss dev) o = (o.batches ≡ []) × (o.lines ≡ [])
@@ -109,6 +122,33 @@ AreOutcomes at [] [] = Unit {0}
 AreOutcomes at [] (o ∷ os) = ⊥
 AreOutcomes at (turn ∷ steps) [] = ⊥
 AreOutcomes at (turn ∷ steps) (o ∷ os) = IsOutcome at turn o × AreOutcomes (at + 1) steps os
+
+-- WORK
+
+-- a step that works
+abbrev pub IsWork : Turn → Type 0
+IsWork (Granted (Reads fields text lost)) = ⊥
+IsWork (Granted (Gives given)) = ⊥
+IsWork (Granted (Works n looks)) = Unit {0}
+IsWork (Denied why) = ⊥
+IsWork (Closed end) = ⊥
+IsWork (Loss dev) = ⊥
+IsWork Unplayed = ⊥
+
+-- the first of these steps works
+abbrev pub BeginsWork : List Turn → Type 0
+BeginsWork [] = ⊥
+BeginsWork (turn ∷ steps) = IsWork turn
+
+-- no step works at more units than a script may ask for
+abbrev pub IsCounted : Turn → Type 0
+IsCounted (Granted (Reads fields text lost)) = Unit {0}
+IsCounted (Granted (Gives given)) = Unit {0}
+IsCounted (Granted (Works n looks)) = n ≤ units_most
+IsCounted (Denied why) = Unit {0}
+IsCounted (Closed end) = Unit {0}
+IsCounted (Loss dev) = Unit {0}
+IsCounted Unplayed = Unit {0}
 
 -- LOST DEVICES
 
@@ -125,10 +165,11 @@ loses_after d [] loses = loses
 loses_after d (turn ∷ steps) loses = loses_after d steps (loses_after_step d turn loses)
 
 -- A deck that found a volume lost had its groups, one of which lies on it, and the volume failed and is lost; each volume has so many
--- groups. What is said of the groups is said where content is told.
+-- groups. Work found what the volumes may give its units. What is said of the groups and of units is said where content is told.
 abbrev pub FindsLost : Type 0 → View → View → ℕ → Queue → ℕ → Turn → Type 0
 FindsLost told old new per Q at (Granted (Reads fields text lost)) = IsFoundLost lost old new × (told → LiesOn (ends_as Q sysa fields (groups_needed text)) per (opened_queue Q sysa at fields text) sysa text lost)
 FindsLost told old new per Q at (Granted (Gives given)) = Unit {0}
+FindsLost told old new per Q at (Granted (Works n looks)) = told → All (IsRound told per sysa at old new) (rounds n Q sysa at looks)
 FindsLost told old new per Q at (Denied why) = Unit {0}
 FindsLost told old new per Q at (Closed end) = Unit {0}
 FindsLost told old new per Q at (Loss dev) = Unit {0}
@@ -139,10 +180,11 @@ abbrev pub FindLost : Type 0 → View → View → ℕ → Queue → ℕ → Lis
 FindLost told old new per Q at [] = Unit {0}
 FindLost told old new per Q at (turn ∷ steps) = FindsLost told old new per Q at turn × FindLost told old new per (after_step Q at turn) (at + 1) steps
 
--- a step that leaves the volumes as they are: it reads no deck, and loses no volume
+-- a step that leaves the volumes as they are: it reads no deck, doesn't work, and loses no volume
 abbrev pub LeavesVolumes : Turn → Type 0
 LeavesVolumes (Granted (Reads fields text lost)) = ⊥
 LeavesVolumes (Granted (Gives given)) = Unit {0}
+LeavesVolumes (Granted (Works n looks)) = ⊥
 LeavesVolumes (Denied why) = Unit {0}
 LeavesVolumes (Closed end) = Unit {0}
 LeavesVolumes (Loss Ckpt1) = Unit {0}

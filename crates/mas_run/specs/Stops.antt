@@ -12,9 +12,9 @@ use Rattle.member_node.specs.declared.member.NodeNo.{NodeNo}
 use Rattle.member_node.specs.declared.member.NodeNo.TheVariants.{BothLost, Halted, ConsoleFault, NoMemory}
 use Rattle.member_node.specs.Calls.{Course, IsLeft, console_now}
 use Rattle.member_steps.specs.Steps.{StepTells}
-use Rattle.member_decks.specs.Batches.{AreAll, AreSome, OneFlies}
+use Rattle.member_decks.specs.Batches.{AreAll, AreCut, AreSome, OneFlies}
 use Rattle.mas_run.specs.Runs.{HasLost, IsSettled, IsStopped}
-use Rattle.mas_run.specs.Steps.{FindsLost, IsOutcome, LeavesVolumes, Outcome, loses_after_step, outcome_of}
+use Rattle.mas_run.specs.Steps.{FindsLost, IsOutcome, IsWork, LeavesVolumes, Outcome, loses_after_step, outcome_of}
 use Rattle.first_script.specs.Played.{sysa}
 use Rattle.mas_run.specs.Turns.{Turn}
 use Rattle.mas_run.specs.Volumes.{AreVolumesKept}
@@ -33,13 +33,14 @@ TurnCauses (Err Halted) was1 is1 was2 is2 old new = IsLeftOrLost was1 is1 was2 i
 
 -- All its batches are kept where its lines are said, or where the console failed at one. Where memory wanted not all were begun, or none,
 -- and what was done of the next one may be kept without the rest; where both copies were lost not all were begun, or one is in flight; where
--- the member was stopped it is one of these, or all are kept.
-abbrev pub TurnLeaves : {T : Type 0} → Result T NodeNo → List (List Entry) → ℕ → ℕ → List Batch → Type 0
-TurnLeaves (Ok done) ess from now more = AreAll sysa from now ess more
-TurnLeaves (Err NoMemory) ess from now more = IsSettled ess from now more
-TurnLeaves (Err BothLost) ess from now more = AreSome sysa from now ess more ⊎ OneFlies sysa from now ess more
-TurnLeaves (Err ConsoleFault) ess from now more = AreAll sysa from now ess more
-TurnLeaves (Err Halted) ess from now more = AreSome sysa from now ess more ⊎ OneFlies sysa from now ess more ⊎ AreAll sysa from now ess more
+-- the member was stopped it is one of these, or all are kept. Work may also come to want of memory, or lose both copies, once all are kept,
+-- and lose them or be stopped behind what was done of a batch.
+abbrev pub TurnLeaves : {T : Type 0} → Result T NodeNo → Turn → List (List Entry) → ℕ → ℕ → List Batch → Type 0
+TurnLeaves (Ok done) turn ess from now more = AreAll sysa from now ess more
+TurnLeaves (Err NoMemory) turn ess from now more = IsSettled ess from now more ⊎ (IsWork turn × AreAll sysa from now ess more)
+TurnLeaves (Err BothLost) turn ess from now more = AreSome sysa from now ess more ⊎ OneFlies sysa from now ess more ⊎ (IsWork turn × (AreCut sysa from now ess more ⊎ AreAll sysa from now ess more))
+TurnLeaves (Err ConsoleFault) turn ess from now more = AreAll sysa from now ess more
+TurnLeaves (Err Halted) turn ess from now more = AreSome sysa from now ess more ⊎ OneFlies sysa from now ess more ⊎ AreAll sysa from now ess more ⊎ (IsWork turn × AreCut sysa from now ess more)
 
 -- how often a device was lost; a step that ends the run loses none
 abbrev pub TurnLoses : {T : Type 0} → Result T NodeNo → Turn → Dev → ℕ → ℕ → Type 0
@@ -57,7 +58,7 @@ pub record IsStepOf {T : Type 0} (told : Type 0) (turn : Turn) (Q : Queue) (per 
   pub loses : told → (d : Dev) → TurnLoses result turn d (old.loses d) (new.loses d)
   pub more : List Batch
   pub are : batches ≡ front ++ more
-  pub leaves : TurnLeaves result did.batches old.now new.now more
+  pub leaves : TurnLeaves result turn did.batches old.now new.now more
   pub found : FindsLost told old new per Q at turn
   pub volumes : told → LeavesVolumes turn → AreVolumesKept old new
   pub console : told → StepTells result did.lines (AreAll sysa old.now new.now did.batches more) (console_now old) (console_now new)

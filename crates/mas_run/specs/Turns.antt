@@ -1,6 +1,6 @@
 -- What becomes of a script's steps. A deck with a wrong card closes with that, and so does a reset that can't be. Every other deck or
--- command takes the lock of the checkpoint by a try, and gives it up at its end; where the try is refused nothing is played, and the
--- step closes with why.
+-- command, and work, takes the lock of the checkpoint by a try, and gives it up at its end; where the try is refused nothing is played,
+-- and the step closes with why.
 use Rattle.std.specs.Prelude.{◌≡◌, ◌<◌, ℕ, false, if◌then◌else◌, List, [], ◌∷◌, drop, get_or, Option, Some, None, Result, Ok, Err}
 use Rattle.mas_types.specs.declared.answers.Closing.{Closing}
 use Rattle.mas_types.specs.declared.answers.Closing.TheVariants as closing
@@ -22,12 +22,23 @@ use Rattle.script_lang.specs.declared.types.Ask.{Ask}
 use Rattle.script_lang.specs.declared.types.Ask.TheVariants as ask
 use Rattle.script_lang.specs.declared.types.Step.{Step}
 use Rattle.mas_complex.specs.Locking.{book_of}
+use Rattle.member_work.specs.Looks.{Look}
+
+-- what the spool volumes gave a step: the volume that its deck found lost, if one, and what each unit of its work found
+pub record Sight : Type 0 where
+  pub lost : Option ℕ
+  pub looks : List Look
+
+-- nothing is found lost
+abbrev pub clear : Sight
+clear = record { lost = None; looks = [] }
 
 -- what SYSA does in a step: it reads a deck of a job with this text, of which it found this volume lost, if one; or it gives an
--- operator's command
+-- operator's command; or it works, at most so many units, which found this
 pub data Task : Type 0 where
   Reads : JobFields → List (List ℕ) → Option ℕ → Task
   Gives : Command → Task
+  Works : ℕ → List Look → Task
 
 -- A step as it comes to be played: one whose member gets the lock, one whose member doesn't, one that closes before any try, or the
 -- loss of a device. A step of another kind isn't played, and no script with one is.
@@ -67,16 +78,17 @@ command_turn config why given (Some of) = Closed (no_reset config of)
 
 -- STEPS
 
--- A step of a run with this configuration, by the answer to a try, where its deck finds this volume lost.
-abbrev pub turn_by : Config → Option LockNo → Option ℕ → Ask → Turn
-turn_by config why lost (ask.Deck cards) = deck_turn why (text_of cards) lost (read_as config.node cards)
-turn_by config why lost (ask.Command given) = command_turn config why given (resets given)
-turn_by config why lost (ask.Lose dev) = Loss dev
-turn_by config why lost _ = Unplayed
+-- A step of a run with this configuration, by the answer to a try, where the volumes give it this.
+abbrev pub turn_by : Config → Option LockNo → Sight → Ask → Turn
+turn_by config why seen (ask.Deck cards) = deck_turn why (text_of cards) seen.lost (read_as config.node cards)
+turn_by config why seen (ask.Command given) = command_turn config why given (resets given)
+turn_by config why seen (ask.Work n) = task_turn why (Works n seen.looks)
+turn_by config why seen (ask.Lose dev) = Loss dev
+turn_by config why seen _ = Unplayed
 
 -- a step at a book of the lock
-abbrev pub turn_at : Config → Book → Option ℕ → Ask → Turn
-turn_at config b lost what = turn_by config (try_refusal b sysa false) lost what
+abbrev pub turn_at : Config → Book → Sight → Ask → Turn
+turn_at config b seen what = turn_by config (try_refusal b sysa false) seen what
 
 -- the book after a try, and after the lock was given up. Who doesn't hold gives nothing up
 abbrev pub after_tried : Book → Book
@@ -95,24 +107,25 @@ after_command b (Some of) = b
 abbrev pub book_after : Config → Book → Ask → Book
 book_after config b (ask.Deck cards) = after_deck b (read_as config.node cards)
 book_after config b (ask.Command given) = after_command b (resets given)
+book_after config b (ask.Work n) = after_tried b
 book_after config b _ = b
 
--- Steps one after another, from a book on, of which each found such a volume lost; those behind them found none.
-abbrev pub turns_from : Config → Book → List (Option ℕ) → List Step → List Turn
-turns_from config b lost [] = []
-turns_from config b lost (step ∷ steps) = turn_at config b (get_or lost 0 None) step.what ∷ turns_from config (book_after config b step.what) (drop 1 lost) steps
+-- Steps one after another, from a book on, to each of which the volumes gave this; those behind them found nothing lost.
+abbrev pub turns_from : Config → Book → List Sight → List Step → List Turn
+turns_from config b seen [] = []
+turns_from config b seen (step ∷ steps) = turn_at config b (get_or seen 0 clear) step.what ∷ turns_from config (book_after config b step.what) (drop 1 seen) steps
 
 -- the steps of a run with this configuration
-abbrev pub turns_of : Config → List (Option ℕ) → List Step → List Turn
-turns_of config lost steps = turns_from config (book_of config) lost steps
+abbrev pub turns_of : Config → List Sight → List Step → List Turn
+turns_of config seen steps = turns_from config (book_of config) seen steps
 
 -- WITHOUT DORMANCY
 
 -- steps that get the lock
-abbrev pub granted_all : Config → List (Option ℕ) → List Step → List Turn
-granted_all config lost [] = []
-granted_all config lost (step ∷ steps) = turn_by config None (get_or lost 0 None) step.what ∷ granted_all config (drop 1 lost) steps
+abbrev pub granted_all : Config → List Sight → List Step → List Turn
+granted_all config seen [] = []
+granted_all config seen (step ∷ steps) = turn_by config None (get_or seen 0 clear) step.what ∷ granted_all config (drop 1 seen) steps
 
 -- Where there is no dormancy each try gets the lock, as in a run with the default configuration.
 abbrev pub AreAwake : Type 0
-AreAwake = (config : Config) (lost : List (Option ℕ)) (steps : List Step) → 0 < config.members → config.dormancy ≡ 0 → turns_of config lost steps ≡ granted_all config lost steps
+AreAwake = (config : Config) (seen : List Sight) (steps : List Step) → 0 < config.members → config.dormancy ≡ 0 → turns_of config seen steps ≡ granted_all config seen steps

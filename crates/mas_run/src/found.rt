@@ -1,5 +1,5 @@
 //! A script that is played from the queue that is found.
-ghost use Rattle.std.specs.Prelude.{◌≡◌, ◌≢◌, ◌⊎◌, ◌≤◌, ◌<◌, ◌^◌, [], List as ListOf, Option as OptionOf, ℕ, true, false, length, All, None};
+ghost use Rattle.std.specs.Prelude.{◌≡◌, ◌≢◌, ◌⊎◌, ◌≤◌, ◌<◌, ◌^◌, [], List as ListOf, true, false, length, All, None};
 ghost use Rattle.mas_types.specs.Fit.{IsConfig};
 ghost use Rattle.mas_types.specs.Limits.{steps_most};
 ghost use Rattle.mas_types.specs.declared.ids.Dev.TheVariants.{Ckpt1, Ckpt2};
@@ -19,7 +19,7 @@ ghost use Rattle.member_node.specs.Drawn.{AreDrawn};
 ghost use Rattle.member_steps.specs.Locked.{IsOpenTo};
 ghost use Rattle.queue_effect.specs.Standing.{AreFit};
 ghost use Rattle.table_queues.specs.Telling.{Tell, TellSound};
-ghost use Rattle.mas_run.specs.Turns.{turns_from};
+ghost use Rattle.mas_run.specs.Turns.{Sight, turns_from};
 ghost use Rattle.mas_run.specs.Runs.{has_begun, Begins, IsUnbegun, HasSteps, IsRun};
 ghost use Rattle.mas_run.specs.Statuses.{IsCaused, IsCausedFrom, is_of_play, is_of_text};
 ghost use Rattle.mas_run.specs.Volumes.{AreVolumesKept};
@@ -89,7 +89,7 @@ fn play_reset<P: Plant + Drop>(
     ensures goes { Goes (P.view found.complex.plant) (P.view result.plant) }
     ensures grow { (d : Dev) → Grows ((P.view found.complex.plant).loses d) ((P.view result.plant).loses d) }
     ensures cause { IsCausedFrom found.complex.pair.first.alive found.complex.pair.second.alive result.status (P.view found.complex.plant) (P.view result.plant) }
-    ensures steps { (lost : ListOf (OptionOf ℕ)) × HasSteps false P.tells (turns_from result.base.config found.complex.book lost asked.now) result.status result.base result.journal result.since (P.view found.complex.plant).loses (P.view found.complex.plant) (P.view result.plant) }
+    ensures steps { (seen : ListOf Sight) × HasSteps false P.tells (turns_from result.base.config found.complex.book seen asked.now) result.status result.base result.journal result.since (P.view found.complex.plant).loses (P.view found.complex.plant) (P.view result.plant) }
 {
     let Started {
         complex,

@@ -1,7 +1,8 @@
 //! A script that is played from an empty queue.
-ghost use Rattle.std.specs.Prelude.{◌≡◌, ◌⊎◌, ◌+◌, ◌≤◌, ◌<◌, ◌^◌, [], List as ListOf, Option as OptionOf, ℕ, true, false, length, All, IfOk, IfErr, OnOk, None, Some};
+ghost use Rattle.std.specs.Prelude.{◌≡◌, ◌⊎◌, ◌+◌, ◌≤◌, ◌<◌, ◌^◌, [], List as ListOf, ℕ, true, false, length, All, IfOk, IfErr, OnOk, None, Some};
 ghost use Rattle.mas_types.specs.Starts.{empty_queue as queue_without_jobs};
-ghost use Rattle.mas_types.specs.Fit.{IsConfig};
+ghost use Rattle.mas_types.specs.Fit.{AreDistinct, IsConfig};
+ghost use Rattle.mas_types.specs.Ids.{same_number};
 ghost use Rattle.mas_types.specs.Limits.{routes_most, steps_most};
 ghost use Rattle.mas_types.specs.Lists.{first_some};
 ghost use Rattle.mas_types.specs.declared.ids.Dev.TheVariants.{Ckpt1, Ckpt2};
@@ -26,7 +27,7 @@ ghost use Rattle.member_node.specs.Drawn.{AreDrawn};
 ghost use Rattle.member_node.specs.Reads.{IsCalm, ReadsLow};
 ghost use Rattle.member_steps.specs.Locked.{IsOpenTo};
 ghost use Rattle.member_steps.specs.Steps.{AreAllKept, IsAtLock, IsToldSound};
-ghost use Rattle.mas_run.specs.Turns.{turns_from};
+ghost use Rattle.mas_run.specs.Turns.{Sight, turns_from};
 ghost use Rattle.mas_run.specs.Runs.{has_begun, Begins, IsUnbegun, IsPlay, IsRun};
 ghost use Rattle.mas_run.specs.Statuses.{IsCaused, IsCausedFrom, status_of as status_of_lem, is_of_play, is_of_text};
 ghost use Rattle.mas_run.specs.Volumes.{AreVolumesKept};
@@ -119,6 +120,7 @@ pub(crate) fn play_asked<P: Plant + Drop>(
     requires lock { IsOpenTo run.complex.book run.complex.reserved sysa }
     requires config { IsConfig run.complex.base.config }
     requires few { length asked.now ≤ steps_most }
+    requires numbers { AreDistinct (λ a b. same_number a.number b.number) run.complex.base.jobs }
     requires may { All IsPlayed asked.now }
     requires roomy { P.tells → AreRoomy (P.view run.complex.plant) run.complex.base.config }
     requires at_lock { IsAtLock run.complex.current run.complex.placed run.member.batch run.member.checkpoint run.member.room }
@@ -142,7 +144,7 @@ pub(crate) fn play_asked<P: Plant + Drop>(
     ensures goes { Goes (P.view run.complex.plant) (P.view result.plant) }
     ensures grow { (d : Dev) → Grows ((P.view run.complex.plant).loses d) ((P.view result.plant).loses d) }
     ensures cause { IsCausedFrom run.complex.pair.first.alive run.complex.pair.second.alive result.status (P.view run.complex.plant) (P.view result.plant) }
-    ensures play { (lost : ListOf (OptionOf ℕ)) × IsPlay P.tells (turns_from result.base.config run.complex.book lost asked.now) result.status result.base run.complex.journal.batches result.journal result.since (P.view run.complex.plant) (P.view result.plant) }
+    ensures play { (seen : ListOf Sight) × IsPlay P.tells (turns_from result.base.config run.complex.book seen asked.now) result.status result.base run.complex.journal.batches result.journal result.since (P.view run.complex.plant) (P.view result.plant) }
 {
     let mut run = run;
     let answer = run.play_steps(alloc, asked);

@@ -1,8 +1,9 @@
 //! A run that has begun: its shared value and its member, and the steps that are played on them.
-ghost use Rattle.std.specs.Prelude.{◌≡◌, ◌+◌, ◌≤◌, ◌<◌, ◌^◌, List, Option, ℕ, length, true, false, None, OnOk, All};
+ghost use Rattle.std.specs.Prelude.{◌≡◌, ◌+◌, ◌≤◌, ◌<◌, ◌^◌, List, length, true, false, None, OnOk, All};
 ghost use Rattle.mas_types.specs.declared.ids.Dev.TheVariants.{Ckpt1, Ckpt2};
 ghost use Rattle.mas_types.specs.declared.journals.Entry.{Entry};
-ghost use Rattle.mas_types.specs.Fit.{IsConfig, IsFit};
+ghost use Rattle.mas_types.specs.Fit.{AreDistinct, IsConfig, IsFit};
+ghost use Rattle.mas_types.specs.Ids.{same_number};
 ghost use Rattle.mas_types.specs.Limits.{steps_most};
 ghost use Rattle.spool_disk.specs.View.{disk_now};
 ghost use Rattle.duplex_pair.specs.Halves.{SomeAlive};
@@ -19,6 +20,7 @@ use mas_types::{Closing, Command, Config, Copied, Dev, Lines, MemberId, Refusal,
 use member_decks::{play_locked_deck, refuse};
 use member_node::{Member, NodeNo};
 use member_steps::play_locked;
+use member_work::play_locked_work;
 use script_lang::{Ask, Step};
 use spool_disk::Plant;
 use std::alloc::Global;
@@ -62,9 +64,11 @@ impl<P: Plant + Drop, C: Steady + Drop> Running<P, C> {
     ghost use Rattle.member_steps.specs.Locked.{IsOpenTo};
     ghost use Rattle.member_steps.specs.Steps.{AreAllKept, IsAtLock, IsToldSound};
     ghost use Rattle.mas_run.specs.Plays.{HasPlay};
+    ghost use Rattle.member_work.specs.Steps.{IsCount, levels_in};
+    ghost use Rattle.mas_run.specs.Steps.{batches_most};
     ghost use Rattle.mas_run.specs.Stops.{IsStepOf};
     ghost use Rattle.first_script.specs.Played.{sysa};
-    ghost use Rattle.mas_run.specs.Turns.{Gives, Closed, Loss, task_turn, command_turn, deck_turn, resets, after_tried, after_command, after_deck, turn_at, book_after};
+    ghost use Rattle.mas_run.specs.Turns.{Gives, Works, Closed, Loss, Sight, task_turn, command_turn, deck_turn, resets, after_tried, after_command, after_deck, turn_at, book_after};
     ghost use Rattle.card_reader.specs.Decks.{read_as, text_of};
 
     // Plays a deck of these cards.
@@ -89,7 +93,7 @@ impl<P: Plant + Drop, C: Steady + Drop> Running<P, C> {
         ensures base { self.new.complex.base ≡ self.old.complex.base }
         ensures since { self.new.complex.since ≡ self.old.complex.since }
         ensures id { self.new.member.id ≡ self.old.member.id }
-        ensures step { (lost : Option ℕ) × IsStepOf P.tells (deck_turn (try_refusal self.old.complex.book sysa false) (text_of cards.now) lost (read_as self.old.complex.base.config.node cards.now))
+        ensures step { (seen : Sight) × IsStepOf P.tells (deck_turn (try_refusal self.old.complex.book sysa false) (text_of cards.now) seen.lost (read_as self.old.complex.base.config.node cards.now))
             (run self.old.complex.base (kept_all self.old.complex.journal.batches)) self.old.complex.base.config.groups step
             self.old.complex.journal.batches (end_of self.new.complex.placed self.new.complex.current self.new.complex.journal.batches)
             self.old.complex.pair.first.alive self.new.complex.pair.first.alive self.old.complex.pair.second.alive self.new.complex.pair.second.alive
@@ -107,6 +111,49 @@ impl<P: Plant + Drop, C: Steady + Drop> Running<P, C> {
     {
         let own = self.complex.base.config.node;
         play_locked_deck(&mut self.member, alloc, &mut self.complex, step, own, cards)
+    }
+
+    // Works, at most so many units.
+    fn play_work(&mut self, alloc: Global, step: u32, units: u32) -> Result<(), NodeNo>
+        requires id { self.old.member.id ≡ sysa }
+        requires lock { IsOpenTo self.old.complex.book self.old.complex.reserved sysa }
+        requires config { IsConfig self.old.complex.base.config }
+        requires units { IsCount units }
+        requires numbers { AreDistinct (λ a b. same_number a.number b.number) self.old.complex.base.jobs }
+        requires since { self.old.complex.since ≤ (P.view self.old.complex.plant).now }
+        requires roomy { P.tells → AreRoomy (P.view self.old.complex.plant) self.old.complex.base.config }
+        requires untold { P.tells → (es : List Entry) → AreOf sysa step es → IsUntold (setting C.reads self.old.complex.base self.old.complex.since) (P.view self.old.complex.plant) es }
+        requires at_lock { IsAtLock self.old.complex.current self.old.complex.placed self.old.member.batch self.old.member.checkpoint self.old.member.room }
+        requires calm1 { IsCalm self.old.complex.pair.first.alive self.old.complex.first (C.count self.old.complex.pair.first.copy) (length self.old.member.room) }
+        requires calm2 { IsCalm self.old.complex.pair.second.alive self.old.complex.second (C.count self.old.complex.pair.second.copy) (length self.old.member.room) }
+        requires low1 { ReadsLow P.tells self.old.complex.pair.first.alive self.old.member.checkpoint.tables.config (length self.old.complex.journal.batches) (C.reads (disk_now (P.view self.old.complex.plant) Ckpt1).bytes) }
+        requires low2 { ReadsLow P.tells self.old.complex.pair.second.alive self.old.member.checkpoint.tables.config (length self.old.complex.journal.batches) (C.reads (disk_now (P.view self.old.complex.plant) Ckpt2).bytes) }
+        requires sound { P.tells → IsToldSound (run self.old.complex.base (kept_all self.old.complex.journal.batches)) }
+        requires own { self.old.complex.base.config ≡ self.old.member.checkpoint.tables.config }
+        requires most { 1 ≤ C.room_most }
+        requires kept { AreAllKept self.old.complex.journal.batches (P.view self.old.complex.plant).now }
+        requires orders { orders_after (length self.old.complex.journal.batches + levels_in units) < too_high }
+        requires level { self.old.complex.level + levels_in units < too_high }
+        ensures base { self.new.complex.base ≡ self.old.complex.base }
+        ensures since { self.new.complex.since ≡ self.old.complex.since }
+        ensures id { self.new.member.id ≡ self.old.member.id }
+        ensures step { (seen : Sight) × IsStepOf P.tells (task_turn (try_refusal self.old.complex.book sysa false) (Works units seen.looks))
+            (run self.old.complex.base (kept_all self.old.complex.journal.batches)) self.old.complex.base.config.groups step
+            self.old.complex.journal.batches (end_of self.new.complex.placed self.new.complex.current self.new.complex.journal.batches)
+            self.old.complex.pair.first.alive self.new.complex.pair.first.alive self.old.complex.pair.second.alive self.new.complex.pair.second.alive
+            (P.view self.old.complex.plant) (P.view self.new.complex.plant) result }
+        ensures at_lock { OnOk result (IsAtLock self.new.complex.current self.new.complex.placed self.new.member.batch self.new.member.checkpoint self.new.member.room) }
+        ensures calm1 { OnOk result (IsCalm self.new.complex.pair.first.alive self.new.complex.first (C.count self.new.complex.pair.first.copy) (length self.new.member.room)) }
+        ensures calm2 { OnOk result (IsCalm self.new.complex.pair.second.alive self.new.complex.second (C.count self.new.complex.pair.second.copy) (length self.new.member.room)) }
+        ensures low1 { OnOk result (ReadsLow P.tells self.new.complex.pair.first.alive self.old.member.checkpoint.tables.config (length self.new.complex.journal.batches) (C.reads (disk_now (P.view self.new.complex.plant) Ckpt1).bytes)) }
+        ensures low2 { OnOk result (ReadsLow P.tells self.new.complex.pair.second.alive self.old.member.checkpoint.tables.config (length self.new.complex.journal.batches) (C.reads (disk_now (P.view self.new.complex.plant) Ckpt2).bytes)) }
+        ensures sound { OnOk result (P.tells → IsToldSound (run self.new.complex.base (kept_all self.new.complex.journal.batches))) }
+        ensures own { OnOk result (self.new.member.checkpoint.tables.config ≡ self.old.member.checkpoint.tables.config) }
+        ensures level { OnOk result (self.new.complex.level ≤ self.old.complex.level + levels_in units) }
+        ensures lock { OnOk result (IsOpenTo self.new.complex.book self.new.complex.reserved sysa) }
+        ensures book { OnOk result (self.new.complex.book ≡ after_tried self.old.complex.book) }
+    {
+        play_locked_work(&mut self.member, alloc, &mut self.complex, step, units)
     }
 
     // Plays a command that an operator types, but the reset of a member.
@@ -134,7 +181,7 @@ impl<P: Plant + Drop, C: Steady + Drop> Running<P, C> {
         ensures base { self.new.complex.base ≡ self.old.complex.base }
         ensures since { self.new.complex.since ≡ self.old.complex.since }
         ensures id { self.new.member.id ≡ self.old.member.id }
-        ensures step { (lost : Option ℕ) × IsStepOf P.tells (task_turn (try_refusal self.old.complex.book sysa false) (Gives given.now))
+        ensures step { (seen : Sight) × IsStepOf P.tells (task_turn (try_refusal self.old.complex.book sysa false) (Gives given.now))
             (run self.old.complex.base (kept_all self.old.complex.journal.batches)) self.old.complex.base.config.groups step
             self.old.complex.journal.batches (end_of self.new.complex.placed self.new.complex.current self.new.complex.journal.batches)
             self.old.complex.pair.first.alive self.new.complex.pair.first.alive self.old.complex.pair.second.alive self.new.complex.pair.second.alive
@@ -178,7 +225,7 @@ impl<P: Plant + Drop, C: Steady + Drop> Running<P, C> {
         ensures base { self.new.complex.base ≡ self.old.complex.base }
         ensures since { self.new.complex.since ≡ self.old.complex.since }
         ensures id { self.new.member.id ≡ self.old.member.id }
-        ensures step { (lost : Option ℕ) × IsStepOf P.tells (Closed (no_reset_lem self.old.complex.base.config of))
+        ensures step { (seen : Sight) × IsStepOf P.tells (Closed (no_reset_lem self.old.complex.base.config of))
             (run self.old.complex.base (kept_all self.old.complex.journal.batches)) self.old.complex.base.config.groups step
             self.old.complex.journal.batches (end_of self.new.complex.placed self.new.complex.current self.new.complex.journal.batches)
             self.old.complex.pair.first.alive self.new.complex.pair.first.alive self.old.complex.pair.second.alive self.new.complex.pair.second.alive
@@ -222,7 +269,7 @@ impl<P: Plant + Drop, C: Steady + Drop> Running<P, C> {
         ensures base { self.new.complex.base ≡ self.old.complex.base }
         ensures since { self.new.complex.since ≡ self.old.complex.since }
         ensures id { self.new.member.id ≡ self.old.member.id }
-        ensures step { (lost : Option ℕ) × IsStepOf P.tells (command_turn self.old.complex.base.config (try_refusal self.old.complex.book sysa false) given.now (resets given.now))
+        ensures step { (seen : Sight) × IsStepOf P.tells (command_turn self.old.complex.base.config (try_refusal self.old.complex.book sysa false) given.now (resets given.now))
             (run self.old.complex.base (kept_all self.old.complex.journal.batches)) self.old.complex.base.config.groups step
             self.old.complex.journal.batches (end_of self.new.complex.placed self.new.complex.current self.new.complex.journal.batches)
             self.old.complex.pair.first.alive self.new.complex.pair.first.alive self.old.complex.pair.second.alive self.new.complex.pair.second.alive
@@ -266,7 +313,7 @@ impl<P: Plant + Drop, C: Steady + Drop> Running<P, C> {
         ensures base { self.new.complex.base ≡ self.old.complex.base }
         ensures since { self.new.complex.since ≡ self.old.complex.since }
         ensures id { self.new.member.id ≡ self.old.member.id }
-        ensures step { (lost : Option ℕ) × IsStepOf P.tells (Loss dev)
+        ensures step { (seen : Sight) × IsStepOf P.tells (Loss dev)
             (run self.old.complex.base (kept_all self.old.complex.journal.batches)) self.old.complex.base.config.groups step
             self.old.complex.journal.batches (end_of self.new.complex.placed self.new.complex.current self.new.complex.journal.batches)
             self.old.complex.pair.first.alive self.new.complex.pair.first.alive self.old.complex.pair.second.alive self.new.complex.pair.second.alive
@@ -291,6 +338,7 @@ impl<P: Plant + Drop, C: Steady + Drop> Running<P, C> {
         requires id { self.old.member.id ≡ sysa }
         requires lock { IsOpenTo self.old.complex.book self.old.complex.reserved sysa }
         requires config { IsConfig self.old.complex.base.config }
+        requires numbers { AreDistinct (λ a b. same_number a.number b.number) self.old.complex.base.jobs }
         requires may { IsPlayed asked.now }
         requires since { self.old.complex.since ≤ (P.view self.old.complex.plant).now }
         requires roomy { P.tells → AreRoomy (P.view self.old.complex.plant) self.old.complex.base.config }
@@ -304,12 +352,12 @@ impl<P: Plant + Drop, C: Steady + Drop> Running<P, C> {
         requires own { self.old.complex.base.config ≡ self.old.member.checkpoint.tables.config }
         requires most { 1 ≤ C.room_most }
         requires kept { AreAllKept self.old.complex.journal.batches (P.view self.old.complex.plant).now }
-        requires orders { orders_after (length self.old.complex.journal.batches + 1) < too_high }
-        requires level { self.old.complex.level + 1 < too_high }
+        requires orders { orders_after (length self.old.complex.journal.batches + batches_most) < too_high }
+        requires level { self.old.complex.level + batches_most < too_high }
         ensures base { self.new.complex.base ≡ self.old.complex.base }
         ensures since { self.new.complex.since ≡ self.old.complex.since }
         ensures id { self.new.member.id ≡ self.old.member.id }
-        ensures step { (lost : Option ℕ) × IsStepOf P.tells (turn_at self.old.complex.base.config self.old.complex.book lost asked.now.what)
+        ensures step { (seen : Sight) × IsStepOf P.tells (turn_at self.old.complex.base.config self.old.complex.book seen asked.now.what)
             (run self.old.complex.base (kept_all self.old.complex.journal.batches)) self.old.complex.base.config.groups step
             self.old.complex.journal.batches (end_of self.new.complex.placed self.new.complex.current self.new.complex.journal.batches)
             self.old.complex.pair.first.alive self.new.complex.pair.first.alive self.old.complex.pair.second.alive self.new.complex.pair.second.alive
@@ -321,7 +369,7 @@ impl<P: Plant + Drop, C: Steady + Drop> Running<P, C> {
         ensures low2 { OnOk result (ReadsLow P.tells self.new.complex.pair.second.alive self.old.member.checkpoint.tables.config (length self.new.complex.journal.batches) (C.reads (disk_now (P.view self.new.complex.plant) Ckpt2).bytes)) }
         ensures sound { OnOk result (P.tells → IsToldSound (run self.new.complex.base (kept_all self.new.complex.journal.batches))) }
         ensures own { OnOk result (self.new.member.checkpoint.tables.config ≡ self.old.member.checkpoint.tables.config) }
-        ensures level { OnOk result (self.new.complex.level ≤ self.old.complex.level + 2) }
+        ensures level { OnOk result (self.new.complex.level ≤ self.old.complex.level + batches_most) }
         ensures lock { OnOk result (IsOpenTo self.new.complex.book self.new.complex.reserved sysa) }
         ensures book { OnOk result (self.new.complex.book ≡ book_after self.old.complex.base.config self.old.complex.book asked.now.what) }
     {
@@ -329,6 +377,7 @@ impl<P: Plant + Drop, C: Steady + Drop> Running<P, C> {
             Ask::Deck(cards) => self.play_deck(alloc, step, cards),
             Ask::Lose(dev) => self.lose(step, *dev),
             Ask::Command(given) => self.play_command(alloc, step, given),
+            Ask::Work(units) => self.play_work(alloc, step, *units),
             _ => unreachable!(),
         }
     }
@@ -339,6 +388,7 @@ impl<P: Plant + Drop, C: Steady + Drop> Running<P, C> {
         requires lock { IsOpenTo self.old.complex.book self.old.complex.reserved sysa }
         requires config { IsConfig self.old.complex.base.config }
         requires few { length asked.now ≤ steps_most }
+        requires numbers { AreDistinct (λ a b. same_number a.number b.number) self.old.complex.base.jobs }
         requires may { All IsPlayed asked.now }
         requires since { self.old.complex.since ≤ (P.view self.old.complex.plant).now }
         requires quiet { P.tells → ((P.view self.old.complex.plant).world self.old.complex.since).console ≡ console_now (P.view self.old.complex.plant) }

@@ -90,7 +90,7 @@ pub fn play_steps<P: Plant + Drop>(alloc: Global, cold: bool, script: Script, pl
 /// Plays a script on a plant: cold from an empty queue, for which CKPT1 and CKPT2 are formatted, and else warm, from the queue
 /// that is found on them. A run that `only` formats refuses every step.
 ///
-/// The script is read to its end before anything is played. Its steps are decks and operator's commands at SYSA, and losses of a device.
+/// The script is read to its end before anything is played. Its steps are decks, operator's commands and work at SYSA, and losses of a device.
 /// A cold run refuses the first device that is too small for the script's configuration, CKPT1, CKPT2, and then each spool volume that
 /// isn't lost, and formats both copies with the empty queue of the script's configuration and routes. A warm run looks at
 /// both, takes the usable one of greater level, CKPT1 on a tie, refuses a device that is too small for it in the same order, syncs the
@@ -99,7 +99,8 @@ pub fn play_steps<P: Plant + Drop>(alloc: Global, cold: bool, script: Script, pl
 /// played one after another. A deck whose cards are wrong closes with BAD CARD. Else its job begins and gets the groups that its text
 /// needs, in a batch; the text is written into them and synced; and the job is entered, in a second batch. After a refused Take, or where
 /// a volume of one of the groups failed, the job is dropped. A command is done in one batch; the reset of a member is refused, as each is
-/// up. A batch is kept once each copy that is left has it, and the lines of its step are said then, those of a display first and the
+/// up. Work does at most so many units, one after another, up to one that is refused or to where none applies; what it did is kept before a
+/// text is read or written, where the lock's hold is spent, and at its end. A batch is kept once each copy that is left has it, and the lines of its step are said then, those of a display first and the
 /// closing line last. A step takes the lock of the checkpoint and gives it up at its end. Where the configuration has a dormancy, a step that comes too early
 /// closes with DORMANT and changes nothing. A copy that fails or is lost is left out, and the run goes on with the other.
 ///

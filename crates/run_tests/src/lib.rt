@@ -14,3 +14,5 @@ mod playing;
 mod runs;
 #[cfg(test)]
 mod starts;
+#[cfg(test)]
+mod work;

@@ -106,7 +106,8 @@ pub fn without(alloc: Global, dev: Dev) -> Result<MemPlant, NoMemory> {
     Ok(plant)
 }
 
-fn add(bytes: &mut List<u8>, more: &[u8]) -> Result<(), NoMemory> {
+/// Adds bytes.
+pub fn add(bytes: &mut List<u8>, more: &[u8]) -> Result<(), NoMemory> {
     for byte in more {
         bytes.push(*byte)?;
     }

@@ -1,4 +1,4 @@
-use Rattle.std.proofs.Common.{◌≡◌, ◌∙◌, ◌≤◌, ℕ, List, Option, [], inl, refl, sym, ap, subst, arith}
+use Rattle.std.proofs.Common.{◌≡◌, ◌∙◌, ◌≤◌, ℕ, List, [], inl, refl, sym, ap, subst, arith}
 use Rattle.mas_types.specs.Ids.{nobody}
 use Rattle.spool_disk.specs.View.{World}
 use Rattle.ckpt_copy.specs.Areas.{reads}
@@ -11,12 +11,13 @@ use Rattle.mas_run.specs.Resets.{restart_entries}
 use Rattle.lock_cycle.specs.Books.{Book}
 use Rattle.first_script.specs.Played.{sysa}
 use Rattle.mas_run.specs.Runs.{IsPlay}
-use Rattle.mas_run.specs.Turns.{turns_from}
+use Rattle.mas_run.specs.Turns.{Sight, turns_from}
 use Rattle.mas_types.specs.declared.queues.Queue.{Queue}
 use Rattle.mas_types.specs.Limits.{pages_most}
 use Rattle.member_node.specs.declared.checkpoint.Checkpoint.{Checkpoint}
 use Rattle.member_node.specs.declared.member.NodeNo.TheVariants as no_node
 use Rattle.member_steps.proofs.PageLemmas.{few_pages}
+use Rattle.mas_run.proofs.NumberLemmas.{distinct_told}
 use Rattle.mas_run.proofs.ResetLemmas.{err_plays, reset_ended, reset_caused, reset_none, one_kept_now}
 use Rattle.mas_run.proofs.ScriptLemmas.{roomy_later}
 use Rattle.mas_run.proofs.VolumeLemmas.{kept_on}
@@ -119,6 +120,9 @@ play_asked-requires-clause-lock g c =
 pub play_asked-requires-clause-config : goal.play_asked-requires-clause-config
 play_asked-requires-clause-config g c = rw c.in-Ok-restart.ensures.base c.requires.config
 
+pub play_asked-requires-clause-numbers : goal.play_asked-requires-clause-numbers
+play_asked-requires-clause-numbers g c = rw c.in-Ok-restart.ensures.base (distinct_told c.args.found.tables c.args.found.complex.base c.requires.queue c.requires.sound)
+
 pub play_asked-requires-clause-roomy : goal.play_asked-requires-clause-roomy
 play_asked-requires-clause-roomy g c told =
     let P = g.P.Plant in
@@ -165,12 +169,12 @@ returns-in-Ok-restart-clause-steps g c =
     let r = k.reset.ends.0 in
     let out = none_out y.journal.batches y.journal.batches y.placed y.current refl k.at_lock.unplaced k.at_lock.none in
     let since : z.since ≡ v.now = d.since ∙ k.since ∙ c.requires.since in
-    let played : (lost : List (Option ℕ)) × IsPlay P.tells (turns_from z.base.config y.book lost c.args.asked.now) z.status z.base y.journal.batches z.journal z.since w (P.view z.plant) = d.play in
-    let lost = played.0 in
-    let play : IsPlay P.tells (turns_from z.base.config x.book lost c.args.asked.now) z.status z.base y.journal.batches z.journal z.since w (P.view z.plant) =
-    subst (λ (b : Book). IsPlay P.tells (turns_from z.base.config b lost c.args.asked.now) z.status z.base y.journal.batches z.journal z.since w (P.view z.plant)) k.book played.1 in (
-      lost,
-      warm_steps v w (P.view z.plant) k.reset.course.goes d.goes P.tells (turns_from z.base.config x.book lost c.args.asked.now) z.status z.base (begun v.now nobody restart_entries) r.0 y.journal.batches z.journal z.since (sym out ∙ r.3)
+    let played : (seen : List Sight) × IsPlay P.tells (turns_from z.base.config y.book seen c.args.asked.now) z.status z.base y.journal.batches z.journal z.since w (P.view z.plant) = d.play in
+    let seen = played.0 in
+    let play : IsPlay P.tells (turns_from z.base.config x.book seen c.args.asked.now) z.status z.base y.journal.batches z.journal z.since w (P.view z.plant) =
+    subst (λ (b : Book). IsPlay P.tells (turns_from z.base.config b seen c.args.asked.now) z.status z.base y.journal.batches z.journal z.since w (P.view z.plant)) k.book played.1 in (
+      seen,
+      warm_steps v w (P.view z.plant) k.reset.course.goes d.goes P.tells (turns_from z.base.config x.book seen c.args.asked.now) z.status z.base (begun v.now nobody restart_entries) r.0 y.journal.batches z.journal z.since (sym out ∙ r.3)
           (record { by = refl; entries = refl; began = omega (arith, since) }) r.1 r.2 (omega (arith, since, k.reset.course.goes.later)) k.reset.loses (λ t. (k.reset.apart t).console) (λ t. kept_on v w (k.reset.apart t).others) play,
     )
 

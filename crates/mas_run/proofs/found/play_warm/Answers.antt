@@ -1,4 +1,4 @@
-use Rattle.std.proofs.Common.{◌≡◌, ◌∙◌, ◌≤◌, min, ℕ, List, Option, length, false, inl, inr, ⊎_elim, refl, sym, ap, subst, arith}
+use Rattle.std.proofs.Common.{◌≡◌, ◌∙◌, ◌≤◌, min, ℕ, List, length, false, inl, inr, ⊎_elim, refl, sym, ap, subst, arith}
 use Rattle.std.proofs.Math.Logic.{∥∥₁_map}
 use Rattle.mas_types.specs.Fit.{IsConfig}
 use Rattle.mas_types.specs.Limits.{members_most}
@@ -23,7 +23,7 @@ use Rattle.warm_start.proofs.Spooling.{steady_first}
 use Rattle.first_script.specs.Played.{sysa}
 use Rattle.member_decks.specs.Spooling.{AreRoomy}
 use Rattle.member_node.specs.Calls.{console_now}
-use Rattle.mas_run.specs.Turns.{turns_of}
+use Rattle.mas_run.specs.Turns.{Sight, turns_of}
 use Rattle.mas_run.proofs.LockLemmas.{begins_open}
 use Rattle.mas_run.specs.Runs.{HasSteps}
 use Rattle.mas_run.proofs.RunLemmas.{steps_since}
@@ -215,7 +215,7 @@ returns-clause-run g c begun =
     let script = c.args.script.now in
     let quiet : P.tells → console_now v1 ≡ console_now v0 = λ t. (s.held t).console v1.now s.starts.goes.later (omega arith) in
     let book : x.book ≡ book_of z.base.config = f.book ∙ ap (λ (q : Queue). book_of q.config) (sym base0) in
-    let played : (lost : List (Option ℕ)) × HasSteps false P.tells (turns_of z.base.config lost script.steps) z.status z.base z.journal z.since v1.loses v1 v2 = rw (c.as_slice.ensures, book) at d.steps in
+    let played : (seen : List Sight) × HasSteps false P.tells (turns_of z.base.config seen script.steps) z.status z.base z.journal z.since v1.loses v1 v2 = rw (c.as_slice.ensures, book) at d.steps in
     record {
       first = v1.loses;
       before = starts_first x.pair.first.alive x.pair.second.alive v0 v1 s.starts;
@@ -239,6 +239,6 @@ returns-clause-run g c begun =
       fresh = λ t. rw (base0, since) (∥∥₁_map (f.fresh t) (λ k. rw f.since at (k v2 goes)));
       quiet = λ t. ap (λ (n : ℕ). (v2.world n).console) since ∙ ap (λ (u : World). u.console) (goes.past v1.now (omega arith)) ∙ quiet t;
       held = λ t. rw since (held_until v0 v1 v2 (bytes_of w.pages) goes (s.held t));
-      lost = played.0;
+      seen = played.0;
       steps = steps_since v0 v1 v2 s.starts.goes goes false P.tells (turns_of z.base.config played.0 script.steps) z.status z.base z.journal z.since v1.loses quiet (λ t. (s.held t).volumes) played.1;
     }

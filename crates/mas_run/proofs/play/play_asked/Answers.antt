@@ -37,7 +37,7 @@ returns-clause-cause g c =
     let e = c.ended.ensures in
     let d = c.play_steps-answer.ensures.played in
     let from : Queue = run x.base (kept_all x.journal.batches) in
-    rw (e.status, c.status_of.ensures, e.plant) (caused_by_steps P.tells (turns_from x.base.config x.book d.lost c.args.asked.now) from x.base.config.groups d.rest v w x.pair.first.alive y.pair.first.alive x.pair.second.alive y.pair.second.alive
+    rw (e.status, c.status_of.ensures, e.plant) (caused_by_steps P.tells (turns_from x.base.config x.book d.seen c.args.asked.now) from x.base.config.groups d.rest v w x.pair.first.alive y.pair.first.alive x.pair.second.alive y.pair.second.alive
     c.play_steps-answer.result d.played y.first_lost y.second_lost)
 
 pub returns-clause-goes : goal.returns-clause-goes

@@ -1,4 +1,4 @@
-use Rattle.std.proofs.Common.{◌≡◌, ◌∙◌, ℕ, min, true, false, List, Option, Err, length, sym, ap, subst, arith}
+use Rattle.std.proofs.Common.{◌≡◌, ◌∙◌, ℕ, min, true, false, List, Err, length, sym, ap, subst, arith}
 use Rattle.std.proofs.Math.Logic.{∥∥₁_map}
 use Rattle.mas_types.specs.declared.ids.Dev.TheVariants.{Ckpt1, Ckpt2}
 use Rattle.mas_types.specs.declared.queues.Queue.{Queue}
@@ -26,8 +26,10 @@ use Rattle.ckpt_pages.specs.declared.tables.Tables.{Tables}
 use Rattle.mas_run.specs.Runs.{IsPlay}
 use Rattle.mas_run.specs.Statuses.{IsCausedFrom}
 use Rattle.first_script.specs.Played.{sysa}
-use Rattle.mas_run.specs.Turns.{turns_from, turns_of}
+use Rattle.mas_run.specs.Turns.{Sight, turns_from, turns_of}
 use Rattle.mas_run.proofs.LockLemmas.{begins_open}
+use Rattle.mas_types.specs.Fit.{AreDistinct}
+use Rattle.mas_types.specs.Ids.{same_number}
 use Rattle.mas_types.specs.Limits.{members_most}
 use Rattle.mas_run.proofs.RunLemmas.{begun_empty, caused_unformed, cold_steps, steps_since, none_kept, caused_since, formed_copy, empty_texts, low_empty, sound_empty, told_empty}
 use Rattle.mas_run.proofs.ScriptLemmas.{roomy_later}
@@ -162,6 +164,9 @@ play_asked-requires-clause-sound g c told =
     told_sound k.tables (run y.base (kept_all y.journal.batches)) (sound_empty config routes k.tables c.in-Ok.ensures.tables c.requires.fits.config c.requires.fits.few (c.law_of_told_queues.ensures.empty config routes))
     (subst (λ (bs : List Batch). Tell k.tables (run y.base (kept_all bs))) (sym m.journal) (subst (Tell k.tables) (sym m.base) told_base))
 
+pub play_asked-requires-clause-numbers : goal.play_asked-requires-clause-numbers
+play_asked-requires-clause-numbers g c = subst (λ (q : Queue). AreDistinct (λ a b. same_number a.number b.number) q.jobs) (sym (c.make-complex.ensures.base ∙ c.in-Ok.ensures.base)) tt
+
 pub play_asked-requires-clause-own : goal.play_asked-requires-clause-own
 play_asked-requires-clause-own g c = ap (λ (q : Queue). q.config) (c.make-complex.ensures.base ∙ c.in-Ok.ensures.base) ∙ sym (ap (λ (t : Tables). t.config) c.in-Ok.ensures.tables)
 
@@ -210,12 +215,12 @@ returns-clause-run g c begun =
     let base : r.base ≡ c.in-Ok.base = e.base ∙ m.base in
     let book : x.book ≡ book_of r.base.config = m.book ∙ ap (λ (q : Queue). book_of q.config) (sym base) in
     let steps = c.args.script.now.steps in
-    let played : (lost : List (Option ℕ)) × IsPlay P.tells (turns_from r.base.config x.book lost steps) r.status r.base x.journal.batches r.journal r.since (P.view x.plant) w = rw c.as_slice-2.ensures at e.play in
-    let lost = played.0 in
-    let turns = turns_of r.base.config lost steps in
+    let played : (seen : List Sight) × IsPlay P.tells (turns_from r.base.config x.book seen steps) r.status r.base x.journal.batches r.journal r.since (P.view x.plant) w = rw c.as_slice-2.ensures at e.play in
+    let seen = played.0 in
+    let turns = turns_of r.base.config seen steps in
     let play : IsPlay P.tells turns r.status r.base x.journal.batches r.journal r.since v1 w =
-    subst (λ (b : Book). IsPlay P.tells (turns_from r.base.config b lost steps) r.status r.base x.journal.batches r.journal r.since v1 w) book
-    (subst (λ (v : View). IsPlay P.tells (turns_from r.base.config x.book lost steps) r.status r.base x.journal.batches r.journal r.since v w) (ap P.view m.plant) played.1) in
+    subst (λ (b : Book). IsPlay P.tells (turns_from r.base.config b seen steps) r.status r.base x.journal.batches r.journal r.since v1 w) book
+    (subst (λ (v : View). IsPlay P.tells (turns_from r.base.config x.book seen steps) r.status r.base x.journal.batches r.journal r.since v w) (ap P.view m.plant) played.1) in
     record {
       first = v1.loses;
       before = f.acted.loses;
@@ -224,7 +229,7 @@ returns-clause-run g c begun =
       fresh = λ t. rw (base, since) (∥∥₁_map (m.fresh t) (λ k. k w goes));
       quiet = λ t. ap (λ (n : ℕ). (w.world n).console) since ∙ ap (λ (u : World). u.console) (goes.past v1.now (omega arith)) ∙ quiet t;
       held = λ t. tt;
-      lost = lost;
+      seen = seen;
       steps = steps_since v0 v1 w f.acted.goes goes true P.tells turns r.status r.base r.journal r.since v1.loses quiet (λ t. kept_on v0 v1 (f.during t).others)
           (cold_steps P.tells turns r.status r.base x.journal.batches r.journal r.since v1 w m.journal since goes play);
     }

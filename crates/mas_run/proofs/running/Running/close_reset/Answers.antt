@@ -1,4 +1,4 @@
-use Rattle.std.proofs.Common.{◌∷◌, [], None, refl, subst, arith}
+use Rattle.std.proofs.Common.{◌∷◌, [], refl, subst, arith}
 use Rattle.mas_types.specs.declared.answers.Closing.{Closing}
 use Rattle.mas_types.specs.declared.ids.Dev.TheVariants.{Ckpt1, Ckpt2}
 use Rattle.mas_types.specs.declared.ids.MemberId.{MemberId}
@@ -7,7 +7,7 @@ use Rattle.mas_complex.specs.Journals.{end_of, kept_all}
 use Rattle.mas_complex.specs.Meaning.{run}
 use Rattle.member_steps.specs.Locked.{IsDenial}
 use Rattle.member_steps.proofs.StepLemmas.{ok_of}
-use Rattle.mas_run.specs.Turns.{no_reset}
+use Rattle.mas_run.specs.Turns.{clear, no_reset}
 use Rattle.mas_run.proofs.StepLemmas.{closed_step_of}
 use Rattle.mas_run.proofs.running.Running.close_reset.Goals as goal
 
@@ -23,7 +23,7 @@ returns-clause-step g c =
     let x = c.args.self.now.complex in
     let y = c.refuse.new.complex in
     let by = c.args.self.now.member.id in (
-      None,
+      clear,
       closed_step_of P.tells (no_reset x.base.config c.args.of) (run x.base (kept_all x.journal.batches)) x.base.config.groups c.args.step x.journal.batches (end_of y.placed y.current y.journal.batches)
           x.pair.first.alive y.pair.first.alive x.pair.second.alive y.pair.second.alive (P.view x.plant) (P.view y.plant) c.refuse.result
           (subst (λ (m : MemberId). IsDenial P.tells m.0 (closing_line m c.args.step (no_reset x.base.config c.args.of) ∷ []) x.journal.batches (end_of y.placed y.current y.journal.batches) x.pair.first.alive y.pair.first.alive x.pair.second.alive y.pair.second.alive (P.view x.plant) (P.view y.plant) c.refuse.result) c.requires.id

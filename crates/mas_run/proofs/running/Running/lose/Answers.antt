@@ -1,4 +1,4 @@
-use Rattle.std.proofs.Common.{◌∙◌, None, ap, length}
+use Rattle.std.proofs.Common.{◌∙◌, ap, length}
 use Rattle.mas_types.specs.declared.ids.Dev.TheVariants.{Ckpt1, Ckpt2}
 use Rattle.spool_disk.specs.View.{disk_now}
 use Rattle.member_node.specs.Reads.{ReadsLow}
@@ -8,6 +8,7 @@ use Rattle.mas_complex.specs.Journals.{end_of, kept_all}
 use Rattle.mas_complex.specs.Meaning.{run}
 use Rattle.member_node.proofs.WriteLemmas.{none_out}
 use Rattle.mas_run.proofs.StepLemmas.{device_step_of, first_was, second_was}
+use Rattle.mas_run.specs.Turns.{clear}
 use Rattle.mas_run.proofs.running.Running.lose.Goals as goal
 
 pub returns-clause-step : goal.returns-clause-step
@@ -17,7 +18,7 @@ returns-clause-step g c =
     let y = c.lose.new.self in
     let e = c.lose.ensures in
     let out = none_out x.journal.batches y.journal.batches y.placed y.current (ap (λ (j : Journal). j.batches) e.journal) (e.placed ∙ c.requires.at_lock.unplaced) (e.current ∙ c.requires.at_lock.none) in (
-      None,
+      clear,
       device_step_of (λ h. h.alive) x.pair.first y.pair.first x.pair.second y.pair.second P.tells (run x.base (kept_all x.journal.batches)) x.base.config.groups c.args.step x.journal.batches (end_of y.placed y.current y.journal.batches)
           (P.view x.plant) (P.view y.plant) out c.args.dev e.dead (λ n is. (ap (λ p. p.first.alive) (e.volume n is), ap (λ p. p.second.alive) (e.volume n is))) e.other e.loses e.elsewhere,
     )

@@ -1,4 +1,4 @@
-use Rattle.std.proofs.Common.{false, None, [], ◌∷◌, arith, refl}
+use Rattle.std.proofs.Common.{false, [], ◌∷◌, arith, refl}
 use Rattle.mas_types.specs.declared.queues.Queue.{Queue}
 use Rattle.lock_cycle.specs.Books.{try_refusal}
 use Rattle.first_script.specs.Played.{sysa}
@@ -8,6 +8,7 @@ use Rattle.member_node.proofs.WriteLemmas.{none_out}
 use Rattle.member_steps.specs.Steps.{entry_of}
 use Rattle.mas_run.proofs.CommandLemmas.{may_played, of_one, ok_more, played}
 use Rattle.mas_run.proofs.LockLemmas.{command_by_try, unplayed_task}
+use Rattle.mas_run.specs.Turns.{clear}
 use Rattle.mas_run.proofs.running.Running.play_given.Goals as goal
 
 pub play_locked-requires-clause-lock : goal.play_locked-requires-clause-lock
@@ -45,7 +46,7 @@ returns-clause-step g c =
     let P = g.P.Plant in
     let x = c.args.self.now.complex in
     let y = c.play_locked.new.complex in (
-      None,
+      clear,
       command_by_try P.tells (run x.base (kept_all x.journal.batches)) x.base.config.groups c.args.step x.journal.batches (end_of y.placed y.current y.journal.batches)
           x.pair.first.alive y.pair.first.alive x.pair.second.alive y.pair.second.alive (P.view x.plant) (P.view y.plant) c.play_locked.result
           x.book c.args.self.now.member.id c.in-Ok.given c.args.given.now c.requires.id c.in-Ok.ensures c.play_locked.ensures.granted c.play_locked.ensures.denied,
@@ -65,7 +66,7 @@ returns-in_default-clause-step g c =
     let P = g.P.Plant in
     let x = c.args.self.now.complex in
     let front = x.journal.batches in (
-      None,
+      clear,
       unplayed_task P.tells (try_refusal x.book sysa false) c.args.given.now (run x.base (kept_all front)) x.base.config.groups c.args.step front (end_of x.placed x.current front)
           x.pair.first.alive x.pair.second.alive (P.view x.plant) (none_out front front x.placed x.current refl c.requires.at_lock.unplaced c.requires.at_lock.none),
     )

@@ -37,6 +37,9 @@ play_step-requires-clause-config g c = rw c.loop-step.invariant.base c.requires.
 pub play_step-requires-clause-may : goal.play_step-requires-clause-may
 play_step-requires-clause-may g c = subst IsPlayed (sym c.step-item.is) (c.requires.may c.loop-step.step-index c.step-item.result c.loop-step-test.true)
 
+pub play_step-requires-clause-numbers : goal.play_step-requires-clause-numbers
+play_step-requires-clause-numbers g c = rw c.loop-step.invariant.base c.requires.numbers
+
 pub play_step-requires-clause-since : goal.play_step-requires-clause-since
 play_step-requires-clause-since g c =
     let i = c.loop-step.invariant in
@@ -77,7 +80,7 @@ play_step-requires-clause-orders g c =
     let x = c.args.self.now.complex in
     let y = c.loop-step.self.complex in
     let i = c.loop-step.invariant in
-    let few = few_here P.tells (run x.base (kept_all x.journal.batches)) x.base.config x.book c.args.asked.now c.loop-step.step-index x.journal.batches y.journal.batches x.pair.first.alive y.pair.first.alive x.pair.second.alive y.pair.second.alive (P.view x.plant) (P.view y.plant) i.play in
+    let few = few_here P.tells (run x.base (kept_all x.journal.batches)) x.base.config x.book c.args.asked.now c.loop-step.step-index x.journal.batches y.journal.batches x.pair.first.alive y.pair.first.alive x.pair.second.alive y.pair.second.alive (P.view x.plant) (P.view y.plant) i.play c.requires.may in
     omega (arith, few, c.requires.fresh, c.requires.few, c.loop-step-test.true)
 
 pub play_step-requires-clause-level : goal.play_step-requires-clause-level

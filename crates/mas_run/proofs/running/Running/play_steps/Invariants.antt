@@ -8,6 +8,7 @@ use Rattle.member_steps.specs.Steps.{IsAtLock, IsToldSound}
 use Rattle.mas_complex.specs.Journals.{kept_all}
 use Rattle.mas_complex.specs.Meaning.{run}
 use Rattle.mas_run.specs.Plays.{HavePlay}
+use Rattle.mas_run.specs.Steps.{batches_most}
 use Rattle.mas_run.proofs.TurnLemmas.{book_behind}
 use Rattle.mas_run.proofs.running.Running.play_steps.Given as goal
 
@@ -31,7 +32,7 @@ invariant-loop-step g l =
       low2 : ReadsLow P.tells y.pair.second.alive l.self.member.checkpoint.tables.config (length y.journal.batches) (C.reads (disk_now (P.view y.plant) Ckpt2).bytes);
       sound : P.tells → IsToldSound (run y.base (kept_all y.journal.batches));
       own : y.base.config ≡ l.self.member.checkpoint.tables.config;
-      level : y.level ≤ x.level + 2 * l.step-index;
+      level : y.level ≤ x.level + batches_most * l.step-index;
       play : HavePlay P.tells (run x.base (kept_all x.journal.batches)) x.base.config x.book l.asked l.step-index x.journal.batches y.journal.batches
           x.pair.first.alive y.pair.first.alive x.pair.second.alive y.pair.second.alive (P.view x.plant) (P.view y.plant);
     }
