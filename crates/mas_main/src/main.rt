@@ -6,6 +6,7 @@ use mas_run::code;
 use mas_top::{calm_top, task_of};
 use mas_types::{NoMemory, Status, status_line};
 use plant_files::{FilePlant, StdSource};
+use plant_fuse::Fused;
 use std::io::{self, ErrorKind, Write};
 use std::process::ExitCode;
 use std::{env, str};
@@ -46,8 +47,8 @@ fn run(rt: &HostRuntime) -> Result<Status, WordsNo> {
         return Err(WordsNo::Words);
     }
     let mut script = StdSource::new(*rt);
-    let plant = FilePlant::open(*rt, rt.alloc(), folder_of(&read)?)?;
-    Ok(calm_top(rt.alloc(), &words, &mut script, plant).status)
+    let files = FilePlant::open(*rt, rt.alloc(), folder_of(&read)?)?;
+    Ok(calm_top(rt.alloc(), &words, &mut script, Fused::new(files)).status)
 }
 
 // Writes the line of a status to standard error.
