@@ -1,0 +1,4 @@
+pub mod Counts
+pub mod Paper
+pub mod Next
+pub mod Laws

@@ -1,0 +1,7 @@
+//! Printed lines over plain data: what a member may print next, which Marks its printed lines allow, and what commands and lines keep
+//! of what stands on paper.
+#![tactic(auto)]
+
+mod laws;
+
+pub use laws::law_of_paper;
