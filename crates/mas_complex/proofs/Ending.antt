@@ -5,9 +5,11 @@ use Rattle.mas_types.specs.declared.ids.MemberId.{MemberId}
 use Rattle.mas_types.specs.declared.journals.Batch.{Batch}
 use Rattle.mas_types.specs.declared.journals.Entry.{Entry}
 use Rattle.mas_types.specs.declared.journals.Fate.TheVariants.{Kept}
+use Rattle.mas_types.specs.declared.journals.Journal.{Journal}
 use Rattle.mas_types.specs.declared.queues.Queue.{Queue}
 use Rattle.mas_types.specs.Journal.{kept_at, flying_at, entries_of, is_kept_by, is_flying_at}
 use Rattle.mas_types.specs.Closings.{closing_line}
+use Rattle.mas_types.specs.Sound.{IsSound}
 use Rattle.mas_types.specs.declared.ids.Dev.{Dev}
 use Rattle.mas_types.specs.declared.ids.Dev.TheVariants.{Ckpt1, Ckpt2}
 use Rattle.spool_disk.specs.declared.plant.Part.TheVariants.{Disk as DiskPart}
@@ -29,7 +31,8 @@ use Rattle.mas_complex.proofs.Present.{alike_as, alike_found, top_reads}
 use Rattle.mas_complex.proofs.Moves.{unplace_keeps}
 use Rattle.mas_complex.specs.Meaning.{Closes, run, StandFor}
 use Rattle.mas_complex.specs.Crash.{Setting, setting, Stands, IsNext, Alike, Copy, Keeps, IsFound, IsAfter, EachTells, said, found, lost_if, left_at, IsLeft}
-use Rattle.mas_complex.specs.Headline.{Headline, FoundFor, IsAfterKept, AreAlike, whole}
+use Rattle.mas_complex.specs.Paper.{PaperKept}
+use Rattle.mas_complex.specs.Headline.{AreAlike, AreAlwaysAlike, AreTextsLeft, AreToldKept, FoundFor, Headline, IsAfterKept, IsCrashSafe, whole}
 
 pub kept_is : (bs : List Batch) (t : ℕ) → kept bs t ≡ entries_of (filter (is_kept_by t) bs)
 kept_is [] t = refl
@@ -71,6 +74,13 @@ image_left true false disk None there sunk left = absurd (true≢false (sym (sun
 image_left true false disk (Some image) there sunk left = left
 image_left false false disk None there sunk left = absurd (true≢false (sym (sunk left)))
 image_left false false disk (Some image) there sunk left = left
+
+-- what is handed out, but for what stands on paper
+pub record Parts (reads : List ℕ → Option (List ℕ)) (base : Queue) (since : ℕ) (J : Journal) (v : View) : Type 0 where
+  pub crash : IsCrashSafe reads base J since v
+  pub alike : AreAlwaysAlike reads base J since v
+  pub texts : AreTextsLeft base since J v
+  pub told : AreToldKept J since v
 
 module _ (reads : List ℕ → Option (List ℕ)) (base : Queue) (since : ℕ) (js : List Batch) (c : Option Batch) (reached : ℕ) (first second : Copy) (v : View) where
   abbrev S : Setting
@@ -130,7 +140,7 @@ module _ (reads : List ℕ → Option (List ℕ)) (base : Queue) (since : ℕ) (
         (subst (λ (d : Disk). Alike S (kept (js ++ in_flight c) t) (flying (js ++ in_flight c) t) (disk_at v t Ckpt1) d) (sym (left_below v t Ckpt2 lt)) (keeps.crash t from le lt)))
         (either_way top t)
 
-    pub headline_of : Headline reads base since (record { batches = js ++ in_flight c }) v
+    pub headline_of : Parts reads base since (record { batches = js ++ in_flight c }) v
     headline_of = record {
       crash = λ t from le one two left right some. after_kept t (found S one two)
           (alike_found S (kept (js ++ in_flight c) t) (flying (js ++ in_flight c) t) (left_at v t Ckpt1) (left_at v t Ckpt2) (at_any t from le) one two left right some);
@@ -154,21 +164,27 @@ module _ (reads : List ℕ → Option (List ℕ)) (base : Queue) (since : ℕ) (
     (most : v.now ≤ top) (lost1 : first.alive ≡ false → v.lost (DiskPart Ckpt1) ≡ true) (lost2 : second.alive ≡ false → v.lost (DiskPart Ckpt2) ≡ true)
     (rests_reads1 : (pages : List ℕ) (d : Disk) → first.rests pages d → AllRead reads pages d) (holds_reads1 : (was next : List ℕ) (d : Disk) → first.holds was next d → AllRead reads was d)
     (rests_reads2 : (pages : List ℕ) (d : Disk) → second.rests pages d → AllRead reads pages d) (holds_reads2 : (was next : List ℕ) (d : Disk) → second.holds was next d → AllRead reads was d) where
-  of_batches : (J : List Batch) (c : Option Batch) → Keeps (setting reads base since) J c reached first second v → Headline reads base since (record { batches = J ++ in_flight c }) v
+  of_batches : (J : List Batch) (c : Option Batch) → Keeps (setting reads base since) J c reached first second v → Parts reads base since (record { batches = J ++ in_flight c }) v
   of_batches J c keeps = headline_of reads base since J c reached first second v keeps most lost1 lost2 rests_reads1 holds_reads1 rests_reads2 holds_reads2
 
-  by_place : (J : List Batch) (c : Option Batch) (p : EndsInPlace J) → Keeps (setting reads base since) J c reached first second v → Headline reads base since (record { batches = p.before ++ in_flight c }) v
+  by_place : (J : List Batch) (c : Option Batch) (p : EndsInPlace J) → Keeps (setting reads base since) J c reached first second v → Parts reads base since (record { batches = p.before ++ in_flight c }) v
   by_place J c p keeps = of_batches p.before c
       (unplace_keeps (setting reads base since) p.before p.place c reached first second v p.free (subst (λ (l : List Batch). Keeps (setting reads base since) l c reached first second v) p.is keeps))
 
-  as_batches : (J K : List Batch) → J ≡ K → Headline reads base since (record { batches = J }) v → Headline reads base since (record { batches = K }) v
-  as_batches J K e h = subst (λ (l : List Batch). Headline reads base since (record { batches = l }) v) e h
+  as_batches : (J K : List Batch) → J ≡ K → Parts reads base since (record { batches = J }) v → Parts reads base since (record { batches = K }) v
+  as_batches J K e h = subst (λ (l : List Batch). Parts reads base since (record { batches = l }) v) e h
 
-  pub ended_headline : (placed : Bool) (c : Option Batch) (J : List Batch) → (IsSome c → placed ≡ true) → HasPlace placed J → Keeps (setting reads base since) J c reached first second v
-      → Headline reads base since (record { batches = end_of placed c J }) v
-  ended_headline true (Some b) J some p keeps = as_batches (p.before ++ b ∷ []) (with_last b J) (sym (ap (with_last b) p.is ∙ with_last-append b p.before p.place)) (by_place J (Some b) p keeps)
-  ended_headline true None J some p keeps = as_batches (p.before ++ []) (without_last J) (append-nil p.before ∙ sym (ap without_last p.is ∙ without_last-append p.before p.place)) (by_place J None p keeps)
-  ended_headline false None J some p keeps = as_batches (J ++ []) J (append-nil J) (of_batches J None keeps)
-  ended_headline false (Some b) J some p keeps = absurd (clash (some refl)) where
+  ended_parts : (placed : Bool) (c : Option Batch) (J : List Batch) → (IsSome c → placed ≡ true) → HasPlace placed J → Keeps (setting reads base since) J c reached first second v
+      → Parts reads base since (record { batches = end_of placed c J }) v
+  ended_parts true (Some b) J some p keeps = as_batches (p.before ++ b ∷ []) (with_last b J) (sym (ap (with_last b) p.is ∙ with_last-append b p.before p.place)) (by_place J (Some b) p keeps)
+  ended_parts true None J some p keeps = as_batches (p.before ++ []) (without_last J) (append-nil p.before ∙ sym (ap without_last p.is ∙ without_last-append p.before p.place)) (by_place J None p keeps)
+  ended_parts false None J some p keeps = as_batches (J ++ []) J (append-nil J) (of_batches J None keeps)
+  ended_parts false (Some b) J some p keeps = absurd (clash (some refl)) where
     clash : false ≡ true → ⊥
     clash e = cc
+
+  pub ended_headline : (placed : Bool) (c : Option Batch) (J : List Batch) → (IsSome c → placed ≡ true) → HasPlace placed J → Keeps (setting reads base since) J c reached first second v
+      → (IsSound base → ∥ PaperKept base since (end_of placed c J) v ∥₁) → Headline reads base since (record { batches = end_of placed c J }) v
+  ended_headline placed c J some p keeps paper =
+      let h : Parts reads base since (record { batches = end_of placed c J }) v = ended_parts placed c J some p keeps in
+      record { crash = h.crash; alike = h.alike; texts = h.texts; told = h.told; paper = paper }

@@ -2,6 +2,7 @@
 use Rattle.std.proofs.Common.{◌≡◌, inl, inr, ⊎_elim, ℕ, ◌+◌, ◌≤◌, ◌<◌, ◌||◌, Bool, true, false, List, [], ◌∷◌, ◌++◌, if◌then◌else◌, Option, Some, None, refl, subst, sym, ◌∙◌, ap, arith}
 use Rattle.std.proofs.lemmas.List.{append-nil}
 use Rattle.std.proofs.lemmas.Bool.{or_cases}
+use Rattle.mas_types.specs.declared.ids.Dev.{Dev}
 use Rattle.mas_types.specs.declared.ids.Dev.TheVariants.{Ckpt1, Ckpt2, Spool}
 use Rattle.spool_disk.specs.declared.plant.Act.{Act}
 use Rattle.spool_disk.specs.declared.plant.Act.TheVariants.{Done, Failed, Halted}
@@ -115,16 +116,24 @@ module _ (S : Setting) (js : List Batch) (c : Option Batch) (reached : ℕ) (fir
   module _ (keeps : Keeps S js c reached first second old)
       (rests_reads1 : (pages : List ℕ) (d : Disk) → first.rests pages d → AllRead S.reads pages d) (holds_reads1 : (was next : List ℕ) (d : Disk) → first.holds was next d → AllRead S.reads was d)
       (rests_reads2 : (pages : List ℕ) (d : Disk) → second.rests pages d → AllRead S.reads pages d) (holds_reads2 : (was next : List ℕ) (d : Disk) → second.holds was next d → AllRead S.reads was d) where
-    pub says_keep : Goes old new → new.now ≡ next old.now → Says line old new act → ((m : MemberId) (s : ℕ) → S.closes line m s → StepIsKept (js ++ in_flight c) old.now m s) → Keeps S js c reached first second new
-    says_keep goes time says told =
+    quiet_keep : Goes old new → new.now ≡ next old.now → ((d : Dev) → disk_now new d ≡ disk_now old d) → Adds S (js ++ in_flight c) old new → Keeps S js c reached first second new
+    quiet_keep goes time disks adds =
         acts_keep S js c reached first second first second old new keeps goes keeps.coming keeps.comes keeps.none
         (λ t lt le below. let e = at_end t time lt le in (
-          subst (λ (m : ℕ). ReadsOne S keeps.was keeps.coming (disk_at new m Ckpt1)) (sym e) (subst (λ (d : Disk). ReadsOne S keeps.was keeps.coming d) (sym (says.disks Ckpt1))
+          subst (λ (m : ℕ). ReadsOne S keeps.was keeps.coming (disk_at new m Ckpt1)) (sym e) (subst (λ (d : Disk). ReadsOne S keeps.was keeps.coming d) (sym (disks Ckpt1))
               (copy_reads S keeps.was first.rests first.holds rests_reads1 holds_reads1 keeps.coming first.place first.alive old.now (disk_now old Ckpt1) (omega arith) keeps.first_at)),
-          subst (λ (m : ℕ). ReadsOne S keeps.was keeps.coming (disk_at new m Ckpt2)) (sym e) (subst (λ (d : Disk). ReadsOne S keeps.was keeps.coming d) (sym (says.disks Ckpt2))
+          subst (λ (m : ℕ). ReadsOne S keeps.was keeps.coming (disk_at new m Ckpt2)) (sym e) (subst (λ (d : Disk). ReadsOne S keeps.was keeps.coming d) (sym (disks Ckpt2))
               (copy_reads S keeps.was second.rests second.holds rests_reads2 holds_reads2 keeps.coming second.place second.alive old.now (disk_now old Ckpt2) (omega arith) keeps.second_at)),
         ))
-        (adds_line time says told)
-        (stays_same S (kept_all js) (entries_in c) old new (λ t lt le n. subst (λ (m : ℕ). disk_at new m (Spool n) ≡ disk_now old (Spool n)) (sym (at_end t time lt le)) (says.disks (Spool n))))
-        (moved S first.rests first.holds keeps.was keeps.coming first.place first.alive old.now new.now (disk_now old Ckpt1) (disk_now new Ckpt1) goes.later (says.disks Ckpt1) keeps.first_at)
-        (moved S second.rests second.holds keeps.was keeps.coming second.place second.alive old.now new.now (disk_now old Ckpt2) (disk_now new Ckpt2) goes.later (says.disks Ckpt2) keeps.second_at)
+        adds
+        (stays_same S (kept_all js) (entries_in c) old new (λ t lt le n. subst (λ (m : ℕ). disk_at new m (Spool n) ≡ disk_now old (Spool n)) (sym (at_end t time lt le)) (disks (Spool n))))
+        (moved S first.rests first.holds keeps.was keeps.coming first.place first.alive old.now new.now (disk_now old Ckpt1) (disk_now new Ckpt1) goes.later (disks Ckpt1) keeps.first_at)
+        (moved S second.rests second.holds keeps.was keeps.coming second.place second.alive old.now new.now (disk_now old Ckpt2) (disk_now new Ckpt2) goes.later (disks Ckpt2) keeps.second_at)
+
+    pub says_keep : Goes old new → new.now ≡ next old.now → Says line old new act → ((m : MemberId) (s : ℕ) → S.closes line m s → StepIsKept (js ++ in_flight c) old.now m s) → Keeps S js c reached first second new
+    says_keep goes time says told = quiet_keep goes time says.disks (adds_line time says told)
+
+    -- an act beside the devices and the console
+    pub prints_keep : Goes old new → new.now ≡ next old.now → ((d : Dev) → disk_now new d ≡ disk_now old d) → (new.world new.now).console ≡ (old.world old.now).console → Keeps S js c reached first second new
+    prints_keep goes time disks console =
+        quiet_keep goes time disks (record { same = λ t lt le. ap (λ (m : ℕ). (new.world m).console) (at_end t time lt le); more = []; is = console ∙ sym (append-nil (old.world old.now).console); tells = tt })

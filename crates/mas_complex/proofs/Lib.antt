@@ -1,3 +1,4 @@
+pub mod Allowed
 pub mod Batches
 pub mod Lines
 pub mod Present
@@ -20,6 +21,10 @@ pub mod First
 pub mod Leaving
 pub mod Others
 pub mod Replied
+pub mod Papers
+pub mod PaperLines
+pub mod PaperEnds
+pub mod PaperBooks
 pub mod Spooled
 pub mod Texting
 pub mod ToldAlike

@@ -7,6 +7,7 @@ use Rattle.mas_types.specs.declared.journals.Fate.TheVariants.{Kept}
 use Rattle.mas_types.specs.declared.queues.Queue.{Queue}
 use Rattle.mas_types.specs.declared.answers.Closing.{Closing}
 use Rattle.mas_types.specs.Journal.{kept_at, flying_at}
+use Rattle.mas_types.specs.Sound.{IsSound}
 use Rattle.mas_types.specs.Closings.{closing_line}
 use Rattle.spool_disk.specs.View.{View, Disk, Line, Throughout, LeavesOnly}
 use Rattle.ckpt_copy.specs.Pages.{level}
@@ -15,6 +16,7 @@ use Rattle.mas_complex.specs.Meaning.{run, StandFor, is_telling}
 use Rattle.mas_complex.specs.Journals.{has_step}
 use Rattle.spool_volumes.specs.Volumes.{Volumes}
 use Rattle.mas_complex.specs.Texts.{lost_now, GivesTexts}
+use Rattle.mas_complex.specs.Paper.{PaperKept}
 use Rattle.mas_complex.specs.Crash.{IsLeft, SomeLeft, read_left, left_at, IsOneOf}
 
 -- pages are found, which stand for the queue
@@ -77,9 +79,10 @@ abbrev pub AreTextsLeft : Queue → ℕ → Journal → View → Type 0
 AreTextsLeft base since J v = (t : ℕ) → since ≤ t → t ≤ v.now → (volumes : Volumes) → ((n : ℕ) → IsLeft (left_at v t (Spool n)) (volumes n))
     → GivesTexts (lost_now v) volumes base.config.groups (run base (kept_at J t)) × GivesTexts (lost_now v) volumes base.config.groups (run base (kept_at J t ++ flying_at J t))
 
--- all of it
+-- all of it, and where the base has the sound parts what stands on paper
 pub record Headline (reads : List ℕ → Option (List ℕ)) (base : Queue) (since : ℕ) (J : Journal) (v : View) : Type 0 where
   pub crash : IsCrashSafe reads base J since v
   pub alike : AreAlwaysAlike reads base J since v
   pub texts : AreTextsLeft base since J v
   pub told : AreToldKept J since v
+  pub paper : IsSound base → ∥ PaperKept base since J.batches v ∥₁

@@ -16,3 +16,4 @@ pub mod Locking
 pub mod Changed
 pub mod Replies
 pub mod Kept
+pub mod Paper

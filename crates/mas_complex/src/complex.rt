@@ -28,7 +28,10 @@ ghost use Rattle.mas_complex.specs.Changed.{NamesOnly};
 ghost use Rattle.mas_complex.specs.Texts.{HasTexts, spools_at, lost_now};
 ghost use Rattle.mas_complex.specs.Replies.{HaveReplies, AreReplied};
 ghost use Rattle.mas_complex.specs.Locking.{book_of, MayAct, IsUp, IsOwn};
+ghost use Rattle.mas_complex.specs.Paper.{KeepsPaper, MayBegin, no_counts, printed_after};
+ghost use Rattle.mas_types.specs.Sound.{IsSound};
 
+use crate::counts::{COUNTS, count_anew};
 use crate::journal_end::{empty_place, finished, set_last};
 use crate::places::{Place, place_after};
 use crate::steady::Steady;
@@ -73,12 +76,17 @@ pub struct Complex<P: Plant + Drop, C: Steady + Drop> {
     pub second: Place,
     /// The level of the kept pages.
     pub level: u64,
+    /// The lines that each member has printed since its last Pick, Mark, Back or Forward, from the operator on, which prints none.
+    pub printed: [u32; COUNTS],
 
     /// What a crash leaves and the console tells at each moment since then, and where each copy stands now.
     ghost kept: { P.tells → ∥ Keeps (setting C.reads base since) journal.batches current level (copy_of (C.rests pair.first.copy) (C.holds pair.first.copy) pair.first.alive first) (copy_of (C.rests pair.second.copy) (C.holds pair.second.copy) pair.second.alive second) (P.view plant) ∥₁ },
 
     /// Each entry has the reply that the commands give at its place.
     ghost replied: { P.tells → ∥ AreReplied base (journal.batches ++ in_flight current) ∥₁ },
+
+    /// What stands on paper at each moment since then, where the base has the sound parts.
+    ghost paper: { P.tells → IsSound base → ∥ KeepsPaper base since journal.batches current printed book (P.view plant) ∥₁ },
 
     /// A copy that counts as alive is ready.
     ghost first_ready: { pair.first.alive ≡ true → C.fits pair.first.copy (P.view plant) ≡ true },
@@ -120,6 +128,7 @@ impl<P: Plant + Drop, C: Steady + Drop> Complex<P, C> {
         ensures current { result.current ≡ None }
         ensures reserved { result.reserved ≡ None }
         ensures places { (result.first ≡ AtBefore) × (result.second ≡ AtBefore) }
+        ensures printed { result.printed ≡ no_counts }
         ensures level { result.level ≡ level }
         ensures fresh { P.tells → ∥ ((later : View) → Goes (P.view plant) later → LeavesQueue C.reads base (P.view plant).now later) ∥₁ }
     {
@@ -140,6 +149,7 @@ impl<P: Plant + Drop, C: Steady + Drop> Complex<P, C> {
             first: Place::Before,
             second: Place::Before,
             level,
+            printed: [0; COUNTS],
         }
     }
 
@@ -150,6 +160,7 @@ impl<P: Plant + Drop, C: Steady + Drop> Complex<P, C> {
         ensures pair { self.new.pair ≡ self.old.pair }
         ensures base { self.new.base ≡ self.old.base }
         ensures since { self.new.since ≡ self.old.since }
+        ensures printed { self.new.printed ≡ self.old.printed }
         ensures book { self.new.book ≡ self.old.book }
         ensures current { self.new.current ≡ self.old.current }
         ensures reserved { self.new.reserved ≡ self.old.reserved }
@@ -180,6 +191,7 @@ impl<P: Plant + Drop, C: Steady + Drop> Complex<P, C> {
         ensures pair { self.new.pair ≡ self.old.pair }
         ensures base { self.new.base ≡ self.old.base }
         ensures since { self.new.since ≡ self.old.since }
+        ensures printed { self.new.printed ≡ self.old.printed }
         ensures book { self.new.book ≡ self.old.book }
         ensures current { self.new.current ≡ self.old.current }
         ensures first { self.new.first ≡ self.old.first }
@@ -204,6 +216,8 @@ impl<P: Plant + Drop, C: Steady + Drop> Complex<P, C> {
     fn begin(&mut self, by: MemberId)
         requires none { self.old.current ≡ None }
         requires replied { P.tells → ∥ HaveReplies (run self.old.base (kept_all self.old.journal.batches)) (entries_reserved self.old.reserved) ∥₁ }
+        requires own { All (λ e. e.by ≡ by) (entries_reserved self.old.reserved) }
+        requires allowed { P.tells → MayBegin self.old.base self.old.journal.batches self.old.printed (entries_reserved self.old.reserved) }
         requires first { self.old.pair.first.alive ≡ true → self.old.first ≡ AtBefore }
         requires second { self.old.pair.second.alive ≡ true → self.old.second ≡ AtBefore }
         requires untold { P.tells → IsUntold (setting C.reads self.old.base self.old.since) (P.view self.old.plant) (entries_reserved self.old.reserved) }
@@ -212,6 +226,7 @@ impl<P: Plant + Drop, C: Steady + Drop> Complex<P, C> {
         ensures pair { self.new.pair ≡ self.old.pair }
         ensures base { self.new.base ≡ self.old.base }
         ensures since { self.new.since ≡ self.old.since }
+        ensures printed { self.new.printed ≡ printed_after by (entries_reserved self.old.reserved) self.old.printed }
         ensures book { self.new.book ≡ self.old.book }
         ensures journal { self.new.journal ≡ self.old.journal }
         ensures placed { self.new.placed ≡ self.old.placed }
@@ -224,6 +239,7 @@ impl<P: Plant + Drop, C: Steady + Drop> Complex<P, C> {
     {
         let first = self.plant.now();
         if let Some(entries) = self.reserved.take() {
+            count_anew(&mut self.printed, by, entries.as_slice());
             self.current = Some(Batch {
                 first,
                 last: u64::MAX,
@@ -251,6 +267,7 @@ impl<P: Plant + Drop, C: Steady + Drop> Complex<P, C> {
         ensures pair_second { self.new.pair.second ≡ self.old.pair.second }
         ensures base { self.new.base ≡ self.old.base }
         ensures since { self.new.since ≡ self.old.since }
+        ensures printed { self.new.printed ≡ self.old.printed }
         ensures book { self.new.book ≡ self.old.book }
         ensures journal { self.new.journal ≡ self.old.journal }
         ensures current { self.new.current ≡ self.old.current }
@@ -282,6 +299,7 @@ impl<P: Plant + Drop, C: Steady + Drop> Complex<P, C> {
         ensures pair_second { self.new.pair.second ≡ self.old.pair.second }
         ensures base { self.new.base ≡ self.old.base }
         ensures since { self.new.since ≡ self.old.since }
+        ensures printed { self.new.printed ≡ self.old.printed }
         ensures book { self.new.book ≡ self.old.book }
         ensures journal { self.new.journal ≡ self.old.journal }
         ensures current { self.new.current ≡ self.old.current }
@@ -305,6 +323,7 @@ impl<P: Plant + Drop, C: Steady + Drop> Complex<P, C> {
         ensures pair_second { self.new.pair.second ≡ self.old.pair.second }
         ensures base { self.new.base ≡ self.old.base }
         ensures since { self.new.since ≡ self.old.since }
+        ensures printed { self.new.printed ≡ self.old.printed }
         ensures book { self.new.book ≡ self.old.book }
         ensures journal { self.new.journal ≡ self.old.journal }
         ensures current { self.new.current ≡ self.old.current }
@@ -339,6 +358,7 @@ impl<P: Plant + Drop, C: Steady + Drop> Complex<P, C> {
         ensures pair_first { self.new.pair.first ≡ self.old.pair.first }
         ensures base { self.new.base ≡ self.old.base }
         ensures since { self.new.since ≡ self.old.since }
+        ensures printed { self.new.printed ≡ self.old.printed }
         ensures book { self.new.book ≡ self.old.book }
         ensures journal { self.new.journal ≡ self.old.journal }
         ensures current { self.new.current ≡ self.old.current }
@@ -370,6 +390,7 @@ impl<P: Plant + Drop, C: Steady + Drop> Complex<P, C> {
         ensures pair_first { self.new.pair.first ≡ self.old.pair.first }
         ensures base { self.new.base ≡ self.old.base }
         ensures since { self.new.since ≡ self.old.since }
+        ensures printed { self.new.printed ≡ self.old.printed }
         ensures book { self.new.book ≡ self.old.book }
         ensures journal { self.new.journal ≡ self.old.journal }
         ensures current { self.new.current ≡ self.old.current }
@@ -393,6 +414,7 @@ impl<P: Plant + Drop, C: Steady + Drop> Complex<P, C> {
         ensures pair_first { self.new.pair.first ≡ self.old.pair.first }
         ensures base { self.new.base ≡ self.old.base }
         ensures since { self.new.since ≡ self.old.since }
+        ensures printed { self.new.printed ≡ self.old.printed }
         ensures book { self.new.book ≡ self.old.book }
         ensures journal { self.new.journal ≡ self.old.journal }
         ensures current { self.new.current ≡ self.old.current }
@@ -421,6 +443,7 @@ impl<P: Plant + Drop, C: Steady + Drop> Complex<P, C> {
         ensures pair { self.new.pair ≡ self.old.pair }
         ensures base { self.new.base ≡ self.old.base }
         ensures since { self.new.since ≡ self.old.since }
+        ensures printed { self.new.printed ≡ self.old.printed }
         ensures book { self.new.book ≡ self.old.book }
         ensures reserved { self.new.reserved ≡ self.old.reserved }
         ensures fated { (batch : Batch) → self.old.current ≡ Some batch → self.new.journal.batches ≡ with_last (fated FateKept (P.view self.old.plant).now batch) self.old.journal.batches }
@@ -457,6 +480,7 @@ impl<P: Plant + Drop, C: Steady + Drop> Complex<P, C> {
         ensures pair { self.new.pair ≡ self.old.pair }
         ensures base { self.new.base ≡ self.old.base }
         ensures since { self.new.since ≡ self.old.since }
+        ensures printed { self.new.printed ≡ self.old.printed }
         ensures book { self.new.book ≡ self.old.book }
         ensures reserved { self.new.reserved ≡ self.old.reserved }
         ensures level { self.new.level ≡ self.old.level }
@@ -490,6 +514,7 @@ impl<P: Plant + Drop, C: Steady + Drop> Complex<P, C> {
         ensures pair { self.new.pair ≡ self.old.pair }
         ensures base { self.new.base ≡ self.old.base }
         ensures since { self.new.since ≡ self.old.since }
+        ensures printed { self.new.printed ≡ self.old.printed }
         ensures book { self.new.book ≡ self.old.book }
         ensures journal { self.new.journal ≡ self.old.journal }
         ensures current { self.new.current ≡ self.old.current }
@@ -513,6 +538,7 @@ impl<P: Plant + Drop, C: Steady + Drop> Complex<P, C> {
         requires none { self.old.current ≡ None }
         requires reserved { IsSome self.old.reserved }
         requires replied { P.tells → ∥ HaveReplies (run self.old.base (kept_all self.old.journal.batches)) (entries_reserved self.old.reserved) ∥₁ }
+        requires allowed { P.tells → MayBegin self.old.base self.old.journal.batches self.old.printed (entries_reserved self.old.reserved) }
         requires first { self.old.pair.first.alive ≡ true → self.old.first ≡ AtBefore }
         requires second { self.old.pair.second.alive ≡ true → self.old.second ≡ AtBefore }
         requires untold { P.tells → IsUntold (setting C.reads self.old.base self.old.since) (P.view self.old.plant) (entries_reserved self.old.reserved) }
@@ -522,6 +548,7 @@ impl<P: Plant + Drop, C: Steady + Drop> Complex<P, C> {
         ensures pair { self.new.pair ≡ self.old.pair }
         ensures base { self.new.base ≡ self.old.base }
         ensures since { self.new.since ≡ self.old.since }
+        ensures printed { self.new.printed ≡ printed_after by (entries_reserved self.old.reserved) self.old.printed }
         ensures book { self.new.book ≡ self.old.book }
         ensures current { self.new.current ≡ self.old.current }
         ensures first { self.new.first ≡ self.old.first }
@@ -533,6 +560,7 @@ impl<P: Plant + Drop, C: Steady + Drop> Complex<P, C> {
     {
         let now = self.plant.now();
         if let Some(entries) = self.reserved.take() {
+            count_anew(&mut self.printed, by, entries.as_slice());
             set_last(
                 &mut self.journal.batches,
                 Batch {
@@ -551,6 +579,7 @@ impl<P: Plant + Drop, C: Steady + Drop> Complex<P, C> {
         ensures pair { self.new.pair ≡ self.old.pair }
         ensures base { self.new.base ≡ self.old.base }
         ensures since { self.new.since ≡ self.old.since }
+        ensures printed { self.new.printed ≡ self.old.printed }
         ensures book { self.new.book ≡ self.old.book }
         ensures journal { self.new.journal ≡ self.old.journal }
         ensures current { self.new.current ≡ self.old.current }
@@ -570,6 +599,7 @@ impl<P: Plant + Drop, C: Steady + Drop> Complex<P, C> {
     pub fn lose(&mut self, dev: Dev)
         ensures base { self.new.base ≡ self.old.base }
         ensures since { self.new.since ≡ self.old.since }
+        ensures printed { self.new.printed ≡ self.old.printed }
         ensures book { self.new.book ≡ self.old.book }
         ensures journal { self.new.journal ≡ self.old.journal }
         ensures current { self.new.current ≡ self.old.current }
@@ -612,6 +642,7 @@ impl<P: Plant + Drop, C: Steady + Drop> Complex<P, C> {
         requires same { P.tells → (other dev self.old.pair.first self.old.pair.second).alive ≡ true → HasNoOther (other dev self.old.first self.old.second) (C.behind (other dev self.old.pair.first self.old.pair.second).copy (disk_now (P.view self.old.plant) (other dev Ckpt1 Ckpt2)).bytes) (C.reads (disk_now (P.view self.old.plant) (other dev Ckpt1 Ckpt2)).bytes) (bytes_of pages.now) }
         ensures base { self.new.base ≡ self.old.base }
         ensures since { self.new.since ≡ self.old.since }
+        ensures printed { self.new.printed ≡ self.old.printed }
         ensures book { self.new.book ≡ self.old.book }
         ensures journal { self.new.journal ≡ self.old.journal }
         ensures current { self.new.current ≡ self.old.current }
@@ -642,12 +673,15 @@ impl<P: Plant + Drop, C: Steady + Drop> Complex<P, C> {
         requires first { self.old.current ≡ None → self.old.pair.first.alive ≡ true → self.old.first ≡ AtBefore }
         requires second { self.old.current ≡ None → self.old.pair.second.alive ≡ true → self.old.second ≡ AtBefore }
         requires replied { P.tells → self.old.current ≡ None → ∥ HaveReplies (run self.old.base (kept_all self.old.journal.batches)) (entries_reserved self.old.reserved) ∥₁ }
+        requires own { self.old.current ≡ None → All (λ e. e.by ≡ by) (entries_reserved self.old.reserved) }
+        requires allowed { P.tells → self.old.current ≡ None → MayBegin self.old.base self.old.journal.batches self.old.printed (entries_reserved self.old.reserved) }
         requires untold { P.tells → self.old.current ≡ None → IsUntold (setting C.reads self.old.base self.old.since) (P.view self.old.plant) (entries_reserved self.old.reserved) }
         requires texts { P.tells → self.old.current ≡ None → ∥ HasTexts (lost_now (P.view self.old.plant)) (spools_at (P.view self.old.plant) (P.view self.old.plant).now) self.old.base.config.groups (run self.old.base (kept_all self.old.journal.batches ++ entries_reserved self.old.reserved)) ∥₁ }
         ensures plant { self.new.plant ≡ self.old.plant }
         ensures pair { self.new.pair ≡ self.old.pair }
         ensures base { self.new.base ≡ self.old.base }
         ensures since { self.new.since ≡ self.old.since }
+        ensures printed { self.new.printed ≡ printed_after by (entries_reserved self.old.reserved) self.old.printed }
         ensures book { self.new.book ≡ self.old.book }
         ensures journal { self.new.journal ≡ self.old.journal }
         ensures placed { self.new.placed ≡ self.old.placed }
@@ -669,7 +703,9 @@ impl<P: Plant + Drop, C: Steady + Drop> Complex<P, C> {
     /// begins it: it is in flight from the moment before the call on. On a copy that counts as lost nothing is written.
     /// The member holds the lock, or is the operator while nobody does, and isn't stopped; the batch is its own.
     ///
-    /// The entries have the replies that the commands give at their places, after the kept ones.
+    /// The entries have the replies that the commands give at their places, after the kept ones. Where the base has the sound parts each is within
+    /// the limits and of a member that may give it, and a Mark is at most at what its member has printed. With a Pick, Mark, Back or Forward the
+    /// member begins to count anew.
     /// The pages stand for the queue with the batch, which has an entry, and have the level after the one of the kept pages.
     /// The texts of that queue stand on the spool volumes, all of them synced, but for those with a group on a volume that is lost.
     /// `changed` are the numbers of page 0 and of just those that differ from what the copy reads. Both copies are given the same pages: where
@@ -699,9 +735,11 @@ impl<P: Plant + Drop, C: Steady + Drop> Complex<P, C> {
         requires queue { P.tells → ∥ StandFor (run self.old.base (kept_all self.old.journal.batches ++ coming self.old.current self.old.reserved)) (bytes_of pages.now) ∥₁ }
         requires some { 1 ≤ length (coming self.old.current self.old.reserved) }
         requires replied { P.tells → self.old.current ≡ None → ∥ HaveReplies (run self.old.base (kept_all self.old.journal.batches)) (entries_reserved self.old.reserved) ∥₁ }
+        requires allowed { P.tells → self.old.current ≡ None → MayBegin self.old.base self.old.journal.batches self.old.printed (entries_reserved self.old.reserved) }
         requires same { P.tells → (other dev self.old.pair.first self.old.pair.second).alive ≡ true → HasNoOther (other dev self.old.first self.old.second) (C.behind (other dev self.old.pair.first self.old.pair.second).copy (disk_now (P.view self.old.plant) (other dev Ckpt1 Ckpt2)).bytes) (C.reads (disk_now (P.view self.old.plant) (other dev Ckpt1 Ckpt2)).bytes) (bytes_of pages.now) }
         ensures base { self.new.base ≡ self.old.base }
         ensures since { self.new.since ≡ self.old.since }
+        ensures printed { self.new.printed ≡ printed_after by (entries_reserved self.old.reserved) self.old.printed }
         ensures book { self.new.book ≡ self.old.book }
         ensures journal { self.new.journal ≡ self.old.journal }
         ensures placed { self.new.placed ≡ self.old.placed }
@@ -732,6 +770,7 @@ impl<P: Plant + Drop, C: Steady + Drop> Complex<P, C> {
         requires room { (pick dev self.old.pair.first self.old.pair.second).alive ≡ true → 1 ≤ C.room (pick dev self.old.pair.first self.old.pair.second).copy }
         ensures base { self.new.base ≡ self.old.base }
         ensures since { self.new.since ≡ self.old.since }
+        ensures printed { self.new.printed ≡ self.old.printed }
         ensures book { self.new.book ≡ self.old.book }
         ensures journal { self.new.journal ≡ self.old.journal }
         ensures current { self.new.current ≡ self.old.current }
@@ -778,6 +817,7 @@ impl<P: Plant + Drop, C: Steady + Drop> Complex<P, C> {
         requires level { self.old.level < top }
         ensures base { self.new.base ≡ self.old.base }
         ensures since { self.new.since ≡ self.old.since }
+        ensures printed { self.new.printed ≡ self.old.printed }
         ensures book { self.new.book ≡ self.old.book }
         ensures reserved { self.new.reserved ≡ self.old.reserved }
         ensures other { other dev self.new.pair.first self.new.pair.second ≡ other dev self.old.pair.first self.old.pair.second }
@@ -816,6 +856,7 @@ impl<P: Plant + Drop, C: Steady + Drop> Complex<P, C> {
         requires reads2 { P.tells → self.old.pair.second.alive ≡ true → C.reads (disk_now (P.view self.old.plant) Ckpt2).bytes ≡ Some (bytes_of pages.now) }
         ensures base { self.new.base ≡ self.old.base }
         ensures since { self.new.since ≡ self.old.since }
+        ensures printed { self.new.printed ≡ self.old.printed }
         ensures book { self.new.book ≡ self.old.book }
         ensures journal { self.new.journal ≡ self.old.journal }
         ensures current { self.new.current ≡ self.old.current }
@@ -850,6 +891,7 @@ impl<P: Plant + Drop, C: Steady + Drop> Complex<P, C> {
         requires page2 { self.old.pair.second.alive ≡ true → page < C.count self.old.pair.second.copy }
         ensures base { self.new.base ≡ self.old.base }
         ensures since { self.new.since ≡ self.old.since }
+        ensures printed { self.new.printed ≡ self.old.printed }
         ensures book { self.new.book ≡ self.old.book }
         ensures journal { self.new.journal ≡ self.old.journal }
         ensures current { self.new.current ≡ self.old.current }

@@ -7,8 +7,8 @@ ghost use Rattle.mas_complex.specs.Locking.{IsOperatorAway, reserved_after_stop,
 
 use crate::complex::Complex;
 use crate::steady::Steady;
-use lock_cycle::{LockNo, NotHolder, SeizeNo};
-use mas_types::{Batch, Entry, Fate, MemberId};
+use lock_cycle::{LockBook, LockNo, NotHolder, SeizeNo};
+use mas_types::{Batch, Entry, Fate, List, MemberId};
 use spool_disk::Plant;
 
 // The entries of the kept batches, or the greatest number.
@@ -34,6 +34,45 @@ fn is_of(entries: &[Entry], by: MemberId) -> bool
     }
 }
 
+// The member is stopped in the book, and a batch of it that is reserved is given up.
+pub(crate) fn give_up_after_stop(
+    book: &mut LockBook,
+    reserved: &mut Option<List<Entry>>,
+    by: MemberId,
+)
+    requires { IsMember book.old by }
+    ensures book { book.new ≡ after_stop book.old by }
+    ensures reserved { reserved.new ≡ reserved_after_stop by reserved.old }
+{
+    book.stop(by);
+    let goes = match reserved {
+        Some(entries) => is_of(entries.as_slice(), by),
+        None => false,
+    };
+    if goes {
+        *reserved = None;
+    }
+}
+
+// The member gives the lock up, and with it a batch that is reserved.
+fn give_up_after_free(
+    book: &mut LockBook,
+    reserved: &mut Option<List<Entry>>,
+    by: MemberId,
+    inner: bool,
+) -> Result<(), NotHolder>
+    requires { IsMember book.old by }
+    ensures book { book.new ≡ after_free book.old by inner }
+    ensures reserved { OnOk result (reserved.new ≡ None) }
+    ensures ok { OnOk result (free_refusal book.old by ≡ None) }
+    ensures err { IfErr result (λ e. free_refusal book.old by ≡ Some e) }
+    ensures err_reserved { OnErr result (reserved.new ≡ reserved.old) }
+{
+    book.free(by, inner)?;
+    *reserved = None;
+    Ok(())
+}
+
 impl<P: Plant + Drop, C: Steady + Drop> Complex<P, C> {
     /// The number of entries of the kept batches. It stays at the greatest u64.
     pub fn kept_count(&self) -> u64
@@ -53,6 +92,7 @@ impl<P: Plant + Drop, C: Steady + Drop> Complex<P, C> {
         ensures pair { self.new.pair ≡ self.old.pair }
         ensures base { self.new.base ≡ self.old.base }
         ensures since { self.new.since ≡ self.old.since }
+        ensures printed { self.new.printed ≡ self.old.printed }
         ensures journal { self.new.journal ≡ self.old.journal }
         ensures current { self.new.current ≡ self.old.current }
         ensures placed { self.new.placed ≡ self.old.placed }
@@ -78,6 +118,7 @@ impl<P: Plant + Drop, C: Steady + Drop> Complex<P, C> {
         ensures pair { self.new.pair ≡ self.old.pair }
         ensures base { self.new.base ≡ self.old.base }
         ensures since { self.new.since ≡ self.old.since }
+        ensures printed { self.new.printed ≡ self.old.printed }
         ensures journal { self.new.journal ≡ self.old.journal }
         ensures current { self.new.current ≡ self.old.current }
         ensures placed { self.new.placed ≡ self.old.placed }
@@ -90,9 +131,7 @@ impl<P: Plant + Drop, C: Steady + Drop> Complex<P, C> {
         ensures err { IfErr result (λ e. free_refusal self.old.book by ≡ Some e) }
         ensures err_reserved { OnErr result (self.new.reserved ≡ self.old.reserved) }
     {
-        self.book.free(by, inner)?;
-        self.reserved = None;
-        Ok(())
+        give_up_after_free(&mut self.book, &mut self.reserved, by, inner)
     }
 
     /// The member is stopped. It still holds what it held. A batch of it that is reserved and hasn't begun is given up.
@@ -102,6 +141,7 @@ impl<P: Plant + Drop, C: Steady + Drop> Complex<P, C> {
         ensures pair { self.new.pair ≡ self.old.pair }
         ensures base { self.new.base ≡ self.old.base }
         ensures since { self.new.since ≡ self.old.since }
+        ensures printed { self.new.printed ≡ self.old.printed }
         ensures journal { self.new.journal ≡ self.old.journal }
         ensures current { self.new.current ≡ self.old.current }
         ensures placed { self.new.placed ≡ self.old.placed }
@@ -111,14 +151,7 @@ impl<P: Plant + Drop, C: Steady + Drop> Complex<P, C> {
         ensures reserved { self.new.reserved ≡ reserved_after_stop by self.old.reserved }
         ensures book { self.new.book ≡ after_stop self.old.book by }
     {
-        self.book.stop(by);
-        let goes = match &self.reserved {
-            Some(entries) => is_of(entries.as_slice(), by),
-            None => false,
-        };
-        if goes {
-            self.reserved = None;
-        }
+        give_up_after_stop(&mut self.book, &mut self.reserved, by);
     }
 
     /// The member takes over the lock that the stopped member `of` holds. StillUp comes exactly where `of` isn't stopped,
@@ -131,6 +164,7 @@ impl<P: Plant + Drop, C: Steady + Drop> Complex<P, C> {
         ensures pair { self.new.pair ≡ self.old.pair }
         ensures base { self.new.base ≡ self.old.base }
         ensures since { self.new.since ≡ self.old.since }
+        ensures printed { self.new.printed ≡ self.old.printed }
         ensures journal { self.new.journal ≡ self.old.journal }
         ensures current { self.new.current ≡ self.old.current }
         ensures placed { self.new.placed ≡ self.old.placed }
@@ -152,6 +186,7 @@ impl<P: Plant + Drop, C: Steady + Drop> Complex<P, C> {
         ensures pair { self.new.pair ≡ self.old.pair }
         ensures base { self.new.base ≡ self.old.base }
         ensures since { self.new.since ≡ self.old.since }
+        ensures printed { self.new.printed ≡ self.old.printed }
         ensures journal { self.new.journal ≡ self.old.journal }
         ensures current { self.new.current ≡ self.old.current }
         ensures placed { self.new.placed ≡ self.old.placed }

@@ -88,6 +88,7 @@ impl<P: Plant + Drop, C: Steady + Drop> Complex<P, C> {
         requires alive { (pick dev self.old.pair.first self.old.pair.second).alive ≡ true }
         ensures base { self.new.base ≡ self.old.base }
         ensures since { self.new.since ≡ self.old.since }
+        ensures printed { self.new.printed ≡ self.old.printed }
         ensures book { self.new.book ≡ self.old.book }
         ensures journal { self.new.journal ≡ self.old.journal }
         ensures current { self.new.current ≡ self.old.current }
@@ -119,6 +120,7 @@ impl<P: Plant + Drop, C: Steady + Drop> Complex<P, C> {
         requires reads2 { P.tells → ReadsSeen C.reads (disk_now (P.view self.old.plant) Ckpt2).bytes (Some second) }
         ensures base { self.new.base ≡ self.old.base }
         ensures since { self.new.since ≡ self.old.since }
+        ensures printed { self.new.printed ≡ self.old.printed }
         ensures book { self.new.book ≡ self.old.book }
         ensures journal { self.new.journal ≡ self.old.journal }
         ensures current { self.new.current ≡ self.old.current }
@@ -159,6 +161,7 @@ impl<P: Plant + Drop, C: Steady + Drop> Complex<P, C> {
         requires reads2 { P.tells → ReadsSeen C.reads (disk_now (P.view self.old.plant) Ckpt2).bytes second }
         ensures base { self.new.base ≡ self.old.base }
         ensures since { self.new.since ≡ self.old.since }
+        ensures printed { self.new.printed ≡ self.old.printed }
         ensures book { self.new.book ≡ self.old.book }
         ensures journal { self.new.journal ≡ self.old.journal }
         ensures current { self.new.current ≡ self.old.current }
@@ -199,6 +202,7 @@ impl<P: Plant + Drop, C: Steady + Drop> Complex<P, C> {
         requires same { P.tells → (other dev self.old.pair.first self.old.pair.second).alive ≡ true → (other dev self.old.first self.old.second ≡ AtOpened) × (C.reads (disk_now (P.view self.old.plant) (other dev Ckpt1 Ckpt2)).bytes ≡ Some (bytes_of found.now)) }
         ensures base { self.new.base ≡ self.old.base }
         ensures since { self.new.since ≡ self.old.since }
+        ensures printed { self.new.printed ≡ self.old.printed }
         ensures book { self.new.book ≡ self.old.book }
         ensures journal { self.new.journal ≡ self.old.journal }
         ensures current { self.new.current ≡ self.old.current }
@@ -228,6 +232,7 @@ impl<P: Plant + Drop, C: Steady + Drop> Complex<P, C> {
         requires chosen { Chosen C.reads P.tells (run self.old.base (kept_all self.old.journal.batches ++ entries_in self.old.current)) (entries_in self.old.current) self.old.level self.old.pair.first.alive (C.count self.old.pair.first.copy) (C.room self.old.pair.first.copy) self.old.first (disk_now (P.view self.old.plant) Ckpt1).bytes self.old.pair.second.alive (C.count self.old.pair.second.copy) (C.room self.old.pair.second.copy) self.old.second (disk_now (P.view self.old.plant) Ckpt2).bytes found.now }
         ensures base { self.new.base ≡ self.old.base }
         ensures since { self.new.since ≡ self.old.since }
+        ensures printed { self.new.printed ≡ self.old.printed }
         ensures book { self.new.book ≡ self.old.book }
         ensures journal { self.new.journal ≡ self.old.journal }
         ensures current { self.new.current ≡ self.old.current }
@@ -273,6 +278,7 @@ impl<P: Plant + Drop, C: Steady + Drop> Complex<P, C> {
         ensures pair { self.new.pair ≡ self.old.pair }
         ensures base { self.new.base ≡ self.old.base }
         ensures since { self.new.since ≡ self.old.since }
+        ensures printed { self.new.printed ≡ self.old.printed }
         ensures book { self.new.book ≡ self.old.book }
         ensures journal { self.new.journal ≡ self.old.journal }
         ensures current { self.new.current ≡ self.old.current }
@@ -296,6 +302,7 @@ impl<P: Plant + Drop, C: Steady + Drop> Complex<P, C> {
         ensures pair { self.new.pair ≡ self.old.pair }
         ensures base { self.new.base ≡ self.old.base }
         ensures since { self.new.since ≡ self.old.since }
+        ensures printed { self.new.printed ≡ self.old.printed }
         ensures book { self.new.book ≡ self.old.book }
         ensures reserved { self.new.reserved ≡ self.old.reserved }
         ensures fated { IsFatedBy reached self.old.level (P.view self.old.plant).now self.old.current self.old.journal.batches self.new.journal.batches }
@@ -326,6 +333,7 @@ impl<P: Plant + Drop, C: Steady + Drop> Complex<P, C> {
         requires others { IsOfOther self.old.current by }
         ensures base { self.new.base ≡ self.old.base }
         ensures since { self.new.since ≡ self.old.since }
+        ensures printed { self.new.printed ≡ self.old.printed }
         ensures book { self.new.book ≡ self.old.book }
         ensures reserved { self.new.reserved ≡ None }
         ensures goes { Goes (P.view self.old.plant) (P.view self.new.plant) }

@@ -28,6 +28,7 @@ impl<P: Plant + Drop, C: Steady + Drop> Complex<P, C> {
         ensures pair_second { self.new.pair.second ≡ self.old.pair.second }
         ensures base { self.new.base ≡ self.old.base }
         ensures since { self.new.since ≡ self.old.since }
+        ensures printed { self.new.printed ≡ self.old.printed }
         ensures book { self.new.book ≡ self.old.book }
         ensures journal { self.new.journal ≡ self.old.journal }
         ensures current { self.new.current ≡ self.old.current }
@@ -51,6 +52,7 @@ impl<P: Plant + Drop, C: Steady + Drop> Complex<P, C> {
         ensures pair_first { self.new.pair.first ≡ self.old.pair.first }
         ensures base { self.new.base ≡ self.old.base }
         ensures since { self.new.since ≡ self.old.since }
+        ensures printed { self.new.printed ≡ self.old.printed }
         ensures book { self.new.book ≡ self.old.book }
         ensures journal { self.new.journal ≡ self.old.journal }
         ensures current { self.new.current ≡ self.old.current }
@@ -79,6 +81,7 @@ impl<P: Plant + Drop, C: Steady + Drop> Complex<P, C> {
         ensures pair_second { self.new.pair.second ≡ self.old.pair.second }
         ensures base { self.new.base ≡ self.old.base }
         ensures since { self.new.since ≡ self.old.since }
+        ensures printed { self.new.printed ≡ self.old.printed }
         ensures book { self.new.book ≡ self.old.book }
         ensures journal { self.new.journal ≡ self.old.journal }
         ensures current { self.new.current ≡ self.old.current }
@@ -115,6 +118,7 @@ impl<P: Plant + Drop, C: Steady + Drop> Complex<P, C> {
         ensures pair_first { self.new.pair.first ≡ self.old.pair.first }
         ensures base { self.new.base ≡ self.old.base }
         ensures since { self.new.since ≡ self.old.since }
+        ensures printed { self.new.printed ≡ self.old.printed }
         ensures book { self.new.book ≡ self.old.book }
         ensures journal { self.new.journal ≡ self.old.journal }
         ensures current { self.new.current ≡ self.old.current }

@@ -19,6 +19,7 @@ use Rattle.gate_facts.proofs.Lists.{true_false}
 use Rattle.gate_facts.proofs.Values.{synced_refl}
 use Rattle.mas_complex.specs.Journals.{kept_all, coming}
 use Rattle.mas_complex.specs.Meaning.{run}
+use Rattle.mas_complex.specs.Paper.{counts_of}
 use Rattle.member_turns.specs.Parts.{Shown}
 use Rattle.member_turns.specs.Seats.{all_seats, has_lock}
 use Rattle.member_turns.specs.Words.{speaker, lines_by}
@@ -54,18 +55,19 @@ pub record Spares (told : Bool) (x : Shown) (view : View) (by : ℕ) : Type 0 wh
   pub pages : pages_had told (with_view x view) ≡ pages_had told x
   pub groups : (k : MemberId) → k.0 ≢ by → SyncedGroups (groups_of told (with_view x view) k) (groups_of told x k)
 
-pub acted : (x : Shown) (view : View) (by : MemberId) (part : Part) (result : Act) → Acts by.0 part x.view view result → (told : Bool) (cares : List Bool)
-    → marked_at cares by.0 ≡ true → Spares told x view by.0 → MayGiveBack by.0 cares (facts_of told x) (facts_of told (with_view x view))
-acted x view by part result acts told cares own spares = record {
+pub counted : (x : Shown) (view : View) (printed : List ℕ) (by : MemberId) (part : Part) (result : Act) → Acts by.0 part x.view view result → (told : Bool) (cares : List Bool)
+    → marked_at cares by.0 ≡ true → Spares told x view by.0 → ((m : MemberId) → m.0 ≢ by.0 → counts_of printed m ≡ counts_of x.printed m)
+    → MayGiveBack by.0 cares (facts_of told x) (facts_of told (record x { view = view; printed = printed }))
+counted x view printed by part result acts told cares own spares counts = record {
   base = refl;
   kept = ([], sym (append-nil (facts_of told x).kept), tt);
   still_stopped = λ k e. e;
   still_up = λ k ne e. e;
   begun = λ k e. refl;
   lines = λ k e. each_seat (λ a b. a ≡ b) (lines_at (with_view x view)) (lines_at x) [] refl 0 9 k (λ s at lt. spares.lines s (other k s (not_own k e) at));
-  desks = λ k ne up. each_seat (λ (a b : Desk). Synced a b) (desk_in told (with_view x view)) (desk_in told x) no_desk (synced_refl no_desk) 0 9 k (λ s at lt. record {
+  desks = λ k ne up. each_seat (λ (a b : Desk). Synced a b) (desk_in told (record x { view = view; printed = printed })) (desk_in told x) no_desk (synced_refl no_desk) 0 9 k (λ s at lt. record {
     hold = ap (λ pages. if has_lock x.book s then whole_hold pages (coming x.current x.reserved) x.first x.second else no_hold) spares.pages;
-    printed = refl;
+    printed = counts s (other k s ne at);
     told = ap (told_by s) (spares.lines s (other k s ne at));
     groups = spares.groups s (other k s ne at);
   });
@@ -83,6 +85,10 @@ acted x view by part result acts told cares own spares = record {
     zero_on : (n : ℕ) → n ≡ 0 + n
     zero_on n = omega arith
 
+pub acted : (x : Shown) (view : View) (by : MemberId) (part : Part) (result : Act) → Acts by.0 part x.view view result → (told : Bool) (cares : List Bool)
+    → marked_at cares by.0 ≡ true → Spares told x view by.0 → MayGiveBack by.0 cares (facts_of told x) (facts_of told (with_view x view))
+acted x view by part result acts told cares own spares = counted x view x.printed by part result acts told cares own spares (λ m ne. refl)
+
 -- A LINE
 
 -- the lines of a member with one more line
@@ -92,7 +98,7 @@ one_more members k lines line ne = filter-append (λ l. speaker members l == k) 
   none true f = absurd (f refl)
   none false f = refl
 
-abbrev whole_texts : List Line → List (List ℕ)
+abbrev pub whole_texts : List Line → List (List ℕ)
 whole_texts lines = map (λ l. l.text) (filter (λ l. l.whole) lines)
 
 -- a line behind the others, of which a part at the front is left out

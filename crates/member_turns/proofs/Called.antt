@@ -147,7 +147,7 @@ module _ (x c : Shown) (by : MemberId) (stopped told : Bool) (cares : List Bool)
     desks = λ k ne up. each_seat (λ (a b : Desk). Synced a b) (desk_in told y) (desk_in told x) no_desk (synced_refl no_desk) 0 9 k (λ s at lt. record {
       hold = no_lock (has_lock x.book s) (whole_hold (pages_had told y) (coming c.current c.reserved) c.first c.second) (whole_hold (pages_had told x) (coming x.current x.reserved) x.first x.second)
           (λ has. other k s ne at (sym (holder_is x.book s has) ∙ ap (λ (m : MemberId). m.0) call.holds));
-      printed = refl;
+      printed = call.printed s (other k s ne at);
       told = ap (told_by s) (lines_same s);
       groups = groups_same told s call.apart (λ is. groups is s (other k s ne at) (sym (seat_at (shows_stopped x.book) false 0 9 k s lt at) ∙ up));
     });

@@ -28,6 +28,7 @@ use Rattle.member_turns.specs.Desks.{no_hold, groups_on}
 use Rattle.member_turns.specs.Shared.{begun_by, pages_had, groups_of, desk_in, marks_of, facts_of}
 use Rattle.member_turns.specs.Laws.{with_kept, KeepsMayGoBack}
 use Rattle.member_turns.proofs.EntrySet.{entries_set}
+use Rattle.member_turns.proofs.Counts.{batches_leave}
 use Rattle.member_turns.proofs.Seats.{each_seat}
 use Rattle.member_turns.proofs.BookLemmas.{holder_is}
 use Rattle.member_turns.proofs.Booked.{same_hold}
@@ -84,7 +85,7 @@ keeps_may x by now entries told cares reserved own none ends holds same mine =
       desks = λ k ne up. each_seat (λ (d e : Desk). Synced d e) (desk_in told (with_kept x now by entries)) (desk_in told x) no_desk (synced_refl no_desk) 0 9 k (λ s at lt. record {
         hold = same_hold (pages_had told x) x.current x.first x.second (has_lock x.book s) (has_lock x.book s) None x.reserved refl
             (λ has. absurd (other k s ne at (sym (holder_is x.book s has) ∙ ap (λ (m : MemberId). m.0) holds)));
-        printed = refl;
+        printed = batches_leave by entries x.printed s (other k s ne at);
         told = refl;
         groups = calm told s (λ t. ap (run x.base) more ∙ same t);
       });

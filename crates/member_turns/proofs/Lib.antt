@@ -4,6 +4,7 @@ pub mod Giving
 pub mod BookLemmas
 pub mod Booked
 pub mod Acted
+pub mod Counts
 pub mod Showing
 pub mod TellLemmas
 pub mod SpoolActed

@@ -53,6 +53,7 @@ module _ {P C : Type 0} {plants : PlantGhosts P} {steadies : SteadyGhosts C} {co
     pub first : is.first ≡ was.first
     pub second : is.second ≡ was.second
     pub level : is.level ≡ was.level
+    pub printed : is.printed ≡ was.printed
 
   pub shown_beside : (was is : Complex P C plants steadies copies) (b : Book) (r : Option (List Entry)) → IsBesideBook was is → is.book ≡ b → is.reserved ≡ r → shown_of is ≡ with_book (shown_of was) b r
   shown_beside was is b r same book reserved = λ i. record {
@@ -66,6 +67,7 @@ module _ {P C : Type 0} {plants : PlantGhosts P} {steadies : SteadyGhosts C} {co
     batches = (same.journal i).batches;
     current = same.current i;
     reserved = reserved i;
+    printed = same.printed i;
     first = same.first i;
     second = same.second i;
     level = same.level i;

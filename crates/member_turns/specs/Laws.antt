@@ -12,9 +12,9 @@ use Rattle.mas_types.specs.Closings.{closing_line}
 use Rattle.mas_types.specs.Ids.{same_member}
 use Rattle.mas_types.specs.Limits.{members_most, page_bytes}
 use Rattle.spool_disk.specs.declared.plant.Act.{Act}
-use Rattle.spool_disk.specs.declared.plant.Part.TheVariants.{Disk, Console}
+use Rattle.spool_disk.specs.declared.plant.Part.TheVariants.{Disk, Console, Printer}
 use Rattle.spool_disk.specs.View.{View, disk_now}
-use Rattle.spool_disk.specs.Acts.{Acts, Syncs, Says, Loses}
+use Rattle.spool_disk.specs.Acts.{Acts, Prints, Syncs, Says, Loses}
 use Rattle.duplex_pair.specs.Halves.{Acted}
 use Rattle.duplex_pair.specs.Both.{PairActed}
 use Rattle.queue_laws.specs.Laws.{resets}
@@ -26,6 +26,7 @@ use Rattle.mas_complex.specs.CallCounts.{KeepsCounts}
 use Rattle.mas_complex.specs.Elsewhere.{OnCopies}
 use Rattle.mas_complex.specs.Journals.{kept_all, entries_reserved, begun, fated, with_last, IsPlace, EndsInPlace}
 use Rattle.mas_complex.specs.Meaning.{run, is_telling, Closes}
+use Rattle.mas_complex.specs.Paper.{counts_of, printed_after, printed_by}
 use Rattle.mas_complex.specs.Spool.{IsHeldBy, device_of, ReadsGroup, WritesGroup}
 use Rattle.mas_complex.specs.Texts.{spools_at, IsSynced}
 use Rattle.mas_complex.specs.Locking.{IsOwn, reserved_after_stop}
@@ -53,9 +54,13 @@ with_book x book reserved = record x { book = book; reserved = reserved }
 abbrev pub with_view : Shown → View → Shown
 with_view x view = record x { view = view }
 
+-- the value after a print: the plant shows this, and a line that was printed is counted
+abbrev pub with_print : Shown → View → MemberId → Act → Shown
+with_print x view by result = record x { view = view; printed = printed_by by result x.printed }
+
 -- the value in which this member's reserved batch is kept since a moment
 abbrev pub with_kept : Shown → ℕ → MemberId → List Entry → Shown
-with_kept x now by entries = record x { batches = with_last (fated Kept now (begun now by entries)) x.batches; reserved = None }
+with_kept x now by entries = record x { batches = with_last (fated Kept now (begun now by entries)) x.batches; reserved = None; printed = printed_after by entries x.printed }
 
 -- whatever the member cares for, it may give back the value with this book and this reserved batch
 abbrev pub MayGoBack : MemberId → Shown → Book → Option (List Entry) → Type 0
@@ -100,6 +105,12 @@ SaysMayGoBack = (x : Shown) (view : View) (by : MemberId) (line : List ℕ) (res
     → speaker x.base.config.members line ≡ by.0 → marked_at cares by.0 ≡ true
     → MayGiveBack by.0 cares (facts_of told x) (facts_of told (with_view x view))
 
+-- after it printed a line, or didn't; where it was stopped in that, the book is as after a stop too
+abbrev pub PrintsMayGoBack : Type 0
+PrintsMayGoBack = (x : Shown) (view : View) (by : MemberId) (line : List ℕ) (result : Act) (told : Bool) (cares : List Bool) →
+    Acts by.0 (Printer by) x.view view result → (told ≡ true → Prints by.0 line x.view view result) → (told ≡ true → HasBegun x) → marked_at cares by.0 ≡ true
+    → MayGiveBack by.0 cares (facts_of told x) (facts_of told (with_print x view by result))
+
 -- after it read a group
 abbrev pub ReadsMayGoBack : Type 0
 ReadsMayGoBack = (x : Shown) (view : View) (by : MemberId) (group : GroupNo) (into : Page) (result : Act) (told : Bool) (cares : List Bool) →
@@ -140,13 +151,18 @@ abbrev pub LossesCount : Type 0
 LossesCount = (by : ℕ) (other : Bool) (old new : View) →
     (Loses (Disk Ckpt1) old new → KeepsCounts by true false other other false old new) × (Loses (Disk Ckpt2) old new → KeepsCounts by other other true false false old new)
 
+-- a batch that a member begins leaves the counts of printed lines of each other member
+abbrev pub BatchesLeaveCounts : Type 0
+BatchesLeaveCounts = (by : MemberId) (entries : List Entry) (printed : List ℕ) (m : MemberId) → m.0 ≢ by.0 → counts_of (printed_after by entries printed) m ≡ counts_of printed m
+
 -- the member holds the lock, or is the operator while nobody does, and its call leaves so much of what is counted, of the
--- volumes and of the console
+-- volumes and of the console, and the counts of printed lines of each other member
 pub record IsCall (by : MemberId) (stopped told : Bool) (x c : Shown) : Type 0 where
   pub holds : x.book.holder ≡ by
   pub counts : KeepsCounts by.0 x.first_alive c.first_alive x.second_alive c.second_alive stopped x.view c.view
   pub apart : told ≡ true → OnCopies x.view c.view
   pub begun : told ≡ true → HasBegun x
+  pub printed : (m : MemberId) → m.0 ≢ by.0 → counts_of c.printed m ≡ counts_of x.printed m
 
 -- entries that are kept leave the groups of each other member that isn't stopped
 abbrev pub LeavesGroups : MemberId → Shown → List Entry → Type 0

@@ -26,6 +26,7 @@ pub record Parts (P C : Type 0) : Type 0 where
   pub batches : List Batch
   pub current : Option Batch
   pub reserved : Option (List Entry)
+  pub printed : List ℕ
   pub placed : Bool
   pub first : Place
   pub second : Place
@@ -43,6 +44,7 @@ pub record Shown : Type 0 where
   pub batches : List Batch
   pub current : Option Batch
   pub reserved : Option (List Entry)
+  pub printed : List ℕ
   pub first : Place
   pub second : Place
   pub level : ℕ
@@ -60,6 +62,7 @@ shows reads view x = record {
   batches = x.batches;
   current = x.current;
   reserved = x.reserved;
+  printed = x.printed;
   first = x.first;
   second = x.second;
   level = x.level;
@@ -81,6 +84,7 @@ module _ {P C : Type 0} {plants : PlantGhosts P} {steadies : SteadyGhosts C} {co
     batches = x.journal.batches;
     current = x.current;
     reserved = x.reserved;
+    printed = x.printed;
     placed = x.placed;
     first = x.first;
     second = x.second;

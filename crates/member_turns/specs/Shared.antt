@@ -13,6 +13,7 @@ use Rattle.gate_facts.specs.declared.desks.Group.{Group}
 use Rattle.gate_facts.specs.declared.marks.Marks.{Marks}
 use Rattle.mas_complex.specs.Journals.{kept_all, in_flight, coming}
 use Rattle.mas_complex.specs.Meaning.{run}
+use Rattle.mas_complex.specs.Paper.{counts_of}
 use Rattle.member_turns.specs.Seats.{all_seats, has_lock, shows_stopped}
 use Rattle.member_turns.specs.Parts.{Shown}
 use Rattle.member_turns.specs.Words.{lines_by}
@@ -54,9 +55,8 @@ module _ (told : Bool) where
   abbrev pub groups_of : Shown → MemberId → List Group
   groups_of x m = if told then groups_on (disk_now x.view) x.base.config.groups m (run x.base (kept_all x.batches)).owners else []
 
-  -- Nothing is printed through the value.
   abbrev pub desk_in : Shown → MemberId → Desk
-  desk_in x m = record { hold = hold_of x m; printed = 0; told = told_by m (lines_by x.base.config.members m.0 (said_of x)); groups = groups_of x m }
+  desk_in x m = record { hold = hold_of x m; printed = counts_of x.printed m; told = told_by m (lines_by x.base.config.members m.0 (said_of x)); groups = groups_of x m }
 
   -- what the value tells: its content only where this is asked for, as a plant that doesn't tell its content says nothing of it
   abbrev pub facts_of : Shown → Facts

@@ -1,6 +1,6 @@
 //! What calls of the shared value leave to the others.
 ghost use Rattle.member_turns.specs.Examples.{LinesAreTheirs};
-ghost use Rattle.member_turns.specs.Laws.{ItselfMayGoBack, OneByOne, TriesMayGoBack, FreesMayGoBack, StopsMayGoBack, SeizesMayGoBack, SpendsMayGoBack, KeepsMayGoBack, ReservesMayGoBack, CopyActsCount, PairActsCount, LossesCount, PassingLeavesGroups, CallsMayGoBack, PutsMayGoBack, OpensMayGoBack, RecoversMayGoBack, SaysMayGoBack, ReadsMayGoBack, SyncsMayGoBack, WritesMayGoBack, UnsyncedAsTheyAre, HasBegun, ClosingsTell, OnlyClosingsTell};
+ghost use Rattle.member_turns.specs.Laws.{ItselfMayGoBack, OneByOne, TriesMayGoBack, FreesMayGoBack, StopsMayGoBack, SeizesMayGoBack, SpendsMayGoBack, KeepsMayGoBack, ReservesMayGoBack, CopyActsCount, PairActsCount, LossesCount, PassingLeavesGroups, CallsMayGoBack, PutsMayGoBack, OpensMayGoBack, RecoversMayGoBack, SaysMayGoBack, PrintsMayGoBack, BatchesLeaveCounts, ReadsMayGoBack, SyncsMayGoBack, WritesMayGoBack, UnsyncedAsTheyAre, HasBegun, ClosingsTell, OnlyClosingsTell};
 ghost use Rattle.member_turns.specs.Parts.{shown_of};
 
 use mas_complex::{Complex, Steady};
@@ -35,6 +35,7 @@ pub fn law_of_copy_calls()
     ensures reserves { ReservesMayGoBack }
     ensures calls { CallsMayGoBack }
     ensures puts { PutsMayGoBack }
+    ensures counts { BatchesLeaveCounts }
 {}
 
 /// After the member that holds the lock kept a batch of its own, or gave that of a stopped member its fate, it may give the value
@@ -49,6 +50,11 @@ pub fn law_of_fates()
 /// After it said a line that begins with its own name a member may give the value back.
 pub fn law_of_lines()
     ensures { SaysMayGoBack }
+{}
+
+/// After it printed a line a member may give the value back.
+pub fn law_of_prints()
+    ensures { PrintsMayGoBack }
 {}
 
 /// After each act on the spool a member may give the value back.

@@ -1,18 +1,23 @@
 -- Lemmas on reading groups.
-use Rattle.std.proofs.Common.{◌≡◌, ◌||◌, ℕ, ◌+◌, ◌≤◌, Bool, true, false, List, [], ◌∷◌, ◌++◌, Option, Some, None, option_map, unwrap_or, refl, sym, ap, subst, ◌∙◌, append_assoc}
+use Rattle.std.proofs.Common.{◌≡◌, ◌||◌, ◌&&◌, ◌==◌, ℕ, ◌+◌, ◌≤◌, nat_le, Bool, true, false, if◌then◌else◌, List, [], ◌∷◌, ◌++◌, length, All, arith, Option, Some, None, option_map, unwrap_or, refl, sym, ap, subst, ◌∙◌, append_assoc}
 use Rattle.std.specs.List.{list_any}
+use Rattle.std.proofs.lemmas.Bool.Decides.{nat_tests}
 use Rattle.std.proofs.lemmas.List.{append-nil}
+use Rattle.std.proofs.lemmas.List.Elements.{All-append, All-weaker}
 use Rattle.mas_types.specs.declared.ids.GroupNo.{GroupNo}
+use Rattle.mas_types.specs.declared.jobs.Text.{Text}
+use Rattle.mas_types.specs.declared.jobs.Text.TheVariants.{Whole, Gone}
 use Rattle.mas_types.specs.declared.ids.Dev.TheVariants.{Spool}
-use Rattle.mas_types.specs.Limits.{page_bytes}
-use Rattle.mas_types.specs.Records.{HoldsNoRecords, records_in}
+use Rattle.mas_types.specs.Fit.{AreLines, is_text_line}
+use Rattle.mas_types.specs.Limits.{line_bytes, page_bytes}
+use Rattle.mas_types.specs.Records.{HoldsNoRecords, is_record, records_in}
 use Rattle.spool_disk.specs.Acts.{Goes}
 use Rattle.spool_disk.specs.View.{View, disk_now, slice}
 use Rattle.spool_disk.specs.declared.plant.Part.TheVariants.{Disk as DiskPart}
 use Rattle.spool_text.specs.Laws.{ReadsWhatIsHeld}
 use Rattle.spool_volumes.specs.Volumes.{bytes_unless, volume_of, start_of, page_of, volumes_now, IsPlaced, IsSteady}
 use Rattle.spool_volumes.specs.Looks.{volumes_shown, lie_on_lost, LooksAt}
-use Rattle.spool_volumes.specs.Texts.{Held, held, records_on, gone_or, first_gone, all_records, whole_text, text_unless, text_of, Adds}
+use Rattle.spool_volumes.specs.Texts.{Held, held, records_on, gone_or, first_gone, all_records, last_of, whole_text, text_unless, text_of, Adds, IsLimited}
 use Rattle.spool_volumes.proofs.LookLemmas.{looks_then, same_bytes}
 
 -- nothing is read from a volume that is lost
@@ -128,11 +133,12 @@ pub record HaveRead (tells : Type 0) (by : ℕ) (first now : View) (per : ℕ) (
   pub looks : LooksAt tells by first now
   pub all : tells → all_records (records_on (volumes_now first) per) groups ≡ lines
   pub none : tells → first_gone (records_on (volumes_now first) per) groups ≡ None
+  pub limited : All (λ line. is_record line ≡ true) lines
 
 -- one group more
 pub read_more : (tells : Type 0) (by : ℕ) (first now new : View) (per : ℕ) (groups : List GroupNo) (g : GroupNo) (old lines : List (List ℕ))
-    → HaveRead tells by first now per groups old → LooksAt tells by now new → (tells → Adds (records_on (volumes_now now) per g) old lines) → HaveRead tells by first new per (groups ++ g ∷ []) lines
-read_more tells by first now new per groups g old lines have looks adds =
+    → HaveRead tells by first now per groups old → LooksAt tells by now new → (tells → Adds (records_on (volumes_now now) per g) old lines) → (All (λ line. is_record line ≡ true) old → All (λ line. is_record line ≡ true) lines) → HaveRead tells by first new per (groups ++ g ∷ []) lines
+read_more tells by first now new per groups g old lines have looks adds records =
     let v = volume_of per g in
     let there : tells → (l : List (List ℕ)) → records_on (volumes_now now) per g ≡ Some l → records_on (volumes_now first) per g ≡ Some l
     = λ told l is. earlier (slice (start_of per g) page_bytes) (first.lost (DiskPart (Spool v))) (now.lost (DiskPart (Spool v))) (disk_now first (Spool v)).bytes (disk_now now (Spool v)).bytes l (have.looks.goes.lost (DiskPart (Spool v))) (same_bytes first now (have.looks.during told) (Spool v)) is in
@@ -147,6 +153,7 @@ read_more tells by first now new per groups g old lines have looks adds =
           let added = adds told in
           let here = there told added.lines added.held in
           gone_more (records_on (volumes_now first) per) groups (g ∷ []) (have.none told) ∙ rw here refl;
+      limited = records have.limited;
     }
 
 -- the group that comes next is gone
@@ -177,3 +184,27 @@ pub left_whole : (tells : Type 0) (by : ℕ) (first now : View) (per count : ℕ
 left_whole tells by first now per count groups lines told have =
     let shown = are_shown first per groups (have.none told) in
     sym (ap (λ (o : Option GroupNo). text_unless count groups (all_records (records_on (volumes_shown first) per) groups) o) shown.none ∙ ap (whole_text count groups) (shown.all ∙ have.all told))
+
+-- LIMITS
+
+-- records behind records
+pub are_records : (old lines new : List (List ℕ)) → new ≡ old ++ lines → All (λ line. is_record line ≡ true) lines → All (λ line. is_record line ≡ true) old → All (λ line. is_record line ≡ true) new
+are_records old lines new is more all = subst (All (λ line. is_record line ≡ true)) (sym is) (All-append (λ line. is_record line ≡ true) old lines all more)
+
+record_parts : (a b : Bool) → (a && b) ≡ true → (a ≡ true) × (b ≡ true)
+record_parts true b e = (refl, e)
+record_parts false b e = absurd (cc)
+
+lines_limited : (lines : List (List ℕ)) → All (λ line. is_record line ≡ true) lines → IsLimited (Whole lines)
+lines_limited lines all few = record {
+  few = few;
+  short = All-weaker (λ line. is_record line ≡ true) (λ line. length line ≤ line_bytes) (λ line is. let le : nat_le (length line) line_bytes ≡ true = (record_parts (nat_le (length line) line_bytes) (is_text_line line) is).0 in grind (arith, nat_tests, le)) lines all;
+  text = All-weaker (λ line. is_record line ≡ true) (λ line. is_text_line line ≡ true) (λ line is. (record_parts (nat_le (length line) line_bytes) (is_text_line line) is).1) lines all;
+}
+
+-- the text of lines that were records is within the limits
+pub whole_limited : (count : ℕ) (groups : List GroupNo) (lines : List (List ℕ)) → All (λ line. is_record line ≡ true) lines → IsLimited (whole_text count groups lines)
+whole_limited count groups lines all = by_count (length lines == count) where
+  by_count : (b : Bool) → IsLimited (if b then Whole lines else Gone (last_of groups) count)
+  by_count true = lines_limited lines all
+  by_count false = λ few. few

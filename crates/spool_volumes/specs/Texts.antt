@@ -1,8 +1,11 @@
 -- The text of groups in the order of their places.
-use Rattle.std.specs.Prelude.{◌≡◌, ℕ, ◌-◌, ◌==◌, Bool, if◌then◌else◌, List, [], ◌∷◌, ◌++◌, length, Option, Some, None, slice_get, unwrap_or}
+use Rattle.std.specs.Prelude.{◌≡◌, ◌≤◌, ℕ, ◌-◌, ◌==◌, Bool, if◌then◌else◌, List, [], ◌∷◌, ◌++◌, length, Option, Some, None, slice_get, unwrap_or}
 use Rattle.mas_types.specs.declared.ids.GroupNo.{GroupNo}
 use Rattle.mas_types.specs.declared.jobs.Text.{Text}
 use Rattle.mas_types.specs.declared.jobs.Text.TheVariants.{Whole, Gone}
+use Rattle.mas_types.specs.Fit.{IsText}
+use Rattle.mas_types.specs.Limits.{text_lines_most}
+use Rattle.mas_types.specs.Queue.{line_count}
 use Rattle.mas_types.specs.Records.{records_in}
 use Rattle.spool_volumes.specs.Volumes.{Volumes, volume_of, page_of}
 
@@ -55,6 +58,10 @@ first_lost lost per (g ∷ gs) = if lost (volume_of per g) then Some g else firs
 -- a text, once these volumes are lost
 abbrev pub text_left : (ℕ → Bool) → ℕ → List (List ℕ) → List GroupNo → Text
 text_left lost per lines groups = text_unless (length lines) groups lines (first_lost lost per groups)
+
+-- a text within the limits, where it has no more lines than a text may have
+abbrev pub IsLimited : Text → Type 0
+IsLimited text = line_count text ≤ text_lines_most → IsText text
 
 -- the records of a group are added to lines
 pub record Adds (records : Option (List (List ℕ))) (old new : List (List ℕ)) : Type 0 where

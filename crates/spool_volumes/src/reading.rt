@@ -3,11 +3,12 @@ ghost use Rattle.std.specs.Prelude.{◌≡◌, ◌≤◌, ◌<◌, ◌++◌, tru
 ghost use Rattle.mas_types.specs.declared.ids.Dev.TheVariants.{Spool};
 ghost use Rattle.mas_types.specs.Limits.{page_bytes};
 ghost use Rattle.mas_types.specs.Queue.{line_count};
+ghost use Rattle.mas_types.specs.Records.{is_record};
 ghost use Rattle.spool_disk.specs.Acts.{Rose};
 ghost use Rattle.spool_disk.specs.declared.plant.Part.TheVariants.{Disk};
 ghost use Rattle.spool_volumes.specs.Volumes.{page_of, volume_of, volumes_now, IsPlaced, IsSteady};
 ghost use Rattle.spool_volumes.specs.Looks.{volumes_shown, lie_on_lost, LooksAt};
-ghost use Rattle.spool_volumes.specs.Texts.{last_of, records_on, text_of, whole_text, Adds};
+ghost use Rattle.spool_volumes.specs.Texts.{last_of, records_on, text_of, whole_text, Adds, IsLimited};
 ghost use Rattle.spool_volumes.specs.declared.reading.ReadNo.TheVariants.{Halted as ReadNoHalted};
 
 use mas_types::limits::PAGE_BYTES;
@@ -70,6 +71,7 @@ fn add_group<P: Plant>(
     requires placed { IsPlaced (P.view plant.old) per group }
     ensures looks { LooksAt P.tells by.0 (P.view plant.old) (P.view plant.new) }
     ensures added { result ≡ OkLem true → P.tells → Adds (records_on (volumes_now (P.view plant.old)) per group) lines.old lines.new }
+    ensures records { result ≡ OkLem true → All (λ line. is_record line ≡ true) lines.old → All (λ line. is_record line ≡ true) lines.new }
     ensures none { result ≡ OkLem false → P.tells → IsSteady (P.view plant.old) (P.view plant.new) → records_on (volumes_now (P.view plant.old)) per group ≡ None }
     ensures out { result ≡ OkLem false → P.tells → (P.view plant.new).lost (Disk (Spool (volume_of per group))) ≡ false → records_on (volumes_shown (P.view plant.old)) per group ≡ None }
     ensures halted { IsErrOf result ReadNoHalted → (0 < by.0) × Rose ((P.view plant.old).stops by.0) ((P.view plant.new).stops by.0) }
@@ -110,7 +112,7 @@ fn last_group(groups: &[GroupNo]) -> GroupNo
 /// at least one, and each group lies within its volume, where that isn't lost. It is whole, or gone with the first group that
 /// lies on a lost volume or holds no records; the last group counts as such where the lines are not as many as the slot counts.
 ///
-/// What is said of the text holds where no volume was lost in the call, and so it does where none of its groups lies on a
+/// Its lines are within the limits of a text, whatever the volumes hold. What else is said of the text holds where no volume was lost in the call, and so it does where none of its groups lies on a
 /// volume that is lost then: else read again. Halted comes only where the member was stopped inside a read, never for the
 /// operator. No byte of a volume is changed, and nothing more is unsynced.
 pub fn read_text<P: Plant>(
@@ -125,6 +127,7 @@ pub fn read_text<P: Plant>(
     requires placed { All (IsPlaced (P.view plant.old) per) groups.now }
     ensures looks { LooksAt P.tells by.0 (P.view plant.old) (P.view plant.new) }
     ensures count { IfOk result (λ text. line_count text ≡ count) }
+    ensures limited { IfOk result IsLimited }
     ensures left { IfOk result (λ text. P.tells → lie_on_lost (P.view plant.new) per groups.now ≡ false → text ≡ text_of (records_on (volumes_shown (P.view plant.old)) per) count groups.now) }
     ensures text { IfOk result (λ text. P.tells → IsSteady (P.view plant.old) (P.view plant.new) → text ≡ text_of (records_on (volumes_now (P.view plant.old)) per) count groups.now) }
     ensures halted { IsErrOf result ReadNoHalted → (0 < by.0) × Rose ((P.view plant.old).stops by.0) ((P.view plant.new).stops by.0) }

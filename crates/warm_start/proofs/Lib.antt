@@ -8,3 +8,4 @@ pub mod Again
 pub mod Begun
 pub mod Prepared
 pub mod Spooling
+pub mod SoundTold

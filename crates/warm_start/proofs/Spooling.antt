@@ -31,7 +31,7 @@ use Rattle.track_groups.specs.Groups.{is_things, groups_where}
 use Rattle.track_groups.specs.Laws.{AreItsOwn}
 use Rattle.track_groups.specs.Places.{groups_of}
 use Rattle.spool_volumes.specs.Volumes.{Volumes, volume_of, start_of, volumes_now, bytes_unless, IsPlaced, IsSteady}
-use Rattle.spool_volumes.specs.Texts.{held, records_on, text_of}
+use Rattle.spool_volumes.specs.Texts.{held, records_on, text_of, IsLimited}
 use Rattle.spool_volumes.specs.Looks.{lie_on_lost, OnlyLooksAt, LooksAt}
 use Rattle.spool_volumes.proofs.LookLemmas.{looks_then, still}
 use Rattle.job_queue.specs.Jobs as jobs
@@ -209,10 +209,11 @@ module _ {R X C : Type 0} (shown : R → C) (shows : X → C) (text : X → Text
     pub same : map shown records ≡ map shows things
     pub texts : tells → All (IsReadOf first now) things
     pub given : tells → IsSteady first now → All (IsGivenOf first) things
+    pub limited : All (λ x. IsLimited (text x)) things
 
-  pub one_more : (first now new : View) (records : List R) (things : List X) (r : R) (x : X) → HaveTexts first now records things → LooksAt tells 0 now new → shows x ≡ shown r → (tells → IsReadOf now new x) → (tells → IsSteady now new → IsGivenOf now x)
+  pub one_more : (first now new : View) (records : List R) (things : List X) (r : R) (x : X) → HaveTexts first now records things → LooksAt tells 0 now new → shows x ≡ shown r → (tells → IsReadOf now new x) → (tells → IsSteady now new → IsGivenOf now x) → IsLimited (text x)
       → HaveTexts first new (records ++ r ∷ []) (things ++ x ∷ [])
-  one_more first now new records things r x have looks is read is_given = record {
+  one_more first now new records things r x have looks is read is_given limited = record {
     looks = looks_then first now new tells 0 have.looks looks;
     same = map-append shown records (r ∷ []) ∙ ap (λ (cs : List C). cs ++ shown r ∷ []) have.same ∙ ap (λ (y : C). map shows things ++ y ∷ []) (sym is) ∙ sym (map-append shows things (x ∷ []));
     texts = λ told. All-append (IsReadOf first new) things (x ∷ [])
@@ -224,13 +225,14 @@ module _ {R X C : Type 0} (shown : R → C) (shows : X → C) (text : X → Text
         (All-cons (IsGivenOf first) x []
         (given_same now first per (text x) (groups x) (λ n. sym (volumes_same first now (have.looks.during told) before n)) (is_given told (steady_then first now new have.looks.goes looks.goes steady)))
         (All-nil (IsGivenOf first)));
+    limited = All-append (λ y. IsLimited (text y)) things (x ∷ []) have.limited (All-cons (λ y. IsLimited (text y)) x [] limited (All-nil (λ y. IsLimited (text y))));
   }
 
   -- the record at a place
-  pub next_one : (first now new : View) (records : List R) (at : ℕ) (d : R) (things : List X) (x : X) → at < length records → HaveTexts first now (take at records) things → LooksAt tells 0 now new → shows x ≡ shown (get_or records at d) → (tells → IsReadOf now new x) → (tells → IsSteady now new → IsGivenOf now x)
+  pub next_one : (first now new : View) (records : List R) (at : ℕ) (d : R) (things : List X) (x : X) → at < length records → HaveTexts first now (take at records) things → LooksAt tells 0 now new → shows x ≡ shown (get_or records at d) → (tells → IsReadOf now new x) → (tells → IsSteady now new → IsGivenOf now x) → IsLimited (text x)
       → HaveTexts first new (take (at + 1) records) (things ++ x ∷ [])
-  next_one first now new records at d things x lt have looks is read is_given =
-      subst (λ (rs : List R). HaveTexts first new rs (things ++ x ∷ [])) (sym (take_more records at d lt)) (one_more first now new (take at records) things (get_or records at d) x have looks is read is_given)
+  next_one first now new records at d things x lt have looks is read is_given limited =
+      subst (λ (rs : List R). HaveTexts first new rs (things ++ x ∷ [])) (sym (take_more records at d lt)) (one_more first now new (take at records) things (get_or records at d) x have looks is read is_given limited)
 
   -- and later
   pub later_texts : (first now new : View) (things : List X) → OnlyLooksAt first new → Goes now new → All (IsReadOf first now) things → All (IsReadOf new new) things

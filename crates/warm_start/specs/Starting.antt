@@ -8,6 +8,7 @@ use Rattle.mas_types.specs.declared.answers.CopyState.TheVariants as state
 use Rattle.mas_types.specs.declared.queues.Config.{Config}
 use Rattle.mas_types.specs.declared.queues.Queue.{Queue}
 use Rattle.mas_types.specs.Limits.{page_bytes}
+use Rattle.mas_types.specs.Sound.{IsSound}
 use Rattle.spool_disk.specs.declared.plant.Part.TheVariants.{Disk as DiskPart}
 use Rattle.spool_disk.specs.View.{View, Disk, IsImage, LeavesOnly, Throughout, disk_at, disk_now}
 use Rattle.spool_disk.specs.Acts.{Goes, Rose, next}
@@ -203,6 +204,7 @@ pub record HasStarted {C : Type 0} (count : C → ℕ) (needs : ℕ → ℕ) (re
   pub sized : HaveSize pages
   pub leveled : levels ≡ levels_given pages
   pub tells_base : Tell t base
+  pub base_sound : IsSound base
   pub texts : tells → HasTexts (lost_now new) (spools_at new new.now) t.config.groups base
   pub given : tells → IsSteady old new → AreGiven new t.config.groups base
   pub at_level : at ≡ level (bytes_of pages)

@@ -10,6 +10,7 @@ ghost use Rattle.spool_disk.specs.declared.plant.Part.TheVariants.{Disk};
 ghost use Rattle.spool_disk.specs.View.{disk_now};
 ghost use Rattle.spool_volumes.specs.Volumes.{volume_of, IsSteady};
 ghost use Rattle.spool_volumes.specs.Looks.{LooksAt};
+ghost use Rattle.spool_volumes.specs.Texts.{IsLimited};
 ghost use Rattle.track_groups.specs.Places.{groups_of as groups_of_lem};
 ghost use Rattle.ckpt_pages.specs.Shape.{HasSpelling};
 ghost use Rattle.job_queue.specs.Jobs.{AreJobs};
@@ -59,6 +60,7 @@ fn text_in<P: Plant>(
     requires roomy { AreRoomy (P.view plant.old) tables.now.config }
     ensures looks { LooksAt P.tells 0 (P.view plant.old) (P.view plant.new) }
     ensures count { IfOk result (λ text. line_count text ≡ count) }
+    ensures limited { IfOk result IsLimited }
     ensures text { IfOk result (λ text. P.tells → IsReadUnless (lost_now (P.view plant.new)) (bytes_on (spools_at (P.view plant.old) (P.view plant.old).now)) tables.now.config.groups text (groups_of_lem thing tables.now.owners)) }
     ensures given { IfOk result (λ text. P.tells → IsSteady (P.view plant.old) (P.view plant.new) → IsGiven (P.view plant.old) tables.now.config.groups text (groups_of_lem thing tables.now.owners)) }
 {
@@ -77,6 +79,7 @@ fn jobs_on<P: Plant>(alloc: Global, plant: &mut P, tables: &Tables) -> Result<Li
     requires roomy { AreRoomy (P.view plant.old) tables.now.config }
     ensures looks { LooksAt P.tells 0 (P.view plant.old) (P.view plant.new) }
     ensures jobs { IfOk result (λ jobs. AreJobs tables.now.jobs jobs) }
+    ensures limited { IfOk result (λ jobs. All (λ j. IsLimited j.text) jobs) }
     ensures texts { IfOk result (λ jobs. P.tells → All (λ j. IsReadUnless (lost_now (P.view plant.new)) (bytes_on (spools_at (P.view plant.old) (P.view plant.old).now)) tables.now.config.groups j.text (groups_of_lem (Deck j.number) tables.now.owners)) jobs) }
     ensures given { IfOk result (λ jobs. P.tells → IsSteady (P.view plant.old) (P.view plant.new) → All (λ j. IsGiven (P.view plant.old) tables.now.config.groups j.text (groups_of_lem (Deck j.number) tables.now.owners)) jobs) }
 {
@@ -112,6 +115,7 @@ fn outputs_on<P: Plant>(
     requires roomy { AreRoomy (P.view plant.old) tables.now.config }
     ensures looks { LooksAt P.tells 0 (P.view plant.old) (P.view plant.new) }
     ensures outputs { IfOk result (λ outputs. AreOutputs tables.now.outputs outputs) }
+    ensures limited { IfOk result (λ outputs. All (λ o. IsLimited o.text) outputs) }
     ensures texts { IfOk result (λ outputs. P.tells → All (λ o. IsReadUnless (lost_now (P.view plant.new)) (bytes_on (spools_at (P.view plant.old) (P.view plant.old).now)) tables.now.config.groups o.text (groups_of_lem (OutputOf o.job o.index) tables.now.owners)) outputs) }
     ensures given { IfOk result (λ outputs. P.tells → IsSteady (P.view plant.old) (P.view plant.new) → All (λ o. IsGiven (P.view plant.old) tables.now.config.groups o.text (groups_of_lem (OutputOf o.job o.index) tables.now.owners)) outputs) }
 {
@@ -154,6 +158,7 @@ pub fn spooled_queue<P: Plant>(
     requires roomy { AreRoomy (P.view plant.old) tables.now.config }
     ensures looks { LooksAt P.tells 0 (P.view plant.old) (P.view plant.new) }
     ensures tell { IfOk result (Tell tables.now) }
+    ensures limited { IfOk result (λ queue. All (λ j. IsLimited j.text) queue.jobs × All (λ o. IsLimited o.text) queue.outputs) }
     ensures texts { IfOk result (λ queue. P.tells → HasTexts (lost_now (P.view plant.new)) (spools_at (P.view plant.new) (P.view plant.new).now) tables.now.config.groups queue) }
     ensures given { IfOk result (λ queue. P.tells → IsSteady (P.view plant.old) (P.view plant.new) → AreGiven (P.view plant.new) tables.now.config.groups queue) }
 {

@@ -2,6 +2,7 @@
 ghost use Rattle.std.specs.Prelude.{◌≡◌, ◌≢◌, ◌⊎◌, ◌&&◌, ◌<◌, ◌≤◌, Bool, not, [], None, length, IfOk, IfErr, OnOk, IsErrOf, true, false};
 ghost use Rattle.mas_types.specs.declared.ids.Dev.{Dev as DevLem};
 ghost use Rattle.mas_types.specs.declared.ids.Dev.TheVariants.{Ckpt1, Ckpt2, Spool};
+ghost use Rattle.mas_types.specs.Sound.{IsSound};
 ghost use Rattle.mas_types.specs.Limits.{pages_most};
 ghost use Rattle.spool_disk.specs.declared.plant.Part.TheVariants.{Disk};
 ghost use Rattle.spool_disk.specs.View.{View, disk_now};
@@ -35,6 +36,7 @@ use mas_types::limits::PAGE_BYTES;
 use mas_types::{Config, Dev, Level, List, Page, Queue};
 use spool_disk::{Part, Plant};
 use std::alloc::Global;
+use table_queues::law_of_told_queues;
 
 /// What a run goes on with after a warm start.
 #[derive(Drop)]
@@ -193,6 +195,7 @@ fn prepare<P: Plant, C: Steady + Drop>(
     ensures roomy { IfOk result (λ ready. AreRoomy (P.view plant.new) ready.start.found.tables.config) }
     ensures levels { IfOk result (λ ready. ready.levels ≡ levels_given ready.start.found.pages) }
     ensures tell { IfOk result (λ ready. Tell ready.start.found.tables ready.base) }
+    ensures sound { IfOk result (λ ready. IsSound ready.base) }
     ensures texts { IfOk result (λ ready. P.tells → HasTexts (lost_now (P.view plant.new)) (spools_at (P.view plant.new) (P.view plant.new).now) ready.start.found.tables.config.groups ready.base) }
     ensures given { IfOk result (λ ready. P.tells → IsSteady (P.view plant.old) (P.view plant.new) → AreGiven (P.view plant.new) ready.start.found.tables.config.groups ready.base) }
     ensures chosen { IfOk result (λ ready. Chosen C.count C.room C.room_most C.ready C.reads C.rests P.tells (P.view plant.old) (P.view plant.new) pair.new.first.copy pair.new.second.copy pair.new.first.alive pair.new.second.alive pair.new.first.found pair.new.second.found ready.start) }
@@ -201,6 +204,7 @@ fn prepare<P: Plant, C: Steady + Drop>(
     let Ok(base) = spooled_queue(alloc, plant, &found.start.found.tables) else {
         return Err(StartNo::NoMemory);
     };
+    law_of_told_queues();
     Ok(Ready {
         start: found.start,
         levels: found.levels,

@@ -18,7 +18,7 @@ back-requires-clause-value g c =
     let member : IsMember was.book by = in_book was.base.config _ was.book by c.requires.member (ap (λ q. q.config) (took.value.bare by.0 c.requires.serves).base) took.rest.members in
     let shown : shown_of is ≡ with_book (shown_of was) (after_try was.book by c.args.inner) was.reserved =
     shown_beside was is (after_try was.book by c.args.inner) was.reserved
-    (record { plant = tried.plant; pair = tried.pair; base = tried.base; since = tried.since; journal = tried.journal; current = tried.current; first = tried.first; second = tried.second; level = tried.level })
+    (record { plant = tried.plant; pair = tried.pair; base = tried.base; since = tried.since; journal = tried.journal; current = tried.current; first = tried.first; second = tried.second; level = tried.level; printed = tried.printed })
     tried.book tried.reserved in
     record {
       bare = tried_back was is by c.args.inner _ _ _ false serves took.taken.bare member shown;

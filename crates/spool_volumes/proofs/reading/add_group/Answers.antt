@@ -1,6 +1,6 @@
 use Rattle.std.proofs.Common.{◌∙◌, ap, Ok, Err}
 use Rattle.spool_volumes.specs.Texts.{held}
-use Rattle.spool_volumes.proofs.ReadLemmas.{no_records, page_shown}
+use Rattle.spool_volumes.proofs.ReadLemmas.{are_records, no_records, page_shown}
 use Rattle.spool_volumes.proofs.reading.add_group.Goals as goal
 
 pub returns-in-Ok-clause-added : goal.returns-in-Ok-clause-added
@@ -12,6 +12,9 @@ returns-in-Ok-clause-added g c is told =
       held = ap held page ∙ (c.law_of_reading.ensures c.read_page.new.into added.lines).1 added.holds;
       is = added.is;
     }
+
+pub returns-in-Ok-clause-records : goal.returns-in-Ok-clause-records
+returns-in-Ok-clause-records g c is all = are_records c.args.lines.now c.in-Ok.ensures.ok.lines c.unpack.new.into c.in-Ok.ensures.ok.is c.in-Ok.ensures.ok.holds.each all
 
 pub returns-in-Err-Bad-clause-none : goal.returns-in-Err-Bad-clause-none
 returns-in-Err-Bad-clause-none g c is told steady =

@@ -1,18 +1,19 @@
-use Rattle.std.proofs.Common.{◌≡◌, ◌+◌, ◌++◌, ◌∷◌, ◌∙◌, false, refl, sym, ap, subst, List, Ok, take, drop, get_or, drop-cons, add-one}
+use Rattle.std.proofs.Common.{◌≡◌, ◌+◌, ◌++◌, ◌∷◌, ◌∙◌, true, false, refl, sym, ap, subst, List, Ok, take, drop, get_or, drop-cons, add-one}
 use Rattle.std.proofs.lemmas.List.{take_all, take_more, take-append-drop}
-use Rattle.std.proofs.lemmas.List.Elements.{All-get_or}
+use Rattle.std.proofs.lemmas.List.Elements.{All-get_or, All-nil}
 use Rattle.mas_types.specs.declared.ids.GroupNo.{GroupNo}
+use Rattle.mas_types.specs.Records.{is_record}
 use Rattle.spool_volumes.specs.Looks.{lie_on_lost}
 use Rattle.spool_volumes.specs.Volumes.{IsPlaced}
 use Rattle.spool_volumes.proofs.LookLemmas.{looks_none, looks_then}
-use Rattle.spool_volumes.proofs.ReadLemmas.{HaveRead, gone_next, left_next, left_whole, placed_later, read_more}
+use Rattle.spool_volumes.proofs.ReadLemmas.{HaveRead, gone_next, left_next, left_whole, placed_later, read_more, whole_limited}
 use Rattle.spool_volumes.proofs.reading.read_text.Goals as goal
 
 abbrev none : GroupNo
 none = record { 0 = 0 }
 
 pub loop-group-init : goal.loop-group-init
-loop-group-init g c = record { looks = looks_none g.P.Plant.tells c.args.by.0 (g.P.Plant.view c.args.plant.now); all = λ told. sym c.new-lines.ensures; none = λ told. refl }
+loop-group-init g c = record { looks = looks_none g.P.Plant.tells c.args.by.0 (g.P.Plant.view c.args.plant.now); all = λ told. sym c.new-lines.ensures; none = λ told. refl; limited = rw c.new-lines.ensures (All-nil (λ line. is_record line ≡ true)) }
 
 pub add_group-requires-clause-placed : goal.add_group-requires-clause-placed
 add_group-requires-clause-placed g c =
@@ -58,10 +59,13 @@ returns-clause-left g c told kept =
     subst (λ (l : List GroupNo). HaveRead g.P.Plant.tells c.args.by.0 (g.P.Plant.view c.args.plant.now) (g.P.Plant.view c.loop-group.plant) c.args.per l c.loop-group.lines) (take_all c.loop-group.group-index groups c.loop-group-test.false) c.loop-group.invariant in
     c.ended.ensures.text ∙ left_whole g.P.Plant.tells c.args.by.0 (g.P.Plant.view c.args.plant.now) (g.P.Plant.view c.loop-group.plant) c.args.per c.args.count groups c.loop-group.lines told have
 
+pub returns-clause-limited : goal.returns-clause-limited
+returns-clause-limited g c = rw c.ended.ensures.text (whole_limited c.args.count c.args.groups.now c.loop-group.lines c.loop-group.invariant.limited)
+
 pub loop-group-preserved : goal.loop-group-preserved
 loop-group-preserved g c =
     let groups = c.args.groups.now in
     let i = c.loop-group.group-index in
     rw (take_more groups i none c.loop-group-test.true)
     (read_more g.P.Plant.tells c.args.by.0 (g.P.Plant.view c.args.plant.now) (g.P.Plant.view c.loop-group.plant) (g.P.Plant.view c.add_group.new.plant) c.args.per (take i groups) (get_or groups i none) c.loop-group.lines c.add_group.new.lines c.loop-group.invariant
-    c.add_group.ensures.looks (c.in_ok-add_group.ensures.added (ap Ok c.if-not-branch.false)))
+    c.add_group.ensures.looks (c.in_ok-add_group.ensures.added (ap Ok c.if-not-branch.false)) (c.in_ok-add_group.ensures.records (ap Ok c.if-not-branch.false)))

@@ -20,4 +20,4 @@ loop-record-preserved g c =
     let i = c.loop-record.record-index in
     rw c.in_ok-push.ensures.ok
     (next_one unordered rec_of (λ j. j.text) (λ j. groups_of (Deck j.number) c.args.tables.now.owners) g.P.Plant.tells c.args.tables.now.config.groups (g.P.Plant.view c.args.plant.now) (g.P.Plant.view c.loop-record.plant) (g.P.Plant.view c.text_in.new.plant)
-    items i _ c.loop-record.jobs _ c.loop-record-test.true c.loop-record.invariant c.text_in.ensures.looks (told_job (get_or items i _) c.in_ok-text.text c.in_ok-text.ensures.count) c.in_ok-text.ensures.text c.in_ok-text.ensures.given)
+    items i _ c.loop-record.jobs _ c.loop-record-test.true c.loop-record.invariant c.text_in.ensures.looks (told_job (get_or items i _) c.in_ok-text.text c.in_ok-text.ensures.count) c.in_ok-text.ensures.text c.in_ok-text.ensures.given c.in_ok-text.ensures.limited)

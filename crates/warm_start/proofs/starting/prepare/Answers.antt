@@ -3,6 +3,7 @@ use Rattle.std.proofs.lemmas.Result.{err_from_is_err_and}
 use Rattle.mas_types.specs.declared.ids.Dev.TheVariants.{Ckpt1, Ckpt2}
 use Rattle.ckpt_copy.specs.Moments.{goes_on}
 use Rattle.warm_start.proofs.Prepared.{gone_read1, gone_read2, looked_all, looked_only, chosen_read, starts_lost}
+use Rattle.warm_start.proofs.SoundTold.{sound_told}
 use Rattle.warm_start.proofs.Spooling.{roomy_later, steady_then}
 use Rattle.warm_start.proofs.Starts.{starts_read}
 use Rattle.warm_start.proofs.starting.prepare.Goals as goal
@@ -101,6 +102,12 @@ returns-clause-large g c =
       subst (λ (s : ℕ). C.needs (length pages) ≤ s) (sym (size Ckpt1)) c.in_ok-found.ensures.large.0,
       subst (λ (s : ℕ). C.needs (length pages) ≤ s) (sym (size Ckpt2)) c.in_ok-found.ensures.large.1,
     )
+
+pub returns-clause-sound : goal.returns-clause-sound
+returns-clause-sound g c =
+    let t = c.in_ok-found.found.start.found.tables in
+    let usable = c.in_ok-found.ensures.chosen.usable in
+    sound_told t c.in-Ok.base c.in-Ok.ensures.tell (c.law_of_told_queues.ensures.sound t usable.0.fit usable.1.sound) c.in-Ok.ensures.limited
 
 pub returns-clause-roomy : goal.returns-clause-roomy
 returns-clause-roomy g c =

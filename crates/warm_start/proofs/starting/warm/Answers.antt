@@ -71,6 +71,7 @@ returns-clause-started g c =
       sized = e.chosen.sized;
       leveled = e.levels;
       tells_base = e.tell;
+      base_sound = e.sound;
       texts = λ told. texts_left F.tables.config.groups c.in-Ok.ready.base (IsHeld C.reads (disk_now mid Ckpt1) (bytes_of F.pages)) (IsHeld C.reads (disk_now mid Ckpt2) (bytes_of F.pages)) mid new (c.bring.ensures.during told) (e.texts told);
       given = λ told steady. given_kept F.tables.config.groups c.in-Ok.ready.base (IsHeld C.reads (disk_now mid Ckpt1) (bytes_of F.pages)) (IsHeld C.reads (disk_now mid Ckpt2) (bytes_of F.pages)) mid new (c.bring.ensures.during told)
           (steady_then old mid new c.prepare.ensures.goes c.bring.ensures.goes steady) (e.given told (steady_first old mid new c.prepare.ensures.goes c.bring.ensures.goes steady));

@@ -7,6 +7,7 @@ use Rattle.mas_complex.proofs.Batches.{placed_all}
 use Rattle.mas_complex.proofs.Moves.{place_keeps}
 use Rattle.mas_complex.specs.Journals.{in_flight}
 use Rattle.mas_complex.proofs.Replied.{placed_replied}
+use Rattle.mas_complex.proofs.Papers.{place_on_paper}
 use Rattle.mas_complex.proofs.complex.Complex.add_place.Goals as goal
 
 pub invariant_of-self-2-clause-kept : goal.invariant_of-self-2-clause-kept
@@ -40,3 +41,9 @@ pub returns-clause-grown : goal.returns-clause-grown
 returns-clause-grown g c =
     let place = is_place c.empty_place-place.result c.now.result (record { 0 = 0 }) c.empty_place-place.ensures in
     (c.empty_place-place.result, c.in_ok-push.ensures.ok, place.0)
+
+pub invariant_of-self-2-clause-paper : goal.invariant_of-self-2-clause-paper
+invariant_of-self-2-clause-paper g c told sound =
+    let s = c.args.self.now in
+    let place = is_place c.empty_place-place.result c.now.result (record { 0 = 0 }) c.empty_place-place.ensures in
+    ∥∥₁_map (s.paper told sound) (λ on. rw (c.in_ok-push.ensures.ok) (place_on_paper s.base s.since s.journal.batches c.empty_place-place.result s.current s.printed s.book (g.P.Plant.view s.plant) place.0 on))

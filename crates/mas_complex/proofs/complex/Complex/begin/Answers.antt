@@ -1,10 +1,10 @@
-use Rattle.std.proofs.Common.{refl, subst, sym, ◌≡◌, ◌∙◌, ap, List, Option, ◌-◌, ◌^◌}
-use Rattle.std.proofs.Math.Logic.{∥∥₁_map, ∥∥₁_elim, ∥∥₁_prop}
+use Rattle.std.proofs.Common.{refl, subst, sym, ◌≡◌, ◌∙◌, ap, List, Option, ◌-◌, ◌^◌, All}
+use Rattle.std.proofs.Math.Logic.{∥∥₁_map, ∥∥₁_elim, ∥∥₁_prop, ∥∥₁_map₂}
 use Rattle.mas_complex.specs.Texts.{spools_at, lost_now, HasTexts}
 use Rattle.mas_types.specs.declared.journals.Batch.{Batch}
 use Rattle.mas_types.specs.declared.journals.Entry.{Entry}
 use Rattle.mas_types.specs.declared.journals.Fate.TheVariants.{Flying}
-use Rattle.mas_complex.specs.Journals.{entries_reserved}
+use Rattle.mas_complex.specs.Journals.{entries_reserved, AreSettled, IsBegun}
 use Rattle.mas_complex.specs.Crash.{Keeps, Setting, setting, copy_of}
 use Rattle.mas_complex.specs.Crash.{IsUntold}
 use Rattle.mas_complex.proofs.Moves.{begins_keep}
@@ -13,6 +13,9 @@ use Rattle.mas_complex.specs.Journals.{in_flight, kept_all}
 use Rattle.mas_complex.specs.Meaning.{run}
 use Rattle.mas_complex.specs.Replies.{HaveReplies, AreReplied}
 use Rattle.mas_complex.proofs.Replied.{begun_replied}
+use Rattle.paper_laws.specs.Counts.{AreAllowed}
+use Rattle.mas_complex.specs.Paper.{KeepsPaper, counts_of}
+use Rattle.mas_complex.proofs.Papers.{begins_on_paper, counts_fall}
 use Rattle.mas_complex.proofs.complex.Complex.begin.Goals as goal
 
 pub invariant_of-self-clause-kept : goal.invariant_of-self-clause-kept
@@ -38,3 +41,18 @@ invariant_of-self-clause-replied g c told =
     ∥∥₁_elim (s.replied told) ∥∥₁_prop (λ are. ∥∥₁_map (c.requires.replied told) (λ replies. begun_replied s.base s.journal.batches (record { first = c.now-first.result; last = 2 ^ 64 - 1; by = c.args.by; fate = Flying; entries = es })
     (subst (λ (x : Option Batch). AreReplied s.base (s.journal.batches ++ in_flight x)) c.requires.none are)
     (subst (λ (l : List Entry). HaveReplies (run s.base (kept_all s.journal.batches)) l) e replies)))
+
+pub invariant_of-self-clause-paper : goal.invariant_of-self-clause-paper
+invariant_of-self-clause-paper g c told sound =
+    let s = c.args.self.now in
+    let old = g.P.Plant.view s.plant in
+    let es = c.in-Some.entries in
+    let e : entries_reserved s.reserved ≡ es = ap entries_reserved (sym c.take.ensures.value ∙ c.in-Some.is) in
+    let b : Batch = record { first = c.now-first.result; last = 2 ^ 64 - 1; by = c.args.by; fate = Flying; entries = es } in
+    let own : All (λ x. x.by ≡ c.args.by) es = subst (λ (l : List Entry). All (λ x. x.by ≡ c.args.by) l) e c.requires.own in
+    ∥∥₁_elim (s.kept told) ∥∥₁_prop (λ k. ∥∥₁_map₂ (s.paper told sound) (c.requires.allowed told sound) (λ on allowed.
+    let k' = subst (λ (x : Option Batch). AreSettled s.journal.batches old.now × IsBegun x old.now) c.requires.none (k.settled, k.begun) in
+    rw (c.count_anew.ensures, c.as_slice.ensures) (begins_on_paper s.base s.since s.journal.batches b s.printed s.book old k.started k'.0 refl c.now-first.ensures sound
+    (subst (λ (x : Option Batch). KeepsPaper s.base s.since s.journal.batches x s.printed s.book old) c.requires.none on) own
+    (subst (λ (l : List Entry). AreAllowed s.base (run s.base (kept_all s.journal.batches)) (counts_of s.printed) l) e allowed)
+    (counts_fall c.args.by es s.printed own))))

@@ -1,13 +1,15 @@
-use Rattle.std.proofs.Common.{refl, subst, sym, ◌≡◌, ◌∙◌, Option, Some}
-use Rattle.std.proofs.Math.Logic.{∥∥₁_map, ∥∥₁_elim, ∥∥₁_prop}
+use Rattle.std.proofs.Common.{refl, subst, sym, ◌≡◌, ◌∙◌, Option, Some, inl, inr}
+use Rattle.std.proofs.Math.Logic.{∥∥₁_map, ∥∥₁_elim, ∥∥₁_prop, ∥∥₁_map₂}
 use Rattle.mas_types.specs.declared.journals.Batch.{Batch}
 use Rattle.mas_types.specs.declared.journals.Fate.TheVariants.{Dropped}
 use Rattle.mas_complex.specs.Crash.{Keeps, Setting, setting, copy_of}
 use Rattle.mas_complex.proofs.Fating.{has_ends, dropped_placed}
 use Rattle.std.proofs.Common.{◌++◌}
-use Rattle.mas_complex.specs.Journals.{in_flight}
+use Rattle.mas_complex.specs.Journals.{in_flight, IsBegun}
 use Rattle.mas_complex.specs.Replies.{AreReplied}
 use Rattle.mas_complex.proofs.Replied.{fated_replied}
+use Rattle.mas_complex.specs.Paper.{KeepsPaper}
+use Rattle.mas_complex.proofs.PaperEnds.{fated_on_paper}
 use Rattle.mas_complex.proofs.complex.Complex.drop_batch.Goals as goal
 
 pub invariant_of-self-clause-kept : goal.invariant_of-self-clause-kept
@@ -33,3 +35,14 @@ invariant_of-self-clause-replied g c told =
     ∥∥₁_elim (s.replied told) ∥∥₁_prop (λ are. ∥∥₁_map s.place (λ has. rw (c.set_last.ensures, c.take.ensures.after)
     (fated_replied s.base s.journal.batches b (record { first = b.first; last = c.now-last.result; by = b.by; fate = Dropped; entries = b.entries }) (has_ends s.placed s.journal.batches (s.place_current c.requires.current) has)
     (subst (λ (x : Option Batch). AreReplied s.base (s.journal.batches ++ in_flight x)) was are) refl)))
+
+pub invariant_of-self-clause-paper : goal.invariant_of-self-clause-paper
+invariant_of-self-clause-paper g c told sound =
+    let s = c.args.self.now in
+    let old = g.P.Plant.view s.plant in
+    let b = c.in-Some.batch in
+    let was : s.current ≡ Some b = sym c.take.ensures.value ∙ c.in-Some.is in
+    ∥∥₁_elim (s.kept told) ∥∥₁_prop (λ k. ∥∥₁_map₂ (s.paper told sound) s.place (λ on has. rw (c.set_last.ensures, c.take.ensures.after)
+    (fated_on_paper s.base s.since s.printed s.book old s.journal.batches (has_ends s.placed s.journal.batches (s.place_current c.requires.current) has) k.settled
+    (record { first = b.first; last = c.now-last.result; by = b.by; fate = Dropped; entries = b.entries }) b
+    (subst (λ (x : Option Batch). KeepsPaper s.base s.since s.journal.batches x s.printed s.book old) was on) (subst (λ (x : Option Batch). IsBegun x old.now) was k.begun) refl refl c.now-last.ensures (inr refl))))

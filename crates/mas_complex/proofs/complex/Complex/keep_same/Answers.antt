@@ -1,5 +1,5 @@
-use Rattle.std.proofs.Common.{refl, subst, sym, ◌≡◌, ◌∙◌, ap, List, Option, ◌++◌}
-use Rattle.std.proofs.Math.Logic.{∥∥₁_map, ∥∥₁_elim, ∥∥₁_prop}
+use Rattle.std.proofs.Common.{refl, subst, sym, ◌≡◌, ◌∙◌, ap, List, Option, ◌++◌, All}
+use Rattle.std.proofs.Math.Logic.{∥∥₁_map, ∥∥₁_elim, ∥∥₁_prop, ∥∥₁_map₂}
 use Rattle.mas_types.specs.declared.journals.Batch.{Batch}
 use Rattle.mas_types.specs.declared.journals.Entry.{Entry}
 use Rattle.mas_types.specs.declared.journals.Fate.TheVariants.{Kept, Flying}
@@ -14,6 +14,10 @@ use Rattle.mas_complex.specs.Replies.{HaveReplies}
 use Rattle.mas_complex.proofs.Replied.{and_none, with_replied}
 use Rattle.mas_complex.proofs.ToldAlike.{stand_alike}
 use Rattle.table_queues.specs.Telling.{AreToldAlike}
+use Rattle.paper_laws.specs.Counts.{AreAllowed}
+use Rattle.mas_complex.specs.Paper.{KeepsPaper, counts_of}
+use Rattle.mas_complex.proofs.Papers.{counts_fall}
+use Rattle.mas_complex.proofs.PaperEnds.{same_on_paper}
 use Rattle.mas_complex.proofs.complex.Complex.keep_same.Goals as goal
 
 pub invariant_of-self-clause-kept : goal.invariant_of-self-clause-kept
@@ -45,3 +49,17 @@ invariant_of-self-clause-replied g c told =
     ∥∥₁_elim (s.replied told) ∥∥₁_prop (λ are. ∥∥₁_elim (c.requires.replied told) ∥∥₁_prop (λ replies. ∥∥₁_map s.place (λ has. rw (c.set_last.ensures, c.requires.none)
     (and_none s.base (with_last b s.journal.batches) (with_replied s.base s.journal.batches (in_flight s.current) b (has_ends s.placed s.journal.batches (s.place_reserved c.requires.reserved) has) are
     (subst (λ (l : List Entry). HaveReplies (run s.base (kept_all s.journal.batches)) l) e replies))))))
+
+pub invariant_of-self-clause-paper : goal.invariant_of-self-clause-paper
+invariant_of-self-clause-paper g c told sound =
+    let s = c.args.self.now in
+    let old = g.P.Plant.view s.plant in
+    let es = c.in-Some.entries in
+    let e : entries_reserved s.reserved ≡ es = ap entries_reserved (sym c.take.ensures.value ∙ c.in-Some.is) in
+    let own : All (λ x. x.by ≡ c.args.by) es = subst (λ (l : List Entry). All (λ x. x.by ≡ c.args.by) l) e c.requires.own in
+    ∥∥₁_elim (s.kept told) ∥∥₁_prop (λ k. ∥∥₁_elim (c.requires.allowed told sound) ∥∥₁_prop (λ allowed. ∥∥₁_map₂ (s.paper told sound) s.place (λ on has. rw (c.set_last.ensures, c.count_anew.ensures, c.as_slice.ensures, c.requires.none)
+    (same_on_paper s.base s.since s.printed s.book old s.journal.batches (has_ends s.placed s.journal.batches (s.place_reserved c.requires.reserved) has) k.settled
+    (record { first = c.now-now.result; last = c.now-now.result; by = c.args.by; fate = Kept; entries = es }) (record { first = c.now-now.result; last = 0; by = c.args.by; fate = Flying; entries = es }) sound
+    (subst (λ (x : Option Batch). KeepsPaper s.base s.since s.journal.batches x s.printed s.book old) c.requires.none on) k.started refl c.now-now.ensures own
+    (subst (λ (l : List Entry). AreAllowed s.base (run s.base (kept_all s.journal.batches)) (counts_of s.printed) l) e allowed) (counts_fall c.args.by es s.printed own)
+    refl refl c.now-now.ensures refl))))

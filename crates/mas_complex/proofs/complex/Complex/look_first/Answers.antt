@@ -1,5 +1,5 @@
 use Rattle.std.proofs.Common.{refl, subst, ◌≡◌, ap, true, false, ◌++◌}
-use Rattle.std.proofs.Math.Logic.{∥∥₁_map, ∥∥₁_elim}
+use Rattle.std.proofs.Math.Logic.{∥∥₁_map, ∥∥₁_elim, ∥∥₁_map₂}
 use Rattle.mas_types.specs.declared.ids.Dev.TheVariants.{Ckpt1, Ckpt2}
 use Rattle.mas_complex.specs.Journals.{kept_all, entries_in}
 use Rattle.mas_complex.specs.Crash.{Setting, setting, copy_of}
@@ -17,6 +17,7 @@ use Rattle.mas_complex.specs.Seen.{HasNext}
 use Rattle.mas_complex.proofs.Sides.{no}
 use Rattle.mas_complex.proofs.Looking.{look_side, look_next, look_stands, some_entries}
 use Rattle.mas_complex.proofs.Apart.{elsewhere_of, on_one}
+use Rattle.mas_complex.proofs.Papers.{stays_on_paper}
 use Rattle.mas_complex.proofs.complex.Complex.look_first.Goals as goal
 
 pub invariant_of-self-clause-kept : goal.invariant_of-self-clause-kept
@@ -93,3 +94,11 @@ pub returns-clause-apart : goal.returns-clause-apart
 returns-clause-apart g c told =
     let e = c.look-done.ensures in
     on_one Ckpt1 tt (g.P.Plant.view c.args.self.now.plant) (g.P.Plant.view c.look-done.new.plant) e.acted.goes (elsewhere_of Ckpt1 _ _ _ (e.during told))
+
+pub invariant_of-self-clause-paper : goal.invariant_of-self-clause-paper
+invariant_of-self-clause-paper g c told sound =
+    let s = c.args.self.now in
+    let old = g.P.Plant.view s.plant in
+    let new = g.P.Plant.view c.look-done.new.plant in
+    ∥∥₁_map₂ (s.kept told) (s.paper told sound) (λ kk on. stays_on_paper s.base s.since s.journal.batches s.current s.printed s.book s.book old new kk.started kk.settled kk.begun
+    c.look-done.ensures.acted.goes (λ t from le. ((c.look-done.ensures.during told).sides t from le).paper) (λ m up. up) on)

@@ -1,5 +1,5 @@
 use Rattle.std.proofs.Common.{refl, subst, ◌≡◌, false}
-use Rattle.std.proofs.Math.Logic.{∥∥₁_map}
+use Rattle.std.proofs.Math.Logic.{∥∥₁_map, ∥∥₁_map₂}
 use Rattle.mas_types.specs.declared.ids.Dev.TheVariants.{Ckpt1, Ckpt2}
 use Rattle.mas_complex.specs.Crash.{Setting, setting, copy_of}
 use Rattle.spool_disk.specs.View.{disk_now}
@@ -8,6 +8,7 @@ use Rattle.mas_complex.proofs.Apart.{elsewhere_of}
 use Rattle.mas_complex.proofs.Sides.{lose_side, on_first}
 use Rattle.mas_complex.proofs.Lost.{lost_later}
 use Rattle.mas_complex.proofs.Shows.{lose_first_bytes}
+use Rattle.mas_complex.proofs.Papers.{stays_on_paper}
 use Rattle.mas_complex.proofs.complex.Complex.lose_first.Goals as goal
 
 pub invariant_of-self-clause-kept : goal.invariant_of-self-clause-kept
@@ -41,3 +42,11 @@ pub returns-clause-elsewhere : goal.returns-clause-elsewhere
 returns-clause-elsewhere g c told =
     let old = g.P.Plant.view c.args.self.now.plant in
     elsewhere_of Ckpt1 (SameOrLost (disk_now old Ckpt1)) old (g.P.Plant.view c.lose.new.plant) (c.lose.ensures.during told)
+
+pub invariant_of-self-clause-paper : goal.invariant_of-self-clause-paper
+invariant_of-self-clause-paper g c told sound =
+    let s = c.args.self.now in
+    let old = g.P.Plant.view s.plant in
+    let new = g.P.Plant.view c.lose.new.plant in
+    ∥∥₁_map₂ (s.kept told) (s.paper told sound) (λ kk on. stays_on_paper s.base s.since s.journal.batches s.current s.printed s.book s.book old new kk.started kk.settled kk.begun
+    c.lose.ensures.loses.goes (λ t from le. ((c.lose.ensures.during told).sides t from le).paper) (λ m up. up) on)

@@ -1,4 +1,4 @@
-use Rattle.std.proofs.Math.Logic.{∥∥₁_map}
+use Rattle.std.proofs.Math.Logic.{∥∥₁_map, ∥∥₁_map₂}
 use Rattle.mas_types.specs.declared.ids.Dev.TheVariants.{Ckpt1, Ckpt2, Spool}
 use Rattle.spool_disk.specs.declared.plant.Part.TheVariants.{Disk as DiskPart}
 use Rattle.spool_disk.specs.View.{disk_now}
@@ -8,6 +8,7 @@ use Rattle.mas_complex.proofs.Lost.{lost_later}
 use Rattle.mas_complex.proofs.Making.{unlost}
 use Rattle.mas_complex.proofs.Apart.{elsewhere_lost, bytes_lost}
 use Rattle.mas_complex.proofs.SpoolActs.{spool_keep, stays_lost}
+use Rattle.mas_complex.proofs.Papers.{stays_on_paper, same_papers}
 use Rattle.mas_complex.proofs.complex.Complex.lose_volume.Goals as goal
 
 pub invariant_of-self-clause-kept : goal.invariant_of-self-clause-kept
@@ -41,3 +42,11 @@ returns-clause-elsewhere g c told = elsewhere_lost c.args.volume (g.P.Plant.view
 
 pub returns-clause-bytes : goal.returns-clause-bytes
 returns-clause-bytes g c told = bytes_lost c.args.volume (g.P.Plant.view c.args.self.now.plant) (g.P.Plant.view c.lose.new.self) (c.lose.ensures.content told)
+
+pub invariant_of-self-clause-paper : goal.invariant_of-self-clause-paper
+invariant_of-self-clause-paper g c told sound =
+    let s = c.args.self.now in
+    let old = g.P.Plant.view s.plant in
+    let new = g.P.Plant.view c.lose.new.self in
+    ∥∥₁_map₂ (s.kept told) (s.paper told sound) (λ kk on. stays_on_paper s.base s.since s.journal.batches s.current s.printed s.book s.book old new kk.started kk.settled kk.begun
+    c.lose.ensures.acts.goes (same_papers old new c.lose.ensures.acts.goes c.lose.ensures.acts.time (c.lose.ensures.content told).only.paper) (λ m up. up) on)

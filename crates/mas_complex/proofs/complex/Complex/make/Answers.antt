@@ -7,6 +7,7 @@ use Rattle.spool_disk.specs.View.{disk_now}
 use Rattle.mas_complex.proofs.Making.{make_keeps, unlost}
 use Rattle.mas_complex.proofs.First.{first_reads, leaves_base}
 use Rattle.mas_types.specs.declared.ids.Dev.TheVariants.{Ckpt1, Ckpt2, Spool}
+use Rattle.mas_complex.proofs.PaperEnds.{makes_paper}
 use Rattle.mas_complex.proofs.complex.Complex.make.Goals as goal
 
 pub invariant_of-result-clause-kept : goal.invariant_of-result-clause-kept
@@ -35,3 +36,8 @@ returns-clause-fresh g c told =
 
 pub invariant_of-result-clause-replied : goal.invariant_of-result-clause-replied
 invariant_of-result-clause-replied g c told = rw (c.new.ensures) (∣ tt ∣₁)
+
+pub invariant_of-result-clause-paper : goal.invariant_of-result-clause-paper
+invariant_of-result-clause-paper g c told sound =
+    let s = c.args in
+    rw (c.new.ensures) (∣ makes_paper s.base c.moment_of-since.result c.new_book_of-book.result (g.P.Plant.view s.plant) c.moment_of-since.ensures.now ∣₁)

@@ -1,5 +1,5 @@
 use Rattle.std.proofs.Common.{◌<◌, ◌+◌, ◌++◌, Some, arith, subst, ◌≡◌, ap, false}
-use Rattle.std.proofs.Math.Logic.{∥∥₁_map, ∥∥₁_elim, ∥∥₁_prop}
+use Rattle.std.proofs.Math.Logic.{∥∥₁_map, ∥∥₁_elim, ∥∥₁_prop, ∥∥₁_map₂}
 use Rattle.mas_types.specs.declared.ids.Dev.TheVariants.{Ckpt1, Ckpt2}
 use Rattle.spool_disk.specs.View.{disk_now}
 use Rattle.ckpt_copy.specs.Pages.{bytes_of, level}
@@ -13,6 +13,7 @@ use Rattle.mas_complex.proofs.Shows.{on_ok, put_shows}
 use Rattle.spool_disk.specs.Acts.{top}
 use Rattle.mas_complex.specs.Crash.{ReadsOne}
 use Rattle.mas_complex.proofs.Apart.{elsewhere_of, elsewhere_is}
+use Rattle.mas_complex.proofs.Papers.{stays_on_paper}
 use Rattle.mas_complex.proofs.complex.Complex.put_first.Goals as goal
 
 pub invariant_of-self-clause-kept : goal.invariant_of-self-clause-kept
@@ -106,3 +107,22 @@ returns-clause-behind g c =
     on_ok c.put-done.result e.held (λ held told now. ∥∥₁_elim (s.kept told) (Coded-set (coded_list coded_ℕ) _ _) (λ kk.
     put_shows S first.rests first.holds kk.was kk.coming first.place first.alive old.now (disk_now old Ckpt1) (disk_now new Ckpt1) kk.first_at (e.acted.alive now) (c.requires.place (e.acted.alive now)) (C.count s.pair.first.copy) c.args.changed.now pages (is_higher (level kk.was) (level pages) s.level kk.stands.at_level (c.requires.level told))
     (λ was r. c.requires.covered told (e.acted.alive now) was (g.met.C.Copying.rests_now s.pair.first.copy was (disk_now old Ckpt1) r)) first'.holds (λ was r. held told now was r) (C.behind p.first.copy) (λ was next x r. g.met.C.Copying.holds_behind p.first.copy was next x r)))
+
+pub invariant_of-self-clause-paper : goal.invariant_of-self-clause-paper
+invariant_of-self-clause-paper g c told sound =
+    let s = c.args.self.now in
+    let C = g.C.Copying in
+    let S : Setting = setting C.reads s.base s.since in
+    let first = copy_of (C.rests s.pair.first.copy) (C.holds s.pair.first.copy) s.pair.first.alive s.first in
+    let second = copy_of (C.rests s.pair.second.copy) (C.holds s.pair.second.copy) s.pair.second.alive s.second in
+    let old = g.P.Plant.view s.plant in
+    let new = g.P.Plant.view c.put-done.new.plant in
+    let p = c.put-done.new.self in
+    let first' = copy_of (C.rests p.first.copy) (C.holds p.first.copy) p.first.alive c.place_after-self.result in
+    let second' = copy_of (C.rests p.second.copy) (C.holds p.second.copy) p.second.alive s.second in
+    let e = c.put-done.ensures in
+    let K = kept_all s.journal.batches in
+    let F = entries_in s.current in
+    let pages = bytes_of c.args.pages.now in
+    ∥∥₁_map₂ (s.kept told) (s.paper told sound) (λ kk on. stays_on_paper s.base s.since s.journal.batches s.current s.printed s.book s.book old new kk.started kk.settled kk.begun
+    e.acted.goes (λ t from le. ((put_side S kk.was kk.coming Ckpt1 old new first.rests first'.rests first.holds first'.holds first.place first'.place first.alive first'.alive kk.first_at e.acted.goes e.acted.alive (λ dead. ap g.P.Plant.view (e.idle dead)) (e.gone told) g.P.Plant.tells told c.requires.place c.put-done.result pages (is_higher (level kk.was) (level pages) s.level kk.stands.at_level (c.requires.level told)) (e.during told) (C.count s.pair.first.copy) c.args.changed.now (λ is was r. c.requires.covered told is was (g.met.C.Copying.rests_now s.pair.first.copy was (disk_now old Ckpt1) r)) e.held (λ both. (e.both both).0) c.place_after-self.ensures).during.sides t from le).paper) (λ m up. up) on)

@@ -1,5 +1,5 @@
 use Rattle.std.proofs.Common.{arith}
-use Rattle.std.proofs.Math.Logic.{∥∥₁_map}
+use Rattle.std.proofs.Math.Logic.{∥∥₁_map, ∥∥₁_map₂}
 use Rattle.mas_types.specs.declared.ids.Dev.TheVariants.{Ckpt1, Ckpt2}
 use Rattle.spool_disk.specs.View.{disk_now}
 use Rattle.mas_complex.specs.Crash.{Setting, setting, copy_of}
@@ -8,6 +8,7 @@ use Rattle.mas_complex.proofs.Calm.{both_keep, more_reads, read_copy}
 use Rattle.mas_complex.proofs.Shows.{read_bytes}
 use Rattle.mas_complex.proofs.Apart.{on_both}
 use Rattle.mas_complex.proofs.Lost.{pair_lost}
+use Rattle.mas_complex.proofs.Papers.{stays_on_paper}
 use Rattle.mas_complex.proofs.complex.Complex.read_page.Goals as goal
 
 pub invariant_of-self-clause-kept : goal.invariant_of-self-clause-kept
@@ -51,3 +52,11 @@ returns-clause-apart g c told = on_both _ _ (g.P.Plant.view c.args.self.now.plan
 
 pub returns-clause-throughout : goal.returns-clause-throughout
 returns-clause-throughout g c told = (c.read_page.ensures.during told).others
+
+pub invariant_of-self-clause-paper : goal.invariant_of-self-clause-paper
+invariant_of-self-clause-paper g c told sound =
+    let s = c.args.self.now in
+    let old = g.P.Plant.view s.plant in
+    let new = g.P.Plant.view c.read_page.new.plant in
+    ∥∥₁_map₂ (s.kept told) (s.paper told sound) (λ kk on. stays_on_paper s.base s.since s.journal.batches s.current s.printed s.book s.book old new kk.started kk.settled kk.begun
+    c.read_page.ensures.acted.goes (λ t from le. ((c.read_page.ensures.during told).sides t from le).paper) (λ m up. up) on)

@@ -38,6 +38,12 @@ returns-clause-stands g c told =
       reads_second : c.give_fate.new.self.pair.second.alive ≡ true → g.C.Copying.reads (disk_now (g.P.Plant.view c.give_fate.new.self.plant) Ckpt2).bytes ≡ Some (bytes_of c.in-Some.found)
       reads_second is = search rules
 
+pub give_fate-requires-clause-second : goal.give_fate-requires-clause-second
+give_fate-requires-clause-second g c alive =
+    let same : level (bytes_of c.as_slice.result.now) ≡ c.pages_level.result = ap (λ (pages : List Page). level (bytes_of pages)) (c.as_slice.ensures ∙ sym c.as_slice-2.ensures) ∙ sym c.pages_level.ensures in
+    subst (λ (n : ℕ). IsAtLevel n c.bring.new.self.level c.bring.new.self.second) same
+    (subst (λ (n : ℕ). IsAtLevel (level (bytes_of c.as_slice.result.now)) n c.bring.new.self.second) (sym c.bring.ensures.level) (c.in_ok-bring.ensures.second alive).0)
+
 pub returns-in_default-clause-both_failed1 : goal.returns-in_default-clause-both_failed1
 returns-in_default-clause-both_failed1 g c is told alive =
     let P = g.P.Plant in

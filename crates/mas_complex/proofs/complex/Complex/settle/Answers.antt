@@ -1,5 +1,5 @@
 use Rattle.std.proofs.Common.{arith}
-use Rattle.std.proofs.Math.Logic.{∥∥₁_map, ∥∥₁_elim}
+use Rattle.std.proofs.Math.Logic.{∥∥₁_map, ∥∥₁_elim, ∥∥₁_map₂}
 use Rattle.std.specs.Coded.{Coded-set, coded_list, coded_option, coded_ℕ}
 use Rattle.mas_types.specs.declared.ids.Dev.TheVariants.{Ckpt1, Ckpt2}
 use Rattle.spool_disk.specs.View.{disk_now}
@@ -11,6 +11,7 @@ use Rattle.mas_complex.proofs.Calm.{both_keep, settle_rests, settle_reads, settl
 use Rattle.mas_complex.proofs.Lost.{pair_lost}
 use Rattle.mas_complex.proofs.Shows.{on_ok}
 use Rattle.mas_complex.proofs.Apart.{coded_disk, on_both, on_is}
+use Rattle.mas_complex.proofs.Papers.{stays_on_paper}
 use Rattle.mas_complex.proofs.complex.Complex.settle.Goals as goal
 
 pub invariant_of-self-clause-kept : goal.invariant_of-self-clause-kept
@@ -110,3 +111,23 @@ returns-clause-still2 g c =
     g.met.C.Copying.rests_now p.second.copy pages (disk_now new Ckpt2) (held told
     (settle_rests S kk.was kk.coming Ckpt1 old new first.rests (C.rests p.first.copy) first.holds (C.holds p.first.copy) first.place c.place_after-self.result first.alive p.first.alive pages kk.first_at c.requires.first (λ was d r. g.met.C.Copying.rests_now s.pair.first.copy was d r) (c.requires.reads1 told))
     (settle_rests S kk.was kk.coming Ckpt2 old new second.rests (C.rests p.second.copy) second.holds (C.holds p.second.copy) second.place c.place_after-self-2.result second.alive p.second.alive pages kk.second_at c.requires.second (λ was d r. g.met.C.Copying.rests_now s.pair.second.copy was d r) (c.requires.reads2 told)) now)))
+
+pub invariant_of-self-clause-paper : goal.invariant_of-self-clause-paper
+invariant_of-self-clause-paper g c told sound =
+    let s = c.args.self.now in
+    let C = g.C.Copying in
+    let S : Setting = setting C.reads s.base s.since in
+    let first = copy_of (C.rests s.pair.first.copy) (C.holds s.pair.first.copy) s.pair.first.alive s.first in
+    let second = copy_of (C.rests s.pair.second.copy) (C.holds s.pair.second.copy) s.pair.second.alive s.second in
+    let old = g.P.Plant.view s.plant in
+    let new = g.P.Plant.view c.settle-done.new.plant in
+    let p = c.settle-done.new.self in
+    let first' = copy_of (C.rests p.first.copy) (C.holds p.first.copy) p.first.alive c.place_after-self.result in
+    let second' = copy_of (C.rests p.second.copy) (C.holds p.second.copy) p.second.alive c.place_after-self-2.result in
+    let e = c.settle-done.ensures in
+    let pages = bytes_of c.args.pages.now in
+    ∥∥₁_map₂ (s.kept told) (s.paper told sound) (λ kk on.
+    let r1 = settle_rests S kk.was kk.coming Ckpt1 old new first.rests first'.rests first.holds first'.holds first.place first'.place first.alive first'.alive pages kk.first_at c.requires.first (λ was d r. g.met.C.Copying.rests_now s.pair.first.copy was d r) (c.requires.reads1 told) in
+    let r2 = settle_rests S kk.was kk.coming Ckpt2 old new second.rests second'.rests second.holds second'.holds second.place second'.place second.alive second'.alive pages kk.second_at c.requires.second (λ was d r. g.met.C.Copying.rests_now s.pair.second.copy was d r) (c.requires.reads2 told) in
+    let m = e.during told r1 r2 in
+    stays_on_paper s.base s.since s.journal.batches s.current s.printed s.book s.book old new kk.started kk.settled kk.begun m.goes (λ t from le. (m.sides t from le).paper) (λ n up. up) on)

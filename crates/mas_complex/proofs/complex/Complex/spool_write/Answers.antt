@@ -1,4 +1,4 @@
-use Rattle.std.proofs.Math.Logic.{∥∥₁_map}
+use Rattle.std.proofs.Math.Logic.{∥∥₁_map, ∥∥₁_map₂}
 use Rattle.mas_types.specs.declared.ids.Dev.TheVariants.{Ckpt1, Ckpt2, Spool}
 use Rattle.spool_disk.specs.declared.plant.Part.TheVariants.{Disk as DiskPart}
 use Rattle.spool_disk.specs.View.{disk_now}
@@ -8,6 +8,7 @@ use Rattle.mas_complex.specs.Crash.{Setting, setting, copy_of}
 use Rattle.mas_complex.proofs.Lost.{lost_later}
 use Rattle.mas_complex.proofs.Making.{unlost}
 use Rattle.mas_complex.proofs.SpoolActs.{spool_keep, stays_write}
+use Rattle.mas_complex.proofs.Papers.{stays_on_paper, same_papers}
 use Rattle.mas_complex.proofs.complex.Complex.spool_write.Goals as goal
 
 pub invariant_of-self-clause-kept : goal.invariant_of-self-clause-kept
@@ -35,3 +36,11 @@ pub invariant_of-self-clause-second_lost : goal.invariant_of-self-clause-second_
 invariant_of-self-clause-second_lost g c dead =
     let s = c.args.self.now in
     lost_later Ckpt2 s.pair.second.alive (g.P.Plant.view s.plant) (g.P.Plant.view c.write_group.new.plant) c.write_group.ensures.acts.goes s.second_lost dead
+
+pub invariant_of-self-clause-paper : goal.invariant_of-self-clause-paper
+invariant_of-self-clause-paper g c told sound =
+    let s = c.args.self.now in
+    let old = g.P.Plant.view s.plant in
+    let new = g.P.Plant.view c.write_group.new.plant in
+    ∥∥₁_map₂ (s.kept told) (s.paper told sound) (λ kk on. stays_on_paper s.base s.since s.journal.batches s.current s.printed s.book s.book old new kk.started kk.settled kk.begun
+    c.write_group.ensures.acts.goes (same_papers old new c.write_group.ensures.acts.goes c.write_group.ensures.acts.time (c.write_group.ensures.content told).only.paper) (λ m up. up) on)

@@ -1,0 +1,5 @@
+use Rattle.std.proofs.Math.Logic.{∥∥₁_map}
+use Rattle.mas_complex.proofs.complex.Complex.printed_lines.Goals as goal
+
+pub returns-clause-paper : goal.returns-clause-paper
+returns-clause-paper g c told sound = ∥∥₁_map (c.args.self.now.paper told sound) (λ on. on.kept_lines)

@@ -1,0 +1,53 @@
+//! How many lines each member has printed.
+ghost use Rattle.std.specs.Prelude.{◌≡◌, slice_set};
+ghost use Rattle.std.specs.List.{list_any};
+ghost use Rattle.paper_laws.specs.Counts.{begins_anew, counts_anew};
+ghost use Rattle.mas_complex.specs.Paper.{printed_after};
+
+use mas_types::{Command, Entry, MEMBERS_MOST, MemberId};
+
+/// A count for the operator, and one for each member.
+pub const COUNTS: usize = MEMBERS_MOST as usize + 1;
+
+// With these commands a member begins to count anew.
+fn is_anew(command: &Command) -> bool
+    ensures { result ≡ counts_anew command.now }
+{
+    matches!(
+        command,
+        Command::Pick | Command::Mark { .. } | Command::Back { .. } | Command::Forward { .. }
+    )
+}
+
+// The entry is such a command of the member.
+fn is_anew_of(entry: &Entry, by: MemberId) -> bool
+    ensures { result ≡ begins_anew by entry.now }
+{
+    entry.by == by && is_anew(&entry.command)
+}
+
+// One of the entries is such a command of the member.
+fn has_anew(entries: &[Entry], by: MemberId) -> bool
+    ensures { result ≡ list_any (begins_anew by) entries.now }
+{
+    entries.iter().any(|entry| is_anew_of(entry, by))
+}
+
+// A count falls to 0; one that isn't there stays away.
+#[tactic(auto, using(crate::proofs::Papers::past_same))]
+fn forget(printed: &mut [u32; COUNTS], at: usize)
+    ensures { printed.new ≡ slice_set printed.old at 0 }
+{
+    if at < COUNTS {
+        printed[at] = 0;
+    }
+}
+
+// The member begins to count anew, where it gives such a command.
+pub(crate) fn count_anew(printed: &mut [u32; COUNTS], by: MemberId, entries: &[Entry])
+    ensures { printed.new ≡ printed_after by entries.now printed.old }
+{
+    if has_anew(entries, by) {
+        forget(printed, by.0 as usize);
+    }
+}
