@@ -1,5 +1,5 @@
 -- The second batch of a deck's step: its job is entered with its text, or dropped.
-use Rattle.std.proofs.Common.{◌≡◌, ℕ, ◌≤◌, Bool, List, [], ◌∷◌, All, Option, None, Some, Result, refl, sym, subst, arith}
+use Rattle.std.proofs.Common.{◌≡◌, ℕ, ◌≤◌, Bool, false, List, [], ◌∷◌, All, Option, None, Some, Result, Ok, refl, sym, subst, arith}
 use Rattle.std.proofs.Math.Path.{fun_ext}
 use Rattle.std.proofs.lemmas.List.Elements.{All-nil, All-cons}
 use Rattle.mas_types.specs.declared.ids.Dev.TheVariants.{Spool}
@@ -29,6 +29,7 @@ use Rattle.mas_complex.specs.Texts.{HasTexts, IsThere, IsThereUnless, Spools, sp
 use Rattle.member_node.specs.declared.member.NodeNo.{NodeNo}
 use Rattle.member_node.specs.Calls.{IsOnlyOn}
 use Rattle.member_node.proofs.TextLemmas.{texts_after}
+use Rattle.paper_laws.specs.Counts.{is_mark}
 use Rattle.member_decks.specs.Decks.{finishing, given_in}
 use Rattle.member_decks.specs.Keeping.{IsFinish}
 
@@ -41,6 +42,14 @@ finishing_fit (Some volume) n text are = tt
 pub finishing_giver : (lost : Option ℕ) (n : JobNo) (text : List (List ℕ)) (m : MemberId) → 1 ≤ m.0 → m.0 ≤ members_most → IsGiver m (finishing lost n text)
 finishing_giver None n text m some few = (some, few)
 finishing_giver (Some volume) n text m some few = (some, few)
+
+-- where no volume was found lost none is named
+pub not_lost : (lost : Option ℕ) (volume : ℕ) (r : Result (Option ℕ) NodeNo) → lost ≡ Some volume → r ≡ Ok lost → r ≡ Ok None → ⊥
+not_lost lost volume r found is none = cc
+
+pub finishing_unmarked : (lost : Option ℕ) (n : JobNo) (text : List (List ℕ)) → is_mark (finishing lost n text) ≡ false
+finishing_unmarked None n text = refl
+finishing_unmarked (Some volume) n text = refl
 
 pub finishing_may : (lost : Option ℕ) (n : JobNo) (text : List (List ℕ)) (Q : Queue) (m : MemberId) → table.may_give Q m (command.Drop n) ≡ table.may_give Q m (finishing lost n text)
 finishing_may None n text Q m = refl

@@ -6,6 +6,7 @@ pub mod OpenLemmas
 pub mod BatchLemmas
 pub mod OutcomeLemmas
 pub mod PlayLemmas
+pub mod MayLemmas
 pub mod FinishLemmas
 pub mod KeepLemmas
 pub mod HoldLemmas

@@ -51,7 +51,7 @@ module _ (Q : Queue) (by : MemberId) (at : ℕ) where
   of_given cs es i are same = subst (λ (k : MemberId). All (λ (e : Entry). (e.by ≡ k) × (e.step ≡ at)) es) (sym same) (subst (All (λ (e : Entry). (e.by ≡ by) × (e.step ≡ at))) (sym are) (given_of by at cs Q))
 
 -- the first ones of entries that are of a step
-all_front : (P : Entry → Type 0) (es rest : List Entry) → All P (es ++ rest) → All P es
+pub all_front : (P : Entry → Type 0) (es rest : List Entry) → All P (es ++ rest) → All P es
 all_front P [] rest all = All-nil P
 all_front P (e ∷ es) rest all = All-cons P e es (All-head P e (es ++ rest) all) (all_front P es rest (All-tail P e (es ++ rest) all))
 

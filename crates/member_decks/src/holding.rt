@@ -38,6 +38,7 @@ pub fn take_hold<P: Plant + Drop, C: Steady + Drop>(
     requires orders { orders_after (length complex.old.journal.batches) < too_high }
     requires level { complex.old.level < too_high }
     ensures base { complex.new.base ≡ complex.old.base }
+    ensures printed { complex.new.printed ≡ complex.old.printed }
     ensures since { complex.new.since ≡ complex.old.since }
     ensures book { complex.new.book ≡ complex.old.book }
     ensures journal { complex.new.journal ≡ complex.old.journal }

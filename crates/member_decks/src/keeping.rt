@@ -19,6 +19,7 @@ ghost use Rattle.member_node.specs.Copies.{RestsAt};
 ghost use Rattle.member_steps.specs.Steps.{AreAllKept, IsBetween, IsStep};
 ghost use Rattle.member_decks.specs.Decks.{closes as closes_lem, closing_reply, finishing as finishing_lem, lines_by};
 ghost use Rattle.member_decks.specs.Keeping.{GivesUpLeaves, IsOnCopies, KeepLeaves};
+ghost use Rattle.mas_complex.specs.Paper.{MayBegin, printed_after};
 
 use cmd_report::closing;
 use mas_complex::{Complex, Steady};
@@ -110,6 +111,7 @@ pub fn keep_batch<P: Plant + Drop, C: Steady + Drop>(
     requires rests2 { RestsAt P.tells complex.old.pair.second.alive complex.old.second (C.count complex.old.pair.second.copy) member.old.checkpoint.pages (C.reads (disk_now (P.view complex.old.plant) Ckpt2).bytes) }
     requires kept { AreAllKept complex.old.journal.batches (P.view complex.old.plant).now }
     requires untold { P.tells → IsUntold (setting C.reads complex.old.base complex.old.since) (P.view complex.old.plant) member.old.batch }
+    requires allowed { P.tells → MayBegin complex.old.base complex.old.journal.batches complex.old.printed member.old.batch }
     requires texts { P.tells → ∥ HasTexts (lost_now (P.view complex.old.plant)) (spools_at (P.view complex.old.plant) (P.view complex.old.plant).now) complex.old.base.config.groups (run complex.old.base (kept_all complex.old.journal.batches ++ member.old.batch)) ∥₁ }
     requires sound { P.tells → TellSound member.old.checkpoint.tables }
     requires level { member.old.checkpoint.level + 1 < 2 ^ 63 }
@@ -126,6 +128,7 @@ pub fn keep_batch<P: Plant + Drop, C: Steady + Drop>(
         (P.view complex.old.plant) (P.view complex.new.plant) result }
     ensures leaves { KeepLeaves result complex.old.journal.batches (end_of complex.new.placed complex.new.current complex.new.journal.batches)
         (begun (P.view complex.old.plant).now member.old.id member.old.batch) (P.view complex.new.plant).now }
+    ensures printed { OnOk result (complex.new.printed ≡ printed_after member.old.id member.old.batch complex.old.printed) }
     ensures unreserved { OnOk result (complex.new.reserved ≡ None) }
     ensures between { OnOk result (IsBetween P.tells complex.new.base complex.new.journal.batches complex.new.current complex.new.placed complex.new.level member.new.batch member.new.checkpoint) }
     ensures rests1 { OnOk result (RestsAt P.tells complex.new.pair.first.alive complex.new.first (C.count complex.new.pair.first.copy) member.new.checkpoint.pages (C.reads (disk_now (P.view complex.new.plant) Ckpt1).bytes)) }
@@ -161,6 +164,7 @@ pub(crate) fn give_up<P: Plant + Drop, C: Steady + Drop>(
     requires rests2 { RestsAt P.tells complex.old.pair.second.alive complex.old.second (C.count complex.old.pair.second.copy) member.old.checkpoint.pages (C.reads (disk_now (P.view complex.old.plant) Ckpt2).bytes) }
     requires kept { AreAllKept complex.old.journal.batches (P.view complex.old.plant).now }
     requires untold { P.tells → IsUntold (setting C.reads complex.old.base complex.old.since) (P.view complex.old.plant) member.old.batch }
+    requires allowed { P.tells → MayBegin complex.old.base complex.old.journal.batches complex.old.printed member.old.batch }
     requires texts { P.tells → ∥ HasTexts (lost_now (P.view complex.old.plant)) (spools_at (P.view complex.old.plant) (P.view complex.old.plant).now) complex.old.base.config.groups (run complex.old.base (kept_all complex.old.journal.batches ++ member.old.batch)) ∥₁ }
     requires sound { P.tells → TellSound member.old.checkpoint.tables }
     requires level { member.old.checkpoint.level + 1 < 2 ^ 63 }
@@ -208,6 +212,7 @@ pub(crate) fn close_deck<P: Plant + Drop, C: Steady + Drop>(
     requires rests2 { RestsAt P.tells complex.old.pair.second.alive complex.old.second (C.count complex.old.pair.second.copy) member.old.checkpoint.pages (C.reads (disk_now (P.view complex.old.plant) Ckpt2).bytes) }
     requires kept { AreAllKept complex.old.journal.batches (P.view complex.old.plant).now }
     requires untold { P.tells → IsUntold (setting C.reads complex.old.base complex.old.since) (P.view complex.old.plant) member.old.batch }
+    requires allowed { P.tells → MayBegin complex.old.base complex.old.journal.batches complex.old.printed member.old.batch }
     requires texts { P.tells → ∥ HasTexts (lost_now (P.view complex.old.plant)) (spools_at (P.view complex.old.plant) (P.view complex.old.plant).now) complex.old.base.config.groups (run complex.old.base (kept_all complex.old.journal.batches ++ member.old.batch)) ∥₁ }
     requires sound { P.tells → TellSound member.old.checkpoint.tables }
     requires level { member.old.checkpoint.level + 1 < 2 ^ 63 }

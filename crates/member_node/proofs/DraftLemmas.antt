@@ -14,14 +14,14 @@ and_both : (a b : Bool) → (a && b) ≡ true → (a ≡ true) × (b ≡ true)
 and_both true b e = (refl, e)
 and_both false b e = absurd (cc)
 
-same_length : (xs ys : List Page) → are_same xs ys ≡ true → length xs ≡ length ys
+pub same_length : (xs ys : List Page) → are_same xs ys ≡ true → length xs ≡ length ys
 same_length [] [] e = refl
 same_length [] (y ∷ ys) e = absurd (cc)
 same_length (x ∷ xs) [] e = absurd (cc)
 same_length (x ∷ xs) (y ∷ ys) e =
     let rest = same_length xs ys (and_both (bytes_eq x.0 y.0) (are_same xs ys) e).1 in omega (arith, rest)
 
-same_page : (xs ys : List Page) → are_same xs ys ≡ true → (p : ℕ) → page_in xs p ≡ page_in ys p
+pub same_page : (xs ys : List Page) → are_same xs ys ≡ true → (p : ℕ) → page_in xs p ≡ page_in ys p
 same_page [] [] e p = refl
 same_page [] (y ∷ ys) e p = absurd (cc)
 same_page (x ∷ xs) [] e p = absurd (cc)

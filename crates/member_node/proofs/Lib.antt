@@ -9,3 +9,4 @@ pub mod TextLemmas
 pub mod WriteLemmas
 pub mod ReadLemmas
 pub mod FitLemmas
+pub mod AlikeLemmas

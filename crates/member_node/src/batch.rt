@@ -19,6 +19,7 @@ ghost use Rattle.mas_complex.specs.Journals.{begun, entries_reserved, fated, kep
 ghost use Rattle.mas_complex.specs.Meaning.{StandFor, run};
 ghost use Rattle.mas_complex.specs.Texts.{HasTexts, lost_now, spools_at};
 ghost use Rattle.member_node.specs.Calls.{Apart};
+ghost use Rattle.mas_complex.specs.Paper.{MayBegin, printed_after};
 
 use duplex_pair::PairNo;
 use mas_complex::{Complex, Steady};
@@ -52,9 +53,11 @@ fn log_both<P: Plant + Drop, C: Steady + Drop>(
     requires exact2 { P.tells → complex.old.pair.second.alive ≡ true → (was : List ℕ) → C.reads (disk_now (P.view complex.old.plant) Ckpt2).bytes ≡ Some was → NamesOnly changed.now was (bytes_of pages.now) }
     requires level { P.tells → level (bytes_of pages.now) ≡ complex.old.level + 1 }
     requires untold { P.tells → IsUntold (setting C.reads complex.old.base complex.old.since) (P.view complex.old.plant) (entries_reserved complex.old.reserved) }
+    requires allowed { P.tells → MayBegin complex.old.base complex.old.journal.batches complex.old.printed (entries_reserved complex.old.reserved) }
     requires queue { P.tells → ∥ StandFor (run complex.old.base (kept_all complex.old.journal.batches ++ entries_reserved complex.old.reserved)) (bytes_of pages.now) ∥₁ }
     requires texts { P.tells → ∥ HasTexts (lost_now (P.view complex.old.plant)) (spools_at (P.view complex.old.plant) (P.view complex.old.plant).now) complex.old.base.config.groups (run complex.old.base (kept_all complex.old.journal.batches ++ entries_reserved complex.old.reserved)) ∥₁ }
     ensures base { complex.new.base ≡ complex.old.base }
+    ensures printed { complex.new.printed ≡ printed_after by (entries_reserved complex.old.reserved) complex.old.printed }
     ensures book { complex.new.book ≡ complex.old.book }
     ensures unreserved { complex.new.reserved ≡ None }
     ensures since { complex.new.since ≡ complex.old.since }
@@ -93,6 +96,7 @@ fn open_both<P: Plant + Drop, C: Steady + Drop>(
     requires room2 { complex.old.pair.second.alive ≡ true → 1 ≤ C.room complex.old.pair.second.copy }
     requires level { complex.old.level < top }
     ensures base { complex.new.base ≡ complex.old.base }
+    ensures printed { complex.new.printed ≡ complex.old.printed }
     ensures book { complex.new.book ≡ complex.old.book }
     ensures reserved { complex.new.reserved ≡ complex.old.reserved }
     ensures since { complex.new.since ≡ complex.old.since }
@@ -150,9 +154,11 @@ pub(crate) fn commit<P: Plant + Drop, C: Steady + Drop>(
     requires level { P.tells → level (bytes_of pages.now) ≡ complex.old.level + 1 }
     requires small { complex.old.level < top }
     requires untold { P.tells → IsUntold (setting C.reads complex.old.base complex.old.since) (P.view complex.old.plant) (entries_reserved complex.old.reserved) }
+    requires allowed { P.tells → MayBegin complex.old.base complex.old.journal.batches complex.old.printed (entries_reserved complex.old.reserved) }
     requires queue { P.tells → ∥ StandFor (run complex.old.base (kept_all complex.old.journal.batches ++ entries_reserved complex.old.reserved)) (bytes_of pages.now) ∥₁ }
     requires texts { P.tells → ∥ HasTexts (lost_now (P.view complex.old.plant)) (spools_at (P.view complex.old.plant) (P.view complex.old.plant).now) complex.old.base.config.groups (run complex.old.base (kept_all complex.old.journal.batches ++ entries_reserved complex.old.reserved)) ∥₁ }
     ensures base { complex.new.base ≡ complex.old.base }
+    ensures printed { complex.new.printed ≡ printed_after by (entries_reserved complex.old.reserved) complex.old.printed }
     ensures book { complex.new.book ≡ complex.old.book }
     ensures unreserved { complex.new.reserved ≡ None }
     ensures since { complex.new.since ≡ complex.old.since }

@@ -96,7 +96,7 @@ fn is_same_page(a: &Page, b: &Page) -> bool
     a.0 == b.0
 }
 
-fn same_pages(found: &[Page], other: &[Page]) -> bool
+pub(crate) fn same_pages(found: &[Page], other: &[Page]) -> bool
     ensures { result ≡ are_same found.now other.now }
 {
     if found.len() != other.len() {

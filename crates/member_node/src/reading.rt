@@ -12,6 +12,7 @@ ghost use Rattle.ckpt_pages.specs.Checkpoints.{IsCheckpoint, SpellSome};
 ghost use Rattle.ckpt_pages.specs.Shape.{page_count};
 ghost use Rattle.duplex_pair.specs.Halves.{SomeAlive};
 ghost use Rattle.duplex_pair.specs.Outcomes.{least_room};
+ghost use Rattle.mas_complex.specs.Fits.{are_same};
 ghost use Rattle.mas_complex.specs.Journals.{kept_all};
 ghost use Rattle.mas_complex.specs.Locking.{IsOperatorAway, MayAct};
 ghost use Rattle.mas_complex.specs.Meaning.{run};
@@ -21,6 +22,7 @@ ghost use Rattle.mas_complex.specs.declared.places.Place.TheVariants.{Before};
 ghost use Rattle.member_node.specs.Calls.{Course};
 ghost use Rattle.member_node.specs.Reads.{ArePagesOf, IsCalm, IsRead, IsReadWhole, MayGoOn, ReadsAs, StandAt, copies_alive, is_job_below, is_output_below};
 
+use crate::checkpoint::same_pages;
 use crate::member::{Member, NodeNo};
 use ckpt_pages::{PageNo, Tables, decode, first_bad, law_of_checkpoints, law_of_levels, levels_of};
 use duplex_pair::{PairNo, pages_level};
@@ -47,6 +49,7 @@ fn read_one<P: Plant + Drop, C: Steady + Drop>(
     requires page1 { complex.old.pair.first.alive ≡ true → page < C.count complex.old.pair.first.copy }
     requires page2 { complex.old.pair.second.alive ≡ true → page < C.count complex.old.pair.second.copy }
     ensures base { complex.new.base ≡ complex.old.base }
+    ensures printed { complex.new.printed ≡ complex.old.printed }
     ensures since { complex.new.since ≡ complex.old.since }
     ensures book { complex.new.book ≡ complex.old.book }
     ensures journal { complex.new.journal ≡ complex.old.journal }
@@ -84,6 +87,7 @@ fn read_from<P: Plant + Drop, C: Steady + Drop>(
     requires some { first < length room.old }
     requires few { length room.old ≤ pages_most }
     ensures base { complex.new.base ≡ complex.old.base }
+    ensures printed { complex.new.printed ≡ complex.old.printed }
     ensures since { complex.new.since ≡ complex.old.since }
     ensures book { complex.new.book ≡ complex.old.book }
     ensures journal { complex.new.journal ≡ complex.old.journal }
@@ -112,6 +116,7 @@ fn read_from<P: Plant + Drop, C: Steady + Drop>(
 fn lose_source<P: Plant + Drop, C: Steady + Drop>(complex: &mut Complex<P, C>)
     requires some { SomeAlive complex.old.pair.first.alive complex.old.pair.second.alive }
     ensures base { complex.new.base ≡ complex.old.base }
+    ensures printed { complex.new.printed ≡ complex.old.printed }
     ensures since { complex.new.since ≡ complex.old.since }
     ensures book { complex.new.book ≡ complex.old.book }
     ensures journal { complex.new.journal ≡ complex.old.journal }
@@ -138,6 +143,7 @@ fn lose_read<P: Plant + Drop, C: Steady + Drop>(complex: &mut Complex<P, C>) -> 
     requires some { SomeAlive complex.old.pair.first.alive complex.old.pair.second.alive }
     requires untold { P.tells → ⊥ }
     ensures base { complex.new.base ≡ complex.old.base }
+    ensures printed { complex.new.printed ≡ complex.old.printed }
     ensures since { complex.new.since ≡ complex.old.since }
     ensures book { complex.new.book ≡ complex.old.book }
     ensures journal { complex.new.journal ≡ complex.old.journal }
@@ -163,8 +169,26 @@ fn lose_read<P: Plant + Drop, C: Steady + Drop>(complex: &mut Complex<P, C>) -> 
     Err(NodeNo::BothLost)
 }
 
-// Whether the pages that were read spell tables. Where content is told they do, and stand for the queue after the kept batches.
-fn are_spelled<P: Plant + Drop, C: Steady + Drop>(complex: &Complex<P, C>, room: &[Page]) -> bool
+// Whether these pages spell tables. They need no test where they are alike to pages that do.
+fn spells(room: &[Page], own: &[Page]) -> bool
+    requires own { SpellSome own.now }
+    ensures good { result ≡ true → SpellSome room.now }
+    ensures bad { result ≡ false → SpellSome room.now → ⊥ }
+{
+    if same_pages(room, own) {
+        return true;
+    }
+    first_bad(room).is_none()
+}
+
+// Whether the pages that were read spell tables, as the member's own do. Where content is told they do, and stand for the queue after the
+// kept batches.
+fn are_spelled<P: Plant + Drop, C: Steady + Drop>(
+    complex: &Complex<P, C>,
+    room: &[Page],
+    own: &[Page],
+) -> bool
+    requires own { SpellSome own.now }
     requires config { P.tells → page_count (run complex.now.base (kept_all complex.now.journal.batches)).config ≡ length room.now }
     requires read { P.tells → ∥ IsReadWhole (run complex.now.base (kept_all complex.now.journal.batches)) complex.now.level complex.now.pair.first.alive complex.now.pair.second.alive
         (C.reads (disk_now (P.view complex.now.plant) Ckpt1).bytes) (C.reads (disk_now (P.view complex.now.plant) Ckpt2).bytes) room.now ∥₁ }
@@ -174,7 +198,7 @@ fn are_spelled<P: Plant + Drop, C: Steady + Drop>(complex: &Complex<P, C>, room:
     ensures reads2 { ReadsAs P.tells complex.now.pair.second.alive (C.reads (disk_now (P.view complex.now.plant) Ckpt2).bytes) (bytes_of room.now) }
     ensures stand { P.tells → ∥ StandAt (run complex.now.base (kept_all complex.now.journal.batches)) complex.now.level room.now ∥₁ }
 {
-    first_bad(room).is_none()
+    spells(room, own)
 }
 
 // The orders of the jobs are below this one.
@@ -254,6 +278,7 @@ impl Member {
         ensures plant { complex.new.plant ≡ complex.old.plant }
         ensures pair { complex.new.pair ≡ complex.old.pair }
         ensures base { complex.new.base ≡ complex.old.base }
+        ensures printed { complex.new.printed ≡ complex.old.printed }
         ensures since { complex.new.since ≡ complex.old.since }
         ensures journal { complex.new.journal ≡ complex.old.journal }
         ensures current { complex.new.current ≡ complex.old.current }
@@ -283,6 +308,7 @@ impl Member {
         ensures plant { complex.new.plant ≡ complex.old.plant }
         ensures pair { complex.new.pair ≡ complex.old.pair }
         ensures base { complex.new.base ≡ complex.old.base }
+        ensures printed { complex.new.printed ≡ complex.old.printed }
         ensures since { complex.new.since ≡ complex.old.since }
         ensures journal { complex.new.journal ≡ complex.old.journal }
         ensures current { complex.new.current ≡ complex.old.current }
@@ -312,6 +338,7 @@ impl Member {
         requires calm1 { IsCalm complex.old.pair.first.alive complex.old.first (C.count complex.old.pair.first.copy) (length self.old.room) }
         requires calm2 { IsCalm complex.old.pair.second.alive complex.old.second (C.count complex.old.pair.second.copy) (length self.old.room) }
         ensures base { complex.new.base ≡ complex.old.base }
+        ensures printed { complex.new.printed ≡ complex.old.printed }
         ensures since { complex.new.since ≡ complex.old.since }
         ensures book { complex.new.book ≡ complex.old.book }
         ensures journal { complex.new.journal ≡ complex.old.journal }
@@ -339,8 +366,9 @@ impl Member {
     }
 
     /// The second read, behind the first one: all other pages. It answers their number. Their bytes come into the member's room, and
-    /// their spelling is tested; the member's tables are as they were, until `catch_up` brings them up to these pages. A copy from which
-    /// a page came that is no spelling is lost, and all is read again from the other one; where content is told that doesn't come.
+    /// their spelling is tested, unless they are byte for byte the member's own pages; its tables are as they were, until `catch_up` brings
+    /// them up to these pages. A copy from which a page came that is no spelling is lost, and all is read again from the other one; where
+    /// content is told that doesn't come.
     ///
     /// After Ok the pages in the room are those that each copy reads which counts as alive, and stand for the queue after the kept
     /// batches. BothLost comes only where both copies count as lost at the end of the call, Halted only where the member was stopped in
@@ -349,6 +377,7 @@ impl Member {
         &mut self,
         complex: &mut Complex<P, C>,
     ) -> Result<u32, NodeNo>
+        requires drawn { AreDrawn self.old.checkpoint.tables self.old.checkpoint.level self.old.checkpoint.levels self.old.checkpoint.pages }
         requires may { MayAct complex.old.book self.old.id }
         requires some { 2 ≤ length self.old.room }
         requires few { length self.old.room ≤ pages_most }
@@ -358,6 +387,7 @@ impl Member {
         requires page { P.tells → (was : List ℕ) → ReadsAs P.tells complex.old.pair.first.alive (C.reads (disk_now (P.view complex.old.plant) Ckpt1).bytes) was
             → ReadsAs P.tells complex.old.pair.second.alive (C.reads (disk_now (P.view complex.old.plant) Ckpt2).bytes) was → ArePagesOf 0 1 was self.old.room }
         ensures base { complex.new.base ≡ complex.old.base }
+        ensures printed { complex.new.printed ≡ complex.old.printed }
         ensures since { complex.new.since ≡ complex.old.since }
         ensures book { complex.new.book ≡ complex.old.book }
         ensures journal { complex.new.journal ≡ complex.old.journal }
@@ -386,7 +416,11 @@ impl Member {
         let by = self.id;
         complex.kept_pages();
         read_from(complex, by, self.room.as_mut_slice(), 1)?;
-        while !are_spelled(complex, self.room.as_slice()) {
+        while !are_spelled(
+            complex,
+            self.room.as_slice(),
+            self.checkpoint.pages.as_slice(),
+        ) {
             lose_read(complex)?;
             read_from(complex, by, self.room.as_mut_slice(), 0)?;
         }
@@ -407,6 +441,7 @@ impl Member {
         requires rests1 { RestsAt P.tells complex.old.pair.first.alive complex.old.first (C.count complex.old.pair.first.copy) (pages_had self.now.behind self.now.room self.now.checkpoint.pages) (C.reads (disk_now (P.view complex.old.plant) Ckpt1).bytes) }
         requires rests2 { RestsAt P.tells complex.old.pair.second.alive complex.old.second (C.count complex.old.pair.second.copy) (pages_had self.now.behind self.now.room self.now.checkpoint.pages) (C.reads (disk_now (P.view complex.old.plant) Ckpt2).bytes) }
         ensures base { complex.new.base ≡ complex.old.base }
+        ensures printed { complex.new.printed ≡ complex.old.printed }
         ensures since { complex.new.since ≡ complex.old.since }
         ensures book { complex.new.book ≡ complex.old.book }
         ensures journal { complex.new.journal ≡ complex.old.journal }
@@ -440,8 +475,11 @@ impl Member {
     /// pages that it may go on from, though they spell tables: of another configuration, or with orders that aren't below the next one,
     /// or too high ones. The member is as it was then, and where nothing was read.
     ///
+    /// Its tables are those that its own pages were drawn from: where it read the same bytes they are up already, and stay.
+    ///
     /// NoMemory leaves the member as it was.
     pub fn catch_up(&mut self, alloc: Global) -> Result<bool, NoMemory>
+        requires drawn { AreDrawn self.old.checkpoint.tables self.old.checkpoint.level self.old.checkpoint.levels self.old.checkpoint.pages }
         requires spelled { self.old.behind ≡ true → SpellSome self.old.room }
         requires few { length self.old.room ≤ pages_most }
         ensures id { self.new.id ≡ self.old.id }
@@ -455,6 +493,9 @@ impl Member {
     {
         if !self.behind {
             return Ok(true);
+        }
+        if same_pages(self.room.as_slice(), self.checkpoint.pages.as_slice()) {
+            return Ok(self.stay_up());
         }
         let pages = self.room.as_slice();
         let tables = match decode(alloc, pages) {
@@ -473,6 +514,26 @@ impl Member {
         Ok(true)
     }
 
+    // It read the pages that it has: its tables are up, where it may go on from them.
+    fn stay_up(&mut self) -> bool
+        requires drawn { AreDrawn self.old.checkpoint.tables self.old.checkpoint.level self.old.checkpoint.levels self.old.checkpoint.pages }
+        requires same { are_same self.old.room self.old.checkpoint.pages ≡ true }
+        ensures id { self.new.id ≡ self.old.id }
+        ensures batch { self.new.batch ≡ self.old.batch }
+        ensures room { self.new.room ≡ self.old.room }
+        ensures refused { result ≡ false → (self.new ≡ self.old) × ((t : TablesLem) → IsCheckpoint self.old.room t → MayGoOn self.old.checkpoint.tables.config self.old.room t → ⊥) }
+        ensures up { result ≡ true → IsUpTo self.old.checkpoint.tables.config self.old.room self.new.checkpoint }
+        ensures here { result ≡ true → self.new.behind ≡ false }
+    {
+        let pages = self.room.as_slice();
+        let tables = &self.checkpoint.tables;
+        if !may_go_on(&tables.config, pages, tables) {
+            return false;
+        }
+        self.behind = false;
+        true
+    }
+
     /// Both reads, and the member's tables brought up to what they gave: what a member does that got the lock, before its first command.
     /// A copy from which it read what it can't go on from is lost, and all is read again; where content is told that doesn't come.
     ///
@@ -484,6 +545,7 @@ impl Member {
         alloc: Global,
         complex: &mut Complex<P, C>,
     ) -> Result<(), NodeNo>
+        requires drawn { AreDrawn self.old.checkpoint.tables self.old.checkpoint.level self.old.checkpoint.levels self.old.checkpoint.pages }
         requires may { MayAct complex.old.book self.old.id }
         requires nothing { self.old.batch ≡ [] }
         requires many { length self.old.room ≡ length self.old.checkpoint.pages }
@@ -497,6 +559,7 @@ impl Member {
         requires orders { orders_after (length complex.old.journal.batches) < too_high }
         requires level { complex.old.level < too_high }
         ensures base { complex.new.base ≡ complex.old.base }
+        ensures printed { complex.new.printed ≡ complex.old.printed }
         ensures since { complex.new.since ≡ complex.old.since }
         ensures book { complex.new.book ≡ complex.old.book }
         ensures journal { complex.new.journal ≡ complex.old.journal }
@@ -533,6 +596,7 @@ impl Member {
         &mut self,
         complex: &mut Complex<P, C>,
     ) -> Result<(), NodeNo>
+        requires drawn { AreDrawn self.old.checkpoint.tables self.old.checkpoint.level self.old.checkpoint.levels self.old.checkpoint.pages }
         requires may { MayAct complex.old.book self.old.id }
         requires some { 2 ≤ length self.old.room }
         requires few { length self.old.room ≤ pages_most }
@@ -540,6 +604,7 @@ impl Member {
         requires calm2 { IsCalm complex.old.pair.second.alive complex.old.second (C.count complex.old.pair.second.copy) (length self.old.room) }
         requires config { P.tells → page_count (run complex.old.base (kept_all complex.old.journal.batches)).config ≡ length self.old.room }
         ensures base { complex.new.base ≡ complex.old.base }
+        ensures printed { complex.new.printed ≡ complex.old.printed }
         ensures since { complex.new.since ≡ complex.old.since }
         ensures book { complex.new.book ≡ complex.old.book }
         ensures journal { complex.new.journal ≡ complex.old.journal }
@@ -569,6 +634,7 @@ impl Member {
 
     // Brings its tables up to what it read, where it may go on from that.
     fn is_caught_up(&mut self, alloc: Global) -> Result<bool, NodeNo>
+        requires drawn { AreDrawn self.old.checkpoint.tables self.old.checkpoint.level self.old.checkpoint.levels self.old.checkpoint.pages }
         requires spelled { self.old.behind ≡ true → SpellSome self.old.room }
         requires few { length self.old.room ≤ pages_most }
         ensures id { self.new.id ≡ self.old.id }

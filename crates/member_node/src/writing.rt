@@ -17,6 +17,7 @@ ghost use Rattle.mas_complex.specs.Meaning.{Closes, run};
 ghost use Rattle.mas_complex.specs.Texts.{HasTexts, lost_now, spools_at};
 ghost use Rattle.mas_complex.specs.Replies.{HaveReplies};
 ghost use Rattle.member_node.specs.declared.member.NodeNo.TheVariants.{Halted};
+ghost use Rattle.mas_complex.specs.Paper.{MayBegin, printed_after};
 
 use crate::batch::commit;
 use crate::checkpoint::{Draft, redraw};
@@ -60,6 +61,7 @@ impl Member {
         ensures plant { complex.new.plant ≡ complex.old.plant }
         ensures pair { complex.new.pair ≡ complex.old.pair }
         ensures base { complex.new.base ≡ complex.old.base }
+        ensures printed { complex.new.printed ≡ complex.old.printed }
         ensures since { complex.new.since ≡ complex.old.since }
         ensures book { complex.new.book ≡ complex.old.book }
         ensures current { complex.new.current ≡ complex.old.current }
@@ -108,11 +110,13 @@ impl Member {
         requires first { complex.old.first ≡ AtBefore }
         requires second { complex.old.second ≡ AtBefore }
         requires untold { P.tells → IsUntold (setting C.reads complex.old.base complex.old.since) (P.view complex.old.plant) (entries_reserved complex.old.reserved) }
+        requires allowed { P.tells → MayBegin complex.old.base complex.old.journal.batches complex.old.printed (entries_reserved complex.old.reserved) }
         requires texts { P.tells → ∥ HasTexts (lost_now (P.view complex.old.plant)) (spools_at (P.view complex.old.plant) (P.view complex.old.plant).now) complex.old.base.config.groups (run complex.old.base (kept_all complex.old.journal.batches ++ entries_reserved complex.old.reserved)) ∥₁ }
         requires draft { P.tells → ∥ IsDraftOf draft.now P.tells (run complex.old.base (kept_all complex.old.journal.batches)) (entries_reserved complex.old.reserved) complex.old.level self.now.checkpoint.pages ∥₁ }
         requires draft1 { IsDraftFor draft.now P.tells complex.old.pair.first.alive (C.count complex.old.pair.first.copy) (C.room complex.old.pair.first.copy) self.now.checkpoint.pages (C.reads (disk_now (P.view complex.old.plant) Ckpt1).bytes) }
         requires draft2 { IsDraftFor draft.now P.tells complex.old.pair.second.alive (C.count complex.old.pair.second.copy) (C.room complex.old.pair.second.copy) self.now.checkpoint.pages (C.reads (disk_now (P.view complex.old.plant) Ckpt2).bytes) }
         ensures base { complex.new.base ≡ complex.old.base }
+        ensures printed { complex.new.printed ≡ printed_after self.now.id (entries_reserved complex.old.reserved) complex.old.printed }
         ensures since { complex.new.since ≡ complex.old.since }
         ensures book { complex.new.book ≡ complex.old.book }
         ensures unreserved { complex.new.reserved ≡ None }
@@ -159,6 +163,7 @@ impl Member {
         requires told { P.tells → (m : MemberId) (s : ℕ) → Closes line.now m s → StepIsKept (complex.old.journal.batches ++ in_flight complex.old.current) (P.view complex.old.plant).now m s }
         ensures pair { complex.new.pair ≡ complex.old.pair }
         ensures base { complex.new.base ≡ complex.old.base }
+        ensures printed { complex.new.printed ≡ complex.old.printed }
         ensures since { complex.new.since ≡ complex.old.since }
         ensures book { complex.new.book ≡ complex.old.book }
         ensures journal { complex.new.journal ≡ complex.old.journal }

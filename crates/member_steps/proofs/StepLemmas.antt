@@ -1,5 +1,5 @@
 -- A step that gives a command, by how it ended.
-use Rattle.std.proofs.Common.{OnOk, IfOk, ◌≡◌, inl, inr, ℕ, ◌+◌, ◌≤◌, ◌++◌, Bool, true, List, [], ◌∷◌, length, map, take, Option, None, Result, Ok, Err, All, append-nil, refl, sym, ◌∙◌, ap, subst, arith}
+use Rattle.std.proofs.Common.{OnOk, IfOk, ◌≡◌, inl, inr, ℕ, ◌+◌, ◌≤◌, ◌++◌, Bool, true, false, List, [], ◌∷◌, length, map, take, Option, None, Result, Ok, Err, All, append-nil, refl, sym, ◌∙◌, ap, subst, arith}
 use Rattle.std.proofs.lemmas.List.Elements.{All-nil, All-cons, All-head, All-tail}
 use Rattle.mas_types.specs.declared.commands.Command.{Command}
 use Rattle.mas_types.specs.declared.journals.Batch.{Batch}
@@ -7,8 +7,10 @@ use Rattle.mas_types.specs.declared.journals.Entry.{Entry}
 use Rattle.mas_types.specs.declared.journals.Fate.TheVariants.{Kept}
 use Rattle.mas_types.specs.declared.ids.MemberId.{MemberId}
 use Rattle.mas_types.specs.declared.commands.Reply.{Reply}
+use Rattle.mas_types.specs.Fit.{IsFit}
 use Rattle.mas_types.specs.Limits.{page_bytes}
 use Rattle.mas_types.specs.Step.{may_give}
+use Rattle.paper_laws.specs.Counts.{is_mark}
 use Rattle.queue_laws.proofs.RunLaws.{give_alike, runs_keep_configuration}
 use Rattle.ckpt_pages.specs.declared.tables.Tables.{Tables}
 use Rattle.ckpt_pages.specs.Shape.{AreLevels, HasSpelling, page_count}
@@ -23,6 +25,8 @@ use Rattle.mas_complex.specs.Crash.{IsUntold, setting}
 use Rattle.mas_complex.specs.Headline.{whole}
 use Rattle.mas_complex.specs.Journals.{StepIsKept, begun, fated, in_flight, kept_all, with_last}
 use Rattle.mas_complex.specs.Meaning.{run}
+use Rattle.mas_complex.specs.Paper.{MayBegin}
+use Rattle.mas_complex.proofs.Allowed.{one_begins}
 use Rattle.mas_complex.proofs.BatchEnds.{with_last-append}
 use Rattle.member_node.specs.declared.checkpoint.Checkpoint.{Checkpoint}
 use Rattle.member_node.specs.declared.checkpoint.Draft.{Draft}
@@ -129,6 +133,12 @@ only_entry was is e one none = one ∙ ap (λ (es : List Entry). es ++ e ∷ [])
 -- who may give a command in a run may give it at a sound queue that tables tell which tell the run's queue
 pub may_alike : (t : Tables) (base : Queue) (es : List Entry) (s : TellSound t) → Tell t (run base es) → (m : MemberId) (c : Command) → may_give base m c ≡ true → may_give s.queue m c ≡ true
 may_alike t base es s told m c may = give_alike base s.queue m c (s.told.config ∙ sym told.config ∙ (runs_keep_configuration base es).config) may
+
+-- a batch of one command may begin that is no Mark
+pub begins_alone : (base : Queue) (js : List Batch) (printed : List ℕ) (m : MemberId) (at : ℕ) (c : Command) (r : Reply) (es : List Entry) → es ≡ entry_with m at c r ∷ [] → may_give base m c ≡ true → IsFit c → is_mark c ≡ false
+    → MayBegin base js printed es
+begins_alone base js printed m at c r es are may fit unmarked =
+    subst (λ (l : List Entry). MayBegin base js printed l) (sym are) (one_begins base js printed (entry_with m at c r) (record { by = may; fit = fit }) unmarked)
 
 -- texts after the command of a step
 pub step_texts : OthersLeaveTexts → ToldAreTheirOwn → (gone : ℕ → Bool) (disks : Spools) (per : ℕ) (base base1 : Queue) (was kept : List Batch) (t : Tables) (m : MemberId) (at : ℕ) (c : Command) (es : List Entry) → is_plain c ≡ true → TellSound t → Tell t (run base (kept_all was))

@@ -12,6 +12,7 @@ ghost use Rattle.queue_effect.specs.Standing.{AreFit};
 ghost use Rattle.member_node.specs.Batches.{CanDraw, HasDone};
 ghost use Rattle.member_node.specs.Copies.{RestsAt};
 ghost use Rattle.member_steps.specs.Steps.{AreAllKept, IsBetween, IsStep};
+ghost use Rattle.mas_complex.specs.Paper.{MayBegin, printed_after};
 
 use crate::telling::tell_lines;
 use mas_complex::{Complex, Steady};
@@ -49,6 +50,7 @@ pub fn play_batch<P: Plant + Drop, C: Steady + Drop>(
     requires texts { P.tells → ∥ HasTexts (lost_now (P.view complex.old.plant)) (spools_at (P.view complex.old.plant) (P.view complex.old.plant).now) complex.old.base.config.groups (run complex.old.base (kept_all complex.old.journal.batches ++ member.old.batch)) ∥₁ }
     requires kept { AreAllKept complex.old.journal.batches (P.view complex.old.plant).now }
     requires untold { P.tells → IsUntold (setting C.reads complex.old.base complex.old.since) (P.view complex.old.plant) member.old.batch }
+    requires allowed { P.tells → MayBegin complex.old.base complex.old.journal.batches complex.old.printed member.old.batch }
     requires level { member.old.checkpoint.level + 1 < 2 ^ 63 }
     requires room1 { complex.old.pair.first.alive ≡ true → 1 ≤ C.room complex.old.pair.first.copy }
     requires room2 { complex.old.pair.second.alive ≡ true → 1 ≤ C.room complex.old.pair.second.copy }
@@ -63,6 +65,7 @@ pub fn play_batch<P: Plant + Drop, C: Steady + Drop>(
         complex.old.journal.batches (end_of complex.new.placed complex.new.current complex.new.journal.batches)
         complex.old.pair.first.alive complex.new.pair.first.alive complex.old.pair.second.alive complex.new.pair.second.alive
         (P.view complex.old.plant) (P.view complex.new.plant) result }
+    ensures printed { OnOk result (complex.new.printed ≡ printed_after member.old.id member.old.batch complex.old.printed) }
     ensures unreserved { OnOk result (complex.new.reserved ≡ None) }
     ensures between { OnOk result (IsBetween P.tells complex.new.base complex.new.journal.batches complex.new.current complex.new.placed complex.new.level member.new.batch member.new.checkpoint) }
     ensures rests1 { OnOk result (RestsAt P.tells complex.new.pair.first.alive complex.new.first (C.count complex.new.pair.first.copy) member.new.checkpoint.pages (C.reads (disk_now (P.view complex.new.plant) Ckpt1).bytes)) }

@@ -17,6 +17,7 @@ ghost use Rattle.table_commands.specs.Given.{IsGiver, is_plain};
 ghost use Rattle.member_node.specs.Reads.{IsCalm, ReadsLow, orders_after, too_high};
 ghost use Rattle.member_steps.specs.Locked.{IsDenial, IsOpenTo, closing_of as closing_of_lem, denied_lines as denied_lines_lem};
 ghost use Rattle.member_steps.specs.Steps.{AreAllKept, GivesStep, IsAtLock, IsToldSound, entry_of};
+ghost use Rattle.paper_laws.specs.Counts.{is_mark};
 
 use crate::playing::play_command;
 use crate::telling::tell_lines;
@@ -67,6 +68,7 @@ pub fn deny<P: Plant + Drop, C: Steady + Drop>(
     requires kept { AreAllKept complex.old.journal.batches (P.view complex.old.plant).now }
     ensures pair { complex.new.pair ≡ complex.old.pair }
     ensures base { complex.new.base ≡ complex.old.base }
+    ensures printed { complex.new.printed ≡ complex.old.printed }
     ensures since { complex.new.since ≡ complex.old.since }
     ensures book { complex.new.book ≡ complex.old.book }
     ensures journal { complex.new.journal ≡ complex.old.journal }
@@ -106,6 +108,7 @@ pub fn play_locked<P: Plant + Drop, C: Steady + Drop>(
     requires command { IsFit command }
     requires giver { IsGiver member.old.id command }
     requires may_give { may_give complex.old.base member.old.id command ≡ true }
+    requires unmarked { is_mark command ≡ false }
     requires at_lock { IsAtLock complex.old.current complex.old.placed member.old.batch member.old.checkpoint member.old.room }
     requires calm1 { IsCalm complex.old.pair.first.alive complex.old.first (C.count complex.old.pair.first.copy) (length member.old.room) }
     requires calm2 { IsCalm complex.old.pair.second.alive complex.old.second (C.count complex.old.pair.second.copy) (length member.old.room) }

@@ -17,6 +17,7 @@ ghost use Rattle.table_commands.specs.Given.{IsGiver, is_plain};
 ghost use Rattle.member_node.specs.Batches.{HasDone};
 ghost use Rattle.member_node.specs.Copies.{RestsAt};
 ghost use Rattle.member_steps.specs.Steps.{AreAllKept, GivesStep, IsBetween, IsGiven, entry_of, step_lines};
+ghost use Rattle.paper_laws.specs.Counts.{is_mark};
 
 use crate::batches::play_batch;
 use mas_complex::{Complex, Steady};
@@ -75,6 +76,7 @@ pub fn play_command<P: Plant + Drop, C: Steady + Drop>(
     requires command { IsFit command }
     requires giver { IsGiver member.old.id command }
     requires may_give { may_give complex.old.base member.old.id command ≡ true }
+    requires unmarked { is_mark command ≡ false }
     requires here { member.old.behind ≡ false }
     requires between { IsBetween P.tells complex.old.base complex.old.journal.batches complex.old.current complex.old.placed complex.old.level member.old.batch member.old.checkpoint }
     requires rests1 { RestsAt P.tells complex.old.pair.first.alive complex.old.first (C.count complex.old.pair.first.copy) member.old.checkpoint.pages (C.reads (disk_now (P.view complex.old.plant) Ckpt1).bytes) }

@@ -21,6 +21,7 @@ pub fn tell_lines<P: Plant + Drop, C: Steady + Drop>(
     requires kept { AreAllKept complex.old.journal.batches (P.view complex.old.plant).now }
     ensures pair { complex.new.pair ≡ complex.old.pair }
     ensures base { complex.new.base ≡ complex.old.base }
+    ensures printed { complex.new.printed ≡ complex.old.printed }
     ensures since { complex.new.since ≡ complex.old.since }
     ensures book { complex.new.book ≡ complex.old.book }
     ensures journal { complex.new.journal ≡ complex.old.journal }

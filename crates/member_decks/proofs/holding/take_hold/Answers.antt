@@ -12,6 +12,9 @@ use Rattle.member_decks.proofs.holding.take_hold.Goals as goal
 
 -- THE READS
 
+pub read_in-requires-clause-drawn : goal.read_in-requires-clause-drawn
+read_in-requires-clause-drawn g c = c.requires.at_lock.drawn
+
 pub read_in-requires-clause-some : goal.read_in-requires-clause-some
 read_in-requires-clause-some g c = let a = c.requires.at_lock in omega (arith, a.many, a.drawn.spelled.count)
 

@@ -63,6 +63,11 @@ write-requires-clause-texts g c told =
     let e = c.ready.ensures in
     rw (e.plant, e.base, e.kept, c.in-Ok.ensures.reserved) (c.requires.texts told)
 
+pub write-requires-clause-allowed : goal.write-requires-clause-allowed
+write-requires-clause-allowed g c told =
+    let e = c.ready.ensures in
+    rw (e.base, e.kept, e.printed, c.in-Ok.ensures.reserved) (c.requires.allowed told)
+
 pub returns-clause-acts : goal.returns-clause-acts
 returns-clause-acts g c =
     let P = g.P.Plant in
@@ -84,6 +89,11 @@ returns-clause-leaves g c =
     let grown = c.in-Ok.ensures.grown c.requires.unplaced in
     let write = rw (e.id, e.plant, e.pair, c.in-Ok.ensures.reserved) at (c.in_ok-write.ensures.write x.journal.batches grown.0 grown.1) in
     write.journal
+
+pub returns-clause-printed : goal.returns-clause-printed
+returns-clause-printed g c =
+    let e = c.ready.ensures in
+    rw (e.id, e.printed, c.in-Ok.ensures.reserved) at c.write.ensures.printed
 
 pub returns-clause-between : goal.returns-clause-between
 returns-clause-between g c =

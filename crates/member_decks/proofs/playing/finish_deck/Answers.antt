@@ -15,9 +15,11 @@ use Rattle.mas_complex.specs.Meaning.{run}
 use Rattle.mas_complex.specs.Texts.{HasTexts, lost_now, spools_at}
 use Rattle.member_node.proofs.WriteLemmas.{none_out, run_append}
 use Rattle.member_steps.specs.Steps.{entry_of, entry_with, reply_to}
-use Rattle.member_steps.proofs.StepLemmas.{between_done, can_draw, only_entry, own_of_one, reply_is, some_of_one, step_named, step_unplayed}
+use Rattle.member_steps.proofs.StepLemmas.{begins_alone, between_done, can_draw, only_entry, own_of_one, reply_is, some_of_one, step_named, step_unplayed}
 use Rattle.member_decks.specs.Decks.{closing_reply, finishing, given_in, lines_by}
-use Rattle.member_decks.proofs.FinishLemmas.{finished_texts, finishing_fit, finishing_giver, finishing_may, one_named, one_of}
+use Rattle.member_decks.proofs.FinishLemmas.{finished_texts, finishing_fit, finishing_giver, finishing_may, finishing_unmarked, one_named, one_of}
+use Rattle.queue_laws.proofs.RunLaws.{runs_keep_configuration}
+use Rattle.paper_laws.specs.Counts.{is_mark}
 use Rattle.member_decks.proofs.playing.finish_deck.Goals as goal
 
 pub do_command-requires-clause-command : goal.do_command-requires-clause-command
@@ -106,6 +108,21 @@ close_deck-requires-clause-untold g c told =
     let e = entry_with m.id c.args.step c.finishing-command.result p.0 in
     let batch = only_entry m.batch n.batch e p.1 c.requires.between.nothing in
     c.requires.untold told n.batch (one_of n.batch e m.id c.args.step batch refl refl)
+
+pub close_deck-requires-clause-allowed : goal.close_deck-requires-clause-allowed
+close_deck-requires-clause-allowed g c told =
+    let x = c.args.complex.now in
+    let m = c.args.member.now in
+    let n = c.do_command.new.self in
+    let p = c.in-Ok.ensures.pushed in
+    let e = entry_with m.id c.args.step c.finishing-command.result p.0 in
+    let batch = only_entry m.batch n.batch e p.1 c.requires.between.nothing in
+    let same : m.checkpoint.tables.config ≡ x.base.config = sym (c.requires.between.queue told).config ∙ (runs_keep_configuration x.base (kept_all x.journal.batches)).config in
+    let may : may_give x.base m.id (command.Drop c.args.job) ≡ true = ap (λ (k : Config). is_member k m.id) (sym same) ∙ c.requires.member in
+    begins_alone x.base x.journal.batches x.printed m.id c.args.step c.finishing-command.result p.0 n.batch batch
+    (ap (may_give x.base m.id) c.finishing-command.ensures ∙ sym (finishing_may c.args.lost c.args.job c.args.text x.base m.id) ∙ may)
+    (subst IsFit (sym c.finishing-command.ensures) (finishing_fit c.args.lost c.args.job c.args.text c.requires.text))
+    (ap is_mark c.finishing-command.ensures ∙ finishing_unmarked c.args.lost c.args.job c.args.text)
 
 pub close_deck-requires-clause-texts : goal.close_deck-requires-clause-texts
 close_deck-requires-clause-texts g c told =

@@ -28,6 +28,7 @@ use Rattle.member_decks.proofs.DeckLemmas.{opened_enough}
 use Rattle.member_decks.proofs.HoldLemmas.{book_by}
 use Rattle.member_decks.proofs.HoldingLemmas.{low_deck, low_opened}
 use Rattle.member_decks.proofs.OpenLemmas.{on_ok, tells_some}
+use Rattle.member_decks.proofs.MayLemmas.{front_begins, opening_begins}
 use Rattle.member_decks.proofs.OutcomeLemmas.{deck_closed, deck_cut, deck_first, deck_joined}
 use Rattle.member_decks.proofs.PageLemmas.{still_roomy}
 use Rattle.member_decks.proofs.PlayLemmas.{closed_of, groups_few, of_front, of_given, own_by, queue_next, rest_named, some_given}
@@ -110,6 +111,14 @@ give_up-requires-clause-untold g c told =
     let o = c.in_default.ensures.opening sh.0 sh.1 in
     let own : AreOf m.id c.args.step n.batch = of_front sh.0 m.id c.args.step (opening sh.0 m.id c.args.fields c.groups_needed-groups.result) n.batch o.part in
     c.requires.untold told n.batch own
+
+pub give_up-requires-clause-allowed : goal.give_up-requires-clause-allowed
+give_up-requires-clause-allowed g c told =
+    let x = c.args.complex.now in
+    let m = c.args.member.now in
+    let sh = tells_some m.checkpoint.tables in
+    let o = c.in_default.ensures.opening sh.0 sh.1 in
+    front_begins x.base m.id c.requires.member x.journal.batches x.printed c.args.step sh.0 c.args.fields c.groups_needed-groups.result c.requires.fields c.open_deck.new.member.batch o.part
 
 pub give_up-requires-clause-texts : goal.give_up-requires-clause-texts
 give_up-requires-clause-texts g c told =
@@ -240,6 +249,14 @@ close_deck-requires-clause-untold g c told =
     let o = c.in-Ok.ensures.opening sh.0 sh.1 in
     let own : AreOf m.id c.args.step n.batch = of_given sh.0 m.id c.args.step (opening sh.0 m.id c.args.fields c.groups_needed-groups.result) n.batch m.id o.part refl in
     c.requires.untold told n.batch own
+
+pub close_deck-requires-clause-allowed : goal.close_deck-requires-clause-allowed
+close_deck-requires-clause-allowed g c told =
+    let x = c.args.complex.now in
+    let m = c.args.member.now in
+    let sh = tells_some m.checkpoint.tables in
+    let o = c.in-Ok.ensures.opening sh.0 sh.1 in
+    opening_begins x.base m.id c.requires.member x.journal.batches x.printed c.args.step sh.0 c.args.fields c.groups_needed-groups.result c.requires.fields c.open_deck.new.member.batch o.part
 
 pub close_deck-requires-clause-texts : goal.close_deck-requires-clause-texts
 close_deck-requires-clause-texts g c told =
@@ -403,6 +420,14 @@ keep_batch-requires-clause-untold g c told =
     let o = c.in-Ok.ensures.opening sh.0 sh.1 in
     let own : AreOf m.id c.args.step n.batch = of_given sh.0 m.id c.args.step (opening sh.0 m.id c.args.fields c.groups_needed-groups.result) n.batch m.id o.part refl in
     c.requires.untold told n.batch own
+
+pub keep_batch-requires-clause-allowed : goal.keep_batch-requires-clause-allowed
+keep_batch-requires-clause-allowed g c told =
+    let x = c.args.complex.now in
+    let m = c.args.member.now in
+    let sh = tells_some m.checkpoint.tables in
+    let o = c.in-Ok.ensures.opening sh.0 sh.1 in
+    opening_begins x.base m.id c.requires.member x.journal.batches x.printed c.args.step sh.0 c.args.fields c.groups_needed-groups.result c.requires.fields c.open_deck.new.member.batch o.part
 
 pub keep_batch-requires-clause-texts : goal.keep_batch-requires-clause-texts
 keep_batch-requires-clause-texts g c told =

@@ -1,4 +1,4 @@
-use Rattle.std.proofs.Common.{◌≡◌, ◌∙◌, List, All, length, take, ap, subst, sym}
+use Rattle.std.proofs.Common.{◌≡◌, ◌∙◌, List, All, Ok, length, take, refl, ap, subst, sym}
 use Rattle.mas_types.specs.declared.ids.GroupNo.{GroupNo}
 use Rattle.mas_types.specs.declared.queues.Config.{Config}
 use Rattle.mas_types.specs.declared.queues.Queue.{Queue}
@@ -8,8 +8,10 @@ use Rattle.mas_complex.specs.Journals.{kept_all}
 use Rattle.mas_complex.specs.Meaning.{run}
 use Rattle.mas_complex.specs.Spool.{IsGroupOf, IsHeldBy}
 use Rattle.member_decks.specs.Spooling.{Rise}
+use Rattle.member_decks.proofs.FinishLemmas.{not_lost}
 use Rattle.member_decks.proofs.HeldLemmas.{all_held, all_within, as_many_held, lowest_rise}
 use Rattle.member_decks.proofs.playing.spool_deck.Goals as goal
+use Rattle.member_decks.proofs.playing.spool_deck.Goals.{in-Ok-spool_text, in-Err-Lost}
 
 pub slice_bounds-spool_text-end : goal.slice_bounds-spool_text-end
 slice_bounds-spool_text-end g c =
@@ -44,3 +46,16 @@ spool_text-requires-clause-held g c told =
     let list : c.as_slice-2.result.now ≡ held_by m.id m.checkpoint.tables.owners = c.as_slice-2.ensures ∙ c.in-Ok.ensures ∙ ap (held_by m.id) c.as_slice.ensures in
     let owners : (run y.base (kept_all y.journal.batches)).owners ≡ m.checkpoint.tables.owners = rw (c.free.ensures.base, c.free.ensures.journal) (c.requires.owners told) in
     subst (λ (l : List GroupNo). All (λ h. IsHeldBy m.id h (run y.base (kept_all y.journal.batches))) (take c.args.groups l)) (sym list) (all_held m.id m.checkpoint.tables.owners c.args.groups (run y.base (kept_all y.journal.batches)) owners)
+
+pub returns-clause-there : goal.returns-clause-there
+returns-clause-there g c is told roomy =
+    let P = g.P.Plant in
+    let m = c.args.member.now in
+    let x = c.args.complex.now in
+    let list : c.as_slice-2.result.now ≡ held_by m.id (run x.base (kept_all x.journal.batches)).owners = c.as_slice-2.ensures ∙ c.in-Ok.ensures ∙ ap (held_by m.id) (c.as_slice.ensures ∙ sym (c.requires.owners told)) in
+    elim c.match-spool_text.branch [
+      | in-Ok-spool_text w ↦
+          let there = rw (c.free.ensures.plant, c.free.ensures.base, list) at w.in-Ok-spool_text.ensures.there in
+          rw c.try_lock.ensures.plant (there told roomy)
+      | in-Err-Lost w ↦ absurd (not_lost c.match-spool_text.lost w.in-Err-Lost.volume (Ok c.match-spool_text.lost) w.lost-is refl is)
+    ]

@@ -5,7 +5,7 @@ use Rattle.mas_types.specs.declared.ids.Dev.TheVariants.{Ckpt1, Ckpt2}
 use Rattle.spool_disk.specs.View.{disk_now}
 use Rattle.mas_complex.specs.Journals.{kept_all}
 use Rattle.mas_complex.specs.Meaning.{run}
-use Rattle.member_node.proofs.ReadLemmas.{some_is_bad, whole_bytes, whole_spells, whole_stands}
+use Rattle.member_node.proofs.ReadLemmas.{whole_bytes, whole_spells, whole_stands}
 use Rattle.member_node.proofs.reading.are_spelled.Goals as goal
 
 pub returns-clause-bad : goal.returns-clause-bad
@@ -14,7 +14,7 @@ returns-clause-bad g c not told =
     let C = g.C.Copying in
     let x = c.args.complex.now in
     let v = P.view x.plant in
-    ∥∥₁_elim (c.requires.read told) (λ a b. absurd a) (λ w. some_is_bad c.args.room.now c.first_bad.result c.is_none.result c.is_none.ensures not c.first_bad.ensures.bad
+    ∥∥₁_elim (c.requires.read told) (λ a b. absurd a) (λ w. c.spells.ensures.bad not
     (whole_spells (run x.base (kept_all x.journal.batches)) x.level x.pair.first.alive x.pair.second.alive (C.reads (disk_now v Ckpt1).bytes) (C.reads (disk_now v Ckpt2).bytes) c.args.room.now (c.requires.config told) w))
 
 pub returns-clause-reads1 : goal.returns-clause-reads1

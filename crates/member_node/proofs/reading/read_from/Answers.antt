@@ -9,6 +9,7 @@ loop-page-init g c =
     let x = c.args.complex.now in
     record {
       base = refl;
+      printed = refl;
       since = refl;
       book = refl;
       journal = refl;
@@ -33,6 +34,7 @@ loop-page-preserved g c =
     let e = c.in_ok-read_one.ensures in
     record {
       base = e.base ∙ i.base;
+      printed = e.printed ∙ i.printed;
       since = e.since ∙ i.since;
       book = e.book ∙ i.book;
       journal = e.journal ∙ i.journal;

@@ -10,6 +10,7 @@ invariant-loop-page g l =
     let z = l.complex in
     record {
       base : z.base ≡ x.base;
+      printed : z.printed ≡ x.printed;
       since : z.since ≡ x.since;
       book : z.book ≡ x.book;
       journal : z.journal ≡ x.journal;

@@ -9,6 +9,7 @@ use Rattle.ckpt_pages.specs.declared.tables.Tables.{Tables}
 use Rattle.table_queues.specs.Telling.{Tell, TellSound}
 use Rattle.mas_complex.specs.Journals.{begun, end_of, entries_reserved, fated, kept_all}
 use Rattle.mas_complex.specs.Meaning.{run}
+use Rattle.mas_complex.specs.Paper.{printed_after}
 use Rattle.member_node.specs.Batches.{level_with}
 use Rattle.member_node.proofs.WriteLemmas.{none_out, queue_kept}
 use Rattle.member_steps.specs.Steps.{AreAllKept}
@@ -51,6 +52,11 @@ write-requires-clause-texts g c told =
     let e = c.ready.ensures in
     rw (e.plant, e.base, e.kept, c.in-Ok.ensures.reserved) (c.requires.texts told)
 
+pub write-requires-clause-allowed : goal.write-requires-clause-allowed
+write-requires-clause-allowed g c told =
+    let e = c.ready.ensures in
+    rw (e.base, e.kept, e.printed, c.in-Ok.ensures.reserved) (c.requires.allowed told)
+
 pub tell_lines-requires-clause-up : goal.tell_lines-requires-clause-up
 tell_lines-requires-clause-up g c = rw (c.write.ensures.book, c.ready.ensures.book, c.ready.ensures.id) c.requires.may.up
 
@@ -84,6 +90,14 @@ returns-clause-step g c =
     rw (t.placed, t.current, t.journal, t.pair)
     (step_told P.tells by.0 c.args.lines.now (begun (P.view x.plant).now by c.args.member.now.batch)
     x.journal.batches (end_of z.placed z.current z.journal.batches) x.pair.first.alive z.pair.first.alive x.pair.second.alive z.pair.second.alive (P.view x.plant) (P.view z.plant) write (P.view w.plant) c.tell_lines.result said)
+
+pub returns-clause-printed : goal.returns-clause-printed
+returns-clause-printed g c =
+    let x = c.args.complex.now in
+    let m = c.args.member.now in
+    let e = c.ready.ensures in
+    let k : c.write.new.complex.printed ≡ printed_after m.id m.batch x.printed = rw (e.id, e.printed, c.in-Ok.ensures.reserved) at c.write.ensures.printed in
+    ok_of c.tell_lines.result (c.tell_lines.ensures.printed ∙ k)
 
 pub returns-clause-unreserved : goal.returns-clause-unreserved
 returns-clause-unreserved g c = ok_of c.tell_lines.result (c.tell_lines.ensures.reserved ∙ c.write.ensures.unreserved)

@@ -138,6 +138,9 @@ read_in-requires-clause-may g c =
     let x = c.args.complex.now in
     rw c.lock.ensures.book (may_act x.book x.reserved c.args.member.now.id c.requires.lock c.in_default.ensures.ok)
 
+pub read_in-requires-clause-drawn : goal.read_in-requires-clause-drawn
+read_in-requires-clause-drawn g c = c.requires.at_lock.drawn
+
 pub read_in-requires-clause-some : goal.read_in-requires-clause-some
 read_in-requires-clause-some g c = let a = c.requires.at_lock in omega (arith, a.many, a.drawn.spelled.count)
 

@@ -7,7 +7,7 @@ use Rattle.mas_complex.specs.Texts.{lost_now, spools_at}
 use Rattle.member_node.specs.Lines.{reply_lines}
 use Rattle.member_node.proofs.WriteLemmas.{none_out}
 use Rattle.member_steps.specs.Steps.{entry_of, entry_with, reply_to}
-use Rattle.member_steps.proofs.StepLemmas.{between_done, can_draw, may_alike, own_of_one, reply_is, some_of_one, step_named, step_texts, step_unplayed, untold_by}
+use Rattle.member_steps.proofs.StepLemmas.{begins_alone, between_done, can_draw, may_alike, own_of_one, reply_is, some_of_one, step_named, step_texts, step_unplayed, untold_by}
 use Rattle.member_steps.proofs.playing.play_command.Goals as goal
 
 pub returns-in_default-clause-step : goal.returns-in_default-clause-step
@@ -70,6 +70,12 @@ play_batch-requires-clause-untold g c told =
     let v = g.P.Plant.view x.plant in
     let Q : Queue = run x.base (kept_all x.journal.batches) in
     untold_by g.C.Copying.reads x.base x.base x.since x.since v v (entry_of Q m.id c.args.step c.args.command ∷ []) c.give.new.member.batch refl refl refl (c.in-Ok.ensures.entry Q (c.requires.between.queue told)) (c.requires.untold told)
+
+pub play_batch-requires-clause-allowed : goal.play_batch-requires-clause-allowed
+play_batch-requires-clause-allowed g c told =
+    let x = c.args.complex.now in
+    let given = c.in-Ok.ensures.given in
+    begins_alone x.base x.journal.batches x.printed c.args.member.now.id c.args.step c.args.command given.0 c.give.new.member.batch given.2 c.requires.may_give c.requires.command c.requires.unmarked
 
 pub play_batch-requires-clause-level : goal.play_batch-requires-clause-level
 play_batch-requires-clause-level g c = subst (λ (n : ℕ). n + 1 < 2 ^ 63) (sym c.give.ensures.level) c.requires.level

@@ -15,6 +15,7 @@ loop-at-init g c =
     record {
       pair = refl;
       base = refl;
+      printed = refl;
       since = refl;
       book = refl;
       journal = refl;
@@ -50,6 +51,7 @@ loop-at-preserved g c =
     record {
       pair = e.pair ∙ i.pair;
       base = e.base ∙ i.base;
+      printed = e.printed ∙ i.printed;
       since = e.since ∙ i.since;
       book = e.book ∙ i.book;
       journal = e.journal ∙ i.journal;

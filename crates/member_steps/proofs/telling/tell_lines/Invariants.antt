@@ -12,6 +12,7 @@ invariant-loop-at g l =
     record {
       pair : y.pair ≡ x.pair;
       base : y.base ≡ x.base;
+      printed : y.printed ≡ x.printed;
       since : y.since ≡ x.since;
       book : y.book ≡ x.book;
       journal : y.journal ≡ x.journal;

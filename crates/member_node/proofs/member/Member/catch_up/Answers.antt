@@ -1,9 +1,20 @@
-use Rattle.std.proofs.Common.{sym, refl, subst}
+use Rattle.std.proofs.Common.{◌≡◌, ℕ, sym, refl, subst}
+use Rattle.ckpt_pages.specs.declared.entries.PageNo.{PageNo}
+use Rattle.ckpt_pages.specs.declared.entries.PageNo.TheVariants.{BadPage, NoMemory}
 use Rattle.ckpt_pages.specs.Checkpoints.{IsCheckpoint}
 use Rattle.ckpt_pages.proofs.DecodingLemmas.{one_value}
 use Rattle.member_node.specs.Reads.{MayGoOn}
 use Rattle.member_node.proofs.ReadLemmas.{up_to}
 use Rattle.member_node.proofs.member.Member.catch_up.Goals as goal
+
+not_bad : (e : PageNo) (p : ℕ) → e ≡ BadPage p → e ≡ NoMemory → ⊥
+not_bad e p one two = cc
+
+pub unreachable-requires : goal.unreachable-requires
+unreachable-requires c =
+    let some = c.requires.spelled c.if-not-self.false in
+    let e = c.in-Err-BadPage in
+    not_bad e.field-0 e.field-0-0 e.field-0-is (e.ensures.only some.0 (rw c.as_slice-pages.ensures some.1))
 
 pub returns-then-not-may_go_on-clause-refused : goal.returns-then-not-may_go_on-clause-refused
 returns-then-not-may_go_on-clause-refused c is_false = (

@@ -1,7 +1,12 @@
-use Rattle.std.proofs.Common.{ℕ}
+use Rattle.std.proofs.Common.{ℕ, sym, subst}
 use Rattle.std.proofs.lemmas.Result.{err_from_is_err_and}
+use Rattle.member_node.specs.declared.checkpoint.Checkpoint.{Checkpoint}
+use Rattle.member_node.specs.Drawn.{AreDrawn}
 use Rattle.member_node.proofs.ReadLemmas.{error_later, read_then}
 use Rattle.member_node.proofs.member.Member.read_all.Goals as goal
+
+pub second_read-requires-clause-drawn : goal.second_read-requires-clause-drawn
+second_read-requires-clause-drawn g c = subst (λ (k : Checkpoint). AreDrawn k.tables k.level k.levels k.pages) (sym c.first_read.ensures.checkpoint) c.requires.drawn
 
 pub returns-in_err-second_read-clause-read : goal.returns-in_err-second_read-clause-read
 returns-in_err-second_read-clause-read g c =

@@ -8,9 +8,19 @@ use Rattle.mas_complex.specs.Meaning.{run}
 use Rattle.ckpt_pages.proofs.DecodingLemmas.{one_value}
 use Rattle.member_node.specs.declared.checkpoint.Checkpoint.{Checkpoint}
 use Rattle.member_node.specs.declared.member.Member.{Member}
+use Rattle.member_node.specs.Drawn.{AreDrawn}
 use Rattle.member_node.specs.Reads.{HasRead, AreLow, MayGoOn, copies_alive}
 use Rattle.member_node.proofs.ReadLemmas.{fewer_then, in_error, in_lost, in_memory, low_goes, low_of, read_then, same_pages, tell_up_to}
 use Rattle.member_node.proofs.member.Member.read_in.Goals as goal
+
+pub is_caught_up-requires-clause-drawn : goal.is_caught_up-requires-clause-drawn
+is_caught_up-requires-clause-drawn g c = subst (λ (k : Checkpoint). AreDrawn k.tables k.level k.levels k.pages) (sym c.loop-complex.invariant.checkpoint) c.requires.drawn
+
+pub read_all-requires-in-loop-complex-clause-drawn : goal.read_all-requires-in-loop-complex-clause-drawn
+read_all-requires-in-loop-complex-clause-drawn g c =
+    let i = c.loop-complex.invariant in
+    let same : c.is_caught_up.new.self ≡ c.loop-complex.self = (c.in_ok-is_caught_up.ensures.refused c.if-not-branch.true).0 in
+    subst (λ (k : Checkpoint). AreDrawn k.tables k.level k.levels k.pages) (sym (ap (λ (m : Member). m.checkpoint) same ∙ i.checkpoint)) c.requires.drawn
 
 pub lose_read-requires-clause-untold : goal.lose_read-requires-clause-untold
 lose_read-requires-clause-untold g c told =
@@ -43,6 +53,7 @@ loop-complex-preserved g c =
     = read_then P.tells x.pair.first.alive z.pair.first.alive y.pair.first.alive x.pair.second.alive z.pair.second.alive y.pair.second.alive (P.view x.plant) (P.view z.plant) (P.view y.plant) i.acts l.read.acts in
     record {
       base = e.base ∙ l.base ∙ i.base;
+      printed = e.printed ∙ l.printed ∙ i.printed;
       since = e.since ∙ l.since ∙ i.since;
       book = e.book ∙ l.book ∙ i.book;
       journal = e.journal ∙ l.journal ∙ i.journal;

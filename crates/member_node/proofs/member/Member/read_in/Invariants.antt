@@ -21,6 +21,7 @@ invariant-loop-complex g l =
     let z = l.complex in
     record {
       base : z.base ≡ x.base;
+      printed : z.printed ≡ x.printed;
       since : z.since ≡ x.since;
       book : z.book ≡ x.book;
       journal : z.journal ≡ x.journal;

@@ -3,12 +3,54 @@ use Rattle.std.proofs.Math.Logic.{∥∥₁_map}
 use Rattle.std.proofs.lemmas.Result.{err_from_is_err_and}
 use Rattle.mas_types.specs.declared.ids.Dev.TheVariants.{Ckpt1, Ckpt2}
 use Rattle.mas_types.specs.declared.ids.Page.{Page}
+use Rattle.ckpt_pages.specs.Checkpoints.{SpellSome}
 use Rattle.spool_disk.specs.View.{disk_now}
 use Rattle.mas_complex.specs.Journals.{kept_all}
 use Rattle.mas_complex.specs.Meaning.{run}
-use Rattle.member_node.specs.Reads.{ArePagesOf, HasRead}
-use Rattle.member_node.proofs.ReadLemmas.{error_later, lost_later_read, read_then, read_whole, room_after}
+use Rattle.member_node.specs.Reads.{ArePagesOf, HasRead, copies_alive}
+use Rattle.member_node.specs.declared.checkpoint.Checkpoint.{Checkpoint}
+use Rattle.member_node.proofs.AlikeLemmas.{own_spell}
+use Rattle.member_node.proofs.ReadLemmas.{error_later, fewer_then, lost_later_read, read_then, read_whole, room_after}
 use Rattle.member_node.proofs.member.Member.second_read.Goals as goal
+
+pub are_spelled-requires-clause-own : goal.are_spelled-requires-clause-own
+are_spelled-requires-clause-own g c =
+    let own : SpellSome c.loop-by.self.checkpoint.pages = subst (λ (k : Checkpoint). SpellSome k.pages) (sym c.loop-by.invariant.checkpoint) (own_spell c.args.self.now.checkpoint c.requires.drawn) in
+    rw c.as_slice-in-loop-by.ensures own
+
+pub are_spelled-requires-clause-config : goal.are_spelled-requires-clause-config
+are_spelled-requires-clause-config g c told =
+    let i = c.loop-by.invariant in
+    rw (i.base, i.journal, c.as_slice.ensures) (c.requires.config told ∙ sym i.as_many)
+
+pub are_spelled-requires-clause-read : goal.are_spelled-requires-clause-read
+are_spelled-requires-clause-read g c told = rw c.as_slice.ensures (c.loop-by.invariant.whole told)
+
+pub read_from-requires-in-loop-by-clause-calm1 : goal.read_from-requires-in-loop-by-clause-calm1
+read_from-requires-in-loop-by-clause-calm1 g c =
+    let i = c.loop-by.invariant in
+    let l = c.in_ok-lose_read.ensures in
+    record {
+      before = l.first ∙ i.first ∙ c.requires.calm1.before;
+      as_many = λ on. ap (length {A = Page}) c.as_mut_slice-in-loop-by.ensures.value ∙ i.as_many ∙ c.requires.calm1.as_many (i.acts.course.alive1 (l.read.acts.course.alive1 on)) ∙ sym (ap g.C.Copying.count (l.copy1 ∙ i.copy1));
+    }
+
+pub read_from-requires-in-loop-by-clause-calm2 : goal.read_from-requires-in-loop-by-clause-calm2
+read_from-requires-in-loop-by-clause-calm2 g c =
+    let i = c.loop-by.invariant in
+    let l = c.in_ok-lose_read.ensures in
+    record {
+      before = l.second ∙ i.second ∙ c.requires.calm2.before;
+      as_many = λ on. ap (length {A = Page}) c.as_mut_slice-in-loop-by.ensures.value ∙ i.as_many ∙ c.requires.calm2.as_many (i.acts.course.alive2 (l.read.acts.course.alive2 on)) ∙ sym (ap g.C.Copying.count (l.copy2 ∙ i.copy2));
+    }
+
+pub loop-by-smaller : goal.loop-by-smaller
+loop-by-smaller g c =
+    let z = c.loop-by.complex in
+    let y = c.lose_read.new.complex in
+    let w = c.read_from-in-loop-by.new.complex in
+    let course = c.in_ok-read_from-2.ensures.read.acts.course in
+    fewer_then (copies_alive z.pair.first.alive z.pair.second.alive) y.pair.first.alive w.pair.first.alive y.pair.second.alive w.pair.second.alive course.alive1 course.alive2 c.lose_read.ensures.lost
 
 pub loop-by-init : goal.loop-by-init
 loop-by-init g c =
@@ -25,6 +67,7 @@ loop-by-init g c =
     let two = disk_now (P.view x.plant) Ckpt2 in
     record {
       base = e.base;
+      printed = e.printed;
       since = e.since;
       book = e.book;
       journal = e.journal;
@@ -66,6 +109,7 @@ loop-by-preserved g c =
     = read_then P.tells x.pair.first.alive z.pair.first.alive y.pair.first.alive x.pair.second.alive z.pair.second.alive y.pair.second.alive (P.view x.plant) (P.view z.plant) (P.view y.plant) i.acts l.read.acts in
     record {
       base = e.base ∙ l.base ∙ i.base;
+      printed = e.printed ∙ l.printed ∙ i.printed;
       since = e.since ∙ l.since ∙ i.since;
       book = e.book ∙ l.book ∙ i.book;
       journal = e.journal ∙ l.journal ∙ i.journal;

@@ -19,6 +19,7 @@ invariant-loop-by g l =
     let z = l.complex in
     record {
       base : z.base ≡ x.base;
+      printed : z.printed ≡ x.printed;
       since : z.since ≡ x.since;
       book : z.book ≡ x.book;
       journal : z.journal ≡ x.journal;

@@ -1,0 +1,85 @@
+-- Which batches of a deck's step may begin: none of their commands is a Mark.
+use Rattle.std.proofs.Common.{◌≡◌, ℕ, zero, suc, Bool, true, false, if◌then◌else◌, List, [], ◌∷◌, All, Option, Some, None, refl, sym, subst}
+use Rattle.std.specs.Option.{option_map_or}
+use Rattle.std.proofs.lemmas.List.Elements.{All-nil, All-cons, All-head, All-tail, All-append}
+use Rattle.mas_types.specs.declared.ids.JobNo.{JobNo}
+use Rattle.mas_types.specs.declared.ids.MemberId.{MemberId}
+use Rattle.mas_types.specs.declared.commands.Command.{Command}
+use Rattle.mas_types.specs.declared.commands.Command.TheVariants as command
+use Rattle.mas_types.specs.declared.commands.Reply.{Reply}
+use Rattle.mas_types.specs.declared.commands.Reply.TheVariants as reply
+use Rattle.mas_types.specs.declared.jobs.JobFields.{JobFields}
+use Rattle.mas_types.specs.declared.journals.Batch.{Batch}
+use Rattle.mas_types.specs.declared.journals.Entry.{Entry}
+use Rattle.mas_types.specs.declared.queues.Queue.{Queue}
+use Rattle.mas_types.specs.Fit.{IsFit, IsJobFields}
+use Rattle.mas_types.specs.Queue.{is_member}
+use Rattle.mas_types.specs.Step.{may_give}
+use Rattle.queue_laws.specs.Runs.{IsGiven}
+use Rattle.paper_laws.specs.Counts.{is_mark}
+use Rattle.mas_complex.specs.Meaning.{step}
+use Rattle.mas_complex.specs.Paper.{MayBegin}
+use Rattle.mas_complex.proofs.Allowed.{unmarked_begin}
+use Rattle.member_steps.specs.Steps.{entry_of}
+use Rattle.member_decks.specs.Decks.{are_refused, behind_begin, given_in, left_after, opening, takes}
+use Rattle.member_decks.specs.Taking.{LeaveOut}
+use Rattle.member_decks.proofs.PlayLemmas.{all_front}
+
+-- the command is within the limits, the member may give it, and it is no Mark
+abbrev pub IsUnmarked : Queue → MemberId → Command → Type 0
+IsUnmarked base by c = (may_give base by c ≡ true) × IsFit c × (is_mark c ≡ false)
+
+abbrev pub Unmarked : Entry → Type 0
+Unmarked e = is_mark e.command ≡ false
+
+module _ (base : Queue) (by : MemberId) where
+  pub given_fit : (at : ℕ) (cs : List Command) (Q : Queue) → All (IsUnmarked base by) cs → All (IsGiven base) (given_in Q by at cs)
+  given_fit at [] Q all = All-nil (IsGiven base)
+  given_fit at (c ∷ cs) Q all =
+      let here = All-head (IsUnmarked base by) c cs all in
+      All-cons (IsGiven base) (entry_of Q by at c) (given_in (step Q by c).0 by at cs) (record { by = here.0; fit = here.1 }) (given_fit at cs (step Q by c).0 (All-tail (IsUnmarked base by) c cs all))
+
+  pub given_unmarked : (at : ℕ) (cs : List Command) (Q : Queue) → All (IsUnmarked base by) cs → All Unmarked (given_in Q by at cs)
+  given_unmarked at [] Q all = All-nil Unmarked
+  given_unmarked at (c ∷ cs) Q all =
+      let here = All-head (IsUnmarked base by) c cs all in
+      All-cons Unmarked (entry_of Q by at c) (given_in (step Q by c).0 by at cs) here.2 (given_unmarked at cs (step Q by c).0 (All-tail (IsUnmarked base by) c cs all))
+
+  module _ (member : is_member base.config by ≡ true) where
+    pub takes_unmarked : (times : ℕ) (Q : Queue) (missing : ℕ) → All (IsUnmarked base by) (takes times Q by missing)
+    takes_unmarked zero Q missing = All-nil (IsUnmarked base by)
+    takes_unmarked (suc times) Q zero = All-nil (IsUnmarked base by)
+    takes_unmarked (suc times) Q (suc missing) =
+        All-cons (IsUnmarked base by) (command.Take (suc missing)) _ (member, tt, refl)
+        (rest (takes_unmarked times (step Q by (command.Take (suc missing))).0) (left_after (suc missing) (step Q by (command.Take (suc missing))).1))
+      where
+        rest : ((n : ℕ) → All (IsUnmarked base by) (takes times (step Q by (command.Take (suc missing))).0 by n)) → (left : Option ℕ)
+            → All (IsUnmarked base by) (option_map_or (λ n. takes times (step Q by (command.Take (suc missing))).0 by n) left [])
+        rest later None = All-nil (IsUnmarked base by)
+        rest later (Some left) = later left
+
+    opening_unmarked : (Q : Queue) (fields : JobFields) (groups : ℕ) → IsJobFields fields → All (IsUnmarked base by) (opening Q by fields groups)
+    opening_unmarked Q fields groups fit = All-cons (IsUnmarked base by) (command.Begin fields) _ (member, fit, refl) (behind (step Q by (command.Begin fields)).0 (step Q by (command.Begin fields)).1)
+      where
+        dropped : (b : Bool) (n : JobNo) → All (IsUnmarked base by) (if b then command.Drop n ∷ [] else [])
+        dropped true n = All-cons (IsUnmarked base by) (command.Drop n) [] (member, tt, refl) (All-nil (IsUnmarked base by))
+        dropped false n = All-nil (IsUnmarked base by)
+
+        behind : (R : Queue) (r : Reply) → All (IsUnmarked base by) (behind_begin R by groups r)
+        behind R (reply.Job n) = All-append (IsUnmarked base by) (takes groups R by groups) (if are_refused groups R by groups then command.Drop n ∷ [] else []) (takes_unmarked groups R groups) (dropped (are_refused groups R by groups) n)
+        behind R _ = All-nil (IsUnmarked base by)
+
+    module _ (js : List Batch) (printed : List ℕ) (at : ℕ) (Q : Queue) (fields : JobFields) (groups : ℕ) (fit : IsJobFields fields) (es : List Entry) where
+      -- the first batch of a deck's step, and the first entries of it
+      pub opening_begins : es ≡ given_in Q by at (opening Q by fields groups) → MayBegin base js printed es
+      opening_begins are =
+          let all = opening_unmarked Q fields groups fit in
+          subst (λ (l : List Entry). MayBegin base js printed l) (sym are)
+          (unmarked_begin base js printed (given_in Q by at (opening Q by fields groups)) (given_fit at (opening Q by fields groups) Q all) (given_unmarked at (opening Q by fields groups) Q all))
+
+      pub front_begins : LeaveOut es (given_in Q by at (opening Q by fields groups)) → MayBegin base js printed es
+      front_begins part =
+          let all = opening_unmarked Q fields groups fit in
+          unmarked_begin base js printed es
+          (all_front (IsGiven base) es part.0 (subst (All (IsGiven base)) part.1 (given_fit at (opening Q by fields groups) Q all)))
+          (all_front Unmarked es part.0 (subst (All Unmarked) part.1 (given_unmarked at (opening Q by fields groups) Q all)))
