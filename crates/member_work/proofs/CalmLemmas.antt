@@ -1,4 +1,4 @@
--- Where no volume fails a step is a function of the queue.
+-- Where neither a volume nor the printer fails a step is a function of the queue.
 use Rattle.std.proofs.Common.{◌≡◌, ℕ, zero, suc, ◌+◌, Bool, true, false, List, [], ◌∷◌, Option, Some, None, All, refl, sym, ap, ◌∙◌}
 use Rattle.std.specs.Prelude.{IfSome}
 use Rattle.std.specs.Option.{option_map_or}
@@ -6,12 +6,14 @@ use Rattle.std.proofs.lemmas.List.Elements.{All-head, All-tail}
 use Rattle.mas_types.specs.declared.ids.Dev.TheVariants.{Spool}
 use Rattle.mas_types.specs.declared.ids.GroupNo.{GroupNo}
 use Rattle.mas_types.specs.declared.ids.JobNo.{JobNo}
+use Rattle.mas_types.specs.declared.ids.OutNo.{OutNo}
 use Rattle.mas_types.specs.declared.ids.MemberId.{MemberId}
 use Rattle.mas_types.specs.declared.answers.Closing.{Closing}
 use Rattle.mas_types.specs.declared.commands.Reply.{Reply}
 use Rattle.mas_types.specs.declared.commands.Reply.TheVariants as reply
 use Rattle.mas_types.specs.declared.jobs.Job.{Job}
 use Rattle.mas_types.specs.declared.jobs.OutSpec.{OutSpec}
+use Rattle.mas_types.specs.declared.jobs.Output.{Output}
 use Rattle.mas_types.specs.declared.jobs.Text.{Text}
 use Rattle.mas_types.specs.declared.journals.Entry.{Entry}
 use Rattle.mas_types.specs.declared.queues.Queue.{Queue}
@@ -19,9 +21,10 @@ use Rattle.mas_types.specs.declared.units.Unit as units
 use Rattle.mas_types.specs.declared.units.Unit.TheVariants as unit
 use Rattle.mas_types.specs.Closings.{closing_line}
 use Rattle.mas_types.specs.Lists.{tail}
-use Rattle.mas_types.specs.Queue.{job_at}
+use Rattle.mas_types.specs.Queue.{job_at, output_at}
+use Rattle.mas_types.specs.Units.{unit_of}
 use Rattle.mas_complex.specs.Meaning.{run}
-use Rattle.spool_disk.specs.declared.plant.Part.TheVariants.{Disk as DiskPart}
+use Rattle.spool_disk.specs.declared.plant.Part.TheVariants.{Disk as DiskPart, Printer}
 use Rattle.spool_disk.specs.View.{View}
 use Rattle.spool_disk.specs.Acts.{Rose}
 use Rattle.member_decks.specs.Decks.{all_entries, are_refused}
@@ -31,12 +34,12 @@ use Rattle.work_units.specs.declared.outcomes.Read.{Read}
 use Rattle.work_units.specs.declared.outcomes.Read.TheVariants as read
 use Rattle.work_units.specs.declared.units.UnitEnd.{UnitEnd}
 use Rattle.work_units.specs.declared.units.UnitEnd.TheVariants as ends
-use Rattle.work_units.specs.Next.{end_by, next_unit}
+use Rattle.work_units.specs.Next.{end_by}
 use Rattle.work_units.specs.Outcomes.{outcome_of}
 use Rattle.member_work.specs.Laws.{CalmWorkIsOfTheQueue}
 use Rattle.member_work.specs.Looks.{Look, as_it_is, calm, first_look, read_of}
-use Rattle.member_work.specs.Rounds.{IsLookAt, IsLookOf, IsReadAs, IsRound, IsSpooledFor, IsSpooledIn}
-use Rattle.member_work.specs.Units.{UnitPlay, behind_acts, ended_with, groups_for_end, job_ended, job_play, no_unit, outcome_for, outcome_play, spooled, taken, unit_play}
+use Rattle.member_work.specs.Rounds.{IsLookAt, IsLookOf, IsPrintLook, IsReadAs, IsRound, IsSpooledFor, IsSpooledIn}
+use Rattle.member_work.specs.Units.{UnitPlay, behind_acts, chunk_end, ended_with, groups_for_end, job_ended, job_play, mark_play, no_unit, outcome_for, outcome_play, output_play, printed_end, spooled, taken, unit_play}
 use Rattle.member_work.specs.Work.{Round, batches_in, closing_behind, closing_by, parts_of, round_of, round_play, rounds, rounds_by, written}
 
 -- WHERE NO UNIT APPLIES nothing is looked at
@@ -72,8 +75,17 @@ module _ (Q : Queue) (by : MemberId) (at : ℕ) where
   idle_numbered runs look None e = refl
   idle_numbered runs look (Some j) e = absurd (outcome_ends look.lost j.number (outcome_for runs look j) e)
 
+  pub mark_ends : (n : JobNo) (i : OutNo) (last : ℕ) (e : Option Closing) → (mark_play Q by at n i last e).ends ≡ ends.Idle → ⊥
+  mark_ends n i last None e = reply_ends _ e
+  mark_ends n i last (Some end) e = cc
+
+  idle_printed : (look : Look) (found : Option Output) → (option_map_or (output_play Q by at look) found no_unit).ends ≡ ends.Idle
+      → option_map_or (output_play Q by at look) found no_unit ≡ option_map_or (output_play Q by at calm) found no_unit
+  idle_printed look None e = refl
+  idle_printed look (Some o) e = absurd (mark_ends o.job o.index (chunk_end Q by o) (printed_end look.printer (read_of look.read o.text)) e)
+
   idle_unit : (look : Look) (u : units.Unit) → (unit_play Q by at look u).ends ≡ ends.Idle → unit_play Q by at look u ≡ unit_play Q by at calm u
-  idle_unit look (unit.Print n i) e = refl
+  idle_unit look (unit.Print n i) e = idle_printed look (output_at Q n i) e
   idle_unit look (unit.Finish n i) e = refl
   idle_unit look unit.Pick e = refl
   idle_unit look unit.Purge e = refl
@@ -84,7 +96,8 @@ module _ (Q : Queue) (by : MemberId) (at : ℕ) where
   idle_unit look unit.TakeConvert e = refl
   idle_unit look unit.Idle e = refl
 
-module _ (told : Type 0) (per : ℕ) (by : MemberId) (at : ℕ) (old new : View) (tells : told) (none_rose : (v : ℕ) → Rose (old.faults (DiskPart (Spool v))) (new.faults (DiskPart (Spool v))) → ⊥) where
+module _ (told : Type 0) (per : ℕ) (by : MemberId) (at : ℕ) (old new : View) (tells : told) (none_rose : (v : ℕ) → Rose (old.faults (DiskPart (Spool v))) (new.faults (DiskPart (Spool v))) → ⊥)
+    (prints : Rose (old.faults (Printer by)) (new.faults (Printer by)) → ⊥) where
   -- A UNIT
 
   calm_read : (text : Text) (groups : List GroupNo) (found : Option Read) → IsReadAs told per text groups found old new → read_of found text ≡ as_it_is text
@@ -112,8 +125,21 @@ module _ (told : Type 0) (per : ℕ) (by : MemberId) (at : ℕ) (old new : View)
   calm_numbered runs Q look None seen = refl
   calm_numbered runs Q look (Some j) seen = calm_job runs Q look j seen
 
+  calm_printer : (b : Bool) → (b ≡ true → ⊥) → b ≡ false
+  calm_printer true not = absurd (not refl)
+  calm_printer false not = refl
+
+  calm_output : (Q : Queue) (look : Look) (o : Output) → IsPrintLook told per Q by look old new o → output_play Q by at look o ≡ output_play Q by at calm o
+  calm_output Q look o seen =
+      ap (λ (b : Bool). behind_acts [] (mark_play Q by at o.job o.index (chunk_end Q by o) (printed_end b (read_of look.read o.text)))) (calm_printer look.printer (λ lost. prints (seen.printer lost).rose))
+      ∙ ap (λ (found : Read). behind_acts [] (mark_play Q by at o.job o.index (chunk_end Q by o) (printed_end false found))) (calm_read o.text _ look.read seen.is_read)
+
+  calm_printed : (Q : Queue) (look : Look) (found : Option Output) → IfSome found (IsPrintLook told per Q by look old new) → option_map_or (output_play Q by at look) found no_unit ≡ option_map_or (output_play Q by at calm) found no_unit
+  calm_printed Q look None seen = refl
+  calm_printed Q look (Some o) seen = calm_output Q look o seen
+
   calm_unit : (Q : Queue) (look : Look) (u : units.Unit) → IsLookAt told per Q by at look old new u → unit_play Q by at look u ≡ unit_play Q by at calm u
-  calm_unit Q look (unit.Print n i) seen = refl
+  calm_unit Q look (unit.Print n i) seen = calm_printed Q look (output_at Q n i) seen
   calm_unit Q look (unit.Finish n i) seen = refl
   calm_unit Q look unit.Pick seen = refl
   calm_unit Q look unit.Purge seen = refl
@@ -131,9 +157,9 @@ module _ (told : Type 0) (per : ℕ) (by : MemberId) (at : ℕ) (old new : View)
 
   -- the first unit is as in a calm run: it was looked at, or none applies
   first_calm : (r : Round) (rs : List Round) (end : UnitEnd) → (round_play by at r).ends ≡ end → Seen (rounds_by end r rs) → round_play by at r ≡ round_play by at (round_of r.queue calm)
-  first_calm r rs ends.Done e seen = calm_unit r.queue r.look (next_unit r.queue by) (All-head (IsRound told per by at old new) r rs seen)
-  first_calm r rs ends.Idle e seen = idle_unit r.queue by at r.look (next_unit r.queue by) e
-  first_calm r rs (ends.Refused end) e seen = calm_unit r.queue r.look (next_unit r.queue by) (All-head (IsRound told per by at old new) r [] seen)
+  first_calm r rs ends.Done e seen = calm_unit r.queue r.look (unit_of r.queue by) (All-head (IsRound told per by at old new) r rs seen)
+  first_calm r rs ends.Idle e seen = idle_unit r.queue by at r.look (unit_of r.queue by) e
+  first_calm r rs (ends.Refused end) e seen = calm_unit r.queue r.look (unit_of r.queue by) (All-head (IsRound told per by at old new) r [] seen)
 
   -- what is given, and how the step closes, by the first unit's end and what comes behind it
   abbrev parts_by : UnitEnd → List (List Entry) → List (List (List Entry)) → List (List (List Entry))
@@ -191,7 +217,7 @@ module _ (told : Type 0) (per : ℕ) (by : MemberId) (at : ℕ) (old new : View)
       ∙ sym (closing_first (round_play by at calm_one).ends calm_one (behind n Q (round_play by at calm_one) []) k refl)
 
 pub calm_work : (told : Type 0) → CalmWorkIsOfTheQueue told
-calm_work told per Q by at n looks old new tells none_rose seen = (
-  ap (λ (units : List (List (List Entry))). batches_in (written Q.config.hold 0 [] units)) (same_parts told per by at old new tells none_rose n Q looks seen),
-  ap (λ (end : Closing). closing_line by at end ∷ []) (same_closing told per by at old new tells none_rose n Q looks 0 seen),
+calm_work told per Q by at n looks old new tells none_rose prints seen = (
+  ap (λ (units : List (List (List Entry))). batches_in (written Q.config.hold 0 [] units)) (same_parts told per by at old new tells none_rose prints n Q looks seen),
+  ap (λ (end : Closing). closing_line by at end ∷ []) (same_closing told per by at old new tells none_rose prints n Q looks 0 seen),
 )

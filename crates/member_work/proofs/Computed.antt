@@ -1,7 +1,7 @@
 -- The worked examples, by computation.
 use Rattle.std.proofs.Common.{refl}
 use Rattle.std.specs.Fmt.{digits}
-use Rattle.member_work.specs.Examples.{NullStepIsDone, HoldOfOneIsGivenUp, CopyIsDone, ErrorIsListed, ScanIsListed, FirstJobIsTaken, BothAreReset, FullSpoolRefusesTheUnit, FullOutputsRefuseTheUnit, LostVolumeRefusesTheUnit, UnreadTextRefusesTheUnit, GoneTextRefusesTheUnit, CancelledJobIsPurged}
+use Rattle.member_work.specs.Examples.{NullStepIsDone, HoldOfOneIsGivenUp, CopyIsDone, CopyWaits, LostPrinterRefusesTheUnit, LinesFollowTheMark, ErrorIsListed, ScanIsListed, FirstJobIsTaken, BothAreReset, FullSpoolRefusesTheUnit, FullOutputsRefuseTheUnit, LostVolumeRefusesTheUnit, UnreadTextRefusesTheUnit, GoneTextRefusesTheUnit, CancelledJobIsPurged}
 
 pub null_step_is_done : NullStepIsDone
 unfolding digits
@@ -13,7 +13,19 @@ hold_of_one_is_given_up = refl
 
 pub copy_is_done : CopyIsDone
 unfolding digits
-copy_is_done = (refl, refl, refl, refl, refl)
+copy_is_done = (refl, refl, refl)
+
+pub copy_waits : CopyWaits
+unfolding digits
+copy_waits = (refl, refl, refl)
+
+pub lost_printer_refuses_the_unit : LostPrinterRefusesTheUnit
+unfolding digits
+lost_printer_refuses_the_unit = (refl, refl, refl)
+
+pub lines_follow_the_mark : LinesFollowTheMark
+unfolding digits
+lines_follow_the_mark = (refl, refl)
 
 pub error_is_listed : ErrorIsListed
 unfolding digits

@@ -19,6 +19,7 @@ use Rattle.table_queues.specs.Telling.{Tell}
 use Rattle.mas_complex.specs.declared.places.Place.{Place}
 use Rattle.mas_complex.specs.Journals.{end_of, kept_all}
 use Rattle.mas_complex.specs.Meaning.{run, step}
+use Rattle.mas_complex.specs.Paper.{MayBegin}
 use Rattle.mas_complex.specs.Texts.{HasTexts, Spools, lost_now, spools_at}
 use Rattle.mas_complex.proofs.Replied.{run_append}
 use Rattle.member_node.specs.declared.member.Member.{Member}
@@ -29,15 +30,18 @@ use Rattle.member_steps.proofs.StepLemmas.{can_draw}
 use Rattle.member_decks.specs.Decks.{closing_reply, given_in}
 use Rattle.member_decks.specs.Steps.{AreOf}
 use Rattle.member_decks.specs.Taking.{IsPart, LeaveOut}
+use Rattle.member_decks.proofs.MayLemmas.{IsUnmarked}
 use Rattle.member_decks.proofs.TakeLemmas.{take_counts}
 use Rattle.work_units.specs.declared.units.UnitEnd.{UnitEnd}
 use Rattle.work_units.specs.declared.units.UnitEnd.TheVariants as ends
 use Rattle.work_units.specs.Next.{end_by}
+use Rattle.member_work.specs.Causes.{MayEndUnit}
 use Rattle.member_work.specs.Ending.{IsLastPart}
 use Rattle.member_work.specs.Giving.{GivesAt, HasGiven}
 use Rattle.member_work.specs.Steps.{HasCopy, IsAtWork, IsKeeping}
 use Rattle.member_work.specs.Units.{drop_groups, ending, is_refusal, taken_end, taking}
 use Rattle.member_work.specs.Work.{batches_in}
+use Rattle.member_work.proofs.BeginLemmas.{part_begins}
 use Rattle.member_work.proofs.GivingLemmas.{taking_all, taking_refused, taking_some}
 use Rattle.member_work.proofs.KeepingLemmas.{keeping_error, keeping_none, keeping_starts}
 use Rattle.member_work.proofs.LeavesLemmas.{StartsAs}
@@ -108,11 +112,12 @@ reply_ends (reply.Shown lines) e = cc
 reply_ends (reply.No why) e = cc
 
 module _ (told : Type 0) (by : MemberId) (at : ℕ) (all : List Entry) (e : UnitEnd) (front batches : List Batch) where
-  pub last_done : (x : UnitEnd) (es : List Entry) (a b : Bool) (v : View) → batches ≡ front → AreOf by at es → (x ≡ ends.Idle → ⊥) → (told → (es ≡ all) × (x ≡ e)) → IsLastPart told by at all e es front batches a a b b v v (Ok x)
-  last_done x es a b v same of never is = record {
+  pub last_done : (x : UnitEnd) (es : List Entry) (a b : Bool) (v : View) → batches ≡ front → AreOf by at es → (x ≡ ends.Idle → ⊥) → ((from : View) → MayEndUnit by e from v → MayEndUnit by x from v) → (told → (es ≡ all) × (x ≡ e)) → IsLastPart told by at all e es front batches a a b b v v (Ok x)
+  last_done x es a b v same of never caused is = record {
     gave = es;
     end = x;
     is = is;
+    caused = caused;
     played = record {
       of = All-cons (AreOf by at) es [] of (All-nil (AreOf by at));
       few = omega arith;
@@ -129,6 +134,7 @@ module _ (told : Type 0) (by : MemberId) (at : ℕ) (all : List Entry) (e : Unit
     gave = es ++ Tail by at es all;
     end = e;
     is = λ t. (whole_is by at es all (part t), refl);
+    caused = λ from given. given;
     played = record {
       of = All-cons (AreOf by at) (es ++ Tail by at es all) [] (whole_of by at es all of_es of_all) (All-nil (AreOf by at));
       few = omega arith;
@@ -199,18 +205,18 @@ ending_few Q by n specs = by_reply (reply_to Q by (command.Ended n specs)) where
 
 -- A MEMBER THAT GAVE COMMANDS
 
-module _ (told : Type 0) (v : View) (since : ℕ) (base : Queue) (batches : List Batch) (current : Option Batch) (placed : Bool) (level : ℕ) (reserved : Option (List Entry)) (at : ℕ) (m n : Member) (nothing : m.batch ≡ []) (g : HasGiven at m n) where
+module _ (told : Type 0) (v : View) (since : ℕ) (base : Queue) (batches : List Batch) (current : Option Batch) (placed : Bool) (level : ℕ) (reserved : Option (List Entry)) (printed : List ℕ) (at : ℕ) (m n : Member) (nothing : m.batch ≡ []) (g : HasGiven at m n) where
   -- the tables tell the queue of the kept batches before
-  pub told_queue : IsAtWork told v since base batches current placed level reserved m.id m.batch m.checkpoint m.room m.behind → told → Tell m.checkpoint.tables (run base (kept_all batches))
+  pub told_queue : IsAtWork told v since base batches current placed level reserved printed m.id m.batch m.checkpoint m.room m.behind → told → Tell m.checkpoint.tables (run base (kept_all batches))
   told_queue w t = subst (λ (es : List Entry). Tell m.checkpoint.tables (run (run base (kept_all batches)) es)) nothing (w.done t).queue
 
   pub given_own : AreOf m.id at n.batch
   given_own = g.own (subst (AreOf m.id at) (sym nothing) (All-nil (λ (e : Entry). (e.by ≡ m.id) × (e.step ≡ at))))
 
-  pub given_work : IsAtWork told v since base batches current placed level reserved m.id m.batch m.checkpoint m.room m.behind → length n.batch ≤ 64
+  pub given_work : IsAtWork told v since base batches current placed level reserved printed m.id m.batch m.checkpoint m.room m.behind → length n.batch ≤ 64
       → (told → 1 ≤ length n.batch → ∥ HasTexts (lost_now v) (spools_at v v.now) base.config.groups (run base (kept_all batches ++ n.batch)) ∥₁)
-      → IsAtWork told v since base batches current placed level reserved n.id n.batch n.checkpoint n.room n.behind
-  given_work w few texts = record {
+      → (told → MayBegin base batches printed n.batch) → IsAtWork told v since base batches current placed level reserved printed n.id n.batch n.checkpoint n.room n.behind
+  given_work w few texts begins = record {
     none = w.none;
     unreserved = w.unreserved;
     unplaced = w.unplaced;
@@ -231,7 +237,12 @@ module _ (told : Type 0) (v : View) (since : ℕ) (base : Queue) (batches : List
     begun = w.begun;
     roomy = w.roomy;
     texts = texts;
+    allowed = begins;
   }
+
+  pub given_begins : {T E : Type 0} (Q : Queue) (cs : List Command) (holds : Spools → ℕ → Type 0) (r : Result T E) (by : MemberId) → All (IsUnmarked base by) cs → GivesAt Q by at cs holds m n r → MayBegin base batches printed n.batch
+  given_begins Q cs holds r by all one =
+      subst (λ (es : List Entry). MayBegin base batches printed es) (sym (one.batch ∙ ap (λ (es : List Entry). es ++ one.gave) nothing)) (part_begins base by batches printed r Q at cs one.gave all one.part)
 
   pub given_texts : {T E : Type 0} (cs : List Command) (holds : Spools → ℕ → Type 0) (r : Result T E) (by : MemberId) → GivesAt (run base (kept_all batches)) by at cs holds m n r → holds (spools_at v v.now) base.config.groups
       → ∥ HasTexts (lost_now v) (spools_at v v.now) base.config.groups (run base (kept_all batches)) ∥₁ → ∥ HasTexts (lost_now v) (spools_at v v.now) base.config.groups (run base (kept_all batches ++ n.batch)) ∥₁

@@ -12,7 +12,9 @@ use Rattle.mas_types.specs.declared.journals.Batch.{Batch}
 use Rattle.mas_types.specs.declared.journals.Entry.{Entry}
 use Rattle.mas_types.specs.declared.queues.Queue.{Queue}
 use Rattle.mas_types.specs.Closings.{IsReplyNamed}
+use Rattle.mas_types.specs.Fit.{IsFit}
 use Rattle.mas_types.specs.Limits.{page_bytes}
+use Rattle.mas_types.specs.Sound.{IsSound}
 use Rattle.mas_types.specs.Step.{may_give}
 use Rattle.spool_disk.specs.View.{View}
 use Rattle.ckpt_pages.specs.declared.tables.Tables.{Tables}
@@ -23,6 +25,8 @@ use Rattle.queue_effect.specs.Standing.{AreFit}
 use Rattle.queue_texts.specs.Leaving.{OthersLeaveTexts, ToldAreTheirOwn}
 use Rattle.mas_complex.specs.Journals.{kept_all}
 use Rattle.mas_complex.specs.Meaning.{run}
+use Rattle.mas_complex.specs.Paper.{MayBegin, counts_of}
+use Rattle.paper_laws.specs.Counts.{IsMarkRight, counts_after}
 use Rattle.mas_complex.specs.Texts.{HasTexts, lost_now, spools_at}
 use Rattle.member_node.specs.declared.checkpoint.Checkpoint.{Checkpoint}
 use Rattle.member_node.specs.declared.member.NodeNo.{NodeNo}
@@ -38,6 +42,7 @@ use Rattle.work_units.specs.declared.units.UnitEnd.TheVariants as ends
 use Rattle.work_units.specs.Next.{IsNamedEnd, end_by}
 use Rattle.member_work.specs.Steps.{IsAtWork, IsCommanded, IsKeeping, IsPlayed}
 use Rattle.member_work.specs.Work.{batches_in}
+use Rattle.member_work.proofs.BeginLemmas.{more_begins}
 use Rattle.member_work.proofs.CalmLemmas.{reply_ends}
 use Rattle.member_work.proofs.KeepingLemmas.{keeping_error, keeping_none, keeping_starts}
 use Rattle.member_work.proofs.LeavesLemmas.{StartsAs}
@@ -133,7 +138,7 @@ can_still k n draws pages level levels config spelling = record {
   spelling = spelling;
 }
 
-module _ (told : Type 0) (v : View) (since : ℕ) (base : Queue) (batches : List Batch) (current : Option Batch) (placed : Bool) (level : ℕ) (reserved : Option (List Entry)) (by : MemberId) (batch : List Entry) (k : Checkpoint) (room : List Page) (behind : Bool) (w : IsAtWork told v since base batches current placed level reserved by batch k room behind) where
+module _ (told : Type 0) (v : View) (since : ℕ) (base : Queue) (batches : List Batch) (current : Option Batch) (placed : Bool) (level : ℕ) (reserved : Option (List Entry)) (printed : List ℕ) (by : MemberId) (batch : List Entry) (k : Checkpoint) (room : List Page) (behind : Bool) (w : IsAtWork told v since base batches current placed level reserved printed by batch k room behind) where
   abbrev Q : Queue
   Q = run base (kept_all batches ++ batch)
 
@@ -153,10 +158,10 @@ module _ (told : Type 0) (v : View) (since : ℕ) (base : Queue) (batches : List
     more_by_one = ap length is ∙ length-append batch (entry_with by at c r ∷ [])
 
     pub work_given : by' ≡ by → room' ≡ room → behind' ≡ behind → length batch < 64 → n.pages ≡ k.pages → n.level ≡ k.level → n.levels ≡ k.levels → n.tables.config ≡ k.tables.config → HasSpelling n.tables → AreFit n.tables → n.tables.order ≤ k.tables.order + 32
-        → ((R : Queue) → HasDone R batch k → HasDone R batch' n) → ((s : TellSound k.tables) → may_give s.queue by c ≡ true → TellSound n.tables) → may_give base by c ≡ true
-        → (told → ∥ HasTexts (lost_now v) (spools_at v v.now) base.config.groups (run base (kept_all batches ++ batch')) ∥₁)
-        → IsAtWork told v since base batches current placed level reserved by' batch' n room' behind'
-    work_given who same_room same_behind few pages level_is levels config spelling fit order done sound may texts =
+        → ((R : Queue) → HasDone R batch k → HasDone R batch' n) → ((s : TellSound k.tables) → may_give s.queue by c ≡ true → TellSound n.tables) → may_give base by c ≡ true → IsFit c
+        → (told → IsSound base → IsMarkRight Q by (counts_after batch (counts_of printed) by) c) → (told → ∥ HasTexts (lost_now v) (spools_at v v.now) base.config.groups (run base (kept_all batches ++ batch')) ∥₁)
+        → IsAtWork told v since base batches current placed level reserved printed by' batch' n room' behind'
+    work_given who same_room same_behind few pages level_is levels config spelling fit order done sound may command_fits right texts =
         let one = more_by_one in
         record {
           none = w.none;
@@ -178,6 +183,7 @@ module _ (told : Type 0) (v : View) (since : ℕ) (base : Queue) (batches : List
           begun = w.begun;
           roomy = w.roomy;
           texts = λ t some. texts t;
+          allowed = λ t. subst (λ (es : List Entry). MayBegin base batches printed es) (sym is) (more_begins base by batches printed batch at c r may command_fits (right t) (w.allowed t));
         }
 
     -- the texts behind it, which brings none

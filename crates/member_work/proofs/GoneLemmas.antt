@@ -74,7 +74,7 @@ replies_append : (Q : Queue) (es fs : List Entry) → HaveReplies Q es → HaveR
 replies_append Q [] fs one two = two
 replies_append Q (e ∷ es) fs one two = (one.0, replies_append (step Q e.by e.command).0 es fs one.1 two)
 
-kept_have : (Q : Queue) (bs : List Batch) → AreReplied Q bs → HaveReplies Q (kept_all bs)
+pub kept_have : (Q : Queue) (bs : List Batch) → AreReplied Q bs → HaveReplies Q (kept_all bs)
 kept_have Q [] are = tt
 kept_have Q (b ∷ bs) are = by_fate (is_kept b.fate) (kept_have (after_batch Q b) bs are.1) where
   by_fate : (c : Bool) → HaveReplies (if c then run Q b.entries else Q) (kept_all bs) → HaveReplies Q ((if c then b.entries else []) ++ kept_all bs)
@@ -310,7 +310,7 @@ module _ (n : JobNo) where
       let here = find-All (Is (gone_since Q es n)) (has_number n) (run Q es).jobs j are.texts found in
       sym (here.0 here.1)
 
-abbrev coded_group : Coded GroupNo
+abbrev pub coded_group : Coded GroupNo
 coded_group = code_by ℕ coded_ℕ (λ g. g.0) (λ n. record { 0 = n }) (λ _. refl)
 
 pub gone_deck_is : (n : JobNo) (Q : Queue) (bs : List Batch) (current : Option Batch) → ∥ AreReplied Q (bs ++ in_flight current) ∥₁ → IsConfig Q.config → AreDistinct (λ a b. same_number a.number b.number) Q.jobs

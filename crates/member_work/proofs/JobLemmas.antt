@@ -48,6 +48,7 @@ use Rattle.member_work.specs.Steps.{IsCommanded, IsEndStep, IsJobStep, IsKeeping
 use Rattle.member_work.specs.Units.{drop_groups, ended_with, ending, groups_for_end, job_play, no_unit, outcome_for, outcome_play, spooled, taken, taken_queue, taking}
 use Rattle.member_work.specs.Work.{batches_in, left_in, spent_in, written_in}
 use Rattle.member_work.proofs.CalmLemmas.{outcome_ends}
+use Rattle.member_work.proofs.CauseLemmas.{job_caused, reply_caused, wider_end, wider_stop}
 use Rattle.member_work.proofs.KeepingLemmas.{keeping_error, keeping_none, keeping_starts, keeping_then}
 use Rattle.member_work.proofs.LeavesLemmas.{StartsAs}
 use Rattle.member_work.proofs.LookingLemmas.{number_of, same_numbers}
@@ -77,17 +78,19 @@ gone_text (Whole lines) g is = absurd (cc)
 gone_text (Gone group count) g is = ap read.Gone (one group g is)
 
 -- one that was gone isn't read
-pub looked_gone : (told : Type 0) (runs : Bool) (per : ℕ) (Q : Queue) (n : JobNo) (v w : View) (g : GroupNo) → (told → (j : Job) → job_at Q n ≡ Some j → Some g ≡ gone_with j.text) → IsLookedAt told runs per Q n v w (outcome.Stop (closing.NoText g))
-looked_gone told runs per Q n v w g gone = record {
+pub looked_gone : (told : Type 0) (runs : Bool) (per : ℕ) (by : MemberId) (Q : Queue) (n : JobNo) (v w : View) (g : GroupNo) → (told → (j : Job) → job_at Q n ≡ Some j → Some g ≡ gone_with j.text) → IsLookedAt told runs per by Q n v w (outcome.Stop (closing.NoText g))
+looked_gone told runs per by Q n v w g gone = record {
   found = None;
   is = λ t j there. (tt, sym (ap (outcome_of runs j.fields) (gone_text j.text g (sym (gone t j there)))));
+  caused = tt;
 }
 
 -- over a wider stretch
-pub wider_looked : (told : Type 0) (runs : Bool) (per : ℕ) (by : MemberId) (Q : Queue) (n : JobNo) (old from till new : View) (o : Outcome) → Goes old from → Goes till new → IsLookedAt told runs per Q n from till o → IsLookedAt told runs per Q n old new o
+pub wider_looked : (told : Type 0) (runs : Bool) (per : ℕ) (by : MemberId) (Q : Queue) (n : JobNo) (old from till new : View) (o : Outcome) → Goes old from → Goes till new → IsLookedAt told runs per by Q n from till o → IsLookedAt told runs per by Q n old new o
 wider_looked told runs per by Q n old from till new o before after seen = record {
   found = seen.found;
   is = λ t j there. let it = seen.is t j there in (wider_read told per by 0 old from till new before after j.text (groups_of (Deck j.number) Q.owners) seen.found it.0, it.1);
+  caused = wider_stop by old from till new before after o seen.caused;
 }
 
 -- WHAT BECOMES OF IT has one part or two
@@ -124,6 +127,7 @@ stopped_step told by at per Q n end is_left front batches a b v same nothing = r
   parts = [] ∷ [];
   end = ends.Refused end;
   is = λ t. (refl, record { parts_are = refl; end_is = refl });
+  caused = λ from goes stop. stop;
   some = omega arith;
   small = omega arith;
   played = record {
@@ -143,22 +147,32 @@ module _ (told : Type 0) (by : MemberId) (at per : ℕ) (Q : Queue) (n : JobNo) 
     parts = (entry_with by at (command.Converted n) k.reply ∷ []) ∷ [];
     end = end_by k.reply;
     is = λ t. (refl, record { parts_are = ap (λ (x : Reply). (entry_with by at (command.Converted n) x ∷ []) ∷ []) (k.is t); end_is = ap end_by (k.is t) });
+    caused = λ from goes stop. reply_caused by from w k.reply;
     some = omega arith;
     small = omega arith;
     played = k.played;
   }
 
   pub ended_step : (specs : List OutSpec) → IsEndStep told by at per Q n specs is_left front batches a a' b b' v w r → IsOutcomeStep told by at per Q n (outcome.End specs) is_left front batches a a' b b' v w r
-  ended_step specs k = record { lost = k.lost; parts = k.parts; end = k.end; is = k.is; some = k.some; small = k.small; played = k.played }
+  ended_step specs k = record {
+    lost = k.lost;
+    parts = k.parts;
+    end = k.end;
+    is = k.is;
+    caused = λ from goes stop. wider_end by from v w w goes (goes_none w) k.end k.caused;
+    some = k.some;
+    small = k.small;
+    played = k.played;
+  }
 
 -- THE TEXT IS LOOKED AT FIRST
 
 module _ (told : Type 0) (runs : Bool) (by : MemberId) (at per : ℕ) (Q : Queue) (n : JobNo) (is_left : List Entry) (front : List Batch) where
   pub text_then : (o : Outcome) (mid batches : List Batch) (a a' a'' b b' b'' : Bool) (v0 v1 v2 : View) (r : Result UnitEnd NodeNo)
-      → IsKeeping {T = Outcome} told by [] front mid a a' b b' v0 v1 (Ok o) → IsLookedAt told runs per Q n v0 v1 o → IsOutcomeStep told by at per Q n o is_left mid batches a' a'' b' b'' v1 v2 r
+      → IsKeeping {T = Outcome} told by [] front mid a a' b b' v0 v1 (Ok o) → IsLookedAt told runs per by Q n v0 v1 o → IsOutcomeStep told by at per Q n o is_left mid batches a' a'' b' b'' v1 v2 r
       → IsTextStep told runs by at per Q n is_left front batches a a'' b b'' v0 v2 r
   text_then o mid batches a a' a'' b b' b'' v0 v1 v2 r one seen two =
-      let look : Look = record { read = seen.found; lost = two.lost } in
+      let look : Look = record { read = seen.found; lost = two.lost; printer = false } in
       record {
         look = look;
         parts = two.parts;
@@ -177,6 +191,7 @@ module _ (told : Type 0) (runs : Bool) (by : MemberId) (at per : ℕ) (Q : Queue
               record { is_read = wider_read told per by at v0 v0 v1 v2 (goes_none v0) two.played.keeps.course.goes j.text (groups_of (Deck j.number) Q.owners) seen.found it.0; is_spooled = spooled_at },
               play,
             );
+        caused = two.caused v0 one.course.goes (wider_stop by v0 v0 v1 v2 (goes_none v0) two.played.keeps.course.goes o seen.caused);
         some = two.some;
         small = two.small;
         played = record {
@@ -201,6 +216,7 @@ module _ (told : Type 0) (runs : Bool) (by : MemberId) (at per : ℕ) (Q : Queue
       parts = [] ∷ [];
       end = ends.Done;
       is = λ t j there. absurd (none_some j (sym none ∙ there));
+      caused = tt;
       some = omega arith;
       small = omega arith;
       played = record {
@@ -225,6 +241,7 @@ module _ (told : Type 0) (runs : Bool) (by : MemberId) (at per : ℕ) (Q : Queue
           end = u.ends;
           is = λ t k there. subst (λ (x : Job). IsLookOf told runs per Q by at calm v w x × IsPlayOf (outcome_play None Q by at x.number (outcome_for runs calm x)) u.parts u.ends) (one j k (sym here ∙ there))
               (calm_job told per by at v w runs Q (Some j), record { parts_are = refl; end_is = refl });
+          caused = job_caused by v w Q at runs j;
           some = some_outcome by at None Q j.number o;
           small = few;
           played = record {
@@ -242,29 +259,29 @@ module _ (told : Type 0) (runs : Bool) (by : MemberId) (at per : ℕ) (Q : Queue
 first_batch : (l : List Entry) (xs : List (List Entry)) → batches_in (l ∷ []) ++ batches_in xs ≡ batches_in ((l ++ []) ∷ xs)
 first_batch l xs = sym (batches_append (l ∷ []) xs) ∙ ap (λ (k : List Entry). batches_in (k ∷ xs)) (sym (append-nil l))
 
-begun_text : (r : Result UnitEnd NodeNo) (so_far : List Entry) (parts : List (List Entry)) → 1 ≤ length parts → batches_in (so_far ∷ []) ++ begun_of r [] parts ≡ begun_of r so_far ([] ∷ parts)
+pub begun_text : (r : Result UnitEnd NodeNo) (so_far : List Entry) (parts : List (List Entry)) → 1 ≤ length parts → batches_in (so_far ∷ []) ++ begun_of r [] parts ≡ begun_of r so_far ([] ∷ parts)
 begun_text (Ok x) so_far [] some = absurd (omega (arith, some))
 begun_text (Ok x) so_far (p ∷ ps) some = first_batch so_far (written_in [] (p ∷ ps))
 begun_text (Err why) so_far [] some = absurd (omega (arith, some))
 begun_text (Err why) so_far (p ∷ ps) some = first_batch so_far (written_in [] (p ∷ ps) ++ left_in [] (p ∷ ps) ∷ [])
 
-left_text : (so_far : List Entry) (parts : List (List Entry)) → 1 ≤ length parts → left_in so_far ([] ∷ parts) ≡ left_in [] parts
+pub left_text : (so_far : List Entry) (parts : List (List Entry)) → 1 ≤ length parts → left_in so_far ([] ∷ parts) ≡ left_in [] parts
 left_text so_far [] some = absurd (omega (arith, some))
 left_text so_far (p ∷ ps) some = refl
 
-spent_text : (spent : ℕ) (parts : List (List Entry)) → 1 ≤ length parts → spent_in spent ([] ∷ parts) ≡ length (left_in [] parts)
+pub spent_text : (spent : ℕ) (parts : List (List Entry)) → 1 ≤ length parts → spent_in spent ([] ∷ parts) ≡ length (left_in [] parts)
 spent_text spent [] some = absurd (omega (arith, some))
 spent_text spent (p ∷ []) some = omega arith
 spent_text spent (p ∷ q ∷ ps) some = spent_text spent (q ∷ ps) (omega arith)
 
-none_some_parts : (parts : List (List Entry)) → 1 ≤ length parts → parts ≡ [] → ⊥
+pub none_some_parts : (parts : List (List Entry)) → 1 ≤ length parts → parts ≡ [] → ⊥
 none_some_parts parts some none = let long = ap length none in omega (arith, some, long)
 
 starts_text : (so_far : List Entry) (xs : List (List Entry)) → StartsAs (batches_in (so_far ∷ [])) (batches_in ((so_far ++ []) ∷ xs))
 starts_text [] xs = tt
 starts_text (e ∷ es) xs = (omega arith, ([], refl))
 
-starts_job : (why : NodeNo) (so_far : List Entry) (parts : List (List Entry)) → StartsAs (batches_in (so_far ∷ [])) (begun_of (Err why) so_far ([] ∷ parts))
+pub starts_job : (why : NodeNo) (so_far : List Entry) (parts : List (List Entry)) → StartsAs (batches_in (so_far ∷ [])) (begun_of (Err why) so_far ([] ∷ parts))
 starts_job why so_far [] = starts_text so_far []
 starts_job why so_far (p ∷ ps) = starts_text so_far (written_in [] (p ∷ ps) ++ left_in [] (p ∷ ps) ∷ [])
 
@@ -286,6 +303,7 @@ module _ (told : Type 0) (runs : Bool) (by : MemberId) (at per : ℕ) (Q : Queue
           subst (λ (o : Option Job). IsPlayOf (option_map_or (job_play runs Q by at text.look) o no_unit) ([] ∷ text.parts) text.end) (sym u.there)
               (record { parts_are = ap (λ (ps : List (List Entry)). [] ∷ ps) seen.1.parts_are; end_is = seen.1.end_is }),
         );
+    caused = wider_end by v0 v1 v2 v2 keeps.course.goes (goes_none v2) text.end text.caused;
     played = record {
       of = All-cons (AreOf by at) [] text.parts (All-nil (λ (x : Entry). (x.by ≡ by) × (x.step ≡ at))) text.played.of;
       few = let le = text.small in omega (arith, le);
@@ -313,6 +331,7 @@ module _ (told : Type 0) (runs : Bool) (by : MemberId) (at per : ℕ) (Q : Queue
         subst (λ (o : Option Job). IfSome o (IsLookOf told runs per Q by at calm v w)) (sym none) tt,
         subst (λ (o : Option Job). IsPlayOf (option_map_or (job_play runs Q by at calm) o no_unit) [] ends.Idle) (sym none) (record { parts_are = refl; end_is = refl }),
       );
+      caused = tt;
       played = record { of = All-nil (AreOf by at); few = omega arith; idle = λ i. refl; keeps = kept; left = tt; ends = tt };
       spends = tt;
     }
@@ -329,6 +348,7 @@ module _ (told : Type 0) (runs : Bool) (by : MemberId) (at per : ℕ) (Q : Queue
             subst (λ (x : Option Job). IfSome x (IsLookOf told runs per Q by at calm v w)) (sym here) (calm_job told per by at v w runs Q (Some j)),
             subst (λ (x : Option Job). IsPlayOf (option_map_or (job_play runs Q by at calm) x no_unit) ([] ∷ u.parts) u.ends) (sym here) (record { parts_are = refl; end_is = refl }),
           );
+          caused = job_caused by v w Q at runs j;
           played = record {
             of = All-cons (AreOf by at) [] u.parts (All-nil (λ (x : Entry). (x.by ≡ by) × (x.step ≡ at))) two.0;
             few = omega (arith, few);
@@ -350,6 +370,7 @@ module _ (told : Type 0) (runs : Bool) (by : MemberId) (at per : ℕ) (Q : Queue
       subst (λ (o : Option Job). IfSome o (IsLookOf told runs per Q by at calm v v)) (sym (none t)) tt,
       subst (λ (o : Option Job). IsPlayOf (option_map_or (job_play runs Q by at calm) o no_unit) [] ends.Idle) (sym (none t)) (record { parts_are = refl; end_is = refl }),
     );
+    caused = tt;
     played = record { of = All-nil (AreOf by at); few = omega arith; idle = λ i. refl; keeps = keeping_none {T = UnitEnd} told by front batches same ends.Idle a b v; left = left; ends = refl };
     spends = spends;
   }

@@ -2,6 +2,7 @@ pub mod Computed
 pub mod CalmLemmas
 pub mod ReadLemmas
 pub mod RoundLemmas
+pub mod CauseLemmas
 pub mod GoneLemmas
 pub mod SpoolLemmas
 pub mod GivingLemmas
@@ -9,6 +10,7 @@ pub mod LeavesLemmas
 pub mod KeepingLemmas
 pub mod WrittenLemmas
 pub mod WorkingLemmas
+pub mod BeginLemmas
 pub mod StateLemmas
 pub mod EndingLemmas
 pub mod LookingLemmas
@@ -19,6 +21,9 @@ pub mod PartLemmas
 pub mod RestLemmas
 pub mod WorkedLemmas
 pub mod UnderWayLemmas
+pub mod GoneOutputLemmas
 pub mod JobLemmas
+pub mod PrintedLemmas
+pub mod PrintLemmas
 pub mod UnitStepLemmas
 pub mod UnitsLemmas

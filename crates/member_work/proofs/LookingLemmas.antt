@@ -95,22 +95,22 @@ told_job t n at r spelled some here = record {
 
 -- WHAT WAS READ
 
-abbrev read_code : Read → ℕ × (List (List ℕ) × ℕ)
+abbrev pub read_code : Read → ℕ × (List (List ℕ) × ℕ)
 read_code (read.Lines lines) = (0, (lines, 0))
 read_code (read.Gone group) = (1, ([], group.0))
 read_code (read.Lost volume) = (2, ([], volume))
 
-abbrev read_by : ℕ → List (List ℕ) → ℕ → Read
+abbrev pub read_by : ℕ → List (List ℕ) → ℕ → Read
 read_by zero lines n = read.Lines lines
 read_by (suc zero) lines n = read.Gone (record { 0 = n })
 read_by (suc (suc k)) lines n = read.Lost n
 
-read_back : (r : Read) → (let p = read_code r in read_by p.0 p.1.0 p.1.1) ≡ r
+pub read_back : (r : Read) → (let p = read_code r in read_by p.0 p.1.0 p.1.1) ≡ r
 read_back (read.Lines lines) = refl
 read_back (read.Gone group) = refl
 read_back (read.Lost volume) = refl
 
-abbrev coded_read : Coded Read
+abbrev pub coded_read : Coded Read
 coded_read = code_by (ℕ × (List (List ℕ) × ℕ)) (coded× coded_ℕ (coded× (coded_list (coded_list coded_ℕ)) coded_ℕ)) read_code (λ p. read_by p.0 p.1.0 p.1.1) read_back
 
 module _ (told : Type 0) (config : Config) (t : Tables) (Q : Queue) (v w : View) (r : JobRec) (j : Job) where

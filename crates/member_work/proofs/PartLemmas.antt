@@ -45,12 +45,14 @@ use Rattle.member_decks.proofs.TakeLemmas.{take_counts}
 use Rattle.work_units.specs.declared.units.UnitEnd.{UnitEnd}
 use Rattle.work_units.specs.declared.units.UnitEnd.TheVariants as ends
 use Rattle.work_units.specs.Next.{end_by}
+use Rattle.member_work.specs.Causes.{MayEndUnit}
 use Rattle.member_work.specs.Ending.{IsLastPart}
 use Rattle.member_work.specs.Rounds.{HasFailed, IsSpoolLost, IsSpooledIn}
 use Rattle.member_work.specs.Spooled.{AreSpooled, AreWritten}
 use Rattle.member_work.specs.Steps.{IsEndStep, IsKeeping, IsPlayOf, IsSpoolStep, IsUnderWay, begun_of}
 use Rattle.member_work.specs.Units.{UnitPlay, drop_groups, ended_with, ending, groups_for_end, job_ended, spooled, taken, taken_end, taken_queue, taking}
 use Rattle.member_work.specs.Work.{batches_in}
+use Rattle.member_work.proofs.CauseLemmas.{reply_caused, wider_end}
 use Rattle.member_work.proofs.EndingLemmas.{reply_end}
 use Rattle.member_work.proofs.GivingLemmas.{all_refused, end_refused, end_some, next_refused, none_free, take_nil, take_not_done, taking_all}
 use Rattle.member_work.proofs.KeepingLemmas.{keeping_starts, keeping_then}
@@ -106,6 +108,7 @@ module _ (told : Type 0) (by : MemberId) (at : ℕ) where
     gave = all;
     end = e;
     is = λ t. (refl, refl);
+    caused = λ from given. given;
     played = record { of = All-cons (AreOf by at) all [] of (All-nil (AreOf by at)); few = omega arith; idle = λ i. absurd (never i); keeps = keeps; left = tt; ends = tt };
   }
 
@@ -113,14 +116,15 @@ module _ (told : Type 0) (by : MemberId) (at : ℕ) where
     abbrev SpoolsBy : List Entry → List Batch → Bool → Bool → Bool → Bool → View → View → Result UnitEnd NodeNo → Type 0
     SpoolsBy is_left batches a a' b b' v w r = IsSpoolStep told by at per Q n specs so_far is_left front batches a a' b b' v w r
 
-    pub spool_ended : {S : Type 0} (s : S) (lost : Option ℕ) (all is_left : List Entry) (e : UnitEnd) (mid batches : List Batch) (a a' a'' b b' b'' : Bool) (v0 v1 v2 : View) (r : Result UnitEnd NodeNo)
+    pub spool_ended : {S : Type 0} (s : S) (lost : Option ℕ) (all is_left : List Entry) (e : UnitEnd) (mid batches : List Batch) (a a' a'' b b' b'' : Bool) (v0 v1 v2 : View) (r : Result UnitEnd NodeNo) → MayEndUnit by e v0 v2
         → (told → IsSpoolLost per (take (groups_for_end Q n specs) (held_by by Q.owners)) lost v0 v2 × IsPlayOf (spooled lost Q by at n specs) (all ∷ []) e)
         → IsKeeping {T = S} told by (batches_in (so_far ∷ [])) front mid a a' b b' v0 v1 (Ok s) → IsLastPart told by at all e is_left mid batches a' a'' b' b'' v1 v2 r → SpoolsBy is_left batches a a'' b b'' v0 v2 r
-    spool_ended {S} s lost all is_left e mid batches a a' a'' b b' b'' v0 v1 v2 r seen one two = record {
+    spool_ended {S} s lost all is_left e mid batches a a' a'' b b' b'' v0 v1 v2 r caused seen one two = record {
       lost = lost;
       last = two.gave;
       end = two.end;
       is = λ t. let here = two.is t in let both = seen t in (both.0, record { parts_are = ap (λ (es : List Entry). es ∷ []) here.0 ∙ both.1.parts_are; end_is = here.1 ∙ both.1.end_is });
+      caused = two.caused v0 caused;
       played = record {
         of = All-cons (AreOf by at) [] (two.gave ∷ []) (All-nil (λ (x : Entry). (x.by ≡ by) × (x.step ≡ at))) two.played.of;
         few = omega arith;
@@ -141,6 +145,7 @@ module _ (told : Type 0) (by : MemberId) (at : ℕ) where
           last = all;
           end = (spooled None Q by at n specs).ends;
           is = λ t. (tt, record { parts_are = refl; end_is = refl });
+          caused = reply_caused by v w (closing_reply all);
           played = record {
             of = All-cons (AreOf by at) [] (all ∷ []) (All-nil (λ (x : Entry). (x.by ≡ by) × (x.step ≡ at))) (All-cons (AreOf by at) all [] (given_of by at (ending Q by n specs) Q) (All-nil (AreOf by at)));
             few = omega arith;
@@ -158,27 +163,29 @@ module _ (told : Type 0) (by : MemberId) (at : ℕ) where
     Ends is_left batches a a' b b' v w r = IsEndStep told by at per Q n specs is_left front batches a a' b b' v w r
 
     -- in one part
-    pub end_one : (all is_left : List Entry) (e : UnitEnd) (batches : List Batch) (a a' b b' : Bool) (v w : View) (r : Result UnitEnd NodeNo)
+    pub end_one : (all is_left : List Entry) (e : UnitEnd) (batches : List Batch) (a a' b b' : Bool) (v w : View) (r : Result UnitEnd NodeNo) → MayEndUnit by e v w
         → ((part : List Entry) (end : UnitEnd) → told → part ≡ all → end ≡ e → IfOk r (λ x. x ≡ end) → IsPlayOf (job_ended None Q by at n specs) (part ∷ []) end)
         → IsLastPart told by at all e is_left front batches a a' b b' v w r → Ends is_left batches a a' b b' v w r
-    end_one all is_left e batches a a' b b' v w r seen one = record {
+    end_one all is_left e batches a a' b b' v w r caused seen one = record {
       lost = None;
       parts = one.gave ∷ [];
       end = one.end;
       is = λ t. let here = one.is t in (tt, seen one.gave one.end t here.0 here.1 one.played.ends);
+      caused = one.caused v caused;
       some = omega arith;
       small = omega arith;
       played = one.played;
     }
 
     -- where memory wanted in the first of two
-    pub end_first : (why : NodeNo) (all more is_left : List Entry) (e end : UnitEnd) (batches : List Batch) (a a' b b' : Bool) (v w : View) → AreOf by at more → (end ≡ ends.Idle → ⊥) → ((part : List Entry) → told → part ≡ all → IsPlayOf (job_ended None Q by at n specs) (part ∷ more ∷ []) end)
+    pub end_first : (why : NodeNo) (all more is_left : List Entry) (e end : UnitEnd) (batches : List Batch) (a a' b b' : Bool) (v w : View) → AreOf by at more → (end ≡ ends.Idle → ⊥) → MayEndUnit by end v w → ((part : List Entry) → told → part ≡ all → IsPlayOf (job_ended None Q by at n specs) (part ∷ more ∷ []) end)
         → IsLastPart told by at all e is_left front batches a a' b b' v w (Err why) → Ends is_left batches a a' b b' v w (Err why)
-    end_first why all more is_left e end batches a a' b b' v w of never seen one = record {
+    end_first why all more is_left e end batches a a' b b' v w of never caused seen one = record {
       lost = None;
       parts = one.gave ∷ more ∷ [];
       end = end;
       is = λ t. (tt, seen one.gave t (one.is t).0);
+      caused = caused;
       some = omega arith;
       small = omega arith;
       played = record {
@@ -204,6 +211,7 @@ module _ (told : Type 0) (by : MemberId) (at : ℕ) where
           parts = batch ∷ two.last ∷ [];
           end = two.end;
           is = λ t. seen two.lost two.last two.end t (here ∙ (one.is t).0) (one.played.ends ∙ (one.is t).1) (wider_lost per _ two.lost v0 v1 v2 v2 goes (goes_none v2) (two.is t).0) (two.is t).1;
+          caused = wider_end by v0 v1 v2 v2 goes (goes_none v2) two.end two.caused;
           some = omega arith;
           small = omega arith;
           played = record {

@@ -11,14 +11,16 @@ use Rattle.mas_types.specs.declared.ids.MemberId.{MemberId}
 use Rattle.mas_types.specs.declared.answers.Closing.{Closing}
 use Rattle.mas_types.specs.declared.answers.Closing.TheVariants as closing
 use Rattle.mas_types.specs.declared.jobs.Job.{Job}
+use Rattle.mas_types.specs.declared.jobs.Output.{Output}
 use Rattle.mas_types.specs.declared.jobs.Text.{Text}
 use Rattle.mas_types.specs.declared.journals.Entry.{Entry}
 use Rattle.mas_types.specs.declared.queues.Queue.{Queue}
 use Rattle.mas_types.specs.declared.units.Unit as units
 use Rattle.mas_types.specs.declared.units.Unit.TheVariants as unit
-use Rattle.mas_types.specs.Queue.{job_at}
+use Rattle.mas_types.specs.Queue.{job_at, output_at}
+use Rattle.mas_types.specs.Units.{unit_of}
 use Rattle.mas_complex.specs.Meaning.{run}
-use Rattle.spool_disk.specs.declared.plant.Part.TheVariants.{Disk as DiskPart}
+use Rattle.spool_disk.specs.declared.plant.Part.TheVariants.{Disk as DiskPart, Printer}
 use Rattle.spool_disk.specs.View.{View}
 use Rattle.spool_disk.specs.Acts.{Goes}
 use Rattle.member_decks.specs.Decks.{all_entries}
@@ -28,12 +30,11 @@ use Rattle.work_units.specs.declared.outcomes.Read.{Read}
 use Rattle.work_units.specs.declared.outcomes.Read.TheVariants as read
 use Rattle.work_units.specs.declared.units.UnitEnd.{UnitEnd}
 use Rattle.work_units.specs.declared.units.UnitEnd.TheVariants as ends
-use Rattle.work_units.specs.Next.{next_unit}
-use Rattle.member_work.specs.Looks.{Look, calm}
-use Rattle.member_work.specs.Rounds.{HasFailed, IsLookAt, IsLookOf, IsReadAs, IsRound, IsSpooledFor, IsSpooledIn}
-use Rattle.member_work.specs.Units.{UnitPlay, groups_for_end, job_play, next_play, no_unit, outcome_for, unit_play}
+use Rattle.member_work.specs.Looks.{Look, calm, read_of}
+use Rattle.member_work.specs.Rounds.{HasFailed, HasPrinterFailed, IsLookAt, IsLookOf, IsPrintLook, IsReadAs, IsRound, IsSpooledFor, IsSpooledIn}
+use Rattle.member_work.specs.Units.{UnitPlay, chunk_end, groups_for_end, job_play, next_play, no_unit, outcome_for, output_play, printed_end, unit_play}
 use Rattle.member_work.specs.Work.{Round, batches_in, closing_behind, closing_by, is_due, is_some_entry, left_between, left_in, parts_of, round_of, round_play, rounds, rounds_by, spent_between, spent_in, work_batches, work_closing, written, written_between, written_in}
-use Rattle.member_work.proofs.CalmLemmas.{outcome_ends, reply_ends}
+use Rattle.member_work.proofs.CalmLemmas.{mark_ends, outcome_ends, reply_ends}
 
 -- WHAT IS WRITTEN
 
@@ -68,10 +69,14 @@ idle_numbered : (Q : Queue) (by : MemberId) (at : ℕ) (runs : Bool) (look : Loo
 idle_numbered Q by at runs look None e = refl
 idle_numbered Q by at runs look (Some j) e = absurd (outcome_ends Q by at look.lost j.number (outcome_for runs look j) e)
 
+idle_printed : (Q : Queue) (by : MemberId) (at : ℕ) (look : Look) (found : Option Output) → (option_map_or (output_play Q by at look) found no_unit).ends ≡ ends.Idle → (option_map_or (output_play Q by at look) found no_unit).parts ≡ []
+idle_printed Q by at look None e = refl
+idle_printed Q by at look (Some o) e = absurd (mark_ends Q by at o.job o.index (chunk_end Q by o) (printed_end look.printer (read_of look.read o.text)) e)
+
 idle_unit : (Q : Queue) (by : MemberId) (at : ℕ) (look : Look) (u : units.Unit) → (unit_play Q by at look u).ends ≡ ends.Idle → (unit_play Q by at look u).parts ≡ []
-idle_unit Q by at look (unit.Print n i) e = refl
-idle_unit Q by at look (unit.Finish n i) e = refl
-idle_unit Q by at look unit.Pick e = refl
+idle_unit Q by at look (unit.Print n i) e = idle_printed Q by at look (output_at Q n i) e
+idle_unit Q by at look (unit.Finish n i) e = absurd (reply_ends _ e)
+idle_unit Q by at look unit.Pick e = absurd (reply_ends _ e)
 idle_unit Q by at look unit.Purge e = absurd (reply_ends _ e)
 idle_unit Q by at look unit.Gather e = absurd (reply_ends _ e)
 idle_unit Q by at look (unit.Run n) e = idle_numbered Q by at true look (job_at Q n) e
@@ -81,7 +86,7 @@ idle_unit Q by at look unit.TakeConvert e = absurd (reply_ends _ e)
 idle_unit Q by at look unit.Idle e = refl
 
 pub idle_parts : (Q : Queue) (by : MemberId) (at : ℕ) (look : Look) → (next_play Q by at look).ends ≡ ends.Idle → (next_play Q by at look).parts ≡ []
-idle_parts Q by at look e = idle_unit Q by at look (next_unit Q by) e
+idle_parts Q by at look e = idle_unit Q by at look (unit_of Q by) e
 
 -- A CALM LOOK is always possible
 
@@ -95,8 +100,12 @@ module _ (told : Type 0) (per : ℕ) (by : MemberId) (at : ℕ) (old new : View)
   calm_job runs Q None = tt
   calm_job runs Q (Some j) = record { is_read = tt; is_spooled = calm_for Q j.number (outcome_for runs calm j) }
 
+  pub calm_output : (Q : Queue) (found : Option Output) → IfSome found (IsPrintLook told per Q by calm old new)
+  calm_output Q None = tt
+  calm_output Q (Some o) = record { is_read = tt; printer = λ lost. absurd (cc) }
+
   calm_unit : (Q : Queue) (u : units.Unit) → IsLookAt told per Q by at calm old new u
-  calm_unit Q (unit.Print n i) = tt
+  calm_unit Q (unit.Print n i) = calm_output Q (output_at Q n i)
   calm_unit Q (unit.Finish n i) = tt
   calm_unit Q unit.Pick = tt
   calm_unit Q unit.Purge = tt
@@ -108,7 +117,7 @@ module _ (told : Type 0) (per : ℕ) (by : MemberId) (at : ℕ) (old new : View)
   calm_unit Q unit.Idle = tt
 
   pub calm_round : (Q : Queue) → IsRound told per by at old new (round_of Q calm)
-  calm_round Q = calm_unit Q (next_unit Q by)
+  calm_round Q = calm_unit Q (unit_of Q by)
 
   pub calm_seen : (m : ℕ) (Q : Queue) → All (IsRound told per by at old new) (rounds m Q by at [])
   calm_seen zero Q = All-nil (IsRound told per by at old new)
@@ -322,8 +331,15 @@ module _ (told : Type 0) (per : ℕ) (by : MemberId) (at : ℕ) (old from till n
   wider_job runs Q look None seen = tt
   wider_job runs Q look (Some j) seen = record { is_read = wider_read j.text _ look.read seen.is_read; is_spooled = wider_for Q j.number (outcome_for runs look j) look.lost seen.is_spooled }
 
+  pub wider_printer : HasPrinterFailed by from till → HasPrinterFailed by old new
+  wider_printer f = record { lost = after.lost (Printer by) f.lost; rose = omega (arith, f.rose, before.faults (Printer by), after.faults (Printer by)) }
+
+  pub wider_output : (Q : Queue) (look : Look) (found : Option Output) → IfSome found (IsPrintLook told per Q by look from till) → IfSome found (IsPrintLook told per Q by look old new)
+  wider_output Q look None seen = tt
+  wider_output Q look (Some o) seen = record { is_read = wider_read o.text _ look.read seen.is_read; printer = λ lost. wider_printer (seen.printer lost) }
+
   wider_unit : (Q : Queue) (look : Look) (u : units.Unit) → IsLookAt told per Q by at look from till u → IsLookAt told per Q by at look old new u
-  wider_unit Q look (unit.Print n i) seen = tt
+  wider_unit Q look (unit.Print n i) seen = wider_output Q look (output_at Q n i) seen
   wider_unit Q look (unit.Finish n i) seen = tt
   wider_unit Q look unit.Pick seen = tt
   wider_unit Q look unit.Purge seen = tt
@@ -335,7 +351,7 @@ module _ (told : Type 0) (per : ℕ) (by : MemberId) (at : ℕ) (old from till n
   wider_unit Q look unit.Idle seen = tt
 
   pub wider_round : (x : Round) → IsRound told per by at from till x → IsRound told per by at old new x
-  wider_round x seen = wider_unit x.queue x.look (next_unit x.queue by) seen
+  wider_round x seen = wider_unit x.queue x.look (unit_of x.queue by) seen
 
   pub wider_seen : (rs : List Round) → All (IsRound told per by at from till) rs → All (IsRound told per by at old new) rs
   wider_seen rs seen = All-weaker (IsRound told per by at from till) (IsRound told per by at old new) wider_round rs seen

@@ -16,8 +16,10 @@ use Rattle.table_queues.specs.Telling.{Tell, TellSound}
 use Rattle.mas_complex.specs.Crash.{IsUntold, setting}
 use Rattle.mas_complex.specs.Journals.{begun, end_of, kept_all}
 use Rattle.mas_complex.specs.Meaning.{run}
+use Rattle.mas_complex.specs.Paper.{MayBegin}
 use Rattle.mas_complex.specs.Texts.{HasTexts, Spools, lost_now, spools_at}
 use Rattle.mas_complex.specs.declared.places.Place.{Place}
+use Rattle.mas_complex.proofs.Allowed.{none_begins}
 use Rattle.member_node.specs.declared.checkpoint.Checkpoint.{Checkpoint}
 use Rattle.member_node.specs.declared.member.NodeNo.{NodeNo}
 use Rattle.ckpt_pages.specs.Shape.{page_count}
@@ -37,9 +39,9 @@ use Rattle.member_work.specs.Work.{batches_in}
 
 -- FROM A MEMBER BETWEEN COMMANDS, with nothing unwritten
 
-module _ (told : Type 0) (v : View) (since : ℕ) (base : Queue) (batches : List Batch) (current : Option Batch) (placed : Bool) (level : ℕ) (reserved : Option (List Entry)) (by : MemberId) (batch : List Entry) (k : Checkpoint) (room : List Page) (behind : Bool) where
+module _ (told : Type 0) (v : View) (since : ℕ) (base : Queue) (batches : List Batch) (current : Option Batch) (placed : Bool) (level : ℕ) (reserved : Option (List Entry)) (printed : List ℕ) (by : MemberId) (batch : List Entry) (k : Checkpoint) (room : List Page) (behind : Bool) where
   abbrev AtWork : Type 0
-  AtWork = IsAtWork told v since base batches current placed level reserved by batch k room behind
+  AtWork = IsAtWork told v since base batches current placed level reserved printed by batch k room behind
 
   pub work_between : IsBetween told base batches current placed level batch k → reserved ≡ None → behind ≡ false → length room ≡ length k.pages → base.config ≡ k.tables.config → (told → k.tables.order ≤ orders_after (length batches))
       → AreAllKept batches v.now → since ≤ v.now → (told → AreRoomy v base.config) → AtWork
@@ -63,6 +65,7 @@ module _ (told : Type 0) (v : View) (since : ℕ) (base : Queue) (batches : List
     begun = begun;
     roomy = roomy;
     texts = λ t some. let none = ap length between.nothing in absurd (omega (arith, some, none));
+    allowed = λ t. subst (λ (es : List Entry). MayBegin base batches printed es) (sym between.nothing) (none_begins base batches printed);
   }
 
   -- and back
@@ -91,8 +94,8 @@ module _ (told : Type 0) (v : View) (since : ℕ) (base : Queue) (batches : List
     work_calm alive place count read rests = calm_rest told alive place count k.pages read (length room) w.many rests
 
     -- later, where nothing of its changed
-    pub work_later : (v' : View) → Goes v v' → IsAtWork told v' since base batches current placed level reserved by batch k room behind
-    work_later v' goes = record {
+    pub work_later : (v' : View) (printed' : List ℕ) → Goes v v' → IsAtWork told v' since base batches current placed level reserved printed' by batch k room behind
+    work_later v' printed' goes = record {
       none = w.none;
       unreserved = w.unreserved;
       unplaced = w.unplaced;
@@ -112,6 +115,7 @@ module _ (told : Type 0) (v : View) (since : ℕ) (base : Queue) (batches : List
       begun = let le = w.begun in let later = goes.later in omega (arith, le, later);
       roomy = λ t. still_roomy base.config v v' goes (w.roomy t);
       texts = λ t some. let none = ap length nothing in absurd (omega (arith, some, none));
+      allowed = λ t. subst (λ (es : List Entry). MayBegin base batches printed' es) (sym nothing) (none_begins base batches printed');
     }
 
   -- what is kept of an order that grew by the entries
@@ -181,16 +185,17 @@ between_by told base base' batches batches' current current' placed placed' leve
 }
 
 -- AT WORK, by other names
-pub work_by : (told : Type 0) (v v' : View) (since since' : ℕ) (base base' : Queue) (batches batches' : List Batch) (current current' : Option Batch) (placed placed' : Bool) (level level' : ℕ) (reserved reserved' : Option (List Entry)) (by by' : MemberId) (batch : List Entry) (k : Checkpoint) (room : List Page) (behind : Bool)
-    → v' ≡ v → since' ≡ since → base' ≡ base → batches' ≡ batches → current' ≡ current → placed' ≡ placed → level' ≡ level → reserved' ≡ None → by' ≡ by
-    → IsAtWork told v since base batches current placed level reserved by batch k room behind → IsAtWork told v' since' base' batches' current' placed' level' reserved' by' batch k room behind
-work_by told v v' since since' base base' batches batches' current current' placed placed' level level' reserved reserved' by by' batch k room behind ev es eb ej ec ep el er ei w =
-    subst (λ (i : MemberId). IsAtWork told v' since' base' batches' current' placed' level' reserved' i batch k room behind) (sym ei)
-    (subst (λ (o : Option (List Entry)). IsAtWork told v' since' base' batches' current' placed' level' o by batch k room behind) (w.unreserved ∙ sym er)
-    (subst (λ (n : ℕ). IsAtWork told v' since' base' batches' current' placed' n reserved by batch k room behind) (sym el)
-    (subst (λ (p : Bool). IsAtWork told v' since' base' batches' current' p level reserved by batch k room behind) (sym ep)
-    (subst (λ (o : Option Batch). IsAtWork told v' since' base' batches' o placed level reserved by batch k room behind) (sym ec)
-    (subst (λ (bs : List Batch). IsAtWork told v' since' base' bs current placed level reserved by batch k room behind) (sym ej)
-    (subst (λ (q : Queue). IsAtWork told v' since' q batches current placed level reserved by batch k room behind) (sym eb)
-    (subst (λ (n : ℕ). IsAtWork told v' n base batches current placed level reserved by batch k room behind) (sym es)
-    (subst (λ (u : View). IsAtWork told u since base batches current placed level reserved by batch k room behind) (sym ev) w))))))))
+pub work_by : (told : Type 0) (v v' : View) (since since' : ℕ) (base base' : Queue) (batches batches' : List Batch) (current current' : Option Batch) (placed placed' : Bool) (level level' : ℕ) (reserved reserved' : Option (List Entry)) (printed printed' : List ℕ) (by by' : MemberId) (batch : List Entry) (k : Checkpoint) (room : List Page) (behind : Bool)
+    → v' ≡ v → since' ≡ since → base' ≡ base → batches' ≡ batches → current' ≡ current → placed' ≡ placed → level' ≡ level → reserved' ≡ None → printed' ≡ printed → by' ≡ by
+    → IsAtWork told v since base batches current placed level reserved printed by batch k room behind → IsAtWork told v' since' base' batches' current' placed' level' reserved' printed' by' batch k room behind
+work_by told v v' since since' base base' batches batches' current current' placed placed' level level' reserved reserved' printed printed' by by' batch k room behind ev es eb ej ec ep el er en ei w =
+    subst (λ (i : MemberId). IsAtWork told v' since' base' batches' current' placed' level' reserved' printed' i batch k room behind) (sym ei)
+    (subst (λ (l : List ℕ). IsAtWork told v' since' base' batches' current' placed' level' reserved' l by batch k room behind) (sym en)
+    (subst (λ (o : Option (List Entry)). IsAtWork told v' since' base' batches' current' placed' level' o printed by batch k room behind) (w.unreserved ∙ sym er)
+    (subst (λ (n : ℕ). IsAtWork told v' since' base' batches' current' placed' n reserved printed by batch k room behind) (sym el)
+    (subst (λ (p : Bool). IsAtWork told v' since' base' batches' current' p level reserved printed by batch k room behind) (sym ep)
+    (subst (λ (o : Option Batch). IsAtWork told v' since' base' batches' o placed level reserved printed by batch k room behind) (sym ec)
+    (subst (λ (bs : List Batch). IsAtWork told v' since' base' bs current placed level reserved printed by batch k room behind) (sym ej)
+    (subst (λ (q : Queue). IsAtWork told v' since' q batches current placed level reserved printed by batch k room behind) (sym eb)
+    (subst (λ (n : ℕ). IsAtWork told v' n base batches current placed level reserved printed by batch k room behind) (sym es)
+    (subst (λ (u : View). IsAtWork told u since base batches current placed level reserved printed by batch k room behind) (sym ev) w)))))))))

@@ -1,11 +1,13 @@
--- The job that a member goes on with is in Convert or Execute, and has no output.
-use Rattle.std.proofs.Common.{◌≡◌, ◌&&◌, ◌||◌, ℕ, Bool, true, false, List, [], ◌∷◌, map, Option, Some, None, refl, sym, ap, subst, ◌∙◌, arith}
+-- The job that a member goes on with is in Convert or Execute, and has no output; and the output that it prints.
+use Rattle.std.proofs.Common.{◌≡◌, ◌⊎◌, inl, inr, ⊎_elim, ◌&&◌, ◌||◌, nat_lt, if◌then◌else◌, All, ℕ, Bool, true, false, List, [], ◌∷◌, map, Option, Some, None, refl, sym, ap, subst, ◌∙◌, arith}
 use Rattle.std.specs.Prelude.{unwrap_or}
 use Rattle.std.specs.Option.{option_map, option_map_or}
 use Rattle.std.specs.List.{find, list_any}
 use Rattle.std.proofs.lemmas.Bool.Decides.{nat_tests}
+use Rattle.std.proofs.lemmas.List.Elements.{All-head, All-tail}
 use Rattle.mas_types.specs.declared.ids.JobNo.{JobNo}
 use Rattle.mas_types.specs.declared.ids.MemberId.{MemberId}
+use Rattle.mas_types.specs.declared.ids.OutNo.{OutNo}
 use Rattle.mas_types.specs.declared.jobs.Job.{Job}
 use Rattle.mas_types.specs.declared.jobs.Output.{Output}
 use Rattle.mas_types.specs.declared.jobs.Phase.{Phase}
@@ -14,49 +16,90 @@ use Rattle.mas_types.specs.declared.queues.Queue.{Queue}
 use Rattle.mas_types.specs.declared.units.Unit as units
 use Rattle.mas_types.specs.declared.units.Unit.TheVariants as unit
 use Rattle.mas_types.specs.Commands.Life.{runs}
-use Rattle.mas_types.specs.Fit.{AreDistinct}
+use Rattle.mas_types.specs.Fit.{AreDistinct, IsIndex}
 use Rattle.mas_types.specs.Ids.{is_somebody, same_number}
 use Rattle.mas_types.specs.Lists.{first_some}
-use Rattle.mas_types.specs.Queue.{first_in, has_output, in_convert, in_execute, in_output, in_purge, is_busy_at, is_of, job_at}
-use Rattle.mas_types.specs.Selection.{for_convert, for_execute}
-use Rattle.mas_types.specs.Sound.{IsSound, IsSoundOutput, is_there, may_have_outputs}
-use Rattle.mas_types.specs.Units.{unit_if, working_at}
+use Rattle.mas_types.specs.Queue.{first_in, has_output, in_convert, in_execute, in_output, in_purge, is_busy_at, is_of, job_at, output_at, printing_at, prints_at, total}
+use Rattle.mas_types.specs.Selection.{for_convert, for_execute, for_printer}
+use Rattle.mas_types.specs.Sound.{IsSound, IsSoundOutput, is_there, may_have_outputs, same_key}
+use Rattle.mas_types.specs.Units.{print_unit, unit_if, unit_of, working_at}
 use Rattle.queue_laws.proofs.Finds.{find-All, test_cases}
-use Rattle.queue_laws.proofs.Others.{IsFoundIn, found_itself}
+use Rattle.queue_laws.proofs.Others.{IsFoundIn, IsKeyFoundIn, found_itself, key_found_itself}
 use Rattle.queue_laws.proofs.SoundEnter.{All-none}
 use Rattle.lay_bytes.specs.declared.records.JobRec.{JobRec}
 use Rattle.lay_bytes.specs.declared.records.OutRec.{OutRec}
+use Rattle.lay_bytes.specs.Slots.{IsOutRec}
 use Rattle.ckpt_pages.specs.declared.tables.Tables.{Tables}
+use Rattle.ckpt_pages.specs.QueueOf.{used}
+use Rattle.ckpt_pages.specs.Shape.{HasSpelling}
+use Rattle.ckpt_pages.proofs.SlotLists.{all_used}
+use Rattle.slot_order.specs.Listed.{listed}
+use Rattle.slot_order.proofs.Rising.{All-in_order}
 use Rattle.job_queue.specs.Jobs as jobs
 use Rattle.output_queue.specs.Outputs as outputs
 use Rattle.table_queues.specs.Telling.{Tell, TellSound}
 use Rattle.queue_texts.specs.Leaving.{ToldAreTheirOwn}
-use Rattle.work_units.specs.Next.{next_unit}
+use Rattle.member_work.specs.Printing.{IsPrinting}
 use Rattle.member_work.specs.Steps.{IsUnderWay}
 
 -- WHICH UNIT IS NEXT
 
-module _ (n : JobNo) (a b r c e f : Option Job) where
+-- the unit of a printer, by whether its output has lines behind its mark
+print_or : (b : Bool) (u : units.Unit) (n : JobNo) (i : OutNo) → (if b then unit.Print n i else unit.Finish n i) ≡ u → ((b ≡ true) × (unit.Print n i ≡ u)) ⊎ ((b ≡ false) × (unit.Finish n i ≡ u))
+print_or true u n i is = inl (refl, is)
+print_or false u n i is = inr (refl, is)
+
+no_run : (o : Output) (n : JobNo) → print_unit o ≡ unit.Run n → ⊥
+no_run o n is = ⊎_elim (λ w. let other = w.1 in cc) (λ w. let other = w.1 in cc) (print_or (nat_lt o.mark (total o)) (unit.Run n) o.job o.index is)
+
+no_convert : (o : Output) (n : JobNo) → print_unit o ≡ unit.Convert n → ⊥
+no_convert o n is = ⊎_elim (λ w. let other = w.1 in cc) (λ w. let other = w.1 in cc) (print_or (nat_lt o.mark (total o)) (unit.Convert n) o.job o.index is)
+
+module _ (n : JobNo) (p k : Option Output) (a b r c e f : Option Job) where
   abbrev chosen : units.Unit
-  chosen = unwrap_or (first_some (unit_if unit.Purge a ∷ unit_if unit.Gather b ∷ option_map (λ j. unit.Run j.number) r ∷ option_map (λ j. unit.Convert j.number) c ∷ unit_if unit.TakeExec e ∷ unit_if unit.TakeConvert f ∷ [])) unit.Idle
+  chosen = unwrap_or (first_some (option_map print_unit p ∷ unit_if unit.Pick k ∷ unit_if unit.Purge a ∷ unit_if unit.Gather b ∷ option_map (λ j. unit.Run j.number) r ∷ option_map (λ j. unit.Convert j.number) c ∷ unit_if unit.TakeExec e ∷ unit_if unit.TakeConvert f ∷ [])) unit.Idle
 
-run_is : (n : JobNo) (a b r c e f : Option Job) → chosen n a b r c e f ≡ unit.Run n → (j : Job) × (r ≡ Some j) × (j.number ≡ n)
-run_is n (Some x) b r c e f is = absurd (cc)
-run_is n None (Some x) r c e f is = absurd (cc)
-run_is n None None (Some j) c e f is = (j, refl, cc)
-run_is n None None None (Some x) e f is = absurd (cc)
-run_is n None None None None (Some x) f is = absurd (cc)
-run_is n None None None None None (Some x) is = absurd (cc)
-run_is n None None None None None None is = absurd (cc)
+run_is : (n : JobNo) (p k : Option Output) (a b r c e f : Option Job) → chosen n p k a b r c e f ≡ unit.Run n → (j : Job) × (r ≡ Some j) × (j.number ≡ n)
+run_is n (Some o) k a b r c e f is = absurd (no_run o n is)
+run_is n None (Some x) a b r c e f is = absurd (cc)
+run_is n None None (Some x) b r c e f is = absurd (cc)
+run_is n None None None (Some x) r c e f is = absurd (cc)
+run_is n None None None None (Some j) c e f is = (j, refl, cc)
+run_is n None None None None None (Some x) e f is = absurd (cc)
+run_is n None None None None None None (Some x) f is = absurd (cc)
+run_is n None None None None None None None (Some x) is = absurd (cc)
+run_is n None None None None None None None None is = absurd (cc)
 
-convert_is : (n : JobNo) (a b r c e f : Option Job) → chosen n a b r c e f ≡ unit.Convert n → (j : Job) × (c ≡ Some j) × (j.number ≡ n)
-convert_is n (Some x) b r c e f is = absurd (cc)
-convert_is n None (Some x) r c e f is = absurd (cc)
-convert_is n None None (Some x) c e f is = absurd (cc)
-convert_is n None None None (Some j) e f is = (j, refl, cc)
-convert_is n None None None None (Some x) f is = absurd (cc)
-convert_is n None None None None None (Some x) is = absurd (cc)
-convert_is n None None None None None None is = absurd (cc)
+convert_is : (n : JobNo) (p k : Option Output) (a b r c e f : Option Job) → chosen n p k a b r c e f ≡ unit.Convert n → (j : Job) × (c ≡ Some j) × (j.number ≡ n)
+convert_is n (Some o) k a b r c e f is = absurd (no_convert o n is)
+convert_is n None (Some x) a b r c e f is = absurd (cc)
+convert_is n None None (Some x) b r c e f is = absurd (cc)
+convert_is n None None None (Some x) r c e f is = absurd (cc)
+convert_is n None None None None (Some x) c e f is = absurd (cc)
+convert_is n None None None None None (Some j) e f is = (j, refl, cc)
+convert_is n None None None None None None (Some x) f is = absurd (cc)
+convert_is n None None None None None None None (Some x) is = absurd (cc)
+convert_is n None None None None None None None None is = absurd (cc)
+
+-- of the printer's output
+printer_is : (u : units.Unit) (n : JobNo) (i : OutNo) → (u ≡ unit.Print n i) ⊎ (u ≡ unit.Finish n i) → (p k : Option Output) (a b r c e f : Option Job) → chosen n p k a b r c e f ≡ u → (o : Output) × (p ≡ Some o) × (print_unit o ≡ u)
+printer_is u n i either (Some o) k a b r c e f is = (o, refl, is)
+printer_is u n i either None k a b r c e f is = absurd (⊎_elim (λ w. others k a b r c e f (inl (is ∙ w))) (λ w. others k a b r c e f (inr (is ∙ w))) either) where
+  others : (k : Option Output) (a b r c e f : Option Job) → (chosen n None k a b r c e f ≡ unit.Print n i) ⊎ (chosen n None k a b r c e f ≡ unit.Finish n i) → ⊥
+  others (Some x) a b r c e f w = ⊎_elim (λ is. cc) (λ is. cc) w
+  others None (Some x) b r c e f w = ⊎_elim (λ is. cc) (λ is. cc) w
+  others None None (Some x) r c e f w = ⊎_elim (λ is. cc) (λ is. cc) w
+  others None None None (Some x) c e f w = ⊎_elim (λ is. cc) (λ is. cc) w
+  others None None None None (Some x) e f w = ⊎_elim (λ is. cc) (λ is. cc) w
+  others None None None None None (Some x) f w = ⊎_elim (λ is. cc) (λ is. cc) w
+  others None None None None None None (Some x) w = ⊎_elim (λ is. cc) (λ is. cc) w
+  others None None None None None None None w = ⊎_elim (λ is. cc) (λ is. cc) w
+
+printing_is : (o : Output) (n : JobNo) (i : OutNo) → print_unit o ≡ unit.Print n i → (nat_lt o.mark (total o) ≡ true) × (o.job ≡ n) × (o.index ≡ i)
+printing_is o n i is = ⊎_elim (λ w. let one = w.1 in (w.0, cc, cc)) (λ w. let other = w.1 in absurd (cc)) (print_or (nat_lt o.mark (total o)) (unit.Print n i) o.job o.index is)
+
+finishing_is : (o : Output) (n : JobNo) (i : OutNo) → print_unit o ≡ unit.Finish n i → o.index ≡ i
+finishing_is o n i is = ⊎_elim (λ w. let other = w.1 in absurd (cc)) (λ w. let one = w.1 in cc) (print_or (nat_lt o.mark (total o)) (unit.Finish n i) o.job o.index is)
 
 -- THE JOB AT WORK
 
@@ -129,7 +172,7 @@ module _ {X C : Type 0} (shows : X → C) where
 -- IT HAS NO OUTPUT
 
 -- of a sound queue
-sound_none : (S : Queue) (n : JobNo) (x : Job) → IsSound S → job_at S n ≡ Some x → runs x.phase ≡ true → has_output n S ≡ false
+pub sound_none : (S : Queue) (n : JobNo) (x : Job) → IsSound S → job_at S n ≡ Some x → runs x.phase ≡ true → has_output n S ≡ false
 sound_none S n x sound found ran = All-none (is_of n) S.outputs (λ k d lt. by_output _ (sound.outputs k d lt)) where
   ends_there : (o : Output) → same_number o.job n ≡ true → is_there (λ j. may_have_outputs j.phase) S.jobs o.job ≡ true → ⊥
   ends_there o of_it there =
@@ -170,12 +213,58 @@ under_way t Q m n in_phase j own s told ran is number =
     let runs_it : runs j.phase ≡ true = ran j.phase here.1 in
     record { job = j; there = found; phase = runs_it; none = none_of t Q n j s told found runs_it }
 
-pub run_under_way : (t : Tables) (Q : Queue) (m : MemberId) (n : JobNo) → ToldAreTheirOwn → TellSound t → Tell t Q → unit.Run n ≡ next_unit Q m → IsUnderWay Q n
+pub run_under_way : (t : Tables) (Q : Queue) (m : MemberId) (n : JobNo) → ToldAreTheirOwn → TellSound t → Tell t Q → unit.Run n ≡ unit_of Q m → IsUnderWay Q n
 run_under_way t Q m n own s told is =
-    let w = run_is n (first_in in_purge Q) (first_in in_output Q) (working_at Q m in_execute) (working_at Q m in_convert) (for_execute Q m) (for_convert Q) (sym is) in
+    let w = run_is n (printing_at Q m) (for_printer Q m) (first_in in_purge Q) (first_in in_output Q) (working_at Q m in_execute) (working_at Q m in_convert) (for_execute Q m) (for_convert Q) (sym is) in
     under_way t Q m n in_execute w.0 own s told runs_execute w.1 w.2
 
-pub convert_under_way : (t : Tables) (Q : Queue) (m : MemberId) (n : JobNo) → ToldAreTheirOwn → TellSound t → Tell t Q → unit.Convert n ≡ next_unit Q m → IsUnderWay Q n
+pub convert_under_way : (t : Tables) (Q : Queue) (m : MemberId) (n : JobNo) → ToldAreTheirOwn → TellSound t → Tell t Q → unit.Convert n ≡ unit_of Q m → IsUnderWay Q n
 convert_under_way t Q m n own s told is =
-    let w = convert_is n (first_in in_purge Q) (first_in in_output Q) (working_at Q m in_execute) (working_at Q m in_convert) (for_execute Q m) (for_convert Q) (sym is) in
+    let w = convert_is n (printing_at Q m) (for_printer Q m) (first_in in_purge Q) (first_in in_output Q) (working_at Q m in_execute) (working_at Q m in_convert) (for_execute Q m) (for_convert Q) (sym is) in
     under_way t Q m n in_convert w.0 own s told runs_convert w.1 w.2
+
+-- THE OUTPUT AT THE PRINTER
+
+printed_there : (Q : Queue) (m : MemberId) (o : Output) → AreDistinct same_key Q.outputs → printing_at Q m ≡ Some o → output_at Q o.job o.index ≡ Some o
+printed_there Q m o keys is =
+    test_cases (is_somebody m) (output_at Q o.job o.index ≡ Some o)
+    (λ e. let found : find (prints_at m) Q.outputs ≡ Some o = rw e at is in (find-All (IsKeyFoundIn Q.outputs) (prints_at m) Q.outputs o (key_found_itself Q.outputs keys) found).0)
+    (λ e. absurd (let none = rw e at is in cc))
+
+pub print_under_way : (t : Tables) (Q : Queue) (m : MemberId) (n : JobNo) (i : OutNo) → ToldAreTheirOwn → TellSound t → Tell t Q → unit.Print n i ≡ unit_of Q m → IsPrinting Q m n i
+print_under_way t Q m n i own s told is =
+    let w = printer_is (unit.Print n i) n i (inl refl) (printing_at Q m) (for_printer Q m) (first_in in_purge Q) (first_in in_output Q) (working_at Q m in_execute) (working_at Q m in_convert) (for_execute Q m) (for_convert Q) (sym is) in
+    let key = printing_is w.0 n i w.2 in
+    let there : output_at Q w.0.job w.0.index ≡ Some w.0 = printed_there Q m w.0 (own t Q s told).keys w.1 in
+    record {
+      output = w.0;
+      there = subst (λ (k : JobNo). output_at Q k i ≡ Some w.0) key.1 (subst (λ (x : OutNo). output_at Q w.0.job x ≡ Some w.0) key.2 there);
+      busy = w.1;
+      below = let small = key.0 in grind (arith, nat_tests);
+    }
+
+-- that of a unit which finishes it has an index, whatever is told
+indexed : (rs : List OutRec) (os : List Output) (p : Output → Bool) (o : Output) → map outputs.unordered rs ≡ map outputs.rec_of os → All IsOutRec rs → find p os ≡ Some o → IsIndex o.index.0
+indexed [] [] p o same all found = absurd (cc)
+indexed [] (y ∷ os) p o same all found = absurd (cc)
+indexed (r ∷ rs) [] p o same all found = absurd (cc)
+indexed (r ∷ rs) (y ∷ os) p o same all found =
+    let here : outputs.unordered r ≡ outputs.rec_of y = cc in
+    let rest : map outputs.unordered rs ≡ map outputs.rec_of os = cc in
+    test_cases (p y) (IsIndex o.index.0)
+    (λ e. let is : Some y ≡ Some o = rw e at found in let same_one : y ≡ o = cc in
+    let index : r.index ≡ o.index = ap (λ (x : OutRec). x.index) here ∙ ap (λ (x : Output). x.index) same_one in
+    subst (λ (x : OutNo). IsIndex x.0) index (All-head IsOutRec r rs all).index)
+    (λ e. let later : find p os ≡ Some o = rw e at found in indexed rs os p o rest (All-tail IsOutRec r rs all) later)
+
+indexed_at : (t : Tables) (Q : Queue) (m : MemberId) (o : Output) → HasSpelling t → Tell t Q → printing_at Q m ≡ Some o → IsIndex o.index.0
+indexed_at t Q m o spelled told is =
+    test_cases (is_somebody m) (IsIndex o.index.0)
+    (λ e. let found : find (prints_at m) Q.outputs ≡ Some o = rw e at is in
+    indexed (listed outputs.order_of t.outputs) Q.outputs (prints_at m) o told.outputs (All-in_order outputs.order_of IsOutRec (used t.outputs) (all_used IsOutRec t.outputs spelled.outputs)) found)
+    (λ e. absurd (let none = rw e at is in cc))
+
+pub finish_indexed : (t : Tables) (Q : Queue) (m : MemberId) (n : JobNo) (i : OutNo) → HasSpelling t → Tell t Q → unit.Finish n i ≡ unit_of Q m → IsIndex i.0
+finish_indexed t Q m n i spelled told is =
+    let w = printer_is (unit.Finish n i) n i (inr refl) (printing_at Q m) (for_printer Q m) (first_in in_purge Q) (first_in in_output Q) (working_at Q m in_execute) (working_at Q m in_convert) (for_execute Q m) (for_convert Q) (sym is) in
+    subst (λ (x : OutNo). IsIndex x.0) (finishing_is w.0 n i w.2) (indexed_at t Q m w.0 spelled told w.1)

@@ -17,6 +17,7 @@ use Rattle.member_decks.specs.Keeping.{IsOnCopies}
 use Rattle.member_work.specs.Looks.{Look}
 use Rattle.member_work.specs.Steps.{IsClosing, IsWorkOf, IsWorkStep, IsWorking}
 use Rattle.member_work.specs.Work.{batches_in, parts_of, rounds, work_closing, written}
+use Rattle.member_work.proofs.CauseLemmas.{calm_close, wider_close}
 use Rattle.member_work.proofs.KeepingLemmas.{held_not, held_ok}
 use Rattle.member_work.proofs.WrittenLemmas.{batches_all, few_batches, few_units, later_ours, units_all}
 use Rattle.member_work.proofs.ClosingLemmas.{closing_error, closing_then}
@@ -32,6 +33,7 @@ module _ (told : Type 0) (by : MemberId) where
     is = s.is;
     of = s.of;
     few = s.few;
+    caused = s.caused;
     closes = closing_error told by Closing e (closing_line by at s.end ∷ []) s.written front batches a a' b b' v w s.keeps;
   }
 
@@ -53,6 +55,7 @@ module _ (told : Type 0) (by : MemberId) where
         is = λ t. wider_of at per n Q s.looks (s.written ++ batches_in (left ∷ [])) s.end v0 v1 v2 closes1.course.goes (s.is t);
         of = s.of;
         few = s.few;
+        caused = wider_close n by s.end v0 v0 v1 v2 (goes_none v0) closes1.course.goes s.caused;
         closes = closing_then told by {S = Closing} end r (closing_line by at s.end ∷ []) s.written (batches_in (left ∷ [])) front mid batches a a' a'' b b' b'' v0 v1 v2 s.keeps closes2;
       }
 
@@ -74,6 +77,7 @@ module _ (told : Type 0) (by : MemberId) where
         is = λ t. record { seen = calm_seen told per by at v w n Q; batches = refl; ends = refl };
         of = batches_all (λ e. (e.by ≡ by) × (e.step ≡ at)) wrote (units_all (λ e. (e.by ≡ by) × (e.step ≡ at)) Q.config.hold 0 [] us (All-nil (λ (e : Entry). (e.by ≡ by) × (e.step ≡ at))) all.each);
         few = omega (arith, more, most, fewer);
+        caused = calm_close n at Q by v w;
         closes = closing_error told by (Unit {0}) e (closing_line by at (work_closing Q by at n []) ∷ []) (batches_in wrote) front batches a a' b b' v w (held_not {T = Unit {0}} told by front batches same e (batches_in wrote) a a' b b' v w acts);
       }
 
@@ -87,6 +91,7 @@ module _ (told : Type 0) (by : MemberId) where
     is = λ t. let f = s.is t in record { seen = wider_seen told per by at v0 v1 v2 v2 acts.course.goes (goes_none v2) (rounds n Q by at s.looks) f.seen; batches = f.batches; ends = f.ends };
     of = s.of;
     few = s.few;
+    caused = wider_close n by s.end v0 v1 v2 v2 acts.course.goes (goes_none v2) s.caused;
     closes = closing_then told by {S = Unit {0}} tt r (closing_line by at s.end ∷ []) [] s.gave front front batches a a' a'' b b' b'' v0 v1 v2 (held_ok {T = Unit {0}} told by front front refl tt a a' b b' v0 v1 acts) s.closes;
   }
 

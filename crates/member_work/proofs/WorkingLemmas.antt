@@ -1,5 +1,5 @@
 -- The units of a step, from one of them on: what follows a unit and the rest behind it, or an error in one of them.
-use Rattle.std.proofs.Common.{◌≡◌, ℕ, suc, ◌+◌, ◌*◌, ◌≤◌, List, [], ◌∷◌, ◌++◌, length, All, Option, None, Bool, false, Result, Ok, Err, IfOk, append_assoc, append-nil, refl, sym, ◌∙◌, ap, subst, arith}
+use Rattle.std.proofs.Common.{◌≡◌, inl, inr, ℕ, suc, ◌+◌, ◌*◌, ◌≤◌, List, [], ◌∷◌, ◌++◌, length, All, Option, None, Bool, false, Result, Ok, Err, IfOk, append_assoc, append-nil, refl, sym, ◌∙◌, ap, subst, arith}
 use Rattle.std.proofs.lemmas.List.{length-append}
 use Rattle.std.proofs.lemmas.List.Elements.{All-nil, All-cons, All-append}
 use Rattle.mas_types.specs.declared.ids.MemberId.{MemberId}
@@ -19,11 +19,13 @@ use Rattle.member_decks.specs.Decks.{all_entries}
 use Rattle.member_decks.specs.Steps.{AreOf}
 use Rattle.work_units.specs.declared.units.UnitEnd.{UnitEnd}
 use Rattle.work_units.specs.declared.units.UnitEnd.TheVariants as ends
+use Rattle.member_work.specs.Causes.{MayClose, MayEndUnit}
 use Rattle.member_work.specs.Looks.{Look}
 use Rattle.member_work.specs.Rounds.{IsRound}
 use Rattle.member_work.specs.Steps.{IsKeeping, IsRest, IsUnitStep, IsWorking, given_by}
 use Rattle.member_work.specs.Units.{UnitPlay, next_play}
 use Rattle.member_work.specs.Work.{Round, batches_in, closing_behind, closing_by, left_between, left_in, parts_of, round_of, rounds, rounds_by, spent_between, spent_in, written, written_between, written_in}
+use Rattle.member_work.proofs.CauseLemmas.{calm_closes, more_close, wider_close}
 use Rattle.member_work.proofs.KeepingLemmas.{keeping_error, keeping_ok, keeping_starts, keeping_then}
 use Rattle.member_work.proofs.LeavesLemmas.{StartsAs}
 use Rattle.member_work.proofs.RoundLemmas.{calm_seen, one_last, one_more, wider_round, wider_seen}
@@ -101,6 +103,7 @@ module _ (told : Type 0) (by : MemberId) (at per hold : ℕ) where
     pub is : told → IsFrom m done Q so_far spent looks old new (given_by result wrote is_left) end
     pub of : All (AreOf by at) (given_by result wrote is_left)
     pub few : length (given_by result wrote is_left) ≤ 3 * m + 1
+    pub caused : MayClose (done + m) by end old new
     pub keeps : IsKeeping told by wrote front batches was1 is1 was2 is2 old new result
     pub ends : IfOk result (λ e. e ≡ end)
 
@@ -118,6 +121,7 @@ module _ (told : Type 0) (by : MemberId) (at per hold : ℕ) where
     };
     of = w.of;
     few = w.few;
+    caused = more_close by old new (0 + n) n w.end (omega arith) w.caused;
     keeps = w.keeps;
     ends = w.ends;
   }
@@ -147,14 +151,15 @@ module _ (told : Type 0) (by : MemberId) (at per hold : ℕ) where
           let long = length-append (batches_in (written_in so_far step.parts)) (batches_in (left ∷ [])) in
           omega (arith, two, first, last, long)
 
-      by_last : (c : Closing) → (told → IsFrom (suc m) done Q so_far spent (step.look ∷ []) v0 v1 gave c) → From left mid a1 b1 v1 (Ok c)
-      by_last c is = record {
+      by_last : (c : Closing) → MayClose (done + suc m) by c v0 v1 → (told → IsFrom (suc m) done Q so_far spent (step.look ∷ []) v0 v1 gave c) → From left mid a1 b1 v1 (Ok c)
+      by_last c caused is = record {
         looks = step.look ∷ [];
         wrote = batches_in (written_in so_far step.parts);
         end = c;
         is = is;
         of = gave_of;
         few = gave_few;
+        caused = caused;
         keeps = keeping_ok {S = UnitEnd} {T = Closing} told by end c (batches_in (written_in so_far step.parts)) front mid a a1 b b1 v0 v1 step.played.keeps;
         ends = refl;
       }
@@ -169,11 +174,11 @@ module _ (told : Type 0) (by : MemberId) (at per hold : ℕ) where
       end_told t = step.played.ends ∙ (step.is t).1.end_is
 
       pub working_refused : (c : Closing) → end ≡ ends.Refused c → From left mid a1 b1 v1 (Ok c)
-      working_refused c is = by_last c (λ t. subst (λ (g : List (List Entry)). IsFrom (suc m) done Q so_far spent (step.look ∷ []) v0 v1 g c) (told_gave t)
+      working_refused c is = by_last c (inr (subst (λ (u : UnitEnd). MayEndUnit by u v0 v1) (sym step.played.ends ∙ is) step.caused)) (λ t. subst (λ (g : List (List Entry)). IsFrom (suc m) done Q so_far spent (step.look ∷ []) v0 v1 g c) (told_gave t)
           (from_refused m done Q so_far spent step.look v0 v1 (step.is t).0 c (sym is ∙ end_told t)))
 
       pub working_last : m ≡ 0 → end ≡ ends.Done → From left mid a1 b1 v1 (Ok (closing.DoneUnits (done + 1)))
-      working_last none is = by_last (closing.DoneUnits (done + 1)) (λ t. subst (λ (g : List (List Entry)). IsFrom (suc m) done Q so_far spent (step.look ∷ []) v0 v1 g (closing.DoneUnits (done + 1))) (told_gave t)
+      working_last none is = by_last (closing.DoneUnits (done + 1)) (inl (done + 1, omega arith, refl)) (λ t. subst (λ (g : List (List Entry)). IsFrom (suc m) done Q so_far spent (step.look ∷ []) v0 v1 g (closing.DoneUnits (done + 1))) (told_gave t)
           (from_last m done Q so_far spent step.look v0 v1 (step.is t).0 none (sym is ∙ end_told t)))
 
       pub working_idle : end ≡ ends.Idle → From left mid a1 b1 v1 (Ok (closing.DoneUnits done))
@@ -182,7 +187,7 @@ module _ (told : Type 0) (by : MemberId) (at per hold : ℕ) where
           let same : gave ≡ batches_in (so_far ∷ []) =
           ap (λ (k : List Entry). batches_in (written_in so_far step.parts) ++ batches_in (k ∷ [])) step.played.left
           ∙ ap (λ (ps : List (List Entry)). batches_in (written_in so_far ps) ++ batches_in (left_in so_far ps ∷ [])) none in
-          by_last (closing.DoneUnits done) (λ t. subst (λ (g : List (List Entry)). IsFrom (suc m) done Q so_far spent (step.look ∷ []) v0 v1 g (closing.DoneUnits done)) (sym same)
+          by_last (closing.DoneUnits done) (inl (done, omega arith, refl)) (λ t. subst (λ (g : List (List Entry)). IsFrom (suc m) done Q so_far spent (step.look ∷ []) v0 v1 g (closing.DoneUnits done)) (sym same)
           (from_idle m done Q so_far spent step.look v0 v1 (step.is t).0 (sym is ∙ end_told t)))
 
       -- OTHERS FOLLOW, behind a rest
@@ -270,6 +275,7 @@ module _ (told : Type 0) (by : MemberId) (at per hold : ℕ) where
                   (from_calm m (done + 1) R' (left_between hold s' l') (spent_between hold s') v0 v2);
               of = subst (All (AreOf by at)) (sym whole) (batches_all (λ e. (e.by ≡ by) × (e.step ≡ at)) (written hold spent so_far (step.parts ∷ us)) (units_all (λ e. (e.by ≡ by) × (e.step ≡ at)) hold spent so_far (step.parts ∷ us) ours all.each));
               few = subst (λ (xs : List (List Entry)). length xs ≤ 3 * suc m + 1) (sym whole) (omega (arith, more, most, fewer));
+              caused = more_close by v0 v2 (done + 1 + m) (done + suc m) (closing_behind by at (done + 1) (rounds m R' by at [])) (omega arith) (calm_closes by v0 v2 at m (done + 1) R');
               keeps = keeping_starts {T = Closing} told by e both (both ++ g) front mid' a a2 b b2 v0 v2
                   (subst (λ (xs : List (List Entry)). StartsAs xs (both ++ g)) (append-nil both) (starts_behind both [] g both_some tt))
                   (keeping_error {S = Unit {0}} {T = Closing} told by e both front mid' a a2 b b2 v0 v2 (both_keep (Err e) rest));
@@ -300,6 +306,7 @@ module _ (told : Type 0) (by : MemberId) (at per hold : ℕ) where
                   (subst (λ (n : ℕ). IsFrom m (done + 1) R left' n w.looks v2 v3 given w.end) s_is (w.is t))))));
               of = subst (All (AreOf by at)) (sym whole) (All-append (AreOf by at) both given both_of w.of);
               few = subst (λ (xs : List (List Entry)). length xs ≤ 3 * suc m + 1) (sym whole) (omega (arith, few, long, more));
+              caused = more_close by v0 v3 (done + 1 + m) (done + suc m) w.end (omega arith) (wider_close (done + 1 + m) by w.end v0 v2 v3 v3 (goes_on v0 v1 v2 step.played.keeps.course.goes rest.keeps.course.goes) (goes_none v3) w.caused);
               keeps = keeping_then {T = Closing} told by {S = Unit {0}} tt r both w.wrote front mid' batches a a2 a3 b b2 b3 v0 v2 v3 (both_keep (Ok tt) rest) w.keeps;
               ends = w.ends;
             } where
@@ -324,8 +331,8 @@ module _ (told : Type 0) (by : MemberId) (at per hold : ℕ) where
       abbrev R : Queue
       R = run Q (all_entries step.parts)
 
-      by_error : (us : List (List (List Entry))) (g : List (List Entry)) (c : Closing) → AreOurs by at (suc m) us → g ≡ batches_in (written hold spent so_far us) → StartsAs begun g → (told → IsFrom (suc m) done Q so_far spent (step.look ∷ []) v0 v1 g c) → (l : List Entry) → From l mid a1 b1 v1 (Err e)
-      by_error us g c all whole starts is l =
+      by_error : (us : List (List (List Entry))) (g : List (List Entry)) (c : Closing) → AreOurs by at (suc m) us → g ≡ batches_in (written hold spent so_far us) → StartsAs begun g → MayClose (done + suc m) by c v0 v1 → (told → IsFrom (suc m) done Q so_far spent (step.look ∷ []) v0 v1 g c) → (l : List Entry) → From l mid a1 b1 v1 (Err e)
+      by_error us g c all whole starts caused is l =
           let more = few_units hold spent so_far us all.few in
           let most = all.most in
           let fewer = few_batches (written hold spent so_far us) in
@@ -336,6 +343,7 @@ module _ (told : Type 0) (by : MemberId) (at per hold : ℕ) where
             is = is;
             of = subst (All (AreOf by at)) (sym whole) (batches_all (λ e. (e.by ≡ by) × (e.step ≡ at)) (written hold spent so_far us) (units_all (λ e. (e.by ≡ by) × (e.step ≡ at)) hold spent so_far us ours all.each));
             few = subst (λ (xs : List (List Entry)). length xs ≤ 3 * suc m + 1) (sym whole) (omega (arith, more, most, fewer));
+            caused = caused;
             keeps = keeping_starts {T = Closing} told by e begun g front mid a a1 b b1 v0 v1 starts (keeping_error {S = UnitEnd} {T = Closing} told by e begun front mid a a1 b b1 v0 v1 step.played.keeps);
             ends = tt;
           }
@@ -350,11 +358,12 @@ module _ (told : Type 0) (by : MemberId) (at per hold : ℕ) where
       by_end ends.Idle is l =
           let none : step.parts ≡ [] = step.played.idle is in
           by_error [] (batches_in (so_far ∷ [])) (closing.DoneUnits done) (units_none by at (suc m)) refl
-          (subst (λ (ps : List (List Entry)). StartsAs (batches_in (written_in so_far ps ++ left_in so_far ps ∷ [])) (batches_in (so_far ∷ []))) (sym none) (last_starts so_far []))
+          (subst (λ (ps : List (List Entry)). StartsAs (batches_in (written_in so_far ps ++ left_in so_far ps ∷ [])) (batches_in (so_far ∷ []))) (sym none) (last_starts so_far [])) (inl (done, omega arith, refl))
           (λ t. from_idle m done Q so_far spent step.look v0 v1 (step.is t).0 (sym is ∙ (step.is t).1.end_is)) l
       by_end (ends.Refused c) is l =
           let w = batches_in (written hold spent so_far (step.parts ∷ [])) in
           by_error (step.parts ∷ []) w c (units_more by at m step.parts [] its (units_none by at m)) refl (unit_starts hold spent so_far step.parts [])
+          (inr (subst (λ (u : UnitEnd). MayEndUnit by u v0 v1) is step.caused))
           (λ t. subst (λ (g : List (List Entry)). IsThere (step.look ∷ []) g c)
           (ap (λ (ps : List (List Entry)). batches_in (written_in so_far ps) ++ batches_in (left_in so_far ps ∷ [])) (sym (step.is t).1.parts_are) ∙ sym (one_last hold spent so_far step.parts))
           (from_refused m done Q so_far spent step.look v0 v1 (step.is t).0 c (sym is ∙ (step.is t).1.end_is))) l
@@ -363,6 +372,7 @@ module _ (told : Type 0) (by : MemberId) (at per hold : ℕ) where
           let w = batches_in (written hold spent so_far (step.parts ∷ us)) in
           let c = closing_behind by at (done + 1) (rounds m R by at []) in
           by_error (step.parts ∷ us) w c (units_more by at m step.parts us its (later_ours by at m R)) refl (unit_starts hold spent so_far step.parts us)
+          (more_close by v0 v1 (done + 1 + m) (done + suc m) c (omega arith) (calm_closes by v0 v1 at m (done + 1) R))
           (λ t. subst (λ (ps : List (List Entry)). IsThere (step.look ∷ []) (batches_in (written hold spent so_far (ps ∷ parts_of by at (rounds m (run Q (all_entries ps)) by at [])))) (closing_behind by at (done + 1) (rounds m (run Q (all_entries ps)) by at []))) (sym (step.is t).1.parts_are)
           (calm_done (step.is t).0 (sym is ∙ (step.is t).1.end_is))) l
         where

@@ -4,17 +4,21 @@ use Rattle.std.specs.Option.{option_map_or}
 use Rattle.std.proofs.lemmas.List.{length-append}
 use Rattle.std.proofs.lemmas.List.Elements.{All-nil, All-cons, All-head, All-tail, All-append, All-filter}
 use Rattle.mas_types.specs.declared.ids.JobNo.{JobNo}
+use Rattle.mas_types.specs.declared.ids.OutNo.{OutNo}
+use Rattle.mas_types.specs.declared.answers.Closing.{Closing}
 use Rattle.mas_types.specs.declared.ids.MemberId.{MemberId}
 use Rattle.mas_types.specs.declared.commands.Command.{Command}
 use Rattle.mas_types.specs.declared.commands.Command.TheVariants as command
 use Rattle.mas_types.specs.declared.jobs.Job.{Job}
 use Rattle.mas_types.specs.declared.jobs.OutSpec.{OutSpec}
+use Rattle.mas_types.specs.declared.jobs.Output.{Output}
 use Rattle.mas_types.specs.declared.journals.Batch.{Batch}
 use Rattle.mas_types.specs.declared.journals.Entry.{Entry}
 use Rattle.mas_types.specs.declared.queues.Queue.{Queue}
 use Rattle.mas_types.specs.declared.units.Unit as units
 use Rattle.mas_types.specs.declared.units.Unit.TheVariants as unit
-use Rattle.mas_types.specs.Queue.{job_at}
+use Rattle.mas_types.specs.Queue.{job_at, output_at}
+use Rattle.mas_types.specs.Units.{unit_of}
 use Rattle.spool_disk.specs.View.{View}
 use Rattle.mas_complex.specs.Journals.{end_of, kept_all}
 use Rattle.mas_complex.specs.Meaning.{run}
@@ -29,10 +33,9 @@ use Rattle.work_units.specs.declared.outcomes.Outcome.{Outcome}
 use Rattle.work_units.specs.declared.outcomes.Outcome.TheVariants as outcome
 use Rattle.work_units.specs.declared.units.UnitEnd.{UnitEnd}
 use Rattle.work_units.specs.declared.units.UnitEnd.TheVariants as ends
-use Rattle.work_units.specs.Next.{next_unit}
-use Rattle.member_work.specs.Looks.{Look, calm}
+use Rattle.member_work.specs.Looks.{Look, calm, read_of}
 use Rattle.member_work.specs.Steps.{IsKeeping}
-use Rattle.member_work.specs.Units.{drop_groups, ended_with, ending, groups_for_end, job_ended, job_play, next_play, no_unit, outcome_for, outcome_play, spooled, taken, taken_queue, taking, unit_play}
+use Rattle.member_work.specs.Units.{chunk_end, drop_groups, ended_with, ending, groups_for_end, job_ended, job_play, mark_play, next_play, no_unit, outcome_for, outcome_play, output_play, printed_end, spooled, taken, taken_queue, taking, unit_play}
 use Rattle.member_work.specs.Work.{Round, batches_in, is_due, is_some_entry, left_between, left_in, parts_of, round_of, round_play, rounds, rounds_by, spent_between, spent_in, written, written_between, written_in}
 use Rattle.member_work.proofs.LeavesLemmas.{StartsAs, all_long}
 use Rattle.member_work.proofs.RoundLemmas.{batches_append, one_more}
@@ -273,10 +276,23 @@ module _ (by : MemberId) (at : ℕ) where
       let few = two.1 in
       record { of = All-cons (AreOf by at) [] rest (All-nil (λ (e : Entry). (e.by ≡ by) × (e.step ≡ at))) two.0; few = omega (arith, few) }
 
+  pub mark_one : (Q : Queue) (n : JobNo) (i : OutNo) (last : ℕ) (end : Option Closing) → All (AreOf by at) (mark_play Q by at n i last end).parts × (length (mark_play Q by at n i last end).parts ≡ 1)
+  mark_one Q n i last None = ((command_ours Q (command.Mark n i last)).of, refl)
+  mark_one Q n i last (Some end) = (one_of [] (All-nil (λ (e : Entry). (e.by ≡ by) × (e.step ≡ at))), refl)
+
+  output_ours : (Q : Queue) (look : Look) (found : Option Output) → IsOurs by at (option_map_or (output_play Q by at look) found no_unit).parts
+  output_ours Q look None = ours_none
+  output_ours Q look (Some o) =
+      let end = printed_end look.printer (read_of look.read o.text) in
+      let one = mark_one Q o.job o.index (chunk_end Q by o) end in
+      let rest = (mark_play Q by at o.job o.index (chunk_end Q by o) end).parts in
+      let single = one.1 in
+      record { of = All-cons (AreOf by at) [] rest (All-nil (λ (e : Entry). (e.by ≡ by) × (e.step ≡ at))) one.0; few = omega (arith, single) }
+
   unit_ours : (Q : Queue) (look : Look) (u : units.Unit) → IsOurs by at (unit_play Q by at look u).parts
-  unit_ours Q look (unit.Print n i) = ours_none
-  unit_ours Q look (unit.Finish n i) = ours_none
-  unit_ours Q look unit.Pick = ours_none
+  unit_ours Q look (unit.Print n i) = output_ours Q look (output_at Q n i)
+  unit_ours Q look (unit.Finish n i) = command_ours Q (command.Done n i)
+  unit_ours Q look unit.Pick = command_ours Q command.Pick
   unit_ours Q look unit.Purge = command_ours Q command.Purge
   unit_ours Q look unit.Gather = command_ours Q command.Gather
   unit_ours Q look (unit.Run n) = job_ours true Q look (job_at Q n)
@@ -286,7 +302,7 @@ module _ (by : MemberId) (at : ℕ) where
   unit_ours Q look unit.Idle = ours_none
 
   pub play_ours : (Q : Queue) (look : Look) → IsOurs by at (next_play Q by at look).parts
-  play_ours Q look = unit_ours Q look (next_unit Q by)
+  play_ours Q look = unit_ours Q look (unit_of Q by)
 
   -- so of all units that follow, and they are no more than are asked for
   pub record AreOurs (m : ℕ) (us : List (List (List Entry))) : Type 0 where

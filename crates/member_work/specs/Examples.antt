@@ -3,12 +3,13 @@ use Rattle.std.specs.Prelude.{◌≡◌, ℕ, true, false, List, [], ◌∷◌, 
 use Rattle.mas_types.specs.declared.commands.Command.{Command}
 use Rattle.mas_types.specs.declared.commands.Command.TheVariants as command
 use Rattle.mas_types.specs.declared.commands.What.TheVariants as what
+use Rattle.mas_types.specs.declared.ids.OutNo.{OutNo}
 use Rattle.mas_types.specs.declared.jobs.JobFields.{JobFields}
 use Rattle.mas_types.specs.declared.jobs.OutSpec.{OutSpec}
 use Rattle.mas_types.specs.declared.jobs.Text.TheVariants.{Gone}
 use Rattle.mas_types.specs.declared.queues.Config.{Config}
 use Rattle.mas_types.specs.declared.queues.Queue.{Queue}
-use Rattle.mas_types.specs.Queue.{change_job}
+use Rattle.mas_types.specs.Queue.{change_job, change_output, change_setting}
 use Rattle.mas_types.specs.Shown.{shown}
 use Rattle.mas_types.specs.Starts.{default_config}
 use Rattle.queue_laws.specs.Examples.Small.{member, job, class, name, empty, queue_after, fields_of, deck_of, decks}
@@ -60,7 +61,7 @@ HoldOfOneIsGivenUp =
     batches_at (null_job (record four_groups { hold = 1 })) 9 []
     ≡ (command.TakeConvert ∷ []) ∷ (command.Converted (job 1) ∷ []) ∷ (command.TakeExec ∷ []) ∷ (command.Ended (job 1) [] ∷ []) ∷ (command.Gather ∷ []) ∷ (command.Purge ∷ []) ∷ []
 
--- A COPY: its output waits in Hardcopy
+-- A COPY: its output is printed
 
 abbrev pub copy_deck : List (List ℕ)
 copy_deck =
@@ -70,6 +71,13 @@ copy_deck =
 abbrev pub copy_job : Config → Queue
 copy_job config = queue_of config (fields_of (codes "COPY")) copy_deck
 
+abbrev pub first_output : OutNo
+first_output = record { 0 = 1 }
+
+-- its one line is printed, and the job purged
+abbrev pub printed_line : List Command
+printed_line = command.Mark (job 1) first_output 1 ∷ command.Done (job 1) first_output ∷ command.Purge ∷ []
+
 -- the output of a line in class A
 abbrev pub output_of : List ℕ → OutSpec
 output_of line = record { class = class 65; dest = name (codes "LOCAL"); forms = name (codes "STD"); copies = 1; held = false; text = line ∷ [] }
@@ -78,11 +86,38 @@ abbrev pub CopyIsDone : Type 0
 CopyIsDone =
     (batches_at (copy_job four_groups) 9 []
     ≡ (command.TakeConvert ∷ []) ∷ (command.Converted (job 1) ∷ command.TakeExec ∷ []) ∷ (command.Take 1 ∷ [])
-    ∷ (command.Ended (job 1) (output_of (codes "HELLO") ∷ []) ∷ command.Gather ∷ []) ∷ [])
-    × (line_at (copy_job four_groups) 9 [] ≡ codes "SYSA 00002 OK DONE 5" ∷ [])
-    × (shown (worked 1 9 (copy_job four_groups)) what.Queue ≡ codes "JOB00001 COPY A 05 HARDCOPY - -" ∷ [])
-    × (shown (worked 1 9 (copy_job four_groups)) what.Outputs ≡ codes "JOB00001.01 A LOCAL STD 1 1 0 - -" ∷ [])
-    × (shown (worked 1 9 (copy_job four_groups)) what.Spool ≡ codes "VOL1 FREE 2 OF 4" ∷ [])
+    ∷ (command.Ended (job 1) (output_of (codes "HELLO") ∷ []) ∷ command.Gather ∷ command.Pick ∷ [])
+    ∷ printed_line ∷ [])
+    × (line_at (copy_job four_groups) 9 [] ≡ codes "SYSA 00002 OK DONE 9" ∷ [])
+    × (worked 1 9 (copy_job four_groups)).jobs ≡ []
+
+-- as long as nobody prints it, it waits in Hardcopy
+abbrev pub CopyWaits : Type 0
+CopyWaits =
+    (shown (worked 1 5 (copy_job four_groups)) what.Queue ≡ codes "JOB00001 COPY A 05 HARDCOPY - -" ∷ [])
+    × (shown (worked 1 5 (copy_job four_groups)) what.Outputs ≡ codes "JOB00001.01 A LOCAL STD 1 1 0 - -" ∷ [])
+    × (shown (worked 1 5 (copy_job four_groups)) what.Spool ≡ codes "VOL1 FREE 2 OF 4" ∷ [])
+
+-- the printer is lost in the seventh unit: the output stays busy, with its mark
+abbrev pub LostPrinterRefusesTheUnit : Type 0
+LostPrinterRefusesTheUnit =
+    (line_at (worked 1 6 (copy_job four_groups)) 3 (record { read = None; lost = None; printer = true } ∷ []) ≡ codes "SYSA 00002 NO PRINTER LOST" ∷ [])
+    × (batches_at (worked 1 6 (copy_job four_groups)) 3 (record { read = None; lost = None; printer = true } ∷ []) ≡ [])
+    × (shown (worked 1 6 (copy_job four_groups)) what.Outputs ≡ codes "JOB00001.01 A LOCAL STD 1 1 0 SYSA -" ∷ [])
+
+-- so many lines at a time as the printer's setting says
+abbrev pub two_lines_each : Queue → Queue
+two_lines_each Q = change_setting (member 1) (λ s. record s { lines = 2 }) Q
+
+-- of so many copies
+abbrev pub with_copies : ℕ → Queue → Queue
+with_copies n Q = change_output (job 1) first_output (λ o. record o { copies = n }) Q
+
+abbrev pub LinesFollowTheMark : Type 0
+LinesFollowTheMark =
+    (batches_at (with_copies 3 (worked 1 6 (two_lines_each (copy_job four_groups)))) 9 []
+    ≡ (command.Mark (job 1) first_output 2 ∷ []) ∷ (command.Mark (job 1) first_output 3 ∷ command.Done (job 1) first_output ∷ command.Purge ∷ []) ∷ [])
+    × (line_at (with_copies 3 (worked 1 6 (two_lines_each (copy_job four_groups)))) 9 [] ≡ codes "SYSA 00002 OK DONE 4" ∷ [])
 
 -- A JCL ERROR, AND A JOB THAT IS ONLY SCANNED: what is listed is their output
 
@@ -95,8 +130,8 @@ wrong_job = queue_of four_groups (fields_of (codes "B")) wrong_deck
 abbrev pub ErrorIsListed : Type 0
 ErrorIsListed =
     (batches_at wrong_job 9 []
-    ≡ (command.TakeConvert ∷ []) ∷ (command.Take 1 ∷ []) ∷ (command.Ended (job 1) (output_of (codes "JCL ERROR CARD 2 PGM") ∷ []) ∷ command.Gather ∷ []) ∷ [])
-    × (line_at wrong_job 9 [] ≡ codes "SYSA 00002 OK DONE 3" ∷ [])
+    ≡ (command.TakeConvert ∷ []) ∷ (command.Take 1 ∷ []) ∷ (command.Ended (job 1) (output_of (codes "JCL ERROR CARD 2 PGM") ∷ []) ∷ command.Gather ∷ command.Pick ∷ []) ∷ printed_line ∷ [])
+    × (line_at wrong_job 9 [] ≡ codes "SYSA 00002 OK DONE 7" ∷ [])
 
 abbrev pub scanned_job : Queue
 scanned_job = queue_of four_groups (record (fields_of (codes "N")) { scan = true }) null_deck
@@ -104,7 +139,7 @@ scanned_job = queue_of four_groups (record (fields_of (codes "N")) { scan = true
 abbrev pub ScanIsListed : Type 0
 ScanIsListed =
     batches_at scanned_job 9 []
-    ≡ (command.TakeConvert ∷ []) ∷ (command.Take 1 ∷ []) ∷ (command.Ended (job 1) (output_of (codes "NO ERROR") ∷ []) ∷ command.Gather ∷ []) ∷ []
+    ≡ (command.TakeConvert ∷ []) ∷ (command.Take 1 ∷ []) ∷ (command.Ended (job 1) (output_of (codes "NO ERROR") ∷ []) ∷ command.Gather ∷ command.Pick ∷ []) ∷ printed_line ∷ []
 
 -- ONE UNIT, OF TWO JOBS
 
@@ -148,15 +183,15 @@ FullOutputsRefuseTheUnit =
 -- the volume is lost before the outputs are written, in the fourth unit
 abbrev pub LostVolumeRefusesTheUnit : Type 0
 LostVolumeRefusesTheUnit =
-    (batches_at (copy_job four_groups) 9 (calm ∷ calm ∷ calm ∷ record { read = None; lost = Some 1 } ∷ [])
+    (batches_at (copy_job four_groups) 9 (calm ∷ calm ∷ calm ∷ record { read = None; lost = Some 1; printer = false } ∷ [])
     ≡ (command.TakeConvert ∷ []) ∷ (command.Converted (job 1) ∷ command.TakeExec ∷ []) ∷ (command.Take 1 ∷ []) ∷ (command.Drop (job 0) ∷ []) ∷ [])
-    × (line_at (copy_job four_groups) 9 (calm ∷ calm ∷ calm ∷ record { read = None; lost = Some 1 } ∷ []) ≡ codes "SYSA 00002 NO SPOOL LOST 1" ∷ [])
+    × (line_at (copy_job four_groups) 9 (calm ∷ calm ∷ calm ∷ record { read = None; lost = Some 1; printer = false } ∷ []) ≡ codes "SYSA 00002 NO SPOOL LOST 1" ∷ [])
 
 -- or before the text is read, in the second unit
 abbrev pub UnreadTextRefusesTheUnit : Type 0
 UnreadTextRefusesTheUnit =
-    (batches_at (copy_job four_groups) 9 (calm ∷ record { read = Some (read.Lost 1); lost = None } ∷ []) ≡ (command.TakeConvert ∷ []) ∷ [])
-    × (line_at (copy_job four_groups) 9 (calm ∷ record { read = Some (read.Lost 1); lost = None } ∷ []) ≡ codes "SYSA 00002 NO SPOOL LOST 1" ∷ [])
+    (batches_at (copy_job four_groups) 9 (calm ∷ record { read = Some (read.Lost 1); lost = None; printer = false } ∷ []) ≡ (command.TakeConvert ∷ []) ∷ [])
+    × (line_at (copy_job four_groups) 9 (calm ∷ record { read = Some (read.Lost 1); lost = None; printer = false } ∷ []) ≡ codes "SYSA 00002 NO SPOOL LOST 1" ∷ [])
 
 -- a start found the text gone
 abbrev pub gone_job : Queue

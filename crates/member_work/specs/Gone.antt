@@ -1,9 +1,10 @@
--- Whether a job's text is gone, by the queue with which a run began and the entries that are kept since.
+-- Whether the text of a job, or of an output, is gone, by the queue with which a run began and the entries that are kept since.
 use Rattle.std.specs.Prelude.{Bool, false, if◌then◌else◌, List, Option, Some, None}
 use Rattle.std.specs.List.{list_any}
 use Rattle.std.specs.Option.{option_map_or}
 use Rattle.mas_types.specs.declared.ids.GroupNo.{GroupNo}
 use Rattle.mas_types.specs.declared.ids.JobNo.{JobNo}
+use Rattle.mas_types.specs.declared.ids.OutNo.{OutNo}
 use Rattle.mas_types.specs.declared.commands.Command.{Command}
 use Rattle.mas_types.specs.declared.commands.Command.TheVariants as command
 use Rattle.mas_types.specs.declared.commands.Reply.{Reply}
@@ -13,7 +14,7 @@ use Rattle.mas_types.specs.declared.jobs.Text.TheVariants.{Whole, Gone}
 use Rattle.mas_types.specs.declared.journals.Entry.{Entry}
 use Rattle.mas_types.specs.declared.queues.Queue.{Queue}
 use Rattle.mas_types.specs.Ids.{same_number}
-use Rattle.mas_types.specs.Queue.{job_at}
+use Rattle.mas_types.specs.Queue.{job_at, output_at}
 
 -- the group with which a text is gone
 abbrev pub gone_with : Text → Option GroupNo
@@ -42,3 +43,22 @@ is_brought n es = list_any (λ e. brings_job n e.command e.reply) es
 -- the group with which the text is gone of a job that was there at the beginning; None where one of its number was brought since
 abbrev pub gone_since : Queue → List Entry → JobNo → Option GroupNo
 gone_since base es n = if is_brought n es then None else gone_in base n
+
+-- AN OUTPUT'S
+
+-- that of an output's text, None where it is whole
+abbrev pub gone_output_in : Queue → JobNo → OutNo → Option GroupNo
+gone_output_in Q n i = option_map_or (λ o. gone_with o.text) (output_at Q n i) None
+
+-- the command brought outputs of this job
+abbrev pub brings_outputs : JobNo → Command → Reply → Bool
+brings_outputs n (command.Ended job specs) (reply.Count count) = same_number job n
+brings_outputs n _ answer = false
+
+-- one of the entries did
+abbrev pub are_outputs_brought : JobNo → List Entry → Bool
+are_outputs_brought n es = list_any (λ e. brings_outputs n e.command e.reply) es
+
+-- the group with which the text is gone of an output that was there at the beginning; None where outputs of its job were brought since
+abbrev pub gone_output_since : Queue → List Entry → JobNo → OutNo → Option GroupNo
+gone_output_since base es n i = if are_outputs_brought n es then None else gone_output_in base n i

@@ -2,8 +2,10 @@ pub mod Looks
 pub mod Units
 pub mod Work
 pub mod Rounds
+pub mod Causes
 pub mod Reading
 pub mod Steps
+pub mod Printing
 pub mod JobSteps
 pub mod Laws
 pub mod Examples

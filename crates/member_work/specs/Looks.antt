@@ -1,19 +1,20 @@
--- What the spool volumes give a unit of work.
-use Rattle.std.specs.Prelude.{ℕ, List, [], ◌∷◌, Option, Some, None}
+-- What the spool volumes and the printer give a unit of work.
+use Rattle.std.specs.Prelude.{ℕ, Bool, false, List, [], ◌∷◌, Option, Some, None}
 use Rattle.mas_types.specs.declared.jobs.Text.{Text}
 use Rattle.mas_types.specs.declared.jobs.Text.TheVariants.{Whole, Gone}
 use Rattle.work_units.specs.declared.outcomes.Read.{Read}
 use Rattle.work_units.specs.declared.outcomes.Read.TheVariants as read
 
--- A unit finds a job's text as the queue has it, or it was read otherwise: a volume was found lost, or what is told of no content. And
--- a volume may be found lost when the job's outputs are written.
+-- A unit finds the text of a job, or of an output, as the queue has it, or it was read otherwise: a volume was found lost, or what is told
+-- of no content. And a volume may be found lost when the job's outputs are written, or the printer where an output's lines are printed.
 pub record Look : Type 0 where
   pub read : Option Read
   pub lost : Option ℕ
+  pub printer : Bool
 
 -- nothing is found lost
 abbrev pub calm : Look
-calm = record { read = None; lost = None }
+calm = record { read = None; lost = None; printer = false }
 
 -- the looks of units one after another, one for each; the later ones are calm
 abbrev pub first_look : List Look → Look

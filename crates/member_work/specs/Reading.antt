@@ -53,3 +53,9 @@ abbrev pub IsFailedRead : ℕ → List GroupNo → Read → View → View → Ty
 IsFailedRead per groups (read.Lines lines) old new = Unit {0}
 IsFailedRead per groups (read.Gone group) old new = Unit {0}
 IsFailedRead per groups (read.Lost volume) old new = HasFailed per groups volume old new
+
+-- lines that were read are as many as are counted
+abbrev pub IsCounted : ℕ → Read → Type 0
+IsCounted count (read.Lines lines) = length lines ≡ count
+IsCounted count (read.Gone group) = Unit {0}
+IsCounted count (read.Lost volume) = Unit {0}

@@ -29,6 +29,7 @@ use Rattle.mas_complex.specs.declared.places.Place.{Place}
 use Rattle.mas_complex.specs.Crash.{IsUntold, Setting}
 use Rattle.mas_complex.specs.Journals.{kept_all}
 use Rattle.mas_complex.specs.Meaning.{run}
+use Rattle.mas_complex.specs.Paper.{MayBegin}
 use Rattle.mas_complex.specs.Texts.{HasTexts, lost_now, spools_at}
 use Rattle.member_node.specs.declared.checkpoint.Checkpoint.{Checkpoint}
 use Rattle.member_node.specs.declared.member.NodeNo.{NodeNo}
@@ -49,6 +50,7 @@ use Rattle.work_units.specs.declared.units.UnitEnd.{UnitEnd}
 use Rattle.work_units.specs.declared.units.UnitEnd.TheVariants as ends
 use Rattle.work_units.specs.Next.{end_by}
 use Rattle.work_units.specs.Outcomes.{outcome_of}
+use Rattle.member_work.specs.Causes.{MayClose, MayEndUnit, MayStop}
 use Rattle.member_work.specs.Looks.{Look, read_of}
 use Rattle.member_work.specs.Rounds.{IsLookOf, IsReadAs, IsRound, IsSpoolLost, IsSpooledIn}
 use Rattle.member_work.specs.Units.{UnitPlay, groups_for_end, job_ended, next_play, numbered_play, spooled}
@@ -78,8 +80,8 @@ pub record IsClosing {T : Type 0} (told : Type 0) (by : MemberId) (lines : List 
   pub journal : WorkLeaves result by old.now new.now ess rest
   pub console : told → StepTells result lines (HasAll by old.now new.now ess front batches) (console_now old) (console_now new)
 
--- What a step WORK n gives at a queue: its batches, and how it closes, where the volumes gave its units these looks. Nothing is found lost
--- but what failed in the step; so where no volume fails in it these are functions of the queue.
+-- What a step WORK n gives at a queue: its batches, and how it closes, where the volumes and the printer gave its units these looks. Nothing
+-- is found lost but what failed in the step; so where neither a volume nor the printer fails in it these are functions of the queue.
 pub record IsWorkOf (told : Type 0) (by : MemberId) (at per n : ℕ) (Q : Queue) (looks : List Look) (old new : View) (gave : List (List Entry)) (end : Closing) : Type 0 where
   pub seen : All (IsRound told per by at old new) (rounds n Q by at looks)
   pub batches : gave ≡ work_batches Q by at n looks
@@ -89,8 +91,8 @@ pub record IsWorkOf (told : Type 0) (by : MemberId) (at per n : ℕ) (Q : Queue)
 abbrev pub levels_in : ℕ → ℕ
 levels_in n = 3 * n + 1
 
--- A step WORK n from the queue Q on: batches of entries of the step, whatever their replies are, and a line. Where content is told they are
--- those that the step gives at Q.
+-- A step WORK n from the queue Q on: batches of entries of the step, whatever their replies are, and a line, which has its cause. Where
+-- content is told they are those that the step gives at Q.
 pub record IsWorkStep {T : Type 0} (told : Type 0) (by : MemberId) (at per n : ℕ) (Q : Queue) (front batches : List Batch) (was1 is1 was2 is2 : Bool) (old new : View) (result : Result T NodeNo) : Type 0 where
   pub looks : List Look
   pub gave : List (List Entry)
@@ -98,6 +100,7 @@ pub record IsWorkStep {T : Type 0} (told : Type 0) (by : MemberId) (at per n : �
   pub is : told → IsWorkOf told by at per n Q looks old new gave end
   pub of : All (AreOf by at) gave
   pub few : length gave ≤ levels_in n
+  pub caused : MayClose n by end old new
   pub closes : IsClosing told by (closing_line by at end ∷ []) gave front batches was1 is1 was2 is2 old new result
 
 -- how many units a step may ask for
@@ -109,8 +112,9 @@ pub record IsCount (n : ℕ) : Type 0 where
 
 -- The member has the lock: nothing is in flight, reserved or has its place, and its batch has what it gave behind the kept batches, which
 -- are kept by now. Where content is told its tables tell the queue that this leaves, each volume that isn't lost has the size that its
--- groups need, and where something is unwritten the texts of that queue stand on the volumes, but for those with a group on a lost one.
-pub record IsAtWork (told : Type 0) (v : View) (since : ℕ) (base : Queue) (batches : List Batch) (current : Option Batch) (placed : Bool) (level : ℕ) (reserved : Option (List Entry)) (by : MemberId) (batch : List Entry) (k : Checkpoint) (room : List Page) (behind : Bool) : Type 0 where
+-- groups need, and where something is unwritten the texts of that queue stand on the volumes, but for those with a group on a lost one; and
+-- the batch may begin: a Mark in it is one of lines that the member has printed.
+pub record IsAtWork (told : Type 0) (v : View) (since : ℕ) (base : Queue) (batches : List Batch) (current : Option Batch) (placed : Bool) (level : ℕ) (reserved : Option (List Entry)) (printed : List ℕ) (by : MemberId) (batch : List Entry) (k : Checkpoint) (room : List Page) (behind : Bool) : Type 0 where
   pub none : current ≡ None
   pub unreserved : reserved ≡ None
   pub unplaced : placed ≡ false
@@ -130,6 +134,7 @@ pub record IsAtWork (told : Type 0) (v : View) (since : ℕ) (base : Queue) (bat
   pub begun : since ≤ v.now
   pub roomy : told → AreRoomy v base.config
   pub texts : told → 1 ≤ length batch → ∥ HasTexts (lost_now v) (spools_at v v.now) base.config.groups (run base (kept_all batches ++ batch)) ∥₁
+  pub allowed : told → MayBegin base batches printed batch
 
 -- a copy that has the pages of the checkpoint, and room for a batch
 pub record HasCopy (told : Type 0) (alive : Bool) (place : Place) (count left : ℕ) (pages : List Page) (read : Option (List ℕ)) : Type 0 where
@@ -183,6 +188,7 @@ pub record IsUnitStep (told : Type 0) (by : MemberId) (at per : ℕ) (Q : Queue)
   pub parts : List (List Entry)
   pub end : UnitEnd
   pub is : told → IsRound told per by at old new (round_of Q look) × IsPlayOf (next_play Q by at look) parts end
+  pub caused : MayEndUnit by end old new
   pub played : IsPlayed told by at parts end so_far is_left front batches was1 is1 was2 is2 old new result
   pub spends : OnOk result (is_spent ≡ spent_in spent parts)
 
@@ -192,6 +198,7 @@ pub record IsJobStep (told : Type 0) (runs : Bool) (by : MemberId) (at per : ℕ
   pub parts : List (List Entry)
   pub end : UnitEnd
   pub is : told → IfSome (job_at Q n) (IsLookOf told runs per Q by at look old new) × IsPlayOf (numbered_play runs Q by at look n) parts end
+  pub caused : MayEndUnit by end old new
   pub played : IsPlayed told by at parts end so_far is_left front batches was1 is1 was2 is2 old new result
   pub spends : OnOk result (is_spent ≡ spent_in spent parts)
 
@@ -201,6 +208,7 @@ pub record IsEndStep (told : Type 0) (by : MemberId) (at per : ℕ) (Q : Queue) 
   pub parts : List (List Entry)
   pub end : UnitEnd
   pub is : told → IsSpooledIn per (groups_for_end Q n specs) Q by at lost old new × IsPlayOf (job_ended lost Q by at n specs) parts end
+  pub caused : MayEndUnit by end old new
   pub some : 1 ≤ length parts
   pub small : length parts ≤ 2
   pub played : IsPlayed told by at parts end [] is_left front batches was1 is1 was2 is2 old new result
@@ -211,6 +219,7 @@ pub record IsSpoolStep (told : Type 0) (by : MemberId) (at per : ℕ) (Q : Queue
   pub last : List Entry
   pub end : UnitEnd
   pub is : told → IsSpoolLost per (take (groups_for_end Q n specs) (held_by by Q.owners)) lost old new × IsPlayOf (spooled lost Q by at n specs) (last ∷ []) end
+  pub caused : MayEndUnit by end old new
   pub played : IsPlayed told by at ([] ∷ last ∷ []) end so_far is_left front batches was1 is1 was2 is2 old new result
 
 -- Between two units: what is due is kept.
@@ -232,13 +241,16 @@ pub record IsWorking (told : Type 0) (by : MemberId) (at per n : ℕ) (Q : Queue
   pub is : told → IsWorkOf told by at per n Q looks old new (given_by result written is_left) end
   pub of : All (AreOf by at) (given_by result written is_left)
   pub few : length (given_by result written is_left) ≤ levels_in n
+  pub caused : MayClose n by end old new
   pub keeps : IsKeeping told by written front batches was1 is1 was2 is2 old new result
   pub ends : IfOk result (λ e. e ≡ end)
 
--- How the text of the job with this number was read, and what becomes of it. Where content is told the job is that of the queue.
-pub record IsLookedAt (told : Type 0) (runs : Bool) (per : ℕ) (Q : Queue) (n : JobNo) (old new : View) (o : Outcome) : Type 0 where
+-- How the text of the job with this number was read by the member, and what becomes of it. Where content is told the job is that of the
+-- queue.
+pub record IsLookedAt (told : Type 0) (runs : Bool) (per : ℕ) (by : MemberId) (Q : Queue) (n : JobNo) (old new : View) (o : Outcome) : Type 0 where
   pub found : Option Read
   pub is : told → (j : Job) → job_at Q n ≡ Some j → IsReadAs told per j.text (groups_of (Deck j.number) Q.owners) found old new × (o ≡ outcome_of runs j.fields (read_of found j.text))
+  pub caused : MayStop by o old new
 
 -- the job with this number is in Convert or Execute, and has no output
 pub record IsUnderWay (Q : Queue) (n : JobNo) : Type 0 where

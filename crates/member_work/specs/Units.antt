@@ -1,8 +1,9 @@
--- The units of a member's work from purge on, and what each gives: its commands, and how it ends.
-use Rattle.std.specs.Prelude.{ℕ, zero, suc, Bool, true, false, if◌then◌else◌, List, [], ◌∷◌, ◌++◌, Option, Some, None}
+-- The units of a member's work, and what each gives: its commands, and how it ends.
+use Rattle.std.specs.Prelude.{ℕ, zero, suc, ◌+◌, min, Bool, true, false, if◌then◌else◌, List, [], ◌∷◌, ◌++◌, Option, Some, None}
 use Rattle.std.specs.Option.{option_map_or}
 use Rattle.mas_types.specs.declared.ids.MemberId.{MemberId}
 use Rattle.mas_types.specs.declared.ids.JobNo.{JobNo}
+use Rattle.mas_types.specs.declared.ids.OutNo.{OutNo}
 use Rattle.mas_types.specs.declared.answers.Closing.{Closing}
 use Rattle.mas_types.specs.declared.answers.Closing.TheVariants as closing
 use Rattle.mas_types.specs.declared.commands.Command.{Command}
@@ -11,21 +12,26 @@ use Rattle.mas_types.specs.declared.commands.Reply.{Reply}
 use Rattle.mas_types.specs.declared.commands.Reply.TheVariants as reply
 use Rattle.mas_types.specs.declared.jobs.Job.{Job}
 use Rattle.mas_types.specs.declared.jobs.OutSpec.{OutSpec}
+use Rattle.mas_types.specs.declared.jobs.Output.{Output}
 use Rattle.mas_types.specs.declared.journals.Entry.{Entry}
 use Rattle.mas_types.specs.declared.queues.Queue.{Queue}
 use Rattle.mas_types.specs.declared.units.Unit as units
 use Rattle.mas_types.specs.declared.units.Unit.TheVariants as unit
 use Rattle.mas_types.specs.Commands.Life.{groups_of_outputs, outputs_at_end}
 use Rattle.mas_types.specs.Ids.{no_number}
-use Rattle.mas_types.specs.Queue.{job_at}
+use Rattle.mas_types.specs.Queue.{job_at, output_at, total}
+use Rattle.mas_types.specs.Units.{unit_of}
+use Rattle.paper_laws.specs.Next.{limit_of}
 use Rattle.mas_complex.specs.Meaning.{run}
 use Rattle.member_steps.specs.Steps.{entry_of, reply_to}
 use Rattle.member_decks.specs.Decks.{are_refused, closing_reply, given_in, takes}
 use Rattle.work_units.specs.declared.outcomes.Outcome.{Outcome}
 use Rattle.work_units.specs.declared.outcomes.Outcome.TheVariants as outcome
+use Rattle.work_units.specs.declared.outcomes.Read.{Read}
+use Rattle.work_units.specs.declared.outcomes.Read.TheVariants as read
 use Rattle.work_units.specs.declared.units.UnitEnd.{UnitEnd}
 use Rattle.work_units.specs.declared.units.UnitEnd.TheVariants as ends
-use Rattle.work_units.specs.Next.{end_by, next_unit}
+use Rattle.work_units.specs.Next.{end_by}
 use Rattle.work_units.specs.Outcomes.{outcome_of}
 use Rattle.member_work.specs.Looks.{Look, read_of}
 
@@ -36,8 +42,8 @@ outcome_for runs look j = outcome_of runs j.fields (read_of look.read j.text)
 
 -- WHAT A UNIT GIVES
 
--- The entries that a unit gives in each part of it, between two of which the lock is given up for acts on the spool volumes; and how
--- the unit ends.
+-- The entries that a unit gives in each part of it, between two of which the lock is given up for acts on the spool volumes and the
+-- printer; and how the unit ends.
 pub record UnitPlay : Type 0 where
   pub parts : List (List Entry)
   pub ends : UnitEnd
@@ -58,7 +64,7 @@ no_unit = record { parts = []; ends = ends.Idle }
 abbrev pub refused_with : Closing → UnitPlay
 refused_with end = record { parts = [] ∷ []; ends = ends.Refused end }
 
--- a first part of commands, and acts on the spool volumes behind it
+-- a first part of commands, and acts on the spool volumes and the printer behind it
 abbrev pub behind_acts : List Entry → UnitPlay → UnitPlay
 behind_acts es u = record { parts = es ∷ u.parts; ends = u.ends }
 
@@ -128,13 +134,37 @@ job_play runs Q by at look j = behind_acts [] (outcome_play look.lost Q by at j.
 abbrev pub numbered_play : Bool → Queue → MemberId → ℕ → Look → JobNo → UnitPlay
 numbered_play runs Q by at look n = option_map_or (job_play runs Q by at look) (job_at Q n) no_unit
 
+-- PRINTING
+
+-- the last line that is printed next: as many behind the mark as the member's printer prints at a time, but none above the total
+abbrev pub chunk_end : Queue → MemberId → Output → ℕ
+chunk_end Q by o = min (o.mark + limit_of Q by) (total o)
+
+-- Once the text was read and its lines printed: none where each of them stands on paper, else how the unit is refused.
+abbrev pub printed_end : Bool → Read → Option Closing
+printed_end lost (read.Gone group) = Some (closing.NoText group)
+printed_end lost (read.Lost volume) = Some (closing.SpoolLost volume)
+printed_end true (read.Lines lines) = Some closing.PrinterLost
+printed_end false (read.Lines lines) = None
+
+-- the lines up to this one are marked, where they stand on paper
+abbrev pub mark_play : Queue → MemberId → ℕ → JobNo → OutNo → ℕ → Option Closing → UnitPlay
+mark_play Q by at n i last None = one_command Q by at (command.Mark n i last)
+mark_play Q by at n i last (Some end) = refused_with end
+
+abbrev pub output_play : Queue → MemberId → ℕ → Look → Output → UnitPlay
+output_play Q by at look o = behind_acts [] (mark_play Q by at o.job o.index (chunk_end Q by o) (printed_end look.printer (read_of look.read o.text)))
+
+-- of the output with this key
+abbrev pub print_play : Queue → MemberId → ℕ → Look → JobNo → OutNo → UnitPlay
+print_play Q by at look n i = option_map_or (output_play Q by at look) (output_at Q n i) no_unit
+
 -- EACH UNIT
 
--- the printer's units have their place here, and are none as long as nothing is printed
 abbrev pub unit_play : Queue → MemberId → ℕ → Look → units.Unit → UnitPlay
-unit_play Q by at look (unit.Print n i) = no_unit
-unit_play Q by at look (unit.Finish n i) = no_unit
-unit_play Q by at look unit.Pick = no_unit
+unit_play Q by at look (unit.Print n i) = print_play Q by at look n i
+unit_play Q by at look (unit.Finish n i) = one_command Q by at (command.Done n i)
+unit_play Q by at look unit.Pick = one_command Q by at command.Pick
 unit_play Q by at look unit.Purge = one_command Q by at command.Purge
 unit_play Q by at look unit.Gather = one_command Q by at command.Gather
 unit_play Q by at look (unit.Run n) = numbered_play true Q by at look n
@@ -145,6 +175,8 @@ unit_play Q by at look unit.Idle = no_unit
 
 -- the one command of a unit, None of one that reads a text, or that doesn't apply
 abbrev pub command_of : units.Unit → Option Command
+command_of (unit.Finish n i) = Some (command.Done n i)
+command_of unit.Pick = Some command.Pick
 command_of unit.Purge = Some command.Purge
 command_of unit.Gather = Some command.Gather
 command_of unit.TakeExec = Some command.TakeExec
@@ -153,4 +185,4 @@ command_of _ = None
 
 -- the next unit of the member
 abbrev pub next_play : Queue → MemberId → ℕ → Look → UnitPlay
-next_play Q by at look = unit_play Q by at look (next_unit Q by)
+next_play Q by at look = unit_play Q by at look (unit_of Q by)

@@ -16,7 +16,7 @@ use Rattle.member_work.specs.Units.{UnitPlay, next_play}
 
 -- ROUNDS
 
--- a unit that is played: the queue that it finds, and what the volumes give it
+-- a unit that is played: the queue that it finds, and what the volumes and the printer give it
 pub record Round : Type 0 where
   pub queue : Queue
   pub look : Look
@@ -61,8 +61,8 @@ work_closing Q by at n looks = closing_behind by at 0 (rounds n Q by at looks)
 abbrev pub work_lines : Queue → MemberId → ℕ → ℕ → List Look → List (List ℕ)
 work_lines Q by at n looks = closing_line by at (work_closing Q by at n looks) ∷ []
 
--- BATCHES. What was given since the last batch is written before acts on the spool volumes, before the lock is given up, where it has
--- as many entries as a batch may, and before the line is said.
+-- BATCHES. What was given since the last batch is written before acts on the spool volumes and the printer, before the lock is given up,
+-- where it has as many entries as a batch may, and before the line is said.
 
 -- the entries of a batch
 abbrev pub batch_most : ℕ

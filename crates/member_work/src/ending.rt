@@ -16,7 +16,7 @@ ghost use Rattle.mas_complex.specs.Meaning.{run};
 ghost use Rattle.mas_complex.specs.Texts.{spools_at};
 ghost use Rattle.member_node.specs.Reads.{orders_after, too_high};
 ghost use Rattle.member_decks.specs.Decks.{closing_reply, given_in};
-ghost use Rattle.member_decks.specs.Steps.{AreOf};
+ghost use Rattle.member_decks.specs.Steps.{AreOf, IsFoundLost};
 ghost use Rattle.job_exec.specs.Running.{AreOutputs};
 ghost use Rattle.work_units.specs.declared.units.UnitEnd.TheVariants.{Done, Refused};
 ghost use Rattle.work_units.specs.Next.{IsNamedEnd, end_by};
@@ -57,7 +57,7 @@ fn end_given<P: Plant + Drop, C: Steady + Drop>(
     requires nothing { member.old.batch ≡ [] }
     requires under_way { P.tells → IsUnderWay (run complex.old.base (kept_all complex.old.journal.batches)) job }
     requires spooled { P.tells → AreSpooled (spools_at (P.view complex.old.plant) (P.view complex.old.plant).now) complex.old.base.config.groups (outputs_at_end (job_at (run complex.old.base (kept_all complex.old.journal.batches)) job) specs) (take (groups_for_end_lem (run complex.old.base (kept_all complex.old.journal.batches)) job specs) (held_by member.old.id (run complex.old.base (kept_all complex.old.journal.batches)).owners)) }
-    requires work { IsAtWork P.tells (P.view complex.old.plant) complex.old.since complex.old.base complex.old.journal.batches complex.old.current complex.old.placed complex.old.level complex.old.reserved member.old.id member.old.batch member.old.checkpoint member.old.room member.old.behind }
+    requires work { IsAtWork P.tells (P.view complex.old.plant) complex.old.since complex.old.base complex.old.journal.batches complex.old.current complex.old.placed complex.old.level complex.old.reserved complex.old.printed member.old.id member.old.batch member.old.checkpoint member.old.room member.old.behind }
     requires of { AreOf member.old.id step member.old.batch }
     requires untold { P.tells → IsStepUntold (setting C.reads complex.old.base complex.old.since) member.old.id step (P.view complex.old.plant) }
     requires copy1 { HasCopy P.tells complex.old.pair.first.alive complex.old.first (C.count complex.old.pair.first.copy) (C.room complex.old.pair.first.copy) member.old.checkpoint.pages (C.reads (disk_now (P.view complex.old.plant) Ckpt1).bytes) }
@@ -75,7 +75,7 @@ fn end_given<P: Plant + Drop, C: Steady + Drop>(
         complex.old.pair.first.alive complex.new.pair.first.alive complex.old.pair.second.alive complex.new.pair.second.alive
         (P.view complex.old.plant) (P.view complex.new.plant) result }
     ensures named { IfOk result IsNamedEnd }
-    ensures work { OnOk result (IsAtWork P.tells (P.view complex.new.plant) complex.new.since complex.new.base complex.new.journal.batches complex.new.current complex.new.placed complex.new.level complex.new.reserved member.new.id member.new.batch member.new.checkpoint member.new.room member.new.behind) }
+    ensures work { OnOk result (IsAtWork P.tells (P.view complex.new.plant) complex.new.since complex.new.base complex.new.journal.batches complex.new.current complex.new.placed complex.new.level complex.new.reserved complex.new.printed member.new.id member.new.batch member.new.checkpoint member.new.room member.new.behind) }
     ensures of { OnOk result (AreOf member.new.id step member.new.batch) }
     ensures untold { OnOk result (P.tells → IsStepUntold (setting C.reads complex.new.base complex.new.since) member.new.id step (P.view complex.new.plant)) }
     ensures copy1 { OnOk result (HasCopy P.tells complex.new.pair.first.alive complex.new.first (C.count complex.new.pair.first.copy) (C.room complex.new.pair.first.copy) member.new.checkpoint.pages (C.reads (disk_now (P.view complex.new.plant) Ckpt1).bytes)) }
@@ -105,7 +105,7 @@ fn take_given<P: Plant + Drop, C: Steady + Drop>(
     requires member { is_member complex.old.base.config member.old.id ≡ true }
     requires needed { 1 ≤ needed }
     requires nothing { member.old.batch ≡ [] }
-    requires work { IsAtWork P.tells (P.view complex.old.plant) complex.old.since complex.old.base complex.old.journal.batches complex.old.current complex.old.placed complex.old.level complex.old.reserved member.old.id member.old.batch member.old.checkpoint member.old.room member.old.behind }
+    requires work { IsAtWork P.tells (P.view complex.old.plant) complex.old.since complex.old.base complex.old.journal.batches complex.old.current complex.old.placed complex.old.level complex.old.reserved complex.old.printed member.old.id member.old.batch member.old.checkpoint member.old.room member.old.behind }
     requires of { AreOf member.old.id step member.old.batch }
     requires untold { P.tells → IsStepUntold (setting C.reads complex.old.base complex.old.since) member.old.id step (P.view complex.old.plant) }
     requires copy1 { HasCopy P.tells complex.old.pair.first.alive complex.old.first (C.count complex.old.pair.first.copy) (C.room complex.old.pair.first.copy) member.old.checkpoint.pages (C.reads (disk_now (P.view complex.old.plant) Ckpt1).bytes) }
@@ -123,7 +123,7 @@ fn take_given<P: Plant + Drop, C: Steady + Drop>(
         complex.old.pair.first.alive complex.new.pair.first.alive complex.old.pair.second.alive complex.new.pair.second.alive
         (P.view complex.old.plant) (P.view complex.new.plant) result }
     ensures named { IfOk result IsNamedEnd }
-    ensures work { OnOk result (IsAtWork P.tells (P.view complex.new.plant) complex.new.since complex.new.base complex.new.journal.batches complex.new.current complex.new.placed complex.new.level complex.new.reserved member.new.id member.new.batch member.new.checkpoint member.new.room member.new.behind) }
+    ensures work { OnOk result (IsAtWork P.tells (P.view complex.new.plant) complex.new.since complex.new.base complex.new.journal.batches complex.new.current complex.new.placed complex.new.level complex.new.reserved complex.new.printed member.new.id member.new.batch member.new.checkpoint member.new.room member.new.behind) }
     ensures of { OnOk result (AreOf member.new.id step member.new.batch) }
     ensures untold { OnOk result (P.tells → IsStepUntold (setting C.reads complex.new.base complex.new.since) member.new.id step (P.view complex.new.plant)) }
     ensures copy1 { OnOk result (HasCopy P.tells complex.new.pair.first.alive complex.new.first (C.count complex.new.pair.first.copy) (C.room complex.new.pair.first.copy) member.new.checkpoint.pages (C.reads (disk_now (P.view complex.new.plant) Ckpt1).bytes)) }
@@ -153,7 +153,7 @@ fn drop_given<P: Plant + Drop, C: Steady + Drop>(
     requires by { member.old.id.0 ≤ members_most }
     requires member { is_member complex.old.base.config member.old.id ≡ true }
     requires nothing { member.old.batch ≡ [] }
-    requires work { IsAtWork P.tells (P.view complex.old.plant) complex.old.since complex.old.base complex.old.journal.batches complex.old.current complex.old.placed complex.old.level complex.old.reserved member.old.id member.old.batch member.old.checkpoint member.old.room member.old.behind }
+    requires work { IsAtWork P.tells (P.view complex.old.plant) complex.old.since complex.old.base complex.old.journal.batches complex.old.current complex.old.placed complex.old.level complex.old.reserved complex.old.printed member.old.id member.old.batch member.old.checkpoint member.old.room member.old.behind }
     requires of { AreOf member.old.id step member.old.batch }
     requires untold { P.tells → IsStepUntold (setting C.reads complex.old.base complex.old.since) member.old.id step (P.view complex.old.plant) }
     requires copy1 { HasCopy P.tells complex.old.pair.first.alive complex.old.first (C.count complex.old.pair.first.copy) (C.room complex.old.pair.first.copy) member.old.checkpoint.pages (C.reads (disk_now (P.view complex.old.plant) Ckpt1).bytes) }
@@ -171,7 +171,7 @@ fn drop_given<P: Plant + Drop, C: Steady + Drop>(
         complex.old.pair.first.alive complex.new.pair.first.alive complex.old.pair.second.alive complex.new.pair.second.alive
         (P.view complex.old.plant) (P.view complex.new.plant) result }
     ensures named { IfOk result IsNamedEnd }
-    ensures work { OnOk result (IsAtWork P.tells (P.view complex.new.plant) complex.new.since complex.new.base complex.new.journal.batches complex.new.current complex.new.placed complex.new.level complex.new.reserved member.new.id member.new.batch member.new.checkpoint member.new.room member.new.behind) }
+    ensures work { OnOk result (IsAtWork P.tells (P.view complex.new.plant) complex.new.since complex.new.base complex.new.journal.batches complex.new.current complex.new.placed complex.new.level complex.new.reserved complex.new.printed member.new.id member.new.batch member.new.checkpoint member.new.room member.new.behind) }
     ensures of { OnOk result (AreOf member.new.id step member.new.batch) }
     ensures untold { OnOk result (P.tells → IsStepUntold (setting C.reads complex.new.base complex.new.since) member.new.id step (P.view complex.new.plant)) }
     ensures copy1 { OnOk result (HasCopy P.tells complex.new.pair.first.alive complex.new.first (C.count complex.new.pair.first.copy) (C.room complex.new.pair.first.copy) member.new.checkpoint.pages (C.reads (disk_now (P.view complex.new.plant) Ckpt1).bytes)) }
@@ -205,7 +205,7 @@ fn spool_taken<P: Plant + Drop, C: Steady + Drop>(
     requires outputs { AreOutputs specs.now }
     requires all { needed ≡ groups_of_outputs specs.now }
     requires enough { needed ≤ member_count member.old.id member.old.checkpoint.tables.owners }
-    requires work { IsAtWork P.tells (P.view complex.old.plant) complex.old.since complex.old.base complex.old.journal.batches complex.old.current complex.old.placed complex.old.level complex.old.reserved member.old.id member.old.batch member.old.checkpoint member.old.room member.old.behind }
+    requires work { IsAtWork P.tells (P.view complex.old.plant) complex.old.since complex.old.base complex.old.journal.batches complex.old.current complex.old.placed complex.old.level complex.old.reserved complex.old.printed member.old.id member.old.batch member.old.checkpoint member.old.room member.old.behind }
     requires untold { P.tells → IsUntold (setting C.reads complex.old.base complex.old.since) (P.view complex.old.plant) member.old.batch }
     requires copy1 { HasCopy P.tells complex.old.pair.first.alive complex.old.first (C.count complex.old.pair.first.copy) (C.room complex.old.pair.first.copy) member.old.checkpoint.pages (C.reads (disk_now (P.view complex.old.plant) Ckpt1).bytes) }
     requires copy2 { HasCopy P.tells complex.old.pair.second.alive complex.old.second (C.count complex.old.pair.second.copy) (C.room complex.old.pair.second.copy) member.old.checkpoint.pages (C.reads (disk_now (P.view complex.old.plant) Ckpt2).bytes) }
@@ -224,8 +224,9 @@ fn spool_taken<P: Plant + Drop, C: Steady + Drop>(
     ensures nothing { OnOk result (member.new.batch ≡ []) }
     ensures queue { OnOk result (run complex.new.base (kept_all complex.new.journal.batches) ≡ run complex.old.base (kept_all complex.old.journal.batches ++ member.old.batch)) }
     ensures lost { IfOk result (λ lost. P.tells → IsSpoolLost complex.old.base.config.groups (take needed (held_by member.old.id (run complex.old.base (kept_all complex.old.journal.batches ++ member.old.batch)).owners)) lost (P.view complex.old.plant) (P.view complex.new.plant)) }
+    ensures found { IfOk result (λ lost. IsFoundLost lost (P.view complex.old.plant) (P.view complex.new.plant)) }
     ensures there { result ≡ Ok None → P.tells → AreSpooled (spools_at (P.view complex.new.plant) (P.view complex.new.plant).now) complex.old.base.config.groups specs.now (take needed (held_by member.old.id (run complex.old.base (kept_all complex.old.journal.batches ++ member.old.batch)).owners)) }
-    ensures work { OnOk result (IsAtWork P.tells (P.view complex.new.plant) complex.new.since complex.new.base complex.new.journal.batches complex.new.current complex.new.placed complex.new.level complex.new.reserved member.new.id member.new.batch member.new.checkpoint member.new.room member.new.behind) }
+    ensures work { OnOk result (IsAtWork P.tells (P.view complex.new.plant) complex.new.since complex.new.base complex.new.journal.batches complex.new.current complex.new.placed complex.new.level complex.new.reserved complex.new.printed member.new.id member.new.batch member.new.checkpoint member.new.room member.new.behind) }
     ensures untold { OnOk result (P.tells → (at : ℕ) → IsStepUntold (setting C.reads complex.old.base complex.old.since) member.old.id at (P.view complex.old.plant)
         → IsStepUntold (setting C.reads complex.new.base complex.new.since) member.new.id at (P.view complex.new.plant)) }
     ensures copy1 { OnOk result (HasCopy P.tells complex.new.pair.first.alive complex.new.first (C.count complex.new.pair.first.copy) (C.room complex.new.pair.first.copy) member.new.checkpoint.pages (C.reads (disk_now (P.view complex.new.plant) Ckpt1).bytes)) }
@@ -263,7 +264,7 @@ fn spool_and_end<P: Plant + Drop, C: Steady + Drop>(
     requires some_needed { 1 ≤ needed }
     requires enough { needed ≤ member_count member.old.id member.old.checkpoint.tables.owners }
     requires under_way { P.tells → IsUnderWay (run complex.old.base (kept_all complex.old.journal.batches ++ member.old.batch)) job }
-    requires work { IsAtWork P.tells (P.view complex.old.plant) complex.old.since complex.old.base complex.old.journal.batches complex.old.current complex.old.placed complex.old.level complex.old.reserved member.old.id member.old.batch member.old.checkpoint member.old.room member.old.behind }
+    requires work { IsAtWork P.tells (P.view complex.old.plant) complex.old.since complex.old.base complex.old.journal.batches complex.old.current complex.old.placed complex.old.level complex.old.reserved complex.old.printed member.old.id member.old.batch member.old.checkpoint member.old.room member.old.behind }
     requires of { AreOf member.old.id step member.old.batch }
     requires untold { P.tells → IsStepUntold (setting C.reads complex.old.base complex.old.since) member.old.id step (P.view complex.old.plant) }
     requires copy1 { HasCopy P.tells complex.old.pair.first.alive complex.old.first (C.count complex.old.pair.first.copy) (C.room complex.old.pair.first.copy) member.old.checkpoint.pages (C.reads (disk_now (P.view complex.old.plant) Ckpt1).bytes) }
@@ -281,7 +282,7 @@ fn spool_and_end<P: Plant + Drop, C: Steady + Drop>(
         complex.old.pair.first.alive complex.new.pair.first.alive complex.old.pair.second.alive complex.new.pair.second.alive
         (P.view complex.old.plant) (P.view complex.new.plant) result }
     ensures named { IfOk result IsNamedEnd }
-    ensures work { OnOk result (IsAtWork P.tells (P.view complex.new.plant) complex.new.since complex.new.base complex.new.journal.batches complex.new.current complex.new.placed complex.new.level complex.new.reserved member.new.id member.new.batch member.new.checkpoint member.new.room member.new.behind) }
+    ensures work { OnOk result (IsAtWork P.tells (P.view complex.new.plant) complex.new.since complex.new.base complex.new.journal.batches complex.new.current complex.new.placed complex.new.level complex.new.reserved complex.new.printed member.new.id member.new.batch member.new.checkpoint member.new.room member.new.behind) }
     ensures of { OnOk result (AreOf member.new.id step member.new.batch) }
     ensures untold { OnOk result (P.tells → IsStepUntold (setting C.reads complex.new.base complex.new.since) member.new.id step (P.view complex.new.plant)) }
     ensures copy1 { OnOk result (HasCopy P.tells complex.new.pair.first.alive complex.new.first (C.count complex.new.pair.first.copy) (C.room complex.new.pair.first.copy) member.new.checkpoint.pages (C.reads (disk_now (P.view complex.new.plant) Ckpt1).bytes)) }
@@ -317,7 +318,7 @@ pub(crate) fn end_job<P: Plant + Drop, C: Steady + Drop>(
     requires outputs { AreOutputs specs }
     requires nothing { member.old.batch ≡ [] }
     requires under_way { P.tells → IsUnderWay (run complex.old.base (kept_all complex.old.journal.batches)) job }
-    requires work { IsAtWork P.tells (P.view complex.old.plant) complex.old.since complex.old.base complex.old.journal.batches complex.old.current complex.old.placed complex.old.level complex.old.reserved member.old.id member.old.batch member.old.checkpoint member.old.room member.old.behind }
+    requires work { IsAtWork P.tells (P.view complex.old.plant) complex.old.since complex.old.base complex.old.journal.batches complex.old.current complex.old.placed complex.old.level complex.old.reserved complex.old.printed member.old.id member.old.batch member.old.checkpoint member.old.room member.old.behind }
     requires of { AreOf member.old.id step member.old.batch }
     requires untold { P.tells → IsStepUntold (setting C.reads complex.old.base complex.old.since) member.old.id step (P.view complex.old.plant) }
     requires copy1 { HasCopy P.tells complex.old.pair.first.alive complex.old.first (C.count complex.old.pair.first.copy) (C.room complex.old.pair.first.copy) member.old.checkpoint.pages (C.reads (disk_now (P.view complex.old.plant) Ckpt1).bytes) }
@@ -336,7 +337,7 @@ pub(crate) fn end_job<P: Plant + Drop, C: Steady + Drop>(
         complex.old.pair.first.alive complex.new.pair.first.alive complex.old.pair.second.alive complex.new.pair.second.alive
         (P.view complex.old.plant) (P.view complex.new.plant) result }
     ensures named { IfOk result IsNamedEnd }
-    ensures work { OnOk result (IsAtWork P.tells (P.view complex.new.plant) complex.new.since complex.new.base complex.new.journal.batches complex.new.current complex.new.placed complex.new.level complex.new.reserved member.new.id member.new.batch member.new.checkpoint member.new.room member.new.behind) }
+    ensures work { OnOk result (IsAtWork P.tells (P.view complex.new.plant) complex.new.since complex.new.base complex.new.journal.batches complex.new.current complex.new.placed complex.new.level complex.new.reserved complex.new.printed member.new.id member.new.batch member.new.checkpoint member.new.room member.new.behind) }
     ensures of { OnOk result (AreOf member.new.id step member.new.batch) }
     ensures untold { OnOk result (P.tells → IsStepUntold (setting C.reads complex.new.base complex.new.since) member.new.id step (P.view complex.new.plant)) }
     ensures copy1 { OnOk result (HasCopy P.tells complex.new.pair.first.alive complex.new.first (C.count complex.new.pair.first.copy) (C.room complex.new.pair.first.copy) member.new.checkpoint.pages (C.reads (disk_now (P.view complex.new.plant) Ckpt1).bytes)) }

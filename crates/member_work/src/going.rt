@@ -48,7 +48,7 @@ fn look_up<P: Plant + Drop, C: Steady + Drop>(
     requires nothing { member.now.batch ≡ [] }
     requires numbers { P.tells → AreDistinct (λ a b. same_number a.number b.number) complex.old.base.jobs }
     requires configured { P.tells → IsConfig complex.old.base.config }
-    requires work { IsAtWork P.tells (P.view complex.old.plant) complex.old.since complex.old.base complex.old.journal.batches complex.old.current complex.old.placed complex.old.level complex.old.reserved member.now.id member.now.batch member.now.checkpoint member.now.room member.now.behind }
+    requires work { IsAtWork P.tells (P.view complex.old.plant) complex.old.since complex.old.base complex.old.journal.batches complex.old.current complex.old.placed complex.old.level complex.old.reserved complex.old.printed member.now.id member.now.batch member.now.checkpoint member.now.room member.now.behind }
     requires job { IsTold member.now.checkpoint.tables job.now }
     ensures pair { complex.new.pair ≡ complex.old.pair }
     ensures base { complex.new.base ≡ complex.old.base }
@@ -62,7 +62,7 @@ fn look_up<P: Plant + Drop, C: Steady + Drop>(
     ensures book { OnOk result (complex.new.book ≡ complex.old.book) }
     ensures unreserved { OnOk result (complex.new.reserved ≡ None) }
     ensures acts { OnVolumes P.tells member.now.id.0 (P.view complex.old.plant) (P.view complex.new.plant) }
-    ensures looked { IfOk result (IsLookedAt P.tells runs complex.old.base.config.groups (run complex.old.base (kept_all complex.old.journal.batches)) job.now.number (P.view complex.old.plant) (P.view complex.new.plant)) }
+    ensures looked { IfOk result (IsLookedAt P.tells runs complex.old.base.config.groups member.now.id (run complex.old.base (kept_all complex.old.journal.batches)) job.now.number (P.view complex.old.plant) (P.view complex.new.plant)) }
     ensures fits { IfOk result AreFitOutputs }
     ensures named { IfOk result IsNamedOutcome }
     ensures cause { SpoolStops result member.now.id.0 (P.view complex.old.plant) (P.view complex.new.plant) }
@@ -88,7 +88,7 @@ fn read_job<P: Plant + Drop, C: Steady + Drop>(
     requires nothing { member.old.batch ≡ [] }
     requires numbers { P.tells → AreDistinct (λ a b. same_number a.number b.number) complex.old.base.jobs }
     requires configured { P.tells → IsConfig complex.old.base.config }
-    requires work { IsAtWork P.tells (P.view complex.old.plant) complex.old.since complex.old.base complex.old.journal.batches complex.old.current complex.old.placed complex.old.level complex.old.reserved member.old.id member.old.batch member.old.checkpoint member.old.room member.old.behind }
+    requires work { IsAtWork P.tells (P.view complex.old.plant) complex.old.since complex.old.base complex.old.journal.batches complex.old.current complex.old.placed complex.old.level complex.old.reserved complex.old.printed member.old.id member.old.batch member.old.checkpoint member.old.room member.old.behind }
     requires job { IsTold member.old.checkpoint.tables job.now }
     requires copy1 { HasCopy P.tells complex.old.pair.first.alive complex.old.first (C.count complex.old.pair.first.copy) (C.room complex.old.pair.first.copy) member.old.checkpoint.pages (C.reads (disk_now (P.view complex.old.plant) Ckpt1).bytes) }
     requires copy2 { HasCopy P.tells complex.old.pair.second.alive complex.old.second (C.count complex.old.pair.second.copy) (C.room complex.old.pair.second.copy) member.old.checkpoint.pages (C.reads (disk_now (P.view complex.old.plant) Ckpt2).bytes) }
@@ -103,11 +103,11 @@ fn read_job<P: Plant + Drop, C: Steady + Drop>(
     ensures keeps { IsKeeping P.tells member.old.id [] complex.old.journal.batches (end_of complex.new.placed complex.new.current complex.new.journal.batches)
         complex.old.pair.first.alive complex.new.pair.first.alive complex.old.pair.second.alive complex.new.pair.second.alive
         (P.view complex.old.plant) (P.view complex.new.plant) result }
-    ensures looked { IfOk result (IsLookedAt P.tells runs complex.old.base.config.groups (run complex.old.base (kept_all complex.old.journal.batches)) job.now.number (P.view complex.old.plant) (P.view complex.new.plant)) }
+    ensures looked { IfOk result (IsLookedAt P.tells runs complex.old.base.config.groups member.old.id (run complex.old.base (kept_all complex.old.journal.batches)) job.now.number (P.view complex.old.plant) (P.view complex.new.plant)) }
     ensures fits { IfOk result AreFitOutputs }
     ensures named { IfOk result IsNamedOutcome }
     ensures nothing { OnOk result (member.new.batch ≡ []) }
-    ensures work { OnOk result (IsAtWork P.tells (P.view complex.new.plant) complex.new.since complex.new.base complex.new.journal.batches complex.new.current complex.new.placed complex.new.level complex.new.reserved member.new.id member.new.batch member.new.checkpoint member.new.room member.new.behind) }
+    ensures work { OnOk result (IsAtWork P.tells (P.view complex.new.plant) complex.new.since complex.new.base complex.new.journal.batches complex.new.current complex.new.placed complex.new.level complex.new.reserved complex.new.printed member.new.id member.new.batch member.new.checkpoint member.new.room member.new.behind) }
     ensures copy1 { OnOk result (HasCopy P.tells complex.new.pair.first.alive complex.new.first (C.count complex.new.pair.first.copy) (C.room complex.new.pair.first.copy) member.new.checkpoint.pages (C.reads (disk_now (P.view complex.new.plant) Ckpt1).bytes)) }
     ensures copy2 { OnOk result (HasCopy P.tells complex.new.pair.second.alive complex.new.second (C.count complex.new.pair.second.copy) (C.room complex.new.pair.second.copy) member.new.checkpoint.pages (C.reads (disk_now (P.view complex.new.plant) Ckpt2).bytes)) }
     ensures untold { OnOk result (P.tells → (at : ℕ) → IsStepUntold (setting C.reads complex.old.base complex.old.since) member.old.id at (P.view complex.old.plant)
@@ -140,7 +140,7 @@ fn go_on<P: Plant + Drop, C: Steady + Drop>(
     requires named { IsNamedOutcome outcome }
     requires nothing { member.old.batch ≡ [] }
     requires under_way { P.tells → IsUnderWay (run complex.old.base (kept_all complex.old.journal.batches)) job }
-    requires work { IsAtWork P.tells (P.view complex.old.plant) complex.old.since complex.old.base complex.old.journal.batches complex.old.current complex.old.placed complex.old.level complex.old.reserved member.old.id member.old.batch member.old.checkpoint member.old.room member.old.behind }
+    requires work { IsAtWork P.tells (P.view complex.old.plant) complex.old.since complex.old.base complex.old.journal.batches complex.old.current complex.old.placed complex.old.level complex.old.reserved complex.old.printed member.old.id member.old.batch member.old.checkpoint member.old.room member.old.behind }
     requires of { AreOf member.old.id step member.old.batch }
     requires untold { P.tells → IsStepUntold (setting C.reads complex.old.base complex.old.since) member.old.id step (P.view complex.old.plant) }
     requires copy1 { HasCopy P.tells complex.old.pair.first.alive complex.old.first (C.count complex.old.pair.first.copy) (C.room complex.old.pair.first.copy) member.old.checkpoint.pages (C.reads (disk_now (P.view complex.old.plant) Ckpt1).bytes) }
@@ -159,7 +159,7 @@ fn go_on<P: Plant + Drop, C: Steady + Drop>(
         complex.old.pair.first.alive complex.new.pair.first.alive complex.old.pair.second.alive complex.new.pair.second.alive
         (P.view complex.old.plant) (P.view complex.new.plant) result }
     ensures named { IfOk result IsNamedEnd }
-    ensures work { OnOk result (IsAtWork P.tells (P.view complex.new.plant) complex.new.since complex.new.base complex.new.journal.batches complex.new.current complex.new.placed complex.new.level complex.new.reserved member.new.id member.new.batch member.new.checkpoint member.new.room member.new.behind) }
+    ensures work { OnOk result (IsAtWork P.tells (P.view complex.new.plant) complex.new.since complex.new.base complex.new.journal.batches complex.new.current complex.new.placed complex.new.level complex.new.reserved complex.new.printed member.new.id member.new.batch member.new.checkpoint member.new.room member.new.behind) }
     ensures of { OnOk result (AreOf member.new.id step member.new.batch) }
     ensures untold { OnOk result (P.tells → IsStepUntold (setting C.reads complex.new.base complex.new.since) member.new.id step (P.view complex.new.plant)) }
     ensures copy1 { OnOk result (HasCopy P.tells complex.new.pair.first.alive complex.new.first (C.count complex.new.pair.first.copy) (C.room complex.new.pair.first.copy) member.new.checkpoint.pages (C.reads (disk_now (P.view complex.new.plant) Ckpt1).bytes)) }
@@ -196,7 +196,7 @@ pub(crate) fn play_text<P: Plant + Drop, C: Steady + Drop>(
     requires configured { P.tells → IsConfig complex.old.base.config }
     requires nothing { member.old.batch ≡ [] }
     requires under_way { P.tells → IsUnderWay (run complex.old.base (kept_all complex.old.journal.batches)) job.now.number }
-    requires work { IsAtWork P.tells (P.view complex.old.plant) complex.old.since complex.old.base complex.old.journal.batches complex.old.current complex.old.placed complex.old.level complex.old.reserved member.old.id member.old.batch member.old.checkpoint member.old.room member.old.behind }
+    requires work { IsAtWork P.tells (P.view complex.old.plant) complex.old.since complex.old.base complex.old.journal.batches complex.old.current complex.old.placed complex.old.level complex.old.reserved complex.old.printed member.old.id member.old.batch member.old.checkpoint member.old.room member.old.behind }
     requires job { IsTold member.old.checkpoint.tables job.now }
     requires of { AreOf member.old.id step member.old.batch }
     requires untold { P.tells → IsStepUntold (setting C.reads complex.old.base complex.old.since) member.old.id step (P.view complex.old.plant) }
@@ -214,7 +214,7 @@ pub(crate) fn play_text<P: Plant + Drop, C: Steady + Drop>(
         complex.old.pair.first.alive complex.new.pair.first.alive complex.old.pair.second.alive complex.new.pair.second.alive
         (P.view complex.old.plant) (P.view complex.new.plant) result }
     ensures named { IfOk result IsNamedEnd }
-    ensures work { OnOk result (IsAtWork P.tells (P.view complex.new.plant) complex.new.since complex.new.base complex.new.journal.batches complex.new.current complex.new.placed complex.new.level complex.new.reserved member.new.id member.new.batch member.new.checkpoint member.new.room member.new.behind) }
+    ensures work { OnOk result (IsAtWork P.tells (P.view complex.new.plant) complex.new.since complex.new.base complex.new.journal.batches complex.new.current complex.new.placed complex.new.level complex.new.reserved complex.new.printed member.new.id member.new.batch member.new.checkpoint member.new.room member.new.behind) }
     ensures of { OnOk result (AreOf member.new.id step member.new.batch) }
     ensures untold { OnOk result (P.tells → IsStepUntold (setting C.reads complex.new.base complex.new.since) member.new.id step (P.view complex.new.plant)) }
     ensures copy1 { OnOk result (HasCopy P.tells complex.new.pair.first.alive complex.new.first (C.count complex.new.pair.first.copy) (C.room complex.new.pair.first.copy) member.new.checkpoint.pages (C.reads (disk_now (P.view complex.new.plant) Ckpt1).bytes)) }

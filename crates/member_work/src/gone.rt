@@ -1,19 +1,23 @@
-//! Whether a job's text is gone.
+//! Whether the text of a job, or of an output, is gone.
 ghost use Rattle.std.specs.Prelude.{◌≡◌, ◌&&◌, Some};
 ghost use Rattle.std.specs.List.{list_any};
 ghost use Rattle.std.specs.Option.{option_copied};
 ghost use Rattle.mas_types.specs.declared.jobs.Job.{Job as JobLem};
+ghost use Rattle.mas_types.specs.declared.jobs.Output.{Output as OutputLem};
 ghost use Rattle.mas_types.specs.Fit.{AreDistinct, IsConfig};
 ghost use Rattle.mas_types.specs.Ids.{same_number};
 ghost use Rattle.mas_types.specs.Journal.{is_kept as is_kept_lem};
-ghost use Rattle.mas_types.specs.Queue.{job_at as job_at_lem};
+ghost use Rattle.mas_types.specs.Queue.{job_at as job_at_lem, output_at as output_at_lem};
+ghost use Rattle.mas_types.specs.Sound.{IsSound};
 ghost use Rattle.mas_complex.specs.Journals.{kept_all};
 ghost use Rattle.mas_complex.specs.Meaning.{run};
-ghost use Rattle.member_work.specs.Gone.{brings_job as brings_job_lem, gone_in as gone_in_lem, gone_since, gone_with as gone_with_lem, is_brought as is_brought_lem, names_job as names_job_lem};
+ghost use Rattle.member_work.specs.Gone.{are_outputs_brought as are_outputs_brought_lem, brings_job as brings_job_lem, brings_outputs as brings_outputs_lem, gone_in as gone_in_lem, gone_output_in as gone_output_in_lem, gone_output_since, gone_since, gone_with as gone_with_lem, is_brought as is_brought_lem, names_job as names_job_lem};
 
 use crate::laws::kept_replies;
 use mas_complex::{Complex, Steady};
-use mas_types::{Batch, Command, Entry, Fate, GroupNo, Job, JobNo, List, Queue, Reply, Text};
+use mas_types::{
+    Batch, Command, Entry, Fate, GroupNo, Job, JobNo, List, OutNo, Output, Queue, Reply, Text,
+};
 use spool_disk::Plant;
 
 fn gone_with(text: &Text) -> Option<GroupNo>
@@ -99,4 +103,76 @@ pub fn gone_deck<P: Plant + Drop, C: Steady + Drop>(
         return None;
     }
     gone_in(&complex.base, job)
+}
+
+fn output_at(queue: &Queue, job: JobNo, index: OutNo) -> Option<&Output>
+    ensures { option_copied result ≡ output_at_lem queue.now job index }
+{
+    queue
+        .outputs
+        .as_slice()
+        .iter()
+        .find(|it| it.job.0 == job.0 && it.index.0 == index.0)
+}
+
+// The entry brought outputs of the job.
+fn brings_outputs(job: JobNo, entry: &Entry) -> bool
+    ensures { result ≡ brings_outputs_lem job entry.now.command entry.now.reply }
+{
+    match (&entry.command, &entry.reply) {
+        (Command::Ended { job: ended, .. }, Reply::Count(_)) => ended.0 == job.0,
+        _ => false,
+    }
+}
+
+fn are_outputs_brought(job: JobNo, entries: &List<Entry>) -> bool
+    ensures { result ≡ are_outputs_brought_lem job entries.now }
+{
+    entries
+        .as_slice()
+        .iter()
+        .any(|entry| brings_outputs(job, entry))
+}
+
+// One of a kept batch's entries did.
+fn are_outputs_brought_by(job: JobNo, batch: &Batch) -> bool
+    ensures { result ≡ (is_kept_lem batch.now.fate && are_outputs_brought_lem job batch.now.entries) }
+{
+    matches!(batch.fate, Fate::Kept) && are_outputs_brought(job, &batch.entries)
+}
+
+fn are_outputs_brought_in(job: JobNo, batches: &[Batch]) -> bool
+    ensures { result ≡ list_any (λ b. is_kept_lem b.fate && are_outputs_brought_lem job b.entries) batches.now }
+{
+    batches
+        .iter()
+        .any(|batch| are_outputs_brought_by(job, batch))
+}
+
+fn gone_output_in(queue: &Queue, job: JobNo, index: OutNo) -> Option<GroupNo>
+    ensures { result ≡ gone_output_in_lem queue.now job index }
+{
+    match output_at(queue, job, index) {
+        Some(found) => gone_with(&found.text),
+        None => None,
+    }
+}
+
+/// The group with which an output's text is gone, None where it is whole; where content is told, exactly. A text is gone only where it was
+/// when the run began: so this is the base's, unless outputs of its job were brought since.
+pub(crate) fn gone_output<P: Plant + Drop, C: Steady + Drop>(
+    complex: &Complex<P, C>,
+    job: JobNo,
+    index: OutNo,
+) -> Option<GroupNo>
+    requires base_sound { P.tells → IsSound complex.now.base }
+    ensures since { result ≡ gone_output_since complex.now.base (kept_all complex.now.journal.batches) job index }
+    ensures gone { P.tells → (o : OutputLem) → output_at_lem (run complex.now.base (kept_all complex.now.journal.batches)) job index ≡ Some o → result ≡ gone_with_lem o.text }
+{
+    kept_replies(complex);
+    complex.kept_given();
+    if are_outputs_brought_in(job, complex.journal.batches.as_slice()) {
+        return None;
+    }
+    gone_output_in(&complex.base, job, index)
 }

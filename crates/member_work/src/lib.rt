@@ -1,5 +1,4 @@
-//! What a member's step WORK n gives: units of work one after another, from the purge of a job on; what a printer does comes before them,
-//! and isn't built yet. And reading a job's text, without the lock.
+//! What a member's step WORK n gives: units of work one after another, from its printer's on. And reading a job's text, without the lock.
 #![tactic(auto)]
 
 mod closing;
@@ -12,6 +11,7 @@ mod laws;
 mod locked;
 mod looking;
 mod playing;
+mod printing;
 mod reading;
 mod spooling;
 mod working;

@@ -1,10 +1,9 @@
 //! A work step of a member that takes the lock.
 ghost use Rattle.std.specs.Prelude.{◌≡◌, ◌+◌, ◌≤◌, ◌<◌, length, true, false, None, Some, OnOk};
 ghost use Rattle.mas_types.specs.declared.ids.Dev.TheVariants.{Ckpt1, Ckpt2};
-ghost use Rattle.mas_types.specs.Fit.{AreDistinct, IsConfig};
-ghost use Rattle.mas_types.specs.Ids.{same_number};
 ghost use Rattle.mas_types.specs.Limits.{members_most};
 ghost use Rattle.mas_types.specs.Queue.{is_member};
+ghost use Rattle.mas_types.specs.Sound.{IsSound};
 ghost use Rattle.lock_cycle.specs.declared.answers.LockNo.{LockNo};
 ghost use Rattle.lock_cycle.specs.Books.{after_free, after_try, try_refusal};
 ghost use Rattle.spool_disk.specs.View.{disk_now};
@@ -42,8 +41,7 @@ pub fn play_locked_work<P: Plant + Drop, C: Steady + Drop>(
     requires by { member.old.id.0 ≤ members_most }
     requires member { is_member complex.old.base.config member.old.id ≡ true }
     requires units { IsCount units }
-    requires numbers { P.tells → AreDistinct (λ a b. same_number a.number b.number) complex.old.base.jobs }
-    requires configured { P.tells → IsConfig complex.old.base.config }
+    requires base_sound { P.tells → IsSound complex.old.base }
     requires at_lock { IsAtLock complex.old.current complex.old.placed member.old.batch member.old.checkpoint member.old.room }
     requires calm1 { IsCalm complex.old.pair.first.alive complex.old.first (C.count complex.old.pair.first.copy) (length member.old.room) }
     requires calm2 { IsCalm complex.old.pair.second.alive complex.old.second (C.count complex.old.pair.second.copy) (length member.old.room) }

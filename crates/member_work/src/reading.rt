@@ -14,7 +14,7 @@ ghost use Rattle.member_decks.specs.Spooling.{AreRoomy, OnVolumes};
 ghost use Rattle.member_decks.specs.Steps.{SpoolStops};
 ghost use Rattle.work_units.specs.Outcomes.{IsReadable};
 ghost use Rattle.member_work.specs.Looks.{as_it_is};
-ghost use Rattle.member_work.specs.Reading.{AddsUnless, AreRecords, IsFailedRead, IsReadOf, OnlyReads};
+ghost use Rattle.member_work.specs.Reading.{AddsUnless, AreRecords, IsCounted, IsFailedRead, IsReadOf, OnlyReads};
 ghost use Rattle.member_work.specs.Rounds.{HasFailed};
 
 use mas_complex::{Complex, Steady};
@@ -143,6 +143,7 @@ fn ended(count: u16, groups: &[GroupNo], lines: Lines, gone: Option<GroupNo>) ->
     requires lines { AreRecords lines }
     ensures text { result ≡ as_it_is (text_unless count groups.now lines gone) }
     ensures fits { IsReadable result }
+    ensures counted { IsCounted count result }
 {
     if let Some(group) = gone {
         return Read::Gone(group);
@@ -183,6 +184,7 @@ pub fn read_text<P: Plant + Drop, C: Steady + Drop>(
     ensures acts { OnVolumes P.tells by.0 (P.view complex.old.plant) (P.view complex.new.plant) }
     ensures reads { OnlyReads P.tells (P.view complex.old.plant) (P.view complex.new.plant) }
     ensures fits { IfOk result IsReadable }
+    ensures counted { IfOk result (IsCounted count) }
     ensures failed { IfOk result (λ read. IsFailedRead complex.old.base.config.groups groups.now read (P.view complex.old.plant) (P.view complex.new.plant)) }
     ensures read { IfOk result (λ read. (text : Text) → line_count text ≡ count → P.tells → AreRoomy (P.view complex.old.plant) complex.old.base.config
         → IsThereUnless (lost_now (P.view complex.old.plant)) (spools_at (P.view complex.old.plant) (P.view complex.old.plant).now) complex.old.base.config.groups text groups.now

@@ -2,18 +2,20 @@
 ghost use Rattle.std.specs.Prelude.{◌≡◌, ◌+◌, ◌≤◌, ◌<◌, ◌^◌, ◌++◌, ◌∷◌, [], ℕ, length, true, false, None, IfOk, OnOk};
 ghost use Rattle.mas_types.specs.declared.ids.Dev.TheVariants.{Ckpt1, Ckpt2};
 ghost use Rattle.mas_types.specs.Closings.{AreMembersNamed};
-ghost use Rattle.mas_types.specs.Fit.{AreDistinct, IsConfig, IsFit};
-ghost use Rattle.mas_types.specs.Ids.{same_number};
+ghost use Rattle.mas_types.specs.Fit.{IsFit};
 ghost use Rattle.mas_types.specs.Limits.{members_most};
 ghost use Rattle.mas_types.specs.Queue.{is_member};
+ghost use Rattle.mas_types.specs.Sound.{IsSound};
 ghost use Rattle.mas_types.specs.Step.{may_give};
 ghost use Rattle.lock_cycle.specs.Books.{IsMember, left_of};
 ghost use Rattle.spool_disk.specs.View.{disk_now};
 ghost use Rattle.table_commands.specs.Given.{IsGiver, is_plain};
+ghost use Rattle.paper_laws.specs.Counts.{IsMarkRight, counts_after};
 ghost use Rattle.mas_complex.specs.Crash.{IsUntold, setting};
 ghost use Rattle.mas_complex.specs.Journals.{end_of, kept_all};
 ghost use Rattle.mas_complex.specs.Locking.{MayAct};
 ghost use Rattle.mas_complex.specs.Meaning.{run};
+ghost use Rattle.mas_complex.specs.Paper.{counts_of};
 ghost use Rattle.member_node.specs.Copies.{RestsAt};
 ghost use Rattle.member_node.specs.Reads.{AreLow, orders_after, too_high};
 ghost use Rattle.member_steps.specs.Steps.{AreAllKept, IsBetween};
@@ -36,7 +38,8 @@ use work_units::{UnitEnd, end_by};
 // The entries of a batch.
 const BATCH_MOST: usize = 64;
 
-/// Plays a unit of one command, which brings no text. Where memory wants what was given before is kept.
+/// Plays a unit of one command, which brings no text; a Mark is one of lines that the member has printed. Where memory wants what was
+/// given before is kept.
 pub(crate) fn play_command<P: Plant + Drop, C: Steady + Drop>(
     member: &mut Member,
     alloc: Global,
@@ -52,7 +55,8 @@ pub(crate) fn play_command<P: Plant + Drop, C: Steady + Drop>(
     requires command { IsFit command }
     requires giver { IsGiver member.old.id command }
     requires may_give { may_give complex.old.base member.old.id command ≡ true }
-    requires work { IsAtWork P.tells (P.view complex.old.plant) complex.old.since complex.old.base complex.old.journal.batches complex.old.current complex.old.placed complex.old.level complex.old.reserved member.old.id member.old.batch member.old.checkpoint member.old.room member.old.behind }
+    requires right { P.tells → IsSound complex.old.base → IsMarkRight (run complex.old.base (kept_all complex.old.journal.batches ++ member.old.batch)) member.old.id (counts_after member.old.batch (counts_of complex.old.printed) member.old.id) command }
+    requires work { IsAtWork P.tells (P.view complex.old.plant) complex.old.since complex.old.base complex.old.journal.batches complex.old.current complex.old.placed complex.old.level complex.old.reserved complex.old.printed member.old.id member.old.batch member.old.checkpoint member.old.room member.old.behind }
     requires of { AreOf member.old.id step member.old.batch }
     requires untold { P.tells → IsStepUntold (setting C.reads complex.old.base complex.old.since) member.old.id step (P.view complex.old.plant) }
     requires copy1 { HasCopy P.tells complex.old.pair.first.alive complex.old.first (C.count complex.old.pair.first.copy) (C.room complex.old.pair.first.copy) member.old.checkpoint.pages (C.reads (disk_now (P.view complex.old.plant) Ckpt1).bytes) }
@@ -71,7 +75,7 @@ pub(crate) fn play_command<P: Plant + Drop, C: Steady + Drop>(
         complex.old.pair.first.alive complex.new.pair.first.alive complex.old.pair.second.alive complex.new.pair.second.alive
         (P.view complex.old.plant) (P.view complex.new.plant) result }
     ensures named { IfOk result IsNamedEnd }
-    ensures work { OnOk result (IsAtWork P.tells (P.view complex.new.plant) complex.new.since complex.new.base complex.new.journal.batches complex.new.current complex.new.placed complex.new.level complex.new.reserved member.new.id member.new.batch member.new.checkpoint member.new.room member.new.behind) }
+    ensures work { OnOk result (IsAtWork P.tells (P.view complex.new.plant) complex.new.since complex.new.base complex.new.journal.batches complex.new.current complex.new.placed complex.new.level complex.new.reserved complex.new.printed member.new.id member.new.batch member.new.checkpoint member.new.room member.new.behind) }
     ensures of { OnOk result (AreOf member.new.id step member.new.batch) }
     ensures untold { OnOk result (P.tells → IsStepUntold (setting C.reads complex.new.base complex.new.since) member.new.id step (P.view complex.new.plant)) }
     ensures copy1 { OnOk result (HasCopy P.tells complex.new.pair.first.alive complex.new.first (C.count complex.new.pair.first.copy) (C.room complex.new.pair.first.copy) member.new.checkpoint.pages (C.reads (disk_now (P.view complex.new.plant) Ckpt1).bytes)) }
@@ -99,7 +103,7 @@ fn give_way<P: Plant + Drop, C: Steady + Drop>(
     requires some { 1 ≤ member.old.id.0 }
     requires seated { IsMember complex.old.book member.old.id }
     requires whole { left_of complex.old.book member.old.id ≡ complex.old.book.hold }
-    requires work { IsAtWork P.tells (P.view complex.old.plant) complex.old.since complex.old.base complex.old.journal.batches complex.old.current complex.old.placed complex.old.level complex.old.reserved member.old.id member.old.batch member.old.checkpoint member.old.room member.old.behind }
+    requires work { IsAtWork P.tells (P.view complex.old.plant) complex.old.since complex.old.base complex.old.journal.batches complex.old.current complex.old.placed complex.old.level complex.old.reserved complex.old.printed member.old.id member.old.batch member.old.checkpoint member.old.room member.old.behind }
     requires untold { P.tells → IsUntold (setting C.reads complex.old.base complex.old.since) (P.view complex.old.plant) member.old.batch }
     requires copy1 { HasCopy P.tells complex.old.pair.first.alive complex.old.first (C.count complex.old.pair.first.copy) (C.room complex.old.pair.first.copy) member.old.checkpoint.pages (C.reads (disk_now (P.view complex.old.plant) Ckpt1).bytes) }
     requires copy2 { HasCopy P.tells complex.old.pair.second.alive complex.old.second (C.count complex.old.pair.second.copy) (C.room complex.old.pair.second.copy) member.old.checkpoint.pages (C.reads (disk_now (P.view complex.old.plant) Ckpt2).bytes) }
@@ -116,7 +120,7 @@ fn give_way<P: Plant + Drop, C: Steady + Drop>(
         complex.old.journal.batches (end_of complex.new.placed complex.new.current complex.new.journal.batches)
         complex.old.pair.first.alive complex.new.pair.first.alive complex.old.pair.second.alive complex.new.pair.second.alive
         (P.view complex.old.plant) (P.view complex.new.plant) result }
-    ensures work { OnOk result (IsAtWork P.tells (P.view complex.new.plant) complex.new.since complex.new.base complex.new.journal.batches complex.new.current complex.new.placed complex.new.level complex.new.reserved member.new.id member.new.batch member.new.checkpoint member.new.room member.new.behind) }
+    ensures work { OnOk result (IsAtWork P.tells (P.view complex.new.plant) complex.new.since complex.new.base complex.new.journal.batches complex.new.current complex.new.placed complex.new.level complex.new.reserved complex.new.printed member.new.id member.new.batch member.new.checkpoint member.new.room member.new.behind) }
     ensures copy1 { OnOk result (HasCopy P.tells complex.new.pair.first.alive complex.new.first (C.count complex.new.pair.first.copy) (C.room complex.new.pair.first.copy) member.new.checkpoint.pages (C.reads (disk_now (P.view complex.new.plant) Ckpt1).bytes)) }
     ensures copy2 { OnOk result (HasCopy P.tells complex.new.pair.second.alive complex.new.second (C.count complex.new.pair.second.copy) (C.room complex.new.pair.second.copy) member.new.checkpoint.pages (C.reads (disk_now (P.view complex.new.plant) Ckpt2).bytes)) }
     ensures order { OnOk result (member.new.checkpoint.tables.order < too_high) }
@@ -146,7 +150,7 @@ fn rest<P: Plant + Drop, C: Steady + Drop>(
     requires some { 1 ≤ member.old.id.0 }
     requires seated { IsMember complex.old.book member.old.id }
     requires whole { left_of complex.old.book member.old.id ≡ complex.old.book.hold }
-    requires work { IsAtWork P.tells (P.view complex.old.plant) complex.old.since complex.old.base complex.old.journal.batches complex.old.current complex.old.placed complex.old.level complex.old.reserved member.old.id member.old.batch member.old.checkpoint member.old.room member.old.behind }
+    requires work { IsAtWork P.tells (P.view complex.old.plant) complex.old.since complex.old.base complex.old.journal.batches complex.old.current complex.old.placed complex.old.level complex.old.reserved complex.old.printed member.old.id member.old.batch member.old.checkpoint member.old.room member.old.behind }
     requires untold { P.tells → IsUntold (setting C.reads complex.old.base complex.old.since) (P.view complex.old.plant) member.old.batch }
     requires copy1 { HasCopy P.tells complex.old.pair.first.alive complex.old.first (C.count complex.old.pair.first.copy) (C.room complex.old.pair.first.copy) member.old.checkpoint.pages (C.reads (disk_now (P.view complex.old.plant) Ckpt1).bytes) }
     requires copy2 { HasCopy P.tells complex.old.pair.second.alive complex.old.second (C.count complex.old.pair.second.copy) (C.room complex.old.pair.second.copy) member.old.checkpoint.pages (C.reads (disk_now (P.view complex.old.plant) Ckpt2).bytes) }
@@ -162,7 +166,7 @@ fn rest<P: Plant + Drop, C: Steady + Drop>(
         complex.old.journal.batches (end_of complex.new.placed complex.new.current complex.new.journal.batches)
         complex.old.pair.first.alive complex.new.pair.first.alive complex.old.pair.second.alive complex.new.pair.second.alive
         (P.view complex.old.plant) (P.view complex.new.plant) result }
-    ensures work { OnOk result (IsAtWork P.tells (P.view complex.new.plant) complex.new.since complex.new.base complex.new.journal.batches complex.new.current complex.new.placed complex.new.level complex.new.reserved member.new.id member.new.batch member.new.checkpoint member.new.room member.new.behind) }
+    ensures work { OnOk result (IsAtWork P.tells (P.view complex.new.plant) complex.new.since complex.new.base complex.new.journal.batches complex.new.current complex.new.placed complex.new.level complex.new.reserved complex.new.printed member.new.id member.new.batch member.new.checkpoint member.new.room member.new.behind) }
     ensures copy1 { OnOk result (HasCopy P.tells complex.new.pair.first.alive complex.new.first (C.count complex.new.pair.first.copy) (C.room complex.new.pair.first.copy) member.new.checkpoint.pages (C.reads (disk_now (P.view complex.new.plant) Ckpt1).bytes)) }
     ensures copy2 { OnOk result (HasCopy P.tells complex.new.pair.second.alive complex.new.second (C.count complex.new.pair.second.copy) (C.room complex.new.pair.second.copy) member.new.checkpoint.pages (C.reads (disk_now (P.view complex.new.plant) Ckpt2).bytes)) }
     ensures few { OnOk result (length member.new.batch < 64) }
@@ -197,10 +201,9 @@ fn play_units<P: Plant + Drop, C: Steady + Drop>(
     requires whole { left_of complex.old.book member.old.id ≡ complex.old.book.hold }
     requires member { is_member complex.old.base.config member.old.id ≡ true }
     requires units { IsCount units }
-    requires numbers { P.tells → AreDistinct (λ a b. same_number a.number b.number) complex.old.base.jobs }
-    requires configured { P.tells → IsConfig complex.old.base.config }
+    requires base_sound { P.tells → IsSound complex.old.base }
     requires nothing { member.old.batch ≡ [] }
-    requires work { IsAtWork P.tells (P.view complex.old.plant) complex.old.since complex.old.base complex.old.journal.batches complex.old.current complex.old.placed complex.old.level complex.old.reserved member.old.id member.old.batch member.old.checkpoint member.old.room member.old.behind }
+    requires work { IsAtWork P.tells (P.view complex.old.plant) complex.old.since complex.old.base complex.old.journal.batches complex.old.current complex.old.placed complex.old.level complex.old.reserved complex.old.printed member.old.id member.old.batch member.old.checkpoint member.old.room member.old.behind }
     requires untold { P.tells → IsStepUntold (setting C.reads complex.old.base complex.old.since) member.old.id step (P.view complex.old.plant) }
     requires copy1 { HasCopy P.tells complex.old.pair.first.alive complex.old.first (C.count complex.old.pair.first.copy) (C.room complex.old.pair.first.copy) member.old.checkpoint.pages (C.reads (disk_now (P.view complex.old.plant) Ckpt1).bytes) }
     requires copy2 { HasCopy P.tells complex.old.pair.second.alive complex.old.second (C.count complex.old.pair.second.copy) (C.room complex.old.pair.second.copy) member.old.checkpoint.pages (C.reads (disk_now (P.view complex.old.plant) Ckpt2).bytes) }
@@ -218,7 +221,7 @@ fn play_units<P: Plant + Drop, C: Steady + Drop>(
         complex.old.pair.first.alive complex.new.pair.first.alive complex.old.pair.second.alive complex.new.pair.second.alive
         (P.view complex.old.plant) (P.view complex.new.plant) result }
     ensures named { IfOk result AreMembersNamed }
-    ensures work { OnOk result (IsAtWork P.tells (P.view complex.new.plant) complex.new.since complex.new.base complex.new.journal.batches complex.new.current complex.new.placed complex.new.level complex.new.reserved member.new.id member.new.batch member.new.checkpoint member.new.room member.new.behind) }
+    ensures work { OnOk result (IsAtWork P.tells (P.view complex.new.plant) complex.new.since complex.new.base complex.new.journal.batches complex.new.current complex.new.placed complex.new.level complex.new.reserved complex.new.printed member.new.id member.new.batch member.new.checkpoint member.new.room member.new.behind) }
     ensures of { OnOk result (AreOf member.new.id step member.new.batch) }
     ensures untold { OnOk result (P.tells → IsStepUntold (setting C.reads complex.new.base complex.new.since) member.new.id step (P.view complex.new.plant)) }
     ensures copy1 { OnOk result (HasCopy P.tells complex.new.pair.first.alive complex.new.first (C.count complex.new.pair.first.copy) (C.room complex.new.pair.first.copy) member.new.checkpoint.pages (C.reads (disk_now (P.view complex.new.plant) Ckpt1).bytes)) }
@@ -241,12 +244,14 @@ fn play_units<P: Plant + Drop, C: Steady + Drop>(
     }
 }
 
-/// Plays a step WORK of the member that holds the lock and has read the copies: at most so many units of work, 1 to 9999, from the purge of
-/// a job on, one after another, until none applies, one is refused, or a text or volume that it needs is lost; then the line is said with
-/// which the step closes, the refusal or the units done. What the units give is kept in batches: before acts on the spool volumes, where
-/// the hold is spent, where a batch has its 64 entries, and before the line. The lock is given up for the acts, and between two units where
-/// the hold is spent; whenever the member has it again it reads the copies anew. A job's outputs are its meaning: what its steps print, or
-/// what is listed of a JCL error or a scan.
+/// Plays a step WORK of the member that holds the lock and has read the copies: at most so many units of work, 1 to 9999, from the
+/// printer's on, one after another, until none applies, one is refused, or a text, a volume or the printer that it needs is lost; then the
+/// line is said with which the step closes, the refusal or the units done. What the units give is kept in batches: before acts on the spool
+/// volumes and the printer, where the hold is spent, where a batch has its 64 entries, and before the line. The lock is given up for the
+/// acts, and between two units where the hold is spent; whenever the member has it again it reads the copies anew. A job's outputs are its
+/// meaning: what its steps print, or what is listed of a JCL error or a scan. An output is printed from behind its mark on, and behind the
+/// lines that the member has printed of it since; they are marked once they stand on paper. A printer that is lost leaves the output busy
+/// with its mark. The line names a volume or the printer as lost only where it failed in the step.
 ///
 /// NoMemory leaves the first ones of the step's batches, or all of them, and of the next one perhaps what was done of it. BothLost and Halted
 /// perhaps leave one in flight behind them. ConsoleFault comes once all are kept, at the line. After any of the four errors the member
@@ -265,8 +270,7 @@ pub fn play_work<P: Plant + Drop, C: Steady + Drop>(
     requires whole { left_of complex.old.book member.old.id ≡ complex.old.book.hold }
     requires member { is_member complex.old.base.config member.old.id ≡ true }
     requires units { IsCount units }
-    requires numbers { P.tells → AreDistinct (λ a b. same_number a.number b.number) complex.old.base.jobs }
-    requires configured { P.tells → IsConfig complex.old.base.config }
+    requires base_sound { P.tells → IsSound complex.old.base }
     requires unreserved { complex.old.reserved ≡ None }
     requires here { member.old.behind ≡ false }
     requires between { IsBetween P.tells complex.old.base complex.old.journal.batches complex.old.current complex.old.placed complex.old.level member.old.batch member.old.checkpoint }

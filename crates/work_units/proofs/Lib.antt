@@ -1,3 +1,2 @@
 pub mod ListedLemmas
 pub mod EndLemmas
-pub mod UnitLemmas

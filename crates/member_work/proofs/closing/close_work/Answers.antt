@@ -104,7 +104,7 @@ returns-then-len-eq0-clause-between g c =
     let r = c.tell_lines.result in
     let nothing = none_batch m.batch (omega arith) in
     ok_of r (between_by P.tells x.base z.base x.journal.batches z.journal.batches x.current z.current x.placed z.placed x.level z.level m.batch m.checkpoint t.base (ap (λ (j : Journal). j.batches) t.journal) t.current t.placed t.level
-    (work_back P.tells (P.view x.plant) x.since x.base x.journal.batches x.current x.placed x.level x.reserved m.id m.batch m.checkpoint m.room m.behind w nothing))
+    (work_back P.tells (P.view x.plant) x.since x.base x.journal.batches x.current x.placed x.level x.reserved x.printed m.id m.batch m.checkpoint m.room m.behind w nothing))
 
 pub returns-then-len-eq0-clause-rests1 : goal.returns-then-len-eq0-clause-rests1
 returns-then-len-eq0-clause-rests1 g c =
@@ -156,7 +156,7 @@ returns-then-len-eq0-clause-low g c =
     let t = c.tell_lines.ensures in
     let r = c.tell_lines.result in
     let nothing = none_batch m.batch (omega arith) in
-    ok_of r (λ told. subst (λ (j : Journal). AreLow m.checkpoint.tables.config (length j.batches) m.checkpoint.tables) (sym t.journal) (subst (λ (k : Config). AreLow k (length x.journal.batches) m.checkpoint.tables) w.config (work_low P.tells (P.view x.plant) x.since x.base x.journal.batches x.current x.placed x.level x.reserved m.id m.batch m.checkpoint m.room m.behind w nothing told)))
+    ok_of r (λ told. subst (λ (j : Journal). AreLow m.checkpoint.tables.config (length j.batches) m.checkpoint.tables) (sym t.journal) (subst (λ (k : Config). AreLow k (length x.journal.batches) m.checkpoint.tables) w.config (work_low P.tells (P.view x.plant) x.since x.base x.journal.batches x.current x.placed x.level x.reserved x.printed m.id m.batch m.checkpoint m.room m.behind w nothing told)))
 
 pub returns-then-len-eq0-clause-reached : goal.returns-then-len-eq0-clause-reached
 returns-then-len-eq0-clause-reached g c =
@@ -343,4 +343,7 @@ returns-clause-low g c =
     let t = c.play_batch.ensures in
     let r = c.play_batch.result in
     let some : 1 ≤ length m.batch = some_batch m.batch (omega arith) in
-    low_closed P.tells r m.checkpoint.tables.config x.journal.batches z.journal.batches z.placed z.current (begun (P.view x.plant).now m.id m.batch) (P.view z.plant).now z.base z.level n.batch n.checkpoint m.checkpoint t.step.journal t.between t.tables w.fit refl (work_order P.tells (P.view x.plant) x.since x.base x.journal.batches x.current x.placed x.level x.reserved m.id m.batch m.checkpoint m.room m.behind w)
+    low_closed P.tells r m.checkpoint.tables.config x.journal.batches z.journal.batches z.placed z.current (begun (P.view x.plant).now m.id m.batch) (P.view z.plant).now z.base z.level n.batch n.checkpoint m.checkpoint t.step.journal t.between t.tables w.fit refl (work_order P.tells (P.view x.plant) x.since x.base x.journal.batches x.current x.placed x.level x.reserved x.printed m.id m.batch m.checkpoint m.room m.behind w)
+
+pub play_batch-requires-clause-allowed : goal.play_batch-requires-clause-allowed
+play_batch-requires-clause-allowed g c = c.requires.work.allowed

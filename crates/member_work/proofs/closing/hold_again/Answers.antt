@@ -29,7 +29,7 @@ take_hold-requires-clause-at_lock g c =
     let x = c.args.complex.now in
     let m = c.args.member.now in
     let w = c.requires.work in
-    work_at_lock P.tells (P.view x.plant) x.since x.base x.journal.batches x.current x.placed x.level x.reserved m.id m.batch m.checkpoint m.room m.behind w c.requires.nothing
+    work_at_lock P.tells (P.view x.plant) x.since x.base x.journal.batches x.current x.placed x.level x.reserved x.printed m.id m.batch m.checkpoint m.room m.behind w c.requires.nothing
 
 pub take_hold-requires-clause-sound : goal.take_hold-requires-clause-sound
 take_hold-requires-clause-sound g c told =
@@ -38,7 +38,7 @@ take_hold-requires-clause-sound g c told =
     let x = c.args.complex.now in
     let m = c.args.member.now in
     let w = c.requires.work in
-    work_sound P.tells (P.view x.plant) x.since x.base x.journal.batches x.current x.placed x.level x.reserved m.id m.batch m.checkpoint m.room m.behind w c.requires.nothing told
+    work_sound P.tells (P.view x.plant) x.since x.base x.journal.batches x.current x.placed x.level x.reserved x.printed m.id m.batch m.checkpoint m.room m.behind w c.requires.nothing told
 
 pub take_hold-requires-clause-config : goal.take_hold-requires-clause-config
 take_hold-requires-clause-config g c =
@@ -55,7 +55,7 @@ take_hold-requires-clause-calm1 g c =
     let x = c.args.complex.now in
     let m = c.args.member.now in
     let w = c.requires.work in
-    work_calm P.tells (P.view x.plant) x.since x.base x.journal.batches x.current x.placed x.level x.reserved m.id m.batch m.checkpoint m.room m.behind w c.requires.nothing x.pair.first.alive x.first (C.count x.pair.first.copy) (C.reads (disk_now (P.view x.plant) Ckpt1).bytes) c.requires.rests1
+    work_calm P.tells (P.view x.plant) x.since x.base x.journal.batches x.current x.placed x.level x.reserved x.printed m.id m.batch m.checkpoint m.room m.behind w c.requires.nothing x.pair.first.alive x.first (C.count x.pair.first.copy) (C.reads (disk_now (P.view x.plant) Ckpt1).bytes) c.requires.rests1
 
 pub take_hold-requires-clause-low1 : goal.take_hold-requires-clause-low1
 take_hold-requires-clause-low1 g c =
@@ -64,7 +64,7 @@ take_hold-requires-clause-low1 g c =
     let x = c.args.complex.now in
     let m = c.args.member.now in
     let w = c.requires.work in
-    work_reads P.tells (P.view x.plant) x.since x.base x.journal.batches x.current x.placed x.level x.reserved m.id m.batch m.checkpoint m.room m.behind w c.requires.nothing x.pair.first.alive x.first (C.count x.pair.first.copy) (C.reads (disk_now (P.view x.plant) Ckpt1).bytes) c.requires.rests1
+    work_reads P.tells (P.view x.plant) x.since x.base x.journal.batches x.current x.placed x.level x.reserved x.printed m.id m.batch m.checkpoint m.room m.behind w c.requires.nothing x.pair.first.alive x.first (C.count x.pair.first.copy) (C.reads (disk_now (P.view x.plant) Ckpt1).bytes) c.requires.rests1
 
 pub take_hold-requires-clause-calm2 : goal.take_hold-requires-clause-calm2
 take_hold-requires-clause-calm2 g c =
@@ -73,7 +73,7 @@ take_hold-requires-clause-calm2 g c =
     let x = c.args.complex.now in
     let m = c.args.member.now in
     let w = c.requires.work in
-    work_calm P.tells (P.view x.plant) x.since x.base x.journal.batches x.current x.placed x.level x.reserved m.id m.batch m.checkpoint m.room m.behind w c.requires.nothing x.pair.second.alive x.second (C.count x.pair.second.copy) (C.reads (disk_now (P.view x.plant) Ckpt2).bytes) c.requires.rests2
+    work_calm P.tells (P.view x.plant) x.since x.base x.journal.batches x.current x.placed x.level x.reserved x.printed m.id m.batch m.checkpoint m.room m.behind w c.requires.nothing x.pair.second.alive x.second (C.count x.pair.second.copy) (C.reads (disk_now (P.view x.plant) Ckpt2).bytes) c.requires.rests2
 
 pub take_hold-requires-clause-low2 : goal.take_hold-requires-clause-low2
 take_hold-requires-clause-low2 g c =
@@ -82,7 +82,7 @@ take_hold-requires-clause-low2 g c =
     let x = c.args.complex.now in
     let m = c.args.member.now in
     let w = c.requires.work in
-    work_reads P.tells (P.view x.plant) x.since x.base x.journal.batches x.current x.placed x.level x.reserved m.id m.batch m.checkpoint m.room m.behind w c.requires.nothing x.pair.second.alive x.second (C.count x.pair.second.copy) (C.reads (disk_now (P.view x.plant) Ckpt2).bytes) c.requires.rests2
+    work_reads P.tells (P.view x.plant) x.since x.base x.journal.batches x.current x.placed x.level x.reserved x.printed m.id m.batch m.checkpoint m.room m.behind w c.requires.nothing x.pair.second.alive x.second (C.count x.pair.second.copy) (C.reads (disk_now (P.view x.plant) Ckpt2).bytes) c.requires.rests2
 
 pub returns-clause-work : goal.returns-clause-work
 returns-clause-work g c =
@@ -95,7 +95,7 @@ returns-clause-work g c =
     let t = c.take_hold.ensures in
     let r = c.take_hold.result in
     let w = c.requires.work in
-    on_five r (λ between here many config low. work_between P.tells (P.view z.plant) z.since z.base z.journal.batches z.current z.placed z.level z.reserved n.id n.batch n.checkpoint n.room n.behind between (t.reserved ∙ w.unreserved) here many (ap (λ (q : Queue). q.config) t.base ∙ w.config ∙ sym config)
+    on_five r (λ between here many config low. work_between P.tells (P.view z.plant) z.since z.base z.journal.batches z.current z.placed z.level z.reserved z.printed n.id n.batch n.checkpoint n.room n.behind between (t.reserved ∙ w.unreserved) here many (ap (λ (q : Queue). q.config) t.base ∙ w.config ∙ sym config)
     (λ told. subst (λ (j : Journal). n.checkpoint.tables.order ≤ orders_after (length j.batches)) (sym t.journal) (low told).order)
     (subst (λ (j : Journal). AreAllKept j.batches (P.view z.plant).now) (sym t.journal) (kept_later x.journal.batches (P.view x.plant).now (P.view z.plant).now t.acts.course.goes.later w.kept))
     (subst (λ (i : ℕ). i ≤ (P.view z.plant).now) (sym t.since) (let begun = w.begun in let later = t.acts.course.goes.later in omega (arith, begun, later)))

@@ -312,11 +312,11 @@ returns-clause-work g c =
     let b = o.between in
     let goes = goes_on (P.view x.plant) (P.view y.plant) (P.view z.plant) o.acts.course.goes p.settle.course.goes in
     let long : length y.journal.batches ≡ length x.journal.batches + 1 = one_batch x.journal.batches y.journal.batches y.placed y.current (begun (P.view x.plant).now m.id m.batch) (P.view y.plant).now b.unplaced b.none o.leaves in
-    ok_of r (work_between P.tells (P.view z.plant) z.since z.base z.journal.batches z.current z.placed z.level z.reserved n.id n.batch n.checkpoint n.room n.behind
+    ok_of r (work_between P.tells (P.view z.plant) z.since z.base z.journal.batches z.current z.placed z.level z.reserved z.printed n.id n.batch n.checkpoint n.room n.behind
     (between_by P.tells y.base z.base y.journal.batches z.journal.batches y.current z.current y.placed z.placed y.level z.level n.batch n.checkpoint p.base (ap (λ (j : Journal). j.batches) p.journal) p.current p.placed p.level b)
     (p.reserved ∙ o.unreserved) k.here (same_room m.checkpoint n.checkpoint m.room n.room k.room w.many w.draws b.drawn (ap (λ t. t.config) k.tables))
     (ap (λ (q : Queue). q.config) (p.base ∙ k.base) ∙ w.config ∙ sym (ap (λ t. t.config) k.tables))
-    (λ told. let le = work_order P.tells (P.view x.plant) x.since x.base x.journal.batches x.current x.placed x.level x.reserved m.id m.batch m.checkpoint m.room m.behind w told in let is = ap (λ t. t.order) k.tables in
+    (λ told. let le = work_order P.tells (P.view x.plant) x.since x.base x.journal.batches x.current x.placed x.level x.reserved x.printed m.id m.batch m.checkpoint m.room m.behind w told in let is = ap (λ t. t.order) k.tables in
     subst (λ (j : Journal). n.checkpoint.tables.order ≤ orders_after (length j.batches)) (sym p.journal) (subst (λ (i : ℕ). n.checkpoint.tables.order ≤ orders_after i) (sym long) (subst (λ (i : ℕ). i ≤ orders_after (length x.journal.batches + 1)) (sym is) le)))
     (subst (λ (j : Journal). AreAllKept j.batches (P.view z.plant).now) (sym p.journal) (kept_later y.journal.batches (P.view y.plant).now (P.view z.plant).now p.settle.course.goes.later o.kept))
     (subst (λ (i : ℕ). i ≤ (P.view z.plant).now) (sym (p.since ∙ k.since)) (let begun = w.begun in let later = goes.later in omega (arith, begun, later)))
@@ -397,3 +397,6 @@ returns-clause-reached g c =
     let kept = kept_ok P.tells m.id m.batch some x.journal.batches (end_of y.placed y.current y.journal.batches) x.pair.first.alive y.pair.first.alive x.pair.second.alive y.pair.second.alive (P.view x.plant) (P.view y.plant) o.acts o.leaves in
     let out : end_of y.placed y.current y.journal.batches ≡ y.journal.batches = none_out y.journal.batches y.journal.batches y.placed y.current refl o.between.unplaced o.between.none in
     ok_of r (subst (λ (i : ℕ). i ≤ x.level + 1) (sym p.level) o.reached)
+
+pub keep_batch-requires-clause-allowed : goal.keep_batch-requires-clause-allowed
+keep_batch-requires-clause-allowed g c = c.requires.work.allowed

@@ -8,10 +8,13 @@ use Rattle.mas_complex.specs.Meaning.{run}
 use Rattle.member_decks.specs.Decks.{given_in}
 use Rattle.member_decks.proofs.DeckLemmas.{given_of}
 use Rattle.member_decks.proofs.OpenLemmas.{tells_some}
+use Rattle.work_units.specs.declared.units.UnitEnd.{UnitEnd}
 use Rattle.work_units.specs.declared.units.UnitEnd.TheVariants as ends
+use Rattle.member_work.specs.Causes.{MayEndUnit}
 use Rattle.member_work.specs.Units.{drop_groups}
 use Rattle.member_work.specs.Work.{batches_in}
-use Rattle.member_work.proofs.EndingLemmas.{end_none, given_all, given_copy, given_own, given_some, given_texts, given_work, gives_few, keeps_by, last_done, last_given_up, of_by, told_queue}
+use Rattle.member_work.proofs.BeginLemmas.{dropping_unmarked}
+use Rattle.member_work.proofs.EndingLemmas.{given_begins, end_none, given_all, given_copy, given_own, given_some, given_texts, given_work, gives_few, keeps_by, last_done, last_given_up, of_by, told_queue}
 use Rattle.member_work.proofs.ending.drop_given.Goals as goal
 
 pub give_back-requires-clause-member : goal.give_back-requires-clause-member
@@ -35,7 +38,8 @@ give_up-requires-clause-work g c =
     let s = tells_some m.checkpoint.tables in
     let one = c.in_default.ensures.gives in
     let few = gives_few s.0 m.id c.args.step (drop_groups ∷ []) _ m n _ none (one s.0 s.1) in
-    given_work P.tells (P.view x.plant) x.since x.base x.journal.batches x.current x.placed x.level x.reserved c.args.step m n none h w (omega (arith, few)) (λ told some. given_texts P.tells (P.view x.plant) x.since x.base x.journal.batches x.current x.placed x.level x.reserved c.args.step m n none h (drop_groups ∷ []) _ _ m.id (one Q (told_queue P.tells (P.view x.plant) x.since x.base x.journal.batches x.current x.placed x.level x.reserved c.args.step m n none h w told)) (w.sound told) (c.kept_texts.ensures.kept told))
+    given_work P.tells (P.view x.plant) x.since x.base x.journal.batches x.current x.placed x.level x.reserved x.printed c.args.step m n none h w (omega (arith, few)) (λ told some. given_texts P.tells (P.view x.plant) x.since x.base x.journal.batches x.current x.placed x.level x.reserved x.printed c.args.step m n none h (drop_groups ∷ []) _ _ m.id (one Q (told_queue P.tells (P.view x.plant) x.since x.base x.journal.batches x.current x.placed x.level x.reserved x.printed c.args.step m n none h w told)) (w.sound told) (c.kept_texts.ensures.kept told))
+    (λ told. given_begins P.tells (P.view x.plant) x.since x.base x.journal.batches x.current x.placed x.level x.reserved x.printed c.args.step m n none h Q (drop_groups ∷ []) _ _ m.id (dropping_unmarked x.base m.id c.requires.member) (one Q (told_queue P.tells (P.view x.plant) x.since x.base x.journal.batches x.current x.placed x.level x.reserved x.printed c.args.step m n none h w told)))
 
 pub give_up-requires-clause-untold : goal.give_up-requires-clause-untold
 give_up-requires-clause-untold g c told =
@@ -49,7 +53,7 @@ give_up-requires-clause-untold g c told =
     let Q : Queue = run x.base (kept_all x.journal.batches) in
     let s = tells_some m.checkpoint.tables in
     let one = c.in_default.ensures.gives in
-    c.requires.untold told n.batch (given_own P.tells (P.view x.plant) x.since x.base x.journal.batches x.current x.placed x.level x.reserved c.args.step m n none h)
+    c.requires.untold told n.batch (given_own P.tells (P.view x.plant) x.since x.base x.journal.batches x.current x.placed x.level x.reserved x.printed c.args.step m n none h)
 
 pub give_up-requires-clause-copy1 : goal.give_up-requires-clause-copy1
 give_up-requires-clause-copy1 g c =
@@ -63,7 +67,7 @@ give_up-requires-clause-copy1 g c =
     let Q : Queue = run x.base (kept_all x.journal.batches) in
     let s = tells_some m.checkpoint.tables in
     let one = c.in_default.ensures.gives in
-    given_copy P.tells (P.view x.plant) x.since x.base x.journal.batches x.current x.placed x.level x.reserved c.args.step m n none h _ _ _ _ _ c.requires.copy1
+    given_copy P.tells (P.view x.plant) x.since x.base x.journal.batches x.current x.placed x.level x.reserved x.printed c.args.step m n none h _ _ _ _ _ c.requires.copy1
 
 pub give_up-requires-clause-copy2 : goal.give_up-requires-clause-copy2
 give_up-requires-clause-copy2 g c =
@@ -77,7 +81,7 @@ give_up-requires-clause-copy2 g c =
     let Q : Queue = run x.base (kept_all x.journal.batches) in
     let s = tells_some m.checkpoint.tables in
     let one = c.in_default.ensures.gives in
-    given_copy P.tells (P.view x.plant) x.since x.base x.journal.batches x.current x.placed x.level x.reserved c.args.step m n none h _ _ _ _ _ c.requires.copy2
+    given_copy P.tells (P.view x.plant) x.since x.base x.journal.batches x.current x.placed x.level x.reserved x.printed c.args.step m n none h _ _ _ _ _ c.requires.copy2
 
 pub give_up-requires-clause-high : goal.give_up-requires-clause-high
 give_up-requires-clause-high g c = let level = c.give_back.ensures.has.level in omega (arith, level, c.requires.high)
@@ -99,8 +103,8 @@ returns-in_default-clause-last g c =
     let one = c.in_default.ensures.gives in
     let y = c.give_up.new.complex in
     last_given_up P.tells m.id c.args.step (given_in Q m.id c.args.step (drop_groups ∷ [])) (ends.Refused (closing.SpoolLost c.args.volume)) x.journal.batches (end_of y.placed y.current y.journal.batches) c.give_up.result n.batch c.give_up.new.member.batch
-    x.pair.first.alive y.pair.first.alive x.pair.second.alive y.pair.second.alive (P.view x.plant) (P.view y.plant) (given_own P.tells (P.view x.plant) x.since x.base x.journal.batches x.current x.placed x.level x.reserved c.args.step m n none h) (given_of m.id c.args.step (drop_groups ∷ []) Q) (λ i. absurd (cc))
-    (λ told. given_some P.tells (P.view x.plant) x.since x.base x.journal.batches x.current x.placed x.level x.reserved c.args.step m n none h Q (drop_groups ∷ []) _ _ m.id (one Q (told_queue P.tells (P.view x.plant) x.since x.base x.journal.batches x.current x.placed x.level x.reserved c.args.step m n none h w told)))
+    x.pair.first.alive y.pair.first.alive x.pair.second.alive y.pair.second.alive (P.view x.plant) (P.view y.plant) (given_own P.tells (P.view x.plant) x.since x.base x.journal.batches x.current x.placed x.level x.reserved x.printed c.args.step m n none h) (given_of m.id c.args.step (drop_groups ∷ []) Q) (λ i. absurd (cc))
+    (λ told. given_some P.tells (P.view x.plant) x.since x.base x.journal.batches x.current x.placed x.level x.reserved x.printed c.args.step m n none h Q (drop_groups ∷ []) _ _ m.id (one Q (told_queue P.tells (P.view x.plant) x.since x.base x.journal.batches x.current x.placed x.level x.reserved x.printed c.args.step m n none h w told)))
     (keeps_by P.tells m.id n.id (batches_in (n.batch ∷ [])) x.journal.batches (end_of y.placed y.current y.journal.batches) x.pair.first.alive y.pair.first.alive x.pair.second.alive y.pair.second.alive (P.view x.plant) (P.view y.plant) (Err c.give_up.result) h.id c.give_up.ensures.keeps)
 
 -- THE COMMANDS WERE GIVEN
@@ -118,8 +122,9 @@ returns-clause-last g c =
     let s = tells_some m.checkpoint.tables in
     let one = c.in-Ok.ensures.gives in
     last_done P.tells m.id c.args.step (given_in Q m.id c.args.step (drop_groups ∷ [])) (ends.Refused (closing.SpoolLost c.args.volume)) x.journal.batches (end_of x.placed x.current x.journal.batches) c.in-Ok.end n.batch x.pair.first.alive x.pair.second.alive (P.view x.plant)
-    (end_none x.placed x.current x.journal.batches w.unplaced w.none) (given_own P.tells (P.view x.plant) x.since x.base x.journal.batches x.current x.placed x.level x.reserved c.args.step m n none h) (λ i. let other = sym c.in-Ok.ensures.end ∙ i in absurd (cc))
-    (λ told. (given_all P.tells (P.view x.plant) x.since x.base x.journal.batches x.current x.placed x.level x.reserved c.args.step m n none h Q (drop_groups ∷ []) _ _ m.id (one Q (told_queue P.tells (P.view x.plant) x.since x.base x.journal.batches x.current x.placed x.level x.reserved c.args.step m n none h w told)), c.in-Ok.ensures.end))
+    (end_none x.placed x.current x.journal.batches w.unplaced w.none) (given_own P.tells (P.view x.plant) x.since x.base x.journal.batches x.current x.placed x.level x.reserved x.printed c.args.step m n none h) (λ i. let other = sym c.in-Ok.ensures.end ∙ i in absurd (cc))
+    (λ from given. subst (λ (u : UnitEnd). MayEndUnit m.id u from (P.view x.plant)) (sym c.in-Ok.ensures.end) given)
+    (λ told. (given_all P.tells (P.view x.plant) x.since x.base x.journal.batches x.current x.placed x.level x.reserved x.printed c.args.step m n none h Q (drop_groups ∷ []) _ _ m.id (one Q (told_queue P.tells (P.view x.plant) x.since x.base x.journal.batches x.current x.placed x.level x.reserved x.printed c.args.step m n none h w told)), c.in-Ok.ensures.end))
 
 pub returns-clause-work : goal.returns-clause-work
 returns-clause-work g c =
@@ -134,7 +139,8 @@ returns-clause-work g c =
     let s = tells_some m.checkpoint.tables in
     let one = c.in-Ok.ensures.gives in
     let few = gives_few s.0 m.id c.args.step (drop_groups ∷ []) _ m n _ none (one s.0 s.1) in
-    given_work P.tells (P.view x.plant) x.since x.base x.journal.batches x.current x.placed x.level x.reserved c.args.step m n none h w (omega (arith, few)) (λ told some. given_texts P.tells (P.view x.plant) x.since x.base x.journal.batches x.current x.placed x.level x.reserved c.args.step m n none h (drop_groups ∷ []) _ _ m.id (one Q (told_queue P.tells (P.view x.plant) x.since x.base x.journal.batches x.current x.placed x.level x.reserved c.args.step m n none h w told)) (w.sound told) (c.kept_texts.ensures.kept told))
+    given_work P.tells (P.view x.plant) x.since x.base x.journal.batches x.current x.placed x.level x.reserved x.printed c.args.step m n none h w (omega (arith, few)) (λ told some. given_texts P.tells (P.view x.plant) x.since x.base x.journal.batches x.current x.placed x.level x.reserved x.printed c.args.step m n none h (drop_groups ∷ []) _ _ m.id (one Q (told_queue P.tells (P.view x.plant) x.since x.base x.journal.batches x.current x.placed x.level x.reserved x.printed c.args.step m n none h w told)) (w.sound told) (c.kept_texts.ensures.kept told))
+    (λ told. given_begins P.tells (P.view x.plant) x.since x.base x.journal.batches x.current x.placed x.level x.reserved x.printed c.args.step m n none h Q (drop_groups ∷ []) _ _ m.id (dropping_unmarked x.base m.id c.requires.member) (one Q (told_queue P.tells (P.view x.plant) x.since x.base x.journal.batches x.current x.placed x.level x.reserved x.printed c.args.step m n none h w told)))
 
 pub returns-clause-of : goal.returns-clause-of
 returns-clause-of g c =
@@ -148,7 +154,7 @@ returns-clause-of g c =
     let Q : Queue = run x.base (kept_all x.journal.batches) in
     let s = tells_some m.checkpoint.tables in
     let one = c.in-Ok.ensures.gives in
-    of_by m.id n.id c.args.step n.batch h.id (given_own P.tells (P.view x.plant) x.since x.base x.journal.batches x.current x.placed x.level x.reserved c.args.step m n none h)
+    of_by m.id n.id c.args.step n.batch h.id (given_own P.tells (P.view x.plant) x.since x.base x.journal.batches x.current x.placed x.level x.reserved x.printed c.args.step m n none h)
 
 pub returns-clause-untold : goal.returns-clause-untold
 returns-clause-untold g c told = rw c.give_back.ensures.has.id (c.requires.untold told)
@@ -165,7 +171,7 @@ returns-clause-copy1 g c =
     let Q : Queue = run x.base (kept_all x.journal.batches) in
     let s = tells_some m.checkpoint.tables in
     let one = c.in-Ok.ensures.gives in
-    given_copy P.tells (P.view x.plant) x.since x.base x.journal.batches x.current x.placed x.level x.reserved c.args.step m n none h _ _ _ _ _ c.requires.copy1
+    given_copy P.tells (P.view x.plant) x.since x.base x.journal.batches x.current x.placed x.level x.reserved x.printed c.args.step m n none h _ _ _ _ _ c.requires.copy1
 
 pub returns-clause-copy2 : goal.returns-clause-copy2
 returns-clause-copy2 g c =
@@ -179,7 +185,7 @@ returns-clause-copy2 g c =
     let Q : Queue = run x.base (kept_all x.journal.batches) in
     let s = tells_some m.checkpoint.tables in
     let one = c.in-Ok.ensures.gives in
-    given_copy P.tells (P.view x.plant) x.since x.base x.journal.batches x.current x.placed x.level x.reserved c.args.step m n none h _ _ _ _ _ c.requires.copy2
+    given_copy P.tells (P.view x.plant) x.since x.base x.journal.batches x.current x.placed x.level x.reserved x.printed c.args.step m n none h _ _ _ _ _ c.requires.copy2
 
 pub returns-clause-order : goal.returns-clause-order
 returns-clause-order g c =

@@ -10,7 +10,9 @@ use Rattle.member_decks.proofs.OpenLemmas.{tells_some}
 use Rattle.work_units.specs.Next.{end_by}
 use Rattle.member_work.specs.Units.{ending}
 use Rattle.member_work.specs.Work.{batches_in}
-use Rattle.member_work.proofs.EndingLemmas.{end_none, ending_few, given_all, given_copy, given_own, given_some, given_texts, given_work, gives_few, keeps_by, last_done, last_given_up, of_by, reply_end, told_queue}
+use Rattle.member_work.proofs.BeginLemmas.{ending_unmarked}
+use Rattle.member_work.proofs.CauseLemmas.{end_caused}
+use Rattle.member_work.proofs.EndingLemmas.{given_begins, end_none, ending_few, given_all, given_copy, given_own, given_some, given_texts, given_work, gives_few, keeps_by, last_done, last_given_up, of_by, reply_end, told_queue}
 use Rattle.member_work.proofs.ending.end_given.Goals as goal
 
 pub give_end-requires-clause-member : goal.give_end-requires-clause-member
@@ -35,7 +37,8 @@ give_up-requires-clause-work g c =
     let one = c.in_default.ensures.gives in
     let few = gives_few s.0 m.id c.args.step (ending s.0 m.id c.args.job c.args.specs) _ m n _ none (one s.0 s.1) in
     let most = ending_few s.0 m.id c.args.job c.args.specs in
-    given_work P.tells (P.view x.plant) x.since x.base x.journal.batches x.current x.placed x.level x.reserved c.args.step m n none h w (omega (arith, few, most)) (λ told some. given_texts P.tells (P.view x.plant) x.since x.base x.journal.batches x.current x.placed x.level x.reserved c.args.step m n none h (ending Q m.id c.args.job c.args.specs) _ _ m.id (one Q (told_queue P.tells (P.view x.plant) x.since x.base x.journal.batches x.current x.placed x.level x.reserved c.args.step m n none h w told)) (record { sound = w.sound told; under_way = c.requires.under_way told; spooled = c.requires.spooled told }) (c.kept_texts.ensures.kept told))
+    given_work P.tells (P.view x.plant) x.since x.base x.journal.batches x.current x.placed x.level x.reserved x.printed c.args.step m n none h w (omega (arith, few, most)) (λ told some. given_texts P.tells (P.view x.plant) x.since x.base x.journal.batches x.current x.placed x.level x.reserved x.printed c.args.step m n none h (ending Q m.id c.args.job c.args.specs) _ _ m.id (one Q (told_queue P.tells (P.view x.plant) x.since x.base x.journal.batches x.current x.placed x.level x.reserved x.printed c.args.step m n none h w told)) (record { sound = w.sound told; under_way = c.requires.under_way told; spooled = c.requires.spooled told }) (c.kept_texts.ensures.kept told))
+    (λ told. given_begins P.tells (P.view x.plant) x.since x.base x.journal.batches x.current x.placed x.level x.reserved x.printed c.args.step m n none h Q (ending Q m.id c.args.job c.args.specs) _ _ m.id (ending_unmarked x.base m.id c.requires.member Q c.args.job c.args.specs c.requires.outputs) (one Q (told_queue P.tells (P.view x.plant) x.since x.base x.journal.batches x.current x.placed x.level x.reserved x.printed c.args.step m n none h w told)))
 
 pub give_up-requires-clause-untold : goal.give_up-requires-clause-untold
 give_up-requires-clause-untold g c told =
@@ -49,7 +52,7 @@ give_up-requires-clause-untold g c told =
     let Q : Queue = run x.base (kept_all x.journal.batches) in
     let s = tells_some m.checkpoint.tables in
     let one = c.in_default.ensures.gives in
-    c.requires.untold told n.batch (given_own P.tells (P.view x.plant) x.since x.base x.journal.batches x.current x.placed x.level x.reserved c.args.step m n none h)
+    c.requires.untold told n.batch (given_own P.tells (P.view x.plant) x.since x.base x.journal.batches x.current x.placed x.level x.reserved x.printed c.args.step m n none h)
 
 pub give_up-requires-clause-copy1 : goal.give_up-requires-clause-copy1
 give_up-requires-clause-copy1 g c =
@@ -63,7 +66,7 @@ give_up-requires-clause-copy1 g c =
     let Q : Queue = run x.base (kept_all x.journal.batches) in
     let s = tells_some m.checkpoint.tables in
     let one = c.in_default.ensures.gives in
-    given_copy P.tells (P.view x.plant) x.since x.base x.journal.batches x.current x.placed x.level x.reserved c.args.step m n none h _ _ _ _ _ c.requires.copy1
+    given_copy P.tells (P.view x.plant) x.since x.base x.journal.batches x.current x.placed x.level x.reserved x.printed c.args.step m n none h _ _ _ _ _ c.requires.copy1
 
 pub give_up-requires-clause-copy2 : goal.give_up-requires-clause-copy2
 give_up-requires-clause-copy2 g c =
@@ -77,7 +80,7 @@ give_up-requires-clause-copy2 g c =
     let Q : Queue = run x.base (kept_all x.journal.batches) in
     let s = tells_some m.checkpoint.tables in
     let one = c.in_default.ensures.gives in
-    given_copy P.tells (P.view x.plant) x.since x.base x.journal.batches x.current x.placed x.level x.reserved c.args.step m n none h _ _ _ _ _ c.requires.copy2
+    given_copy P.tells (P.view x.plant) x.since x.base x.journal.batches x.current x.placed x.level x.reserved x.printed c.args.step m n none h _ _ _ _ _ c.requires.copy2
 
 pub give_up-requires-clause-high : goal.give_up-requires-clause-high
 give_up-requires-clause-high g c = let level = c.give_end.ensures.has.level in omega (arith, level, c.requires.high)
@@ -99,8 +102,8 @@ returns-in_default-clause-last g c =
     let one = c.in_default.ensures.gives in
     let y = c.give_up.new.complex in
     last_given_up P.tells m.id c.args.step (given_in Q m.id c.args.step (ending Q m.id c.args.job c.args.specs)) (end_by (closing_reply (given_in Q m.id c.args.step (ending Q m.id c.args.job c.args.specs)))) x.journal.batches (end_of y.placed y.current y.journal.batches) c.give_up.result n.batch c.give_up.new.member.batch
-    x.pair.first.alive y.pair.first.alive x.pair.second.alive y.pair.second.alive (P.view x.plant) (P.view y.plant) (given_own P.tells (P.view x.plant) x.since x.base x.journal.batches x.current x.placed x.level x.reserved c.args.step m n none h) (given_of m.id c.args.step (ending Q m.id c.args.job c.args.specs) Q) (λ i. reply_end (closing_reply (given_in Q m.id c.args.step (ending Q m.id c.args.job c.args.specs))) i)
-    (λ told. given_some P.tells (P.view x.plant) x.since x.base x.journal.batches x.current x.placed x.level x.reserved c.args.step m n none h Q (ending Q m.id c.args.job c.args.specs) _ _ m.id (one Q (told_queue P.tells (P.view x.plant) x.since x.base x.journal.batches x.current x.placed x.level x.reserved c.args.step m n none h w told)))
+    x.pair.first.alive y.pair.first.alive x.pair.second.alive y.pair.second.alive (P.view x.plant) (P.view y.plant) (given_own P.tells (P.view x.plant) x.since x.base x.journal.batches x.current x.placed x.level x.reserved x.printed c.args.step m n none h) (given_of m.id c.args.step (ending Q m.id c.args.job c.args.specs) Q) (λ i. reply_end (closing_reply (given_in Q m.id c.args.step (ending Q m.id c.args.job c.args.specs))) i)
+    (λ told. given_some P.tells (P.view x.plant) x.since x.base x.journal.batches x.current x.placed x.level x.reserved x.printed c.args.step m n none h Q (ending Q m.id c.args.job c.args.specs) _ _ m.id (one Q (told_queue P.tells (P.view x.plant) x.since x.base x.journal.batches x.current x.placed x.level x.reserved x.printed c.args.step m n none h w told)))
     (keeps_by P.tells m.id n.id (batches_in (n.batch ∷ [])) x.journal.batches (end_of y.placed y.current y.journal.batches) x.pair.first.alive y.pair.first.alive x.pair.second.alive y.pair.second.alive (P.view x.plant) (P.view y.plant) (Err c.give_up.result) h.id c.give_up.ensures.keeps)
 
 -- THE COMMANDS WERE GIVEN
@@ -118,8 +121,9 @@ returns-clause-last g c =
     let s = tells_some m.checkpoint.tables in
     let one = c.in-Ok.ensures.gives in
     last_done P.tells m.id c.args.step (given_in Q m.id c.args.step (ending Q m.id c.args.job c.args.specs)) (end_by (closing_reply (given_in Q m.id c.args.step (ending Q m.id c.args.job c.args.specs)))) x.journal.batches (end_of x.placed x.current x.journal.batches) c.in-Ok.end n.batch x.pair.first.alive x.pair.second.alive (P.view x.plant)
-    (end_none x.placed x.current x.journal.batches w.unplaced w.none) (given_own P.tells (P.view x.plant) x.since x.base x.journal.batches x.current x.placed x.level x.reserved c.args.step m n none h) (λ i. reply_end (closing_reply (given_in s.0 m.id c.args.step (ending s.0 m.id c.args.job c.args.specs))) (sym (c.in-Ok.ensures.end s.0 s.1) ∙ i))
-    (λ told. (given_all P.tells (P.view x.plant) x.since x.base x.journal.batches x.current x.placed x.level x.reserved c.args.step m n none h Q (ending Q m.id c.args.job c.args.specs) _ _ m.id (one Q (told_queue P.tells (P.view x.plant) x.since x.base x.journal.batches x.current x.placed x.level x.reserved c.args.step m n none h w told)), c.in-Ok.ensures.end Q (told_queue P.tells (P.view x.plant) x.since x.base x.journal.batches x.current x.placed x.level x.reserved c.args.step m n none h w told)))
+    (end_none x.placed x.current x.journal.batches w.unplaced w.none) (given_own P.tells (P.view x.plant) x.since x.base x.journal.batches x.current x.placed x.level x.reserved x.printed c.args.step m n none h) (λ i. reply_end (closing_reply (given_in s.0 m.id c.args.step (ending s.0 m.id c.args.job c.args.specs))) (sym (c.in-Ok.ensures.end s.0 s.1) ∙ i))
+    (λ from given. end_caused m.id from (P.view x.plant) (closing_reply (given_in s.0 m.id c.args.step (ending s.0 m.id c.args.job c.args.specs))) c.in-Ok.end (c.in-Ok.ensures.end s.0 s.1))
+    (λ told. (given_all P.tells (P.view x.plant) x.since x.base x.journal.batches x.current x.placed x.level x.reserved x.printed c.args.step m n none h Q (ending Q m.id c.args.job c.args.specs) _ _ m.id (one Q (told_queue P.tells (P.view x.plant) x.since x.base x.journal.batches x.current x.placed x.level x.reserved x.printed c.args.step m n none h w told)), c.in-Ok.ensures.end Q (told_queue P.tells (P.view x.plant) x.since x.base x.journal.batches x.current x.placed x.level x.reserved x.printed c.args.step m n none h w told)))
 
 pub returns-clause-work : goal.returns-clause-work
 returns-clause-work g c =
@@ -135,7 +139,8 @@ returns-clause-work g c =
     let one = c.in-Ok.ensures.gives in
     let few = gives_few s.0 m.id c.args.step (ending s.0 m.id c.args.job c.args.specs) _ m n _ none (one s.0 s.1) in
     let most = ending_few s.0 m.id c.args.job c.args.specs in
-    given_work P.tells (P.view x.plant) x.since x.base x.journal.batches x.current x.placed x.level x.reserved c.args.step m n none h w (omega (arith, few, most)) (λ told some. given_texts P.tells (P.view x.plant) x.since x.base x.journal.batches x.current x.placed x.level x.reserved c.args.step m n none h (ending Q m.id c.args.job c.args.specs) _ _ m.id (one Q (told_queue P.tells (P.view x.plant) x.since x.base x.journal.batches x.current x.placed x.level x.reserved c.args.step m n none h w told)) (record { sound = w.sound told; under_way = c.requires.under_way told; spooled = c.requires.spooled told }) (c.kept_texts.ensures.kept told))
+    given_work P.tells (P.view x.plant) x.since x.base x.journal.batches x.current x.placed x.level x.reserved x.printed c.args.step m n none h w (omega (arith, few, most)) (λ told some. given_texts P.tells (P.view x.plant) x.since x.base x.journal.batches x.current x.placed x.level x.reserved x.printed c.args.step m n none h (ending Q m.id c.args.job c.args.specs) _ _ m.id (one Q (told_queue P.tells (P.view x.plant) x.since x.base x.journal.batches x.current x.placed x.level x.reserved x.printed c.args.step m n none h w told)) (record { sound = w.sound told; under_way = c.requires.under_way told; spooled = c.requires.spooled told }) (c.kept_texts.ensures.kept told))
+    (λ told. given_begins P.tells (P.view x.plant) x.since x.base x.journal.batches x.current x.placed x.level x.reserved x.printed c.args.step m n none h Q (ending Q m.id c.args.job c.args.specs) _ _ m.id (ending_unmarked x.base m.id c.requires.member Q c.args.job c.args.specs c.requires.outputs) (one Q (told_queue P.tells (P.view x.plant) x.since x.base x.journal.batches x.current x.placed x.level x.reserved x.printed c.args.step m n none h w told)))
 
 pub returns-clause-of : goal.returns-clause-of
 returns-clause-of g c =
@@ -149,7 +154,7 @@ returns-clause-of g c =
     let Q : Queue = run x.base (kept_all x.journal.batches) in
     let s = tells_some m.checkpoint.tables in
     let one = c.in-Ok.ensures.gives in
-    of_by m.id n.id c.args.step n.batch h.id (given_own P.tells (P.view x.plant) x.since x.base x.journal.batches x.current x.placed x.level x.reserved c.args.step m n none h)
+    of_by m.id n.id c.args.step n.batch h.id (given_own P.tells (P.view x.plant) x.since x.base x.journal.batches x.current x.placed x.level x.reserved x.printed c.args.step m n none h)
 
 pub returns-clause-untold : goal.returns-clause-untold
 returns-clause-untold g c told = rw c.give_end.ensures.has.id (c.requires.untold told)
@@ -166,7 +171,7 @@ returns-clause-copy1 g c =
     let Q : Queue = run x.base (kept_all x.journal.batches) in
     let s = tells_some m.checkpoint.tables in
     let one = c.in-Ok.ensures.gives in
-    given_copy P.tells (P.view x.plant) x.since x.base x.journal.batches x.current x.placed x.level x.reserved c.args.step m n none h _ _ _ _ _ c.requires.copy1
+    given_copy P.tells (P.view x.plant) x.since x.base x.journal.batches x.current x.placed x.level x.reserved x.printed c.args.step m n none h _ _ _ _ _ c.requires.copy1
 
 pub returns-clause-copy2 : goal.returns-clause-copy2
 returns-clause-copy2 g c =
@@ -180,7 +185,7 @@ returns-clause-copy2 g c =
     let Q : Queue = run x.base (kept_all x.journal.batches) in
     let s = tells_some m.checkpoint.tables in
     let one = c.in-Ok.ensures.gives in
-    given_copy P.tells (P.view x.plant) x.since x.base x.journal.batches x.current x.placed x.level x.reserved c.args.step m n none h _ _ _ _ _ c.requires.copy2
+    given_copy P.tells (P.view x.plant) x.since x.base x.journal.batches x.current x.placed x.level x.reserved x.printed c.args.step m n none h _ _ _ _ _ c.requires.copy2
 
 pub returns-clause-order : goal.returns-clause-order
 returns-clause-order g c =

@@ -21,6 +21,7 @@ use Rattle.work_units.specs.declared.units.UnitEnd.TheVariants as ends
 use Rattle.work_units.specs.Next.{end_by}
 use Rattle.member_work.specs.Steps.{IsEndStep, IsPlayOf, IsSpoolStep}
 use Rattle.member_work.specs.Units.{UnitPlay, ending, groups_for_end, spooled, taken_end, taken_queue, taking}
+use Rattle.member_work.proofs.CauseLemmas.{reply_caused, taken_caused}
 use Rattle.member_work.proofs.EndingLemmas.{end_none, reply_end}
 use Rattle.member_work.proofs.PartLemmas.{end_first, end_one, end_two, ended_none, ended_refused, ended_taken, groups_taken, not_refused, queue_is, queue_taken, same_journal, spooled_in, spooled_nowhere, taken_done, under_way_taken}
 use Rattle.member_work.proofs.StateLemmas.{work_queue}
@@ -39,7 +40,7 @@ end_given-requires-clause-spooled g c told =
     let n = c.args.job in
     let needed = c.groups_for_end-needed.result in
     let Q : Queue = run x.base (kept_all x.journal.batches) in
-    let told_is : P.tells → Tell m.checkpoint.tables Q = λ t. work_queue P.tells (P.view x.plant) x.since x.base x.journal.batches x.current x.placed x.level x.reserved m.id m.batch m.checkpoint m.room m.behind w c.requires.nothing t in
+    let told_is : P.tells → Tell m.checkpoint.tables Q = λ t. work_queue P.tells (P.view x.plant) x.since x.base x.journal.batches x.current x.placed x.level x.reserved x.printed m.id m.batch m.checkpoint m.room m.behind w c.requires.nothing t in
     let is : P.tells → needed ≡ groups_for_end Q n c.args.specs = λ t. rw c.as_slice.ensures at (c.groups_for_end-needed.ensures.groups Q (told_is t)) in
     spooled_nowhere c.law_of_read_texts.ensures c.law_of_groups.ensures.count (spools_at (P.view x.plant) (P.view x.plant).now) x.base.config.groups Q n c.args.specs (held_by by Q.owners) c.requires.outputs.each (sym (is told) ∙ c.if-needed-eq0.true)
 
@@ -58,10 +59,11 @@ returns-then-needed-eq0-clause-step g c =
     let n = c.args.job in
     let needed = c.groups_for_end-needed.result in
     let Q : Queue = run x.base (kept_all x.journal.batches) in
-    let told_is : P.tells → Tell m.checkpoint.tables Q = λ t. work_queue P.tells (P.view x.plant) x.since x.base x.journal.batches x.current x.placed x.level x.reserved m.id m.batch m.checkpoint m.room m.behind w c.requires.nothing t in
+    let told_is : P.tells → Tell m.checkpoint.tables Q = λ t. work_queue P.tells (P.view x.plant) x.since x.base x.journal.batches x.current x.placed x.level x.reserved x.printed m.id m.batch m.checkpoint m.room m.behind w c.requires.nothing t in
     let is : P.tells → needed ≡ groups_for_end Q n c.args.specs = λ t. rw c.as_slice.ensures at (c.groups_for_end-needed.ensures.groups Q (told_is t)) in
     let z = c.end_given.new.complex in
     end_one P.tells by at x.base.config.groups Q n c.args.specs x.journal.batches (given_in Q by at (ending Q by n c.args.specs)) c.end_given.new.member.batch (end_by (closing_reply (given_in Q by at (ending Q by n c.args.specs)))) (end_of z.placed z.current z.journal.batches) x.pair.first.alive z.pair.first.alive x.pair.second.alive z.pair.second.alive (P.view x.plant) (P.view z.plant) c.end_given.result
+    (reply_caused by (P.view x.plant) (P.view z.plant) (closing_reply (given_in Q by at (ending Q by n c.args.specs))))
     (λ part end t one two ok. let whole = ended_none Q by at n c.args.specs needed (is t) c.if-needed-eq0.true in record { parts_are = ap (λ (es : List Entry). es ∷ []) one ∙ sym (ap (λ (u : UnitPlay). u.parts) whole); end_is = two ∙ sym (ap (λ (u : UnitPlay). u.ends) whole) })
     c.end_given.ensures.last
 
@@ -90,7 +92,7 @@ returns-in_err-end-clause-step g c =
     let n = c.args.job in
     let needed = c.groups_for_end-needed.result in
     let Q : Queue = run x.base (kept_all x.journal.batches) in
-    let told_is : P.tells → Tell m.checkpoint.tables Q = λ t. work_queue P.tells (P.view x.plant) x.since x.base x.journal.batches x.current x.placed x.level x.reserved m.id m.batch m.checkpoint m.room m.behind w c.requires.nothing t in
+    let told_is : P.tells → Tell m.checkpoint.tables Q = λ t. work_queue P.tells (P.view x.plant) x.since x.base x.journal.batches x.current x.placed x.level x.reserved x.printed m.id m.batch m.checkpoint m.room m.behind w c.requires.nothing t in
     let is : P.tells → needed ≡ groups_for_end Q n c.args.specs = λ t. rw c.as_slice.ensures at (c.groups_for_end-needed.ensures.groups Q (told_is t)) in
     let some : 1 ≤ needed = let not = c.if-needed-eq0.false in omega (arith, not) in
     let y = c.take_given.new.complex in
@@ -101,8 +103,10 @@ returns-in_err-end-clause-step g c =
     let more : List Entry = given_in R by at (ending R by n c.args.specs) in
     rw (p.1, p.2) (test_cases (are_refused needed Q by needed) (IsEndStep P.tells by at x.base.config.groups Q n c.args.specs o.batch x.journal.batches (end_of y.placed y.current y.journal.batches) x.pair.first.alive y.pair.first.alive x.pair.second.alive y.pair.second.alive (P.view x.plant) (P.view y.plant) (Err c.in_err-end.field-0.0))
     (λ refused. end_one P.tells by at x.base.config.groups Q n c.args.specs x.journal.batches (given_in Q by at (taking Q by needed)) o.batch (taken_end Q by at needed) (end_of y.placed y.current y.journal.batches) x.pair.first.alive y.pair.first.alive x.pair.second.alive y.pair.second.alive (P.view x.plant) (P.view y.plant) (Err c.in_err-end.field-0.0)
+    (taken_caused by (P.view x.plant) (P.view y.plant) Q at needed)
     (λ part end t one two ok. ended_refused Q by at n c.args.specs needed (is t) some refused part end one two) c.in_err-end.ensures.last)
     (λ all. end_first P.tells by at x.base.config.groups Q n c.args.specs x.journal.batches c.in_err-end.field-0.0 (given_in Q by at (taking Q by needed)) more o.batch (taken_end Q by at needed) (end_by (closing_reply more)) (end_of y.placed y.current y.journal.batches) x.pair.first.alive y.pair.first.alive x.pair.second.alive y.pair.second.alive (P.view x.plant) (P.view y.plant) (given_of by at (ending R by n c.args.specs) R) (λ i. reply_end (closing_reply more) i)
+    (reply_caused by (P.view x.plant) (P.view y.plant) (closing_reply more))
     (λ part t one. ended_taken Q by at n c.args.specs needed (is t) some all None part more (end_by (closing_reply more)) one (record { parts_are = refl; end_is = refl })) c.in_err-end.ensures.last))
 
 -- ONE WAS REFUSED
@@ -118,13 +122,14 @@ returns-clause-step g c =
     let n = c.args.job in
     let needed = c.groups_for_end-needed.result in
     let Q : Queue = run x.base (kept_all x.journal.batches) in
-    let told_is : P.tells → Tell m.checkpoint.tables Q = λ t. work_queue P.tells (P.view x.plant) x.since x.base x.journal.batches x.current x.placed x.level x.reserved m.id m.batch m.checkpoint m.room m.behind w c.requires.nothing t in
+    let told_is : P.tells → Tell m.checkpoint.tables Q = λ t. work_queue P.tells (P.view x.plant) x.since x.base x.journal.batches x.current x.placed x.level x.reserved x.printed m.id m.batch m.checkpoint m.room m.behind w c.requires.nothing t in
     let is : P.tells → needed ≡ groups_for_end Q n c.args.specs = λ t. rw c.as_slice.ensures at (c.groups_for_end-needed.ensures.groups Q (told_is t)) in
     let some : 1 ≤ needed = let not = c.if-needed-eq0.false in omega (arith, not) in
     let y = c.take_given.new.complex in
     let o = c.take_given.new.member in
     let u = c.take_given.ensures in
     end_one P.tells by at x.base.config.groups Q n c.args.specs x.journal.batches (given_in Q by at (taking Q by needed)) o.batch (taken_end Q by at needed) (end_of y.placed y.current y.journal.batches) x.pair.first.alive y.pair.first.alive x.pair.second.alive y.pair.second.alive (P.view x.plant) (P.view y.plant) (Ok c.in_ok-end.end)
+    (taken_caused by (P.view x.plant) (P.view y.plant) Q at needed)
     (λ part end t one two ok. test_cases (are_refused needed Q by needed) _ (λ refused. ended_refused Q by at n c.args.specs needed (is t) some refused part end one two)
     (λ all. absurd (c.in_default.not-Done (ok ∙ two ∙ taken_done Q by at needed all)))) c.in_ok-end.ensures.last
 
@@ -145,7 +150,7 @@ spool_and_end-requires-clause-may g c =
     let n = c.args.job in
     let needed = c.groups_for_end-needed.result in
     let Q : Queue = run x.base (kept_all x.journal.batches) in
-    let told_is : P.tells → Tell m.checkpoint.tables Q = λ t. work_queue P.tells (P.view x.plant) x.since x.base x.journal.batches x.current x.placed x.level x.reserved m.id m.batch m.checkpoint m.room m.behind w c.requires.nothing t in
+    let told_is : P.tells → Tell m.checkpoint.tables Q = λ t. work_queue P.tells (P.view x.plant) x.since x.base x.journal.batches x.current x.placed x.level x.reserved x.printed m.id m.batch m.checkpoint m.room m.behind w c.requires.nothing t in
     let is : P.tells → needed ≡ groups_for_end Q n c.args.specs = λ t. rw c.as_slice.ensures at (c.groups_for_end-needed.ensures.groups Q (told_is t)) in
     let some : 1 ≤ needed = let not = c.if-needed-eq0.false in omega (arith, not) in
     let y = c.take_given.new.complex in
@@ -173,7 +178,7 @@ spool_and_end-requires-clause-seated g c =
     let n = c.args.job in
     let needed = c.groups_for_end-needed.result in
     let Q : Queue = run x.base (kept_all x.journal.batches) in
-    let told_is : P.tells → Tell m.checkpoint.tables Q = λ t. work_queue P.tells (P.view x.plant) x.since x.base x.journal.batches x.current x.placed x.level x.reserved m.id m.batch m.checkpoint m.room m.behind w c.requires.nothing t in
+    let told_is : P.tells → Tell m.checkpoint.tables Q = λ t. work_queue P.tells (P.view x.plant) x.since x.base x.journal.batches x.current x.placed x.level x.reserved x.printed m.id m.batch m.checkpoint m.room m.behind w c.requires.nothing t in
     let is : P.tells → needed ≡ groups_for_end Q n c.args.specs = λ t. rw c.as_slice.ensures at (c.groups_for_end-needed.ensures.groups Q (told_is t)) in
     let some : 1 ≤ needed = let not = c.if-needed-eq0.false in omega (arith, not) in
     let y = c.take_given.new.complex in
@@ -201,7 +206,7 @@ spool_and_end-requires-clause-whole g c =
     let n = c.args.job in
     let needed = c.groups_for_end-needed.result in
     let Q : Queue = run x.base (kept_all x.journal.batches) in
-    let told_is : P.tells → Tell m.checkpoint.tables Q = λ t. work_queue P.tells (P.view x.plant) x.since x.base x.journal.batches x.current x.placed x.level x.reserved m.id m.batch m.checkpoint m.room m.behind w c.requires.nothing t in
+    let told_is : P.tells → Tell m.checkpoint.tables Q = λ t. work_queue P.tells (P.view x.plant) x.since x.base x.journal.batches x.current x.placed x.level x.reserved x.printed m.id m.batch m.checkpoint m.room m.behind w c.requires.nothing t in
     let is : P.tells → needed ≡ groups_for_end Q n c.args.specs = λ t. rw c.as_slice.ensures at (c.groups_for_end-needed.ensures.groups Q (told_is t)) in
     let some : 1 ≤ needed = let not = c.if-needed-eq0.false in omega (arith, not) in
     let y = c.take_given.new.complex in
@@ -229,7 +234,7 @@ spool_and_end-requires-clause-member g c =
     let n = c.args.job in
     let needed = c.groups_for_end-needed.result in
     let Q : Queue = run x.base (kept_all x.journal.batches) in
-    let told_is : P.tells → Tell m.checkpoint.tables Q = λ t. work_queue P.tells (P.view x.plant) x.since x.base x.journal.batches x.current x.placed x.level x.reserved m.id m.batch m.checkpoint m.room m.behind w c.requires.nothing t in
+    let told_is : P.tells → Tell m.checkpoint.tables Q = λ t. work_queue P.tells (P.view x.plant) x.since x.base x.journal.batches x.current x.placed x.level x.reserved x.printed m.id m.batch m.checkpoint m.room m.behind w c.requires.nothing t in
     let is : P.tells → needed ≡ groups_for_end Q n c.args.specs = λ t. rw c.as_slice.ensures at (c.groups_for_end-needed.ensures.groups Q (told_is t)) in
     let some : 1 ≤ needed = let not = c.if-needed-eq0.false in omega (arith, not) in
     let y = c.take_given.new.complex in
@@ -257,7 +262,7 @@ spool_and_end-requires-clause-needed g c told =
     let n = c.args.job in
     let needed = c.groups_for_end-needed.result in
     let Q : Queue = run x.base (kept_all x.journal.batches) in
-    let told_is : P.tells → Tell m.checkpoint.tables Q = λ t. work_queue P.tells (P.view x.plant) x.since x.base x.journal.batches x.current x.placed x.level x.reserved m.id m.batch m.checkpoint m.room m.behind w c.requires.nothing t in
+    let told_is : P.tells → Tell m.checkpoint.tables Q = λ t. work_queue P.tells (P.view x.plant) x.since x.base x.journal.batches x.current x.placed x.level x.reserved x.printed m.id m.batch m.checkpoint m.room m.behind w c.requires.nothing t in
     let is : P.tells → needed ≡ groups_for_end Q n c.args.specs = λ t. rw c.as_slice.ensures at (c.groups_for_end-needed.ensures.groups Q (told_is t)) in
     let some : 1 ≤ needed = let not = c.if-needed-eq0.false in omega (arith, not) in
     let y = c.take_given.new.complex in
@@ -285,7 +290,7 @@ spool_and_end-requires-clause-all g c =
     let n = c.args.job in
     let needed = c.groups_for_end-needed.result in
     let Q : Queue = run x.base (kept_all x.journal.batches) in
-    let told_is : P.tells → Tell m.checkpoint.tables Q = λ t. work_queue P.tells (P.view x.plant) x.since x.base x.journal.batches x.current x.placed x.level x.reserved m.id m.batch m.checkpoint m.room m.behind w c.requires.nothing t in
+    let told_is : P.tells → Tell m.checkpoint.tables Q = λ t. work_queue P.tells (P.view x.plant) x.since x.base x.journal.batches x.current x.placed x.level x.reserved x.printed m.id m.batch m.checkpoint m.room m.behind w c.requires.nothing t in
     let is : P.tells → needed ≡ groups_for_end Q n c.args.specs = λ t. rw c.as_slice.ensures at (c.groups_for_end-needed.ensures.groups Q (told_is t)) in
     let some : 1 ≤ needed = let not = c.if-needed-eq0.false in omega (arith, not) in
     rw c.as_slice.ensures at (c.groups_for_end-needed.ensures.all some)
@@ -309,7 +314,7 @@ spool_and_end-requires-clause-under_way g c told =
     let n = c.args.job in
     let needed = c.groups_for_end-needed.result in
     let Q : Queue = run x.base (kept_all x.journal.batches) in
-    let told_is : P.tells → Tell m.checkpoint.tables Q = λ t. work_queue P.tells (P.view x.plant) x.since x.base x.journal.batches x.current x.placed x.level x.reserved m.id m.batch m.checkpoint m.room m.behind w c.requires.nothing t in
+    let told_is : P.tells → Tell m.checkpoint.tables Q = λ t. work_queue P.tells (P.view x.plant) x.since x.base x.journal.batches x.current x.placed x.level x.reserved x.printed m.id m.batch m.checkpoint m.room m.behind w c.requires.nothing t in
     let is : P.tells → needed ≡ groups_for_end Q n c.args.specs = λ t. rw c.as_slice.ensures at (c.groups_for_end-needed.ensures.groups Q (told_is t)) in
     let some : 1 ≤ needed = let not = c.if-needed-eq0.false in omega (arith, not) in
     let y = c.take_given.new.complex in
@@ -337,7 +342,7 @@ spool_and_end-requires-clause-orders g c =
     let n = c.args.job in
     let needed = c.groups_for_end-needed.result in
     let Q : Queue = run x.base (kept_all x.journal.batches) in
-    let told_is : P.tells → Tell m.checkpoint.tables Q = λ t. work_queue P.tells (P.view x.plant) x.since x.base x.journal.batches x.current x.placed x.level x.reserved m.id m.batch m.checkpoint m.room m.behind w c.requires.nothing t in
+    let told_is : P.tells → Tell m.checkpoint.tables Q = λ t. work_queue P.tells (P.view x.plant) x.since x.base x.journal.batches x.current x.placed x.level x.reserved x.printed m.id m.batch m.checkpoint m.room m.behind w c.requires.nothing t in
     let is : P.tells → needed ≡ groups_for_end Q n c.args.specs = λ t. rw c.as_slice.ensures at (c.groups_for_end-needed.ensures.groups Q (told_is t)) in
     let some : 1 ≤ needed = let not = c.if-needed-eq0.false in omega (arith, not) in
     let y = c.take_given.new.complex in
@@ -373,7 +378,7 @@ returns-in-Done-clause-step g c =
     let n = c.args.job in
     let needed = c.groups_for_end-needed.result in
     let Q : Queue = run x.base (kept_all x.journal.batches) in
-    let told_is : P.tells → Tell m.checkpoint.tables Q = λ t. work_queue P.tells (P.view x.plant) x.since x.base x.journal.batches x.current x.placed x.level x.reserved m.id m.batch m.checkpoint m.room m.behind w c.requires.nothing t in
+    let told_is : P.tells → Tell m.checkpoint.tables Q = λ t. work_queue P.tells (P.view x.plant) x.since x.base x.journal.batches x.current x.placed x.level x.reserved x.printed m.id m.batch m.checkpoint m.room m.behind w c.requires.nothing t in
     let is : P.tells → needed ≡ groups_for_end Q n c.args.specs = λ t. rw c.as_slice.ensures at (c.groups_for_end-needed.ensures.groups Q (told_is t)) in
     let some : 1 ≤ needed = let not = c.if-needed-eq0.false in omega (arith, not) in
     let y = c.take_given.new.complex in

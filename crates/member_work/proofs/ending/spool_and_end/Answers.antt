@@ -15,7 +15,7 @@ use Rattle.mas_complex.specs.Journals.{end_of, kept_all}
 use Rattle.mas_complex.specs.Meaning.{run}
 use Rattle.mas_complex.specs.Texts.{spools_at}
 use Rattle.member_decks.specs.Decks.{closing_reply, given_in}
-use Rattle.member_decks.specs.Steps.{AreOf}
+use Rattle.member_decks.specs.Steps.{AreOf, IsFoundLost}
 use Rattle.member_decks.proofs.OpenLemmas.{on_ok}
 use Rattle.work_units.specs.declared.units.UnitEnd.{UnitEnd}
 use Rattle.work_units.specs.declared.units.UnitEnd.TheVariants as ends
@@ -26,6 +26,7 @@ use Rattle.member_work.specs.Spooled.{AreSpooled}
 use Rattle.member_work.specs.Steps.{IsKeeping, IsUnderWay}
 use Rattle.member_work.specs.Units.{drop_groups, ending, groups_for_end}
 use Rattle.member_work.specs.Work.{batches_in}
+use Rattle.member_work.proofs.CauseLemmas.{reply_caused, wider_found}
 use Rattle.member_work.proofs.EndingLemmas.{end_none}
 use Rattle.member_work.proofs.KeepingLemmas.{keeping_error}
 use Rattle.member_work.proofs.PartLemmas.{spool_ended, spool_unkept, whole_specs, wider_lost}
@@ -141,6 +142,7 @@ returns-in-Some-clause-step g c =
     (subst (λ (i : MemberId). IsLastPart P.tells i c.args.step (given_in R i c.args.step (drop_groups ∷ [])) (ends.Refused (closing.SpoolLost c.in-Some.volume)) o.batch y.journal.batches (end_of z.placed z.current z.journal.batches) y.pair.first.alive z.pair.first.alive y.pair.second.alive z.pair.second.alive (P.view y.plant) (P.view z.plant) c.drop_given.result) t.id c.drop_given.ensures.last) in
     spool_ended P.tells m.id c.args.step x.base.config.groups Q c.args.job c.args.specs m.batch x.journal.batches {S = Option ℕ} c.in_ok-lost.lost (Some c.in-Some.volume) (given_in Q m.id c.args.step (drop_groups ∷ [])) o.batch (ends.Refused (closing.SpoolLost c.in-Some.volume)) y.journal.batches (end_of z.placed z.current z.journal.batches)
     x.pair.first.alive y.pair.first.alive z.pair.first.alive x.pair.second.alive y.pair.second.alive z.pair.second.alive (P.view x.plant) (P.view y.plant) (P.view z.plant) c.drop_given.result
+    (wider_found (Some c.in-Some.volume) (P.view x.plant) (P.view x.plant) (P.view y.plant) (P.view z.plant) (goes_none (P.view x.plant)) one.played.keeps.course.goes (subst (λ (l : Option ℕ). IsFoundLost l (P.view x.plant) (P.view y.plant)) c.in-Some.is k.found))
     (λ told. ((subst (λ (i : ℕ). IsSpoolLost x.base.config.groups (take i (held_by m.id Q.owners)) (Some c.in-Some.volume) (P.view x.plant) (P.view z.plant)) (c.requires.needed told) (wider_lost x.base.config.groups (take c.args.needed (held_by m.id Q.owners)) (Some c.in-Some.volume) (P.view x.plant) (P.view x.plant) (P.view y.plant) (P.view z.plant) (goes_none (P.view x.plant)) one.played.keeps.course.goes (subst (λ (l : Option ℕ). IsSpoolLost x.base.config.groups (take c.args.needed (held_by m.id Q.owners)) l (P.view x.plant) (P.view y.plant)) c.in-Some.is (k.lost told)))), record { parts_are = refl; end_is = refl })) keeps one
 
 pub returns-in-Some-clause-reached : goal.returns-in-Some-clause-reached
@@ -282,6 +284,7 @@ returns-in-None-clause-step g c =
     (subst (λ (i : MemberId). IsLastPart P.tells i c.args.step (given_in R i c.args.step (ending R i c.args.job c.args.specs)) (end_by (closing_reply (given_in R i c.args.step (ending R i c.args.job c.args.specs)))) o.batch y.journal.batches (end_of z.placed z.current z.journal.batches) y.pair.first.alive z.pair.first.alive y.pair.second.alive z.pair.second.alive (P.view y.plant) (P.view z.plant) c.end_given.result) t.id c.end_given.ensures.last) in
     spool_ended P.tells m.id c.args.step x.base.config.groups Q c.args.job c.args.specs m.batch x.journal.batches {S = Option ℕ} c.in_ok-lost.lost None (given_in Q m.id c.args.step (ending Q m.id c.args.job c.args.specs)) o.batch (end_by (closing_reply (given_in Q m.id c.args.step (ending Q m.id c.args.job c.args.specs)))) y.journal.batches (end_of z.placed z.current z.journal.batches)
     x.pair.first.alive y.pair.first.alive z.pair.first.alive x.pair.second.alive y.pair.second.alive z.pair.second.alive (P.view x.plant) (P.view y.plant) (P.view z.plant) c.end_given.result
+    (reply_caused m.id (P.view x.plant) (P.view z.plant) (closing_reply (given_in Q m.id c.args.step (ending Q m.id c.args.job c.args.specs))))
     (λ told. (tt, record { parts_are = refl; end_is = refl })) keeps one
 
 pub returns-in-None-clause-reached : goal.returns-in-None-clause-reached

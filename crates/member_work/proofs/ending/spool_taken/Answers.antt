@@ -24,6 +24,7 @@ use Rattle.member_work.specs.Rounds.{IsSpoolLost}
 use Rattle.member_work.specs.Spooled.{AreSpooled}
 use Rattle.member_work.specs.Steps.{IsAtWork, IsKeeping}
 use Rattle.member_work.specs.Work.{batches_in}
+use Rattle.member_work.proofs.CauseLemmas.{found_spooled, wider_found}
 use Rattle.member_work.proofs.EndingLemmas.{end_none}
 use Rattle.member_work.proofs.KeepingLemmas.{held_not, held_ok, keeping_error, keeping_ok, spooled_not, spooled_ok}
 use Rattle.member_work.proofs.PartLemmas.{copies_as, keeping_quiet, orders_kept, queue_kept, wider_lost}
@@ -70,7 +71,7 @@ spool_outputs-requires-clause-owners g c told =
     let u = c.keep_given.ensures in
     let k = c.in_ok-keep_given.ensures in
     let w = k.work in
-    (work_queue P.tells (P.view y.plant) y.since y.base y.journal.batches y.current y.placed y.level y.reserved n.id n.batch n.checkpoint n.room n.behind w k.nothing told).owners
+    (work_queue P.tells (P.view y.plant) y.since y.base y.journal.batches y.current y.placed y.level y.reserved y.printed n.id n.batch n.checkpoint n.room n.behind w k.nothing told).owners
 
 pub returns-in_err-lost-clause-keeps : goal.returns-in_err-lost-clause-keeps
 returns-in_err-lost-clause-keeps g c =
@@ -127,9 +128,9 @@ hold_again-requires-clause-work g c =
     let w = k.work in
     let z = c.spool_outputs.new.complex in
     let s = c.spool_outputs.ensures in
-    let later = work_later P.tells (P.view y.plant) y.since y.base y.journal.batches y.current y.placed y.level y.reserved n.id n.batch n.checkpoint n.room n.behind w k.nothing (P.view z.plant) s.acts.goes in
+    let later = work_later P.tells (P.view y.plant) y.since y.base y.journal.batches y.current y.placed y.level y.reserved y.printed n.id n.batch n.checkpoint n.room n.behind w k.nothing (P.view z.plant) z.printed s.acts.goes in
     rw (s.base, s.since, s.journal, s.current, s.placed, s.level, c.in_ok-lost.ensures.unreserved)
-    (subst (λ (l : Option (List Entry)). IsAtWork P.tells (P.view z.plant) y.since y.base y.journal.batches y.current y.placed y.level l n.id n.batch n.checkpoint n.room n.behind) w.unreserved later)
+    (subst (λ (l : Option (List Entry)). IsAtWork P.tells (P.view z.plant) y.since y.base y.journal.batches y.current y.placed y.level l z.printed n.id n.batch n.checkpoint n.room n.behind) w.unreserved later)
 
 pub hold_again-requires-clause-rests1 : goal.hold_again-requires-clause-rests1
 hold_again-requires-clause-rests1 g c =
@@ -297,6 +298,17 @@ returns-clause-queue g c =
     let journal : q.journal.batches ≡ y.journal.batches = ap (λ (j : Journal). j.batches) (h.journal ∙ s.journal) in
     ap (λ (b : Queue). run b (kept_all q.journal.batches)) base ∙ ap (λ (l : List Batch). run y.base (kept_all l)) journal ∙ queue
 
+pub returns-clause-found : goal.returns-clause-found
+returns-clause-found g c =
+    let P = g.P.Plant in
+    let x = c.args.complex.now in
+    let y = c.keep_given.new.complex in
+    let n = c.keep_given.new.member in
+    let z = c.spool_outputs.new.complex in
+    let q = c.hold_again.new.complex in
+    wider_found c.in_ok-lost.lost (P.view x.plant) (P.view y.plant) (P.view z.plant) (P.view q.plant) c.in_ok-keep_given.ensures.keeps.course.goes c.hold_again.ensures.acts.course.goes
+    (found_spooled y.base.config.groups (take c.args.needed (held_by n.id n.checkpoint.tables.owners)) c.in_ok-lost.lost (P.view y.plant) (P.view z.plant) c.in_ok-lost.ensures.lost)
+
 pub returns-clause-lost : goal.returns-clause-lost
 returns-clause-lost g c told =
     let P = g.P.Plant in
@@ -316,7 +328,7 @@ returns-clause-lost g c told =
     let keeps1 : IsKeeping P.tells m.id (batches_in (m.batch ∷ [])) x.journal.batches y.journal.batches x.pair.first.alive y.pair.first.alive x.pair.second.alive y.pair.second.alive (P.view x.plant) (P.view y.plant) (let r : Result (Unit {0}) NodeNo = Ok tt in r) =
     subst (λ (l : List Batch). IsKeeping P.tells m.id (batches_in (m.batch ∷ [])) x.journal.batches l x.pair.first.alive y.pair.first.alive x.pair.second.alive y.pair.second.alive (P.view x.plant) (P.view y.plant) (let r : Result (Unit {0}) NodeNo = Ok tt in r)) (end_none y.placed y.current y.journal.batches w.unplaced w.none) k.keeps in
     let queue : run y.base (kept_all y.journal.batches) ≡ run x.base (kept_all x.journal.batches ++ m.batch) = ap (λ (b : Queue). run b (kept_all y.journal.batches)) u.base ∙ queue_kept P.tells m.id m.batch x.base x.journal.batches y.journal.batches x.pair.first.alive y.pair.first.alive x.pair.second.alive y.pair.second.alive (P.view x.plant) (P.view y.plant) keeps1 in
-    let owners : n.checkpoint.tables.owners ≡ (run x.base (kept_all x.journal.batches ++ m.batch)).owners = sym (work_queue P.tells (P.view y.plant) y.since y.base y.journal.batches y.current y.placed y.level y.reserved n.id n.batch n.checkpoint n.room n.behind w k.nothing told).owners ∙ ap (λ (b : Queue). b.owners) queue in
+    let owners : n.checkpoint.tables.owners ≡ (run x.base (kept_all x.journal.batches ++ m.batch)).owners = sym (work_queue P.tells (P.view y.plant) y.since y.base y.journal.batches y.current y.placed y.level y.reserved y.printed n.id n.batch n.checkpoint n.room n.behind w k.nothing told).owners ∙ ap (λ (b : Queue). b.owners) queue in
     let per : y.base.config.groups ≡ x.base.config.groups = ap (λ (b : Queue). b.config.groups) u.base in
     let held_is : held_by n.id n.checkpoint.tables.owners ≡ held_by m.id (run x.base (kept_all x.journal.batches ++ m.batch)).owners = ap (λ (i : MemberId). held_by i n.checkpoint.tables.owners) u.id ∙ ap (held_by m.id) owners in
     wider_lost x.base.config.groups (take c.args.needed (held_by m.id (run x.base (kept_all x.journal.batches ++ m.batch)).owners)) c.in_ok-lost.lost (P.view x.plant) (P.view y.plant) (P.view z.plant) (P.view q.plant) k.keeps.course.goes h.acts.course.goes
@@ -342,7 +354,7 @@ returns-clause-there g c done told =
     let keeps1 : IsKeeping P.tells m.id (batches_in (m.batch ∷ [])) x.journal.batches y.journal.batches x.pair.first.alive y.pair.first.alive x.pair.second.alive y.pair.second.alive (P.view x.plant) (P.view y.plant) (let r : Result (Unit {0}) NodeNo = Ok tt in r) =
     subst (λ (l : List Batch). IsKeeping P.tells m.id (batches_in (m.batch ∷ [])) x.journal.batches l x.pair.first.alive y.pair.first.alive x.pair.second.alive y.pair.second.alive (P.view x.plant) (P.view y.plant) (let r : Result (Unit {0}) NodeNo = Ok tt in r)) (end_none y.placed y.current y.journal.batches w.unplaced w.none) k.keeps in
     let queue : run y.base (kept_all y.journal.batches) ≡ run x.base (kept_all x.journal.batches ++ m.batch) = ap (λ (b : Queue). run b (kept_all y.journal.batches)) u.base ∙ queue_kept P.tells m.id m.batch x.base x.journal.batches y.journal.batches x.pair.first.alive y.pair.first.alive x.pair.second.alive y.pair.second.alive (P.view x.plant) (P.view y.plant) keeps1 in
-    let owners : n.checkpoint.tables.owners ≡ (run x.base (kept_all x.journal.batches ++ m.batch)).owners = sym (work_queue P.tells (P.view y.plant) y.since y.base y.journal.batches y.current y.placed y.level y.reserved n.id n.batch n.checkpoint n.room n.behind w k.nothing told).owners ∙ ap (λ (b : Queue). b.owners) queue in
+    let owners : n.checkpoint.tables.owners ≡ (run x.base (kept_all x.journal.batches ++ m.batch)).owners = sym (work_queue P.tells (P.view y.plant) y.since y.base y.journal.batches y.current y.placed y.level y.reserved y.printed n.id n.batch n.checkpoint n.room n.behind w k.nothing told).owners ∙ ap (λ (b : Queue). b.owners) queue in
     let per : y.base.config.groups ≡ x.base.config.groups = ap (λ (b : Queue). b.config.groups) u.base in
     let held_is : held_by n.id n.checkpoint.tables.owners ≡ held_by m.id (run x.base (kept_all x.journal.batches ++ m.batch)).owners = ap (λ (i : MemberId). held_by i n.checkpoint.tables.owners) u.id ∙ ap (held_by m.id) owners in
     let there : AreSpooled (spools_at (P.view z.plant) (P.view z.plant).now) y.base.config.groups c.args.specs.now (take c.args.needed (held_by n.id n.checkpoint.tables.owners)) = c.in_ok-lost.ensures.there done told (w.roomy told) in

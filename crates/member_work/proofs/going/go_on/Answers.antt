@@ -68,3 +68,6 @@ returns-in-End-clause-step g c =
     let z = c.end_job.new.complex in
     let o = c.end_job.new.member in
     rw c.in-End.is (ended_step P.tells m.id c.args.step x.base.config.groups Q c.args.job o.batch x.journal.batches (end_of z.placed z.current z.journal.batches) x.pair.first.alive z.pair.first.alive x.pair.second.alive z.pair.second.alive (P.view x.plant) (P.view z.plant) c.end_job.result c.in-End.specs c.end_job.ensures.step)
+
+pub play_command-requires-clause-right : goal.play_command-requires-clause-right
+play_command-requires-clause-right g c told sound = tt

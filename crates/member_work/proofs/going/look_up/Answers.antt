@@ -25,4 +25,4 @@ returns-in-Some-clause-looked g c =
     let m = c.args.member.now in
     let w = c.requires.work in
     let Q : Queue = run x.base (kept_all x.journal.batches) in
-    looked_gone P.tells c.args.runs x.base.config.groups Q c.args.job.now.number (P.view x.plant) (P.view x.plant) c.in-Some.group (λ told j there. sym c.in-Some.is ∙ c.gone_deck.ensures.gone told j there)
+    looked_gone P.tells c.args.runs x.base.config.groups m.id Q c.args.job.now.number (P.view x.plant) (P.view x.plant) c.in-Some.group (λ told j there. sym c.in-Some.is ∙ c.gone_deck.ensures.gone told j there)

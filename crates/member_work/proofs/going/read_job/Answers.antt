@@ -45,9 +45,9 @@ hold_again-requires-clause-work g c =
     let w = c.requires.work in
     let z = c.look_up.new.complex in
     let s = c.look_up.ensures in
-    let later = work_later P.tells (P.view x.plant) x.since x.base x.journal.batches x.current x.placed x.level x.reserved m.id m.batch m.checkpoint m.room m.behind w c.requires.nothing (P.view z.plant) s.acts.goes in
+    let later = work_later P.tells (P.view x.plant) x.since x.base x.journal.batches x.current x.placed x.level x.reserved x.printed m.id m.batch m.checkpoint m.room m.behind w c.requires.nothing (P.view z.plant) z.printed s.acts.goes in
     rw (s.base, s.since, s.journal, s.current, s.placed, s.level, c.in_ok-outcome.ensures.unreserved)
-    (subst (λ (l : Option (List Entry)). IsAtWork P.tells (P.view z.plant) x.since x.base x.journal.batches x.current x.placed x.level l m.id m.batch m.checkpoint m.room m.behind) w.unreserved later)
+    (subst (λ (l : Option (List Entry)). IsAtWork P.tells (P.view z.plant) x.since x.base x.journal.batches x.current x.placed x.level l z.printed m.id m.batch m.checkpoint m.room m.behind) w.unreserved later)
 
 pub hold_again-requires-clause-rests1 : goal.hold_again-requires-clause-rests1
 hold_again-requires-clause-rests1 g c =

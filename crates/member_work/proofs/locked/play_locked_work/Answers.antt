@@ -6,12 +6,11 @@ use Rattle.mas_types.specs.declared.journals.Journal.{Journal}
 use Rattle.mas_types.specs.declared.queues.Config.{Config}
 use Rattle.mas_types.specs.declared.queues.Queue.{Queue}
 use Rattle.mas_types.specs.declared.jobs.Job.{Job}
-use Rattle.mas_types.specs.Fit.{AreDistinct, IsConfig}
-use Rattle.mas_types.specs.Ids.{same_number}
 use Rattle.mas_types.specs.Queue.{is_member}
 use Rattle.lock_cycle.specs.Books.{Book, IsMember, after_free, after_try, free_refusal, left_of}
 use Rattle.lock_cycle.specs.declared.answers.LockNo.{LockNo}
 use Rattle.spool_disk.specs.View.{disk_now}
+use Rattle.mas_types.specs.Sound.{IsSound}
 use Rattle.mas_complex.specs.Journals.{end_of, kept_all}
 use Rattle.mas_complex.specs.Locking.{MayAct}
 use Rattle.mas_complex.specs.Meaning.{run}
@@ -564,29 +563,8 @@ play_work-requires-clause-whole g c =
     let lock = c.requires.lock in
     book_by (after_try x.book m.id false) h.book m.id n.id book t.id (whole_after x.book m.id lock.member lock.holder lock.up c.in_default.ensures.ok)
 
-pub play_work-requires-clause-numbers : goal.play_work-requires-clause-numbers
-play_work-requires-clause-numbers g c told =
-    let P = g.P.Plant in
-    let C = g.C.Copying in
-    let x = c.args.complex.now in
-    let m = c.args.member.now in
-    let h = c.take_hold.new.complex in
-    let n = c.take_hold.new.member in
-    let l = c.lock.ensures in
-    let t = c.take_hold.ensures in
-    subst (λ (q : Queue). AreDistinct (λ (a b : Job). same_number a.number b.number) q.jobs) (sym (t.base ∙ l.base)) (c.requires.numbers told)
-
-pub play_work-requires-clause-configured : goal.play_work-requires-clause-configured
-play_work-requires-clause-configured g c told =
-    let P = g.P.Plant in
-    let C = g.C.Copying in
-    let x = c.args.complex.now in
-    let m = c.args.member.now in
-    let h = c.take_hold.new.complex in
-    let n = c.take_hold.new.member in
-    let l = c.lock.ensures in
-    let t = c.take_hold.ensures in
-    subst (λ (q : Queue). IsConfig q.config) (sym (t.base ∙ l.base)) (c.requires.configured told)
+pub play_work-requires-clause-base_sound : goal.play_work-requires-clause-base_sound
+play_work-requires-clause-base_sound g c told = subst IsSound (sym (c.take_hold.ensures.base ∙ c.lock.ensures.base)) (c.requires.base_sound told)
 
 pub play_work-requires-clause-unreserved : goal.play_work-requires-clause-unreserved
 play_work-requires-clause-unreserved g c =

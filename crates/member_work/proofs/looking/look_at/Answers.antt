@@ -12,6 +12,7 @@ use Rattle.mas_complex.specs.Meaning.{run}
 use Rattle.mas_complex.specs.Spool.{IsGroupOf}
 use Rattle.member_decks.proofs.HoldLemmas.{gets_again, keeps_book}
 use Rattle.work_units.specs.Outcomes.{outcome_of}
+use Rattle.member_work.proofs.CauseLemmas.{stops_as}
 use Rattle.member_work.proofs.LookingLemmas.{freed_member, groups_within, seen_as}
 use Rattle.member_work.proofs.looking.look_at.Goals as goal
 
@@ -71,4 +72,5 @@ returns-clause-looked g c =
             seen_as P.tells x.base.config t Q (P.view x.plant) (P.view c.read_text.new.complex.plant) r j o tell c.requires.job found told (c.requires.whole_text told j found) (c.requires.work.roomy told) (c.kept_texts.ensures.kept told) reads failed,
             c.in-Ok-outcome_of.ensures.outcome ∙ ap (λ (f : JobFields). outcome_of c.args.runs f o) (sym same.1),
           );
+      caused = stops_as c.args.member.now.id (P.view x.plant) (P.view c.read_text.new.complex.plant) c.args.runs r.fields o x.base.config.groups (groups_of its t.owners) _ c.in-Ok-outcome_of.ensures.outcome failed;
     })

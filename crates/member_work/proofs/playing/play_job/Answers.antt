@@ -32,7 +32,7 @@ returns-in_default-clause-step g c =
     let m = c.args.member.now in
     let w = c.requires.work in
     let Q : Queue = run x.base (kept_all x.journal.batches ++ m.batch) in
-    let tell = work_tells P.tells (P.view x.plant) x.since x.base x.journal.batches x.current x.placed x.level x.reserved m.id m.batch m.checkpoint m.room m.behind w in
+    let tell = work_tells P.tells (P.view x.plant) x.since x.base x.journal.batches x.current x.placed x.level x.reserved x.printed m.id m.batch m.checkpoint m.room m.behind w in
     job_idle P.tells c.args.runs m.id c.args.step x.base.config.groups Q c.args.number m.batch m.batch c.args.spent.now c.args.spent.now x.journal.batches (end_of x.placed x.current x.journal.batches) x.pair.first.alive x.pair.second.alive (P.view x.plant) (end_none x.placed x.current x.journal.batches w.unplaced w.none) refl refl
     (λ told. c.in_default.ensures.none Q.jobs (rw c.as_slice.ensures (tell told).jobs))
 

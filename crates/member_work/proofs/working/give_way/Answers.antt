@@ -128,8 +128,8 @@ hold_again-requires-clause-work g c =
     let l = c.try_lock.new.self in
     let le = c.try_lock.ensures in
     let o = c.in_ok-keep_given.ensures in
-    work_by P.tells (P.view y.plant) (P.view l.plant) y.since l.since y.base l.base y.journal.batches l.journal.batches y.current l.current y.placed l.placed y.level l.level y.reserved l.reserved n.id n.id n.batch n.checkpoint n.room n.behind
-    (ap P.view (le.plant ∙ fe.plant)) (le.since ∙ fe.since) (le.base ∙ fe.base) (ap (λ (j : Journal). j.batches) (le.journal ∙ fe.journal)) (le.current ∙ fe.current) (le.placed ∙ fe.placed) (le.level ∙ fe.level) (le.reserved ∙ c.in-Ok.ensures.reserved) refl o.work
+    work_by P.tells (P.view y.plant) (P.view l.plant) y.since l.since y.base l.base y.journal.batches l.journal.batches y.current l.current y.placed l.placed y.level l.level y.reserved l.reserved y.printed l.printed n.id n.id n.batch n.checkpoint n.room n.behind
+    (ap P.view (le.plant ∙ fe.plant)) (le.since ∙ fe.since) (le.base ∙ fe.base) (ap (λ (j : Journal). j.batches) (le.journal ∙ fe.journal)) (le.current ∙ fe.current) (le.placed ∙ fe.placed) (le.level ∙ fe.level) (le.reserved ∙ c.in-Ok.ensures.reserved) (le.printed ∙ fe.printed) refl o.work
 
 pub hold_again-requires-clause-rests1 : goal.hold_again-requires-clause-rests1
 hold_again-requires-clause-rests1 g c =

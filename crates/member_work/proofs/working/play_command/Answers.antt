@@ -76,7 +76,7 @@ give_up-requires-clause-work g c =
     let w = c.requires.work in
     let n = c.do_command.new.self in
     let same = c.in_default.ensures.err in
-    subst (λ (i : Member). IsAtWork P.tells (P.view x.plant) x.since x.base x.journal.batches x.current x.placed x.level x.reserved i.id i.batch i.checkpoint i.room i.behind) (sym same) w
+    subst (λ (i : Member). IsAtWork P.tells (P.view x.plant) x.since x.base x.journal.batches x.current x.placed x.level x.reserved x.printed i.id i.batch i.checkpoint i.room i.behind) (sym same) w
 
 pub give_up-requires-clause-untold : goal.give_up-requires-clause-untold
 give_up-requires-clause-untold g c told =
@@ -162,7 +162,7 @@ returns-clause-played g c =
     let Q : Queue = run x.base (kept_all x.journal.batches ++ m.batch) in
     let end : c.end_by.result ≡ end_by p.0 = c.end_by.ensures ∙ ap end_by (c.last_reply.ensures ∙ sym (reply_done m.batch n.batch (entry_with m.id at c.args.command p.0) (last_reply n.batch) p.1 refl)) in
     commanded P.tells m.id at c.args.command Q m.batch n.batch x.journal.batches (end_of x.placed x.current x.journal.batches) x.pair.first.alive x.pair.second.alive v c.end_by.result p.0
-    (none_out x.journal.batches x.journal.batches x.placed x.current refl w.unplaced w.none) p.1 end (λ told. one_reply m.batch n.batch m.id at c.args.command p.0 (reply_to Q m.id c.args.command) p.1 (c.in-Ok.ensures.entry Q (work_tells P.tells (P.view x.plant) x.since x.base x.journal.batches x.current x.placed x.level x.reserved m.id m.batch m.checkpoint m.room m.behind w told)))
+    (none_out x.journal.batches x.journal.batches x.placed x.current refl w.unplaced w.none) p.1 end (λ told. one_reply m.batch n.batch m.id at c.args.command p.0 (reply_to Q m.id c.args.command) p.1 (c.in-Ok.ensures.entry Q (work_tells P.tells (P.view x.plant) x.since x.base x.journal.batches x.current x.placed x.level x.reserved x.printed m.id m.batch m.checkpoint m.room m.behind w told)))
 
 pub returns-clause-named : goal.returns-clause-named
 returns-clause-named g c =
@@ -195,9 +195,9 @@ returns-clause-work g c =
     let Q : Queue = run x.base (kept_all x.journal.batches ++ m.batch) in
     let end : c.end_by.result ≡ end_by p.0 = c.end_by.ensures ∙ ap end_by (c.last_reply.ensures ∙ sym (reply_done m.batch n.batch (entry_with m.id at c.args.command p.0) (last_reply n.batch) p.1 refl)) in
     let o = c.in-Ok.ensures in
-    let reply : P.tells → p.0 ≡ reply_to Q m.id c.args.command = λ told. one_reply m.batch n.batch m.id at c.args.command p.0 (reply_to Q m.id c.args.command) p.1 (o.entry Q (work_tells P.tells (P.view x.plant) x.since x.base x.journal.batches x.current x.placed x.level x.reserved m.id m.batch m.checkpoint m.room m.behind w told)) in
-    work_given P.tells (P.view x.plant) x.since x.base x.journal.batches x.current x.placed x.level x.reserved m.id m.batch m.checkpoint m.room m.behind w at c.args.command p.0 n.id n.batch n.checkpoint n.room n.behind p.1 d.id d.room d.behind c.requires.few d.pages d.level d.levels d.config d.spelling d.fit d.order o.done o.sound c.requires.may_give
-    (texts_behind P.tells (P.view x.plant) x.since x.base x.journal.batches x.current x.placed x.level x.reserved m.id m.batch m.checkpoint m.room m.behind w at c.args.command p.0 n.id n.batch n.checkpoint n.room n.behind p.1 c.law_of_texts.ensures.texts c.law_of_texts.ensures.told c.requires.plain reply c.kept_texts.ensures.kept)
+    let reply : P.tells → p.0 ≡ reply_to Q m.id c.args.command = λ told. one_reply m.batch n.batch m.id at c.args.command p.0 (reply_to Q m.id c.args.command) p.1 (o.entry Q (work_tells P.tells (P.view x.plant) x.since x.base x.journal.batches x.current x.placed x.level x.reserved x.printed m.id m.batch m.checkpoint m.room m.behind w told)) in
+    work_given P.tells (P.view x.plant) x.since x.base x.journal.batches x.current x.placed x.level x.reserved x.printed m.id m.batch m.checkpoint m.room m.behind w at c.args.command p.0 n.id n.batch n.checkpoint n.room n.behind p.1 d.id d.room d.behind c.requires.few d.pages d.level d.levels d.config d.spelling d.fit d.order o.done o.sound c.requires.may_give c.requires.command c.requires.right
+    (texts_behind P.tells (P.view x.plant) x.since x.base x.journal.batches x.current x.placed x.level x.reserved x.printed m.id m.batch m.checkpoint m.room m.behind w at c.args.command p.0 n.id n.batch n.checkpoint n.room n.behind p.1 c.law_of_texts.ensures.texts c.law_of_texts.ensures.told c.requires.plain reply c.kept_texts.ensures.kept)
 
 pub returns-clause-of : goal.returns-clause-of
 returns-clause-of g c =
@@ -277,4 +277,4 @@ returns-clause-added g c =
     let p = c.in-Ok.ensures.pushed in
     let Q : Queue = run x.base (kept_all x.journal.batches ++ m.batch) in
     let end : c.end_by.result ≡ end_by p.0 = c.end_by.ensures ∙ ap end_by (c.last_reply.ensures ∙ sym (reply_done m.batch n.batch (entry_with m.id at c.args.command p.0) (last_reply n.batch) p.1 refl)) in
-    more_by_one P.tells (P.view x.plant) x.since x.base x.journal.batches x.current x.placed x.level x.reserved m.id m.batch m.checkpoint m.room m.behind w at c.args.command p.0 n.id n.batch n.checkpoint n.room n.behind p.1
+    more_by_one P.tells (P.view x.plant) x.since x.base x.journal.batches x.current x.placed x.level x.reserved x.printed m.id m.batch m.checkpoint m.room m.behind w at c.args.command p.0 n.id n.batch n.checkpoint n.room n.behind p.1

@@ -6,11 +6,10 @@ use Rattle.mas_types.specs.declared.answers.Closing.TheVariants as closing
 use Rattle.mas_types.specs.declared.journals.Entry.{Entry}
 use Rattle.mas_types.specs.declared.queues.Config.{Config}
 use Rattle.mas_types.specs.declared.queues.Queue.{Queue}
-use Rattle.mas_types.specs.Fit.{AreDistinct, IsConfig}
-use Rattle.mas_types.specs.Ids.{same_number}
 use Rattle.mas_types.specs.Limits.{members_most}
 use Rattle.mas_types.specs.Queue.{is_member}
 use Rattle.lock_cycle.specs.Books.{Book, IsMember, left_of}
+use Rattle.mas_types.specs.Sound.{IsSound}
 use Rattle.mas_complex.specs.Journals.{end_of, kept_all}
 use Rattle.mas_complex.specs.Locking.{MayAct}
 use Rattle.mas_complex.specs.Meaning.{run}
@@ -84,15 +83,8 @@ play_unit-requires-clause-member g c =
     let i = c.loop-done.invariant in
     subst (λ (j : MemberId). is_member y.base.config j ≡ true) (sym i.id) (subst (λ (b : Queue). is_member b.config m.id ≡ true) (sym i.base) c.requires.member)
 
-pub play_unit-requires-clause-numbers : goal.play_unit-requires-clause-numbers
-play_unit-requires-clause-numbers g c told =
-    let i = c.loop-done.invariant in
-    subst (λ (b : Queue). AreDistinct (λ a b. same_number a.number b.number) b.jobs) (sym i.base) (c.requires.numbers told)
-
-pub play_unit-requires-clause-configured : goal.play_unit-requires-clause-configured
-play_unit-requires-clause-configured g c told =
-    let i = c.loop-done.invariant in
-    subst (λ (b : Queue). IsConfig b.config) (sym i.base) (c.requires.configured told)
+pub play_unit-requires-clause-base_sound : goal.play_unit-requires-clause-base_sound
+play_unit-requires-clause-base_sound g c told = subst IsSound (sym c.loop-done.invariant.base) (c.requires.base_sound told)
 
 pub play_unit-requires-clause-some_spent : goal.play_unit-requires-clause-some_spent
 play_unit-requires-clause-some_spent g c =

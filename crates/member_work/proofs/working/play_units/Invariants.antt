@@ -32,7 +32,7 @@ invariant-loop-done g l =
       book : z.book ≡ x.book;
       id : n.id ≡ m.id;
       less : l.done < l.units;
-      work : IsAtWork P.tells (P.view z.plant) z.since z.base z.journal.batches z.current z.placed z.level z.reserved n.id n.batch n.checkpoint n.room n.behind;
+      work : IsAtWork P.tells (P.view z.plant) z.since z.base z.journal.batches z.current z.placed z.level z.reserved z.printed n.id n.batch n.checkpoint n.room n.behind;
       of : AreOf n.id l.step n.batch;
       untold : P.tells → IsStepUntold (setting C.reads z.base z.since) n.id l.step (P.view z.plant);
       copy1 : HasCopy P.tells z.pair.first.alive z.first (C.count z.pair.first.copy) (C.room z.pair.first.copy) n.checkpoint.pages (C.reads (disk_now (P.view z.plant) Ckpt1).bytes);

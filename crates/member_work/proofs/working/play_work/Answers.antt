@@ -3,6 +3,7 @@ use Rattle.std.proofs.lemmas.Result.{err_from_is_err_and}
 use Rattle.mas_types.specs.declared.ids.MemberId.{MemberId}
 use Rattle.mas_types.specs.declared.queues.Queue.{Queue}
 use Rattle.lock_cycle.specs.Books.{Book}
+use Rattle.mas_types.specs.Sound.{IsSound}
 use Rattle.mas_complex.specs.Journals.{end_of, kept_all}
 use Rattle.mas_complex.specs.Locking.{MayAct}
 use Rattle.mas_complex.specs.Meaning.{run}
@@ -29,7 +30,7 @@ play_units-requires-clause-work g c =
     let C = g.C.Copying in
     let x = c.args.complex.now in
     let m = c.args.member.now in
-    work_between P.tells (P.view x.plant) x.since x.base x.journal.batches x.current x.placed x.level x.reserved m.id m.batch m.checkpoint m.room m.behind c.requires.between c.requires.unreserved c.requires.here c.requires.many c.requires.config (λ told. (c.requires.low told).order) c.requires.kept c.requires.since c.requires.roomy
+    work_between P.tells (P.view x.plant) x.since x.base x.journal.batches x.current x.placed x.level x.reserved x.printed m.id m.batch m.checkpoint m.room m.behind c.requires.between c.requires.unreserved c.requires.here c.requires.many c.requires.config (λ told. (c.requires.low told).order) c.requires.kept c.requires.since c.requires.roomy
 
 pub returns-in_err-end-clause-step : goal.returns-in_err-end-clause-step
 returns-in_err-end-clause-step g c =
@@ -244,21 +245,8 @@ play_units-requires-clause-units g c =
     let m = c.args.member.now in
     c.requires.units
 
-pub play_units-requires-clause-numbers : goal.play_units-requires-clause-numbers
-play_units-requires-clause-numbers g c =
-    let P = g.P.Plant in
-    let C = g.C.Copying in
-    let x = c.args.complex.now in
-    let m = c.args.member.now in
-    c.requires.numbers
-
-pub play_units-requires-clause-configured : goal.play_units-requires-clause-configured
-play_units-requires-clause-configured g c =
-    let P = g.P.Plant in
-    let C = g.C.Copying in
-    let x = c.args.complex.now in
-    let m = c.args.member.now in
-    c.requires.configured
+pub play_units-requires-clause-base_sound : goal.play_units-requires-clause-base_sound
+play_units-requires-clause-base_sound g c = c.requires.base_sound
 
 pub play_units-requires-clause-untold : goal.play_units-requires-clause-untold
 play_units-requires-clause-untold g c =

@@ -1,0 +1,80 @@
+-- Which batches of a work step may begin.
+use Rattle.std.proofs.Common.{◌≡◌, ℕ, ◌+◌, ◌≤◌, Bool, true, false, if◌then◌else◌, List, [], ◌∷◌, ◌++◌, length, All, Some, Result, Ok, Err, refl, sym, ap, subst, ◌∙◌, arith}
+use Rattle.std.proofs.lemmas.Bool.Decides.{nat_tests}
+use Rattle.std.proofs.Math.Logic.{∥∥₁_map}
+use Rattle.std.proofs.lemmas.List.Elements.{All-nil, All-cons, All-append}
+use Rattle.mas_types.specs.declared.commands.Command.{Command}
+use Rattle.mas_types.specs.declared.commands.Command.TheVariants as command
+use Rattle.mas_types.specs.declared.commands.Reply.{Reply}
+use Rattle.mas_types.specs.declared.commands.Reply.TheVariants as reply
+use Rattle.mas_types.specs.declared.ids.JobNo.{JobNo}
+use Rattle.mas_types.specs.declared.ids.MemberId.{MemberId}
+use Rattle.mas_types.specs.declared.ids.OutNo.{OutNo}
+use Rattle.mas_types.specs.declared.jobs.OutSpec.{OutSpec}
+use Rattle.mas_types.specs.declared.jobs.Output.{Output}
+use Rattle.mas_types.specs.declared.journals.Batch.{Batch}
+use Rattle.mas_types.specs.declared.journals.Entry.{Entry}
+use Rattle.mas_types.specs.declared.queues.Queue.{Queue}
+use Rattle.mas_types.specs.Fit.{IsFit}
+use Rattle.mas_types.specs.Ids.{is_somebody}
+use Rattle.mas_types.specs.Queue.{is_member, output_at}
+use Rattle.mas_types.specs.Sound.{IsSound}
+use Rattle.mas_types.specs.Step.{may_give}
+use Rattle.queue_laws.specs.Runs.{IsGiven}
+use Rattle.job_exec.specs.Running.{AreOutputs}
+use Rattle.paper_laws.specs.Counts.{IsMarkRight, counts_after, is_mark}
+use Rattle.paper_laws.proofs.Plain.{allowed_push, mark_right, plain_right}
+use Rattle.mas_complex.specs.Journals.{kept_all}
+use Rattle.mas_complex.specs.Meaning.{run}
+use Rattle.mas_complex.specs.Paper.{MayBegin, counts_of}
+use Rattle.mas_complex.proofs.Allowed.{unmarked_begin}
+use Rattle.mas_complex.proofs.Replied.{run_append}
+use Rattle.member_steps.specs.Steps.{entry_with, reply_to}
+use Rattle.member_decks.specs.Decks.{are_refused, given_in, takes}
+use Rattle.member_decks.specs.Taking.{IsPart}
+use Rattle.member_decks.proofs.MayLemmas.{IsUnmarked, Unmarked, given_fit, given_unmarked, takes_unmarked}
+use Rattle.member_decks.proofs.PlayLemmas.{all_front}
+use Rattle.member_work.specs.Units.{drop_groups, ending, is_refusal, taking}
+
+module _ (base : Queue) (by : MemberId) (js : List Batch) (printed : List ℕ) where
+  -- commands without a Mark, or the first ones of them
+  pub part_begins : {T E : Type 0} (r : Result T E) (Q : Queue) (at : ℕ) (cs : List Command) (gave : List Entry) → All (IsUnmarked base by) cs → IsPart r gave (given_in Q by at cs) → MayBegin base js printed gave
+  part_begins (Ok done) Q at cs gave all part =
+      subst (λ (es : List Entry). MayBegin base js printed es) (sym part) (unmarked_begin base js printed (given_in Q by at cs) (given_fit base by at cs Q all) (given_unmarked base by at cs Q all))
+  part_begins (Err why) Q at cs gave all part =
+      unmarked_begin base js printed gave
+      (all_front (IsGiven base) gave part.0 (subst (All (IsGiven base)) part.1 (given_fit base by at cs Q all)))
+      (all_front Unmarked gave part.0 (subst (All Unmarked) part.1 (given_unmarked base by at cs Q all)))
+
+  -- one command more
+  pub more_begins : (es : List Entry) (at : ℕ) (c : Command) (r : Reply) → may_give base by c ≡ true → IsFit c
+      → (IsSound base → IsMarkRight (run base (kept_all js ++ es)) by (counts_after es (counts_of printed) by) c) → MayBegin base js printed es → MayBegin base js printed (es ++ entry_with by at c r ∷ [])
+  more_begins es at c r may fit right begins sound =
+      ∥∥₁_map (begins sound) (λ are. allowed_push base (run base (kept_all js)) (counts_of printed) es (entry_with by at c r) are
+      (record { given = record { by = may; fit = fit }; mark = subst (λ (Q : Queue). IsMarkRight Q by (counts_after es (counts_of printed) by) c) (run_append base (kept_all js) es) (right sound) }))
+
+module _ (base : Queue) (by : MemberId) (member : is_member base.config by ≡ true) where
+  pub dropping_unmarked : All (IsUnmarked base by) (drop_groups ∷ [])
+  dropping_unmarked = All-cons (IsUnmarked base by) drop_groups [] (member, tt, refl) (All-nil (IsUnmarked base by))
+
+  dropped : (b : Bool) → All (IsUnmarked base by) (if b then drop_groups ∷ [] else [])
+  dropped true = dropping_unmarked
+  dropped false = All-nil (IsUnmarked base by)
+
+  pub taking_unmarked : (Q : Queue) (needed : ℕ) → All (IsUnmarked base by) (taking Q by needed)
+  taking_unmarked Q needed = All-append (IsUnmarked base by) (takes needed Q by needed) _ (takes_unmarked base by member needed Q needed) (dropped (are_refused needed Q by needed))
+
+  pub ending_unmarked : (Q : Queue) (n : JobNo) (specs : List OutSpec) → AreOutputs specs → All (IsUnmarked base by) (ending Q by n specs)
+  ending_unmarked Q n specs fit = All-cons (IsUnmarked base by) (command.Ended n specs) _ (member, (fit.few, fit.each), refl) (dropped (is_refusal (reply_to Q by (command.Ended n specs))))
+
+-- A MARK of the output up to what the member has printed
+pub mark_printed_right : (Q : Queue) (by : MemberId) (printed : ℕ) (n : JobNo) (i : OutNo) (mark last : ℕ) → 1 ≤ by.0 → (o : Output) × (output_at Q n i ≡ Some o) × (o.mark ≡ mark) → last ≤ mark + printed → IsMarkRight Q by printed (command.Mark n i last)
+mark_printed_right Q by printed n i mark last some there upto =
+    mark_right Q by printed last n i there.0 (somebody by some) there.1 (let same = there.2 in omega (arith, same, upto))
+  where
+    somebody : (m : MemberId) → 1 ≤ m.0 → is_somebody m ≡ true
+    somebody m some = grind (arith, nat_tests)
+
+-- a command that isn't a Mark
+pub other_right : (Q : Queue) (by : MemberId) (printed : ℕ) (c : Command) → is_mark c ≡ false → IsMarkRight Q by printed c
+other_right Q by printed c other = plain_right Q by printed c other

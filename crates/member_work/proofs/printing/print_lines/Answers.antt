@@ -1,0 +1,141 @@
+use Rattle.std.proofs.Common.{◌≡◌, ◌<◌, ◌≤◌, ◌+◌, ◌∙◌, false, true, Option, Some, None, List, refl, ap, sym, subst, arith}
+use Rattle.mas_types.specs.declared.journals.Batch.{Batch}
+use Rattle.lock_cycle.specs.Books.{Book, IsMember, is_stopped}
+use Rattle.mas_types.specs.Printed.{printed_line}
+use Rattle.mas_complex.specs.Journals.{entries_in, kept_all}
+use Rattle.mas_complex.specs.Locking.{IsOfOther}
+use Rattle.mas_complex.specs.Paper.{counts_of}
+use Rattle.paper_laws.specs.Next.{MayPrint}
+use Rattle.ckpt_copy.specs.Moments.{goes_none}
+use Rattle.member_work.proofs.PrintedLemmas.{beside_none, beside_on, beside_print, failed_wider, lines_lost, lines_printed, may_print, print_failed, stops_wider}
+use Rattle.member_work.proofs.printing.print_lines.Goals as goal
+
+pub loop-before-init : goal.loop-before-init
+loop-before-init g c =
+    let P = g.P.Plant in
+    let x = c.args.complex.now in
+    let sum = c.saturating_add-first.ensures in
+    let count = c.printed_lines.ensures.count in
+    record {
+      pair = refl;
+      base = refl;
+      since = refl;
+      book = refl;
+      journal = refl;
+      current = refl;
+      reserved = refl;
+      placed = refl;
+      first = refl;
+      second = refl;
+      level = refl;
+      acts = beside_none P.tells (P.view x.plant);
+      upto = omega (arith, sum, count);
+      next = λ small. omega (arith, sum, count, small);
+    }
+
+pub print-requires-clause-member : goal.print-requires-clause-member
+print-requires-clause-member g c = subst (λ (b : Book). IsMember b c.args.by) (sym c.loop-before.invariant.book) c.requires.member
+
+pub print-requires-clause-up : goal.print-requires-clause-up
+print-requires-clause-up g c = subst (λ (b : Book). is_stopped b c.args.by ≡ false) (sym c.loop-before.invariant.book) c.requires.up
+
+pub print-requires-clause-other : goal.print-requires-clause-other
+print-requires-clause-other g c = subst (λ (o : Option Batch). IsOfOther o c.args.by) (sym c.loop-before.invariant.current) c.requires.other
+
+pub print-requires-clause-most : goal.print-requires-clause-most
+print-requires-clause-most g c =
+    let i = c.loop-before.invariant in
+    let small : c.loop-before.before < c.args.last = omega arith in
+    let same = i.next small in
+    let limit = c.requires.limit in
+    omega (arith, same, limit, small)
+
+pub print-requires-clause-next : goal.print-requires-clause-next
+print-requires-clause-next g c told sound =
+    let x = c.args.complex.now in
+    let y = c.loop-before.complex in
+    let i = c.loop-before.invariant in
+    let r = c.args.output.now in
+    let small : c.loop-before.before < c.args.last = omega arith in
+    let may : MayPrint x.base (kept_all x.journal.batches) (entries_in x.current) c.args.by (counts_of y.printed c.args.by) c.as_slice.result.now =
+    may_print x.base x.journal.batches x.current c.args.by r.job r.index r.mark c.args.last (counts_of y.printed c.args.by) c.loop-before.before c.args.text.now c.as_slice.result.now (c.requires.may told) (i.next small) small
+    (c.as_slice.ensures ∙ c.in-Ok.ensures) in
+    rw (i.base, i.journal, i.current) (∣ may ∣₁)
+
+pub loop-before-preserved : goal.loop-before-preserved
+loop-before-preserved g c =
+    let P = g.P.Plant in
+    let x = c.args.complex.now in
+    let y = c.loop-before.complex in
+    let z = c.print.new.self in
+    let i = c.loop-before.invariant in
+    let e = c.print.ensures in
+    let line = c.as_slice.result.now in
+    let done = c.in-Done.is in
+    let small : c.loop-before.before < c.args.last = omega arith in
+    let same = i.next small in
+    let one : counts_of z.printed c.args.by ≡ counts_of y.printed c.args.by + 1 = e.counted done in
+    record {
+      pair = e.pair ∙ i.pair;
+      base = e.base ∙ i.base;
+      since = e.since ∙ i.since;
+      book = e.book ∙ (rw done i.book);
+      journal = e.journal ∙ i.journal;
+      current = e.current ∙ i.current;
+      reserved = e.reserved ∙ (rw done i.reserved);
+      placed = e.placed ∙ i.placed;
+      first = e.first ∙ i.first;
+      second = e.second ∙ i.second;
+      level = e.level ∙ i.level;
+      acts = beside_on P.tells (P.view x.plant) (P.view y.plant) (P.view z.plant) i.acts (beside_print P.tells c.args.by line (P.view y.plant) (P.view z.plant) c.print.result e.acts e.content);
+      upto = omega (arith, same, one);
+      next = λ less. omega (arith, same, one);
+    }
+
+pub returns-in-Failed-clause-acts : goal.returns-in-Failed-clause-acts
+returns-in-Failed-clause-acts g c =
+    let P = g.P.Plant in
+    let x = c.args.complex.now in
+    let y = c.loop-before.complex in
+    let z = c.print.new.self in
+    let e = c.print.ensures in
+    beside_on P.tells (P.view x.plant) (P.view y.plant) (P.view z.plant) c.loop-before.invariant.acts (beside_print P.tells c.args.by c.as_slice.result.now (P.view y.plant) (P.view z.plant) c.print.result e.acts e.content)
+
+pub returns-in-Failed-clause-counted : goal.returns-in-Failed-clause-counted
+returns-in-Failed-clause-counted g c is = absurd (cc)
+
+pub returns-in-Failed-clause-printed : goal.returns-in-Failed-clause-printed
+returns-in-Failed-clause-printed g c =
+    let P = g.P.Plant in
+    let x = c.args.complex.now in
+    let y = c.loop-before.complex in
+    let z = c.print.new.self in
+    lines_lost c.args.by c.args.text.now (P.view x.plant) (P.view z.plant)
+    (failed_wider c.args.by (P.view x.plant) (P.view y.plant) (P.view z.plant) (P.view z.plant) c.loop-before.invariant.acts.goes (goes_none (P.view z.plant)) (print_failed c.args.by (P.view y.plant) (P.view z.plant) c.print.result c.in-Failed.is c.print.ensures.acts))
+
+pub returns-in-Halted-clause-acts : goal.returns-in-Halted-clause-acts
+returns-in-Halted-clause-acts g c =
+    let P = g.P.Plant in
+    let x = c.args.complex.now in
+    let y = c.loop-before.complex in
+    let z = c.print.new.self in
+    let e = c.print.ensures in
+    beside_on P.tells (P.view x.plant) (P.view y.plant) (P.view z.plant) c.loop-before.invariant.acts (beside_print P.tells c.args.by c.as_slice.result.now (P.view y.plant) (P.view z.plant) c.print.result e.acts e.content)
+
+pub returns-in-Halted-clause-cause : goal.returns-in-Halted-clause-cause
+returns-in-Halted-clause-cause g c =
+    let P = g.P.Plant in
+    let x = c.args.complex.now in
+    let y = c.loop-before.complex in
+    let z = c.print.new.self in
+    let rose = c.print.ensures.acts.halted c.in-Halted.is in
+    let before = c.loop-before.invariant.acts.goes.stops c.args.by.0 in
+    omega (arith, rose, before)
+
+pub returns-clause-printed : goal.returns-clause-printed
+returns-clause-printed g c = lines_printed c.args.by c.args.text.now (g.P.Plant.view c.args.complex.now.plant) (g.P.Plant.view c.loop-before.complex.plant)
+
+pub returns-clause-counted : goal.returns-clause-counted
+returns-clause-counted g c is =
+    let upto = c.loop-before.invariant.upto in
+    omega (arith, upto)

@@ -1,0 +1,27 @@
+use Rattle.std.proofs.Common.{◌≡◌, ◌≤◌, ◌<◌, ◌+◌}
+use Rattle.mas_complex.specs.Paper.{counts_of}
+use Rattle.member_work.specs.Printing.{IsBeside}
+use Rattle.member_work.proofs.printing.print_lines.Given as goal
+
+-- the lines so far are printed
+abbrev pub invariant-loop-before : goal.invariant-loop-before
+invariant-loop-before g l =
+    let P = g.P.Plant in
+    let x = l.fn.complex in
+    let y = l.complex in
+    record {
+      pair : y.pair ≡ x.pair;
+      base : y.base ≡ x.base;
+      since : y.since ≡ x.since;
+      book : y.book ≡ x.book;
+      journal : y.journal ≡ x.journal;
+      current : y.current ≡ x.current;
+      reserved : y.reserved ≡ x.reserved;
+      placed : y.placed ≡ x.placed;
+      first : y.first ≡ x.first;
+      second : y.second ≡ x.second;
+      level : y.level ≡ x.level;
+      acts : IsBeside P.tells (P.view x.plant) (P.view y.plant);
+      upto : l.before ≤ l.output.mark + counts_of y.printed l.by;
+      next : l.before < l.last → l.output.mark + counts_of y.printed l.by ≡ l.before;
+    }

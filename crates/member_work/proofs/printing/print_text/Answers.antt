@@ -1,0 +1,32 @@
+use Rattle.std.proofs.Common.{◌≡◌, false, None, ap, sym, arith}
+use Rattle.mas_types.specs.declared.answers.Closing.TheVariants as closing
+use Rattle.member_work.specs.Units.{printed_end}
+use Rattle.member_work.proofs.PrintedLemmas.{beside_none, unprinted}
+use Rattle.member_work.proofs.printing.print_text.Goals as goal
+
+pub returns-in-Gone-clause-acts : goal.returns-in-Gone-clause-acts
+returns-in-Gone-clause-acts g c = beside_none g.P.Plant.tells (g.P.Plant.view c.args.complex.now.plant)
+
+pub returns-in-Gone-clause-printed : goal.returns-in-Gone-clause-printed
+returns-in-Gone-clause-printed g c = unprinted c.args.by c.args.read.now (g.P.Plant.view c.args.complex.now.plant) (closing.NoText c.in-Gone.group) (sym (ap (printed_end false) c.in-Gone.is))
+
+pub returns-in-Gone-clause-counted : goal.returns-in-Gone-clause-counted
+returns-in-Gone-clause-counted g c is = absurd (cc)
+
+pub returns-in-Lost-clause-acts : goal.returns-in-Lost-clause-acts
+returns-in-Lost-clause-acts g c = beside_none g.P.Plant.tells (g.P.Plant.view c.args.complex.now.plant)
+
+pub returns-in-Lost-clause-printed : goal.returns-in-Lost-clause-printed
+returns-in-Lost-clause-printed g c = unprinted c.args.by c.args.read.now (g.P.Plant.view c.args.complex.now.plant) (closing.SpoolLost c.in-Lost.volume) (sym (ap (printed_end false) c.in-Lost.is))
+
+pub returns-in-Lost-clause-counted : goal.returns-in-Lost-clause-counted
+returns-in-Lost-clause-counted g c is = absurd (cc)
+
+pub print_lines-requires-clause-some : goal.print_lines-requires-clause-some
+print_lines-requires-clause-some g c = let long = rw c.in-Lines.is at c.requires.count in omega (arith, long, c.requires.some)
+
+pub print_lines-requires-clause-may : goal.print_lines-requires-clause-may
+print_lines-requires-clause-may g c told = c.requires.may told c.in-Lines.text c.in-Lines.is
+
+pub returns-in-Lines-clause-printed : goal.returns-in-Lines-clause-printed
+returns-in-Lines-clause-printed g c = rw c.in-Lines.is c.print_lines.ensures.printed

@@ -1,0 +1,38 @@
+-- Why a step of work closes as it does, by what each plant tells: which of its parts are lost, and how often they failed.
+use Rattle.std.specs.Prelude.{◌≡◌, ◌⊎◌, ℕ, ◌≤◌, Some}
+use Rattle.mas_types.specs.declared.ids.MemberId.{MemberId}
+use Rattle.mas_types.specs.declared.answers.Closing.{Closing}
+use Rattle.mas_types.specs.declared.answers.Closing.TheVariants as closing
+use Rattle.mas_types.specs.declared.commands.Reply.TheVariants as reply
+use Rattle.spool_disk.specs.View.{View}
+use Rattle.member_decks.specs.Steps.{IsFoundLost}
+use Rattle.work_units.specs.declared.outcomes.Outcome.{Outcome}
+use Rattle.work_units.specs.declared.outcomes.Outcome.TheVariants as outcome
+use Rattle.work_units.specs.declared.units.UnitEnd.{UnitEnd}
+use Rattle.work_units.specs.declared.units.UnitEnd.TheVariants as ends
+use Rattle.member_work.specs.Rounds.{HasPrinterFailed}
+
+-- How a unit may be refused in a call: as its last command was, at a text that is gone, or where a volume or the member's printer was found
+-- lost, which failed in the call. In no other way.
+abbrev pub MayRefuse : MemberId → Closing → View → View → Type 0
+MayRefuse by (closing.Reply (reply.No why)) old new = Unit {0}
+MayRefuse by (closing.NoText group) old new = Unit {0}
+MayRefuse by (closing.SpoolLost volume) old new = IsFoundLost (Some volume) old new
+MayRefuse by closing.PrinterLost old new = HasPrinterFailed by old new
+MayRefuse by _ old new = ⊥
+
+-- a step of so many units closes with the units that are done, or as one was refused
+abbrev pub MayClose : ℕ → MemberId → Closing → View → View → Type 0
+MayClose n by end old new = ((m : ℕ) × (m ≤ n) × (end ≡ closing.DoneUnits m)) ⊎ MayRefuse by end old new
+
+-- WITHIN A STEP
+
+-- how a unit may end
+abbrev pub MayEndUnit : MemberId → UnitEnd → View → View → Type 0
+MayEndUnit by (ends.Refused end) old new = MayRefuse by end old new
+MayEndUnit by _ old new = Unit {0}
+
+-- what may become of a job whose text was read
+abbrev pub MayStop : MemberId → Outcome → View → View → Type 0
+MayStop by (outcome.Stop end) old new = MayRefuse by end old new
+MayStop by _ old new = Unit {0}

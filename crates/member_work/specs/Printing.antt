@@ -1,0 +1,131 @@
+-- A unit that prints the next lines of an output, part by part.
+use Rattle.std.specs.Prelude.{◌≡◌, ℕ, ◌+◌, ◌*◌, ◌≤◌, ◌<◌, Bool, true, List, [], ◌++◌, length, Option, Some, None, Result, IfSome, OnOk}
+use Rattle.mas_types.specs.declared.answers.Closing.{Closing}
+use Rattle.mas_types.specs.declared.ids.Dev.{Dev}
+use Rattle.mas_types.specs.declared.ids.Dev.TheVariants.{Ckpt1, Ckpt2}
+use Rattle.mas_types.specs.declared.ids.JobNo.{JobNo}
+use Rattle.mas_types.specs.declared.ids.MemberId.{MemberId}
+use Rattle.mas_types.specs.declared.ids.OutNo.{OutNo}
+use Rattle.mas_types.specs.declared.jobs.Output.{Output}
+use Rattle.mas_types.specs.declared.jobs.Text.TheVariants.{Whole}
+use Rattle.mas_types.specs.declared.journals.Batch.{Batch}
+use Rattle.mas_types.specs.declared.journals.Entry.{Entry}
+use Rattle.mas_types.specs.declared.queues.Queue.{Queue}
+use Rattle.mas_types.specs.declared.queues.Thing.TheVariants.{Output as OutputThing}
+use Rattle.mas_types.specs.Fit.{IsIndex}
+use Rattle.mas_types.specs.Limits.{printer_lines_most, text_lines_most}
+use Rattle.mas_types.specs.Queue.{line_count, output_at, printing_at, total}
+use Rattle.lay_bytes.specs.declared.records.OutRec.{OutRec}
+use Rattle.ckpt_pages.specs.declared.tables.Tables.{Tables}
+use Rattle.table_queues.specs.Telling.{Tell}
+use Rattle.spool_disk.specs.declared.plant.Part.TheVariants.{Disk as DiskPart}
+use Rattle.spool_disk.specs.View.{View, disk_now}
+use Rattle.spool_disk.specs.Acts.{Goes}
+use Rattle.track_groups.specs.Places.{groups_of}
+use Rattle.paper_laws.specs.Next.{limit_of}
+use Rattle.paper_laws.specs.Paper.{busy_in}
+use Rattle.mas_complex.specs.Journals.{entries_in, kept_all}
+use Rattle.mas_complex.specs.Meaning.{run}
+use Rattle.member_node.specs.declared.member.NodeNo.{NodeNo}
+use Rattle.member_node.specs.Calls.{console_now}
+use Rattle.work_units.specs.declared.outcomes.Read.{Read}
+use Rattle.work_units.specs.declared.units.UnitEnd.{UnitEnd}
+use Rattle.member_work.specs.Causes.{MayEndUnit, MayRefuse}
+use Rattle.member_work.specs.Looks.{Look, read_of}
+use Rattle.member_work.specs.Rounds.{HasPrinterFailed, IsPrintLook, IsReadAs}
+use Rattle.member_work.specs.Steps.{IsPlayOf, IsPlayed}
+use Rattle.member_work.specs.Units.{chunk_end, mark_play, print_play, printed_end}
+use Rattle.member_work.specs.Work.{spent_in}
+
+-- ACTS ON THE PRINTER AND THE VOLUMES
+
+-- Acts of a member beside the copies: neither copy is lost, and where content is told both are as they were, and so is the console.
+pub record IsBeside (told : Type 0) (old new : View) : Type 0 where
+  pub goes : Goes old new
+  pub lost1 : new.lost (DiskPart Ckpt1) ≡ old.lost (DiskPart Ckpt1)
+  pub lost2 : new.lost (DiskPart Ckpt2) ≡ old.lost (DiskPart Ckpt2)
+  pub loses : (d : Dev) → new.loses d ≡ old.loses d
+  pub first : told → disk_now new Ckpt1 ≡ disk_now old Ckpt1
+  pub second : told → disk_now new Ckpt2 ≡ disk_now old Ckpt2
+  pub console : told → console_now new ≡ console_now old
+
+-- THE OUTPUT
+
+-- the output with this key is busy at the member, and has lines behind its mark
+pub record IsPrinting (Q : Queue) (m : MemberId) (n : JobNo) (i : OutNo) : Type 0 where
+  pub output : Output
+  pub there : output_at Q n i ≡ Some output
+  pub busy : printing_at Q m ≡ Some output
+  pub below : output.mark < total output
+
+-- the record of an output says what each queue has of it that the tables tell
+pub record IsToldOutput (t : Tables) (r : OutRec) : Type 0 where
+  pub some : 1 ≤ r.lines
+  pub few : r.lines ≤ text_lines_most
+  pub index : IsIndex r.index.0
+  pub same : (Q : Queue) (o : Output) → Tell t Q → output_at Q r.job r.index ≡ Some o → (o.job ≡ r.job) × (o.index ≡ r.index) × (o.mark ≡ r.mark) × (line_count o.text ≡ r.lines) × (total o ≡ r.lines * r.copies)
+
+-- this is the last of its lines that are printed next
+pub record IsChunkOf (t : Tables) (by : MemberId) (r : OutRec) (last : ℕ) : Type 0 where
+  pub limit : last ≤ r.mark + printer_lines_most
+  pub total : last ≤ r.lines * r.copies
+  pub is : (Q : Queue) (o : Output) → Tell t Q → output_at Q r.job r.index ≡ Some o → last ≡ chunk_end Q by o
+
+-- The lines of an output up to this one may be printed: it has this text and mark, and is busy at the member after the kept batches, and
+-- with one in flight.
+pub record MayPrintTo (base : Queue) (batches : List Batch) (current : Option Batch) (m : MemberId) (n : JobNo) (i : OutNo) (mark last : ℕ) (lines : List (List ℕ)) : Type 0 where
+  pub output : Output
+  pub busy : printing_at (run base (kept_all batches)) m ≡ Some output
+  pub job : output.job ≡ n
+  pub index : output.index ≡ i
+  pub mark_is : output.mark ≡ mark
+  pub text : output.text ≡ Whole lines
+  pub upto : last ≤ total output
+  pub limit : last ≤ output.mark + limit_of (run base (kept_all batches)) m
+  pub still : busy_in (output_at (run base (kept_all batches ++ entries_in current)) n i) m ≡ true
+
+-- PART BY PART
+
+-- What was made of a text that was read, once its lines were printed: the printer was found lost, or not.
+pub record IsLinesPrinted (by : MemberId) (read : Read) (old new : View) (end : Option Closing) : Type 0 where
+  pub lost : Bool
+  pub is : end ≡ printed_end lost read
+  pub printer : lost ≡ true → HasPrinterFailed by old new
+
+-- How the lines of the output with this key were printed: none where all stand on paper, else how the unit is refused. Where content is told
+-- the output is that of the queue.
+pub record IsPrinted (told : Type 0) (per : ℕ) (Q : Queue) (by : MemberId) (n : JobNo) (i : OutNo) (old new : View) (end : Option Closing) : Type 0 where
+  pub read : Option Read
+  pub lost : Bool
+  pub is : told → (o : Output) → output_at Q n i ≡ Some o → IsReadAs told per o.text (groups_of (OutputThing n i) Q.owners) read old new × (end ≡ printed_end lost (read_of read o.text))
+  pub printer : lost ≡ true → HasPrinterFailed by old new
+  pub caused : IfSome end (λ e. MayRefuse by e old new)
+
+-- The lines are marked, or the unit is refused, with the cause that this has since an earlier moment. Nothing is unwritten before.
+pub record IsMarkStep (told : Type 0) (by : MemberId) (at : ℕ) (Q : Queue) (n : JobNo) (i : OutNo) (last : ℕ) (end_is : Option Closing) (is_left : List Entry) (front batches : List Batch) (was1 is1 was2 is2 : Bool) (old new : View) (result : Result UnitEnd NodeNo) : Type 0 where
+  pub parts : List (List Entry)
+  pub end : UnitEnd
+  pub is : told → IsPlayOf (mark_play Q by at n i last end_is) parts end
+  pub caused : (from : View) → IfSome end_is (λ e. MayRefuse by e from new) → MayEndUnit by end from new
+  pub single : length parts ≡ 1
+  pub played : IsPlayed told by at parts end [] is_left front batches was1 is1 was2 is2 old new result
+
+-- The unit of the output with this key, from where nothing is unwritten: its part behind the first one, which has no commands.
+pub record IsLinesStep (told : Type 0) (by : MemberId) (at per : ℕ) (Q : Queue) (n : JobNo) (i : OutNo) (last : ℕ) (is_left : List Entry) (front batches : List Batch) (was1 is1 was2 is2 : Bool) (old new : View) (result : Result UnitEnd NodeNo) : Type 0 where
+  pub look : Look
+  pub parts : List (List Entry)
+  pub end : UnitEnd
+  pub is : told → (o : Output) → output_at Q n i ≡ Some o → IsPrintLook told per Q by look old new o × IsPlayOf (mark_play Q by at o.job o.index last (printed_end look.printer (read_of look.read o.text))) parts end
+  pub caused : MayEndUnit by end old new
+  pub single : length parts ≡ 1
+  pub played : IsPlayed told by at parts end [] is_left front batches was1 is1 was2 is2 old new result
+
+-- The whole unit.
+pub record IsPrintStep (told : Type 0) (by : MemberId) (at per : ℕ) (Q : Queue) (n : JobNo) (i : OutNo) (so_far is_left : List Entry) (spent is_spent : ℕ) (front batches : List Batch) (was1 is1 was2 is2 : Bool) (old new : View) (result : Result UnitEnd NodeNo) : Type 0 where
+  pub look : Look
+  pub parts : List (List Entry)
+  pub end : UnitEnd
+  pub is : told → IfSome (output_at Q n i) (IsPrintLook told per Q by look old new) × IsPlayOf (print_play Q by at look n i) parts end
+  pub caused : MayEndUnit by end old new
+  pub played : IsPlayed told by at parts end so_far is_left front batches was1 is1 was2 is2 old new result
+  pub spends : OnOk result (is_spent ≡ spent_in spent parts)
