@@ -1,5 +1,5 @@
 -- A command that an operator types, but the reset of a member.
-use Rattle.std.proofs.Common.{◌≡◌, ◌∙◌, ◌≤◌, ◌+◌, ℕ, nat_le, true, None, [], ◌∷◌, Result, Ok, Err, OnOk, refl, arith}
+use Rattle.std.proofs.Common.{◌≡◌, ◌∙◌, ◌≤◌, ◌+◌, ℕ, nat_le, true, false, None, [], ◌∷◌, Result, Ok, Err, OnOk, refl, arith}
 use Rattle.std.proofs.lemmas.List.Elements.{All-nil, All-cons}
 use Rattle.std.proofs.lemmas.Bool.Decides.{nat_tests}
 use Rattle.mas_types.specs.declared.commands.Command.{Command}
@@ -11,11 +11,17 @@ use Rattle.mas_types.specs.declared.queues.Queue.{Queue}
 use Rattle.mas_types.specs.Fit.{IsConfig}
 use Rattle.mas_types.specs.Queue.{is_member}
 use Rattle.mas_types.specs.Step.{may_give}
+use Rattle.paper_laws.specs.Counts.{is_mark}
 use Rattle.first_script.specs.Commands.{is_typed}
 use Rattle.first_script.specs.Played.{sysa}
 use Rattle.member_decks.specs.Steps.{AreOf}
 use Rattle.table_commands.specs.Given.{IsGiver, is_plain}
 use Rattle.mas_run.specs.Turns.{resets}
+
+-- it is no Mark
+pub typed_unmarked : (c : Command) → is_typed c ≡ true → is_mark c ≡ false
+typed_unmarked (command.Mark job index at) is = absurd (cc)
+typed_unmarked _ is = refl
 
 -- it is plain, and SYSA may give it
 pub played : (c : Command) → is_typed c ≡ true → resets c ≡ None → (is_plain c ≡ true) × IsGiver sysa c

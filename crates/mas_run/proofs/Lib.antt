@@ -1,7 +1,6 @@
 pub mod CourseLemmas
 pub mod VolumeLemmas
 pub mod BatchLemmas
-pub mod NumberLemmas
 pub mod WorkLemmas
 pub mod StepLemmas
 pub mod LockLemmas

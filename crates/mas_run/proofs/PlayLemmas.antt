@@ -1,12 +1,11 @@
 -- Steps that are played one after another.
-use Rattle.std.proofs.Common.{◌≡◌, ◌⊎◌, inl, inr, ⊎_elim, ℕ, suc, ◌+◌, ◌*◌, ◌≤◌, ◌<◌, Bool, List, [], ◌∷◌, ◌++◌, length, map, take, drop, All, Option, Some, None, Ok, Err, refl, sym, ◌∙◌, ap, subst, arith, append_assoc, append-nil}
+use Rattle.std.proofs.Common.{◌≡◌, ◌⊎◌, inl, inr, ⊎_elim, ℕ, suc, ◌+◌, ◌*◌, ◌≤◌, ◌<◌, Bool, List, [], ◌∷◌, ◌++◌, length, map, take, drop, All, Option, Ok, Err, refl, sym, ◌∙◌, ap, subst, arith, append_assoc, append-nil}
 use Rattle.std.proofs.Math.Seq.{take-append_seam, take-append-add, drop-append_seam}
 use Rattle.std.proofs.lemmas.List.{length-append, take_all}
 use Rattle.std.proofs.lemmas.List.Elements.{All-nil, All-cons, All-head, All-tail, All-append, All-weaker}
 use Rattle.mas_types.specs.declared.answers.Status.TheVariants as status
 use Rattle.mas_types.specs.declared.jobs.JobFields.{JobFields}
 use Rattle.mas_types.specs.declared.ids.Dev.{Dev}
-use Rattle.mas_types.specs.declared.ids.Dev.TheVariants.{Spool}
 use Rattle.mas_types.specs.declared.journals.Batch.{Batch}
 use Rattle.mas_types.specs.declared.journals.Entry.{Entry}
 use Rattle.mas_types.specs.declared.journals.Fate.TheVariants.{Kept}
@@ -16,8 +15,7 @@ use Rattle.duplex_pair.specs.Halves.{SomeAlive}
 use Rattle.first_script.specs.Played.{sysa}
 use Rattle.spool_disk.specs.View.{View, Line}
 use Rattle.spool_disk.specs.Acts.{Goes}
-use Rattle.spool_disk.specs.declared.plant.Part.TheVariants.{Disk, Console}
-use Rattle.ckpt_copy.specs.Moments.{goes_none}
+use Rattle.spool_disk.specs.declared.plant.Part.TheVariants.{Console}
 use Rattle.mas_complex.specs.Headline.{whole}
 use Rattle.mas_complex.specs.Journals.{kept_all}
 use Rattle.mas_complex.specs.Meaning.{run, step}
@@ -26,20 +24,19 @@ use Rattle.member_decks.specs.declared.opening.Opened.{Opened}
 use Rattle.member_decks.specs.declared.opening.Opened.TheVariants as opened
 use Rattle.member_decks.specs.Batches.{AreAll, AreCut, OneFlies}
 use Rattle.member_decks.specs.Decks.{all_entries, batches_behind, closing_reply, deck_batches, ends_as, finishing, given_in, opening}
-use Rattle.member_decks.specs.Steps.{AreOf, IsFoundLost, LiesOn, opened_queue}
+use Rattle.member_decks.specs.Steps.{AreOf, LiesOn, opened_queue}
 use Rattle.member_work.specs.Rounds.{IsRound}
 use Rattle.member_work.specs.Work.{rounds, work_closing}
-use Rattle.member_work.proofs.RoundLemmas.{wider_seen}
 use Rattle.member_node.specs.declared.member.NodeNo.{NodeNo}
 use Rattle.member_node.specs.declared.member.NodeNo.TheVariants as no_node
 use Rattle.member_node.specs.Calls.{Course, Grows, console_now}
-use Rattle.member_node.proofs.CourseLemmas.{course_none, course_then, rose_later, rose_more}
+use Rattle.member_node.proofs.CourseLemmas.{course_none, course_then, rose_later}
 use Rattle.member_node.proofs.WriteLemmas.{run_append}
 use Rattle.member_steps.specs.Saying.{torn, Breaks}
 use Rattle.member_steps.specs.Steps.{AreAllKept, reply_to}
 use Rattle.mas_run.specs.Plays.{HavePlayed, ArePlayed}
 use Rattle.mas_run.specs.Runs.{IsHistory, IsSettled, IsUnclosed, IsUncut, Adds, HasLost, IsStopped}
-use Rattle.mas_run.specs.Steps.{AreOutcomes, BeginsWork, FindsLost, FindLost, IsCounted, IsOutcome, IsWork, LeavesVolumes, Outcome, after_step, batches_in, batches_most, first_in, lines_in, loses_after, loses_after_step, next_in, outcome_of, outcomes_from, outcomes_of, queue_after, step_batches}
+use Rattle.mas_run.specs.Steps.{AreOutcomes, BeginsWork, ClosesAs, FindsLost, FindLost, IsCounted, IsOutcome, IsWork, LeavesVolumes, Outcome, after_step, batches_in, batches_most, first_in, lines_in, loses_after, loses_after_step, next_in, outcome_of, outcomes_from, outcomes_of, queue_after, step_batches}
 use Rattle.mas_run.specs.Stops.{IsLeftOrLost, IsStepOf}
 use Rattle.mas_run.specs.Turns.{Reads, Gives, Works, Turn, Granted, Denied, Closed, Loss, Unplayed}
 use Rattle.mas_run.specs.Volumes.{AreVolumesKept}
@@ -130,66 +127,31 @@ shapes_of Q at (s ∷ steps) = (shape_of Q at s, shapes_of (after_step Q at s) (
 
 -- VOLUMES THAT WERE FOUND LOST
 
-module _ (v0 v v' : View) (per : ℕ) (before : Goes v0 v) (after : Goes v v') where
-  found_in : (lost : Option ℕ) → IsFoundLost lost v v' → IsFoundLost lost v0 v'
-  found_in None found = tt
-  found_in (Some volume) found = (found.0, rose_later (v0.faults (Disk (Spool volume))) (v.faults (Disk (Spool volume))) (v'.faults (Disk (Spool volume))) (before.faults (Disk (Spool volume))) found.1)
-
-  found_on : (lost : Option ℕ) → IsFoundLost lost v0 v → IsFoundLost lost v0 v'
-  found_on None found = tt
-  found_on (Some volume) found = (after.lost (Disk (Spool volume)) found.0, rose_more (v0.faults (Disk (Spool volume))) (v.faults (Disk (Spool volume))) (v'.faults (Disk (Spool volume))) found.1 (after.faults (Disk (Spool volume))))
-
-  module _ (told : Type 0) where
-    here : Goes v' v'
-    here = goes_none v'
-
-    start : Goes v0 v0
-    start = goes_none v0
-
-    finds_in : (Q : Queue) (at : ℕ) (s : Turn) → FindsLost told v v' per Q at s → FindsLost told v0 v' per Q at s
-    finds_in Q at (Granted (Reads fields text lost)) found = (found_in lost found.0, found.1)
-    finds_in Q at (Granted (Gives given)) found = tt
-    finds_in Q at (Granted (Works n looks)) found = λ t. wider_seen told per sysa at v0 v v' v' before here (rounds n Q sysa at looks) (found t)
-    finds_in Q at (Denied why) found = tt
-    finds_in Q at (Closed end) found = tt
-    finds_in Q at (Loss dev) found = tt
-    finds_in Q at Unplayed found = tt
-
-    finds_on : (Q : Queue) (at : ℕ) (s : Turn) → FindsLost told v0 v per Q at s → FindsLost told v0 v' per Q at s
-    finds_on Q at (Granted (Reads fields text lost)) found = (found_on lost found.0, found.1)
-    finds_on Q at (Granted (Gives given)) found = tt
-    finds_on Q at (Granted (Works n looks)) found = λ t. wider_seen told per sysa at v0 v0 v v' start after (rounds n Q sysa at looks) (found t)
-    finds_on Q at (Denied why) found = tt
-    finds_on Q at (Closed end) found = tt
-    finds_on Q at (Loss dev) found = tt
-    finds_on Q at Unplayed found = tt
-
-    -- those of steps, and of others behind them
-    find_join : (Q : Queue) (at : ℕ) (xs ys : List Turn) → FindLost told v0 v per Q at xs → FindLost told v0 v' per (queue_after Q at xs) (at + length xs) ys → FindLost told v0 v' per Q at (xs ++ ys)
-    find_join Q at [] ys one two = let e : at + 0 ≡ at = omega arith in subst (λ (n : ℕ). FindLost told v0 v' per Q n ys) e two
-    find_join Q at (x ∷ xs) ys one two =
-        let e : at + length (x ∷ xs) ≡ at + 1 + length xs = omega arith in
-        (finds_on Q at x one.0, find_join (after_step Q at x) (at + 1) xs ys one.1 (subst (λ (n : ℕ). FindLost told v0 v' per (queue_after (after_step Q at x) (at + 1) xs) n ys) e two))
+-- those of steps, and of others behind them
+find_join : (told : Type 0) (per : ℕ) (v v' : View) (Q : Queue) (at : ℕ) (v0 : View) (xs ys : List Turn) (os ps : List Outcome) → FindLost told v0 v per Q at xs os → FindLost told v v' per (queue_after Q at xs) (at + length xs) ys ps → FindLost told v0 v' per Q at (xs ++ ys) (os ++ ps)
+find_join told per v v' Q at v0 [] ys [] ps one two = let e : at + 0 ≡ at = omega arith in subst (λ (w : View). FindLost told w v' per Q at ys ps) one (subst (λ (n : ℕ). FindLost told v v' per Q n ys ps) e two)
+find_join told per v v' Q at v0 [] ys (o ∷ os) ps one two = absurd one
+find_join told per v v' Q at v0 (x ∷ xs) ys [] ps one two = absurd one
+find_join told per v v' Q at v0 (x ∷ xs) ys (o ∷ os) ps one two =
+    let e : at + length (x ∷ xs) ≡ at + 1 + length xs = omega arith in
+    (one.0, one.1, one.2, find_join told per v v' (after_step Q at x) (at + 1) one.0 xs ys os ps one.3 (subst (λ (n : ℕ). FindLost told v v' per (queue_after (after_step Q at x) (at + 1) xs) n ys ps) e two))
 
 -- a step at a queue, where content is told, and of a number
-finds_at : (told : Type 0) (old new : View) (per : ℕ) (Q R : Queue) (at n : ℕ) (s : Turn) → (told → Q ≡ R) → at ≡ n → FindsLost told old new per Q at s → FindsLost told old new per R n s
-finds_at told old new per Q R at n (Granted (Reads fields text lost)) same number found = (
+finds_at : (told : Type 0) (old new : View) (per : ℕ) (Q R : Queue) (at n : ℕ) (s : Turn) (o : Outcome) → (told → Q ≡ R) → at ≡ n → FindsLost told old new per Q at s o → FindsLost told old new per R n s o
+finds_at told old new per Q R at n (Granted (Reads fields text lost)) o same number found = (
   found.0,
   λ t. subst (λ (P : Queue). LiesOn (ends_as P sysa fields (groups_needed text)) per (opened_queue P sysa n fields text) sysa text lost) (same t)
       (subst (λ (m : ℕ). LiesOn (ends_as Q sysa fields (groups_needed text)) per (opened_queue Q sysa m fields text) sysa text lost) number (found.1 t)),
 )
-finds_at told old new per Q R at n (Granted (Gives given)) same number found = tt
-finds_at told old new per Q R at n (Granted (Works m looks)) same number found = λ t.
-    subst (λ (P : Queue). All (IsRound told per sysa n old new) (rounds m P sysa n looks)) (same t) (subst (λ (k : ℕ). All (IsRound told per sysa k old new) (rounds m Q sysa k looks)) number (found t))
-finds_at told old new per Q R at n (Denied why) same number found = tt
-finds_at told old new per Q R at n (Closed end) same number found = tt
-finds_at told old new per Q R at n (Loss dev) same number found = tt
-finds_at told old new per Q R at n Unplayed same number found = tt
-
--- a run that began sooner
-pub find_since : (told : Type 0) (v0 v v' : View) (per : ℕ) → Goes v0 v → Goes v v' → (Q : Queue) (at : ℕ) (steps : List Turn) → FindLost told v v' per Q at steps → FindLost told v0 v' per Q at steps
-find_since told v0 v v' per before after Q at [] found = tt
-find_since told v0 v v' per before after Q at (x ∷ steps) found = (finds_in v0 v v' per before after told Q at x found.0, find_since told v0 v v' per before after (after_step Q at x) (at + 1) steps found.1)
+finds_at told old new per Q R at n (Granted (Gives given)) o same number found = tt
+finds_at told old new per Q R at n (Granted (Works m looks)) o same number found = (
+  subst (λ (k : ℕ). ClosesAs old new m k o.lines) number found.0,
+  λ t. subst (λ (P : Queue). All (IsRound told per sysa n old new) (rounds m P sysa n looks)) (same t) (subst (λ (k : ℕ). All (IsRound told per sysa k old new) (rounds m Q sysa k looks)) number (found.1 t)),
+)
+finds_at told old new per Q R at n (Denied why) o same number found = tt
+finds_at told old new per Q R at n (Closed end) o same number found = tt
+finds_at told old new per Q R at n (Loss dev) o same number found = tt
+finds_at told old new per Q R at n Unplayed o same number found = tt
 
 -- of all steps, the first ones and those behind them
 all_front : (P : Turn → Type 0) (xs ys : List Turn) → All P (xs ++ ys) → All P xs
@@ -275,10 +237,10 @@ module _ (told : Type 0) (base : Queue) (per : ℕ) (steps : List Turn) (s : Tur
   loses_now t d step = step ∙ ap (loses_after_step d s) (played.loses t d) ∙ sym (loses_more s d steps (v0.loses d))
 
   -- the steps behind it, of which none found a volume lost
-  module _ (goes : Goes v v') (later : List Turn) (clean : (R : Queue) (n : ℕ) → FindLost told v0 v' per R n later) where
-    found_now : FindsLost told v v' per Q at s → FindLost told v0 v' per base 1 (steps ++ s ∷ later)
-    found_now found = find_join v0 v v' per played.course.goes goes told base 1 steps (s ∷ later) played.found
-        (finds_at told v0 v' per Q (queue_after base 1 steps) at (1 + length steps) s here numbered (finds_in v0 v v' per played.course.goes goes told Q at s found), clean _ _)
+  module _ (goes : Goes v v') (later : List Turn) where
+    found_now : (os : List Outcome) → ((R : Queue) (n : ℕ) → at + 1 ≡ n → FindLost told v' v' per R n later os) → (o : Outcome) → FindsLost told v v' per Q at s o → FindLost told v0 v' per base 1 (steps ++ s ∷ later) (played.did ++ o ∷ os)
+    found_now os clean o found = find_join told per v v' base 1 v0 steps (s ∷ later) played.did (o ∷ os) played.found
+        (v', goes, finds_at told v v' per Q (queue_after base 1 steps) at (1 + length steps) s o here numbered found, clean _ _ (omega (arith, numbered)))
 
     volumes_now : (LeavesVolumes s → AreVolumesKept v v') → (All LeavesVolumes steps → AreVolumesKept v0 v) → All LeavesVolumes (steps ++ s ∷ later) → AreVolumesKept v0 v'
     volumes_now step before all = kept_then v'.now v0 v v' played.course.goes.later goes
@@ -296,16 +258,19 @@ module _ (told : Type 0) (base : Queue) (per : ℕ) (steps : List Turn) (s : Tur
       left = left_then a a' b b' v0 v v' played.left step.course played.course.grow step.cause;
       kept = all_now step.did step.more step.course.goes.later step.leaves;
       loses = λ t d. loses_now t d (step.loses t d);
-      found = found_now step.course.goes [] (λ R n. tt) step.found;
-      volumes = λ t. volumes_now step.course.goes [] (λ R n. tt) (step.volumes t) (played.volumes t);
+      found = found_now step.course.goes [] [] (λ R n e. refl) step.did step.found;
+      volumes = λ t. volumes_now step.course.goes [] (step.volumes t) (played.volumes t);
       said = λ t. said_more step.did (played.said t) (step.console t);
     }
 
   -- THE STEP THAT ENDS THE RUN
 
-  module _ (later : List Turn) (clean : (R : Queue) (n : ℕ) → FindLost told v0 v' per R n later) where
+  module _ (later : List Turn) (clean : (R : Queue) (n : ℕ) → at + 1 ≡ n → FindLost told v' v' per R n later (outcomes_from (after_step Q at s) (at + 1) later)) where
     abbrev all_did : Outcome → List Outcome
     all_did o = played.did ++ o ∷ outcomes_from (after_step Q at s) (at + 1) later
+
+    found_all : Goes v v' → (o : Outcome) → FindsLost told v v' per Q at s o → FindLost told v0 v' per base 1 (steps ++ s ∷ later) (all_did o)
+    found_all goes o found = found_now goes later (outcomes_from (after_step Q at s) (at + 1) later) clean o found
 
     many : length (steps ++ s ∷ later) ≡ length steps + suc (length later)
     many = length-append steps (s ∷ later)
@@ -405,8 +370,8 @@ module _ (told : Type 0) (base : Queue) (per : ℕ) (steps : List Turn) (s : Tur
           history = unkept_history step.did step.more step.course.goes (inl settled);
           ends = (unclosed step.more, settled_next step.did step.more settled);
           loses = λ t d. unkept_loses t d (step.loses t d).0;
-          found = found_now step.course.goes later clean step.found;
-          volumes = λ t. volumes_now step.course.goes later clean (step.volumes t) (played.volumes t);
+          found = found_all step.course.goes step.did step.found;
+          volumes = λ t. volumes_now step.course.goes later (step.volumes t) (played.volumes t);
           said = λ t. inl (step.console t ∙ said_before step.did (played.said t));
         }
 
@@ -423,8 +388,8 @@ module _ (told : Type 0) (base : Queue) (per : ℕ) (steps : List Turn) (s : Tur
           history = kept_history step.did step.more step.course.goes all;
           ends = (unclosed_work (length steps + 1) work, inl refl);
           loses = λ t d. kept_loses t d (step.loses t d);
-          found = found_now step.course.goes later clean step.found;
-          volumes = λ t. volumes_now step.course.goes later clean (step.volumes t) (played.volumes t);
+          found = found_all step.course.goes step.did step.found;
+          volumes = λ t. volumes_now step.course.goes later (step.volumes t) (played.volumes t);
           said = λ t. inl (step.console t ∙ said_before step.did (played.said t));
         }
 
@@ -447,8 +412,8 @@ module _ (told : Type 0) (base : Queue) (per : ℕ) (steps : List Turn) (s : Tur
               history = unkept_history step.did step.more step.course.goes next;
               ends = (unclosed step.more, step.cause, uncut_next step.did step.more uncut);
               loses = λ t d. unkept_loses t d (step.loses t d).0;
-              found = found_now step.course.goes later clean step.found;
-              volumes = λ t. volumes_now step.course.goes later clean (step.volumes t) (played.volumes t);
+              found = found_all step.course.goes step.did step.found;
+              volumes = λ t. volumes_now step.course.goes later (step.volumes t) (played.volumes t);
               said = λ t. inl (step.console t ∙ said_before step.did (played.said t));
             }
 
@@ -465,8 +430,8 @@ module _ (told : Type 0) (base : Queue) (per : ℕ) (steps : List Turn) (s : Tur
               history = kept_history step.did step.more step.course.goes all;
               ends = (unclosed_work (length steps + 1) work, step.cause, uncut_with_it step.did);
               loses = λ t d. kept_loses t d (step.loses t d);
-              found = found_now step.course.goes later clean step.found;
-              volumes = λ t. volumes_now step.course.goes later clean (step.volumes t) (played.volumes t);
+              found = found_all step.course.goes step.did step.found;
+              volumes = λ t. volumes_now step.course.goes later (step.volumes t) (played.volumes t);
               said = λ t. inl (step.console t ∙ said_before step.did (played.said t));
             }
 
@@ -484,8 +449,8 @@ module _ (told : Type 0) (base : Queue) (per : ℕ) (steps : List Turn) (s : Tur
         history = kept_history step.did step.more step.course.goes step.leaves;
         ends = (refl, refl, rose_later (v0.faults Console) (v.faults Console) (v'.faults Console) (played.course.goes.faults Console) step.cause.1);
         loses = λ t d. kept_loses t d (step.loses t d);
-        found = found_now step.course.goes later clean step.found;
-        volumes = λ t. volumes_now step.course.goes later clean (step.volumes t) (played.volumes t);
+        found = found_all step.course.goes step.did step.found;
+        volumes = λ t. volumes_now step.course.goes later (step.volumes t) (played.volumes t);
         said = λ t. adds_failed (lines_in (take (length steps) (all_did step.did))) step.did.lines (lines_in (take (length steps + 1) (all_did step.did))) (lines_are step.did)
             (console_now v0) (console_now v) (console_now v') (said_before step.did (played.said t)) (status.ConsoleFault ≡ status.ConsoleFault) (IsStopped v0 v') refl (step.console t);
       }
@@ -516,8 +481,8 @@ module _ (told : Type 0) (base : Queue) (per : ℕ) (steps : List Turn) (s : Tur
             history = unkept_history step.did step.more step.course.goes (⊎_elim (λ cut. inl (inr cut)) (λ flies. inr flies) next);
             ends = (was_stopped, uncut_next step.did step.more uncut);
             loses = λ t d. unkept_loses t d (step.loses t d).0;
-            found = found_now step.course.goes later clean step.found;
-            volumes = λ t. volumes_now step.course.goes later clean (step.volumes t) (played.volumes t);
+            found = found_all step.course.goes step.did step.found;
+            volumes = λ t. volumes_now step.course.goes later (step.volumes t) (played.volumes t);
             said = λ t. ⊎_elim (λ none. inl (none ∙ said_before step.did (played.said t))) (λ more. absurd (not_all next more.0)) (step.console t);
           }
 
@@ -534,8 +499,8 @@ module _ (told : Type 0) (base : Queue) (per : ℕ) (steps : List Turn) (s : Tur
             history = kept_history step.did step.more step.course.goes all;
             ends = (was_stopped, uncut_with_it step.did);
             loses = λ t d. kept_loses t d (step.loses t d);
-            found = found_now step.course.goes later clean step.found;
-            volumes = λ t. volumes_now step.course.goes later clean (step.volumes t) (played.volumes t);
+            found = found_all step.course.goes step.did step.found;
+            volumes = λ t. volumes_now step.course.goes later (step.volumes t) (played.volumes t);
             said = λ t. ⊎_elim (λ none. inl (none ∙ said_before step.did (played.said t)))
                 (λ more. adds_stopped (lines_in (take (length steps) (all_did step.did))) step.did.lines (lines_in (take (length steps + 1) (all_did step.did))) (lines_are step.did)
                 (console_now v0) (console_now v) (console_now v') (said_before step.did (played.said t)) (status.Done ≡ status.ConsoleFault) (IsStopped v0 v') was_stopped more.1 more.2 more.3)
@@ -592,7 +557,7 @@ played_none told base per batches a b v none some = record {
   left = inl some;
   kept = subst (AreAll sysa v.now v.now []) (sym none) tt;
   loses = λ t d. refl;
-  found = tt;
+  found = refl;
   volumes = λ t all. kept_none v;
   said = λ t. sym (append-nil (console_now v));
 }

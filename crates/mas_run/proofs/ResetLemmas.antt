@@ -6,6 +6,7 @@ use Rattle.mas_types.specs.declared.ids.MemberId.{MemberId}
 use Rattle.mas_types.specs.declared.ids.Dev.TheVariants.{Ckpt1, Ckpt2}
 use Rattle.mas_types.specs.declared.answers.Status.TheVariants as status
 use Rattle.mas_types.specs.declared.commands.Command.TheVariants.{Restart}
+use Rattle.mas_types.specs.declared.commands.Reply.TheVariants.{Plain}
 use Rattle.mas_types.specs.declared.journals.Batch.{Batch}
 use Rattle.mas_types.specs.declared.journals.Entry.{Entry}
 use Rattle.mas_types.specs.declared.journals.Fate.TheVariants.{Kept}
@@ -13,6 +14,7 @@ use Rattle.mas_types.specs.declared.journals.Journal.{Journal}
 use Rattle.mas_types.specs.declared.queues.Config.{Config}
 use Rattle.mas_types.specs.declared.queues.Queue.{Queue}
 use Rattle.mas_types.specs.Ids.{nobody}
+use Rattle.mas_types.specs.Sound.{IsSound}
 use Rattle.spool_disk.specs.View.{View, Line}
 use Rattle.spool_disk.specs.declared.plant.Part.TheVariants.{Disk as DiskPart}
 use Rattle.ckpt_copy.specs.Areas.{reads}
@@ -36,12 +38,14 @@ use Rattle.member_node.specs.Writes.{IsWrite}
 use Rattle.member_node.proofs.CourseLemmas.{course_none, left, only_none}
 use Rattle.member_steps.specs.Steps.{AreAllKept}
 use Rattle.member_steps.proofs.StepLemmas.{journal_kept}
+use Rattle.mas_complex.specs.Paper.{MayBegin}
+use Rattle.mas_complex.proofs.Allowed.{one_begins}
 use Rattle.mas_run.specs.Resets.{HasReset, restart_entries}
 use Rattle.mas_run.specs.Runs.{HasSteps}
 use Rattle.mas_run.specs.Statuses.{IsCausedFrom, is_of_play, status_of}
 use Rattle.lock_cycle.specs.Books.{Book}
 use Rattle.script_lang.specs.declared.types.Step.{Step}
-use Rattle.mas_run.specs.Steps.{FindLost}
+use Rattle.mas_run.specs.Steps.{FindLost, outcomes_of}
 use Rattle.mas_run.specs.Turns.{Sight, Turn, turns_from}
 use Rattle.mas_run.proofs.TurnLemmas.{none_found}
 use Rattle.mas_run.proofs.VolumeLemmas.{kept_on}
@@ -99,6 +103,12 @@ module _ (told : Type 0) (b : Batch) (batches : List Batch) where
   reset_written was1 is1 was2 is2 old new (Err no_node.ConsoleFault) some goes_on write = absurd write.cause
   reset_written was1 is1 was2 is2 old new (Err no_node.Halted) some goes_on write = absurd (goes_on refl)
 
+-- it may begin: it is no Mark
+pub restart_begins : (base : Queue) (js : List Batch) (printed : List ℕ) (es : List Entry) → es ≡ restart_entries → MayBegin base js printed es
+restart_begins base js printed es are =
+    subst (λ (l : List Entry). MayBegin base js printed l) (sym are)
+    (one_begins base js printed (record { by = nobody; step = 0; command = Restart; reply = Plain }) (record { by = refl; fit = tt }) refl)
+
 -- its entry is the operator's
 pub restart_own : (es : List Entry) (m : MemberId) → es ≡ restart_entries → m ≡ nobody → All (λ (e : Entry). e.by ≡ m) es
 restart_own es m are same = subst (All (λ (e : Entry). e.by ≡ m)) (sym are) (All-cons (λ (e : Entry). e.by ≡ m) _ [] (sym same) (All-nil (λ (e : Entry). e.by ≡ m)))
@@ -111,26 +121,26 @@ restart_entry batch more Q m none same is =
 
 -- A WARM RUN AFTER RESTART
 
-reset_left : (tells : Type 0) (asked : List Turn) (base : Queue) (journal : Journal) (since : ℕ) (old new : View) (a a' c c' : Bool) → since ≡ old.now → SomeAlive a c → (a ≡ true → old.lost (DiskPart Ckpt1) ≡ false) → (c ≡ true → old.lost (DiskPart Ckpt2) ≡ false)
-    → (tells → ∥ Headline reads base since journal new ∥₁) → ((opening : List Batch) → FindLost tells old new base.config.groups (run base (kept_all opening)) 1 asked) → {T : Type 0} (why : NodeNo) → HasReset {T = T} tells (begun old.now nobody restart_entries) journal.batches a a' c c' old new (Err why)
+reset_left : (tells : Type 0) (asked : List Turn) (base : Queue) (journal : Journal) (since : ℕ) (old new : View) (a a' c c' : Bool) → IsSound base → since ≡ old.now → SomeAlive a c → (a ≡ true → old.lost (DiskPart Ckpt1) ≡ false) → (c ≡ true → old.lost (DiskPart Ckpt2) ≡ false)
+    → (tells → ∥ Headline reads base since journal new ∥₁) → ((opening : List Batch) → FindLost tells new new base.config.groups (run base (kept_all opening)) 1 asked (outcomes_of (run base (kept_all opening)) asked)) → {T : Type 0} (why : NodeNo) → HasReset {T = T} tells (begun old.now nobody restart_entries) journal.batches a a' c c' old new (Err why)
     → HasSteps false tells asked (status_of {T = T} (Err why)) base journal since old.loses old new
-reset_left tells asked base journal since old new a a' c c' is some there1 there2 head found no_node.NoMemory r =
+reset_left tells asked base journal since old new a a' c c' base_sound is some there1 there2 head found no_node.NoMemory r =
     let one : SomeAlive a' c' = subst (λ (x : Bool). SomeAlive x c') (sym r.ends.1) (subst (λ (y : Bool). SomeAlive a y) (sym r.ends.2) some) in
-    reset_alone tells asked status.NoMemory base [] journal since old new r.ends.0 is r.course.goes (inr (inr (refl, refl, refl, refl))) (λ e. absurd (cc)) (λ e. absurd (cc)) r.loses (λ t. (r.apart t).console) head
+    reset_alone tells asked status.NoMemory base [] journal since old new base_sound r.ends.0 is r.course.goes (inr (inr (refl, refl, refl, refl))) (λ e. absurd (cc)) (λ e. absurd (cc)) r.loses (λ t. (r.apart t).console) head
     (λ ne. left a' c' one (λ x. r.course.there1 x (there1 (r.course.alive1 x))) (λ y. r.course.there2 y (there2 (r.course.alive2 y)))) (found []) (λ t. kept_on old new (r.apart t).others)
-reset_left tells asked base journal since old new a a' c c' is some there1 there2 head found no_node.BothLost r =
+reset_left tells asked base journal since old new a a' c c' base_sound is some there1 there2 head found no_node.BothLost r =
     let b : Batch = begun old.now nobody restart_entries in
-    reset_alone tells asked status.BothLost base (b ∷ []) journal since old new r.ends.0 is r.course.goes
+    reset_alone tells asked status.BothLost base (b ∷ []) journal since old new base_sound r.ends.0 is r.course.goes
     (inr (inl (b, refl, record { by = refl; entries = refl; began = omega (arith, is) }, refl, refl, refl, refl, refl))) (λ e. absurd (cc)) (λ e. absurd (cc)) r.loses (λ t. (r.apart t).console) head
     (λ ne. absurd (ne refl)) (found (b ∷ [])) (λ t. kept_on old new (r.apart t).others)
-reset_left tells asked base journal since old new a a' c c' is some there1 there2 head found no_node.ConsoleFault r = absurd r.ends
-reset_left tells asked base journal since old new a a' c c' is some there1 there2 head found no_node.Halted r = absurd r.ends
+reset_left tells asked base journal since old new a a' c c' base_sound is some there1 there2 head found no_node.ConsoleFault r = absurd r.ends
+reset_left tells asked base journal since old new a a' c c' base_sound is some there1 there2 head found no_node.Halted r = absurd r.ends
 
-pub reset_ended : {T : Type 0} (tells : Type 0) (config : Config) (book : Book) (steps : List Step) (base : Queue) (journal : Journal) (since : ℕ) (old new : View) (a a' c c' : Bool) (why : NodeNo) → since ≡ old.now → SomeAlive a c → (a ≡ true → old.lost (DiskPart Ckpt1) ≡ false) → (c ≡ true → old.lost (DiskPart Ckpt2) ≡ false)
+pub reset_ended : {T : Type 0} (tells : Type 0) (config : Config) (book : Book) (steps : List Step) (base : Queue) (journal : Journal) (since : ℕ) (old new : View) (a a' c c' : Bool) (why : NodeNo) → IsSound base → since ≡ old.now → SomeAlive a c → (a ≡ true → old.lost (DiskPart Ckpt1) ≡ false) → (c ≡ true → old.lost (DiskPart Ckpt2) ≡ false)
     → (tells → ∥ Headline reads base since journal new ∥₁) → HasReset {T = T} tells (begun old.now nobody restart_entries) journal.batches a a' c c' old new (Err why)
     → (seen : List Sight) × HasSteps false tells (turns_from config book seen steps) (status_of {T = T} (Err why)) base journal since old.loses old new
-reset_ended {T = T} tells config book steps base journal since old new a a' c c' why is some there1 there2 head r =
-    ([], reset_left tells (turns_from config book [] steps) base journal since old new a a' c c' is some there1 there2 head (λ opening. none_found tells old new base.config.groups config book steps (run base (kept_all opening)) 1) {T = T} why r)
+reset_ended {T = T} tells config book steps base journal since old new a a' c c' why base_sound is some there1 there2 head r =
+    ([], reset_left tells (turns_from config book [] steps) base journal since old new a a' c c' base_sound is some there1 there2 head (λ opening. none_found tells new base.config.groups config book steps (run base (kept_all opening)) (run base (kept_all opening)) 1 1 refl) {T = T} why r)
 
 -- it ends as a run that has begun does
 pub err_plays : (T : Type 0) (why : NodeNo) → is_of_play (status_of {T = T} (Err why)) ≡ true

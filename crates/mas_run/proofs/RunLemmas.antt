@@ -1,6 +1,6 @@
 -- A run, from what its step leaves.
 use Rattle.std.proofs.Common.{◌≡◌, ◌≢◌, ◌⊎◌, inl, inr, ⊎_elim, ℕ, zero, suc, ◌+◌, ◌<◌, ◌≤◌, nat_lt, Bool, true, false, List, [], ◌∷◌, ◌++◌, length, map, take, drop, None, Result, Ok, Err, refl, sym, ◌∙◌, ap, subst, arith, replicate, All}
-use Rattle.std.proofs.Math.Logic.{∥∥₁_map, ∥∥₁_elim}
+use Rattle.std.proofs.Math.Logic.{∥∥₁_map, ∥∥₁_elim, ∥∥₁_prop}
 use Rattle.std.specs.Coded.{Coded, Coded-set, coded_ℕ, code_by, ×_prop, le_prop}
 use Rattle.std.proofs.lemmas.Bool.Decides.{nat_tests}
 use Rattle.std.proofs.lemmas.List.Elements.{All-nil}
@@ -27,6 +27,7 @@ use Rattle.mas_types.specs.declared.queues.Config.{Config}
 use Rattle.mas_types.specs.declared.queues.Route.{Route}
 use Rattle.mas_types.specs.Fit.{IsConfig}
 use Rattle.mas_types.specs.Limits.{routes_most}
+use Rattle.mas_types.specs.Sound.{IsSound}
 use Rattle.mas_types.proofs.EmptyQueue.{empty_queue-sound}
 use Rattle.table_queues.specs.Telling.{Tell, TellSound}
 use Rattle.mas_complex.specs.Texts.{HasTexts, Spools}
@@ -34,6 +35,7 @@ use Rattle.spool_disk.specs.View.{View, Line, Disk}
 use Rattle.spool_disk.specs.declared.plant.Part.TheVariants.{Disk as DiskPart, Console}
 use Rattle.spool_disk.specs.Acts.{Goes, Rose, top}
 use Rattle.ckpt_copy.specs.Areas.{reads}
+use Rattle.ckpt_copy.specs.Moments.{goes_none, goes_on}
 use Rattle.duplex_pair.specs.Halves.{SomeAlive, IsBothLost}
 use Rattle.duplex_pair.specs.declared.errors.PairNo.{PairNo}
 use Rattle.duplex_pair.specs.declared.errors.PairNo.TheVariants as pair_no
@@ -53,7 +55,7 @@ use Rattle.mas_run.specs.Steps.{FindLost, LeavesVolumes, lines_in, loses_after, 
 use Rattle.mas_run.specs.Plays.{Ends, IfNotLost, ArePlayed, HasPlay}
 use Rattle.mas_run.specs.Runs.{has_begun, IsRun, Adds, HasLost, IsSettled, IsStopped, IsUnclosed, IsUncut, IsRestart, IsReset, HavePassed, IsSafe, IsPlay, HasSteps}
 use Rattle.mas_run.specs.Volumes.{AreVolumesKept, AreVolumesKeptUntil}
-use Rattle.mas_run.proofs.PlayLemmas.{find_since, shapes_of}
+use Rattle.mas_run.proofs.PlayLemmas.{shapes_of}
 use Rattle.mas_run.proofs.VolumeLemmas.{kept_none, kept_past, kept_then}
 use Rattle.mas_types.specs.declared.journals.Batch.{Batch}
 use Rattle.mas_complex.specs.Journals.{kept_all, fated}
@@ -181,32 +183,35 @@ module _ {T : Type 0} (told : Type 0) (asked : List Turn) (from : Queue) (per : 
     unkept = λ e. (none_unkept a' b' old new asked p.history.begun Next Uncut answer p.kept p.closed e p.ends).0;
     said = p.said;
     loses = p.loses;
+    entry = old;
+    entered = (refl, goes_none old);
     found = p.found;
     there = λ ne. left_now old new a a' b b' there1 there2 p.course (not_lost answer (SomeAlive a' b' ⊎ HasLost old new) ne p.left);
   }
 
 -- what holds at each moment
-safe_of : (told : Type 0) (base : Queue) (journal : Journal) (since : ℕ) (new : View) → (told → ∥ Headline reads base since journal new ∥₁) → IsSafe told base journal since new
-safe_of told base journal since new head = record {
+safe_of : (told : Type 0) (base : Queue) (journal : Journal) (since : ℕ) (new : View) → IsSound base → (told → ∥ Headline reads base since journal new ∥₁) → IsSafe told base journal since new
+safe_of told base journal since new sound head = record {
   crash = λ t. ∥∥₁_map (head t) (λ h. h.crash);
   alike = λ t. ∥∥₁_map (head t) (λ h. h.alike);
   texts = λ t. ∥∥₁_map (head t) (λ h. h.texts);
   told = λ t. told_of base since journal new (head t);
+  paper = λ t. ∥∥₁_elim (head t) ∥∥₁_prop (λ h. h.paper sound);
 }
 
 -- what was played, from what its steps leave
-pub play_of_steps : {T : Type 0} (told : Type 0) (book : Book) (steps : List Step) (base : Queue) (front : List Batch) (journal : Journal) (since : ℕ) (old new : View) (a a' b b' : Bool) → (told → ∥ Headline reads base since journal new ∥₁)
+pub play_of_steps : {T : Type 0} (told : Type 0) (book : Book) (steps : List Step) (base : Queue) (front : List Batch) (journal : Journal) (since : ℕ) (old new : View) (a a' b b' : Bool) → IsSound base → (told → ∥ Headline reads base since journal new ∥₁)
     → (a ≡ true → old.lost (DiskPart Ckpt1) ≡ false) → (b ≡ true → old.lost (DiskPart Ckpt2) ≡ false) → (answer : Result T NodeNo)
     → HasPlay told (run base (kept_all front)) base.config book steps front journal.batches a a' b b' old new answer
     → (seen : List Sight) × IsPlay told (turns_from base.config book seen steps) (status_of answer) base front journal since old new
-play_of_steps told book steps base front journal since old new a a' b b' head there1 there2 answer has = (
+play_of_steps told book steps base front journal since old new a a' b b' sound head there1 there2 answer has = (
   has.seen,
   record {
     rest = has.rest;
     batches = has.batches_are;
     played = passed told (turns_from base.config book has.seen steps) (run base (kept_all front)) base.config.groups has.rest old new a a' b b' answer has.played there1 there2;
     volumes = has.played.volumes;
-    safe = safe_of told base journal since new head;
+    safe = safe_of told base journal since new sound head;
   },
 )
 
@@ -267,7 +272,9 @@ module _ (entry old new : View) (goes : Goes entry old) (on : Goes old new) wher
     unkept = p.unkept;
     said = λ t. adds_since (lines_in (take p.closed p.did)) (lines_in (take p.kept p.did)) (answer ≡ status.ConsoleFault) (quiet t) (p.said t);
     loses = λ t d. p.loses t d ∙ ap (loses_after d (take p.kept asked)) (same d);
-    found = find_since tells entry old new per goes on from 1 asked p.found;
+    entry = p.entry;
+    entered = (p.entered.0, goes_on entry old p.entry goes p.entered.1);
+    found = p.found;
     there = λ ne. ⊎_elim inl (λ lost. inr (⊎_elim (λ one. inl (subst (λ (n : ℕ). Rose n (new.loses Ckpt1)) (same Ckpt1) one)) (λ two. inr (subst (λ (n : ℕ). Rose n (new.loses Ckpt2)) (same Ckpt2) two)) lost)) (p.there ne);
   }
 
@@ -304,16 +311,16 @@ module _ (entry old new : View) (goes : Goes entry old) (on : Goes old new) wher
   }
 
 -- a warm run in which Restart isn't kept plays no step
-pub reset_alone : (tells : Type 0) (asked : List Turn) (answer : Status) (base : Queue) (opening : List Batch) (journal : Journal) (since : ℕ) (old new : View) → journal.batches ≡ opening → since ≡ old.now → Goes old new → IsReset answer since since opening 0 []
+pub reset_alone : (tells : Type 0) (asked : List Turn) (answer : Status) (base : Queue) (opening : List Batch) (journal : Journal) (since : ℕ) (old new : View) → IsSound base → journal.batches ≡ opening → since ≡ old.now → Goes old new → IsReset answer since new.now opening 0 []
     → (answer ≢ status.Done) → (answer ≢ status.ConsoleFault) → ((d : Dev) → new.loses d ≡ old.loses d) → (tells → console_now new ≡ console_now old) → (tells → ∥ Headline reads base since journal new ∥₁)
-    → (answer ≢ status.BothLost → (new.lost (DiskPart Ckpt1) ≡ false) ⊎ (new.lost (DiskPart Ckpt2) ≡ false)) → FindLost tells old new base.config.groups (run base (kept_all opening)) 1 asked → (tells → AreVolumesKept old new)
+    → (answer ≢ status.BothLost → (new.lost (DiskPart Ckpt1) ≡ false) ⊎ (new.lost (DiskPart Ckpt2) ≡ false)) → FindLost tells new new base.config.groups (run base (kept_all opening)) 1 asked (outcomes_of (run base (kept_all opening)) asked) → (tells → AreVolumesKept old new)
     → HasSteps false tells asked answer base journal since old.loses old new
-reset_alone tells asked answer base opening journal since old new are is goes reset not_done not_unsaid same quiet head there found kept = record {
+reset_alone tells asked answer base opening journal since old new sound are is goes reset not_done not_unsaid same quiet head there found kept = record {
   opening = opening;
   rest = [];
   batches = are ∙ sym (append-nil opening);
-  at = since;
-  began = (omega arith, omega (arith, is, goes.later));
+  at = new.now;
+  began = (omega (arith, is, goes.later), omega arith);
   played = record {
     did = outcomes_of (run base (kept_all opening)) asked;
     shaped = shapes_of (run base (kept_all opening)) 1 asked;
@@ -321,7 +328,7 @@ reset_alone tells asked answer base opening journal since old new are is goes re
     kept = 0;
     closed = 0;
     few = (omega arith, omega arith, omega arith);
-    history = record { front = []; begun = []; are = refl; between = since; moments = (omega arith, omega (arith, is, goes.later)); are_kept = tt; next = inl (inl refl) };
+    history = record { front = []; begun = []; are = refl; between = new.now; moments = (omega arith, omega arith); are_kept = tt; next = inl (inl refl) };
     settled = λ ne. inl (inl refl);
     uncut = λ ne. inl (inl refl);
     done = λ e. absurd (not_done e);
@@ -330,13 +337,15 @@ reset_alone tells asked answer base opening journal since old new are is goes re
     unkept = λ e. inl refl;
     said = λ t. inl (quiet t ∙ sym (append-nil (console_now old)));
     loses = λ t. same;
+    entry = new;
+    entered = (refl, goes);
     found = found;
     there = λ ne. inl (there ne);
   };
   opened = reset;
-  before = λ t. subst (λ (m : ℕ). AreVolumesKeptUntil m old new) (sym is) (volumes_at old new goes);
+  before = kept;
   volumes = λ t all. kept t;
-  safe = safe_of tells base journal since new head;
+  safe = safe_of tells base journal since new sound head;
 }
 
 -- how both copies were lost: in the formatting, or later
@@ -393,6 +402,10 @@ module _ (config : Config) (routes : List Route) (t : Tables) (is : t ≡ empty_
 
   pub sound_empty : IsConfig config → length routes ≤ routes_most → Tell (empty_tables config routes) (empty_queue config routes) → TellSound t
   sound_empty fits few told = subst TellSound (sym is) (record { queue = empty_queue config routes; told = told; sound = empty_queue-sound config routes fits few })
+
+-- it has the sound parts
+pub sound_base : (config : Config) (routes : List Route) (Q : Queue) → Q ≡ empty_queue config routes → IsConfig config → length routes ≤ routes_most → IsSound Q
+sound_base config routes Q is fits few = subst IsSound (sym is) (empty_queue-sound config routes fits few)
 
 -- it has members
 pub begun_empty : (config : Config) (routes : List Route) (Q : Queue) → Q ≡ empty_queue config routes → IsConfig config → has_begun Q ≡ true

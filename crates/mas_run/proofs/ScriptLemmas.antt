@@ -25,7 +25,7 @@ use Rattle.member_node.specs.declared.member.NodeNo.{NodeNo}
 use Rattle.member_node.specs.Calls.{console_now}
 use Rattle.member_steps.specs.Steps.{AreAllKept}
 use Rattle.mas_run.specs.Plays.{ArePlayed, HasPlay, HavePlay, HavePlayed}
-use Rattle.mas_run.specs.Steps.{batches_most, queue_after}
+use Rattle.mas_run.specs.Steps.{after_step, batches_most, queue_after}
 use Rattle.mas_run.specs.Stops.{IsStepOf}
 use Rattle.mas_run.specs.Turns.{Sight, Turn, book_after, turn_at, turns_from}
 use Rattle.mas_run.proofs.LineLemmas.{step_untold}
@@ -132,7 +132,7 @@ module _ (told : Type 0) (from : Queue) (config : Config) (book : Book) (asked :
           batches_are = behind opening play.rest step.more batches now play.batches_are step.are;
           played = subst (λ (ts : List Turn). ArePlayed {T = T} told from config.groups ts (play.rest ++ step.more) a0 a' b0 b' v0 v' (Err why)) (sym all_turns)
               (played_out told from config.groups (turns_from config book play.seen (take i asked)) (turn_at config c x s.what) play.rest a0 a a' b0 b b' v0 v v' play.played (run base (kept_all batches)) k (queue_here base is_from) number_here
-              (turns_from config (book_after config c s.what) [] (drop (suc i) asked)) (λ R n. none_found told v0 v' config.groups config (book_after config c s.what) (drop (suc i) asked) R n) batches now why step);
+              (turns_from config (book_after config c s.what) [] (drop (suc i) asked)) (λ R n e. none_found told v' config.groups config (book_after config c s.what) (drop (suc i) asked) R (after_step (run base (kept_all batches)) k (turn_at config c x s.what)) n (k + 1) e) batches now why step);
         }
 
   -- all of them have been played

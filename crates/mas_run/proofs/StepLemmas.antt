@@ -421,7 +421,7 @@ module _ (told : Type 0) (n : ℕ) (Q : Queue) (per at : ℕ) (front batches : L
     more = step.closes.rest;
     are = step.closes.batches_are;
     leaves = work_leaves (let r : Result T NodeNo = Ok done in r) step.looks step.gave step.closes.rest step.closes.journal;
-    found = λ t. (step.is t).seen;
+    found = ((step.end, refl, step.caused), λ t. (step.is t).seen);
     volumes = λ t none. absurd none;
     console = tells_work (let r : Result T NodeNo = Ok done in r) step;
   }
@@ -435,7 +435,7 @@ module _ (told : Type 0) (n : ℕ) (Q : Queue) (per at : ℕ) (front batches : L
     more = step.closes.rest;
     are = step.closes.batches_are;
     leaves = work_leaves (let r : Result T NodeNo = Err no_node.NoMemory in r) step.looks step.gave step.closes.rest step.closes.journal;
-    found = λ t. (step.is t).seen;
+    found = ((step.end, refl, step.caused), λ t. (step.is t).seen);
     volumes = λ t none. absurd none;
     console = tells_work (let r : Result T NodeNo = Err no_node.NoMemory in r) step;
   }
@@ -449,7 +449,7 @@ module _ (told : Type 0) (n : ℕ) (Q : Queue) (per at : ℕ) (front batches : L
     more = step.closes.rest;
     are = step.closes.batches_are;
     leaves = work_leaves (let r : Result T NodeNo = Err no_node.BothLost in r) step.looks step.gave step.closes.rest step.closes.journal;
-    found = λ t. (step.is t).seen;
+    found = ((step.end, refl, step.caused), λ t. (step.is t).seen);
     volumes = λ t none. absurd none;
     console = tells_work (let r : Result T NodeNo = Err no_node.BothLost in r) step;
   }
@@ -463,7 +463,7 @@ module _ (told : Type 0) (n : ℕ) (Q : Queue) (per at : ℕ) (front batches : L
     more = step.closes.rest;
     are = step.closes.batches_are;
     leaves = work_leaves (let r : Result T NodeNo = Err no_node.ConsoleFault in r) step.looks step.gave step.closes.rest step.closes.journal;
-    found = λ t. (step.is t).seen;
+    found = ((step.end, refl, step.caused), λ t. (step.is t).seen);
     volumes = λ t none. absurd none;
     console = tells_work (let r : Result T NodeNo = Err no_node.ConsoleFault in r) step;
   }
@@ -477,7 +477,7 @@ module _ (told : Type 0) (n : ℕ) (Q : Queue) (per at : ℕ) (front batches : L
     more = step.closes.rest;
     are = step.closes.batches_are;
     leaves = work_leaves (let r : Result T NodeNo = Err no_node.Halted in r) step.looks step.gave step.closes.rest step.closes.journal;
-    found = λ t. (step.is t).seen;
+    found = ((step.end, refl, step.caused), λ t. (step.is t).seen);
     volumes = λ t none. absurd none;
     console = tells_work (let r : Result T NodeNo = Err no_node.Halted in r) step;
   }
@@ -486,7 +486,7 @@ module _ (told : Type 0) (n : ℕ) (Q : Queue) (per at : ℕ) (front batches : L
 
 module _ (told : Type 0) (turn : Turn) (Q : Queue) (per at : ℕ) (lines : List (List ℕ)) (front batches : List Batch) (a a' b b' : Bool) (v v' : View)
     (shaped : IsOutcome at turn (record { batches = []; lines = lines })) (is : (let o : Outcome = record { batches = []; lines = lines } in o) ≡ outcome_of Q at turn)
-    (counts : (d : Dev) (n : ℕ) → loses_after_step d turn n ≡ n) (found : FindsLost told v v' per Q at turn) where
+    (counts : (d : Dev) (n : ℕ) → loses_after_step d turn n ≡ n) (found : FindsLost told v v' per Q at turn (record { batches = []; lines = lines })) where
   abbrev Aside : {T : Type 0} → Result T NodeNo → Type 0
   Aside result = IsDenial told sysa.0 lines front batches a a' b b' v v' result
 
@@ -585,7 +585,7 @@ loss_step_of done told dev Q per at front batches a a' b b' v v' course left los
 
 -- A STEP FOR WHICH MEMORY WANTS, BEFORE ANYTHING IS DONE
 
-pub unplayed_step_of : {T : Type 0} (told : Type 0) (turn : Turn) (Q : Queue) (per at : ℕ) (front batches : List Batch) (a b : Bool) (v : View) → batches ≡ front → ((d : Dev) (n : ℕ) → loses_after_step d turn n ≡ n) → FindsLost told v v per Q at turn
+pub unplayed_step_of : {T : Type 0} (told : Type 0) (turn : Turn) (Q : Queue) (per at : ℕ) (front batches : List Batch) (a b : Bool) (v : View) → batches ≡ front → ((d : Dev) (n : ℕ) → loses_after_step d turn n ≡ n) → FindsLost told v v per Q at turn (outcome_of Q at turn)
     → IsStepOf {T = T} told turn Q per at front batches a a b b v v (Err no_node.NoMemory)
 unplayed_step_of told turn Q per at front batches a b v same counts found = record {
   course = course_none a b v;

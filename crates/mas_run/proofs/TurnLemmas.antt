@@ -10,6 +10,7 @@ use Rattle.mas_types.specs.declared.jobs.JobFields.{JobFields}
 use Rattle.mas_types.specs.declared.journals.Entry.{Entry}
 use Rattle.mas_types.specs.declared.queues.Config.{Config}
 use Rattle.mas_types.specs.declared.queues.Queue.{Queue}
+use Rattle.mas_types.specs.Closings.{closing_line}
 use Rattle.mas_types.specs.Limits.{members_most}
 use Rattle.card_reader.specs.declared.decks.Refused.{Refused}
 use Rattle.card_reader.specs.Decks.{read_as, text_of}
@@ -21,17 +22,20 @@ use Rattle.script_lang.specs.declared.types.Ask.{Ask}
 use Rattle.script_lang.specs.declared.types.Ask.TheVariants as ask
 use Rattle.script_lang.specs.declared.types.Step.{Step}
 use Rattle.script_lang.specs.Asks.{units_most}
-use Rattle.spool_disk.specs.declared.plant.Part.TheVariants.{Disk}
+use Rattle.spool_disk.specs.declared.plant.Part.TheVariants.{Disk, Printer}
 use Rattle.spool_disk.specs.View.{View}
-use Rattle.spool_disk.specs.Acts.{Rose}
+use Rattle.spool_disk.specs.Acts.{Goes, Rose}
+use Rattle.ckpt_copy.specs.Moments.{goes_none, goes_on}
 use Rattle.first_script.specs.Played.{IsPlayed, MayPlay, sysa}
 use Rattle.mas_complex.specs.Meaning.{run}
 use Rattle.member_decks.specs.Decks.{all_entries}
 use Rattle.member_decks.specs.Steps.{IsFoundLost}
 use Rattle.member_work.specs.Looks.{Look}
-use Rattle.member_work.specs.Work.{work_batches, work_lines}
+use Rattle.member_work.specs.Work.{work_batches, work_closing, work_lines}
 use Rattle.member_work.proofs.CalmLemmas.{calm_work}
+use Rattle.member_work.proofs.CauseLemmas.{calm_close}
 use Rattle.member_work.proofs.RoundLemmas.{calm_seen}
+use Rattle.member_node.proofs.CourseLemmas.{rose_later, rose_more}
 use Rattle.member_steps.specs.Locked.{IsOpenTo}
 use Rattle.member_steps.proofs.LockLemmas.{refused_so, opens_again}
 use Rattle.mas_run.specs.Found.{FindNone}
@@ -123,20 +127,27 @@ all_awake config lost steps some none =
     awake_from config (new_book n config.hold config.dormancy) lost steps
     (subst (λ (d : ℕ). IsAwake (new_book n config.hold d)) (sym none) (awake_new n config.hold)) (begins_open n config.hold config.dormancy sysa (omega arith) (omega (arith, some)))
 
--- WITHOUT LOST VOLUMES
+-- WITHOUT A LOST VOLUME OR PRINTER
 
-module _ (told : Type 0) (old new : View) (per : ℕ) (tells : told) (sound : (volume : ℕ) → Rose (old.faults (Disk (Spool volume))) (new.faults (Disk (Spool volume))) → ⊥) where
+-- between the two no volume failed, nor the printer
+abbrev NoVolumeFailed : View → View → Type 0
+NoVolumeFailed old new = (volume : ℕ) → Rose (old.faults (Disk (Spool volume))) (new.faults (Disk (Spool volume))) → ⊥
+
+abbrev NoPrinterFailed : View → View → Type 0
+NoPrinterFailed old new = Rose (old.faults (Printer sysa)) (new.faults (Printer sysa)) → ⊥
+
+module _ (told : Type 0) (old new : View) (per : ℕ) (tells : told) (sound : NoVolumeFailed old new) (prints : NoPrinterFailed old new) where
   found_none : (lost : Option ℕ) → IsFoundLost lost old new → lost ≡ None
   found_none None found = refl
   found_none (Some volume) found = absurd (sound volume found.1)
 
-  module _ (Q : Queue) (at : ℕ) where
-    deck_task : (why : Option LockNo) (fields : JobFields) (text : List (List ℕ)) (lost : Option ℕ) → FindsLost told old new per Q at (task_turn why (Reads fields text lost))
+  module _ (Q : Queue) (at : ℕ) (o : Outcome) where
+    deck_task : (why : Option LockNo) (fields : JobFields) (text : List (List ℕ)) (lost : Option ℕ) → FindsLost told old new per Q at (task_turn why (Reads fields text lost)) o
         → outcome_of Q at (task_turn why (Reads fields text lost)) ≡ outcome_of Q at (task_turn why (Reads fields text None))
     deck_task None fields text lost found = ap (λ (l : Option ℕ). outcome_of Q at (Granted (Reads fields text l))) (found_none lost found.0)
     deck_task (Some why) fields text lost found = refl
 
-    deck_none : (why : Option LockNo) (text : List (List ℕ)) (lost : Option ℕ) (said : Result JobFields Refused) → FindsLost told old new per Q at (deck_turn why text lost said)
+    deck_none : (why : Option LockNo) (text : List (List ℕ)) (lost : Option ℕ) (said : Result JobFields Refused) → FindsLost told old new per Q at (deck_turn why text lost said) o
         → outcome_of Q at (deck_turn why text lost said) ≡ outcome_of Q at (deck_turn why text None said)
     deck_none why text lost (Err bad) found = refl
     deck_none why text lost (Ok fields) found = deck_task why fields text lost found
@@ -144,14 +155,14 @@ module _ (told : Type 0) (old new : View) (per : ℕ) (tells : told) (sound : (v
     outcome_with : List (List Entry) → List (List ℕ) → Outcome
     outcome_with gave lines = record { batches = gave; lines = lines }
 
-    work_none : (why : Option LockNo) (n : ℕ) (looks : List Look) → FindsLost told old new per Q at (task_turn why (Works n looks)) → outcome_of Q at (task_turn why (Works n looks)) ≡ outcome_of Q at (task_turn why (Works n []))
+    work_none : (why : Option LockNo) (n : ℕ) (looks : List Look) → FindsLost told old new per Q at (task_turn why (Works n looks)) o → outcome_of Q at (task_turn why (Works n looks)) ≡ outcome_of Q at (task_turn why (Works n []))
     unfolding outcome_with
     work_none None n looks found =
-        let same = calm_work told per Q sysa at n looks old new tells sound (found tells) in
+        let same = calm_work told per Q sysa at n looks old new tells sound prints (found.1 tells) in
         ap (λ (gave : List (List Entry)). outcome_with gave (work_lines Q sysa at n looks)) same.0 ∙ ap (λ (lines : List (List ℕ)). outcome_with (work_batches Q sysa at n []) lines) same.1
     work_none (Some why) n looks found = refl
 
-    outcome_none : (config : Config) (why : Option LockNo) (seen : Sight) (what : Ask) → FindsLost told old new per Q at (turn_by config why seen what) → outcome_of Q at (turn_by config why seen what) ≡ outcome_of Q at (turn_by config why clear what)
+    outcome_none : (config : Config) (why : Option LockNo) (seen : Sight) (what : Ask) → FindsLost told old new per Q at (turn_by config why seen what) o → outcome_of Q at (turn_by config why seen what) ≡ outcome_of Q at (turn_by config why clear what)
     outcome_none config why seen (ask.Deck cards) found = deck_none why (text_of cards) seen.lost (read_as config.node cards) found
     outcome_none config why seen (ask.Command given) found = refl
     outcome_none config why seen (ask.Lose dev) found = refl
@@ -163,18 +174,44 @@ module _ (told : Type 0) (old new : View) (per : ℕ) (tells : told) (sound : (v
     outcome_none config why seen ask.Stop found = refl
     outcome_none config why seen (ask.StopIn fuse n) found = refl
 
-  outcomes_none : (config : Config) (b : Book) (seen : List Sight) (steps : List Step) (Q : Queue) (at : ℕ) → FindLost told old new per Q at (turns_from config b seen steps)
-      → outcomes_from Q at (turns_from config b seen steps) ≡ outcomes_from Q at (turns_from config b [] steps)
-  outcomes_none config b seen [] Q at found = refl
-  outcomes_none config b seen (s ∷ steps) Q at found =
-      let here = turn_at config b (get_or seen 0 clear) s.what in
-      let one = outcome_none Q at config (try_refusal b sysa false) (get_or seen 0 clear) s.what found.0 in
-      let more = outcomes_none config (book_after config b s.what) (drop 1 seen) steps (after_step Q at here) (at + 1) found.1 in
-      ap (λ (os : List Outcome). outcome_of Q at here ∷ os) more
-      ∙ ap (λ (o : Outcome). o ∷ outcomes_from (run Q (all_entries o.batches)) (at + 1) (turns_from config (book_after config b s.what) [] steps)) one
+-- nor in a part of it
+module _ (old mid new : View) (first : Goes old mid) (then_too : Goes mid new) where
+  less1 : NoVolumeFailed old new → NoVolumeFailed old mid
+  less1 sound v rose = sound v (rose_more (old.faults (Disk (Spool v))) (mid.faults (Disk (Spool v))) (new.faults (Disk (Spool v))) rose (then_too.faults (Disk (Spool v))))
+
+  less2 : NoVolumeFailed old new → NoVolumeFailed mid new
+  less2 sound v rose = sound v (rose_later (old.faults (Disk (Spool v))) (mid.faults (Disk (Spool v))) (new.faults (Disk (Spool v))) (first.faults (Disk (Spool v))) rose)
+
+  less3 : NoPrinterFailed old new → NoPrinterFailed old mid
+  less3 sound rose = sound (rose_more (old.faults (Printer sysa)) (mid.faults (Printer sysa)) (new.faults (Printer sysa)) rose (then_too.faults (Printer sysa)))
+
+  less4 : NoPrinterFailed old new → NoPrinterFailed mid new
+  less4 sound rose = sound (rose_later (old.faults (Printer sysa)) (mid.faults (Printer sysa)) (new.faults (Printer sysa)) (first.faults (Printer sysa)) rose)
+
+-- steps take a plant on
+found_goes : (told : Type 0) (per : ℕ) (steps : List Turn) (os : List Outcome) (Q : Queue) (at : ℕ) (old new : View) → FindLost told old new per Q at steps os → Goes old new
+found_goes told per [] [] Q at old new found = subst (λ (v : View). Goes old v) (sym found) (goes_none old)
+found_goes told per [] (o ∷ os) Q at old new found = absurd found
+found_goes told per (turn ∷ steps) [] Q at old new found = absurd found
+found_goes told per (turn ∷ steps) (o ∷ os) Q at old new found = goes_on old found.0 new found.1 (found_goes told per steps os (after_step Q at turn) (at + 1) found.0 new found.3)
+
+outcomes_none : (told : Type 0) (per : ℕ) (tells : told) (new : View) (config : Config) (b : Book) (seen : List Sight) (steps : List Step) (did : List Outcome) (Q : Queue) (at : ℕ) (old : View) → NoVolumeFailed old new → NoPrinterFailed old new
+    → FindLost told old new per Q at (turns_from config b seen steps) did → outcomes_from Q at (turns_from config b seen steps) ≡ outcomes_from Q at (turns_from config b [] steps)
+outcomes_none told per tells new config b seen [] did Q at old sound prints found = refl
+outcomes_none told per tells new config b seen (s ∷ steps) [] Q at old sound prints found = absurd found
+outcomes_none told per tells new config b seen (s ∷ steps) (o ∷ did) Q at old sound prints found =
+    let here = turn_at config b (get_or seen 0 clear) s.what in
+    let mid = found.0 in
+    let goes : Goes mid new = found_goes told per (turns_from config (book_after config b s.what) (drop 1 seen) steps) did (after_step Q at here) (at + 1) mid new found.3 in
+    let one = outcome_none told old mid per tells (less1 old mid new found.1 goes sound) (less3 old mid new found.1 goes prints) Q at o config (try_refusal b sysa false) (get_or seen 0 clear) s.what found.2 in
+    let more = outcomes_none told per tells new config (book_after config b s.what) (drop 1 seen) steps did (after_step Q at here) (at + 1) mid (less2 old mid new found.1 goes sound) (less4 old mid new found.1 goes prints) found.3 in
+    ap (λ (os : List Outcome). outcome_of Q at here ∷ os) more
+    ∙ ap (λ (p : Outcome). p ∷ outcomes_from (run Q (all_entries p.batches)) (at + 1) (turns_from config (book_after config b s.what) [] steps)) one
 
 pub all_sound : (told : Type 0) → FindNone told
-all_sound told config seen steps old new per Q tells sound found = outcomes_none told old new per tells sound config _ seen steps Q 1 found
+all_sound told config seen steps did old entry new per Q tells goes sound prints found =
+    let on : Goes entry new = found_goes told per (turns_from config _ seen steps) did Q 1 entry new found in
+    outcomes_none told per tells new config _ seen steps did Q 1 entry (less2 old entry new goes on sound) (less4 old entry new goes on prints) found
 
 -- STEPS THAT ARE PLAYED work at few units
 
@@ -219,39 +256,53 @@ turns_counted config b seen [] all = All-nil IsCounted
 turns_counted config b seen (s ∷ steps) all = All-cons IsCounted (turn_at config b (get_or seen 0 clear) s.what) (turns_from config (book_after config b s.what) (drop 1 seen) steps)
     (turn_counted (try_refusal b sysa false) config (get_or seen 0 clear) s.by s.what (All-head IsPlayed s steps all)) (turns_counted config (book_after config b s.what) (drop 1 seen) steps (All-tail IsPlayed s steps all))
 
--- steps that found no volume lost
-pub none_found : (told : Type 0) (old new : View) (per : ℕ) (config : Config) (b : Book) (steps : List Step) (Q : Queue) (at : ℕ) → FindLost told old new per Q at (turns_from config b [] steps)
-none_found told old new per config b [] Q at = tt
-none_found told old new per config b (s ∷ steps) Q at =
-    (one (try_refusal b sysa false) s.what, none_found told old new per config (book_after config b s.what) steps (after_step Q at (turn_at config b clear s.what)) (at + 1)) where
-      task_found : (why : Option LockNo) (fields : JobFields) (text : List (List ℕ)) → FindsLost told old new per Q at (task_turn why (Reads fields text None))
-      task_found None fields text = (tt, λ t. tt)
-      task_found (Some why) fields text = tt
+-- a step that isn't played finds nothing lost
+module _ (told : Type 0) (new : View) (per : ℕ) (R Q : Queue) (n at : ℕ) (numbered : at ≡ n) where
+  abbrev Clean : Turn → Type 0
+  Clean turn = FindsLost told new new per R n turn (outcome_of Q at turn)
 
-      deck_found : (why : Option LockNo) (text : List (List ℕ)) (said : Result JobFields Refused) → FindsLost told old new per Q at (deck_turn why text None said)
-      deck_found why text (Err bad) = tt
-      deck_found why text (Ok fields) = task_found why fields text
+  task_found : (why : Option LockNo) (fields : JobFields) (text : List (List ℕ)) → Clean (task_turn why (Reads fields text None))
+  task_found None fields text = (tt, λ t. tt)
+  task_found (Some why) fields text = tt
 
-      gives_found : (why : Option LockNo) (given : Command) → FindsLost told old new per Q at (task_turn why (Gives given))
-      gives_found None given = tt
-      gives_found (Some why) given = tt
+  deck_found : (why : Option LockNo) (text : List (List ℕ)) (said : Result JobFields Refused) → Clean (deck_turn why text None said)
+  deck_found why text (Err bad) = tt
+  deck_found why text (Ok fields) = task_found why fields text
 
-      command_found : (why : Option LockNo) (given : Command) (of : Option MemberId) → FindsLost told old new per Q at (command_turn config why given of)
-      command_found why given None = gives_found why given
-      command_found why given (Some of) = tt
+  gives_found : (why : Option LockNo) (given : Command) → Clean (task_turn why (Gives given))
+  gives_found None given = tt
+  gives_found (Some why) given = tt
 
-      work_found : (why : Option LockNo) (n : ℕ) → FindsLost told old new per Q at (task_turn why (Works n []))
-      work_found None n = λ t. calm_seen told per sysa at old new n Q
-      work_found (Some why) n = tt
+  command_found : (config : Config) (why : Option LockNo) (given : Command) (of : Option MemberId) → Clean (command_turn config why given of)
+  command_found config why given None = gives_found why given
+  command_found config why given (Some of) = tt
 
-      one : (why : Option LockNo) (what : Ask) → FindsLost told old new per Q at (turn_by config why clear what)
-      one why (ask.Deck cards) = deck_found why (text_of cards) (read_as config.node cards)
-      one why (ask.Command given) = command_found why given (resets given)
-      one why (ask.Lose dev) = tt
-      one why (ask.Work n) = work_found why n
-      one why ask.Lock = tt
-      one why ask.Free = tt
-      one why (ask.Line line) = tt
-      one why (ask.Replace copy) = tt
-      one why ask.Stop = tt
-      one why (ask.StopIn fuse n) = tt
+  work_found : (why : Option LockNo) (units : ℕ) → Clean (task_turn why (Works units []))
+  work_found None units = (
+    (work_closing Q sysa at units [], ap (λ (k : ℕ). closing_line sysa k (work_closing Q sysa at units []) ∷ []) numbered, calm_close units at Q sysa new new),
+    λ t. calm_seen told per sysa n new new units R,
+  )
+  work_found (Some why) units = tt
+
+  turn_found : (config : Config) (why : Option LockNo) (what : Ask) → Clean (turn_by config why clear what)
+  turn_found config why (ask.Deck cards) = deck_found why (text_of cards) (read_as config.node cards)
+  turn_found config why (ask.Command given) = command_found config why given (resets given)
+  turn_found config why (ask.Lose dev) = tt
+  turn_found config why (ask.Work units) = work_found why units
+  turn_found config why ask.Lock = tt
+  turn_found config why ask.Free = tt
+  turn_found config why (ask.Line line) = tt
+  turn_found config why (ask.Replace copy) = tt
+  turn_found config why ask.Stop = tt
+  turn_found config why (ask.StopIn fuse k) = tt
+
+-- steps that aren't played, and so found no volume lost
+pub none_found : (told : Type 0) (new : View) (per : ℕ) (config : Config) (b : Book) (steps : List Step) (R Q : Queue) (n at : ℕ) → at ≡ n → FindLost told new new per R n (turns_from config b [] steps) (outcomes_from Q at (turns_from config b [] steps))
+none_found told new per config b [] R Q n at numbered = refl
+none_found told new per config b (s ∷ steps) R Q n at numbered =
+    let turn = turn_at config b clear s.what in (
+      new,
+      goes_none new,
+      turn_found told new per R Q n at numbered config (try_refusal b sysa false) s.what,
+      none_found told new per config (book_after config b s.what) steps (after_step R n turn) (after_step Q at turn) (n + 1) (at + 1) (omega (arith, numbered)),
+    )

@@ -7,14 +7,18 @@ use Rattle.mas_types.specs.declared.commands.Command.{Command}
 use Rattle.mas_types.specs.declared.commands.Command.TheVariants as command
 use Rattle.mas_types.specs.declared.ids.JobNo.{JobNo}
 use Rattle.mas_types.specs.declared.ids.MemberId.{MemberId}
+use Rattle.mas_types.specs.declared.answers.Closing.{Closing}
+use Rattle.mas_types.specs.declared.ids.OutNo.{OutNo}
 use Rattle.mas_types.specs.declared.jobs.Job.{Job}
 use Rattle.mas_types.specs.declared.jobs.OutSpec.{OutSpec}
+use Rattle.mas_types.specs.declared.jobs.Output.{Output}
 use Rattle.mas_types.specs.declared.journals.Entry.{Entry}
 use Rattle.mas_types.specs.declared.queues.Queue.{Queue}
 use Rattle.mas_types.specs.declared.units.Unit as units
 use Rattle.mas_types.specs.declared.units.Unit.TheVariants as unit
 use Rattle.mas_types.specs.Lists.{tail}
-use Rattle.mas_types.specs.Queue.{job_at}
+use Rattle.mas_types.specs.Queue.{job_at, output_at}
+use Rattle.mas_types.specs.Units.{unit_of}
 use Rattle.queue_laws.proofs.SoundRemove.{length-filter_le}
 use Rattle.mas_complex.specs.Meaning.{step}
 use Rattle.member_decks.specs.Decks.{are_refused, given_in, takes}
@@ -24,9 +28,8 @@ use Rattle.work_units.specs.declared.outcomes.Outcome.{Outcome}
 use Rattle.work_units.specs.declared.outcomes.Outcome.TheVariants as outcome
 use Rattle.work_units.specs.declared.units.UnitEnd.{UnitEnd}
 use Rattle.work_units.specs.declared.units.UnitEnd.TheVariants as ends
-use Rattle.work_units.specs.Next.{next_unit}
-use Rattle.member_work.specs.Looks.{Look, first_look}
-use Rattle.member_work.specs.Units.{UnitPlay, drop_groups, ended_with, ending, groups_for_end, job_play, no_unit, one_command, outcome_for, outcome_play, spooled, taken, taken_queue, taking, unit_play}
+use Rattle.member_work.specs.Looks.{Look, first_look, read_of}
+use Rattle.member_work.specs.Units.{UnitPlay, chunk_end, drop_groups, ended_with, ending, groups_for_end, job_play, mark_play, no_unit, one_command, outcome_for, outcome_play, output_play, printed_end, spooled, taken, taken_queue, taking, unit_play}
 use Rattle.member_work.specs.Work.{Round, is_due, is_some_entry, left_between, left_in, parts_of, queue_behind, round_of, round_play, rounds, rounds_by, spent_between, spent_in, work_batches, written, written_between, written_in}
 
 module _ (by : MemberId) (at : ℕ) where
@@ -84,13 +87,24 @@ module _ (by : MemberId) (at : ℕ) where
       let has = outcome_has look.lost Q j.number (outcome_for runs look j) in
       (All-cons Of [] u.parts (All-nil IsIts) has.0, omega (arith, has.1))
 
+  mark_has : (Q : Queue) (n : JobNo) (i : OutNo) (last : ℕ) (end : Option Closing) → HasParts 1 (mark_play Q by at n i last end)
+  mark_has Q n i last None = one_has Q (command.Mark n i last)
+  mark_has Q n i last (Some end) = (one_part [] (All-nil IsIts), omega arith)
+
+  print_has : (Q : Queue) (look : Look) (found : Option Output) → HasParts 3 (option_map_or (output_play Q by at look) found no_unit)
+  print_has Q look None = none_has 3
+  print_has Q look (Some o) =
+      let u = mark_play Q by at o.job o.index (chunk_end Q by o) (printed_end look.printer (read_of look.read o.text)) in
+      let has = mark_has Q o.job o.index (chunk_end Q by o) (printed_end look.printer (read_of look.read o.text)) in
+      (All-cons Of [] u.parts (All-nil IsIts) has.0, omega (arith, has.1))
+
   command_has : (Q : Queue) (c : Command) → HasParts 3 (one_command Q by at c)
   command_has Q c = more_has 1 3 (one_command Q by at c) (omega arith) (one_has Q c)
 
   unit_has : (Q : Queue) (look : Look) (u : units.Unit) → HasParts 3 (unit_play Q by at look u)
-  unit_has Q look (unit.Print n i) = none_has 3
-  unit_has Q look (unit.Finish n i) = none_has 3
-  unit_has Q look unit.Pick = none_has 3
+  unit_has Q look (unit.Print n i) = print_has Q look (output_at Q n i)
+  unit_has Q look (unit.Finish n i) = command_has Q (command.Done n i)
+  unit_has Q look unit.Pick = command_has Q command.Pick
   unit_has Q look unit.Purge = command_has Q command.Purge
   unit_has Q look unit.Gather = command_has Q command.Gather
   unit_has Q look (unit.Run n) = job_has true Q look (job_at Q n)
@@ -106,7 +120,7 @@ module _ (by : MemberId) (at : ℕ) where
 
   parts_has : (rs : List Round) → All AreParts (parts_of by at rs)
   parts_has [] = All-nil AreParts
-  parts_has (r ∷ rs) = All-cons AreParts (round_play by at r).parts (parts_of by at rs) (unit_has r.queue r.look (next_unit r.queue by)) (parts_has rs)
+  parts_has (r ∷ rs) = All-cons AreParts (round_play by at r).parts (parts_of by at rs) (unit_has r.queue r.look (unit_of r.queue by)) (parts_has rs)
 
   by_few : (end : UnitEnd) (r : Round) (rs : List Round) (n : ℕ) → length rs ≤ n → length (rounds_by end r rs) ≤ suc n
   by_few ends.Done r rs n le = omega (arith, le)

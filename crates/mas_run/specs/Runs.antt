@@ -12,13 +12,14 @@ use Rattle.mas_types.specs.declared.queues.Queue.{Queue}
 use Rattle.mas_types.specs.Starts.{empty_queue, no_queue}
 use Rattle.script_lang.specs.declared.types.Script.{Script}
 use Rattle.spool_disk.specs.declared.plant.Part.TheVariants.{Disk}
-use Rattle.spool_disk.specs.View.{View, Line, disk_at, disk_now, Throughout}
-use Rattle.spool_disk.specs.Acts.{Rose, top, next}
+use Rattle.spool_disk.specs.View.{View, Line, disk_at, disk_now, paper_now, Throughout}
+use Rattle.spool_disk.specs.Acts.{Goes, Rose, top, next}
 use Rattle.ckpt_copy.specs.Areas.{reads}
 use Rattle.ckpt_copy.specs.Pages.{bytes_of}
 use Rattle.ckpt_pages.specs.declared.tables.Tables.{Tables}
 use Rattle.mas_types.specs.declared.ids.Page.{Page}
 use Rattle.mas_types.specs.Ids.{nobody}
+use Rattle.mas_types.specs.Sound.{IsSound}
 use Rattle.mas_complex.specs.Journals.{kept_all}
 use Rattle.mas_complex.specs.Meaning.{run}
 use Rattle.mas_complex.specs.Texts.{HasTexts, lost_now, spools_at}
@@ -31,6 +32,7 @@ use Rattle.warm_start.specs.Starting.{IsFound, IsUnfit, IsHeld}
 use Rattle.member_node.specs.Calls.{console_now}
 use Rattle.member_steps.specs.Saying.{torn}
 use Rattle.member_decks.specs.Batches.{AreAll, AreCut, AreSome, OneFlies}
+use Rattle.mas_complex.specs.Paper.{PaperKept}
 use Rattle.mas_complex.specs.Headline.{whole, IsCrashSafe, AreAlwaysAlike, AreTextsLeft, LeavesQueue, AreToldKept}
 use Rattle.first_script.specs.Played.{sysa}
 use Rattle.mas_run.specs.Turns.{Sight, Turn, turns_of}
@@ -188,19 +190,24 @@ pub record HavePassed (tells : Type 0) (asked : List Turn) (answer : Status) (fr
   pub unkept : answer ≡ status.BothLost → IsUnclosed asked kept closed history.begun
   -- its lines are those of the steps that are closed
   pub said : tells → Adds (lines_in (take closed did)) (lines_in (take kept did)) (console_now old) (console_now new) (answer ≡ status.ConsoleFault) (IsStopped old new)
-  -- a device is lost by a call as often as a step that was played says so, and a deck or work finds only a volume lost that failed and is lost
+  -- a device is lost by a call as often as a step that was played says so
   pub loses : tells → (d : Dev) → new.loses d ≡ loses_after d (take kept asked) (first d)
-  pub found : FindLost tells old new per from 1 asked
+  -- this is what the plant showed when the first step began; a deck or work finds only a volume or printer lost that failed in that step
+  pub entry : View
+  pub entered : (entry.now ≡ at) × Goes old entry
+  pub found : FindLost tells entry new per from 1 asked did
   -- a copy is left but where both are lost
   pub there : answer ≢ status.BothLost → ((new.lost (Disk Ckpt1) ≡ false) ⊎ (new.lost (Disk Ckpt2) ≡ false)) ⊎ HasLostSince first new
 
 -- What holds at each moment from a run's first on: a crash leaves the queue after what was kept, both copies read the same pages or
--- those on either side of the batch in flight, each text is left, and what is told is kept.
+-- those on either side of the batch in flight, each text is left, and what is told is kept; the lines that each kept Mark answered stand
+-- on paper, and each line that a printer has more is the next one of the output that is busy at its member.
 pub record IsSafe (tells : Type 0) (base : Queue) (journal : Journal) (since : ℕ) (new : View) : Type 0 where
   pub crash : tells → ∥ IsCrashSafe reads base journal since new ∥₁
   pub alike : tells → ∥ AreAlwaysAlike reads base journal since new ∥₁
   pub texts : tells → ∥ AreTextsLeft base since journal new ∥₁
   pub told : tells → AreToldKept journal since new
+  pub paper : tells → ∥ PaperKept base since journal.batches new ∥₁
 
 -- What was played, by a run on a base, whose journal had these batches then, on a plant that showed `old` before and `new`
 -- after it.
@@ -233,11 +240,14 @@ pub record IsRun (cold : Bool) (tells : Type 0) (script : Script) (answer : Stat
   -- before its first moment a device had been lost so often by a call: a warm start may have lost it once
   pub first : Dev → ℕ
   pub before : (d : Dev) → LosesFirst cold (old.loses d) (first d)
-  -- it began with its base, which the copies had then, and nothing was said before
+  -- it began with its base, which has the sound parts, and which the copies had then, and nothing was said before
   pub queue : HasBase cold tells script old new since first base
+  pub sound : IsSound base
   pub moment : (old.now ≤ since) × (since ≤ new.now)
   pub fresh : tells → ∥ LeavesQueue reads base since new ∥₁
   pub quiet : tells → (new.world since).console ≡ console_now old
+  -- nor printed in a cold run
+  pub dry : tells → cold ≡ true → (m : ℕ) → (new.world since).paper m ≡ paper_now old m
   pub held : tells → IsKeptUntil cold since old new
   -- and then its steps were played, each where the book of the lock gives it to the member; to the first ones the volumes gave this
   pub seen : List Sight

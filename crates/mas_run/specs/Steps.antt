@@ -11,13 +11,14 @@ use Rattle.mas_types.specs.declared.queues.Queue.{Queue}
 use Rattle.mas_types.specs.Closings.{closing_line}
 use Rattle.mas_types.specs.Owners.{groups_needed}
 use Rattle.spool_disk.specs.View.{View}
-use Rattle.spool_disk.specs.Acts.{next}
+use Rattle.spool_disk.specs.Acts.{Goes, next}
 use Rattle.mas_complex.specs.Meaning.{run}
 use Rattle.member_node.specs.Lines.{reply_lines}
 use Rattle.member_steps.specs.Locked.{denied_lines}
 use Rattle.member_steps.specs.Steps as command_step
 use Rattle.member_decks.specs.Decks.{all_entries, deck_batches, deck_lines, ends_as, lines_by}
 use Rattle.member_decks.specs.Steps.{AreOf, IsFoundLost, LiesOn, opened_queue}
+use Rattle.member_work.specs.Causes.{MayClose}
 use Rattle.member_work.specs.Rounds.{IsRound}
 use Rattle.member_work.specs.Steps.{levels_in}
 use Rattle.member_work.specs.Work.{rounds, work_batches, work_lines}
@@ -164,21 +165,31 @@ abbrev pub loses_after : Dev → List Turn → ℕ → ℕ
 loses_after d [] loses = loses
 loses_after d (turn ∷ steps) loses = loses_after d steps (loses_after_step d turn loses)
 
--- A deck that found a volume lost had its groups, one of which lies on it, and the volume failed and is lost; each volume has so many
--- groups. Work found what the volumes may give its units. What is said of the groups and of units is said where content is told.
-abbrev pub FindsLost : Type 0 → View → View → ℕ → Queue → ℕ → Turn → Type 0
-FindsLost told old new per Q at (Granted (Reads fields text lost)) = IsFoundLost lost old new × (told → LiesOn (ends_as Q sysa fields (groups_needed text)) per (opened_queue Q sysa at fields text) sysa text lost)
-FindsLost told old new per Q at (Granted (Gives given)) = Unit {0}
-FindsLost told old new per Q at (Granted (Works n looks)) = told → All (IsRound told per sysa at old new) (rounds n Q sysa at looks)
-FindsLost told old new per Q at (Denied why) = Unit {0}
-FindsLost told old new per Q at (Closed end) = Unit {0}
-FindsLost told old new per Q at (Loss dev) = Unit {0}
-FindsLost told old new per Q at Unplayed = Unit {0}
+-- Work of so many units closes with these lines: how many units are done, a refusal, or a text that is gone; or a volume or printer that
+-- was lost, which failed.
+abbrev pub ClosesAs : View → View → ℕ → ℕ → List (List ℕ) → Type 0
+ClosesAs old new n at lines = (end : Closing) × (lines ≡ closing_line sysa at end ∷ []) × MayClose n sysa end old new
 
--- so does each of the steps
-abbrev pub FindLost : Type 0 → View → View → ℕ → Queue → ℕ → List Turn → Type 0
-FindLost told old new per Q at [] = Unit {0}
-FindLost told old new per Q at (turn ∷ steps) = FindsLost told old new per Q at turn × FindLost told old new per (after_step Q at turn) (at + 1) steps
+-- A deck that found a volume lost had its groups, one of which lies on it, and the volume failed and is lost; each volume has so many
+-- groups. Work found what the volumes may give its units, and closed with a cause. What is said of the groups and of units is said where
+-- content is told.
+abbrev pub FindsLost : Type 0 → View → View → ℕ → Queue → ℕ → Turn → Outcome → Type 0
+FindsLost told old new per Q at (Granted (Reads fields text lost)) o = IsFoundLost lost old new × (told → LiesOn (ends_as Q sysa fields (groups_needed text)) per (opened_queue Q sysa at fields text) sysa text lost)
+FindsLost told old new per Q at (Granted (Gives given)) o = Unit {0}
+FindsLost told old new per Q at (Granted (Works n looks)) o = ClosesAs old new n at o.lines × (told → All (IsRound told per sysa at old new) (rounds n Q sysa at looks))
+FindsLost told old new per Q at (Denied why) o = Unit {0}
+FindsLost told old new per Q at (Closed end) o = Unit {0}
+FindsLost told old new per Q at (Loss dev) o = Unit {0}
+FindsLost told old new per Q at Unplayed o = Unit {0}
+
+-- So does each of the steps, played one after another, in itself: between what the plant showed behind the step before it and what it
+-- showed behind this one.
+abbrev pub FindLost : Type 0 → View → View → ℕ → Queue → ℕ → List Turn → List Outcome → Type 0
+FindLost told old new per Q at [] [] = new ≡ old
+FindLost told old new per Q at [] (o ∷ os) = ⊥
+FindLost told old new per Q at (turn ∷ steps) [] = ⊥
+FindLost told old new per Q at (turn ∷ steps) (o ∷ os) =
+    (mid : View) × Goes old mid × FindsLost told old mid per Q at turn o × FindLost told mid new per (after_step Q at turn) (at + 1) steps os
 
 -- a step that leaves the volumes as they are: it reads no deck, doesn't work, and loses no volume
 abbrev pub LeavesVolumes : Turn → Type 0

@@ -59,6 +59,6 @@ pub record IsStepOf {T : Type 0} (told : Type 0) (turn : Turn) (Q : Queue) (per 
   pub more : List Batch
   pub are : batches ≡ front ++ more
   pub leaves : TurnLeaves result turn did.batches old.now new.now more
-  pub found : FindsLost told old new per Q at turn
+  pub found : FindsLost told old new per Q at turn did
   pub volumes : told → LeavesVolumes turn → AreVolumesKept old new
   pub console : told → StepTells result did.lines (AreAll sysa old.now new.now did.batches more) (console_now old) (console_now new)

@@ -24,7 +24,7 @@ use Rattle.script_lang.specs.declared.types.Step.{Step}
 use Rattle.mas_complex.specs.Locking.{book_of}
 use Rattle.member_work.specs.Looks.{Look}
 
--- what the spool volumes gave a step: the volume that its deck found lost, if one, and what each unit of its work found
+-- what the spool volumes and the printer gave a step: the volume that its deck found lost, if one, and what each unit of its work found
 pub record Sight : Type 0 where
   pub lost : Option ℕ
   pub looks : List Look
@@ -78,7 +78,7 @@ command_turn config why given (Some of) = Closed (no_reset config of)
 
 -- STEPS
 
--- A step of a run with this configuration, by the answer to a try, where the volumes give it this.
+-- A step of a run with this configuration, by the answer to a try, where volumes and printer give it this.
 abbrev pub turn_by : Config → Option LockNo → Sight → Ask → Turn
 turn_by config why seen (ask.Deck cards) = deck_turn why (text_of cards) seen.lost (read_as config.node cards)
 turn_by config why seen (ask.Command given) = command_turn config why given (resets given)
@@ -110,7 +110,7 @@ book_after config b (ask.Command given) = after_command b (resets given)
 book_after config b (ask.Work n) = after_tried b
 book_after config b _ = b
 
--- Steps one after another, from a book on, to each of which the volumes gave this; those behind them found nothing lost.
+-- Steps one after another, from a book on, to each of which volumes and printer gave this; those behind them found nothing lost.
 abbrev pub turns_from : Config → Book → List Sight → List Step → List Turn
 turns_from config b seen [] = []
 turns_from config b seen (step ∷ steps) = turn_at config b (get_or seen 0 clear) step.what ∷ turns_from config (book_after config b step.what) (drop 1 seen) steps

@@ -2,6 +2,7 @@
 ghost use Rattle.std.specs.Prelude.{◌≡◌, ◌≢◌, ◌⊎◌, ◌≤◌, ◌<◌, ◌^◌, [], List as ListOf, true, false, length, All, None};
 ghost use Rattle.mas_types.specs.Fit.{IsConfig};
 ghost use Rattle.mas_types.specs.Limits.{steps_most};
+ghost use Rattle.mas_types.specs.Sound.{IsSound};
 ghost use Rattle.mas_types.specs.declared.ids.Dev.TheVariants.{Ckpt1, Ckpt2};
 ghost use Rattle.mas_types.specs.declared.ids.Dev.{Dev};
 ghost use Rattle.spool_disk.specs.declared.plant.Part.TheVariants.{Disk};
@@ -65,6 +66,7 @@ fn play_reset<P: Plant + Drop>(
 ) -> Ended<P>
     requires lock { IsOpenTo found.complex.book found.complex.reserved sysa }
     requires config { IsConfig found.complex.base.config }
+    requires base_sound { IsSound found.complex.base }
     requires few { length asked.now ≤ steps_most }
     requires may { All IsPlayed asked.now }
     requires roomy { P.tells → AreRoomy (P.view found.complex.plant) found.complex.base.config }

@@ -1,10 +1,10 @@
 //! A script that is played from an empty queue.
 ghost use Rattle.std.specs.Prelude.{◌≡◌, ◌⊎◌, ◌+◌, ◌≤◌, ◌<◌, ◌^◌, [], List as ListOf, ℕ, true, false, length, All, IfOk, IfErr, OnOk, None, Some};
 ghost use Rattle.mas_types.specs.Starts.{empty_queue as queue_without_jobs};
-ghost use Rattle.mas_types.specs.Fit.{AreDistinct, IsConfig};
-ghost use Rattle.mas_types.specs.Ids.{same_number};
+ghost use Rattle.mas_types.specs.Fit.{IsConfig};
 ghost use Rattle.mas_types.specs.Limits.{routes_most, steps_most};
 ghost use Rattle.mas_types.specs.Lists.{first_some};
+ghost use Rattle.mas_types.specs.Sound.{IsSound};
 ghost use Rattle.mas_types.specs.declared.ids.Dev.TheVariants.{Ckpt1, Ckpt2};
 ghost use Rattle.mas_types.specs.declared.ids.Dev.{Dev};
 ghost use Rattle.mas_types.specs.declared.answers.CopyState.{CopyState};
@@ -120,7 +120,7 @@ pub(crate) fn play_asked<P: Plant + Drop>(
     requires lock { IsOpenTo run.complex.book run.complex.reserved sysa }
     requires config { IsConfig run.complex.base.config }
     requires few { length asked.now ≤ steps_most }
-    requires numbers { AreDistinct (λ a b. same_number a.number b.number) run.complex.base.jobs }
+    requires base_sound { IsSound run.complex.base }
     requires may { All IsPlayed asked.now }
     requires roomy { P.tells → AreRoomy (P.view run.complex.plant) run.complex.base.config }
     requires at_lock { IsAtLock run.complex.current run.complex.placed run.member.batch run.member.checkpoint run.member.room }

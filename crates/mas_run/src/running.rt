@@ -2,9 +2,9 @@
 ghost use Rattle.std.specs.Prelude.{◌≡◌, ◌+◌, ◌≤◌, ◌<◌, ◌^◌, List, length, true, false, None, OnOk, All};
 ghost use Rattle.mas_types.specs.declared.ids.Dev.TheVariants.{Ckpt1, Ckpt2};
 ghost use Rattle.mas_types.specs.declared.journals.Entry.{Entry};
-ghost use Rattle.mas_types.specs.Fit.{AreDistinct, IsConfig, IsFit};
-ghost use Rattle.mas_types.specs.Ids.{same_number};
+ghost use Rattle.mas_types.specs.Fit.{IsConfig, IsFit};
 ghost use Rattle.mas_types.specs.Limits.{steps_most};
+ghost use Rattle.mas_types.specs.Sound.{IsSound};
 ghost use Rattle.spool_disk.specs.View.{disk_now};
 ghost use Rattle.duplex_pair.specs.Halves.{SomeAlive};
 ghost use Rattle.first_script.specs.Commands.{is_typed};
@@ -119,7 +119,7 @@ impl<P: Plant + Drop, C: Steady + Drop> Running<P, C> {
         requires lock { IsOpenTo self.old.complex.book self.old.complex.reserved sysa }
         requires config { IsConfig self.old.complex.base.config }
         requires units { IsCount units }
-        requires numbers { AreDistinct (λ a b. same_number a.number b.number) self.old.complex.base.jobs }
+        requires base_sound { IsSound self.old.complex.base }
         requires since { self.old.complex.since ≤ (P.view self.old.complex.plant).now }
         requires roomy { P.tells → AreRoomy (P.view self.old.complex.plant) self.old.complex.base.config }
         requires untold { P.tells → (es : List Entry) → AreOf sysa step es → IsUntold (setting C.reads self.old.complex.base self.old.complex.since) (P.view self.old.complex.plant) es }
@@ -338,7 +338,7 @@ impl<P: Plant + Drop, C: Steady + Drop> Running<P, C> {
         requires id { self.old.member.id ≡ sysa }
         requires lock { IsOpenTo self.old.complex.book self.old.complex.reserved sysa }
         requires config { IsConfig self.old.complex.base.config }
-        requires numbers { AreDistinct (λ a b. same_number a.number b.number) self.old.complex.base.jobs }
+        requires base_sound { IsSound self.old.complex.base }
         requires may { IsPlayed asked.now }
         requires since { self.old.complex.since ≤ (P.view self.old.complex.plant).now }
         requires roomy { P.tells → AreRoomy (P.view self.old.complex.plant) self.old.complex.base.config }
@@ -388,7 +388,7 @@ impl<P: Plant + Drop, C: Steady + Drop> Running<P, C> {
         requires lock { IsOpenTo self.old.complex.book self.old.complex.reserved sysa }
         requires config { IsConfig self.old.complex.base.config }
         requires few { length asked.now ≤ steps_most }
-        requires numbers { AreDistinct (λ a b. same_number a.number b.number) self.old.complex.base.jobs }
+        requires base_sound { IsSound self.old.complex.base }
         requires may { All IsPlayed asked.now }
         requires since { self.old.complex.since ≤ (P.view self.old.complex.plant).now }
         requires quiet { P.tells → ((P.view self.old.complex.plant).world self.old.complex.since).console ≡ console_now (P.view self.old.complex.plant) }

@@ -100,7 +100,8 @@ pub fn play_steps<P: Plant + Drop>(alloc: Global, cold: bool, script: Script, pl
 /// needs, in a batch; the text is written into them and synced; and the job is entered, in a second batch. After a refused Take, or where
 /// a volume of one of the groups failed, the job is dropped. A command is done in one batch; the reset of a member is refused, as each is
 /// up. Work does at most so many units, one after another, up to one that is refused or to where none applies; what it did is kept before a
-/// text is read or written, where the lock's hold is spent, and at its end. A batch is kept once each copy that is left has it, and the lines of its step are said then, those of a display first and the
+/// text is read or written, where the lock's hold is spent, and at its end. The lines of an output are printed from its mark on, in their
+/// order, and then marked. A batch is kept once each copy that is left has it, and the lines of its step are said then, those of a display first and the
 /// closing line last. A step takes the lock of the checkpoint and gives it up at its end. Where the configuration has a dormancy, a step that comes too early
 /// closes with DORMANT and changes nothing. A copy that fails or is lost is left out, and the run goes on with the other.
 ///

@@ -11,6 +11,7 @@ use Rattle.spool_disk.specs.declared.plant.Part.TheVariants.{Disk as DiskPart, C
 use Rattle.mas_types.specs.Limits.{page_bytes}
 use Rattle.mas_types.specs.Starts.{no_queue}
 use Rattle.mas_complex.specs.Headline.{whole}
+use Rattle.mas_complex.specs.Paper.{SamePapers}
 use Rattle.spool_disk.specs.View.{View, World, Disk, Line, disk_at, disk_now}
 use Rattle.spool_disk.specs.Acts.{Goes}
 use Rattle.ckpt_copy.specs.Areas.{reads, areas_size}
@@ -42,6 +43,13 @@ on_device P tells lines v0 v1 v2 d told goes adds before t from le = ⊎_elim
     (λ late. subst P (sym (adds.disks told t (omega arith) le d)) (before v1.now goes.later (omega arith)))
     (either_way t v1.now)
 
+-- nothing is printed in looks, nor while lines are said
+papers_on : (tells : Type 0) (lines : List (List ℕ)) (v0 v1 v2 : View) → tells → Looks tells v0 v1 → Adds tells lines v1 v2 → SamePapers v0 v2
+papers_on tells lines v0 v1 v2 told looks adds t from le m = ⊎_elim
+    (λ early. ap (λ (w : World). w.paper m) (adds.goes.past t early) ∙ ((looks.during told).sides t from early).paper m)
+    (λ late. adds.papers told t (omega arith) le m ∙ ((looks.during told).sides v1.now looks.goes.later (omega arith)).paper m)
+    (either_way t v1.now)
+
 lost_on : (tells : Type 0) (lines : List (List ℕ)) (v0 v1 v2 : View) (d : Dev) → Adds tells lines v1 v2 → (v1.lost (DiskPart d) ≡ v0.lost (DiskPart d)) ⊎ HasFailed d v0 v1
     → (v2.lost (DiskPart d) ≡ v0.lost (DiskPart d)) ⊎ HasFailed d v0 v2
 lost_on tells lines v0 v1 v2 d adds before = ⊎_elim
@@ -53,6 +61,7 @@ pub no_device : (tells : Type 0) (lines : List (List ℕ)) (v0 v1 v2 : View) →
 no_device tells lines v0 v1 v2 looks adds = record {
   first = λ told. on_device (NoMore (disk_now v0 Ckpt1)) tells lines v0 v1 v2 Ckpt1 told looks.goes adds (looks.during told).first;
   second = λ told. on_device (NoMore (disk_now v0 Ckpt2)) tells lines v0 v1 v2 Ckpt2 told looks.goes adds (looks.during told).second;
+  papers = λ told. papers_on tells lines v0 v1 v2 told looks adds;
   others = λ told t from le d one two. on_device (λ (disk : Disk). disk ≡ disk_now v0 d) tells lines v0 v1 v2 d told looks.goes adds (λ s at to. (looks.during told).others s at to d one two) t from le;
   loses = λ d. adds.loses d ∙ looks.loses d;
   stops = λ m. adds.stops m ∙ looks.stops m;

@@ -13,6 +13,7 @@ use Rattle.spool_disk.specs.Acts.{Rose}
 use Rattle.ckpt_copy.specs.Areas.{reads, areas_size}
 use Rattle.ckpt_copy.specs.Changes.{NoMore}
 use Rattle.mas_complex.specs.Headline.{whole}
+use Rattle.mas_complex.specs.Paper.{SamePapers}
 use Rattle.warm_start.specs.declared.choosing.StartNo.{StartNo}
 use Rattle.warm_start.specs.Inspecting.{HasFailed, HasFound, FindsNone}
 use Rattle.queue_report.specs.Reports.{report_lines}
@@ -20,11 +21,13 @@ use Rattle.mas_run.specs.Runs.{has_begun}
 use Rattle.member_node.specs.Calls.{console_now}
 use Rattle.mas_run.specs.Unstarted.{status_of_start}
 
--- At each moment no byte of a device has changed, and no device is lost but a copy of the checkpoint on which an act failed.
+-- At each moment no byte of a device has changed, and each printer has the lines that it had; no device is lost but a copy of the
+-- checkpoint on which an act failed.
 pub record ChangesNoDevice (tells : Type 0) (old new : View) : Type 0 where
   pub first : tells → Throughout old.now new.now (λ t. NoMore (disk_now old Ckpt1) (disk_at new t Ckpt1))
   pub second : tells → Throughout old.now new.now (λ t. NoMore (disk_now old Ckpt2) (disk_at new t Ckpt2))
   pub others : tells → Throughout old.now new.now (λ t. (d : Dev) → d ≢ Ckpt1 → d ≢ Ckpt2 → disk_at new t d ≡ disk_now old d)
+  pub papers : tells → SamePapers old new
   pub loses : (d : Dev) → new.loses d ≡ old.loses d
   pub stops : (m : ℕ) → new.stops m ≡ old.stops m
   pub lost1 : (new.lost (Disk Ckpt1) ≡ old.lost (Disk Ckpt1)) ⊎ HasFailed Ckpt1 old new

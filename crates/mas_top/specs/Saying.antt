@@ -8,15 +8,17 @@ use Rattle.spool_disk.specs.declared.plant.Part.TheVariants.{Console}
 use Rattle.spool_disk.specs.View.{View, disk_at, disk_now, Throughout}
 use Rattle.spool_disk.specs.Acts.{Goes, Rose}
 use Rattle.mas_complex.specs.Headline.{whole}
+use Rattle.mas_complex.specs.Paper.{SamePapers}
 use Rattle.member_node.specs.Calls.{console_now}
 
--- These lines were added to the console, whole, and nothing else changed.
+-- These lines were added to the console, whole, and neither a device nor a printer changed.
 pub record Adds (tells : Type 0) (lines : List (List ℕ)) (old new : View) : Type 0 where
   pub goes : Goes old new
   pub lost : (p : Part) → p ≢ Console → new.lost p ≡ old.lost p
   pub loses : (d : Dev) → new.loses d ≡ old.loses d
   pub stops : (m : ℕ) → new.stops m ≡ old.stops m
   pub disks : tells → Throughout old.now new.now (λ t. (d : Dev) → disk_at new t d ≡ disk_now old d)
+  pub papers : tells → SamePapers old new
   pub console : tells → console_now new ≡ console_now old ++ map whole lines
 
 -- the lines up to one for which the console failed

@@ -42,10 +42,38 @@ pub(crate) fn append<F: Write + Seek>(file: &mut F, bytes: &[u8]) -> io::Result<
     file.write_all(bytes)
 }
 
-// Adds a line at the end of a file.
-pub(crate) fn append_line<F: Write + Seek>(file: &mut F, line: &[u8]) -> io::Result<()> {
-    append(file, line)?;
-    file.write_all(b"\n")
+// A line of fewer bytes is written with its end at once.
+const LINE_MOST: usize = 512;
+
+// A file ends with the end of a line, or is empty.
+fn ends_a_line<F: Read + Seek>(file: &mut F) -> io::Result<bool> {
+    let end = file.seek(SeekFrom::End(0))?;
+    if end == 0 {
+        return Ok(true);
+    }
+    file.seek(SeekFrom::Start(end - 1))?;
+    let mut last = [0];
+    read_full(file, &mut last)?;
+    Ok(last[0] == b'\n')
+}
+
+// A line and its end.
+fn append_whole<F: Write + Seek>(file: &mut F, line: &[u8]) -> io::Result<()> {
+    if line.len() >= LINE_MOST {
+        append(file, line)?;
+        return file.write_all(b"\n");
+    }
+    let mut whole = [b'\n'; LINE_MOST];
+    whole[..line.len()].copy_from_slice(line);
+    append(file, &whole[..line.len() + 1])
+}
+
+// Adds a line at the end of a file. One before it that was cut off gets its end first.
+pub(crate) fn append_line<F: Read + Write + Seek>(file: &mut F, line: &[u8]) -> io::Result<()> {
+    if !ends_a_line(file)? {
+        append(file, b"\n")?;
+    }
+    append_whole(file, line)
 }
 
 // The next bytes of a file, as many as one read gives.

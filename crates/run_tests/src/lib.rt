@@ -11,6 +11,8 @@ mod pages;
 #[cfg(test)]
 mod playing;
 #[cfg(test)]
+mod printing;
+#[cfg(test)]
 mod runs;
 #[cfg(test)]
 mod starts;

@@ -8,29 +8,30 @@ use std::test::Fail;
 
 const CHOICES: [Choice; 3] = [Choice::Old, Choice::New, Choice::Ones];
 
-/// Scripts that work at a job, and the line of its one output: what it prints, what is listed of a JCL error, and of a scan.
+/// Scripts that work at a job until its one output waits for a printer, and the line of that: what it prints, what is listed of a JCL error, and
+/// of a scan.
 const LISTED: [(&[u8], &[u8]); 3] = [
     (
-        b"SYSA DECK\n//COPY JOB (1),'ME',CLASS=A,MSGCLASS=A,MSGLEVEL=(1,1)\n//S1 EXEC PGM=IEBGENER\n//SYSPRINT DD SYSOUT=*\n//SYSIN DD DUMMY\n//SYSUT1 DD *\nHELLO\n/*\n//SYSUT2 DD SYSOUT=A\n//\n++END\nSYSA WORK 9\n",
+        b"SYSA DECK\n//COPY JOB (1),'ME',CLASS=A,MSGCLASS=A,MSGLEVEL=(1,1)\n//S1 EXEC PGM=IEBGENER\n//SYSPRINT DD SYSOUT=*\n//SYSIN DD DUMMY\n//SYSUT1 DD *\nHELLO\n/*\n//SYSUT2 DD SYSOUT=(A,,OWN)\n//\n++END\nSYSA WORK 9\n",
         b"HELLO",
     ),
     (
-        b"SYSA DECK\n//B JOB\n//S EXEC PGM=NOPE\n++END\nSYSA WORK 9\n",
+        b"SYSA DECK\n//B JOB\n//S EXEC PGM=NOPE\n++END\nSYSA WORK 3\n",
         b"JCL ERROR CARD 2 PGM",
     ),
     (
-        b"SYSA DECK\n//B JOB TYPRUN=SCAN\n//S EXEC PGM=IEFBR14\n++END\nSYSA WORK 9\n",
+        b"SYSA DECK\n//B JOB TYPRUN=SCAN\n//S EXEC PGM=IEFBR14\n++END\nSYSA WORK 3\n",
         b"NO ERROR",
     ),
 ];
 
-/// A job that may be executed again.
+/// A job that may be executed again. Its output is on forms of its own, and waits for them.
 const AGAIN: &[u8] =
-    b"SYSA DECK\n//J JOB\n/*JOBPARM RESTART=Y\n//S EXEC PGM=IEBGENER\n//SYSUT1 DD *\nHELLO\n/*\n//SYSUT2 DD SYSOUT=A\n++END\nSYSA WORK 9\n";
+    b"SYSA DECK\n//J JOB\n/*JOBPARM RESTART=Y\n//S EXEC PGM=IEBGENER\n//SYSUT1 DD *\nHELLO\n/*\n//SYSUT2 DD SYSOUT=(A,,OWN)\n++END\nSYSA WORK 9\n";
 
 /// The same, but it may not.
 const ONCE: &[u8] =
-    b"SYSA DECK\n//J JOB\n/*JOBPARM RESTART=N\n//S EXEC PGM=IEBGENER\n//SYSUT1 DD *\nHELLO\n/*\n//SYSUT2 DD SYSOUT=A\n++END\nSYSA WORK 9\n";
+    b"SYSA DECK\n//J JOB\n/*JOBPARM RESTART=N\n//S EXEC PGM=IEBGENER\n//SYSUT1 DD *\nHELLO\n/*\n//SYSUT2 DD SYSOUT=(A,,OWN)\n++END\nSYSA WORK 9\n";
 
 /// What they print.
 const PRINTED: &[u8] = b"HELLO";

@@ -17,7 +17,6 @@ use Rattle.mas_types.specs.Limits.{pages_most}
 use Rattle.member_node.specs.declared.checkpoint.Checkpoint.{Checkpoint}
 use Rattle.member_node.specs.declared.member.NodeNo.TheVariants as no_node
 use Rattle.member_steps.proofs.PageLemmas.{few_pages}
-use Rattle.mas_run.proofs.NumberLemmas.{distinct_told}
 use Rattle.mas_run.proofs.ResetLemmas.{err_plays, reset_ended, reset_caused, reset_none, one_kept_now}
 use Rattle.mas_run.proofs.ScriptLemmas.{roomy_later}
 use Rattle.mas_run.proofs.VolumeLemmas.{kept_on}
@@ -37,7 +36,7 @@ returns-in_default-clause-steps g c =
     let head : P.tells → ∥ Headline reads x.base x.since J v ∥₁ = λ t. rw (e.base, e.since, e.plant) at (e.headline t) in
     let none : J.batches ≡ [] = e.journal ∙ none_out x.journal.batches x.journal.batches x.placed x.current refl c.requires.unplaced c.requires.none ∙ c.requires.journal in
     rw (e.status, e.base, e.since, e.plant)
-    (reset_ended {T = Unit {0}} P.tells x.base.config x.book c.args.asked.now x.base J x.since v v x.pair.first.alive x.pair.first.alive x.pair.second.alive x.pair.second.alive no_node.NoMemory c.requires.since c.requires.some c.requires.there1 c.requires.there2 head
+    (reset_ended {T = Unit {0}} P.tells x.base.config x.book c.args.asked.now x.base J x.since v v x.pair.first.alive x.pair.first.alive x.pair.second.alive x.pair.second.alive no_node.NoMemory c.requires.base_sound c.requires.since c.requires.some c.requires.there1 c.requires.there2 head
     (reset_none P.tells (begun v.now nobody restart_entries) J.batches x.pair.first.alive x.pair.second.alive v none))
 
 pub returns-in_default-clause-cause : goal.returns-in_default-clause-cause
@@ -92,7 +91,7 @@ returns-in-Err-clause-steps g c =
     let J = c.ended-in-Err.result.journal in
     let head : P.tells → ∥ Headline reads x.base x.since J w ∥₁ = λ t. rw (e.base, e.since, e.plant, k.base, k.since) at (e.headline t) in
     rw (e.status, c.status_of.ensures, e.base, e.since, e.plant, k.base, k.since)
-    (reset_ended {T = Unit {0}} P.tells x.base.config x.book c.args.asked.now x.base J x.since v w x.pair.first.alive y.pair.first.alive x.pair.second.alive y.pair.second.alive c.in-Err.why c.requires.since c.requires.some c.requires.there1 c.requires.there2 head
+    (reset_ended {T = Unit {0}} P.tells x.base.config x.book c.args.asked.now x.base J x.since v w x.pair.first.alive y.pair.first.alive x.pair.second.alive y.pair.second.alive c.in-Err.why c.requires.base_sound c.requires.since c.requires.some c.requires.there1 c.requires.there2 head
     (rw e.journal k.reset))
 
 pub returns-in-Err-clause-kind : goal.returns-in-Err-clause-kind
@@ -120,8 +119,8 @@ play_asked-requires-clause-lock g c =
 pub play_asked-requires-clause-config : goal.play_asked-requires-clause-config
 play_asked-requires-clause-config g c = rw c.in-Ok-restart.ensures.base c.requires.config
 
-pub play_asked-requires-clause-numbers : goal.play_asked-requires-clause-numbers
-play_asked-requires-clause-numbers g c = rw c.in-Ok-restart.ensures.base (distinct_told c.args.found.tables c.args.found.complex.base c.requires.queue c.requires.sound)
+pub play_asked-requires-clause-base_sound : goal.play_asked-requires-clause-base_sound
+play_asked-requires-clause-base_sound g c = rw c.in-Ok-restart.ensures.base c.requires.base_sound
 
 pub play_asked-requires-clause-roomy : goal.play_asked-requires-clause-roomy
 play_asked-requires-clause-roomy g c told =

@@ -2,6 +2,7 @@ use Rattle.std.proofs.Common.{◌≡◌, ◌∙◌, ◌≤◌, min, ℕ, List, l
 use Rattle.std.proofs.Math.Logic.{∥∥₁_map}
 use Rattle.mas_types.specs.Fit.{IsConfig}
 use Rattle.mas_types.specs.Limits.{members_most}
+use Rattle.mas_types.specs.Sound.{IsSound}
 use Rattle.mas_types.specs.declared.ids.Dev.TheVariants.{Ckpt1, Ckpt2}
 use Rattle.mas_types.specs.declared.queues.Config.{Config}
 use Rattle.mas_types.specs.declared.queues.Queue.{Queue}
@@ -77,6 +78,9 @@ pub play_reset-requires-clause-config : goal.play_reset-requires-clause-config
 play_reset-requires-clause-config g c =
     let s = c.in-Ok.ensures.started in
     subst IsConfig (sym s.tells_base.config) s.usable.0.fit.shape.config
+
+pub play_reset-requires-clause-base_sound : goal.play_reset-requires-clause-base_sound
+play_reset-requires-clause-base_sound g c = c.in-Ok.ensures.started.base_sound
 
 pub play_reset-requires-clause-roomy : goal.play_reset-requires-clause-roomy
 play_reset-requires-clause-roomy g c told =
@@ -235,9 +239,11 @@ returns-clause-run g c begun =
         kept1 = λ t. kept_later reads Ckpt1 v0 v1 v2 w.pages (v1.loses Ckpt1) goes (s.kept1 t);
         kept2 = λ t. kept_later reads Ckpt2 v0 v1 v2 w.pages (v1.loses Ckpt2) goes (s.kept2 t);
       };
+      sound = subst IsSound (sym base0) s.base_sound;
       moment = (omega (arith, since, s.starts.goes.later), omega (arith, since, goes.later));
       fresh = λ t. rw (base0, since) (∥∥₁_map (f.fresh t) (λ k. rw f.since at (k v2 goes)));
       quiet = λ t. ap (λ (n : ℕ). (v2.world n).console) since ∙ ap (λ (u : World). u.console) (goes.past v1.now (omega arith)) ∙ quiet t;
+      dry = λ t is. absurd (cc);
       held = λ t. rw since (held_until v0 v1 v2 (bytes_of w.pages) goes (s.held t));
       seen = played.0;
       steps = steps_since v0 v1 v2 s.starts.goes goes false P.tells (turns_of z.base.config played.0 script.steps) z.status z.base z.journal z.since v1.loses quiet (λ t. (s.held t).volumes) played.1;

@@ -25,7 +25,7 @@ returns-clause-play g c =
     let has : HasPlay P.tells from x.base.config x.book c.args.asked.now x.journal.batches J.batches x.pair.first.alive y.pair.first.alive x.pair.second.alive y.pair.second.alive v w c.play_steps-answer.result =
     subst (λ (bs : List Batch). HasPlay P.tells from x.base.config x.book c.args.asked.now x.journal.batches bs x.pair.first.alive y.pair.first.alive x.pair.second.alive y.pair.second.alive v w c.play_steps-answer.result) (sym e.journal) d.played in
     rw (e.status, c.status_of.ensures, e.base, e.since, e.plant, d.base, d.since)
-    (play_of_steps P.tells x.book c.args.asked.now x.base x.journal.batches J x.since v w x.pair.first.alive y.pair.first.alive x.pair.second.alive y.pair.second.alive head c.requires.there1 c.requires.there2 c.play_steps-answer.result has)
+    (play_of_steps P.tells x.book c.args.asked.now x.base x.journal.batches J x.since v w x.pair.first.alive y.pair.first.alive x.pair.second.alive y.pair.second.alive c.requires.base_sound head c.requires.there1 c.requires.there2 c.play_steps-answer.result has)
 
 pub returns-clause-cause : goal.returns-clause-cause
 returns-clause-cause g c =

@@ -28,10 +28,8 @@ use Rattle.mas_run.specs.Statuses.{IsCausedFrom}
 use Rattle.first_script.specs.Played.{sysa}
 use Rattle.mas_run.specs.Turns.{Sight, turns_from, turns_of}
 use Rattle.mas_run.proofs.LockLemmas.{begins_open}
-use Rattle.mas_types.specs.Fit.{AreDistinct}
-use Rattle.mas_types.specs.Ids.{same_number}
 use Rattle.mas_types.specs.Limits.{members_most}
-use Rattle.mas_run.proofs.RunLemmas.{begun_empty, caused_unformed, cold_steps, steps_since, none_kept, caused_since, formed_copy, empty_texts, low_empty, sound_empty, told_empty}
+use Rattle.mas_run.proofs.RunLemmas.{begun_empty, caused_unformed, cold_steps, steps_since, none_kept, caused_since, formed_copy, empty_texts, low_empty, sound_base, sound_empty, told_empty}
 use Rattle.mas_run.proofs.ScriptLemmas.{roomy_later}
 use Rattle.mas_run.proofs.VolumeLemmas.{kept_on}
 use Rattle.mas_run.proofs.WarmLemmas.{no, play_begins, play_not_text}
@@ -164,8 +162,8 @@ play_asked-requires-clause-sound g c told =
     told_sound k.tables (run y.base (kept_all y.journal.batches)) (sound_empty config routes k.tables c.in-Ok.ensures.tables c.requires.fits.config c.requires.fits.few (c.law_of_told_queues.ensures.empty config routes))
     (subst (λ (bs : List Batch). Tell k.tables (run y.base (kept_all bs))) (sym m.journal) (subst (Tell k.tables) (sym m.base) told_base))
 
-pub play_asked-requires-clause-numbers : goal.play_asked-requires-clause-numbers
-play_asked-requires-clause-numbers g c = subst (λ (q : Queue). AreDistinct (λ a b. same_number a.number b.number) q.jobs) (sym (c.make-complex.ensures.base ∙ c.in-Ok.ensures.base)) tt
+pub play_asked-requires-clause-base_sound : goal.play_asked-requires-clause-base_sound
+play_asked-requires-clause-base_sound g c = sound_base c.args.script.now.config c.args.script.now.routes c.make-complex.result.base (c.make-complex.ensures.base ∙ c.in-Ok.ensures.base) c.requires.fits.config c.requires.fits.few
 
 pub play_asked-requires-clause-own : goal.play_asked-requires-clause-own
 play_asked-requires-clause-own g c = ap (λ (q : Queue). q.config) (c.make-complex.ensures.base ∙ c.in-Ok.ensures.base) ∙ sym (ap (λ (t : Tables). t.config) c.in-Ok.ensures.tables)
@@ -225,9 +223,11 @@ returns-clause-run g c begun =
       first = v1.loses;
       before = f.acted.loses;
       queue = base ∙ c.in-Ok.ensures.base;
+      sound = sound_base c.args.script.now.config c.args.script.now.routes r.base (base ∙ c.in-Ok.ensures.base) c.requires.fits.config c.requires.fits.few;
       moment = (omega (arith, since, f.acted.goes.later), omega (arith, since, goes.later));
       fresh = λ t. rw (base, since) (∥∥₁_map (m.fresh t) (λ k. k w goes));
       quiet = λ t. ap (λ (n : ℕ). (w.world n).console) since ∙ ap (λ (u : World). u.console) (goes.past v1.now (omega arith)) ∙ quiet t;
+      dry = λ t is m. ap (λ (n : ℕ). (w.world n).paper m) since ∙ ap (λ (u : World). u.paper m) (goes.past v1.now (omega arith)) ∙ ((f.during t).sides v1.now f.acted.goes.later (omega arith)).paper m;
       held = λ t. tt;
       seen = seen;
       steps = steps_since v0 v1 w f.acted.goes goes true P.tells turns r.status r.base r.journal r.since v1.loses quiet (λ t. kept_on v0 v1 (f.during t).others)

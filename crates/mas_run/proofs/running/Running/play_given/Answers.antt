@@ -6,7 +6,7 @@ use Rattle.mas_complex.specs.Journals.{end_of, kept_all}
 use Rattle.mas_complex.specs.Meaning.{run}
 use Rattle.member_node.proofs.WriteLemmas.{none_out}
 use Rattle.member_steps.specs.Steps.{entry_of}
-use Rattle.mas_run.proofs.CommandLemmas.{may_played, of_one, ok_more, played}
+use Rattle.mas_run.proofs.CommandLemmas.{may_played, of_one, ok_more, played, typed_unmarked}
 use Rattle.mas_run.proofs.LockLemmas.{command_by_try, unplayed_task}
 use Rattle.mas_run.specs.Turns.{clear}
 use Rattle.mas_run.proofs.running.Running.play_given.Goals as goal
@@ -28,6 +28,9 @@ play_locked-requires-clause-giver g c = rw (c.requires.id, c.in-Ok.ensures) (pla
 
 pub play_locked-requires-clause-may_give : goal.play_locked-requires-clause-may_give
 play_locked-requires-clause-may_give g c = rw (c.requires.id, c.in-Ok.ensures) (may_played c.args.self.now.complex.base c.args.given.now c.requires.typed c.requires.no_reset c.requires.config.members.0)
+
+pub play_locked-requires-clause-unmarked : goal.play_locked-requires-clause-unmarked
+play_locked-requires-clause-unmarked g c = rw c.in-Ok.ensures (typed_unmarked c.args.given.now c.requires.typed)
 
 pub play_locked-requires-clause-untold : goal.play_locked-requires-clause-untold
 play_locked-requires-clause-untold g c told =

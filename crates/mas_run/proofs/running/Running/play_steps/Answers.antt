@@ -37,8 +37,8 @@ play_step-requires-clause-config g c = rw c.loop-step.invariant.base c.requires.
 pub play_step-requires-clause-may : goal.play_step-requires-clause-may
 play_step-requires-clause-may g c = subst IsPlayed (sym c.step-item.is) (c.requires.may c.loop-step.step-index c.step-item.result c.loop-step-test.true)
 
-pub play_step-requires-clause-numbers : goal.play_step-requires-clause-numbers
-play_step-requires-clause-numbers g c = rw c.loop-step.invariant.base c.requires.numbers
+pub play_step-requires-clause-base_sound : goal.play_step-requires-clause-base_sound
+play_step-requires-clause-base_sound g c = rw c.loop-step.invariant.base c.requires.base_sound
 
 pub play_step-requires-clause-since : goal.play_step-requires-clause-since
 play_step-requires-clause-since g c =

@@ -19,11 +19,8 @@ play_locked_work-requires-clause-by g c = rw c.requires.id (omega arith)
 pub play_locked_work-requires-clause-member : goal.play_locked_work-requires-clause-member
 play_locked_work-requires-clause-member g c = rw c.requires.id (sysa_there c.args.self.now.complex.base.config c.requires.config)
 
-pub play_locked_work-requires-clause-numbers : goal.play_locked_work-requires-clause-numbers
-play_locked_work-requires-clause-numbers g c told = c.requires.numbers
-
-pub play_locked_work-requires-clause-configured : goal.play_locked_work-requires-clause-configured
-play_locked_work-requires-clause-configured g c told = c.requires.config
+pub play_locked_work-requires-clause-base_sound : goal.play_locked_work-requires-clause-base_sound
+play_locked_work-requires-clause-base_sound g c told = c.requires.base_sound
 
 pub play_locked_work-requires-clause-untold : goal.play_locked_work-requires-clause-untold
 play_locked_work-requires-clause-untold g c told es of = c.requires.untold told es (subst (λ (m : MemberId). AreOf m c.args.step es) c.requires.id of)

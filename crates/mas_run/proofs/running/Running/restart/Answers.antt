@@ -21,7 +21,7 @@ use Rattle.member_node.specs.Reads.{AreLow}
 use Rattle.member_steps.proofs.ReadLemmas.{calm_rest, low_written, same_many, told_sound}
 use Rattle.member_steps.proofs.StepLemmas.{can_draw, journal_kept, level_most, step_texts}
 use Rattle.mas_run.specs.Resets.{restart_entries}
-use Rattle.mas_run.proofs.ResetLemmas.{low_first, none_untold, reset_done, reset_none, reset_written, restart_own, some_kept, tell_none}
+use Rattle.mas_run.proofs.ResetLemmas.{low_first, none_untold, reset_done, reset_none, reset_written, restart_begins, restart_own, some_kept, tell_none}
 use Rattle.mas_run.proofs.running.Running.restart.Goals as goal
 
 pub ready-requires-clause-may : goal.ready-requires-clause-may
@@ -74,6 +74,11 @@ write-requires-clause-replied g c told =
     let done : HasDone (run x.base (kept_all x.journal.batches)) c.give_restart.new.member.batch c.give_restart.new.member.checkpoint =
     c.in-Ok.ensures.done (run x.base (kept_all x.journal.batches)) (reset_done x.base x.journal.batches m.batch m.checkpoint c.requires.journal c.requires.at_lock.nothing c.requires.at_lock.drawn c.requires.fit c.requires.queue) in
     rw (c.ready.ensures.base, c.ready.ensures.kept, c.in-Ok-ready.ensures.reserved) (∣ done.replied ∣₁)
+
+pub write-requires-clause-allowed : goal.write-requires-clause-allowed
+write-requires-clause-allowed g c told =
+    let y = c.ready.new.complex in
+    restart_begins y.base y.journal.batches y.printed (entries_reserved y.reserved) (ap entries_reserved c.in-Ok-ready.ensures.reserved ∙ c.in-Ok.ensures.entries)
 
 pub write-requires-clause-texts : goal.write-requires-clause-texts
 write-requires-clause-texts g c told =
