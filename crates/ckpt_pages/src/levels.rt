@@ -1,12 +1,11 @@
 //! The levels of pages, and which pages differ.
 ghost use Rattle.std.specs.Prelude.{◌≡◌, ◌+◌, ◌*◌, ◌≤◌, ◌<◌, length, IfOk};
-ghost use Rattle.std.specs.Str.{bytes_eq};
 ghost use Rattle.lay_bytes.specs.Fields.{piece};
 ghost use Rattle.ckpt_pages.specs.Shape.{level_in, differing};
 ghost use Rattle.ckpt_pages.specs.Given.{levels_given, AreTheirLevels};
 ghost use Rattle.ckpt_pages.specs.Laws.{BeginsWithLevel, GivesLevels};
 
-use lay_bytes::read_u64;
+use lay_bytes::{is_same_page, read_u64};
 use mas_types::{Level, List, NoMemory, Page};
 use std::alloc::Global;
 
@@ -20,12 +19,6 @@ pub fn level_of(page0: &Page, page: u16) -> Level
     } else {
         read_u64(&page0.0, 1024 + 8 * page as usize)
     }
-}
-
-fn is_same_page(a: &Page, b: &Page) -> bool
-    ensures { result ≡ bytes_eq a.now.0 b.now.0 }
-{
-    a.0 == b.0
 }
 
 /// The numbers of page 0 and of the pages that differ, ascending.

@@ -4,7 +4,7 @@ use Rattle.std.specs.Prelude.{◌==◌, ◌&&◌}
 use Rattle.std.specs.List.{concat, slice_index}
 use Rattle.std.specs.Int.{w16, w32, w64, from_be_bytes, to_be_bytes}
 use Rattle.std.proofs.lemmas.Bool.{cases_eq}
-use Rattle.std.proofs.lemmas.List.{get_or-take, get_or-drop, length-append}
+use Rattle.std.proofs.lemmas.List.{get_or-take, get_or-drop, length-append, length-drop, drop_all, append-nil}
 use Rattle.std.proofs.lemmas.Bool.Decides.{nat_tests}
 use Rattle.std.proofs.lemmas.Nat.{from_be_bytes-to_be_bytes_2, from_be_bytes-to_be_bytes_4, from_be_bytes-to_be_bytes_8}
 use Rattle.mas_types.specs.declared.jobs.Phase.{Phase}
@@ -18,7 +18,7 @@ use Rattle.lay_bytes.specs.declared.fields.Field.TheVariants.{Half, Word, Long, 
 use Rattle.lay_bytes.specs.Bytes.{are_zeros}
 use Rattle.lay_bytes.specs.Fields.{piece, width_of, widths, may_stand, first_bad, pieces, is_between}
 use Rattle.lay_bytes.specs.Slots.{phase_number, phase_of, flag, has_flag, job_flags, job_fields, job_pieces, job_slot, job_in, output_fields, output_pieces, output_slot, output_in, owner_fields, owner_pieces, owner_entry, owner_in, owner_of, IsJobRec, IsOutRec, IsOwner, IfUsed, bad_field, bad_owner_field}
-use Rattle.lay_bytes.proofs.Pieces.{whole, test_cases, IsPiece, EachStands, AreSpelled, join_pieces, each_stands, spelled_again, byte_back, half_back, word_back, long_back, cons_same, between, is_least, is_most, both_true}
+use Rattle.lay_bytes.proofs.Pieces.{AreNext, in_turn, puts, puts_in_turn, test_cases, IsPiece, EachStands, AreSpelled, join_pieces, each_stands, spelled_again, byte_back, half_back, word_back, long_back, cons_same, between, is_least, is_most, both_true}
 use Rattle.lay_bytes.proofs.NameLemmas.{name_from, name_to}
 
 -- ---- a test of the numbers below a bound
@@ -518,59 +518,84 @@ bad_is fields slot n z h = rw z h
 
 -- ---- for the writers
 
--- the pieces as the code makes them
-abbrev pub written_job : JobRec → ℕ → ℕ → List ℕ → List ℕ → List ℕ → List (List ℕ)
-written_job j phase flags cards number order =
-    (phase ∷ []) ∷ (j.fields.class.0 ∷ []) ∷ (j.fields.prio.0 ∷ []) ∷ (flags ∷ []) ∷ (j.busy.0 ∷ []) ∷ (j.fields.msgclass.0 ∷ [])
-    ∷ cards ∷ number ∷ order ∷ j.fields.name.0 ∷ j.fields.dest.0 ∷ j.fields.node.0 ∷ j.fields.origin.0 ∷ replicate 204 0 ∷ []
+-- the pieces as the code writes them over zeros
+abbrev pub job_puts : JobRec → ℕ → ℕ → List ℕ → List ℕ → List ℕ → List (ℕ × List ℕ)
+job_puts j phase flags cards number order =
+    (0, phase ∷ j.fields.class.0 ∷ j.fields.prio.0 ∷ flags ∷ j.busy.0 ∷ j.fields.msgclass.0 ∷ []) ∷ (6, cards) ∷ (8, number) ∷ (12, order)
+    ∷ (20, j.fields.name.0) ∷ (28, j.fields.dest.0) ∷ (36, j.fields.node.0) ∷ (44, j.fields.origin.0) ∷ []
 
-abbrev pub written_output : OutRec → ℕ → List ℕ → List ℕ → List ℕ → List ℕ → List (List ℕ)
-written_output o flags job lines mark order =
-    (1 ∷ []) ∷ (o.class.0 ∷ []) ∷ (flags ∷ []) ∷ (o.busy.0 ∷ []) ∷ job ∷ (o.index.0 ∷ []) ∷ (o.copies ∷ [])
-    ∷ lines ∷ mark ∷ order ∷ o.dest.0 ∷ o.forms.0 ∷ replicate 88 0 ∷ []
+abbrev pub output_puts : OutRec → ℕ → List ℕ → List ℕ → List ℕ → List ℕ → List (ℕ × List ℕ)
+output_puts o flags job lines mark order =
+    (0, 1 ∷ o.class.0 ∷ flags ∷ o.busy.0 ∷ []) ∷ (4, job) ∷ (8, o.index.0 ∷ o.copies ∷ []) ∷ (10, lines) ∷ (12, mark) ∷ (16, order) ∷ (24, o.dest.0) ∷ (32, o.forms.0) ∷ []
 
-one_same : (a b : ℕ) → a ≡ b → a ∷ [] ≡ b ∷ []
-one_same a b e = ap (λ (n : ℕ). n ∷ []) e
+abbrev pub owner_puts : ℕ → ℕ → List ℕ → List ℕ → List (ℕ × List ℕ)
+owner_puts kind who place job = (0, kind ∷ who ∷ []) ∷ (2, place) ∷ (4, job) ∷ []
 
-pub job_written : (j : JobRec) (phase flags : ℕ) (cards number order old into : List ℕ) → length old ≡ 256
+abbrev zeros_to : ℕ → List ℕ
+zeros_to n = replicate n 0
+
+-- the zeros behind the last field of a job
+job_rest : (c n o a b d e : List ℕ) → length c ≡ 2 → length n ≡ 4 → length o ≡ 8 → length a ≡ 8 → length b ≡ 8 → length d ≡ 8 → length e ≡ 8
+    → drop (length e) (drop (length d) (drop (length b) (drop (length a) (drop (length o) (drop (length n) (drop (length c) (zeros_to 250))))))) ≡ zeros_to 204
+job_rest c n o a b d e hc hn ho ha hb hd he = rw (hc, hn, ho, ha, hb, hd, he) refl
+
+job_next : (j : JobRec) (phase flags : ℕ) (cards number order : List ℕ) → length cards ≡ 2 → length number ≡ 4 → length order ≡ 8
+    → length j.fields.name.0 ≡ 8 → length j.fields.dest.0 ≡ 8 → length j.fields.node.0 ≡ 8 → AreNext 0 (job_puts j phase flags cards number order)
+job_next j phase flags cards number order hc hn ho ha hb hd = (refl, (refl, (omega (arith, hc), (omega (arith, hc, hn), (omega (arith, hc, hn, ho), (omega (arith, hc, hn, ho, ha), (omega (arith, hc, hn, ho, ha, hb), (omega (arith, hc, hn, ho, ha, hb, hd), tt))))))))
+
+pub job_written : (j : JobRec) (phase flags : ℕ) (cards number order zeros into : List ℕ) → zeros ≡ replicate 256 0
     → length j.fields.name.0 ≡ 8 → length j.fields.dest.0 ≡ 8 → length j.fields.node.0 ≡ 8 → length j.fields.origin.0 ≡ 8
     → phase ≡ phase_number j.phase → flags ≡ job_flags j → cards ≡ to_be_bytes w16 j.cards → number ≡ to_be_bytes w32 j.number.0 → order ≡ to_be_bytes w64 j.order
-    → into ≡ concat (written_job j phase flags cards number order) ++ drop (length (concat (written_job j phase flags cards number order))) old
+    → into ≡ puts (job_puts j phase flags cards number order) zeros
     → into ≡ concat (job_pieces j)
-job_written j phase flags cards number order old into len a b c d e1 e2 e3 e4 e5 h =
-    let same : written_job j phase flags cards number order ≡ job_pieces j =
-    cons_same _ _ _ _ (one_same _ _ e1) (cons_same _ _ _ _ refl (cons_same _ _ _ _ refl (cons_same _ _ _ _ (one_same _ _ e2) (cons_same _ _ _ _ refl (cons_same _ _ _ _ refl
-    (cons_same _ _ _ _ e3 (cons_same _ _ _ _ e4 (cons_same _ _ _ _ e5 refl)))))))) in
-    let size : length (concat (job_pieces j)) ≡ 256 = (omega (
-      arith,
-      a,
-      b,
-      c,
-      d,
-      length-append j.fields.name.0 (j.fields.dest.0 ++ (j.fields.node.0 ++ (j.fields.origin.0 ++ (replicate 204 0 ++ [])))),
-      length-append j.fields.dest.0 (j.fields.node.0 ++ (j.fields.origin.0 ++ (replicate 204 0 ++ []))),
-      length-append j.fields.node.0 (j.fields.origin.0 ++ (replicate 204 0 ++ [])),
-      length-append j.fields.origin.0 (replicate 204 0 ++ []),
-    )) in
-    whole (concat (job_pieces j)) old into (size ∙ sym len) (h ∙ ap (λ (ps : List (List ℕ)). concat ps ++ drop (length (concat ps)) old) same)
+job_written j phase flags cards number order zeros into free ha hb hd he e1 e2 e3 e4 e5 h =
+    let hc : length cards ≡ 2 = ap length e3 in
+    let hn : length number ≡ 4 = ap length e4 in
+    let ho : length order ≡ 8 = ap length e5 in
+    let turn : puts (job_puts j phase flags cards number order) (replicate 256 0) ≡ in_turn (job_puts j phase flags cards number order) (replicate 256 0) =
+    puts_in_turn (job_puts j phase flags cards number order) 0 [] (replicate 256 0) refl (job_next j phase flags cards number order hc hn ho ha hb hd) in
+    let rest = job_rest cards number order j.fields.name.0 j.fields.dest.0 j.fields.node.0 j.fields.origin.0 hc hn ho ha hb hd he in
+    let text : in_turn (job_puts j phase flags cards number order) (replicate 256 0)
+    ≡ phase ∷ j.fields.class.0 ∷ j.fields.prio.0 ∷ flags ∷ j.busy.0 ∷ j.fields.msgclass.0
+    ∷ (cards ++ (number ++ (order ++ (j.fields.name.0 ++ (j.fields.dest.0 ++ (j.fields.node.0 ++ (j.fields.origin.0 ++ (replicate 204 0 ++ [])))))))) =
+    ap (λ (z : List ℕ). phase ∷ j.fields.class.0 ∷ j.fields.prio.0 ∷ flags ∷ j.busy.0 ∷ j.fields.msgclass.0
+    ∷ (cards ++ (number ++ (order ++ (j.fields.name.0 ++ (j.fields.dest.0 ++ (j.fields.node.0 ++ (j.fields.origin.0 ++ (z ++ []))))))))) rest in
+    h ∙ ap (puts (job_puts j phase flags cards number order)) free ∙ turn ∙ text ∙ (rw (e1, e2, e3, e4, e5) refl)
 
-pub output_written : (o : OutRec) (flags : ℕ) (job lines mark order old into : List ℕ) → length old ≡ 128
+output_rest : (j l m o a b : List ℕ) → length j ≡ 4 → length l ≡ 2 → length m ≡ 4 → length o ≡ 8 → length a ≡ 8 → length b ≡ 8
+    → drop (length b) (drop (length a) (drop (length o) (drop (length m) (drop (length l) (drop 2 (drop (length j) (zeros_to 124))))))) ≡ zeros_to 88
+output_rest j l m o a b hj hl hm ho ha hb = rw (hj, hl, hm, ho, ha, hb) refl
+
+output_next : (o : OutRec) (flags : ℕ) (job lines mark order : List ℕ) → length job ≡ 4 → length lines ≡ 2 → length mark ≡ 4 → length order ≡ 8 → length o.dest.0 ≡ 8
+    → AreNext 0 (output_puts o flags job lines mark order)
+output_next o flags job lines mark order hj hl hm ho ha = (refl, (refl, (omega (arith, hj), (omega (arith, hj), (omega (arith, hj, hl), (omega (arith, hj, hl, hm), (omega (arith, hj, hl, hm, ho), (omega (arith, hj, hl, hm, ho, ha), tt))))))))
+
+pub output_written : (o : OutRec) (flags : ℕ) (job lines mark order zeros into : List ℕ) → zeros ≡ replicate 128 0
     → length o.dest.0 ≡ 8 → length o.forms.0 ≡ 8
     → flags ≡ flag 1 o.held → job ≡ to_be_bytes w32 o.job.0 → lines ≡ to_be_bytes w16 o.lines → mark ≡ to_be_bytes w32 o.mark → order ≡ to_be_bytes w64 o.order
-    → into ≡ concat (written_output o flags job lines mark order) ++ drop (length (concat (written_output o flags job lines mark order))) old
+    → into ≡ puts (output_puts o flags job lines mark order) zeros
     → into ≡ concat (output_pieces o)
-output_written o flags job lines mark order old into len a b e1 e2 e3 e4 e5 h =
-    let same : written_output o flags job lines mark order ≡ output_pieces o =
-    cons_same _ _ _ _ refl (cons_same _ _ _ _ refl (cons_same _ _ _ _ (one_same _ _ e1) (cons_same _ _ _ _ refl (cons_same _ _ _ _ e2 (cons_same _ _ _ _ refl (cons_same _ _ _ _ refl
-    (cons_same _ _ _ _ e3 (cons_same _ _ _ _ e4 (cons_same _ _ _ _ e5 refl))))))))) in
-    let size : length (concat (output_pieces o)) ≡ 128 = (omega (
-      arith,
-      a,
-      b,
-      length-append o.dest.0 (o.forms.0 ++ (replicate 88 0 ++ [])),
-      length-append o.forms.0 (replicate 88 0 ++ []),
-    )) in
-    whole (concat (output_pieces o)) old into (size ∙ sym len) (h ∙ ap (λ (ps : List (List ℕ)). concat ps ++ drop (length (concat ps)) old) same)
+output_written o flags job lines mark order zeros into free ha hb e1 e2 e3 e4 e5 h =
+    let hj : length job ≡ 4 = ap length e2 in
+    let hl : length lines ≡ 2 = ap length e3 in
+    let hm : length mark ≡ 4 = ap length e4 in
+    let ho : length order ≡ 8 = ap length e5 in
+    let turn : puts (output_puts o flags job lines mark order) (replicate 128 0) ≡ in_turn (output_puts o flags job lines mark order) (replicate 128 0) =
+    puts_in_turn (output_puts o flags job lines mark order) 0 [] (replicate 128 0) refl (output_next o flags job lines mark order hj hl hm ho ha) in
+    let rest = output_rest job lines mark order o.dest.0 o.forms.0 hj hl hm ho ha hb in
+    let text : in_turn (output_puts o flags job lines mark order) (replicate 128 0)
+    ≡ 1 ∷ o.class.0 ∷ flags ∷ o.busy.0 ∷ (job ++ (o.index.0 ∷ o.copies ∷ (lines ++ (mark ++ (order ++ (o.dest.0 ++ (o.forms.0 ++ (replicate 88 0 ++ [])))))))) =
+    ap (λ (z : List ℕ). 1 ∷ o.class.0 ∷ flags ∷ o.busy.0 ∷ (job ++ (o.index.0 ∷ o.copies ∷ (lines ++ (mark ++ (order ++ (o.dest.0 ++ (o.forms.0 ++ (z ++ []))))))))) rest in
+    h ∙ ap (puts (output_puts o flags job lines mark order)) free ∙ turn ∙ text ∙ (rw (e1, e2, e3, e4, e5) refl)
+
+pub owner_written : (kind who : ℕ) (place job old into : List ℕ) → length old ≡ 8 → length place ≡ 2 → length job ≡ 4 → into ≡ puts (owner_puts kind who place job) old
+    → into ≡ (kind ∷ []) ++ (who ∷ []) ++ place ++ job
+owner_written kind who place job old into len hp hj h =
+    let turn : puts (owner_puts kind who place job) old ≡ in_turn (owner_puts kind who place job) old = puts_in_turn (owner_puts kind who place job) 0 [] old refl (refl, (refl, (omega (arith, hp), tt))) in
+    let over : drop (length job) (drop (length place) (drop 2 old)) ≡ [] = drop_all (length job) (drop (length place) (drop 2 old)) (omega (arith, len, hp, hj, length-drop (length place) (drop 2 old), length-drop 2 old)) in
+    let end : kind ∷ who ∷ (place ++ (job ++ (drop (length job) (drop (length place) (drop 2 old)) ++ []))) ≡ kind ∷ who ∷ (place ++ job) =
+    ap (λ (z : List ℕ). kind ∷ who ∷ (place ++ (job ++ (z ++ [])))) over ∙ ap (λ (z : List ℕ). kind ∷ who ∷ (place ++ z)) (append-nil job) in
+    h ∙ turn ∙ end
 
 -- ---- the lengths of slots
 

@@ -3,8 +3,9 @@ ghost use Rattle.std.specs.Prelude.{◌≡◌, ◌+◌, ◌≤◌, ◌<◌, ◌^
 ghost use Rattle.std.specs.List.{concat};
 ghost use Rattle.lay_bytes.specs.Fields.{piece, width_of as width_of_lem, widths, may_stand as may_stand_lem, first_bad};
 
-use crate::names::{is_class, is_classes, is_name, is_zero};
+use crate::names::{is_class, is_classes, is_name};
 use crate::numbers::{read_u16, read_u32, read_u64};
+use crate::runs::is_zero;
 use thiserror::Error;
 
 /// The field at this offset, in bytes from the first, is outside its range. It is the first such

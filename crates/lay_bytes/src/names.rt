@@ -3,7 +3,9 @@ ghost use Rattle.std.specs.Prelude.{◌≡◌, ◌&&◌, ◌≤◌, ◌==◌, le
 ghost use Rattle.std.specs.List.{list_all, list_any};
 ghost use Rattle.mas_types.specs.Names.{is_name_byte as is_name_byte_lem, is_name8};
 ghost use Rattle.mas_types.specs.Fit.{is_class_byte};
-ghost use Rattle.lay_bytes.specs.Bytes.{are_classes, are_different, are_zeros};
+ghost use Rattle.lay_bytes.specs.Bytes.{are_classes, are_different};
+
+use crate::runs::is_zero;
 
 /// Whether a byte may stand in a name.
 fn is_name_byte(byte: u8) -> bool
@@ -32,13 +34,6 @@ fn are_blanks(bytes: &[u8]) -> bool
     ensures { result ≡ list_all (λ b. b == 32) bytes.now }
 {
     bytes.iter().all(|b| *b == b' ')
-}
-
-/// Whether all bytes are zero.
-pub fn is_zero(bytes: &[u8]) -> bool
-    ensures { result ≡ are_zeros bytes.now }
-{
-    bytes.iter().all(|b| *b == 0)
 }
 
 /// Whether a byte is a class, A to Z or 0 to 9.

@@ -1,16 +1,16 @@
 //! The slot of a job, the slot of an output and the entry of a track group, in layout 1.
 ghost use Rattle.std.specs.Int.{w16, w32, to_be_bytes};
-ghost use Rattle.std.specs.Prelude.{◌≡◌, [], ◌∷◌, ◌++◌, ◌+◌, ◌≤◌, length, Ok, Some, Option, OnOk, IfOk, IfErr};
+ghost use Rattle.std.specs.Prelude.{◌≡◌, [], ◌∷◌, ◌++◌, ◌+◌, ◌≤◌, length, replicate, Ok, Some, Option, OnOk, IfOk, IfErr};
 ghost use Rattle.mas_types.specs.declared.queues.Owner.{Owner as TheOwner};
 ghost use Rattle.lay_bytes.specs.declared.records.JobRec.{JobRec as TheJobRec};
 ghost use Rattle.lay_bytes.specs.declared.records.OutRec.{OutRec as TheOutRec};
 ghost use Rattle.lay_bytes.specs.Fields.{piece, pieces};
 ghost use Rattle.lay_bytes.specs.Slots.{phase_number as phase_number_lem, phase_of as phase_of_lem, flag as flag_lem, has_flag as has_flag_lem, job_flags as job_flags_lem, job_fields, fields_in, job_in, job_slot, output_fields, output_in, output_slot, owner_fields, owner_of as owner_of_lem, owner_entry, bad_field, bad_owner_field, IsJobRec, IsOutRec, IsOwner, IfUsed, IsSpelledApart};
 
-use crate::fields::{BadField, Field, check_fields, put_fields};
-use crate::names::is_zero;
+use crate::fields::{BadField, Field, check_fields, put};
 use crate::numbers::{read_u16, read_u32, read_u64};
 use crate::records::{JobRec, OutRec};
+use crate::runs::is_zero;
 use mas_types::{Class, JobFields, JobNo, MemberId, Name8, OutNo, Owner, Phase, Prio};
 
 /// The greatest number of a member in layout 1.
@@ -170,28 +170,27 @@ pub fn read_job(slot: &[u8; 256]) -> Result<Option<JobRec>, BadField>
     Ok(Some(job_of(slot)))
 }
 
+// Writes a job over zeros.
 fn put_job(job: &JobRec, slot: &mut [u8; 256])
+    requires { slot.old ≡ replicate 256 0 }
     ensures { slot.new ≡ job_slot (Some job.now) }
 {
-    put_fields(
-        &[
-            &[phase_number(job.phase)],
-            &[job.fields.class.0],
-            &[job.fields.prio.0],
-            &[job_flags(job)],
-            &[job.busy.0],
-            &[job.fields.msgclass.0],
-            &job.cards.to_be_bytes(),
-            &job.number.0.to_be_bytes(),
-            &job.order.to_be_bytes(),
-            &job.fields.name.0,
-            &job.fields.dest.0,
-            &job.fields.node.0,
-            &job.fields.origin.0,
-            &[0; 204],
-        ],
-        slot,
-    );
+    let front = [
+        phase_number(job.phase),
+        job.fields.class.0,
+        job.fields.prio.0,
+        job_flags(job),
+        job.busy.0,
+        job.fields.msgclass.0,
+    ];
+    put(&front, 0, slot);
+    put(&job.cards.to_be_bytes(), 6, slot);
+    put(&job.number.0.to_be_bytes(), 8, slot);
+    put(&job.order.to_be_bytes(), 12, slot);
+    put(&job.fields.name.0, 20, slot);
+    put(&job.fields.dest.0, 28, slot);
+    put(&job.fields.node.0, 36, slot);
+    put(&job.fields.origin.0, 44, slot);
 }
 
 /// Writes a job's slot of 256 bytes, zeros for `None`. What `read_job` reads of it is this job,
@@ -199,9 +198,9 @@ fn put_job(job: &JobRec, slot: &mut [u8; 256])
 pub fn write_job(job: &Option<JobRec>, slot: &mut [u8; 256])
     ensures { slot.new ≡ job_slot job.now }
 {
-    match job {
-        Some(job) => put_job(job, slot),
-        None => *slot = [0; 256],
+    *slot = [0; 256];
+    if let Some(job) = job {
+        put_job(job, slot);
     }
 }
 
@@ -239,27 +238,20 @@ pub fn read_output(slot: &[u8; 128]) -> Result<Option<OutRec>, BadField>
     Ok(Some(output_of(slot)))
 }
 
+// Writes an output over zeros.
 fn put_output(output: &OutRec, slot: &mut [u8; 128])
+    requires { slot.old ≡ replicate 128 0 }
     ensures { slot.new ≡ output_slot (Some output.now) }
 {
-    put_fields(
-        &[
-            &[1],
-            &[output.class.0],
-            &[flag(HELD, output.held)],
-            &[output.busy.0],
-            &output.job.0.to_be_bytes(),
-            &[output.index.0],
-            &[output.copies],
-            &output.lines.to_be_bytes(),
-            &output.mark.to_be_bytes(),
-            &output.order.to_be_bytes(),
-            &output.dest.0,
-            &output.forms.0,
-            &[0; 88],
-        ],
-        slot,
-    );
+    let front = [1, output.class.0, flag(HELD, output.held), output.busy.0];
+    put(&front, 0, slot);
+    put(&output.job.0.to_be_bytes(), 4, slot);
+    put(&[output.index.0, output.copies], 8, slot);
+    put(&output.lines.to_be_bytes(), 10, slot);
+    put(&output.mark.to_be_bytes(), 12, slot);
+    put(&output.order.to_be_bytes(), 16, slot);
+    put(&output.dest.0, 24, slot);
+    put(&output.forms.0, 32, slot);
 }
 
 /// Writes an output's slot of 128 bytes, zeros for `None`. What `read_output` reads of it is this
@@ -267,9 +259,9 @@ fn put_output(output: &OutRec, slot: &mut [u8; 128])
 pub fn write_output(output: &Option<OutRec>, slot: &mut [u8; 128])
     ensures { slot.new ≡ output_slot output.now }
 {
-    match output {
-        Some(output) => put_output(output, slot),
-        None => *slot = [0; 128],
+    *slot = [0; 128];
+    if let Some(output) = output {
+        put_output(output, slot);
     }
 }
 
@@ -342,10 +334,9 @@ pub fn read_owner(entry: &[u8; 8]) -> Result<Owner, BadField>
 fn put_entry(kind: u8, who: u8, place: u16, job: u32, entry: &mut [u8; 8])
     ensures { entry.new ≡ (kind ∷ []) ++ (who ∷ []) ++ to_be_bytes w16 place ++ to_be_bytes w32 job }
 {
-    put_fields(
-        &[&[kind], &[who], &place.to_be_bytes(), &job.to_be_bytes()],
-        entry,
-    );
+    put(&[kind, who], 0, entry);
+    put(&place.to_be_bytes(), 2, entry);
+    put(&job.to_be_bytes(), 4, entry);
 }
 
 /// Writes a group's entry of eight bytes. What `read_owner` reads of it is this owner, where each

@@ -1,18 +1,12 @@
 //! Whether the pages of two copies fit each other.
 ghost use Rattle.std.specs.Prelude.{◌≡◌, ◌≤◌, length, get_or};
-ghost use Rattle.std.specs.Str.{bytes_eq};
 ghost use Rattle.mas_types.specs.Limits.{pages_most};
 ghost use Rattle.mas_complex.specs.Fits.{are_same, differ_at, first_page, fits as fits_spec};
 
 use ckpt_pages::level_of;
 use duplex_pair::pages_level;
+use lay_bytes::is_same_page;
 use mas_types::Page;
-
-fn is_same_page(a: &Page, b: &Page) -> bool
-    ensures { result ≡ bytes_eq a.now.0 b.now.0 }
-{
-    a.0 == b.0
-}
 
 fn same_pages(found: &[Page], other: &[Page]) -> bool
     ensures { result ≡ are_same found.now other.now }

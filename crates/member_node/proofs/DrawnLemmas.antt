@@ -194,7 +194,7 @@ differing_only p (x ∷ xs) (y ∷ ys) = listed (is_listed p x y) refl (All-weak
 
 -- DRAWN AGAIN
 
-other_page : (t : Tables) (levels levels' : List ℕ) (p : ℕ) → (p == 0) ≡ false → page_of t levels p ≡ page_of t levels' p
+pub other_page : (t : Tables) (levels levels' : List ℕ) (p : ℕ) → (p == 0) ≡ false → page_of t levels p ≡ page_of t levels' p
 other_page t levels levels' p other = rw other refl
 
 module _ (t : Tables) (at : ℕ) (levels : List ℕ) (leveled : AreLevels t at levels) (more : at + 1 < 2 ^ 63) (old new : List Page) (old_count : length old ≡ page_count t.config) (new_count : length new ≡ page_count t.config) where

@@ -2,6 +2,7 @@ pub mod BatchLemmas
 pub mod CourseLemmas
 pub mod DraftLemmas
 pub mod DrawnLemmas
+pub mod RedrawLemmas
 pub mod EntryLemmas
 pub mod ReadyLemmas
 pub mod StepLemmas

@@ -4,7 +4,7 @@ use Rattle.mas_types.specs.declared.ids.Page.{Page}
 use Rattle.mas_types.specs.Limits.{page_bytes}
 use Rattle.ckpt_pages.specs.declared.tables.Tables.{Tables}
 use Rattle.ckpt_pages.specs.Shape.{HasSpelling, AreLevels}
-use Rattle.ckpt_pages.specs.Pages.{Spell}
+use Rattle.ckpt_pages.specs.Pages.{page_of, Spell}
 
 -- the pages spell the tables, and were drawn at this level
 pub record AreDrawn (t : Tables) (level : ℕ) (levels : List ℕ) (pages : List Page) : Type 0 where
@@ -17,3 +17,8 @@ pub record AreDrawn (t : Tables) (level : ℕ) (levels : List ℕ) (pages : List
 abbrev pub raised : List ℕ → ℕ → List ℕ → List ℕ
 raised [] level levels = levels
 raised (page ∷ pages) level levels = raised pages level (slice_set levels page level)
+
+-- the pages, where each of these is drawn with the levels
+abbrev pub drawn_again : Tables → List ℕ → List ℕ → List Page → List Page
+drawn_again t levels [] pages = pages
+drawn_again t levels (page ∷ numbers) pages = drawn_again t levels numbers (slice_set pages page (record { 0 = page_of t levels page }))

@@ -1,6 +1,5 @@
 //! The checkpoint of a member: its tables, and the pages that were drawn from them.
-ghost use Rattle.std.specs.Prelude.{◌≡◌, ◌+◌, ◌≤◌, ◌<◌, ◌^◌, [], IfOk, OnOk, OnErr, All, length, slice_set};
-ghost use Rattle.std.specs.Str.{bytes_eq};
+ghost use Rattle.std.specs.Prelude.{◌≡◌, ◌+◌, ◌≤◌, ◌<◌, ◌^◌, [], ◌∷◌, ◌++◌, if◌then◌else◌, IfOk, OnOk, OnErr, All, length};
 ghost use Rattle.mas_types.specs.declared.ids.Page.{Page};
 ghost use Rattle.mas_types.specs.Fit.{IsConfig};
 ghost use Rattle.mas_types.specs.Limits.{page_bytes, routes_most};
@@ -8,12 +7,13 @@ ghost use Rattle.ckpt_copy.specs.Pages.{bytes_of, ArePages, Covers};
 ghost use Rattle.mas_complex.specs.Changed.{NamesOnly};
 ghost use Rattle.mas_complex.specs.Fits.{are_same};
 ghost use Rattle.ckpt_pages.specs.Shape.{page_count as page_count_lem, HasShape, HasSpelling, AreLevels, IsRoute};
-ghost use Rattle.ckpt_pages.specs.Pages.{page_of, Spell};
+ghost use Rattle.ckpt_pages.specs.Pages.{Spell};
 ghost use Rattle.ckpt_pages.specs.Starts.{empty_tables, first_levels as first_levels_lem};
-ghost use Rattle.member_node.specs.Drawn.{AreDrawn, raised};
-ghost use Rattle.member_node.specs.Redrawn.{IsRedrawn, IsSameWhere};
+ghost use Rattle.member_node.specs.Drawn.{AreDrawn, drawn_again, raised};
+ghost use Rattle.member_node.specs.Redrawn.{AreChanges, IsDraft, IsRedrawn, IsSameWhere};
 
-use ckpt_pages::{Tables, changed, empty, encode, encode_page, law_of_empty_tables, page_count};
+use ckpt_pages::{Tables, empty, encode, encode_page, law_of_empty_tables, page_count};
+use lay_bytes::is_same_page;
 use mas_types::limits::PAGE_BYTES;
 use mas_types::{Config, Level, List, NoMemory, Page, Route};
 use std::alloc::Global;
@@ -78,24 +78,6 @@ pub fn blank(alloc: Global, config: &Config, routes: &List<Route>) -> Result<Che
     })
 }
 
-// Draws page 0, which alone has the levels.
-fn draw_levels(tables: &Tables, levels: &List<Level>, pages: &mut [Page])
-    requires shape { HasShape tables.now }
-    requires levels { length levels.now ≡ page_count_lem tables.now.config }
-    requires some { 0 < length pages.old }
-    ensures { (first : Page) × (pages.new ≡ slice_set pages.old 0 first) × (first.0 ≡ page_of tables.now levels.now 0) × (length first.0 ≡ page_bytes) }
-{
-    let mut first = Page([0; PAGE_BYTES]);
-    encode_page(tables, 0, levels, &mut first);
-    pages[0] = first;
-}
-
-fn is_same_page(a: &Page, b: &Page) -> bool
-    ensures { result ≡ bytes_eq a.now.0 b.now.0 }
-{
-    a.0 == b.0
-}
-
 pub(crate) fn same_pages(found: &[Page], other: &[Page]) -> bool
     ensures { result ≡ are_same found.now other.now }
 {
@@ -110,39 +92,82 @@ pub(crate) fn same_pages(found: &[Page], other: &[Page]) -> bool
     true
 }
 
-// Takes the pages that were drawn from the tables with the old levels, a level higher, and answers the numbers of page 0 and of
-// the pages that differ.
-fn take_drawn(
+// Adds a number where it is asked for.
+fn note(numbers: &mut List<u16>, number: u16, asked: bool) -> Result<(), NoMemory>
+    ensures { OnOk result (numbers.new ≡ numbers.old ++ (if asked then number ∷ [] else [])) }
+{
+    if asked {
+        numbers.push(number)?;
+    }
+    Ok(())
+}
+
+// What the tables, drawn with these levels, change of pages: one after another is drawn, and compared.
+fn draft_of(
     alloc: Global,
-    checkpoint: &mut Checkpoint,
-    drawn: List<Page>,
-) -> Result<List<u16>, NoMemory>
+    tables: &Tables,
+    levels: &List<Level>,
+    pages: &[Page],
+) -> Result<Draft, NoMemory>
+    requires shape { HasShape tables.now }
+    requires levels { length levels.now ≡ page_count_lem tables.now.config }
+    requires pages { length pages.now ≡ page_count_lem tables.now.config }
+    ensures { IfOk result (IsDraft tables.now levels.now pages.now) }
+{
+    let mut numbers = List::new(alloc);
+    let mut same = true;
+    let mut page = Page([0; PAGE_BYTES]);
+    for number in 0..page_count(&tables.config) {
+        encode_page(tables, number, levels, &mut page);
+        let is_same = is_same_page(&pages[number as usize], &page);
+        note(&mut numbers, number, (number == 0) | !is_same)?;
+        same &= is_same;
+    }
+    if same {
+        Ok(Draft::Same)
+    } else {
+        Ok(Draft::Changed(numbers))
+    }
+}
+
+// Draws these pages again.
+fn draw_pages(tables: &Tables, levels: &List<Level>, numbers: &[u16], pages: &mut [Page])
+    requires shape { HasShape tables.now }
+    requires levels { length levels.now ≡ page_count_lem tables.now.config }
+    requires pages { length pages.old ≡ page_count_lem tables.now.config }
+    requires numbers { All (λ page. page < length pages.old) numbers.now }
+    requires sized { All (λ page. length page.0 ≡ page_bytes) pages.old }
+    ensures drawn { pages.new ≡ drawn_again tables.now levels.now numbers.now pages.old }
+    ensures sized { All (λ page. length page.0 ≡ page_bytes) pages.new }
+{
+    for number in numbers {
+        encode_page(tables, *number, levels, &mut pages[*number as usize]);
+    }
+}
+
+// Draws page 0 and the pages that differ again, with the next level.
+fn take_changes(checkpoint: &mut Checkpoint, numbers: &[u16])
     requires spelling { HasSpelling checkpoint.old.tables }
     requires leveled { AreLevels checkpoint.old.tables checkpoint.old.level checkpoint.old.levels }
     requires level { checkpoint.old.level + 1 < 2 ^ 63 }
     requires pages { length checkpoint.old.pages ≡ page_count_lem checkpoint.old.tables.config }
     requires sized { All (λ page. length page.0 ≡ page_bytes) checkpoint.old.pages }
-    requires spelled { Spell checkpoint.old.tables checkpoint.old.levels drawn }
-    requires drawn_sized { All (λ page. length page.0 ≡ page_bytes) drawn }
-    ensures err { OnErr result (checkpoint.new ≡ checkpoint.old) }
+    requires differ { AreChanges checkpoint.old.tables checkpoint.old.levels checkpoint.old.pages numbers.now }
     ensures tables { checkpoint.new.tables ≡ checkpoint.old.tables }
-    ensures level { OnOk result (checkpoint.new.level ≡ checkpoint.old.level + 1) }
-    ensures drawn { OnOk result (AreDrawn checkpoint.new.tables checkpoint.new.level checkpoint.new.levels checkpoint.new.pages) }
-    ensures changed { IfOk result (λ numbers. ArePages (length checkpoint.new.pages) numbers) }
-    ensures covered { IfOk result (λ numbers. Covers (length checkpoint.new.pages) numbers (bytes_of checkpoint.old.pages) (bytes_of checkpoint.new.pages)) }
-    ensures exact { IfOk result (λ numbers. NamesOnly numbers (bytes_of checkpoint.old.pages) (bytes_of checkpoint.new.pages)) }
+    ensures level { checkpoint.new.level ≡ checkpoint.old.level + 1 }
+    ensures drawn { AreDrawn checkpoint.new.tables checkpoint.new.level checkpoint.new.levels checkpoint.new.pages }
+    ensures changed { ArePages (length checkpoint.new.pages) numbers.now }
+    ensures covered { Covers (length checkpoint.new.pages) numbers.now (bytes_of checkpoint.old.pages) (bytes_of checkpoint.new.pages) }
+    ensures exact { NamesOnly numbers.now (bytes_of checkpoint.old.pages) (bytes_of checkpoint.new.pages) }
 {
-    let numbers = changed(alloc, checkpoint.pages.as_slice(), drawn.as_slice())?;
-    let level = checkpoint.level + 1;
-    raise(checkpoint.levels.as_mut_slice(), numbers.as_slice(), level);
-    checkpoint.level = level;
-    checkpoint.pages = drawn;
-    draw_levels(
+    checkpoint.level += 1;
+    raise(checkpoint.levels.as_mut_slice(), numbers, checkpoint.level);
+    draw_pages(
         &checkpoint.tables,
         &checkpoint.levels,
+        numbers,
         checkpoint.pages.as_mut_slice(),
     );
-    Ok(numbers)
 }
 
 /// Draws the tables again: where a page changes they have the next level then.
@@ -160,10 +185,17 @@ pub fn redraw(alloc: Global, checkpoint: &mut Checkpoint) -> Result<Draft, NoMem
     ensures draft { IfOk result (λ draft. IsRedrawn draft checkpoint.old.level checkpoint.old.pages checkpoint.new.level checkpoint.new.pages) }
     ensures same { IfOk result (λ draft. IsSameWhere draft (Spell checkpoint.old.tables checkpoint.old.levels checkpoint.old.pages)) }
 {
-    let drawn = encode(alloc, &checkpoint.tables, &checkpoint.levels)?;
-    if same_pages(checkpoint.pages.as_slice(), drawn.as_slice()) {
-        return Ok(Draft::Same);
+    let draft = draft_of(
+        alloc,
+        &checkpoint.tables,
+        &checkpoint.levels,
+        checkpoint.pages.as_slice(),
+    )?;
+    match draft {
+        Draft::Same => Ok(Draft::Same),
+        Draft::Changed(numbers) => {
+            take_changes(checkpoint, numbers.as_slice());
+            Ok(Draft::Changed(numbers))
+        }
     }
-    let numbers = take_drawn(alloc, checkpoint, drawn)?;
-    Ok(Draft::Changed(numbers))
 }

@@ -3,9 +3,10 @@ ghost use Rattle.std.specs.Prelude.{◌≡◌, ◌≤◌, length, IfOk};
 
 use std::fs::OpenFile;
 use std::io::{self, ErrorKind, Read, Seek, SeekFrom, Write};
+use std::os::unix::fs::FileExt;
 
-// Reads until the bytes are full or the file ends, and answers how many came.
-fn read_full<F: Read>(file: &mut F, into: &mut [u8]) -> io::Result<usize>
+// Reads from a place on until the bytes are full or the file ends, and answers how many came.
+fn read_full<F: FileExt>(file: &F, at: u64, into: &mut [u8]) -> io::Result<usize>
     ensures { IfOk result (λ n. n ≤ length into.new) }
 {
     let mut filled = 0;
@@ -13,7 +14,7 @@ fn read_full<F: Read>(file: &mut F, into: &mut [u8]) -> io::Result<usize>
         if filled == into.len() {
             break;
         }
-        match file.read(&mut into[filled..]) {
+        match file.read_at(&mut into[filled..], at.wrapping_add(filled as u64)) {
             Ok(0) => break,
             Ok(n) => filled += n,
             Err(error) if error.kind() == ErrorKind::Interrupted => {}
@@ -24,16 +25,10 @@ fn read_full<F: Read>(file: &mut F, into: &mut [u8]) -> io::Result<usize>
 }
 
 // The bytes of a file from a place on. Behind its end are zeros.
-pub(crate) fn read_at<F: Read + Seek>(file: &mut F, at: u64, into: &mut [u8]) -> io::Result<()> {
-    file.seek(SeekFrom::Start(at))?;
-    let filled = read_full(file, into)?;
+pub(crate) fn read_at<F: FileExt>(file: &F, at: u64, into: &mut [u8]) -> io::Result<()> {
+    let filled = read_full(file, at, into)?;
     into[filled..].fill(0);
     Ok(())
-}
-
-pub(crate) fn write_at<F: Write + Seek>(file: &mut F, at: u64, bytes: &[u8]) -> io::Result<()> {
-    file.seek(SeekFrom::Start(at))?;
-    file.write_all(bytes)
 }
 
 // Adds bytes at the end of a file.
@@ -46,14 +41,13 @@ pub(crate) fn append<F: Write + Seek>(file: &mut F, bytes: &[u8]) -> io::Result<
 const LINE_MOST: usize = 512;
 
 // A file ends with the end of a line, or is empty.
-fn ends_a_line<F: Read + Seek>(file: &mut F) -> io::Result<bool> {
+fn ends_a_line<F: FileExt + Seek>(file: &mut F) -> io::Result<bool> {
     let end = file.seek(SeekFrom::End(0))?;
     if end == 0 {
         return Ok(true);
     }
-    file.seek(SeekFrom::Start(end - 1))?;
     let mut last = [0];
-    read_full(file, &mut last)?;
+    read_at(file, end - 1, &mut last)?;
     Ok(last[0] == b'\n')
 }
 
@@ -69,7 +63,7 @@ fn append_whole<F: Write + Seek>(file: &mut F, line: &[u8]) -> io::Result<()> {
 }
 
 // Adds a line at the end of a file. One before it that was cut off gets its end first.
-pub(crate) fn append_line<F: Read + Write + Seek>(file: &mut F, line: &[u8]) -> io::Result<()> {
+pub(crate) fn append_line<F: FileExt + Write + Seek>(file: &mut F, line: &[u8]) -> io::Result<()> {
     if !ends_a_line(file)? {
         append(file, b"\n")?;
     }

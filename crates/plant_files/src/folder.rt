@@ -1,12 +1,13 @@
 // The files of a folder.
 ghost use Rattle.std.specs.Prelude.{◌≡◌, ◌≤◌, length, IfOk};
 
-use crate::files::{append, append_line, empty, read_at, read_next, write_at};
+use crate::files::{append, append_line, empty, read_at, read_next};
 use mas_types::{Dev, MemberId};
 use spool_disk::Part;
 use std::alloc::{AllocError, Global};
 use std::fs::{self, OpenFile, OpenOptions};
 use std::io::{self, ErrorKind, Read, Seek, Write};
+use std::os::unix::fs::FileExt;
 use std::rt::Files;
 
 // The volumes, printers and lines that have files, from 1 on.
@@ -144,7 +145,7 @@ fn is_open<F: Drop>(files: &[Marked<F>], number: u8) -> bool {
     0 < at && at <= files.len() && files[at - 1].file.is_some()
 }
 
-impl<F: Read + Write + Seek + OpenFile + Drop> Folder<F> {
+impl<F: Read + Write + Seek + FileExt + OpenFile + Drop> Folder<F> {
     fn marked(&mut self, dev: Dev) -> Option<&mut Marked<F>> {
         match dev {
             Dev::Ckpt1 => Some(&mut self.ckpt1),
@@ -178,7 +179,7 @@ impl<F: Read + Write + Seek + OpenFile + Drop> Folder<F> {
     }
 
     pub(crate) fn write(&mut self, dev: Dev, at: u64, bytes: &[u8]) -> io::Result<()> {
-        write_at(self.device(dev)?, at, bytes)
+        self.device(dev)?.write_all_at(bytes, at)
     }
 
     pub(crate) fn sync(&mut self, dev: Dev) -> io::Result<()> {

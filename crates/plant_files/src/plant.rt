@@ -10,6 +10,7 @@ use spool_disk::{Act, Fuse, PLACES, Part, Plant, Took, place_number};
 use std::alloc::{AllocError, Global};
 use std::fs::OpenFile;
 use std::io::{self, Read, Seek, Write};
+use std::os::unix::fs::FileExt;
 use std::rt::Files;
 
 /// The bytes of each device that has a file.
@@ -24,7 +25,7 @@ pub struct FilePlant<R: Files + Print + Drop> {
     tally: Tally,
 }
 
-fn note_lost<F: Read + Write + Seek + OpenFile + Drop>(
+fn note_lost<F: Read + Write + Seek + FileExt + OpenFile + Drop>(
     lost: &mut [bool],
     folder: &Folder<F>,
     part: Part,
@@ -35,7 +36,7 @@ fn note_lost<F: Read + Write + Seek + OpenFile + Drop>(
 }
 
 // By their places, the parts that are lost since they have no file.
-fn lost_parts<F: Read + Write + Seek + OpenFile + Drop>(
+fn lost_parts<F: Read + Write + Seek + FileExt + OpenFile + Drop>(
     alloc: Global,
     folder: &Folder<F>,
 ) -> Result<Vec<bool>, AllocError>
@@ -61,7 +62,10 @@ fn write_line<R: Print>(rt: &R, line: &[u8]) -> io::Result<()> {
     out.flush()
 }
 
-impl<R: Files + Print + Drop> FilePlant<R> {
+impl<R: Files + Print + Drop> FilePlant<R>
+where
+    R::File: FileExt,
+{
     ghost use Rattle.plant_files.specs.FileView.{IsFresh};
 
     /// A plant over a folder's files CKPT1, CKPT2, SPOOL1 to SPOOL8, PRT1 to PRT8, LINE1.IN to LINE8.IN and LINE1.OUT to
@@ -98,7 +102,10 @@ fn finished_take(tally: &mut Tally, part: Part, n: usize) -> Took
     Took::Bytes(n)
 }
 
-impl<R: Files + Print + Drop> Plant for FilePlant<R> {
+impl<R: Files + Print + Drop> Plant for FilePlant<R>
+where
+    R::File: FileExt,
+{
     ghost tells = { ⊥ };
 
     ghost view = { λ p. tally_view p.tally };

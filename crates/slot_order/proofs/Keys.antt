@@ -25,6 +25,11 @@ module _ {X : Type 0} where
   any-both t q (y ∷ xs) x some =
       test_cases (t y) (list_any t (y ∷ xs) ≡ true) (λ e. rw e refl) (λ e. rw e (any-both t q xs x (rw e at some)))
 
+  none-both : (t q : X → Bool) (xs : List X) → find t xs ≡ None → find (λ z. t z && q z) xs ≡ None
+  none-both t q [] none = refl
+  none-both t q (x ∷ xs) none =
+      test_cases (t x) (find (λ z. t z && q z) (x ∷ xs) ≡ None) (λ e. absurd (let w = rw e at none in cc)) (λ e. rw e (none-both t q xs (rw e at none)))
+
   module _ {K : Type 0} (has : K → X → Bool) (t : X → Bool) (xs : List X) where
     -- a key that some have
     key_some : (k : K) (ks : List K) → list_any (λ y. t y && has k y) xs ≡ true → (λ (x : X). t x && has k x) ≡ has_first_key_of has (k ∷ ks) t xs
@@ -57,6 +62,14 @@ module _ {X : Type 0} where
     keys_over rank ks i over so_far =
         let none : (λ (x : X). false) ≡ has_first_key_of has ks t xs = sym (so_far ∙ ap (λ (ys : List K). has_first_key_of has ys t xs) over) in
         subst (λ (test : X → Bool). find (is_greatest_of rank test xs) xs ≡ None) none (no_key_left rank xs)
+
+    -- where nothing is picked, nothing is picked by its key
+    none_by_keys : (ks : List K) → find t xs ≡ None → has_first_key_of has ks t xs ≡ (λ (x : X). false)
+    none_by_keys [] none = refl
+    none_by_keys (k ∷ ks) none = key_none k ks (any-none (λ y. t y && has k y) xs (none-both t (has k) xs none)) ∙ none_by_keys ks none
+
+    pub none_picked : (rank : X → ℕ) (ks : List K) → find t xs ≡ None → find (is_greatest_of rank (has_first_key_of has ks t xs) xs) xs ≡ None
+    none_picked rank ks none = subst (λ (test : X → Bool). find (is_greatest_of rank test xs) xs ≡ None) (sym (none_by_keys ks none)) (no_key_left rank xs)
 
 -- WHAT A LOOP OVER KEYS FINDS
 

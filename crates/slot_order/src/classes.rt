@@ -3,7 +3,7 @@ ghost use Rattle.std.specs.Prelude.{◌≡◌, Bool, ◌&&◌, IfSome, IfNone, N
 ghost use Rattle.mas_types.specs.Lists.{is_greatest_of, has_first_key_of};
 ghost use Rattle.slot_order.specs.Listed.{listed, StandsFirst};
 
-use crate::slots::{Found, Ordered, Rank, Test, best_slot};
+use crate::slots::{Found, Ordered, Rank, Test, best_slot, first_slot};
 use mas_types::{Class, List};
 
 /// Which class a record has.
@@ -51,6 +51,10 @@ pub fn best_slot_by_class<T: Ordered + Copy, P: Classed<T>>(
     ensures some { IfSome result (λ f. StandsFirst T.order (is_greatest_of (P.rank test.now) (has_first_key_of (P.has_class test.now) classes.now (P.picks test.now) (listed T.order slots.now)) (listed T.order slots.now)) slots.now f.at f.item) }
     ensures none { IfNone result (find (is_greatest_of (P.rank test.now) (has_first_key_of (P.has_class test.now) classes.now (P.picks test.now) (listed T.order slots.now)) (listed T.order slots.now)) (listed T.order slots.now) ≡ None) }
 {
+    // Mostly there is nothing to do, and then one look at the slots tells so.
+    if first_slot(slots, test).is_none() {
+        return None;
+    }
     for class in classes.as_slice() {
         let best = best_slot(
             slots,

@@ -1,7 +1,7 @@
-use Rattle.std.proofs.Common.{◌≡◌, refl, sym, ◌∙◌, arith}
+use Rattle.std.proofs.Common.{◌≡◌, not, refl, sym, ap, ◌∙◌, arith}
 use Rattle.std.proofs.lemmas.List.{drop_all}
 use Rattle.slot_order.specs.Listed.{listed}
-use Rattle.slot_order.proofs.Keys.{keys_more, keys_over, found_by_key, not_found}
+use Rattle.slot_order.proofs.Keys.{keys_more, keys_over, found_by_key, none_picked, not_found}
 use Rattle.slot_order.proofs.classes.best_slot_by_class.Goals as goal
 
 pub loop-class-preserved : goal.loop-class-preserved
@@ -22,3 +22,8 @@ returns-then-is_some-clause-some g c =
     rw (← same) (found_by_key (g.P.Classed.has_class c.args.test.now) (g.P.Test.picks c.args.test.now) (listed g.T.Ordered.order c.args.slots.now)
     c.as_slice-class-items.result.now c.loop-class.class-index (record { 0 = 0 }) c.loop-class-test.true
     g.T.Ordered.order (g.P.Rank.rank c.args.test.now) c.args.slots.now refl c.loop-class.invariant c.best_slot-best.result c.best_slot-best.ensures.some)
+
+pub returns-then-is_none-clause-none : goal.returns-then-is_none-clause-none
+returns-then-is_none-clause-none g c =
+    none_picked (g.P.Classed.has_class c.args.test.now) (g.P.Test.picks c.args.test.now) (listed g.T.Ordered.order c.args.slots.now) (g.P.Rank.rank c.args.test.now) c.args.classes.now
+    (not_found c.first_slot.result (c.is_none.ensures ∙ ap not c.if-is_none.true) c.first_slot.ensures.none)
