@@ -2,7 +2,7 @@
 ghost use Rattle.std.specs.Prelude.{◌≡◌, ◌<◌, ◌≤◌, IfOk, false, true};
 ghost use Rattle.mas_types.specs.declared.ids.Dev.TheVariants.{Ckpt1, Ckpt2};
 ghost use Rattle.spool_disk.specs.declared.plant.Part.TheVariants.{Disk};
-ghost use Rattle.member_turns.specs.Turning.{members_of};
+ghost use Rattle.gate_turns.specs.Turning.{members_of};
 
 use crate::quiet::Quiet;
 use crate::shared::{FIRST, SECOND, halting};
@@ -11,7 +11,7 @@ use duplex_pair::Pair;
 use lock_cycle::LockNo;
 use mas_complex::Complex;
 use mas_types::{Dev, List, MemberId, default_config, empty_queue};
-use member_turns::{OneHand, Turns, try_in_turn};
+use gate_turns::{OneHand, Turns, try_in_turn};
 use spool_disk::Plant;
 use std::alloc::Global;
 use std::test::Fail;

@@ -12,11 +12,11 @@ use Rattle.card_reader.specs.declared.cards.Kind.{Kind}
 use Rattle.card_reader.specs.declared.cards.Kind.TheVariants as kind
 use Rattle.card_reader.specs.Cards.{kind_of}
 use Rattle.card_reader.specs.Statements.{Item, items_of}
-use Rattle.jcl_steps.specs.declared.steps.Dd.{Dd}
-use Rattle.jcl_steps.specs.declared.steps.Program.{Program}
-use Rattle.jcl_steps.specs.declared.steps.Step.{Step}
-use Rattle.jcl_steps.specs.Steps.{sysouts, sysouts_among}
-use Rattle.jcl_steps.specs.Steps as steps
+use Rattle.jcl_convert.specs.declared.steps.Dd.{Dd}
+use Rattle.jcl_convert.specs.declared.steps.Program.{Program}
+use Rattle.jcl_convert.specs.declared.steps.Step.{Step}
+use Rattle.jcl_convert.specs.Steps.{sysouts, sysouts_among}
+use Rattle.jcl_convert.specs.Steps as steps
 use Rattle.jcl_convert.specs.declared.convert_text.Converted.{Converted}
 use Rattle.jcl_convert.specs.declared.convert_text.Refused.{Refused}
 use Rattle.jcl_convert.specs.declared.dds.DdForm.{DdForm}

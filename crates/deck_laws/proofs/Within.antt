@@ -23,10 +23,10 @@ use Rattle.card_reader.specs.Cards.{kind_of, operation_of, name_of, is_statement
 use Rattle.card_reader.specs.Jes.{name8_of}
 use Rattle.card_reader.specs.Operands.{first_operand, operands_of}
 use Rattle.card_reader.specs.Statements.{Item, items_of, items_from, up_to_end, ends_job, further_cards, operands_from, statement_data}
-use Rattle.jcl_steps.specs.declared.steps.Dd.{Dd}
-use Rattle.jcl_steps.specs.declared.steps.Program.{Program}
-use Rattle.jcl_steps.specs.declared.steps.Step.{Step}
-use Rattle.jcl_steps.specs.Steps.{IsDd, IsDdKind, IsStep, AreSteps}
+use Rattle.jcl_convert.specs.declared.steps.Dd.{Dd}
+use Rattle.jcl_convert.specs.declared.steps.Program.{Program}
+use Rattle.jcl_convert.specs.declared.steps.Step.{Step}
+use Rattle.jcl_convert.specs.Steps.{IsDd, IsDdKind, IsStep, AreSteps}
 use Rattle.jcl_convert.specs.declared.dds.DdForm.{DdForm}
 use Rattle.jcl_convert.specs.declared.dds.DdForm.TheVariants as form
 use Rattle.jcl_convert.specs.declared.dds.SysoutForm.{SysoutForm}

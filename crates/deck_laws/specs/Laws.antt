@@ -4,8 +4,8 @@ use Rattle.mas_types.specs.declared.ids.Name8.{Name8}
 use Rattle.mas_types.specs.declared.jobs.JobFields.{JobFields}
 use Rattle.card_reader.specs.Decks.{read_as}
 use Rattle.mas_types.specs.Fit.{IsJobFields, AreLines}
-use Rattle.jcl_steps.specs.declared.steps.Step.{Step}
-use Rattle.jcl_steps.specs.Steps.{AreSteps}
+use Rattle.jcl_convert.specs.declared.steps.Step.{Step}
+use Rattle.jcl_convert.specs.Steps.{AreSteps}
 use Rattle.jcl_convert.specs.Jcl.{converted, Converts}
 use Rattle.deck_laws.specs.Grammar.{AreCards, IsJob}
 use Rattle.deck_laws.specs.Steps.{IsText}

@@ -7,9 +7,9 @@ use Rattle.card_reader.specs.declared.cards.Kind.{Kind}
 use Rattle.card_reader.specs.declared.cards.Kind.TheVariants as kind
 use Rattle.card_reader.specs.Cards.{kind_of}
 use Rattle.card_reader.specs.Statements.{Item, items_of}
-use Rattle.jcl_steps.specs.declared.steps.Dd.{Dd}
-use Rattle.jcl_steps.specs.declared.steps.Step.{Step}
-use Rattle.jcl_steps.specs.Steps.{sysouts}
+use Rattle.jcl_convert.specs.declared.steps.Dd.{Dd}
+use Rattle.jcl_convert.specs.declared.steps.Step.{Step}
+use Rattle.jcl_convert.specs.Steps.{sysouts}
 use Rattle.jcl_convert.specs.declared.statements.Line.{Line}
 use Rattle.jcl_convert.specs.declared.statements.Line.TheVariants as line
 use Rattle.jcl_convert.specs.Jcl.{line_of, data_of, kind_with}

@@ -1,4 +1,4 @@
-//! Tests of `member_gate`, over the histories of `gate_uses`.
+//! Tests of `member_gate`, over the histories of `gate_example`.
 #![tactic(auto)]
 
 #[cfg(test)]

@@ -1,5 +1,5 @@
 //! Threads that write into one history, a turn each.
-use gate_uses::{together, two};
+use gate_example::{together, two};
 use mas_types::MemberId;
 use std::test::Fail;
 

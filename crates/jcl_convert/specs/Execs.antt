@@ -7,8 +7,8 @@ use Rattle.mas_types.specs.declared.answers.JclCause.TheVariants as cause
 use Rattle.mas_types.specs.Lists.{tail}
 use Rattle.card_reader.specs.declared.statements.Operands.{Operands}
 use Rattle.card_reader.specs.Operands.{first_operand, operands_of, is_balanced}
-use Rattle.jcl_steps.specs.declared.steps.Program.{Program}
-use Rattle.jcl_steps.specs.declared.steps.Program.TheVariants as program
+use Rattle.jcl_convert.specs.declared.steps.Program.{Program}
+use Rattle.jcl_convert.specs.declared.steps.Program.TheVariants as program
 
 abbrev pub names_data_set : List ℕ → Bool
 names_data_set operand = starts_with nat_eq operand (codes "DSN=") || starts_with nat_eq operand (codes "DSNAME=")

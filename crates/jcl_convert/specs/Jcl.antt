@@ -22,11 +22,11 @@ use Rattle.jcl_convert.specs.declared.statements.Line.TheVariants as line
 use Rattle.jcl_convert.specs.declared.convert_text.Refused.{Refused}
 use Rattle.jcl_convert.specs.declared.dds.DdForm.{DdForm}
 use Rattle.jcl_convert.specs.declared.dds.DdForm.TheVariants as form
-use Rattle.jcl_steps.specs.declared.steps.Dd.{Dd}
-use Rattle.jcl_steps.specs.declared.steps.DdKind.{DdKind}
-use Rattle.jcl_steps.specs.declared.steps.DdKind.TheVariants as dd
-use Rattle.jcl_steps.specs.declared.steps.Program.{Program}
-use Rattle.jcl_steps.specs.declared.steps.Step.{Step}
+use Rattle.jcl_convert.specs.declared.steps.Dd.{Dd}
+use Rattle.jcl_convert.specs.declared.steps.DdKind.{DdKind}
+use Rattle.jcl_convert.specs.declared.steps.DdKind.TheVariants as dd
+use Rattle.jcl_convert.specs.declared.steps.Program.{Program}
+use Rattle.jcl_convert.specs.declared.steps.Step.{Step}
 use Rattle.jcl_convert.specs.Execs.{exec_of}
 use Rattle.jcl_convert.specs.Dds.{dd_of}
 

@@ -1,3 +1,4 @@
+pub mod Steps
 pub mod Execs
 pub mod Dds
 pub mod Jcl

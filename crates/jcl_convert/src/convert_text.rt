@@ -6,7 +6,7 @@ use crate::dds::DdForm;
 use crate::statements::{Line, kind_at, read_line};
 use card_reader::cards::{Kind, ends_job, kind_of};
 use card_reader::statements::further_at;
-use jcl_steps::{Dd, Program, Step};
+use crate::{Dd, Program, Step};
 use mas_types::limits::{INDEX_MOST, JOB_STEPS_MOST};
 use mas_types::{JclCause, JobFields, Lines, List, NoMemory};
 use std::alloc::Global;

@@ -6,7 +6,7 @@ ghost use Rattle.jcl_convert.specs.Execs.{names_data_set as names_data_set_lem, 
 
 use card_reader::operands::{cut_operand, first_operand, is_balanced};
 use card_reader::statements::Operands;
-use jcl_steps::Program;
+use crate::Program;
 use mas_types::JclCause;
 
 // DSN= or DSNAME=.

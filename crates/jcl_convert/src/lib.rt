@@ -6,6 +6,7 @@ mod convert_text;
 mod dds;
 mod execs;
 mod statements;
+mod steps;
 
 pub use convert_text::{JclNo, convert};
-pub use jcl_steps::{Dd, DdKind, Program, Step};
+pub use steps::{Dd, DdKind, Program, Step};

@@ -6,7 +6,7 @@ use crate::execs::read_exec;
 use card_reader::cards::{Operation, is_statement_name, name_of, operation_of};
 use card_reader::read_name8;
 use card_reader::statements::{Operands, data_from, ending_of, operands_at};
-use jcl_steps::{DdKind, Program};
+use crate::{DdKind, Program};
 use mas_types::{JclCause, JobFields, Lines, Name8, NoMemory};
 use std::alloc::Global;
 

@@ -5,13 +5,13 @@ use Rattle.std.proofs.lemmas.List.Elements.{All-nil, All-cons, All-head, All-tai
 use Rattle.mas_types.specs.declared.jobs.JobFields.{JobFields}
 use Rattle.mas_types.specs.Fit.{IsJobFields, IsOutSpec, AreLines, is_text_line}
 use Rattle.mas_types.specs.Limits.{line_bytes}
-use Rattle.jcl_steps.specs.declared.steps.Dd.{Dd}
-use Rattle.jcl_steps.specs.declared.steps.DdKind.{DdKind}
-use Rattle.jcl_steps.specs.declared.steps.DdKind.TheVariants as dd
-use Rattle.jcl_steps.specs.declared.steps.Program.{Program}
-use Rattle.jcl_steps.specs.declared.steps.Program.TheVariants as program
-use Rattle.jcl_steps.specs.declared.steps.Step.{Step}
-use Rattle.jcl_steps.specs.Steps.{IsDd, IsDdKind, IsStep, AreSteps, is_sysout, sysouts, sysouts_among}
+use Rattle.jcl_convert.specs.declared.steps.Dd.{Dd}
+use Rattle.jcl_convert.specs.declared.steps.DdKind.{DdKind}
+use Rattle.jcl_convert.specs.declared.steps.DdKind.TheVariants as dd
+use Rattle.jcl_convert.specs.declared.steps.Program.{Program}
+use Rattle.jcl_convert.specs.declared.steps.Program.TheVariants as program
+use Rattle.jcl_convert.specs.declared.steps.Step.{Step}
+use Rattle.jcl_convert.specs.Steps.{IsDd, IsDdKind, IsStep, AreSteps, is_sysout, sysouts, sysouts_among}
 use Rattle.job_exec.specs.declared.running.Message.{Message}
 use Rattle.job_exec.specs.declared.running.Message.TheVariants as message
 use Rattle.job_exec.specs.Listing.{listing_of}

@@ -5,13 +5,13 @@ use Rattle.mas_types.specs.declared.jobs.OutSpec.{OutSpec}
 use Rattle.mas_types.specs.Fit.{IsOutSpec}
 use Rattle.mas_types.specs.Limits.{index_most}
 use Rattle.mas_types.specs.Lists.{first_some}
-use Rattle.jcl_steps.specs.declared.steps.Dd.{Dd}
-use Rattle.jcl_steps.specs.declared.steps.DdKind.{DdKind}
-use Rattle.jcl_steps.specs.declared.steps.DdKind.TheVariants as dd
-use Rattle.jcl_steps.specs.declared.steps.Program.TheVariants as program
-use Rattle.jcl_steps.specs.declared.steps.Program.{Program}
-use Rattle.jcl_steps.specs.declared.steps.Step.{Step}
-use Rattle.jcl_steps.specs.Steps.{is_sysout}
+use Rattle.jcl_convert.specs.declared.steps.Dd.{Dd}
+use Rattle.jcl_convert.specs.declared.steps.DdKind.{DdKind}
+use Rattle.jcl_convert.specs.declared.steps.DdKind.TheVariants as dd
+use Rattle.jcl_convert.specs.declared.steps.Program.TheVariants as program
+use Rattle.jcl_convert.specs.declared.steps.Program.{Program}
+use Rattle.jcl_convert.specs.declared.steps.Step.{Step}
+use Rattle.jcl_convert.specs.Steps.{is_sysout}
 use Rattle.job_exec.specs.declared.running.Message.{Message}
 use Rattle.job_exec.specs.declared.running.Message.TheVariants as message
 

@@ -1,10 +1,10 @@
 //! Running the steps of a job.
 ghost use Rattle.std.specs.Prelude.{◌≡◌, ◌++◌, ◌∷◌, [], find, IfOk, OnOk};
 ghost use Rattle.std.specs.Option.{option_copied};
-ghost use Rattle.jcl_steps.specs.Steps.{AreSteps};
+ghost use Rattle.jcl_convert.specs.Steps.{AreSteps};
 ghost use Rattle.job_exec.specs.Running.{AreOutputs, is_named, is_not_empty as is_not_empty_lem, message_of, message_text as message_text_lem, written_to, lines_of as lines_of_lem, generated, generated_code, outputs_of_step, code_of_step, outputs_of, code_of};
 
-use jcl_steps::{Dd, DdKind, Program, Step};
+use jcl_convert::{Dd, DdKind, Program, Step};
 use mas_types::{Copied, Lines, List, NoMemory, OutSpec};
 use std::alloc::Global;
 

@@ -11,12 +11,12 @@ use Rattle.mas_types.specs.declared.jobs.Job.{Job}
 use Rattle.mas_types.specs.Number.{after, free_from, is_number_used}
 use Rattle.mas_types.specs.Queue.{has_number}
 use Rattle.lay_bytes.specs.declared.records.JobRec.{JobRec}
-use Rattle.slot_order.specs.declared.slots.Found.{Found}
-use Rattle.slot_order.proofs.Keys.{any-none, any-some}
+use Rattle.queue_slots.specs.declared.slots.Found.{Found}
+use Rattle.queue_slots.proofs.Keys.{any-none, any-some}
 use Rattle.ckpt_pages.specs.QueueOf.{used}
-use Rattle.slot_order.specs.Listed.{listed, StandsFirst}
-use Rattle.slot_order.proofs.Changes.{length-listed, listed-free}
-use Rattle.slot_order.proofs.Alike.{length-alike, push-alike}
+use Rattle.queue_slots.specs.Listed.{listed, StandsFirst}
+use Rattle.queue_slots.proofs.Changes.{length-listed, listed-free}
+use Rattle.queue_slots.proofs.Alike.{length-alike, push-alike}
 use Rattle.job_queue.specs.Jobs.{AreJobs, HasJob, order_of, unordered, rec_of}
 
 -- the number of the job that is found

@@ -8,7 +8,7 @@ use Rattle.mas_types.specs.declared.jobs.Phase.TheVariants as phase
 use Rattle.mas_types.specs.declared.jobs.Job.{Job}
 use Rattle.mas_types.specs.Queue.{in_input, in_convert, in_execute, in_output, in_hardcopy, in_purge, in_xmit, line_count}
 use Rattle.lay_bytes.specs.declared.records.JobRec.{JobRec}
-use Rattle.slot_order.specs.Telling.{Tell, TellsFirst}
+use Rattle.queue_slots.specs.Telling.{Tell, TellsFirst}
 
 abbrev pub order_of : JobRec → ℕ
 order_of r = r.order

@@ -14,7 +14,7 @@ use crate::finding::find_job;
 use crate::kinds::is_in;
 use lay_bytes::JobRec;
 use mas_types::{JobFields, JobNo, MemberId, NUMBER_MOST, Phase, Refusal};
-use slot_order::{free_slot, used_count};
+use queue_slots::{free_slot, used_count};
 use thiserror::Error;
 
 /// No slot is free.

@@ -6,13 +6,13 @@ ghost use Rattle.mas_types.specs.Lists.{is_greatest_of, has_first_key_of};
 ghost use Rattle.mas_types.specs.Queue.{has_number, is_in, is_busy_at, first_in as first_in_lem};
 ghost use Rattle.mas_types.specs.Selection.{job_prio, may_convert, may_execute, has_class, is_for_convert, for_convert};
 ghost use Rattle.mas_types.specs.Ids.{same_number};
-ghost use Rattle.slot_order.specs.Listed.{listed};
+ghost use Rattle.queue_slots.specs.Listed.{listed};
 ghost use Rattle.job_queue.specs.Jobs.{AreJobs, HasJob, in_phase, order_of};
 
 use crate::kinds::{ForConvert, ForExec, InPhase, Numbered, WorkingAt};
 use lay_bytes::JobRec;
 use mas_types::{Class, JobNo, List, MemberId, Phase};
-use slot_order::{Found, best_slot, best_slot_by_class, first_slot};
+use queue_slots::{Found, best_slot, best_slot_by_class, first_slot};
 use thiserror::Error;
 
 /// No job has the number.

@@ -6,7 +6,7 @@ ghost use Rattle.job_queue.specs.Jobs.{in_phase};
 
 use lay_bytes::JobRec;
 use mas_types::{Class, JobNo, MemberId, Phase};
-use slot_order::{Classed, Rank, Test};
+use queue_slots::{Classed, Rank, Test};
 
 /// Whether it is a member, and not nobody.
 pub fn is_somebody(busy: MemberId) -> bool

@@ -1,4 +1,4 @@
-use first_script::{SourceNo, read_script, read_source};
+use script_input::{SourceNo, read_script, read_source};
 use mas_types::limits::SCRIPT_BYTES;
 use mas_types::{Command, Dev, LineCause, Lines, List, MemberId, Name8, NoMemory, What};
 use script_lang::{Ask, ScriptNo, Step};

@@ -15,7 +15,7 @@ ghost use Rattle.duplex_pair.specs.declared.errors.PairNo.TheVariants.{Halted as
 ghost use Rattle.duplex_pair.specs.Halves.{IsCkpt, pick, other, IsBothLost, SomeAlive, Acted, AreReady};
 ghost use Rattle.duplex_pair.specs.Both.{PairActed};
 ghost use Rattle.duplex_pair.specs.Outcomes.{pair_stopped};
-ghost use Rattle.table_queues.specs.Telling.{AreToldAlike};
+ghost use Rattle.queue_tables.specs.Telling.{AreToldAlike};
 ghost use Rattle.mas_complex.specs.declared.places.Place.TheVariants.{Before as AtBefore, Put as AtPut, Opened as AtOpened, Unsure as AtUnsure};
 ghost use Rattle.mas_complex.specs.Journals.{coming, kept_all, entries_in, entries_reserved, in_flight, StepIsKept, begun, fated, HasPlace, IsPlace, with_last, end_of, IsKeptAt};
 ghost use Rattle.mas_complex.specs.Meaning.{StandFor, run, Closes};

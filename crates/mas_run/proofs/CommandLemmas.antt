@@ -12,10 +12,10 @@ use Rattle.mas_types.specs.Fit.{IsConfig}
 use Rattle.mas_types.specs.Queue.{is_member}
 use Rattle.mas_types.specs.Step.{may_give}
 use Rattle.paper_laws.specs.Counts.{is_mark}
-use Rattle.first_script.specs.Commands.{is_typed}
-use Rattle.first_script.specs.Played.{sysa}
+use Rattle.script_input.specs.Commands.{is_typed}
+use Rattle.script_input.specs.Played.{sysa}
 use Rattle.member_decks.specs.Steps.{AreOf}
-use Rattle.table_commands.specs.Given.{IsGiver, is_plain}
+use Rattle.queue_commands.specs.Given.{IsGiver, is_plain}
 use Rattle.mas_run.specs.Turns.{resets}
 
 -- it is no Mark

@@ -12,7 +12,7 @@ use Rattle.mas_types.specs.declared.queues.Queue.{Queue}
 use Rattle.mas_types.specs.Closings.{closing_line}
 use Rattle.card_reader.specs.declared.decks.Refused.{Refused}
 use Rattle.card_reader.specs.Decks.{bad, read_as, text_of}
-use Rattle.first_script.specs.Played.{sysa}
+use Rattle.script_input.specs.Played.{sysa}
 use Rattle.lock_cycle.specs.declared.standings.Standing.{Standing}
 use Rattle.lock_cycle.specs.declared.answers.LockNo.{LockNo}
 use Rattle.lock_cycle.specs.Books.{Book, beginner, new_book, standing, try_refusal, after_try, after_free}

@@ -14,8 +14,8 @@ use Rattle.script_lang.specs.Asks.{member_in, step_by, step_of}
 use Rattle.script_lang.specs.Config.{configured}
 use Rattle.script_lang.specs.Lines.{has_word, is_deck_end, is_empty, is_line, lines_of, words_of}
 use Rattle.script_lang.specs.Script.{Next, Said, and_then, closed, next, next_config, next_in, next_outside, next_step, next_words, said, said_from, start, with_setup}
-use Rattle.first_script.specs.Lines.{step_lines}
-use Rattle.first_script.specs.Script.{first_unbuilt, played, read_as, unless_unbuilt}
+use Rattle.script_input.specs.Lines.{step_lines}
+use Rattle.script_input.specs.Script.{first_unbuilt, played, read_as, unless_unbuilt}
 
 -- no step was said, and no deck is open
 pub record HasNone (s : State) : Type 0 where

@@ -12,7 +12,7 @@ use Rattle.mas_types.specs.declared.journals.Fate.TheVariants.{Kept}
 use Rattle.mas_types.specs.declared.queues.Queue.{Queue}
 use Rattle.mas_types.specs.Owners.{groups_needed}
 use Rattle.duplex_pair.specs.Halves.{SomeAlive}
-use Rattle.first_script.specs.Played.{sysa}
+use Rattle.script_input.specs.Played.{sysa}
 use Rattle.spool_disk.specs.View.{View, Line}
 use Rattle.spool_disk.specs.Acts.{Goes}
 use Rattle.spool_disk.specs.declared.plant.Part.TheVariants.{Console}

@@ -25,7 +25,7 @@ use Rattle.mas_complex.specs.Journals.{begun, fated, has_step, kept_all, with_la
 use Rattle.mas_complex.specs.Meaning.{Closes, run, step}
 use Rattle.ckpt_pages.specs.declared.tables.Tables.{Tables}
 use Rattle.queue_effect.specs.Standing.{AreFit}
-use Rattle.table_queues.specs.Telling.{Tell}
+use Rattle.queue_tables.specs.Telling.{Tell}
 use Rattle.member_node.specs.declared.checkpoint.Checkpoint.{Checkpoint}
 use Rattle.member_node.specs.Batches.{HasDone}
 use Rattle.member_node.specs.Drawn.{AreDrawn}

@@ -29,7 +29,7 @@ use Rattle.mas_types.specs.Fit.{IsConfig}
 use Rattle.mas_types.specs.Limits.{routes_most}
 use Rattle.mas_types.specs.Sound.{IsSound}
 use Rattle.mas_types.proofs.EmptyQueue.{empty_queue-sound}
-use Rattle.table_queues.specs.Telling.{Tell, TellSound}
+use Rattle.queue_tables.specs.Telling.{Tell, TellSound}
 use Rattle.mas_complex.specs.Texts.{HasTexts, Spools}
 use Rattle.spool_disk.specs.View.{View, Line, Disk}
 use Rattle.spool_disk.specs.declared.plant.Part.TheVariants.{Disk as DiskPart, Console}
@@ -46,7 +46,7 @@ use Rattle.mas_complex.specs.Crash.{setting, CopyAt, copy_of}
 use Rattle.mas_complex.specs.Headline.{Headline, AreToldKept, whole}
 use Rattle.member_node.specs.declared.member.NodeNo.{NodeNo}
 use Rattle.member_node.specs.declared.member.NodeNo.TheVariants as no_node
-use Rattle.first_script.specs.Played.{sysa}
+use Rattle.script_input.specs.Played.{sysa}
 use Rattle.lock_cycle.specs.Books.{Book}
 use Rattle.script_lang.specs.declared.types.Script.{Script}
 use Rattle.script_lang.specs.declared.types.Step.{Step}

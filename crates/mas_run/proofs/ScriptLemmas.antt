@@ -9,7 +9,7 @@ use Rattle.mas_types.specs.declared.queues.Config.{Config}
 use Rattle.mas_types.specs.declared.queues.Queue.{Queue}
 use Rattle.mas_types.specs.Limits.{page_bytes}
 use Rattle.duplex_pair.specs.Halves.{SomeAlive}
-use Rattle.first_script.specs.Played.{IsPlayed, sysa}
+use Rattle.script_input.specs.Played.{IsPlayed, sysa}
 use Rattle.lock_cycle.specs.Books.{Book}
 use Rattle.script_lang.specs.declared.types.Ask.{Ask}
 use Rattle.script_lang.specs.declared.types.Step.{Step}

@@ -26,7 +26,7 @@ use Rattle.spool_disk.specs.declared.plant.Part.TheVariants.{Disk, Printer}
 use Rattle.spool_disk.specs.View.{View}
 use Rattle.spool_disk.specs.Acts.{Goes, Rose}
 use Rattle.ckpt_copy.specs.Moments.{goes_none, goes_on}
-use Rattle.first_script.specs.Played.{IsPlayed, MayPlay, sysa}
+use Rattle.script_input.specs.Played.{IsPlayed, MayPlay, sysa}
 use Rattle.mas_complex.specs.Meaning.{run}
 use Rattle.member_decks.specs.Decks.{all_entries}
 use Rattle.member_decks.specs.Steps.{IsFoundLost}

@@ -22,7 +22,7 @@ use Rattle.ckpt_pages.proofs.GivenLevels.{their_levels}
 use Rattle.spool_disk.specs.declared.plant.Part.TheVariants.{Console, Disk as DiskPart}
 use Rattle.spool_disk.specs.View.{View, World, disk_now}
 use Rattle.spool_disk.specs.Acts.{Goes}
-use Rattle.table_queues.specs.Telling.{Tell}
+use Rattle.queue_tables.specs.Telling.{Tell}
 use Rattle.mas_complex.specs.Texts.{HasTexts, IsThereUnless, lies_on, lost_now, spools_at}
 use Rattle.spool_volumes.specs.Volumes.{volume_of}
 use Rattle.track_groups.specs.Places.{groups_of}

@@ -24,10 +24,10 @@ use Rattle.mas_complex.specs.Meaning.{step}
 use Rattle.member_decks.specs.Decks.{are_refused, given_in, takes}
 use Rattle.member_decks.specs.Steps.{AreOf}
 use Rattle.member_steps.specs.Steps.{entry_of}
-use Rattle.work_units.specs.declared.outcomes.Outcome.{Outcome}
-use Rattle.work_units.specs.declared.outcomes.Outcome.TheVariants as outcome
-use Rattle.work_units.specs.declared.units.UnitEnd.{UnitEnd}
-use Rattle.work_units.specs.declared.units.UnitEnd.TheVariants as ends
+use Rattle.job_outcome.specs.declared.outcomes.Outcome.{Outcome}
+use Rattle.job_outcome.specs.declared.outcomes.Outcome.TheVariants as outcome
+use Rattle.job_outcome.specs.declared.units.UnitEnd.{UnitEnd}
+use Rattle.job_outcome.specs.declared.units.UnitEnd.TheVariants as ends
 use Rattle.member_work.specs.Looks.{Look, first_look, read_of}
 use Rattle.member_work.specs.Units.{UnitPlay, chunk_end, drop_groups, ended_with, ending, groups_for_end, job_play, mark_play, no_unit, one_command, outcome_for, outcome_play, output_play, printed_end, spooled, taken, taken_queue, taking, unit_play}
 use Rattle.member_work.specs.Work.{Round, is_due, is_some_entry, left_between, left_in, parts_of, queue_behind, round_of, round_play, rounds, rounds_by, spent_between, spent_in, work_batches, written, written_between, written_in}

@@ -7,7 +7,7 @@ use Rattle.script_lang.specs.declared.types.Step.{Step}
 use Rattle.spool_disk.specs.declared.plant.Part.TheVariants.{Disk, Printer}
 use Rattle.spool_disk.specs.View.{View}
 use Rattle.spool_disk.specs.Acts.{Goes, Rose}
-use Rattle.first_script.specs.Played.{sysa}
+use Rattle.script_input.specs.Played.{sysa}
 use Rattle.mas_run.specs.Steps.{FindLost, Outcome, outcomes_of}
 use Rattle.mas_run.specs.Turns.{Sight, turns_of}
 

@@ -16,7 +16,7 @@ use Rattle.member_node.specs.declared.member.NodeNo.TheVariants as no_node
 use Rattle.member_node.specs.Calls.{Course, console_now}
 use Rattle.member_decks.specs.Batches.{AreAll}
 use Rattle.mas_run.specs.Runs.{IsHistory, IsSettled, IsUnclosed, IsUncut, Adds, IsStopped, HasLost}
-use Rattle.first_script.specs.Played.{sysa}
+use Rattle.script_input.specs.Played.{sysa}
 use Rattle.mas_run.specs.Turns.{Sight, Turn, turns_from}
 use Rattle.mas_run.specs.Steps.{AreOutcomes, FindLost, LeavesVolumes, Outcome, batches_in, lines_in, loses_after, next_in, outcomes_of}
 use Rattle.mas_run.specs.Statuses.{status_of}

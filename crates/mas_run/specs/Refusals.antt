@@ -11,7 +11,7 @@ use Rattle.script_lang.specs.declared.types.Run.{Run}
 use Rattle.script_lang.specs.declared.types.Script.{Script}
 use Rattle.script_lang.specs.declared.types.ScriptNo.TheVariants as no
 use Rattle.script_lang.specs.Script.{Said}
-use Rattle.first_script.specs.Script.{read_as}
+use Rattle.script_input.specs.Script.{read_as}
 use Rattle.spool_disk.specs.declared.plant.Part.TheVariants.{Disk}
 use Rattle.spool_disk.specs.View.{View}
 use Rattle.ckpt_copy.specs.Areas.{areas_size}

@@ -23,7 +23,7 @@ use Rattle.mas_types.specs.Sound.{IsSound}
 use Rattle.mas_complex.specs.Journals.{kept_all}
 use Rattle.mas_complex.specs.Meaning.{run}
 use Rattle.mas_complex.specs.Texts.{HasTexts, lost_now, spools_at}
-use Rattle.table_queues.specs.Telling.{Tell}
+use Rattle.queue_tables.specs.Telling.{Tell}
 use Rattle.spool_volumes.specs.Volumes.{IsSteady}
 use Rattle.warm_start.specs.Spooled.{AreGiven}
 use Rattle.warm_start.specs.Usable.{AreOf, HaveSize}
@@ -34,7 +34,7 @@ use Rattle.member_steps.specs.Saying.{torn}
 use Rattle.member_decks.specs.Batches.{AreAll, AreCut, AreSome, OneFlies}
 use Rattle.mas_complex.specs.Paper.{PaperKept}
 use Rattle.mas_complex.specs.Headline.{whole, IsCrashSafe, AreAlwaysAlike, AreTextsLeft, LeavesQueue, AreToldKept}
-use Rattle.first_script.specs.Played.{sysa}
+use Rattle.script_input.specs.Played.{sysa}
 use Rattle.mas_run.specs.Turns.{Sight, Turn, turns_of}
 use Rattle.mas_run.specs.Steps.{AreOutcomes, BeginsWork, FindLost, LeavesVolumes, Outcome, batches_in, lines_in, loses_after, next_in, outcomes_of}
 use Rattle.mas_run.specs.Volumes.{AreVolumesKept, AreVolumesKeptUntil}

@@ -23,7 +23,7 @@ use Rattle.member_work.specs.Rounds.{IsRound}
 use Rattle.member_work.specs.Steps.{levels_in}
 use Rattle.member_work.specs.Work.{rounds, work_batches, work_lines}
 use Rattle.script_lang.specs.Asks.{units_most}
-use Rattle.first_script.specs.Played.{sysa}
+use Rattle.script_input.specs.Played.{sysa}
 use Rattle.mas_run.specs.Turns.{Task, Reads, Gives, Works, Turn, Granted, Denied, Closed, Loss, Unplayed}
 
 -- WHAT A STEP GIVES

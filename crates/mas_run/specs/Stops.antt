@@ -15,7 +15,7 @@ use Rattle.member_steps.specs.Steps.{StepTells}
 use Rattle.member_decks.specs.Batches.{AreAll, AreCut, AreSome, OneFlies}
 use Rattle.mas_run.specs.Runs.{HasLost, IsSettled, IsStopped}
 use Rattle.mas_run.specs.Steps.{FindsLost, IsOutcome, IsWork, LeavesVolumes, Outcome, loses_after_step, outcome_of}
-use Rattle.first_script.specs.Played.{sysa}
+use Rattle.script_input.specs.Played.{sysa}
 use Rattle.mas_run.specs.Turns.{Turn}
 use Rattle.mas_run.specs.Volumes.{AreVolumesKept}
 

@@ -16,7 +16,7 @@ use Rattle.mas_types.specs.Queue.{is_member}
 use Rattle.card_reader.specs.declared.decks.Refused.{Refused}
 use Rattle.card_reader.specs.Decks.{read_as, text_of}
 use Rattle.lock_cycle.specs.declared.answers.LockNo.{LockNo}
-use Rattle.first_script.specs.Played.{sysa}
+use Rattle.script_input.specs.Played.{sysa}
 use Rattle.lock_cycle.specs.Books.{Book, try_refusal, after_try, after_free}
 use Rattle.script_lang.specs.declared.types.Ask.{Ask}
 use Rattle.script_lang.specs.declared.types.Ask.TheVariants as ask

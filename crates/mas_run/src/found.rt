@@ -11,7 +11,7 @@ ghost use Rattle.spool_disk.specs.Acts.{Goes};
 ghost use Rattle.ckpt_copy.specs.Areas.{reads, areas_size};
 ghost use Rattle.ckpt_pages.specs.Shape.{page_count};
 ghost use Rattle.duplex_pair.specs.Halves.{SomeAlive};
-ghost use Rattle.first_script.specs.Played.{IsPlayed, sysa};
+ghost use Rattle.script_input.specs.Played.{IsPlayed, sysa};
 ghost use Rattle.warm_start.specs.Starting.{OnlyLookedAtAll};
 ghost use Rattle.member_decks.specs.Spooling.{AreRoomy};
 ghost use Rattle.member_node.specs.Calls.{Grows, console_now};
@@ -19,7 +19,7 @@ ghost use Rattle.member_node.specs.Copies.{RestsAt};
 ghost use Rattle.member_node.specs.Drawn.{AreDrawn};
 ghost use Rattle.member_steps.specs.Locked.{IsOpenTo};
 ghost use Rattle.queue_effect.specs.Standing.{AreFit};
-ghost use Rattle.table_queues.specs.Telling.{Tell, TellSound};
+ghost use Rattle.queue_tables.specs.Telling.{Tell, TellSound};
 ghost use Rattle.mas_run.specs.Turns.{Sight, turns_from};
 ghost use Rattle.mas_run.specs.Runs.{has_begun, Begins, IsUnbegun, HasSteps, IsRun};
 ghost use Rattle.mas_run.specs.Statuses.{IsCaused, IsCausedFrom, is_of_play, is_of_text};
@@ -37,7 +37,7 @@ use queue_effect::law_of_fit_tables;
 use script_lang::{Script, Step};
 use spool_disk::Plant;
 use std::alloc::Global;
-use table_queues::law_of_told_queues;
+use queue_tables::law_of_told_queues;
 use warm_start::{StartNo, Started, Unstarted, warm};
 
 /// The operator, who gives Restart.

@@ -15,7 +15,7 @@ ghost use Rattle.ckpt_copy.specs.Areas.{reads};
 ghost use Rattle.ckpt_pages.specs.Shape.{IsRoute};
 ghost use Rattle.ckpt_pages.specs.Starts.{empty_tables};
 ghost use Rattle.duplex_pair.specs.Halves.{SomeAlive};
-ghost use Rattle.first_script.specs.Played.{IsPlayed, sysa};
+ghost use Rattle.script_input.specs.Played.{IsPlayed, sysa};
 ghost use Rattle.script_laws.specs.Limits.{IsScript};
 ghost use Rattle.mas_complex.specs.Headline.{Headline};
 ghost use Rattle.mas_complex.specs.Journals.{end_of, kept_all};
@@ -46,7 +46,7 @@ use member_node::{Member, NodeNo, blank};
 use script_lang::{Script, Step};
 use spool_disk::Plant;
 use std::alloc::Global;
-use table_queues::law_of_told_queues;
+use queue_tables::law_of_told_queues;
 use warm_start::refuse_small;
 
 /// The operator, who formats the copies.

@@ -9,7 +9,7 @@ ghost use Rattle.duplex_pair.specs.Halves.{SomeAlive};
 ghost use Rattle.mas_complex.specs.Journals.{begun, end_of, kept_all};
 ghost use Rattle.mas_complex.specs.Meaning.{run};
 ghost use Rattle.queue_effect.specs.Standing.{AreFit};
-ghost use Rattle.table_queues.specs.Telling.{Tell, TellSound};
+ghost use Rattle.queue_tables.specs.Telling.{Tell, TellSound};
 ghost use Rattle.member_node.specs.Batches.{HasDone};
 ghost use Rattle.mas_run.specs.Resets.{restart_entries};
 

@@ -7,8 +7,8 @@ ghost use Rattle.mas_types.specs.Limits.{steps_most};
 ghost use Rattle.mas_types.specs.Sound.{IsSound};
 ghost use Rattle.spool_disk.specs.View.{disk_now};
 ghost use Rattle.duplex_pair.specs.Halves.{SomeAlive};
-ghost use Rattle.first_script.specs.Commands.{is_typed};
-ghost use Rattle.first_script.specs.Played.{IsPlayed};
+ghost use Rattle.script_input.specs.Commands.{is_typed};
+ghost use Rattle.script_input.specs.Played.{IsPlayed};
 ghost use Rattle.mas_complex.specs.Crash.{IsUntold, setting};
 ghost use Rattle.mas_complex.specs.Journals.{end_of, kept_all};
 ghost use Rattle.mas_complex.specs.Meaning.{run};
@@ -67,7 +67,7 @@ impl<P: Plant + Drop, C: Steady + Drop> Running<P, C> {
     ghost use Rattle.member_work.specs.Steps.{IsCount, levels_in};
     ghost use Rattle.mas_run.specs.Steps.{batches_most};
     ghost use Rattle.mas_run.specs.Stops.{IsStepOf};
-    ghost use Rattle.first_script.specs.Played.{sysa};
+    ghost use Rattle.script_input.specs.Played.{sysa};
     ghost use Rattle.mas_run.specs.Turns.{Gives, Works, Closed, Loss, Sight, task_turn, command_turn, deck_turn, resets, after_tried, after_command, after_deck, turn_at, book_after};
     ghost use Rattle.card_reader.specs.Decks.{read_as, text_of};
 

@@ -1,8 +1,8 @@
 -- What the words ask for.
 use Rattle.std.proofs.Common.{◌≡◌, ◌⊎◌, inl, inr, Bool, Option, Some, None, Err, refl, ap}
-use Rattle.command_words.specs.declared.types.WordsNo.{WordsNo}
-use Rattle.command_words.specs.declared.types.WordsNo.TheVariants as no_words
-use Rattle.command_words.specs.Words.{Reads}
+use Rattle.mas_words.specs.declared.types.WordsNo.{WordsNo}
+use Rattle.mas_words.specs.declared.types.WordsNo.TheVariants as no_words
+use Rattle.mas_words.specs.Words.{Reads}
 use Rattle.mas_types.specs.declared.answers.Status.{Status}
 use Rattle.mas_types.specs.declared.answers.Status.TheVariants as status
 use Rattle.mas_types.specs.declared.queues.Queue.{Queue}

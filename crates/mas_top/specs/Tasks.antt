@@ -1,13 +1,13 @@
 -- What the words ask for, of what is built.
 use Rattle.std.specs.Prelude.{ℕ, Bool, List, Option, Some, None, option_and_then}
-use Rattle.command_words.specs.declared.types.Verb.{Verb}
-use Rattle.command_words.specs.declared.types.Verb.TheVariants as verb
-use Rattle.command_words.specs.declared.types.Words.{Words}
-use Rattle.command_words.specs.declared.types.WordsNo.{WordsNo}
-use Rattle.command_words.specs.declared.types.WordsNo.TheVariants as no_words
+use Rattle.mas_words.specs.declared.types.Verb.{Verb}
+use Rattle.mas_words.specs.declared.types.Verb.TheVariants as verb
+use Rattle.mas_words.specs.declared.types.Words.{Words}
+use Rattle.mas_words.specs.declared.types.WordsNo.{WordsNo}
+use Rattle.mas_words.specs.declared.types.WordsNo.TheVariants as no_words
 use Rattle.mas_types.specs.declared.answers.Status.{Status}
 use Rattle.mas_types.specs.declared.answers.Status.TheVariants as status
-use Rattle.command_words.specs.Words.{words_of}
+use Rattle.mas_words.specs.Words.{words_of}
 use Rattle.mas_top.specs.declared.tasks.Task.{Task}
 use Rattle.mas_top.specs.declared.tasks.Task.TheVariants as task
 

@@ -1,9 +1,9 @@
 //! What the program does.
 ghost use Rattle.std.specs.Prelude.{◌≡◌, map, string_bytes};
-ghost use Rattle.command_words.specs.Words.{Reads};
+ghost use Rattle.mas_words.specs.Words.{Reads};
 ghost use Rattle.mas_top.specs.Tasks.{status_of_no as status_of_no_lem, task_asked, task_of as task_of_lem};
 
-use command_words::{Verb, Words, WordsNo, read_words};
+use mas_words::{Verb, Words, WordsNo, read_words};
 use mas_types::Status;
 use std::alloc::Global;
 

@@ -19,7 +19,7 @@ use Rattle.member_core.specs.declared.worlds.World.{World}
 use Rattle.member_core.specs.Worlds.{is_ready, is_logged1, acts, first_copy, second_copy, flying, is_up, kept, member_at}
 use Rattle.member_core.specs.Events.{allowed}
 use Rattle.member_core.specs.Holds.{AreGiven, Holds, IsReady, IsLogged1}
-use Rattle.plain_queue.proofs.Rows.{few_lines}
+use Rattle.model_queue.proofs.Rows.{few_lines}
 use Rattle.member_core.proofs.Basics.{test_cases, acting_inside, all_append, and_both, and_left, ready_is, logged1_is}
 use Rattle.member_core.proofs.Locks.{up_acts}
 

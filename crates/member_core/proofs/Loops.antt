@@ -13,7 +13,7 @@ use Rattle.mas_types.specs.Lists.{change_at}
 use Rattle.member_core.specs.declared.worlds.CopyAt.{CopyAt}
 use Rattle.member_core.specs.Worlds.{is_nil, entries_kept, entries_flying, kept_in, flying_in, fate_after, settled, on_copies, same_copy, is_of, is_unkept, has_unkept}
 use Rattle.member_core.specs.Events.{new_member, new_members}
-use Rattle.plain_queue.proofs.Writes.{drop_here}
+use Rattle.model_queue.proofs.Writes.{drop_here}
 
 -- no entry is in flight exactly where no batch in flight has one
 none_flying_head : (f : Fate) (es rest : List Entry) (any : Bool) → not any ≡ is_nil rest → not ((is_flying f && not (is_nil es)) || any) ≡ is_nil (entries_flying f es ++ rest)

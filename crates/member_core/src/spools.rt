@@ -13,8 +13,8 @@ use crate::stages::{is_away, is_ready};
 use crate::worlds::{Inked, MemberAt, World};
 use crate::writes::find_output;
 use mas_types::{GroupNo, List, MemberId, NoMemory, Output, Queue};
-use plain_queue::outputs::{printing_at, total};
-use plain_queue::picking::{Picks, remove_each};
+use model_queue::outputs::{printing_at, total};
+use model_queue::picking::{Picks, remove_each};
 
 /// The groups of a spool volume.
 #[derive(Clone, Copy)]

@@ -26,7 +26,7 @@ use crate::turns::{free, lock, primary, read_first, read_second, seize};
 use crate::worlds::{Event, World};
 use crate::writes::{do_command, is_allowed, log_first, log_second, open_copy1, open_copy2};
 use mas_types::{Command, Copied, Dev, GroupNo, List, MemberId, NoMemory, Queue, Reply};
-use plain_queue::{run, step_plain};
+use model_queue::{run, step_plain};
 use std::alloc::Global;
 
 /// The queue after the member's own list.

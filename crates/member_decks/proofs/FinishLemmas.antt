@@ -20,9 +20,9 @@ use Rattle.mas_types.specs.Limits.{members_most}
 use Rattle.mas_types.specs.Step as table
 use Rattle.spool_disk.specs.View.{View}
 use Rattle.queue_texts.specs.Leaving.{AreTheirOwn, OthersLeaveTexts}
-use Rattle.brought_texts.specs.Entering.{EnterBringsText, groups_for}
-use Rattle.brought_texts.proofs.BroughtLemmas.{brought_holds}
-use Rattle.table_commands.specs.Given.{IsGiver}
+use Rattle.queue_texts.specs.Entering.{EnterBringsText, groups_for}
+use Rattle.queue_texts.proofs.BroughtLemmas.{brought_holds}
+use Rattle.queue_commands.specs.Given.{IsGiver}
 use Rattle.mas_complex.specs.Journals.{kept_all}
 use Rattle.mas_complex.specs.Meaning.{run}
 use Rattle.mas_complex.specs.Texts.{HasTexts, IsThere, IsThereUnless, Spools, spools_at}

@@ -17,8 +17,8 @@ use Rattle.lay_bytes.specs.declared.records.JobRec.{JobRec}
 use Rattle.lay_bytes.specs.declared.records.OutRec.{OutRec}
 use Rattle.ckpt_pages.specs.declared.tables.Tables.{Tables}
 use Rattle.ckpt_pages.specs.QueueOf.{queue_of}
-use Rattle.table_queues.specs.Telling.{Tell, TellSound}
-use Rattle.table_queues.proofs.ToldLemmas.{tell_given}
+use Rattle.queue_tables.specs.Telling.{Tell, TellSound}
+use Rattle.queue_tables.proofs.ToldLemmas.{tell_given}
 use Rattle.queue_texts.specs.Leaving.{OthersLeaveTexts, ToldAreTheirOwn}
 use Rattle.mas_complex.specs.Meaning.{run, step}
 use Rattle.mas_complex.specs.Texts.{HasTexts}

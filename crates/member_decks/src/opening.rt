@@ -6,7 +6,7 @@ ghost use Rattle.mas_types.specs.Fit.{IsJobFields};
 ghost use Rattle.mas_types.specs.Limits.{members_most};
 ghost use Rattle.mas_types.specs.Queue.{is_member};
 ghost use Rattle.ckpt_pages.specs.Shape.{HasSpelling};
-ghost use Rattle.table_queues.specs.Telling.{Tell, TellSound};
+ghost use Rattle.queue_tables.specs.Telling.{Tell, TellSound};
 ghost use Rattle.queue_effect.specs.Standing.{AreFit};
 ghost use Rattle.member_node.specs.Batches.{HasDone};
 ghost use Rattle.member_decks.specs.Decks.{are_refused, ends_as};

@@ -29,7 +29,7 @@ use crate::holding::take_hold;
 use crate::keeping::{close_deck, finishing, give_up, keep_batch};
 use crate::opening::{Opened, open_deck};
 use crate::spooling::{SpoolNo, spool_text};
-use brought_texts::law_of_entered_texts;
+use queue_texts::law_of_entered_texts;
 use mas_complex::{Complex, Steady};
 use mas_types::{JobFields, JobNo, Lines};
 use member_node::{Member, NodeNo};

@@ -24,7 +24,7 @@ use Rattle.ckpt_pages.specs.Shape.{IsRoute}
 use Rattle.ckpt_pages.specs.Starts.{empty_tables, first_levels}
 use Rattle.ckpt_pages.specs.Laws.{EmptyHasSpelling, AreFirstLevels}
 use Rattle.mas_types.specs.declared.queues.Queue.{Queue}
-use Rattle.table_queues.specs.Telling.{Tell, PagesTell}
+use Rattle.queue_tables.specs.Telling.{Tell, PagesTell}
 use Rattle.mas_complex.specs.Meaning.{StandFor}
 use Rattle.mas_complex.specs.Changed.{NamesOnly}
 use Rattle.member_node.specs.Drawn.{AreDrawn, raised}

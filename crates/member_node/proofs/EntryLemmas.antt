@@ -14,7 +14,7 @@ use Rattle.mas_types.specs.declared.queues.Queue.{Queue}
 use Rattle.mas_types.specs.Step.{row_of}
 use Rattle.ckpt_pages.specs.declared.tables.Tables.{Tables}
 use Rattle.ckpt_pages.specs.Shape.{HasSpelling, AreLevels, page_count}
-use Rattle.table_queues.specs.Telling.{Tell, PagesTell}
+use Rattle.queue_tables.specs.Telling.{Tell, PagesTell}
 use Rattle.queue_effect.specs.Standing.{AreFit, Plays}
 use Rattle.mas_complex.specs.Meaning.{step, run}
 use Rattle.mas_complex.specs.Replies.{HaveReplies}

@@ -18,7 +18,7 @@ use Rattle.ckpt_pages.specs.Checkpoints.{IsCheckpoint, IsLeastBad, SpellSome, Sp
 use Rattle.ckpt_pages.specs.Given.{levels_given, AreTheirLevels}
 use Rattle.ckpt_pages.specs.Pages.{page_in}
 use Rattle.ckpt_pages.specs.Shape.{page_count}
-use Rattle.table_queues.specs.Telling.{Tell}
+use Rattle.queue_tables.specs.Telling.{Tell}
 use Rattle.mas_complex.specs.Meaning.{StandFor}
 use Rattle.member_node.specs.declared.checkpoint.Checkpoint.{Checkpoint}
 use Rattle.member_node.specs.Drawn.{AreDrawn}

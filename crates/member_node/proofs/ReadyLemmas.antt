@@ -6,8 +6,8 @@ use Rattle.mas_types.specs.declared.queues.Queue.{Queue}
 use Rattle.ckpt_copy.specs.Pages.{bytes_of, ArePages}
 use Rattle.ckpt_pages.specs.declared.tables.Tables.{Tables}
 use Rattle.ckpt_pages.specs.Shape.{page_count}
-use Rattle.table_queues.specs.Laws.{PagesTellAlike}
-use Rattle.table_queues.specs.Telling.{Tell, PagesTell}
+use Rattle.queue_tables.specs.Laws.{PagesTellAlike}
+use Rattle.queue_tables.specs.Telling.{Tell, PagesTell}
 use Rattle.mas_complex.specs.Meaning.{run}
 use Rattle.mas_complex.specs.declared.places.Place.{Place}
 use Rattle.member_node.specs.declared.checkpoint.Checkpoint.{Checkpoint}

@@ -9,7 +9,7 @@ use Rattle.mas_types.specs.Limits.{page_bytes}
 use Rattle.spool_disk.specs.Acts.{top}
 use Rattle.ckpt_copy.specs.Pages.{bytes_of, level}
 use Rattle.ckpt_pages.specs.Shape.{HasSpelling, AreLevels, page_count}
-use Rattle.table_queues.specs.Telling.{Tell, PagesTell, AreToldAlike}
+use Rattle.queue_tables.specs.Telling.{Tell, PagesTell, AreToldAlike}
 use Rattle.mas_complex.specs.Meaning.{StandFor, run}
 use Rattle.mas_complex.specs.Replies.{HaveReplies}
 use Rattle.queue_effect.specs.Standing.{AreFit}

@@ -7,16 +7,16 @@ ghost use Rattle.mas_types.specs.Fit.{IsConfig, IsFit};
 ghost use Rattle.mas_types.specs.Limits.{pages_most};
 ghost use Rattle.ckpt_pages.specs.Shape.{HasSpelling};
 ghost use Rattle.mas_types.specs.Step.{may_give};
-ghost use Rattle.table_queues.specs.Telling.{Tell, TellSound};
+ghost use Rattle.queue_tables.specs.Telling.{Tell, TellSound};
 ghost use Rattle.mas_complex.specs.Meaning.{step as step_of};
 ghost use Rattle.queue_effect.specs.Standing.{AreFit, IfRefused};
-ghost use Rattle.table_commands.specs.Given.{IsGiver};
+ghost use Rattle.queue_commands.specs.Given.{IsGiver};
 
 use crate::checkpoint::{Checkpoint, blank};
 use mas_types::limits::PAGE_BYTES;
 use mas_types::{Command, Config, Entry, List, MemberId, NoMemory, Page, Reply};
 use std::alloc::Global;
-use table_commands::give;
+use queue_commands::give;
 use thiserror::Error;
 
 /// Why a member's call wasn't done.

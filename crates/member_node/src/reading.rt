@@ -17,7 +17,7 @@ ghost use Rattle.mas_complex.specs.Journals.{kept_all};
 ghost use Rattle.mas_complex.specs.Locking.{IsOperatorAway, MayAct};
 ghost use Rattle.mas_complex.specs.Meaning.{run};
 ghost use Rattle.member_node.specs.declared.member.NodeNo.TheVariants as no_node;
-ghost use Rattle.table_queues.specs.Telling.{Tell};
+ghost use Rattle.queue_tables.specs.Telling.{Tell};
 ghost use Rattle.mas_complex.specs.declared.places.Place.TheVariants.{Before};
 ghost use Rattle.member_node.specs.Calls.{Course};
 ghost use Rattle.member_node.specs.Reads.{ArePagesOf, IsCalm, IsRead, IsReadWhole, MayGoOn, ReadsAs, StandAt, copies_alive, is_job_below, is_output_below};

@@ -18,8 +18,8 @@ use Rattle.ckpt_pages.specs.declared.tables.Tables.{Tables}
 use Rattle.ckpt_pages.specs.Checkpoints.{IsCheckpoint}
 use Rattle.ckpt_pages.specs.Shape.{page_count}
 use Rattle.ckpt_pages.proofs.DecodingLemmas.{one_value}
-use Rattle.table_queues.specs.Telling.{Tell, TellSound}
-use Rattle.table_queues.proofs.ToldLemmas.{tell_alike}
+use Rattle.queue_tables.specs.Telling.{Tell, TellSound}
+use Rattle.queue_tables.proofs.ToldLemmas.{tell_alike}
 use Rattle.duplex_pair.specs.Halves.{SomeAlive}
 use Rattle.queue_effect.specs.Standing.{AreFit}
 use Rattle.mas_complex.specs.declared.places.Place.{Place}

@@ -14,10 +14,10 @@ use Rattle.paper_laws.specs.Counts.{is_mark}
 use Rattle.queue_laws.proofs.RunLaws.{give_alike, runs_keep_configuration}
 use Rattle.ckpt_pages.specs.declared.tables.Tables.{Tables}
 use Rattle.ckpt_pages.specs.Shape.{AreLevels, HasSpelling, page_count}
-use Rattle.table_queues.specs.Telling.{Tell, TellSound}
+use Rattle.queue_tables.specs.Telling.{Tell, TellSound}
 use Rattle.queue_texts.specs.Leaving.{OthersLeaveTexts, ToldAreTheirOwn}
 use Rattle.mas_complex.specs.Texts.{Spools, HasTexts}
-use Rattle.table_commands.specs.Given.{is_plain}
+use Rattle.queue_commands.specs.Given.{is_plain}
 use Rattle.mas_types.specs.declared.queues.Queue.{Queue}
 use Rattle.spool_disk.specs.declared.plant.Part.TheVariants.{Console}
 use Rattle.spool_disk.specs.View.{View, Line}

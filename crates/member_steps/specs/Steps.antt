@@ -14,7 +14,7 @@ use Rattle.spool_disk.specs.View.{View, Line}
 use Rattle.spool_disk.specs.Acts.{Rose}
 use Rattle.duplex_pair.specs.Halves.{IsBothLost}
 use Rattle.ckpt_pages.specs.declared.tables.Tables.{Tables}
-use Rattle.table_queues.specs.Telling.{Tell, TellSound}
+use Rattle.queue_tables.specs.Telling.{Tell, TellSound}
 use Rattle.queue_effect.specs.Standing.{AreFit}
 use Rattle.mas_complex.specs.Headline.{whole}
 use Rattle.mas_complex.specs.Journals.{begun, kept_all}

@@ -13,7 +13,7 @@ ghost use Rattle.mas_complex.specs.Crash.{IsUntold, setting};
 ghost use Rattle.mas_complex.specs.Journals.{end_of, kept_all};
 ghost use Rattle.mas_complex.specs.Locking.{IsUp};
 ghost use Rattle.mas_complex.specs.Meaning.{run};
-ghost use Rattle.table_commands.specs.Given.{IsGiver, is_plain};
+ghost use Rattle.queue_commands.specs.Given.{IsGiver, is_plain};
 ghost use Rattle.member_node.specs.Reads.{IsCalm, ReadsLow, orders_after, too_high};
 ghost use Rattle.member_steps.specs.Locked.{IsDenial, IsOpenTo, closing_of as closing_of_lem, denied_lines as denied_lines_lem};
 ghost use Rattle.member_steps.specs.Steps.{AreAllKept, GivesStep, IsAtLock, IsToldSound, entry_of};

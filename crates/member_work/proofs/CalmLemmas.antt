@@ -28,14 +28,14 @@ use Rattle.spool_disk.specs.declared.plant.Part.TheVariants.{Disk as DiskPart, P
 use Rattle.spool_disk.specs.View.{View}
 use Rattle.spool_disk.specs.Acts.{Rose}
 use Rattle.member_decks.specs.Decks.{all_entries, are_refused}
-use Rattle.work_units.specs.declared.outcomes.Outcome.{Outcome}
-use Rattle.work_units.specs.declared.outcomes.Outcome.TheVariants as outcome
-use Rattle.work_units.specs.declared.outcomes.Read.{Read}
-use Rattle.work_units.specs.declared.outcomes.Read.TheVariants as read
-use Rattle.work_units.specs.declared.units.UnitEnd.{UnitEnd}
-use Rattle.work_units.specs.declared.units.UnitEnd.TheVariants as ends
-use Rattle.work_units.specs.Next.{end_by}
-use Rattle.work_units.specs.Outcomes.{outcome_of}
+use Rattle.job_outcome.specs.declared.outcomes.Outcome.{Outcome}
+use Rattle.job_outcome.specs.declared.outcomes.Outcome.TheVariants as outcome
+use Rattle.job_outcome.specs.declared.outcomes.Read.{Read}
+use Rattle.job_outcome.specs.declared.outcomes.Read.TheVariants as read
+use Rattle.job_outcome.specs.declared.units.UnitEnd.{UnitEnd}
+use Rattle.job_outcome.specs.declared.units.UnitEnd.TheVariants as ends
+use Rattle.job_outcome.specs.Next.{end_by}
+use Rattle.job_outcome.specs.Outcomes.{outcome_of}
 use Rattle.member_work.specs.Laws.{CalmWorkIsOfTheQueue}
 use Rattle.member_work.specs.Looks.{Look, as_it_is, calm, first_look, read_of}
 use Rattle.member_work.specs.Rounds.{IsLookAt, IsLookOf, IsPrintLook, IsReadAs, IsRound, IsSpooledFor, IsSpooledIn}

@@ -27,15 +27,15 @@ use Rattle.spool_disk.specs.View.{View}
 use Rattle.spool_disk.specs.Acts.{Goes}
 use Rattle.member_decks.specs.Decks.{are_refused, closing_reply, given_in}
 use Rattle.member_decks.specs.Steps.{IsFoundLost}
-use Rattle.work_units.specs.declared.outcomes.Outcome.{Outcome}
-use Rattle.work_units.specs.declared.outcomes.Outcome.TheVariants as outcome
-use Rattle.work_units.specs.declared.outcomes.Read.{Read}
-use Rattle.work_units.specs.declared.outcomes.Read.TheVariants as read
-use Rattle.work_units.specs.declared.units.UnitEnd.{UnitEnd}
-use Rattle.work_units.specs.declared.units.UnitEnd.TheVariants as ends
-use Rattle.work_units.specs.Next.{end_by}
-use Rattle.work_units.specs.Outcomes.{converted_as, outcome_of, outcome_of_text}
-use Rattle.work_units.specs.Meaning.{listed}
+use Rattle.job_outcome.specs.declared.outcomes.Outcome.{Outcome}
+use Rattle.job_outcome.specs.declared.outcomes.Outcome.TheVariants as outcome
+use Rattle.job_outcome.specs.declared.outcomes.Read.{Read}
+use Rattle.job_outcome.specs.declared.outcomes.Read.TheVariants as read
+use Rattle.job_outcome.specs.declared.units.UnitEnd.{UnitEnd}
+use Rattle.job_outcome.specs.declared.units.UnitEnd.TheVariants as ends
+use Rattle.job_outcome.specs.Next.{end_by}
+use Rattle.job_outcome.specs.Outcomes.{converted_as, outcome_of, outcome_of_text}
+use Rattle.job_outcome.specs.Meaning.{listed}
 use Rattle.member_work.specs.Causes.{MayClose, MayEndUnit, MayRefuse, MayStop}
 use Rattle.member_work.specs.Looks.{as_it_is, calm}
 use Rattle.member_work.specs.Reading.{IsFailedRead}

@@ -19,8 +19,8 @@ use Rattle.mas_types.specs.Step.{may_give}
 use Rattle.spool_disk.specs.View.{View}
 use Rattle.ckpt_pages.specs.declared.tables.Tables.{Tables}
 use Rattle.ckpt_pages.specs.Shape.{AreLevels, HasSpelling, page_count}
-use Rattle.table_queues.specs.Telling.{Tell, TellSound}
-use Rattle.table_commands.specs.Given.{is_plain}
+use Rattle.queue_tables.specs.Telling.{Tell, TellSound}
+use Rattle.queue_commands.specs.Given.{is_plain}
 use Rattle.queue_effect.specs.Standing.{AreFit}
 use Rattle.queue_texts.specs.Leaving.{OthersLeaveTexts, ToldAreTheirOwn}
 use Rattle.mas_complex.specs.Journals.{kept_all}
@@ -37,9 +37,9 @@ use Rattle.member_steps.specs.Steps.{entry_of, entry_with, reply_to}
 use Rattle.member_steps.proofs.StepLemmas.{may_alike}
 use Rattle.member_decks.specs.Steps.{AreOf}
 use Rattle.member_decks.proofs.OpenLemmas.{reply_done}
-use Rattle.work_units.specs.declared.units.UnitEnd.{UnitEnd}
-use Rattle.work_units.specs.declared.units.UnitEnd.TheVariants as ends
-use Rattle.work_units.specs.Next.{IsNamedEnd, end_by}
+use Rattle.job_outcome.specs.declared.units.UnitEnd.{UnitEnd}
+use Rattle.job_outcome.specs.declared.units.UnitEnd.TheVariants as ends
+use Rattle.job_outcome.specs.Next.{IsNamedEnd, end_by}
 use Rattle.member_work.specs.Steps.{IsAtWork, IsCommanded, IsKeeping, IsPlayed}
 use Rattle.member_work.specs.Work.{batches_in}
 use Rattle.member_work.proofs.BeginLemmas.{more_begins}

@@ -36,7 +36,7 @@ use Rattle.queue_laws.proofs.Finds.{test_cases}
 use Rattle.ckpt_pages.specs.declared.tables.Tables.{Tables}
 use Rattle.ckpt_pages.specs.Shape.{HasSpelling}
 use Rattle.queue_effect.specs.Standing.{AreFit}
-use Rattle.table_queues.specs.Telling.{Tell, TellSound}
+use Rattle.queue_tables.specs.Telling.{Tell, TellSound}
 use Rattle.queue_texts.specs.Leaving.{HoldsOfTexts, OthersLeaveTexts, ToldAreTheirOwn, WasThere}
 use Rattle.mas_complex.specs.Meaning.{run, step}
 use Rattle.mas_complex.specs.Texts.{HasTexts, IsThere, IsThereUnless, Spools}
@@ -49,10 +49,10 @@ use Rattle.member_decks.specs.Steps.{AreOf}
 use Rattle.member_decks.specs.Taking.{IsPart}
 use Rattle.member_decks.proofs.HeldLemmas.{counted}
 use Rattle.member_decks.proofs.TakeLemmas.{refused_last, refused_more, refused_none, take_counts}
-use Rattle.work_units.specs.declared.units.UnitEnd.{UnitEnd}
-use Rattle.work_units.specs.declared.units.UnitEnd.TheVariants as ends
-use Rattle.work_units.specs.Ending.{EndedBringsTexts, IsOfOutput, shares}
-use Rattle.work_units.specs.Next.{IsNamedEnd, end_by}
+use Rattle.job_outcome.specs.declared.units.UnitEnd.{UnitEnd}
+use Rattle.job_outcome.specs.declared.units.UnitEnd.TheVariants as ends
+use Rattle.job_outcome.specs.Ending.{EndedBringsTexts, IsOfOutput, shares}
+use Rattle.job_outcome.specs.Next.{IsNamedEnd, end_by}
 use Rattle.member_work.specs.Giving.{GivesAt, HasGiven, IsSoundPlain, LeaveWhere, MayEnd}
 use Rattle.member_work.specs.Spooled.{AreSpooled}
 use Rattle.member_work.specs.Units.{drop_groups, ending, is_refusal, taken_end, taking}

@@ -21,7 +21,7 @@ use Rattle.mas_types.specs.declared.queues.Thing.TheVariants.{Deck}
 use Rattle.mas_types.specs.Ids.{same_number}
 use Rattle.mas_types.specs.Queue.{job_at}
 use Rattle.queue_laws.proofs.Finds.{find-All}
-use Rattle.slot_order.specs.Listed.{listed}
+use Rattle.queue_slots.specs.Listed.{listed}
 use Rattle.lay_bytes.specs.declared.records.JobRec.{JobRec}
 use Rattle.job_queue.specs.Jobs.{order_of}
 use Rattle.spool_disk.specs.View.{View}
@@ -33,13 +33,13 @@ use Rattle.member_steps.specs.Steps.{entry_with}
 use Rattle.member_decks.specs.Decks.{are_refused, given_in, takes}
 use Rattle.member_decks.specs.Steps.{AreOf}
 use Rattle.member_decks.proofs.OpenLemmas.{on_ok}
-use Rattle.work_units.specs.declared.outcomes.Outcome.{Outcome}
-use Rattle.work_units.specs.declared.outcomes.Outcome.TheVariants as outcome
-use Rattle.work_units.specs.declared.outcomes.Read.TheVariants as read
-use Rattle.work_units.specs.declared.units.UnitEnd.{UnitEnd}
-use Rattle.work_units.specs.declared.units.UnitEnd.TheVariants as ends
-use Rattle.work_units.specs.Next.{end_by}
-use Rattle.work_units.specs.Outcomes.{outcome_of}
+use Rattle.job_outcome.specs.declared.outcomes.Outcome.{Outcome}
+use Rattle.job_outcome.specs.declared.outcomes.Outcome.TheVariants as outcome
+use Rattle.job_outcome.specs.declared.outcomes.Read.TheVariants as read
+use Rattle.job_outcome.specs.declared.units.UnitEnd.{UnitEnd}
+use Rattle.job_outcome.specs.declared.units.UnitEnd.TheVariants as ends
+use Rattle.job_outcome.specs.Next.{end_by}
+use Rattle.job_outcome.specs.Outcomes.{outcome_of}
 use Rattle.member_work.specs.Gone.{gone_with}
 use Rattle.member_work.specs.JobSteps.{IsOutcomeStep, IsTextStep}
 use Rattle.member_work.specs.Looks.{Look, as_it_is, calm}

@@ -27,7 +27,7 @@ use Rattle.ckpt_pages.specs.Shape.{HasSpelling}
 use Rattle.job_queue.specs.Jobs.{AreJobs, HasJob}
 use Rattle.lock_cycle.specs.Books.{Book, IsMember, after_free, is_holder}
 use Rattle.spool_disk.specs.View.{View}
-use Rattle.table_queues.specs.Telling.{Tell}
+use Rattle.queue_tables.specs.Telling.{Tell}
 use Rattle.track_groups.specs.Groups.{groups_where, is_things}
 use Rattle.track_groups.specs.Laws.{AreItsOwn}
 use Rattle.track_groups.specs.Places.{groups_of}
@@ -35,8 +35,8 @@ use Rattle.mas_complex.specs.Spool.{IsGroupOf}
 use Rattle.mas_complex.specs.Texts.{HasTexts, IsThereUnless, lost_now, spools_at}
 use Rattle.member_decks.specs.Spooling.{AreRoomy}
 use Rattle.member_decks.proofs.PageLemmas.{all_at}
-use Rattle.work_units.specs.declared.outcomes.Read.{Read}
-use Rattle.work_units.specs.declared.outcomes.Read.TheVariants as read
+use Rattle.job_outcome.specs.declared.outcomes.Read.{Read}
+use Rattle.job_outcome.specs.declared.outcomes.Read.TheVariants as read
 use Rattle.member_work.specs.Reading.{IsFailedRead, IsReadOf}
 use Rattle.member_work.specs.Rounds.{HasFailed, IsReadAs, IsWhole}
 use Rattle.member_work.specs.Steps.{IsTold}

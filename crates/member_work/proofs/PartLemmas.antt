@@ -42,9 +42,9 @@ use Rattle.member_decks.specs.Steps.{AreOf}
 use Rattle.ckpt_copy.specs.Moments.{goes_none}
 use Rattle.member_decks.proofs.DeckLemmas.{given_of}
 use Rattle.member_decks.proofs.TakeLemmas.{take_counts}
-use Rattle.work_units.specs.declared.units.UnitEnd.{UnitEnd}
-use Rattle.work_units.specs.declared.units.UnitEnd.TheVariants as ends
-use Rattle.work_units.specs.Next.{end_by}
+use Rattle.job_outcome.specs.declared.units.UnitEnd.{UnitEnd}
+use Rattle.job_outcome.specs.declared.units.UnitEnd.TheVariants as ends
+use Rattle.job_outcome.specs.Next.{end_by}
 use Rattle.member_work.specs.Causes.{MayEndUnit}
 use Rattle.member_work.specs.Ending.{IsLastPart}
 use Rattle.member_work.specs.Rounds.{HasFailed, IsSpoolLost, IsSpooledIn}

@@ -34,7 +34,7 @@ use Rattle.lay_bytes.specs.Slots.{IfUsed, IsOutRec}
 use Rattle.ckpt_pages.specs.declared.tables.Tables.{Tables}
 use Rattle.ckpt_pages.specs.Shape.{HasSpelling}
 use Rattle.output_queue.specs.Outputs.{AreOutputs, HasOutput}
-use Rattle.table_queues.specs.Telling.{Tell}
+use Rattle.queue_tables.specs.Telling.{Tell}
 use Rattle.queue_laws.proofs.Finds.{find-All, test_cases}
 use Rattle.spool_disk.specs.declared.plant.Act.{Act}
 use Rattle.spool_disk.specs.declared.plant.Act.TheVariants.{Done, Failed, Halted}
@@ -57,8 +57,8 @@ use Rattle.member_decks.specs.Spooling.{AreRoomy, OnVolumes}
 use Rattle.member_decks.specs.Steps.{SpoolStops}
 use Rattle.member_decks.proofs.OpenLemmas.{tells_some}
 use Rattle.member_decks.proofs.PageLemmas.{all_at}
-use Rattle.work_units.specs.declared.outcomes.Read.{Read}
-use Rattle.work_units.specs.declared.outcomes.Read.TheVariants as read
+use Rattle.job_outcome.specs.declared.outcomes.Read.{Read}
+use Rattle.job_outcome.specs.declared.outcomes.Read.TheVariants as read
 use Rattle.member_work.specs.Causes.{MayRefuse}
 use Rattle.member_work.specs.Gone.{gone_with}
 use Rattle.member_work.specs.Looks.{as_it_is, read_of}

@@ -35,8 +35,8 @@ use Rattle.member_node.specs.declared.member.NodeNo.{NodeNo}
 use Rattle.member_node.specs.declared.member.NodeNo.TheVariants as no
 use Rattle.member_decks.specs.Steps.{SpoolStops}
 use Rattle.member_decks.proofs.PageLemmas.{acts_none, acts_on, lies_alone, quiet_none, quiet_on, still_roomy, there_by}
-use Rattle.work_units.specs.declared.outcomes.Read.{Read}
-use Rattle.work_units.specs.declared.outcomes.Read.TheVariants as read
+use Rattle.job_outcome.specs.declared.outcomes.Read.{Read}
+use Rattle.job_outcome.specs.declared.outcomes.Read.TheVariants as read
 use Rattle.member_work.specs.Looks.{as_it_is}
 use Rattle.member_work.specs.Reading.{AddsGroup, AreRecords, IsReadOf, OnlyReads}
 use Rattle.member_work.specs.Rounds.{HasFailed}

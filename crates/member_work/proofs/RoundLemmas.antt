@@ -24,12 +24,12 @@ use Rattle.spool_disk.specs.declared.plant.Part.TheVariants.{Disk as DiskPart, P
 use Rattle.spool_disk.specs.View.{View}
 use Rattle.spool_disk.specs.Acts.{Goes}
 use Rattle.member_decks.specs.Decks.{all_entries}
-use Rattle.work_units.specs.declared.outcomes.Outcome.{Outcome}
-use Rattle.work_units.specs.declared.outcomes.Outcome.TheVariants as outcome
-use Rattle.work_units.specs.declared.outcomes.Read.{Read}
-use Rattle.work_units.specs.declared.outcomes.Read.TheVariants as read
-use Rattle.work_units.specs.declared.units.UnitEnd.{UnitEnd}
-use Rattle.work_units.specs.declared.units.UnitEnd.TheVariants as ends
+use Rattle.job_outcome.specs.declared.outcomes.Outcome.{Outcome}
+use Rattle.job_outcome.specs.declared.outcomes.Outcome.TheVariants as outcome
+use Rattle.job_outcome.specs.declared.outcomes.Read.{Read}
+use Rattle.job_outcome.specs.declared.outcomes.Read.TheVariants as read
+use Rattle.job_outcome.specs.declared.units.UnitEnd.{UnitEnd}
+use Rattle.job_outcome.specs.declared.units.UnitEnd.TheVariants as ends
 use Rattle.member_work.specs.Looks.{Look, calm, read_of}
 use Rattle.member_work.specs.Rounds.{HasFailed, HasPrinterFailed, IsLookAt, IsLookOf, IsPrintLook, IsReadAs, IsRound, IsSpooledFor, IsSpooledIn}
 use Rattle.member_work.specs.Units.{UnitPlay, chunk_end, groups_for_end, job_play, next_play, no_unit, outcome_for, output_play, printed_end, unit_play}

@@ -33,11 +33,11 @@ use Rattle.ckpt_pages.specs.declared.tables.Tables.{Tables}
 use Rattle.ckpt_pages.specs.QueueOf.{used}
 use Rattle.ckpt_pages.specs.Shape.{HasSpelling}
 use Rattle.ckpt_pages.proofs.SlotLists.{all_used}
-use Rattle.slot_order.specs.Listed.{listed}
-use Rattle.slot_order.proofs.Rising.{All-in_order}
+use Rattle.queue_slots.specs.Listed.{listed}
+use Rattle.queue_slots.proofs.Rising.{All-in_order}
 use Rattle.job_queue.specs.Jobs as jobs
 use Rattle.output_queue.specs.Outputs as outputs
-use Rattle.table_queues.specs.Telling.{Tell, TellSound}
+use Rattle.queue_tables.specs.Telling.{Tell, TellSound}
 use Rattle.queue_texts.specs.Leaving.{ToldAreTheirOwn}
 use Rattle.member_work.specs.Printing.{IsPrinting}
 use Rattle.member_work.specs.Steps.{IsUnderWay}

@@ -18,9 +18,9 @@ use Rattle.spool_disk.specs.View.{View}
 use Rattle.member_node.specs.declared.member.NodeNo.{NodeNo}
 use Rattle.member_steps.specs.Steps.{entry_with}
 use Rattle.member_decks.specs.Steps.{AreOf}
-use Rattle.work_units.specs.declared.units.UnitEnd.{UnitEnd}
-use Rattle.work_units.specs.declared.units.UnitEnd.TheVariants as ends
-use Rattle.work_units.specs.Next.{end_by}
+use Rattle.job_outcome.specs.declared.units.UnitEnd.{UnitEnd}
+use Rattle.job_outcome.specs.declared.units.UnitEnd.TheVariants as ends
+use Rattle.job_outcome.specs.Next.{end_by}
 use Rattle.member_work.specs.Looks.{Look, calm}
 use Rattle.member_work.specs.Rounds.{IsLookAt}
 use Rattle.member_work.specs.Printing.{IsPrintStep}

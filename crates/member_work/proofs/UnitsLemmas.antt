@@ -13,8 +13,8 @@ use Rattle.mas_complex.specs.Meaning.{run}
 use Rattle.member_node.proofs.WriteLemmas.{none_out}
 use Rattle.member_node.specs.declared.member.NodeNo.{NodeNo}
 use Rattle.member_decks.specs.Steps.{AreOf}
-use Rattle.work_units.specs.declared.units.UnitEnd.{UnitEnd}
-use Rattle.work_units.specs.declared.units.UnitEnd.TheVariants as ends
+use Rattle.job_outcome.specs.declared.units.UnitEnd.{UnitEnd}
+use Rattle.job_outcome.specs.declared.units.UnitEnd.TheVariants as ends
 use Rattle.member_work.specs.Steps.{IsRest, IsUnitStep, IsWorking}
 use Rattle.member_work.specs.Work.{batches_in, written_in}
 use Rattle.member_work.proofs.WorkingLemmas.{IsWorkingFrom, working_long, working_more, working_queue, working_start, working_unrested}

@@ -17,8 +17,8 @@ use Rattle.member_node.proofs.WriteLemmas.{none_out}
 use Rattle.member_node.specs.declared.member.NodeNo.{NodeNo}
 use Rattle.member_decks.specs.Decks.{all_entries}
 use Rattle.member_decks.specs.Steps.{AreOf}
-use Rattle.work_units.specs.declared.units.UnitEnd.{UnitEnd}
-use Rattle.work_units.specs.declared.units.UnitEnd.TheVariants as ends
+use Rattle.job_outcome.specs.declared.units.UnitEnd.{UnitEnd}
+use Rattle.job_outcome.specs.declared.units.UnitEnd.TheVariants as ends
 use Rattle.member_work.specs.Causes.{MayClose, MayEndUnit}
 use Rattle.member_work.specs.Looks.{Look}
 use Rattle.member_work.specs.Rounds.{IsRound}

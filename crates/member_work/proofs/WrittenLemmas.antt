@@ -29,10 +29,10 @@ use Rattle.member_decks.specs.Batches.{AreAll}
 use Rattle.member_decks.specs.Decks.{all_entries, are_refused, given_in, takes}
 use Rattle.member_decks.specs.Steps.{AreOf}
 use Rattle.member_decks.proofs.DeckLemmas.{given_of}
-use Rattle.work_units.specs.declared.outcomes.Outcome.{Outcome}
-use Rattle.work_units.specs.declared.outcomes.Outcome.TheVariants as outcome
-use Rattle.work_units.specs.declared.units.UnitEnd.{UnitEnd}
-use Rattle.work_units.specs.declared.units.UnitEnd.TheVariants as ends
+use Rattle.job_outcome.specs.declared.outcomes.Outcome.{Outcome}
+use Rattle.job_outcome.specs.declared.outcomes.Outcome.TheVariants as outcome
+use Rattle.job_outcome.specs.declared.units.UnitEnd.{UnitEnd}
+use Rattle.job_outcome.specs.declared.units.UnitEnd.TheVariants as ends
 use Rattle.member_work.specs.Looks.{Look, calm, read_of}
 use Rattle.member_work.specs.Steps.{IsKeeping}
 use Rattle.member_work.specs.Units.{chunk_end, drop_groups, ended_with, ending, groups_for_end, job_ended, job_play, mark_play, next_play, no_unit, outcome_for, outcome_play, output_play, printed_end, spooled, taken, taken_queue, taking, unit_play}

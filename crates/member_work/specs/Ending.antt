@@ -5,7 +5,7 @@ use Rattle.mas_types.specs.declared.journals.Batch.{Batch}
 use Rattle.mas_types.specs.declared.journals.Entry.{Entry}
 use Rattle.spool_disk.specs.View.{View}
 use Rattle.member_node.specs.declared.member.NodeNo.{NodeNo}
-use Rattle.work_units.specs.declared.units.UnitEnd.{UnitEnd}
+use Rattle.job_outcome.specs.declared.units.UnitEnd.{UnitEnd}
 use Rattle.member_work.specs.Causes.{MayEndUnit}
 use Rattle.member_work.specs.Steps.{IsPlayed}
 

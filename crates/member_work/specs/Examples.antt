@@ -17,7 +17,7 @@ use Rattle.queue_laws.specs.Examples.Work.{may_restart, may_not_restart}
 use Rattle.mas_complex.specs.Meaning.{run}
 use Rattle.member_decks.specs.Decks.{all_entries}
 use Rattle.member_decks.specs.Examples.{commands_of}
-use Rattle.work_units.specs.declared.outcomes.Read.TheVariants as read
+use Rattle.job_outcome.specs.declared.outcomes.Read.TheVariants as read
 use Rattle.member_work.specs.Looks.{Look, calm}
 use Rattle.member_work.specs.Work.{work_batches, work_lines}
 

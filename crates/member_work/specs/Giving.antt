@@ -11,7 +11,7 @@ use Rattle.mas_types.specs.Queue.{job_at}
 use Rattle.track_groups.specs.Groups.{held_by}
 use Rattle.ckpt_pages.specs.declared.tables.Tables.{Tables}
 use Rattle.ckpt_pages.specs.Shape.{HasSpelling}
-use Rattle.table_queues.specs.Telling.{Tell, TellSound}
+use Rattle.queue_tables.specs.Telling.{Tell, TellSound}
 use Rattle.queue_effect.specs.Standing.{AreFit}
 use Rattle.queue_texts.specs.Leaving.{brings_text}
 use Rattle.mas_complex.specs.Meaning.{run}

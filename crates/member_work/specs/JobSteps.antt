@@ -10,8 +10,8 @@ use Rattle.mas_types.specs.Queue.{job_at}
 use Rattle.spool_disk.specs.View.{View}
 use Rattle.spool_disk.specs.Acts.{Goes}
 use Rattle.member_node.specs.declared.member.NodeNo.{NodeNo}
-use Rattle.work_units.specs.declared.outcomes.Outcome.{Outcome}
-use Rattle.work_units.specs.declared.units.UnitEnd.{UnitEnd}
+use Rattle.job_outcome.specs.declared.outcomes.Outcome.{Outcome}
+use Rattle.job_outcome.specs.declared.units.UnitEnd.{UnitEnd}
 use Rattle.member_work.specs.Causes.{MayEndUnit, MayStop}
 use Rattle.member_work.specs.Looks.{Look}
 use Rattle.member_work.specs.Rounds.{IsLookOf, IsSpooledFor}

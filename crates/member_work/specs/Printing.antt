@@ -17,7 +17,7 @@ use Rattle.mas_types.specs.Limits.{printer_lines_most, text_lines_most}
 use Rattle.mas_types.specs.Queue.{line_count, output_at, printing_at, total}
 use Rattle.lay_bytes.specs.declared.records.OutRec.{OutRec}
 use Rattle.ckpt_pages.specs.declared.tables.Tables.{Tables}
-use Rattle.table_queues.specs.Telling.{Tell}
+use Rattle.queue_tables.specs.Telling.{Tell}
 use Rattle.spool_disk.specs.declared.plant.Part.TheVariants.{Disk as DiskPart}
 use Rattle.spool_disk.specs.View.{View, disk_now}
 use Rattle.spool_disk.specs.Acts.{Goes}
@@ -28,8 +28,8 @@ use Rattle.mas_complex.specs.Journals.{entries_in, kept_all}
 use Rattle.mas_complex.specs.Meaning.{run}
 use Rattle.member_node.specs.declared.member.NodeNo.{NodeNo}
 use Rattle.member_node.specs.Calls.{console_now}
-use Rattle.work_units.specs.declared.outcomes.Read.{Read}
-use Rattle.work_units.specs.declared.units.UnitEnd.{UnitEnd}
+use Rattle.job_outcome.specs.declared.outcomes.Read.{Read}
+use Rattle.job_outcome.specs.declared.units.UnitEnd.{UnitEnd}
 use Rattle.member_work.specs.Causes.{MayEndUnit, MayRefuse}
 use Rattle.member_work.specs.Looks.{Look, read_of}
 use Rattle.member_work.specs.Rounds.{HasPrinterFailed, IsPrintLook, IsReadAs}

@@ -13,8 +13,8 @@ use Rattle.spool_volumes.specs.Texts.{gone_or, records_on}
 use Rattle.spool_volumes.specs.Volumes.{volume_of}
 use Rattle.mas_complex.specs.Texts.{bytes_on, spools_at}
 use Rattle.member_decks.specs.Spooling.{AreQuiet, AreRoomy}
-use Rattle.work_units.specs.declared.outcomes.Read.{Read}
-use Rattle.work_units.specs.declared.outcomes.Read.TheVariants as read
+use Rattle.job_outcome.specs.declared.outcomes.Read.{Read}
+use Rattle.job_outcome.specs.declared.outcomes.Read.TheVariants as read
 use Rattle.member_work.specs.Looks.{as_it_is}
 use Rattle.member_work.specs.Rounds.{HasFailed}
 

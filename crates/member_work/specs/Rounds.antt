@@ -21,10 +21,10 @@ use Rattle.track_groups.specs.Groups.{held_by}
 use Rattle.track_groups.specs.Places.{groups_of}
 use Rattle.member_decks.specs.Decks.{are_refused}
 use Rattle.member_decks.specs.Spooling.{lies_there}
-use Rattle.work_units.specs.declared.outcomes.Outcome.{Outcome}
-use Rattle.work_units.specs.declared.outcomes.Outcome.TheVariants as outcome
-use Rattle.work_units.specs.declared.outcomes.Read.{Read}
-use Rattle.work_units.specs.declared.outcomes.Read.TheVariants as read
+use Rattle.job_outcome.specs.declared.outcomes.Outcome.{Outcome}
+use Rattle.job_outcome.specs.declared.outcomes.Outcome.TheVariants as outcome
+use Rattle.job_outcome.specs.declared.outcomes.Read.{Read}
+use Rattle.job_outcome.specs.declared.outcomes.Read.TheVariants as read
 use Rattle.member_work.specs.Looks.{Look, as_it_is}
 use Rattle.member_work.specs.Units.{groups_for_end, outcome_for, taken_queue}
 use Rattle.member_work.specs.Work.{Round}

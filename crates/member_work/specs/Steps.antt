@@ -21,7 +21,7 @@ use Rattle.mas_types.specs.Queue.{has_output, job_at, line_count}
 use Rattle.spool_disk.specs.View.{View}
 use Rattle.lay_bytes.specs.declared.records.JobRec.{JobRec}
 use Rattle.ckpt_pages.specs.declared.tables.Tables.{Tables}
-use Rattle.table_queues.specs.Telling.{Tell, TellSound}
+use Rattle.queue_tables.specs.Telling.{Tell, TellSound}
 use Rattle.track_groups.specs.Groups.{held_by}
 use Rattle.track_groups.specs.Places.{groups_of}
 use Rattle.queue_effect.specs.Standing.{AreFit}
@@ -44,12 +44,12 @@ use Rattle.member_decks.specs.Batches.{AreAll, AreCut, HasAll, OneFlies}
 use Rattle.member_decks.specs.Keeping.{CopyCauses}
 use Rattle.member_decks.specs.Spooling.{AreRoomy}
 use Rattle.member_decks.specs.Steps.{AreOf, DeckCauses}
-use Rattle.work_units.specs.declared.outcomes.Outcome.{Outcome}
-use Rattle.work_units.specs.declared.outcomes.Read.{Read}
-use Rattle.work_units.specs.declared.units.UnitEnd.{UnitEnd}
-use Rattle.work_units.specs.declared.units.UnitEnd.TheVariants as ends
-use Rattle.work_units.specs.Next.{end_by}
-use Rattle.work_units.specs.Outcomes.{outcome_of}
+use Rattle.job_outcome.specs.declared.outcomes.Outcome.{Outcome}
+use Rattle.job_outcome.specs.declared.outcomes.Read.{Read}
+use Rattle.job_outcome.specs.declared.units.UnitEnd.{UnitEnd}
+use Rattle.job_outcome.specs.declared.units.UnitEnd.TheVariants as ends
+use Rattle.job_outcome.specs.Next.{end_by}
+use Rattle.job_outcome.specs.Outcomes.{outcome_of}
 use Rattle.member_work.specs.Causes.{MayClose, MayEndUnit, MayStop}
 use Rattle.member_work.specs.Looks.{Look, read_of}
 use Rattle.member_work.specs.Rounds.{IsLookOf, IsReadAs, IsRound, IsSpoolLost, IsSpooledIn}

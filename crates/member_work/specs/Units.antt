@@ -25,14 +25,14 @@ use Rattle.paper_laws.specs.Next.{limit_of}
 use Rattle.mas_complex.specs.Meaning.{run}
 use Rattle.member_steps.specs.Steps.{entry_of, reply_to}
 use Rattle.member_decks.specs.Decks.{are_refused, closing_reply, given_in, takes}
-use Rattle.work_units.specs.declared.outcomes.Outcome.{Outcome}
-use Rattle.work_units.specs.declared.outcomes.Outcome.TheVariants as outcome
-use Rattle.work_units.specs.declared.outcomes.Read.{Read}
-use Rattle.work_units.specs.declared.outcomes.Read.TheVariants as read
-use Rattle.work_units.specs.declared.units.UnitEnd.{UnitEnd}
-use Rattle.work_units.specs.declared.units.UnitEnd.TheVariants as ends
-use Rattle.work_units.specs.Next.{end_by}
-use Rattle.work_units.specs.Outcomes.{outcome_of}
+use Rattle.job_outcome.specs.declared.outcomes.Outcome.{Outcome}
+use Rattle.job_outcome.specs.declared.outcomes.Outcome.TheVariants as outcome
+use Rattle.job_outcome.specs.declared.outcomes.Read.{Read}
+use Rattle.job_outcome.specs.declared.outcomes.Read.TheVariants as read
+use Rattle.job_outcome.specs.declared.units.UnitEnd.{UnitEnd}
+use Rattle.job_outcome.specs.declared.units.UnitEnd.TheVariants as ends
+use Rattle.job_outcome.specs.Next.{end_by}
+use Rattle.job_outcome.specs.Outcomes.{outcome_of}
 use Rattle.member_work.specs.Looks.{Look, read_of}
 
 -- WHAT BECOMES OF A JOB WHOSE TEXT WAS READ

@@ -9,8 +9,8 @@ use Rattle.mas_types.specs.Closings.{closing_line}
 use Rattle.mas_types.specs.Lists.{tail}
 use Rattle.mas_complex.specs.Meaning.{run}
 use Rattle.member_decks.specs.Decks.{all_entries}
-use Rattle.work_units.specs.declared.units.UnitEnd.{UnitEnd}
-use Rattle.work_units.specs.declared.units.UnitEnd.TheVariants as ends
+use Rattle.job_outcome.specs.declared.units.UnitEnd.{UnitEnd}
+use Rattle.job_outcome.specs.declared.units.UnitEnd.TheVariants as ends
 use Rattle.member_work.specs.Looks.{Look, first_look}
 use Rattle.member_work.specs.Units.{UnitPlay, next_play}
 

@@ -18,8 +18,8 @@ ghost use Rattle.member_node.specs.Reads.{orders_after, too_high};
 ghost use Rattle.member_decks.specs.Decks.{closing_reply, given_in};
 ghost use Rattle.member_decks.specs.Steps.{AreOf, IsFoundLost};
 ghost use Rattle.job_exec.specs.Running.{AreOutputs};
-ghost use Rattle.work_units.specs.declared.units.UnitEnd.TheVariants.{Done, Refused};
-ghost use Rattle.work_units.specs.Next.{IsNamedEnd, end_by};
+ghost use Rattle.job_outcome.specs.declared.units.UnitEnd.TheVariants.{Done, Refused};
+ghost use Rattle.job_outcome.specs.Next.{IsNamedEnd, end_by};
 ghost use Rattle.member_work.specs.Ending.{IsLastPart};
 ghost use Rattle.member_work.specs.Rounds.{IsSpoolLost};
 ghost use Rattle.member_work.specs.Spooled.{AreSpooled};
@@ -37,7 +37,7 @@ use spool_disk::Plant;
 use spool_text::law_of_groups;
 use spool_volumes::law_of_read_texts;
 use std::alloc::Global;
-use work_units::UnitEnd;
+use job_outcome::UnitEnd;
 
 // Gives Ended with these outputs, whose texts stand in the member's groups unless the job was cancelled; after a refused one the member's
 // groups become free.

@@ -10,12 +10,12 @@ ghost use Rattle.mas_types.specs.Step.{may_give};
 ghost use Rattle.ckpt_pages.specs.Shape.{HasSpelling};
 ghost use Rattle.job_exec.specs.Running.{AreOutputs};
 ghost use Rattle.queue_effect.specs.Standing.{AreFit};
-ghost use Rattle.table_commands.specs.Given.{IsGiver};
-ghost use Rattle.table_queues.specs.Telling.{Tell, TellSound};
+ghost use Rattle.queue_commands.specs.Given.{IsGiver};
+ghost use Rattle.queue_tables.specs.Telling.{Tell, TellSound};
 ghost use Rattle.member_steps.specs.Steps.{reply_to};
 ghost use Rattle.member_decks.specs.Decks.{closing_reply, given_in};
-ghost use Rattle.work_units.specs.declared.units.UnitEnd.TheVariants.{Done};
-ghost use Rattle.work_units.specs.Next.{IsNamedEnd, end_by as end_by_lem};
+ghost use Rattle.job_outcome.specs.declared.units.UnitEnd.TheVariants.{Done};
+ghost use Rattle.job_outcome.specs.Next.{IsNamedEnd, end_by as end_by_lem};
 ghost use Rattle.member_work.specs.Giving.{GivesAt, HasGiven, IsSoundPlain, MayEnd};
 ghost use Rattle.member_work.specs.Units.{drop_groups, ending, groups_for_end as groups_for_end_lem, taken_end, taking};
 
@@ -26,7 +26,7 @@ use mas_types::{Command, JobNo, List, NoMemory, OutSpec, Reply};
 use member_node::Member;
 use queue_texts::law_of_texts;
 use std::alloc::Global;
-use work_units::{UnitEnd, end_by, law_of_ended_texts};
+use job_outcome::{UnitEnd, end_by, law_of_ended_texts};
 
 // Nobody's job: Drop of it gives up a member's groups alone.
 const NO_JOB: JobNo = JobNo(0);

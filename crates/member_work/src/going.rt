@@ -14,8 +14,8 @@ ghost use Rattle.mas_complex.specs.Meaning.{run};
 ghost use Rattle.member_node.specs.Reads.{orders_after, too_high};
 ghost use Rattle.member_decks.specs.Spooling.{OnVolumes};
 ghost use Rattle.member_decks.specs.Steps.{AreOf, SpoolStops};
-ghost use Rattle.work_units.specs.Next.{IsNamedEnd};
-ghost use Rattle.work_units.specs.Outcomes.{AreFitOutputs, IsNamedOutcome};
+ghost use Rattle.job_outcome.specs.Next.{IsNamedEnd};
+ghost use Rattle.job_outcome.specs.Outcomes.{AreFitOutputs, IsNamedOutcome};
 ghost use Rattle.member_work.specs.JobSteps.{IsOutcomeStep, IsTextStep};
 ghost use Rattle.member_work.specs.Steps.{HasCopy, IsAtWork, IsKeeping, IsLookedAt, IsStepUntold, IsTold, IsUnderWay};
 
@@ -30,7 +30,7 @@ use mas_types::{Closing, Command, JobNo};
 use member_node::{Member, NodeNo};
 use spool_disk::Plant;
 use std::alloc::Global;
-use work_units::{Outcome, UnitEnd};
+use job_outcome::{Outcome, UnitEnd};
 
 // Reads the text of a job that is run, or else converted, without the lock, and answers what becomes of the job. A text that was gone when
 // the run began isn't read.

@@ -8,7 +8,7 @@ ghost use Rattle.mas_complex.specs.Locking.{MayAct};
 ghost use Rattle.mas_complex.specs.Meaning.{run};
 ghost use Rattle.member_decks.specs.Spooling.{OnVolumes};
 ghost use Rattle.member_decks.specs.Steps.{SpoolStops};
-ghost use Rattle.work_units.specs.Outcomes.{AreFitOutputs, IsNamedOutcome};
+ghost use Rattle.job_outcome.specs.Outcomes.{AreFitOutputs, IsNamedOutcome};
 ghost use Rattle.member_work.specs.Reading.{OnlyReads};
 ghost use Rattle.member_work.specs.Rounds.{IsWhole};
 ghost use Rattle.member_work.specs.Steps.{IsAtWork, IsLookedAt, IsTold};
@@ -21,7 +21,7 @@ use member_node::{Member, NodeNo};
 use spool_disk::Plant;
 use std::alloc::Global;
 use track_groups::{groups_of, law_of_places};
-use work_units::{Outcome, outcome_of};
+use job_outcome::{Outcome, outcome_of};
 
 /// Gives the lock up, reads the text of a job that is run, or else converted, and takes the lock again. Answers what becomes of the job.
 pub(crate) fn look_at<P: Plant + Drop, C: Steady + Drop>(

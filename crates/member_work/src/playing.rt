@@ -14,7 +14,7 @@ ghost use Rattle.mas_complex.specs.Locking.{MayAct};
 ghost use Rattle.mas_complex.specs.Meaning.{run};
 ghost use Rattle.member_node.specs.Reads.{orders_after, too_high};
 ghost use Rattle.member_decks.specs.Steps.{AreOf};
-ghost use Rattle.work_units.specs.Next.{IsNamedEnd};
+ghost use Rattle.job_outcome.specs.Next.{IsNamedEnd};
 ghost use Rattle.member_work.specs.Steps.{HasCopy, IsAtWork, IsJobStep, IsStepUntold, IsUnderWay, IsUnitStep};
 ghost use Rattle.member_work.specs.Units.{command_of as command_of_lem};
 
@@ -30,7 +30,7 @@ use queue_effect::unit;
 use queue_texts::law_of_texts;
 use spool_disk::Plant;
 use std::alloc::Global;
-use work_units::UnitEnd;
+use job_outcome::UnitEnd;
 
 // The one command of a unit; none of one that reads a text, or that doesn't apply.
 fn command_of(unit: Unit) -> Option<Command>

@@ -9,7 +9,7 @@ ghost use Rattle.mas_types.specs.Limits.{members_most, printer_lines_most};
 ghost use Rattle.mas_types.specs.Queue.{is_member, output_at, setting_of};
 ghost use Rattle.mas_types.specs.Sound.{IsSound};
 ghost use Rattle.ckpt_pages.specs.Shape.{HasSpelling};
-ghost use Rattle.table_queues.specs.Telling.{Tell};
+ghost use Rattle.queue_tables.specs.Telling.{Tell};
 ghost use Rattle.paper_laws.specs.Next.{limit_of};
 ghost use Rattle.lock_cycle.specs.Books.{IsMember, is_stopped, left_of};
 ghost use Rattle.spool_disk.specs.View.{disk_now};
@@ -20,8 +20,8 @@ ghost use Rattle.mas_complex.specs.Meaning.{run};
 ghost use Rattle.mas_complex.specs.Paper.{counts_of};
 ghost use Rattle.member_node.specs.Reads.{orders_after, too_high};
 ghost use Rattle.member_decks.specs.Steps.{AreOf, SpoolStops};
-ghost use Rattle.work_units.specs.declared.outcomes.Read.TheVariants.{Lines as LinesRead};
-ghost use Rattle.work_units.specs.Next.{IsNamedEnd};
+ghost use Rattle.job_outcome.specs.declared.outcomes.Read.TheVariants.{Lines as LinesRead};
+ghost use Rattle.job_outcome.specs.Next.{IsNamedEnd};
 ghost use Rattle.member_work.specs.Printing.{IsBeside, IsChunkOf, IsLinesPrinted, IsLinesStep, IsMarkStep, IsPrinted, IsPrinting, IsPrintStep, IsToldOutput, MayPrintTo};
 ghost use Rattle.member_work.specs.Reading.{IsCounted};
 ghost use Rattle.member_work.specs.Rounds.{IsWhole};
@@ -41,7 +41,7 @@ use printer_proc::{forward, print_line};
 use spool_disk::{Act, Plant};
 use std::alloc::Global;
 use track_groups::{groups_of, law_of_places};
-use work_units::{Read, UnitEnd};
+use job_outcome::{Read, UnitEnd};
 
 fn setting(tables: &Tables, by: MemberId) -> Option<&Setting>
     ensures { (Q : Queue) → Tell tables.now Q → setting_of Q by ≡ option_copied result }

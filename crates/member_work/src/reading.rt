@@ -12,7 +12,7 @@ ghost use Rattle.mas_complex.specs.Spool.{IsGroupOf};
 ghost use Rattle.mas_complex.specs.Texts.{bytes_on, lost_now, spools_at, IsThereUnless};
 ghost use Rattle.member_decks.specs.Spooling.{AreRoomy, OnVolumes};
 ghost use Rattle.member_decks.specs.Steps.{SpoolStops};
-ghost use Rattle.work_units.specs.Outcomes.{IsReadable};
+ghost use Rattle.job_outcome.specs.Outcomes.{IsReadable};
 ghost use Rattle.member_work.specs.Looks.{as_it_is};
 ghost use Rattle.member_work.specs.Reading.{AddsUnless, AreRecords, IsCounted, IsFailedRead, IsReadOf, OnlyReads};
 ghost use Rattle.member_work.specs.Rounds.{HasFailed};
@@ -24,7 +24,7 @@ use member_node::NodeNo;
 use spool_disk::{Act, Plant};
 use spool_text::{TextNo, law_of_reading, unpack};
 use std::alloc::Global;
-use work_units::Read;
+use job_outcome::Read;
 
 // The volume on which a group lies, where there are so many volumes with so many groups each.
 fn volume_of(volumes: u8, per: u32, group: GroupNo) -> u8

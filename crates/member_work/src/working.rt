@@ -9,7 +9,7 @@ ghost use Rattle.mas_types.specs.Sound.{IsSound};
 ghost use Rattle.mas_types.specs.Step.{may_give};
 ghost use Rattle.lock_cycle.specs.Books.{IsMember, left_of};
 ghost use Rattle.spool_disk.specs.View.{disk_now};
-ghost use Rattle.table_commands.specs.Given.{IsGiver, is_plain};
+ghost use Rattle.queue_commands.specs.Given.{IsGiver, is_plain};
 ghost use Rattle.paper_laws.specs.Counts.{IsMarkRight, counts_after};
 ghost use Rattle.mas_complex.specs.Crash.{IsUntold, setting};
 ghost use Rattle.mas_complex.specs.Journals.{end_of, kept_all};
@@ -21,7 +21,7 @@ ghost use Rattle.member_node.specs.Reads.{AreLow, orders_after, too_high};
 ghost use Rattle.member_steps.specs.Steps.{AreAllKept, IsBetween};
 ghost use Rattle.member_decks.specs.Spooling.{AreRoomy};
 ghost use Rattle.member_decks.specs.Steps.{AreOf};
-ghost use Rattle.work_units.specs.Next.{IsNamedEnd};
+ghost use Rattle.job_outcome.specs.Next.{IsNamedEnd};
 ghost use Rattle.member_work.specs.Steps.{HasCopy, IsAtWork, IsCommanded, IsCount, IsKeeping, IsRest, IsStepUntold, IsWorkStep, IsWorking, levels_in};
 ghost use Rattle.member_work.specs.Work.{batches_in};
 
@@ -33,7 +33,7 @@ use member_node::{Member, NodeNo};
 use queue_texts::law_of_texts;
 use spool_disk::Plant;
 use std::alloc::Global;
-use work_units::{UnitEnd, end_by};
+use job_outcome::{UnitEnd, end_by};
 
 // The entries of a batch.
 const BATCH_MOST: usize = 64;

@@ -14,7 +14,7 @@ use queue_effect::law_of_fit_tables;
 use queue_laws::fitness::is_fit;
 use std::alloc::Global;
 use std::test::Fail;
-use table_commands::give;
+use queue_commands::give;
 
 const ONE: JobNo = JobNo(1);
 

@@ -11,11 +11,11 @@ use Rattle.mas_types.specs.Queue.{is_of}
 use Rattle.mas_types.specs.Commands.Life.{new_output}
 use Rattle.lay_bytes.specs.declared.records.OutRec.{OutRec}
 use Rattle.ckpt_pages.specs.QueueOf.{used}
-use Rattle.slot_order.specs.declared.slots.Found.{Found}
-use Rattle.slot_order.specs.Listed.{listed, StandsFirst}
-use Rattle.slot_order.proofs.Keys.{any-none, any-some}
-use Rattle.slot_order.proofs.Alike.{length-alike, push-alike, list_any-alike}
-use Rattle.slot_order.proofs.Changes.{length-listed, listed-free}
+use Rattle.queue_slots.specs.declared.slots.Found.{Found}
+use Rattle.queue_slots.specs.Listed.{listed, StandsFirst}
+use Rattle.queue_slots.proofs.Keys.{any-none, any-some}
+use Rattle.queue_slots.proofs.Alike.{length-alike, push-alike, list_any-alike}
+use Rattle.queue_slots.proofs.Changes.{length-listed, listed-free}
 use Rattle.output_queue.specs.Outputs.{AreOutputs, order_of, unordered, rec_of}
 
 -- as many outputs as slots are used

@@ -16,10 +16,10 @@ use Rattle.mas_types.specs.Queue.{in_hardcopy, is_in, has_number, setting_of, pr
 use Rattle.mas_types.specs.Selection.{of_class, output_prio, has_forms_of, may_print, is_for_printer}
 use Rattle.lay_bytes.specs.declared.records.JobRec.{JobRec}
 use Rattle.lay_bytes.specs.declared.records.OutRec.{OutRec}
-use Rattle.slot_order.specs.declared.slots.Found.{Found}
-use Rattle.slot_order.specs.Listed.{listed, StandsFirst}
-use Rattle.slot_order.proofs.Founds.{keyed_told, no_keyed_told}
-use Rattle.slot_order.proofs.Alike.{find-alike}
+use Rattle.queue_slots.specs.declared.slots.Found.{Found}
+use Rattle.queue_slots.specs.Listed.{listed, StandsFirst}
+use Rattle.queue_slots.proofs.Founds.{keyed_told, no_keyed_told}
+use Rattle.queue_slots.proofs.Alike.{find-alike}
 use Rattle.job_queue.specs.Jobs as jobs
 use Rattle.job_queue.specs.Jobs.{AreJobs}
 use Rattle.output_queue.specs.Outputs.{job_rec, is_hardcopy, prio_of, may_take, order_of, unordered, rec_of, AreOutputs, HasOutput}

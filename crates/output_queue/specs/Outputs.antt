@@ -12,8 +12,8 @@ use Rattle.mas_types.specs.Names.{member_name, local_name}
 use Rattle.mas_types.specs.Queue.{in_hardcopy, line_count}
 use Rattle.lay_bytes.specs.declared.records.JobRec.{JobRec}
 use Rattle.lay_bytes.specs.declared.records.OutRec.{OutRec}
-use Rattle.slot_order.specs.Listed.{listed}
-use Rattle.slot_order.specs.Telling.{Tell, TellsFirst}
+use Rattle.queue_slots.specs.Listed.{listed}
+use Rattle.queue_slots.specs.Telling.{Tell, TellsFirst}
 use Rattle.job_queue.specs.Jobs as jobs
 
 abbrev pub order_of : OutRec → ℕ

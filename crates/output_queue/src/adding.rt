@@ -8,7 +8,7 @@ ghost use Rattle.output_queue.specs.Outputs.{AreOutputs, new_rec};
 
 use lay_bytes::OutRec;
 use mas_types::{JobNo, MemberId, OutNo, OutSpec};
-use slot_order::free_slot;
+use queue_slots::free_slot;
 use thiserror::Error;
 
 /// No slot is free.

@@ -9,7 +9,7 @@ ghost use Rattle.output_queue.specs.Outputs.{AreOutputs, HasOutput};
 use crate::kinds::{Elsewhere, Keyed, OfJob, PrintingAt};
 use lay_bytes::OutRec;
 use mas_types::{JobNo, MemberId, OutNo};
-use slot_order::{Found, first_slot};
+use queue_slots::{Found, first_slot};
 use thiserror::Error;
 
 /// The job has no output with that index.

@@ -7,7 +7,7 @@ ghost use Rattle.output_queue.specs.Outputs.{may_take, fits_printer as fits_prin
 use job_queue::find_job;
 use lay_bytes::{JobRec, OutRec};
 use mas_types::{Class, JobNo, MemberId, Name8, OutNo, Phase};
-use slot_order::{Classed, Rank, Test};
+use queue_slots::{Classed, Rank, Test};
 
 /// Whether it is a member, and not nobody.
 pub fn is_somebody(busy: MemberId) -> bool

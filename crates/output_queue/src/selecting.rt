@@ -10,7 +10,7 @@ ghost use Rattle.output_queue.specs.Outputs.{AreOutputs, HasOutput};
 use crate::kinds::ForPrinter;
 use lay_bytes::{JobRec, OutRec};
 use mas_types::{JobNo, MemberId, OutNo, Setting, member_name};
-use slot_order::{Found, best_slot_by_class};
+use queue_slots::{Found, best_slot_by_class};
 
 /// The slot of the output selected for a member's printer, by the member's setting: of those that it may take, of those of the
 /// first class that any of them has, of those of which the jobs have the greatest priority, the first; none exactly where none is

@@ -4,3 +4,6 @@ pub mod Commands
 pub mod Printed
 pub mod Marked
 pub mod Plain
+pub mod Stays
+pub mod Effects
+pub mod Entries

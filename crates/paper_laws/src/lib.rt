@@ -3,5 +3,7 @@
 #![tactic(auto)]
 
 mod laws;
+mod outputs;
 
 pub use laws::law_of_paper;
+pub use outputs::law_of_outputs;

@@ -29,17 +29,17 @@ use Rattle.mas_types.specs.declared.queues.Thing.TheVariants as thing
 use Rattle.lay_bytes.specs.declared.records.JobRec.{JobRec}
 use Rattle.lay_bytes.specs.declared.records.OutRec.{OutRec}
 use Rattle.ckpt_pages.specs.declared.tables.Tables.{Tables}
-use Rattle.slot_order.specs.declared.slots.Found.{Found}
-use Rattle.slot_order.specs.Listed.{listed, StandsFirst}
-use Rattle.slot_order.proofs.Cases.{test_cases}
-use Rattle.slot_order.proofs.Founds.{first_told, none_told, best_told, no_best_told}
+use Rattle.queue_slots.specs.declared.slots.Found.{Found}
+use Rattle.queue_slots.specs.Listed.{listed, StandsFirst}
+use Rattle.queue_slots.proofs.Cases.{test_cases}
+use Rattle.queue_slots.proofs.Founds.{first_told, none_told, best_told, no_best_told}
 use Rattle.job_queue.specs.Jobs.{AreJobs, HasJob, unordered, rec_of, order_of}
 use Rattle.output_queue.specs.Outputs.{AreOutputs, HasOutput}
 use Rattle.output_queue.specs.Outputs as outputs
 use Rattle.queue_effect.specs.Resets.{is_one_of, job_reset, output_reset}
 use Rattle.queue_effect.specs.declared.members.Who.{Who}
 use Rattle.queue_effect.specs.Slots.{emptied_where, changed_where, count_changed}
-use Rattle.table_queues.specs.Telling.{Tell}
+use Rattle.queue_tables.specs.Telling.{Tell}
 use Rattle.queue_effect.proofs.SlotLemmas.{emptied_told, changed_told}
 
 -- the record of a job with its text

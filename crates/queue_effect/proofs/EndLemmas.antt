@@ -27,7 +27,7 @@ use Rattle.output_queue.proofs.OutputLemmas.{length-outputs}
 use Rattle.track_groups.specs.Groups.{given}
 use Rattle.track_groups.specs.Laws.{AreNoMembers, TextsAreNoMembers, GivesInTurn, HandsOut}
 use Rattle.job_queue.specs.Jobs.{HasJob}
-use Rattle.table_queues.specs.Telling.{Tell}
+use Rattle.queue_tables.specs.Telling.{Tell}
 use Rattle.queue_effect.specs.Standing.{Leaves}
 use Rattle.queue_effect.specs.Working.{in_stage, not_at_work}
 use Rattle.queue_effect.specs.declared.working.Stage.TheVariants as stage

@@ -22,7 +22,7 @@ use Rattle.lay_bytes.specs.declared.records.JobRec.{JobRec}
 use Rattle.lay_bytes.specs.declared.records.OutRec.{OutRec}
 use Rattle.ckpt_pages.specs.declared.tables.Tables.{Tables}
 use Rattle.ckpt_pages.specs.QueueOf.{used}
-use Rattle.slot_order.proofs.Cases.{test_cases}
+use Rattle.queue_slots.proofs.Cases.{test_cases}
 use Rattle.queue_effect.specs.Resets.{job_reset, output_reset}
 use Rattle.queue_effect.specs.Slots.{emptied_where, changed_where}
 use Rattle.queue_effect.specs.Standing.{IsFitJob, IsFitOutput, AreFit}

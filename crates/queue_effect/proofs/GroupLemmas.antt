@@ -20,9 +20,9 @@ use Rattle.mas_types.specs.Commands.Life.{groups_of_outputs}
 use Rattle.track_groups.specs.Groups.{given}
 use Rattle.std.proofs.lemmas.Bool.Decides.{nat_tests}
 use Rattle.lay_bytes.specs.declared.records.OutRec.{OutRec}
-use Rattle.slot_order.specs.declared.slots.Found.{Found}
-use Rattle.slot_order.proofs.Cases.{test_cases}
-use Rattle.slot_order.proofs.Keys.{any-none, any-some}
+use Rattle.queue_slots.specs.declared.slots.Found.{Found}
+use Rattle.queue_slots.proofs.Cases.{test_cases}
+use Rattle.queue_slots.proofs.Keys.{any-none, any-some}
 use Rattle.output_queue.specs.Outputs.{AreOutputs, HasOutput}
 
 pub length-taken : (m : MemberId) (want : ℕ) (gs : List Owner) → length (taken m want gs) ≡ length gs

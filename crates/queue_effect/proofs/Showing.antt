@@ -26,14 +26,14 @@ use Rattle.mas_types.specs.Limits.{members_most}
 use Rattle.ckpt_pages.specs.declared.tables.Tables.{Tables}
 use Rattle.ckpt_pages.specs.QueueOf.{used}
 use Rattle.cmd_report.specs.Named.{IsNamed}
-use Rattle.slot_order.proofs.Rising.{All-in_order}
+use Rattle.queue_slots.proofs.Rising.{All-in_order}
 use Rattle.output_queue.specs.Outputs.{AreOutputs}
-use Rattle.table_queues.specs.Telling.{Tell}
+use Rattle.queue_tables.specs.Telling.{Tell}
 use Rattle.queue_effect.specs.Standing.{Leaves, AreFit, IsFitJob, IsFitOutput}
 use Rattle.lay_bytes.specs.declared.records.JobRec.{JobRec}
 use Rattle.lay_bytes.specs.declared.records.OutRec.{OutRec}
-use Rattle.slot_order.specs.Listed.{listed}
-use Rattle.slot_order.proofs.Alike.{find-alike, filter-alike}
+use Rattle.queue_slots.specs.Listed.{listed}
+use Rattle.queue_slots.proofs.Alike.{find-alike, filter-alike}
 use Rattle.job_queue.specs.Jobs as jobs
 use Rattle.output_queue.specs.Outputs as outputs
 use Rattle.queue_effect.specs.Gone.{job_of, output_of, SaysAs}

@@ -13,7 +13,7 @@ use Rattle.std.proofs.lemmas.List.Elements.{All-cons, All-head, All-tail, All-ni
 use Rattle.std.proofs.lemmas.Bool.{le-leb, lt-leb}
 use Rattle.std.proofs.lemmas.Bool.Decides.{nat_tests}
 use Rattle.ckpt_pages.specs.QueueOf.{insert_by, in_order}
-use Rattle.slot_order.proofs.Cases.{test_cases}
+use Rattle.queue_slots.proofs.Cases.{test_cases}
 
 module _ {X : Type 0} (key : X → ℕ) where
   -- the keys don't fall

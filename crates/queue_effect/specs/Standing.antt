@@ -10,7 +10,7 @@ use Rattle.lay_bytes.specs.declared.records.OutRec.{OutRec}
 use Rattle.ckpt_pages.specs.declared.tables.Tables.{Tables}
 use Rattle.ckpt_pages.specs.QueueOf.{used}
 use Rattle.ckpt_pages.specs.Shape.{HasShape}
-use Rattle.table_queues.specs.Telling.{Tell}
+use Rattle.queue_tables.specs.Telling.{Tell}
 
 -- the tables tell what the row leaves of the queue, and the reply is the row's
 pub record Leaves (t : Tables) (Q : Queue) (row : Row) (r : Reply) : Type 0 where

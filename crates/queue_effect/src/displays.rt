@@ -2,12 +2,12 @@
 ghost use Rattle.std.specs.Prelude.{◌≡◌, ◌++◌, ◌∷◌, [], map, IfOk, OnOk};
 ghost use Rattle.mas_types.specs.declared.queues.Queue.{Queue};
 ghost use Rattle.mas_types.specs.Shown.{show_row};
-ghost use Rattle.slot_order.specs.Listed.{listed};
+ghost use Rattle.queue_slots.specs.Listed.{listed};
 ghost use Rattle.ckpt_pages.specs.QueueOf.{used};
 ghost use Rattle.job_queue.specs.Jobs.{order_of as job_order};
 ghost use Rattle.output_queue.specs.Outputs.{order_of as output_order};
 ghost use Rattle.cmd_report.specs.Named.{IsNamed};
-ghost use Rattle.table_queues.specs.Telling.{Tell};
+ghost use Rattle.queue_tables.specs.Telling.{Tell};
 ghost use Rattle.queue_effect.specs.Standing.{Plays, AreFit};
 ghost use Rattle.queue_effect.specs.Gone.{job_of as job_of_lem, output_of as output_of_lem, SaysAs};
 

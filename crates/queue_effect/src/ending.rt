@@ -10,7 +10,7 @@ ghost use Rattle.mas_types.specs.Commands.Life.{ended_row, ended, with_outputs, 
 ghost use Rattle.track_groups.specs.Groups.{given};
 ghost use Rattle.job_queue.specs.Jobs.{HasJob};
 ghost use Rattle.ckpt_pages.specs.QueueOf.{used};
-ghost use Rattle.table_queues.specs.Telling.{Tell};
+ghost use Rattle.queue_tables.specs.Telling.{Tell};
 ghost use Rattle.queue_effect.specs.Standing.{Plays, IfRefused, AreFit, IsFitJob};
 
 use crate::groups::{free_members, give_groups};
@@ -21,7 +21,7 @@ use ckpt_pages::Tables;
 use lay_bytes::JobRec;
 use mas_types::{JobNo, List, MemberId, OutNo, OutSpec, Phase, Refusal, Reply, Thing};
 use output_queue::add;
-use slot_order::{Found, used_count};
+use queue_slots::{Found, used_count};
 use spool_text::groups_needed;
 use track_groups::{law_of_giving, member_count};
 

@@ -7,7 +7,7 @@ ghost use Rattle.mas_types.specs.Queue.{is_in, first_in as first_in_lem, has_out
 ghost use Rattle.mas_types.specs.Selection.{is_for_convert, for_convert as for_convert_lem, is_for_execute, for_execute as for_execute_lem};
 ghost use Rattle.mas_types.specs.Commands.Life.{take_convert_row, take_exec_row, converted_row, gather_row, purge_row};
 ghost use Rattle.job_queue.specs.Jobs.{HasJob, in_phase};
-ghost use Rattle.table_queues.specs.Telling.{Tell};
+ghost use Rattle.queue_tables.specs.Telling.{Tell};
 ghost use Rattle.queue_effect.specs.Standing.{Plays, IfRefused, AreFit, IsFitJob};
 
 use crate::groups::free_groups;
@@ -18,7 +18,7 @@ use job_queue::{find_convert, find_exec, find_in};
 use lay_bytes::JobRec;
 use mas_types::{JobNo, MemberId, Phase, Refusal, Reply, Thing};
 use output_queue::has_output;
-use slot_order::Found;
+use queue_slots::Found;
 
 fn for_convert(tables: &Tables) -> Option<Found<JobRec>>
     ensures here { IfSome result (λ f. slice_get tables.now.jobs f.at ≡ Some (Some f.item)) }

@@ -7,7 +7,7 @@ ghost use Rattle.mas_types.specs.Queue.{setting_of, has_number, has_key, prints_
 ghost use Rattle.mas_types.specs.Queue.{printing_at as printing_at_lem};
 ghost use Rattle.job_queue.specs.Jobs.{HasJob};
 ghost use Rattle.output_queue.specs.Outputs.{HasOutput};
-ghost use Rattle.table_queues.specs.Telling.{Tell};
+ghost use Rattle.queue_tables.specs.Telling.{Tell};
 ghost use Rattle.queue_effect.specs.Standing.{AreFit, IsFitJob, IsFitOutput};
 
 use ckpt_pages::Tables;
@@ -15,7 +15,7 @@ use job_queue::find_job;
 use lay_bytes::{JobRec, OutRec};
 use mas_types::{JobNo, LineCount, MemberId, OutNo, Phase, Setting};
 use output_queue::{find_output, find_printing};
-use slot_order::Found;
+use queue_slots::Found;
 
 /// The setting of a member; none of nobody, and of a member that isn't there.
 pub fn setting(tables: &Tables, by: MemberId) -> Option<&Setting>

@@ -8,7 +8,7 @@ ghost use Rattle.mas_types.specs.Reset.{reset as reset_lem, phase_reset as phase
 ghost use Rattle.mas_types.specs.Commands.Members.{set_init_row, set_prt_row, reset_row, restart_row};
 ghost use Rattle.queue_effect.specs.Resets.{is_one_of as is_one_of_lem, job_reset, output_reset};
 ghost use Rattle.queue_effect.specs.Slots.{changed_where, setting_changed};
-ghost use Rattle.table_queues.specs.Telling.{Tell};
+ghost use Rattle.queue_tables.specs.Telling.{Tell};
 ghost use Rattle.queue_effect.specs.Standing.{Plays, IfRefused, AreFit};
 
 use ckpt_pages::Tables;

@@ -9,7 +9,7 @@ ghost use Rattle.std.specs.List.{list_any};
 ghost use Rattle.mas_types.specs.Commands.Operator.{held_row, set_prio_row, set_class_row, set_out_row, cancel_row, out_row, is_held_of, released as released_lem, printing_elsewhere as printing_elsewhere_lem, without_outputs_of, has_yet_to_run as has_yet_to_run_lem};
 ghost use Rattle.output_queue.specs.Outputs.{HasOutput};
 ghost use Rattle.queue_effect.specs.Slots.{emptied_where, changed_where};
-ghost use Rattle.table_queues.specs.Telling.{Tell};
+ghost use Rattle.queue_tables.specs.Telling.{Tell};
 ghost use Rattle.queue_effect.specs.Standing.{Plays, IfRefused, AreFit, IsFitJob, IsFitOutput};
 
 use crate::groups::free_prints;
@@ -20,7 +20,7 @@ use ckpt_pages::Tables;
 use lay_bytes::{JobRec, OutRec};
 use mas_types::{Class, JobFields, JobNo, MemberId, OutNo, Phase, Prio, Refusal, Reply};
 use output_queue::find_elsewhere;
-use slot_order::Found;
+use queue_slots::Found;
 
 fn with_held(job: &JobRec, held: bool) -> JobRec
     ensures value { result ≡ record job.now { fields = record job.now.fields { held = held } } }

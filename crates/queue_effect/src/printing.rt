@@ -8,7 +8,7 @@ ghost use Rattle.mas_types.specs.Selection.{is_for_printer, for_printer as for_p
 ghost use Rattle.mas_types.specs.Commands.Printing.{pick_row, mark_row, done_row, back_row, forward_row, output_gone, with_job_over};
 ghost use Rattle.mas_types.specs.Commands.Operator.{cancel_out_row};
 ghost use Rattle.output_queue.specs.Outputs.{HasOutput};
-ghost use Rattle.table_queues.specs.Telling.{Tell};
+ghost use Rattle.queue_tables.specs.Telling.{Tell};
 ghost use Rattle.queue_effect.specs.Standing.{Plays, IfRefused, AreFit, IsFitOutput};
 
 use crate::groups::free_groups;
@@ -19,7 +19,7 @@ use lay_bytes::{JobRec, OutRec};
 use mas_types::{JobNo, MemberId, OutNo, Phase, Refusal, Reply, Thing};
 use output_queue::{find_for_printer, has_output};
 use printer_proc::{backspace, forward};
-use slot_order::Found;
+use queue_slots::Found;
 
 fn for_printer(tables: &Tables, by: MemberId) -> Option<Found<OutRec>>
     requires { by.0 ≤ members_most }

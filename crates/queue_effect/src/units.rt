@@ -6,7 +6,7 @@ ghost use Rattle.mas_types.specs.Queue.{first_in, printing_at};
 ghost use Rattle.mas_types.specs.Selection.{for_convert, for_execute, for_printer};
 ghost use Rattle.mas_types.specs.Units.{unit_of, print_unit as print_unit_lem, working_at};
 ghost use Rattle.job_queue.specs.Jobs.{in_phase};
-ghost use Rattle.table_queues.specs.Telling.{Tell};
+ghost use Rattle.queue_tables.specs.Telling.{Tell};
 
 use crate::lookups::setting;
 use ckpt_pages::Tables;

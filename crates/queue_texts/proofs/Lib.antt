@@ -1,2 +1,4 @@
 pub mod LeftLemmas
 pub mod OwnLemmas
+pub mod EnteredLemmas
+pub mod BroughtLemmas

@@ -22,7 +22,7 @@ use Rattle.ckpt_pages.specs.declared.tables.Tables.{Tables}
 use Rattle.job_queue.specs.Jobs as jobs
 use Rattle.output_queue.specs.Outputs as outputs
 use Rattle.queue_laws.proofs.Finds.{test_cases}
-use Rattle.table_queues.specs.Telling.{Tell, TellSound}
+use Rattle.queue_tables.specs.Telling.{Tell, TellSound}
 use Rattle.queue_texts.specs.Leaving.{AreTheirOwn}
 
 pub sound_own : (Q : Queue) → IsSound Q → AreTheirOwn Q

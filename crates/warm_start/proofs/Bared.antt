@@ -7,8 +7,8 @@ use Rattle.lay_bytes.specs.declared.records.JobRec.{JobRec}
 use Rattle.lay_bytes.specs.declared.records.OutRec.{OutRec}
 use Rattle.ckpt_pages.specs.declared.tables.Tables.{Tables}
 use Rattle.ckpt_pages.specs.QueueOf.{used, queue_of}
-use Rattle.table_queues.specs.Telling.{Tell}
-use Rattle.table_queues.proofs.ToldLemmas.{tell_given}
+use Rattle.queue_tables.specs.Telling.{Tell}
+use Rattle.queue_tables.proofs.ToldLemmas.{tell_given}
 use Rattle.warm_start.specs.Bare.{bare_text, bare_deck, bare_print}
 
 bare_lines : (n : ℕ) → line_count (bare_text n) ≡ n

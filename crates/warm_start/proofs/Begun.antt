@@ -15,7 +15,7 @@ use Rattle.duplex_pair.specs.declared.errors.PairNo.TheVariants.{BothLost, Halte
 use Rattle.duplex_pair.specs.Halves.{IsBothLost}
 use Rattle.mas_complex.specs.declared.places.Place.TheVariants.{Before}
 use Rattle.mas_complex.specs.Crash.{setting, CopyAt, copy_of}
-use Rattle.table_queues.specs.Telling.{Tell}
+use Rattle.queue_tables.specs.Telling.{Tell}
 use Rattle.mas_complex.specs.Meaning.{StandFor}
 use Rattle.warm_start.specs.Starting.{IsSeen, IsFound, IsUnfit}
 use Rattle.warm_start.specs.Usable.{HaveSize}

@@ -1,6 +1,6 @@
 -- A look at both copies: what it gives, and what it leaves.
 use Rattle.std.proofs.Common.{◌≡◌, ◌⊎◌, inl, inr, ⊎_elim, ℕ, ◌≤◌, nat_lt, if◌then◌else◌, Bool, true, false, List, length, Option, Some, None, Result, Ok, Err, IfOk, IfErr, OnOk, refl, subst, sym}
-use Rattle.table_queues.specs.Telling.{Tell}
+use Rattle.queue_tables.specs.Telling.{Tell}
 use Rattle.mas_types.specs.declared.ids.Dev.TheVariants.{Ckpt1, Ckpt2}
 use Rattle.mas_types.specs.declared.ids.Page.{Page}
 use Rattle.mas_types.specs.declared.queues.Queue.{Queue}

@@ -27,7 +27,7 @@ use Rattle.ckpt_pages.specs.declared.tables.Tables.{Tables}
 use Rattle.ckpt_pages.proofs.SlotLists.{any_map, distinct_map}
 use Rattle.job_queue.specs.Jobs as jobs
 use Rattle.output_queue.specs.Outputs as outputs
-use Rattle.table_queues.specs.Telling.{Tell, TellSound}
+use Rattle.queue_tables.specs.Telling.{Tell, TellSound}
 use Rattle.spool_volumes.specs.Texts.{IsLimited}
 
 -- LISTS THAT SHOW THE SAME

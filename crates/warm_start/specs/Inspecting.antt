@@ -13,7 +13,7 @@ use Rattle.spool_disk.specs.Acts.{Goes, Rose}
 use Rattle.ckpt_copy.specs.Pages.{bytes_of}
 use Rattle.ckpt_pages.specs.declared.tables.Tables.{Tables}
 use Rattle.ckpt_pages.specs.QueueOf.{queue_of}
-use Rattle.table_queues.specs.Telling.{Tell}
+use Rattle.queue_tables.specs.Telling.{Tell}
 use Rattle.duplex_pair.specs.declared.errors.Look.{Look}
 use Rattle.duplex_pair.specs.declared.errors.Look.TheVariants as look
 use Rattle.duplex_pair.specs.Finds.{best}

@@ -18,7 +18,7 @@ use Rattle.ckpt_pages.specs.Given.{levels_given}
 use Rattle.duplex_pair.specs.Halves.{SomeAlive}
 use Rattle.duplex_pair.specs.Looks.{WasLost}
 use Rattle.spool_volumes.specs.Volumes.{IsSteady}
-use Rattle.table_queues.specs.Telling.{Tell}
+use Rattle.queue_tables.specs.Telling.{Tell}
 use Rattle.ckpt_copy.specs.Changes.{NoMore}
 use Rattle.duplex_pair.specs.Both.{BothMeanwhile}
 use Rattle.warm_start.specs.declared.choosing.Start.{Start}

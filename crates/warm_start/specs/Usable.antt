@@ -7,7 +7,7 @@ use Rattle.ckpt_pages.specs.declared.tables.Tables.{Tables}
 use Rattle.ckpt_pages.specs.Checkpoints.{IsCheckpoint}
 use Rattle.ckpt_pages.specs.Sound.{AreSound}
 use Rattle.mas_types.specs.declared.queues.Queue.{Queue}
-use Rattle.table_queues.specs.Telling.{Tell}
+use Rattle.queue_tables.specs.Telling.{Tell}
 use Rattle.mas_complex.specs.Meaning.{StandFor}
 
 -- the tables have no fault, and a run finds levels and orders enough above theirs

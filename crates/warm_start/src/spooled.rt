@@ -15,7 +15,7 @@ ghost use Rattle.track_groups.specs.Places.{groups_of as groups_of_lem};
 ghost use Rattle.ckpt_pages.specs.Shape.{HasSpelling};
 ghost use Rattle.job_queue.specs.Jobs.{AreJobs};
 ghost use Rattle.output_queue.specs.Outputs.{AreOutputs};
-ghost use Rattle.table_queues.specs.Telling.{Tell};
+ghost use Rattle.queue_tables.specs.Telling.{Tell};
 ghost use Rattle.mas_complex.specs.Texts.{lost_now, spools_at, bytes_on, IsReadUnless, HasTexts};
 ghost use Rattle.warm_start.specs.Spooled.{AreRoomy, IsGiven, AreGiven};
 

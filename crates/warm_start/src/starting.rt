@@ -17,7 +17,7 @@ ghost use Rattle.mas_complex.specs.declared.places.Place.TheVariants.{Before as 
 ghost use Rattle.mas_complex.specs.Locking.{book_of};
 ghost use Rattle.mas_complex.specs.Headline.{LeavesQueue};
 ghost use Rattle.spool_volumes.specs.Volumes.{IsSteady};
-ghost use Rattle.table_queues.specs.Telling.{Tell};
+ghost use Rattle.queue_tables.specs.Telling.{Tell};
 ghost use Rattle.warm_start.specs.Choosing.{IsFew, goes as goes_lem};
 ghost use Rattle.warm_start.specs.Judging.{Has};
 ghost use Rattle.warm_start.specs.Inspecting.{FindsNone};
@@ -36,7 +36,7 @@ use mas_types::limits::PAGE_BYTES;
 use mas_types::{Config, Dev, Level, List, Page, Queue};
 use spool_disk::{Part, Plant};
 use std::alloc::Global;
-use table_queues::law_of_told_queues;
+use queue_tables::law_of_told_queues;
 
 /// What a run goes on with after a warm start.
 #[derive(Drop)]

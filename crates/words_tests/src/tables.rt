@@ -1,4 +1,4 @@
-use command_words::{Verb, Words, WordsNo, read_words};
+use mas_words::{Verb, Words, WordsNo, read_words};
 use std::alloc::{AllocError, Global};
 
 fn words_in(alloc: Global, line: &str) -> Result<Vec<String>, AllocError> {

@@ -3,7 +3,7 @@ use Rattle.std.proofs.lemmas.List.{drop_all}
 use Rattle.card_reader.specs.Cards.{is_null_kind, kind_of}
 use Rattle.card_reader.specs.Statements.{items_from, up_to_end}
 use Rattle.jcl_convert.specs.Jcl.{card_added, converted_after}
-use Rattle.jcl_convert.proofs.Steps.{converted_after-refused, converted_after-end, converted_after-more}
+use Rattle.jcl_convert.proofs.StepLemmas.{converted_after-refused, converted_after-end, converted_after-more}
 use Rattle.jcl_convert.proofs.convert_text.convert.Goals as goal
 
 pub returns-in-Some-clause-refused : goal.returns-in-Some-clause-refused

@@ -1,4 +1,4 @@
-use Rattle.jcl_convert.proofs.Steps.{pushed}
+use Rattle.jcl_convert.proofs.StepLemmas.{pushed}
 use Rattle.jcl_convert.proofs.convert_text.push_dd.Goals as goal
 
 pub returns : goal.returns

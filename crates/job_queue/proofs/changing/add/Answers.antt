@@ -1,5 +1,5 @@
 use Rattle.std.proofs.Common.{sym, ◌∙◌}
-use Rattle.slot_order.proofs.Changes.{all_used, free_at, some_free}
+use Rattle.queue_slots.proofs.Changes.{all_used, free_at, some_free}
 use Rattle.job_queue.proofs.JobLemmas.{length-jobs, jobs-added}
 use Rattle.job_queue.proofs.changing.add.Goals as goal
 

@@ -3,8 +3,8 @@ use Rattle.std.specs.Prelude.{not}
 use Rattle.mas_types.specs.Lists.{is_greatest_of, has_first_key_of}
 use Rattle.mas_types.specs.Ids.{same_class, is_somebody}
 use Rattle.mas_types.specs.Queue.{in_execute}
-use Rattle.slot_order.specs.Listed.{listed}
-use Rattle.slot_order.proofs.Founds.{found_here, keyed_told, no_keyed_told}
+use Rattle.queue_slots.specs.Listed.{listed}
+use Rattle.queue_slots.proofs.Founds.{found_here, keyed_told, no_keyed_told}
 use Rattle.lay_bytes.specs.declared.records.JobRec.{JobRec}
 use Rattle.job_queue.specs.Jobs.{order_of, unordered, rec_of}
 use Rattle.job_queue.proofs.finding.find_exec.Goals as goal

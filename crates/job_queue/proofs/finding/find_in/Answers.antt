@@ -1,4 +1,4 @@
-use Rattle.slot_order.proofs.Founds.{found_here, first_told, none_told}
+use Rattle.queue_slots.proofs.Founds.{found_here, first_told, none_told}
 use Rattle.lay_bytes.specs.declared.records.JobRec.{JobRec}
 use Rattle.job_queue.specs.Jobs.{order_of, unordered, rec_of, in_phase}
 use Rattle.job_queue.proofs.finding.find_in.Goals as goal

@@ -1,5 +1,5 @@
 use Rattle.mas_types.specs.Ids.{same_number}
-use Rattle.slot_order.proofs.Founds.{found_here, first_told, none_told}
+use Rattle.queue_slots.proofs.Founds.{found_here, first_told, none_told}
 use Rattle.lay_bytes.specs.declared.records.JobRec.{JobRec}
 use Rattle.job_queue.specs.Jobs.{order_of, unordered, rec_of}
 use Rattle.job_queue.proofs.JobLemmas.{record_found}

@@ -1,6 +1,6 @@
 use Rattle.std.proofs.Common.{◌&&◌}
 use Rattle.mas_types.specs.Ids.{same_member}
-use Rattle.slot_order.proofs.Founds.{found_here, first_told, none_told}
+use Rattle.queue_slots.proofs.Founds.{found_here, first_told, none_told}
 use Rattle.lay_bytes.specs.declared.records.JobRec.{JobRec}
 use Rattle.job_queue.specs.Jobs.{order_of, unordered, rec_of, in_phase}
 use Rattle.job_queue.proofs.finding.find_working.Goals as goal

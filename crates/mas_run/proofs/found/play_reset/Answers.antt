@@ -9,7 +9,7 @@ use Rattle.member_node.proofs.WriteLemmas.{none_out}
 use Rattle.member_steps.specs.Locked.{IsOpenTo}
 use Rattle.mas_run.specs.Resets.{restart_entries}
 use Rattle.lock_cycle.specs.Books.{Book}
-use Rattle.first_script.specs.Played.{sysa}
+use Rattle.script_input.specs.Played.{sysa}
 use Rattle.mas_run.specs.Runs.{IsPlay}
 use Rattle.mas_run.specs.Turns.{Sight, turns_from}
 use Rattle.mas_types.specs.declared.queues.Queue.{Queue}

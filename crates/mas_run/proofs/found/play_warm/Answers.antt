@@ -6,7 +6,7 @@ use Rattle.mas_types.specs.Sound.{IsSound}
 use Rattle.mas_types.specs.declared.ids.Dev.TheVariants.{Ckpt1, Ckpt2}
 use Rattle.mas_types.specs.declared.queues.Config.{Config}
 use Rattle.mas_types.specs.declared.queues.Queue.{Queue}
-use Rattle.table_queues.specs.Telling.{Tell}
+use Rattle.queue_tables.specs.Telling.{Tell}
 use Rattle.mas_complex.specs.Texts.{HasTexts, lost_now, spools_at}
 use Rattle.ckpt_copy.specs.Areas.{reads, areas_size}
 use Rattle.ckpt_copy.specs.Moments.{goes_on}
@@ -21,7 +21,7 @@ use Rattle.warm_start.specs.Starting.{IsHeld}
 use Rattle.warm_start.proofs.Begun.{found_later, kept_later}
 use Rattle.warm_start.proofs.Prepared.{given_before}
 use Rattle.warm_start.proofs.Spooling.{steady_first}
-use Rattle.first_script.specs.Played.{sysa}
+use Rattle.script_input.specs.Played.{sysa}
 use Rattle.member_decks.specs.Spooling.{AreRoomy}
 use Rattle.member_node.specs.Calls.{console_now}
 use Rattle.mas_run.specs.Turns.{Sight, turns_of}

@@ -16,7 +16,7 @@ use Rattle.mas_complex.specs.Journals.{kept_all}
 use Rattle.mas_complex.specs.Locking.{book_of}
 use Rattle.mas_complex.specs.Meaning.{StandFor, run}
 use Rattle.member_node.specs.Calls.{IsOnlyOn, console_now}
-use Rattle.table_queues.specs.Telling.{Tell}
+use Rattle.queue_tables.specs.Telling.{Tell}
 use Rattle.mas_complex.specs.Texts.{lost_now, spools_at}
 use Rattle.member_node.proofs.DrawnLemmas.{drawn_stand, drawn_level}
 use Rattle.member_steps.specs.Steps.{AreAllKept}
@@ -25,7 +25,7 @@ use Rattle.member_node.specs.Copies.{RestsAt}
 use Rattle.ckpt_pages.specs.declared.tables.Tables.{Tables}
 use Rattle.mas_run.specs.Runs.{IsPlay}
 use Rattle.mas_run.specs.Statuses.{IsCausedFrom}
-use Rattle.first_script.specs.Played.{sysa}
+use Rattle.script_input.specs.Played.{sysa}
 use Rattle.mas_run.specs.Turns.{Sight, turns_from, turns_of}
 use Rattle.mas_run.proofs.LockLemmas.{begins_open}
 use Rattle.mas_types.specs.Limits.{members_most}

@@ -1,6 +1,6 @@
 use Rattle.std.proofs.Common.{◌≡◌, ◌<◌, ◌∙◌, [], length, take, drop, refl, arith, append-nil}
 use Rattle.std.proofs.lemmas.List.{take_all, drop_all}
-use Rattle.plain_queue.proofs.Writes.{map_here}
+use Rattle.model_queue.proofs.Writes.{map_here}
 use Rattle.member_core.proofs.Loops.{given_fate, settled_is}
 use Rattle.member_core.proofs.batches.settle.Goals as goal
 

@@ -1,6 +1,6 @@
 use Rattle.std.proofs.Common.{◌<◌, length, arith}
 use Rattle.member_core.specs.Events.{has_risen}
-use Rattle.plain_queue.proofs.Writes.{map_here}
+use Rattle.model_queue.proofs.Writes.{map_here}
 use Rattle.member_core.proofs.starts.rise_all.Goals as goal
 
 pub loop-member-preserved : goal.loop-member-preserved

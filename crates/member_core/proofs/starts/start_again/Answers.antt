@@ -1,7 +1,7 @@
 use Rattle.std.proofs.Common.{◌≡◌, ◌∷◌, ◌++◌, [], true, nat_lt, length, refl, ap, ◌∙◌, rules}
 use Rattle.mas_types.specs.declared.journals.Entry.{Entry}
 use Rattle.mas_types.specs.Run.{run}
-use Rattle.plain_queue.proofs.Writes.{refill_same}
+use Rattle.model_queue.proofs.Writes.{refill_same}
 use Rattle.member_core.specs.Worlds.{kept, longest, settled}
 use Rattle.member_core.specs.Events.{fate_by, is_any_good, is_nobody_up}
 use Rattle.member_core.proofs.Restarts.{restarted}

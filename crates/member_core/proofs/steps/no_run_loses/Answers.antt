@@ -1,7 +1,7 @@
 use Rattle.std.proofs.Common.{◌≤◌, ◌+◌, sym, ◌∙◌, ap, subst, length, arith}
 use Rattle.std.proofs.lemmas.List.{take_all}
 use Rattle.std.specs.List.{AllByRecursion}
-use Rattle.plain_queue.proofs.RunLemmas.{at_place}
+use Rattle.model_queue.proofs.RunLemmas.{at_place}
 use Rattle.member_core.specs.Events.{runs, start}
 use Rattle.member_core.specs.Told.{IsFitEvent}
 use Rattle.member_core.proofs.Counted.{below_more, runs_more}

@@ -15,7 +15,7 @@ use Rattle.mas_complex.specs.Locking.{MayAct}
 use Rattle.mas_complex.specs.Meaning.{run}
 use Rattle.mas_complex.specs.Texts.{IsThere, Spools, spools_at}
 use Rattle.mas_types.specs.declared.jobs.Text.TheVariants.{Whole}
-use Rattle.brought_texts.specs.Entering.{groups_for}
+use Rattle.queue_texts.specs.Entering.{groups_for}
 use Rattle.member_node.specs.Reads.{AreLow, orders_after, too_high}
 use Rattle.member_node.proofs.WriteLemmas.{none_out}
 use Rattle.member_steps.specs.Steps.{AreAllKept}

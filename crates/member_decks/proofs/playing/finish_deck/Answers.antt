@@ -9,7 +9,7 @@ use Rattle.mas_types.specs.declared.queues.Queue.{Queue}
 use Rattle.mas_types.specs.Fit.{IsFit}
 use Rattle.mas_types.specs.Queue.{is_member}
 use Rattle.mas_types.specs.Step.{may_give}
-use Rattle.table_commands.specs.Given.{IsGiver}
+use Rattle.queue_commands.specs.Given.{IsGiver}
 use Rattle.mas_complex.specs.Journals.{begun, end_of, kept_all}
 use Rattle.mas_complex.specs.Meaning.{run}
 use Rattle.mas_complex.specs.Texts.{HasTexts, lost_now, spools_at}

@@ -8,8 +8,8 @@ use Rattle.mas_complex.specs.Meaning.{run}
 use Rattle.member_decks.specs.Decks.{given_in}
 use Rattle.member_decks.proofs.DeckLemmas.{given_of}
 use Rattle.member_decks.proofs.OpenLemmas.{tells_some}
-use Rattle.work_units.specs.declared.units.UnitEnd.{UnitEnd}
-use Rattle.work_units.specs.declared.units.UnitEnd.TheVariants as ends
+use Rattle.job_outcome.specs.declared.units.UnitEnd.{UnitEnd}
+use Rattle.job_outcome.specs.declared.units.UnitEnd.TheVariants as ends
 use Rattle.member_work.specs.Causes.{MayEndUnit}
 use Rattle.member_work.specs.Units.{drop_groups}
 use Rattle.member_work.specs.Work.{batches_in}

@@ -7,7 +7,7 @@ use Rattle.mas_complex.specs.Meaning.{run}
 use Rattle.member_decks.specs.Decks.{closing_reply, given_in}
 use Rattle.member_decks.proofs.DeckLemmas.{given_of}
 use Rattle.member_decks.proofs.OpenLemmas.{tells_some}
-use Rattle.work_units.specs.Next.{end_by}
+use Rattle.job_outcome.specs.Next.{end_by}
 use Rattle.member_work.specs.Units.{ending}
 use Rattle.member_work.specs.Work.{batches_in}
 use Rattle.member_work.proofs.BeginLemmas.{ending_unmarked}

@@ -6,7 +6,7 @@ use Rattle.mas_types.specs.declared.journals.Batch.{Batch}
 use Rattle.mas_types.specs.declared.journals.Entry.{Entry}
 use Rattle.mas_types.specs.declared.queues.Queue.{Queue}
 use Rattle.queue_laws.proofs.Finds.{test_cases}
-use Rattle.table_queues.specs.Telling.{Tell}
+use Rattle.queue_tables.specs.Telling.{Tell}
 use Rattle.track_groups.specs.Groups.{held_by}
 use Rattle.mas_complex.specs.Journals.{end_of, kept_all}
 use Rattle.mas_complex.specs.Meaning.{run, step}
@@ -16,9 +16,9 @@ use Rattle.member_node.specs.Reads.{orders_after, too_high}
 use Rattle.member_decks.specs.Decks.{are_refused, closing_reply, given_in}
 use Rattle.member_decks.proofs.DeckLemmas.{given_of}
 use Rattle.member_decks.proofs.OpenLemmas.{on_ok}
-use Rattle.work_units.specs.declared.units.UnitEnd.{UnitEnd}
-use Rattle.work_units.specs.declared.units.UnitEnd.TheVariants as ends
-use Rattle.work_units.specs.Next.{end_by}
+use Rattle.job_outcome.specs.declared.units.UnitEnd.{UnitEnd}
+use Rattle.job_outcome.specs.declared.units.UnitEnd.TheVariants as ends
+use Rattle.job_outcome.specs.Next.{end_by}
 use Rattle.member_work.specs.Steps.{IsEndStep, IsPlayOf, IsSpoolStep}
 use Rattle.member_work.specs.Units.{UnitPlay, ending, groups_for_end, spooled, taken_end, taken_queue, taking}
 use Rattle.member_work.proofs.CauseLemmas.{reply_caused, taken_caused}

@@ -17,9 +17,9 @@ use Rattle.mas_complex.specs.Texts.{spools_at}
 use Rattle.member_decks.specs.Decks.{closing_reply, given_in}
 use Rattle.member_decks.specs.Steps.{AreOf, IsFoundLost}
 use Rattle.member_decks.proofs.OpenLemmas.{on_ok}
-use Rattle.work_units.specs.declared.units.UnitEnd.{UnitEnd}
-use Rattle.work_units.specs.declared.units.UnitEnd.TheVariants as ends
-use Rattle.work_units.specs.Next.{end_by}
+use Rattle.job_outcome.specs.declared.units.UnitEnd.{UnitEnd}
+use Rattle.job_outcome.specs.declared.units.UnitEnd.TheVariants as ends
+use Rattle.job_outcome.specs.Next.{end_by}
 use Rattle.member_work.specs.Ending.{IsLastPart}
 use Rattle.member_work.specs.Rounds.{IsSpoolLost}
 use Rattle.member_work.specs.Spooled.{AreSpooled}

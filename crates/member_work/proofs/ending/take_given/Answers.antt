@@ -7,7 +7,7 @@ use Rattle.mas_complex.specs.Meaning.{run}
 use Rattle.member_decks.specs.Decks.{given_in}
 use Rattle.member_decks.proofs.DeckLemmas.{given_of}
 use Rattle.member_decks.proofs.OpenLemmas.{tells_some}
-use Rattle.work_units.specs.declared.units.UnitEnd.{UnitEnd}
+use Rattle.job_outcome.specs.declared.units.UnitEnd.{UnitEnd}
 use Rattle.member_work.specs.Causes.{MayEndUnit}
 use Rattle.member_work.specs.Units.{taken_end, taking}
 use Rattle.member_work.specs.Work.{batches_in}

@@ -1,6 +1,6 @@
 use Rattle.std.proofs.Common.{◌∙◌, [], ap, subst, sym, arith}
 use Rattle.std.proofs.lemmas.Result.{err_from_is_err_and}
-use Rattle.work_units.specs.Next.{IsNamedEnd, end_by}
+use Rattle.job_outcome.specs.Next.{IsNamedEnd, end_by}
 use Rattle.member_node.specs.Batches.{last_reply}
 use Rattle.member_steps.specs.Steps.{entry_of}
 use Rattle.member_work.proofs.GivingLemmas.{given_none, given_still, gives_none, gives_one, last_push, leaves_texts, named_end, one_longer, own_more, some_batch}

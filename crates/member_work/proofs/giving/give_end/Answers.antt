@@ -4,12 +4,12 @@ use Rattle.mas_types.specs.declared.commands.Command.TheVariants as command
 use Rattle.mas_types.specs.declared.queues.Config.{Config}
 use Rattle.mas_types.specs.declared.queues.Queue.{Queue}
 use Rattle.mas_types.specs.Queue.{is_member}
-use Rattle.table_queues.specs.Telling.{Tell}
+use Rattle.queue_tables.specs.Telling.{Tell}
 use Rattle.mas_complex.specs.Meaning.{step}
 use Rattle.member_steps.proofs.StepLemmas.{if_ok}
 use Rattle.member_decks.specs.Decks.{closing_reply, given_in}
 use Rattle.member_decks.proofs.OpenLemmas.{tells_some}
-use Rattle.work_units.specs.Next.{IsNamedEnd, end_by}
+use Rattle.job_outcome.specs.Next.{IsNamedEnd, end_by}
 use Rattle.member_work.specs.Units.{drop_groups, ending}
 use Rattle.member_work.proofs.GivingLemmas.{ending_refused, ending_taken, end_ending, ended_leaves, given_then, gives_as, gives_none, gives_then, gives_texts, one_batch, one_longer, one_told}
 use Rattle.member_work.proofs.giving.give_end.Goals as goal

@@ -6,14 +6,14 @@ use Rattle.mas_types.specs.declared.ids.MemberId.{MemberId}
 use Rattle.mas_types.specs.declared.queues.Config.{Config}
 use Rattle.mas_types.specs.declared.queues.Queue.{Queue}
 use Rattle.mas_types.specs.Queue.{is_member}
-use Rattle.table_queues.specs.Telling.{Tell, TellSound}
+use Rattle.queue_tables.specs.Telling.{Tell, TellSound}
 use Rattle.mas_complex.specs.Meaning.{step}
 use Rattle.member_steps.specs.Steps.{reply_to}
 use Rattle.member_steps.proofs.StepLemmas.{if_ok}
 use Rattle.member_decks.proofs.OpenLemmas.{tells_some}
 use Rattle.member_decks.proofs.TakeLemmas.{take_counts}
-use Rattle.work_units.specs.declared.units.UnitEnd.TheVariants as ends
-use Rattle.work_units.specs.Next.{IsNamedEnd, end_by}
+use Rattle.job_outcome.specs.declared.units.UnitEnd.TheVariants as ends
+use Rattle.job_outcome.specs.Next.{IsNamedEnd, end_by}
 use Rattle.member_work.specs.Units.{drop_groups, taken_end, taking}
 use Rattle.member_work.proofs.GivingLemmas.{end_all, end_refused, done_is, end_some, given_then, gives_as, gives_none, gives_ok, gives_then, has_told, next_refused, none_free, one_batch, one_longer, one_reply, one_told, some_batch, take_not_done, taking_all, taking_refused, taking_some, wanted_takes}
 use Rattle.member_work.proofs.giving.take_for_end.Goals as goal

@@ -10,7 +10,7 @@ use Rattle.mas_complex.specs.Journals.{end_of, kept_all}
 use Rattle.mas_complex.specs.Meaning.{run}
 use Rattle.member_decks.specs.Steps.{AreOf}
 use Rattle.member_decks.proofs.OpenLemmas.{on_ok}
-use Rattle.work_units.specs.declared.outcomes.Outcome.{Outcome}
+use Rattle.job_outcome.specs.declared.outcomes.Outcome.{Outcome}
 use Rattle.member_work.specs.JobSteps.{IsOutcomeStep}
 use Rattle.member_work.specs.Steps.{IsKeeping}
 use Rattle.member_work.proofs.EndingLemmas.{end_none}

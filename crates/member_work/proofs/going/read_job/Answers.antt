@@ -9,7 +9,7 @@ use Rattle.ckpt_copy.specs.Moments.{goes_none}
 use Rattle.mas_complex.specs.Journals.{end_of, kept_all}
 use Rattle.mas_complex.specs.Meaning.{run}
 use Rattle.member_decks.specs.Keeping.{IsOnCopies}
-use Rattle.work_units.specs.declared.outcomes.Outcome.{Outcome}
+use Rattle.job_outcome.specs.declared.outcomes.Outcome.{Outcome}
 use Rattle.member_work.specs.Steps.{IsAtWork, IsKeeping}
 use Rattle.member_work.proofs.EndingLemmas.{end_none}
 use Rattle.member_work.proofs.JobLemmas.{wider_looked}

@@ -5,13 +5,13 @@ use Rattle.mas_types.specs.declared.queues.Config.{Config}
 use Rattle.mas_types.specs.declared.queues.Queue.{Queue}
 use Rattle.mas_types.specs.declared.queues.Thing.TheVariants.{Deck}
 use Rattle.lock_cycle.specs.Books.{Book, IsMember, after_free, after_try, try_refusal}
-use Rattle.table_queues.specs.Telling.{Tell}
+use Rattle.queue_tables.specs.Telling.{Tell}
 use Rattle.track_groups.specs.Places.{groups_of}
 use Rattle.mas_complex.specs.Journals.{kept_all}
 use Rattle.mas_complex.specs.Meaning.{run}
 use Rattle.mas_complex.specs.Spool.{IsGroupOf}
 use Rattle.member_decks.proofs.HoldLemmas.{gets_again, keeps_book}
-use Rattle.work_units.specs.Outcomes.{outcome_of}
+use Rattle.job_outcome.specs.Outcomes.{outcome_of}
 use Rattle.member_work.proofs.CauseLemmas.{stops_as}
 use Rattle.member_work.proofs.LookingLemmas.{freed_member, groups_within, seen_as}
 use Rattle.member_work.proofs.looking.look_at.Goals as goal

@@ -7,7 +7,7 @@ use Rattle.mas_types.specs.declared.ids.MemberId.{MemberId}
 use Rattle.mas_types.specs.declared.journals.Batch.{Batch}
 use Rattle.mas_types.specs.declared.journals.Entry.{Entry}
 use Rattle.mas_types.specs.declared.queues.Queue.{Queue}
-use Rattle.slot_order.specs.declared.slots.Found.{Found}
+use Rattle.queue_slots.specs.declared.slots.Found.{Found}
 use Rattle.lay_bytes.specs.declared.records.JobRec.{JobRec}
 use Rattle.mas_complex.specs.Journals.{end_of, kept_all}
 use Rattle.mas_complex.specs.Meaning.{run}

@@ -5,7 +5,7 @@ use Rattle.mas_complex.specs.Meaning.{run}
 use Rattle.member_decks.proofs.OpenLemmas.{tells_some}
 use Rattle.paper_laws.specs.Counts.{IsMarkRight, counts_after}
 use Rattle.mas_complex.specs.Paper.{counts_of}
-use Rattle.work_units.specs.declared.units.UnitEnd.TheVariants as ends
+use Rattle.job_outcome.specs.declared.units.UnitEnd.TheVariants as ends
 use Rattle.member_work.proofs.GivenLemmas.{work_tells}
 use Rattle.member_work.proofs.UnderWayLemmas.{convert_under_way, finish_indexed, print_under_way, run_under_way}
 use Rattle.member_work.proofs.UnitStepLemmas.{command_fits, command_step, convert_step, each_command, idle_step, print_step, run_step}

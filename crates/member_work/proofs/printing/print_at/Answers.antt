@@ -12,7 +12,7 @@ use Rattle.lock_cycle.specs.Books.{Book, IsMember, after_free, after_try, is_sto
 use Rattle.spool_disk.specs.View.{View}
 use Rattle.spool_disk.specs.Acts.{Goes}
 use Rattle.ckpt_copy.specs.Moments.{goes_none}
-use Rattle.table_queues.specs.Telling.{Tell}
+use Rattle.queue_tables.specs.Telling.{Tell}
 use Rattle.track_groups.specs.Places.{groups_of}
 use Rattle.mas_complex.specs.Journals.{kept_all}
 use Rattle.mas_complex.specs.Locking.{IsOfOther}
@@ -21,7 +21,7 @@ use Rattle.mas_complex.specs.Spool.{IsGroupOf}
 use Rattle.member_decks.proofs.HoldLemmas.{gets_again, keeps_book}
 use Rattle.member_work.specs.Printing.{IsBeside, IsPrinting, MayPrintTo}
 use Rattle.member_work.specs.Rounds.{IsReadAs}
-use Rattle.work_units.specs.declared.outcomes.Read.TheVariants as read
+use Rattle.job_outcome.specs.declared.outcomes.Read.TheVariants as read
 use Rattle.member_work.proofs.LookingLemmas.{freed_member, groups_within}
 use Rattle.member_work.proofs.PrintedLemmas.{beside_on, beside_volumes, freed_up, lines_whole, may_print_to, output_seen, printed_as, printed_named, stops_wider}
 use Rattle.member_work.proofs.RoundLemmas.{wider_read}

@@ -24,7 +24,7 @@ use Rattle.member_node.specs.declared.member.Member.{Member}
 use Rattle.member_node.specs.Batches.{last_reply}
 use Rattle.member_steps.specs.Steps.{entry_with, reply_to}
 use Rattle.member_decks.proofs.OpenLemmas.{reply_done}
-use Rattle.work_units.specs.Next.{IsNamedEnd, end_by}
+use Rattle.job_outcome.specs.Next.{IsNamedEnd, end_by}
 use Rattle.member_work.specs.Steps.{HasCopy, IsAtWork, IsKeeping, IsStepUntold}
 use Rattle.member_work.proofs.GivenLemmas.{commanded, more_by_one, named_end, not_commanded, of_more, one_reply, texts_behind, work_given, work_tells}
 use Rattle.member_work.proofs.working.play_command.Goals as goal

@@ -1,5 +1,5 @@
 use Rattle.std.proofs.Common.{sym, ◌∙◌}
-use Rattle.slot_order.proofs.Changes.{all_used, free_at, some_free}
+use Rattle.queue_slots.proofs.Changes.{all_used, free_at, some_free}
 use Rattle.output_queue.proofs.OutputLemmas.{length-outputs, outputs-added}
 use Rattle.output_queue.proofs.adding.add.Goals as goal
 

@@ -1,7 +1,7 @@
 use Rattle.std.proofs.Common.{◌&&◌}
 use Rattle.std.specs.Prelude.{not}
 use Rattle.mas_types.specs.Ids.{same_number, same_member, is_somebody}
-use Rattle.slot_order.proofs.Founds.{found_here, first_told, none_told}
+use Rattle.queue_slots.proofs.Founds.{found_here, first_told, none_told}
 use Rattle.lay_bytes.specs.declared.records.OutRec.{OutRec}
 use Rattle.output_queue.specs.Outputs.{order_of, unordered, rec_of}
 use Rattle.output_queue.proofs.finding.find_elsewhere.Goals as goal

@@ -1,6 +1,6 @@
 use Rattle.std.proofs.Common.{◌&&◌}
 use Rattle.mas_types.specs.Ids.{same_number, same_index}
-use Rattle.slot_order.proofs.Founds.{found_here, first_told, none_told}
+use Rattle.queue_slots.proofs.Founds.{found_here, first_told, none_told}
 use Rattle.lay_bytes.specs.declared.records.OutRec.{OutRec}
 use Rattle.output_queue.specs.Outputs.{order_of, unordered, rec_of}
 use Rattle.output_queue.proofs.finding.find_output.Goals as goal

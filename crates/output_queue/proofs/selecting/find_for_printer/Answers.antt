@@ -1,4 +1,4 @@
-use Rattle.slot_order.proofs.Founds.{found_here}
+use Rattle.queue_slots.proofs.Founds.{found_here}
 use Rattle.output_queue.specs.Outputs.{order_of}
 use Rattle.output_queue.proofs.PrinterLemmas.{selected_some, selected_none, goes_first}
 use Rattle.output_queue.proofs.selecting.find_for_printer.Goals as goal

@@ -4,8 +4,8 @@ use Rattle.mas_types.specs.declared.jobs.Output.{Output}
 use Rattle.mas_types.specs.Owners.{groups_needed, output_places}
 use Rattle.lay_bytes.specs.declared.records.OutRec.{OutRec}
 use Rattle.ckpt_pages.specs.QueueOf.{used}
-use Rattle.slot_order.specs.Listed.{listed}
-use Rattle.slot_order.proofs.Changes.{free_at}
+use Rattle.queue_slots.specs.Listed.{listed}
+use Rattle.queue_slots.proofs.Changes.{free_at}
 use Rattle.output_queue.specs.Outputs.{order_of, new_rec}
 use Rattle.output_queue.proofs.OutputLemmas.{length-outputs}
 use Rattle.track_groups.specs.Groups.{given}

@@ -1,5 +1,5 @@
 use Rattle.std.proofs.Common.{sym, ◌∙◌}
-use Rattle.slot_order.proofs.Founds.{found_within}
+use Rattle.queue_slots.proofs.Founds.{found_within}
 use Rattle.mas_types.specs.Commands.Operator.{cancel_row}
 use Rattle.mas_types.specs.declared.commands.Refusal.TheVariants as refusal
 use Rattle.queue_effect.proofs.Changing.{cancel_elsewhere}

@@ -1,4 +1,4 @@
-use Rattle.slot_order.proofs.Founds.{found_within}
+use Rattle.queue_slots.proofs.Founds.{found_within}
 use Rattle.queue_effect.proofs.Changing.{no_job_over}
 use Rattle.queue_effect.proofs.printing.close_job.Goals as goal
 

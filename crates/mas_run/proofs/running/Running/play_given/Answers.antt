@@ -1,7 +1,7 @@
 use Rattle.std.proofs.Common.{false, [], ◌∷◌, arith, refl}
 use Rattle.mas_types.specs.declared.queues.Queue.{Queue}
 use Rattle.lock_cycle.specs.Books.{try_refusal}
-use Rattle.first_script.specs.Played.{sysa}
+use Rattle.script_input.specs.Played.{sysa}
 use Rattle.mas_complex.specs.Journals.{end_of, kept_all}
 use Rattle.mas_complex.specs.Meaning.{run}
 use Rattle.member_node.proofs.WriteLemmas.{none_out}

@@ -1,7 +1,7 @@
 use Rattle.std.proofs.Common.{◌≡◌, ◌∙◌, ◌+◌, ℕ, refl, sym, ap, subst, arith}
 use Rattle.std.proofs.lemmas.Result.{err_from_is_err_and}
 use Rattle.mas_types.specs.declared.queues.Queue.{Queue}
-use Rattle.first_script.specs.Played.{IsPlayed}
+use Rattle.script_input.specs.Played.{IsPlayed}
 use Rattle.spool_disk.specs.View.{World}
 use Rattle.mas_complex.specs.Journals.{kept_all}
 use Rattle.mas_complex.specs.Meaning.{run}

@@ -1,6 +1,6 @@
 use Rattle.std.proofs.Common.{◌≡◌, ◌+◌, ◌*◌, ◌≤◌, length, take}
 use Rattle.mas_types.specs.declared.ids.Dev.TheVariants.{Ckpt1, Ckpt2}
-use Rattle.first_script.specs.Played.{sysa}
+use Rattle.script_input.specs.Played.{sysa}
 use Rattle.spool_disk.specs.View.{disk_now}
 use Rattle.member_node.specs.Reads.{IsCalm, ReadsLow}
 use Rattle.member_steps.specs.Locked.{IsOpenTo}

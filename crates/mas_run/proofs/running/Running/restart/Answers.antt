@@ -15,7 +15,7 @@ use Rattle.mas_complex.specs.Meaning.{run}
 use Rattle.mas_complex.specs.Texts.{lost_now, spools_at}
 use Rattle.member_node.specs.Batches.{HasDone, level_with}
 use Rattle.ckpt_pages.specs.declared.tables.Tables.{Tables}
-use Rattle.table_queues.specs.Telling.{Tell}
+use Rattle.queue_tables.specs.Telling.{Tell}
 use Rattle.member_node.proofs.WriteLemmas.{none_out, queue_kept}
 use Rattle.member_node.specs.Reads.{AreLow}
 use Rattle.member_steps.proofs.ReadLemmas.{calm_rest, low_written, same_many, told_sound}

@@ -4,7 +4,7 @@ use Rattle.spool_disk.specs.View.{disk_now}
 use Rattle.mas_complex.specs.Journals.{kept_all}
 use Rattle.mas_complex.specs.Meaning.{run}
 use Rattle.ckpt_pages.proofs.DecodingLemmas.{one_queue, one_value}
-use Rattle.table_queues.proofs.ToldLemmas.{pages_alike}
+use Rattle.queue_tables.proofs.ToldLemmas.{pages_alike}
 use Rattle.member_node.proofs.ReadyLemmas.{ready_copy, ready_count, ready_draft, ready_level}
 use Rattle.member_node.proofs.member.Member.ready.Goals as goal
 

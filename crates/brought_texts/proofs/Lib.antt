@@ -1,2 +1,0 @@
-pub mod EnteredLemmas
-pub mod BroughtLemmas

@@ -1,5 +1,0 @@
-use Rattle.first_script.proofs.TypeLemmas.{types_commands}
-use Rattle.first_script.proofs.laws.law_of_typed_commands.Goals as goal
-
-pub returns : goal.returns
-returns c = types_commands c.law_of_scripts.ensures

@@ -1,0 +1,6 @@
+use Rattle.gate_turns.proofs.Called.{opens_may, recovers_may}
+use Rattle.gate_turns.proofs.LeftGroups.{passing_leaves}
+use Rattle.gate_turns.proofs.laws.law_of_fates.Goals as goal
+
+pub returns : goal.returns
+returns c = record { passing = passing_leaves; opens = opens_may; recovers = recovers_may }

@@ -1,7 +1,0 @@
-use Rattle.std.proofs.Common.{arith}
-use Rattle.member_gate.specs.Passes.{view}
-use Rattle.gate_uses.proofs.Joined.{stand_in_order}
-use Rattle.gate_uses.proofs.crowd.together.Goals as goal
-
-pub returns : goal.returns
-returns g c = stand_in_order (view c.spread-root.result) c.close.result.entries c.args.members c.args.steps.now (omega arith) c.close.ensures.value.0 c.spread-root.ensures.written

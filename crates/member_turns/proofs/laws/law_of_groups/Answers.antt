@@ -1,5 +1,0 @@
-use Rattle.member_turns.proofs.SpoolActed.{reads_may, syncs_may, writes_may, unsynced_is}
-use Rattle.member_turns.proofs.laws.law_of_groups.Goals as goal
-
-pub returns : goal.returns
-returns c = record { reads = reads_may; syncs = syncs_may; writes = writes_may; unsynced = unsynced_is }

@@ -1,5 +1,0 @@
-use Rattle.member_turns.proofs.Booked.{tries_may, frees_may, stops_may, seizes_may, spends_may}
-use Rattle.member_turns.proofs.laws.law_of_lock_calls.Goals as goal
-
-pub returns : goal.returns
-returns c = record { tries = tries_may; frees = frees_may; stops = stops_may; seizes = seizes_may; spends = spends_may }

@@ -1,0 +1,48 @@
+-- The output that is busy at a member is sound, and lines that are printed one by one.
+use Rattle.std.proofs.Common.{◌≡◌, ◌∙◌, ℕ, suc, ◌+◌, ◌-◌, ◌≤◌, Bool, true, false, List, [], ◌∷◌, ◌++◌, Some, None, find, refl, ap, append_assoc, arith}
+use Rattle.mas_types.specs.declared.ids.JobNo.{JobNo}
+use Rattle.mas_types.specs.declared.ids.MemberId.{MemberId}
+use Rattle.mas_types.specs.declared.ids.OutNo.{OutNo}
+use Rattle.mas_types.specs.declared.jobs.Output.{Output}
+use Rattle.mas_types.specs.declared.jobs.Text.{Text}
+use Rattle.mas_types.specs.declared.jobs.Text.TheVariants.{Whole, Gone}
+use Rattle.mas_types.specs.declared.queues.Queue.{Queue}
+use Rattle.mas_types.specs.Fit.{IsText}
+use Rattle.mas_types.specs.Ids.{is_somebody}
+use Rattle.mas_types.specs.Limits.{text_lines_most}
+use Rattle.mas_types.specs.Printed.{printed_line}
+use Rattle.mas_types.specs.Queue.{line_count, printing_at, prints_at}
+use Rattle.mas_types.specs.Sound.{IsSound, IsSoundOutput}
+use Rattle.cmd_report.proofs.Pieces.{find_holds}
+use Rattle.model_player.specs.Printing.{printed_behind}
+
+pub printing_sound : (Q : Queue) (m : MemberId) (o : Output) → IsSound Q → printing_at Q m ≡ Some o → IsSoundOutput Q.config Q.jobs o
+printing_sound Q m o sound is = by_test (is_somebody m) refl
+  where
+    by_test : (v : Bool) → is_somebody m ≡ v → IsSoundOutput Q.config Q.jobs o
+    by_test true h =
+        let found : find (prints_at m) Q.outputs ≡ Some o = rw h at is in
+        find_holds (IsSoundOutput Q.config Q.jobs) (prints_at m) Q.outputs o sound.outputs found
+    by_test false h =
+        let none : None ≡ Some o = rw h at is in
+        absurd (cc)
+
+pub printed_more : (n : JobNo) (i : OutNo) (lines paper : List (List ℕ)) (mark before : ℕ) → mark ≤ before
+    → (paper ++ printed_behind n i lines mark (before - mark)) ++ printed_line n i (before + 1) lines ∷ [] ≡ paper ++ printed_behind n i lines mark (before + 1 - mark)
+printed_more n i lines paper mark before below =
+    let one : suc (before - mark) ≡ before + 1 - mark = omega arith in
+    let place : before + 1 ≡ mark + suc (before - mark) = omega arith in
+    let so_far = printed_behind n i lines mark (before - mark) in
+    let line = printed_line n i (before + 1) lines in
+    let first : (paper ++ so_far) ++ (line ∷ []) ≡ paper ++ (so_far ++ (line ∷ [])) = append_assoc paper so_far (line ∷ []) in
+    let second : paper ++ (so_far ++ (line ∷ [])) ≡ paper ++ printed_behind n i lines mark (suc (before - mark)) = ap (λ (k : ℕ). paper ++ (so_far ++ (printed_line n i k lines ∷ []))) place in
+    let third : paper ++ printed_behind n i lines mark (suc (before - mark)) ≡ paper ++ printed_behind n i lines mark (before + 1 - mark) = ap (λ (k : ℕ). paper ++ printed_behind n i lines mark k) one in
+    first ∙ second ∙ third
+
+few_lines : (t : Text) → IsText t → line_count t ≤ text_lines_most
+few_lines (Whole lines) y = y.few
+few_lines (Gone group count) y = y
+
+-- and its text has no more lines than the limit
+pub printing_few : (Q : Queue) (m : MemberId) (o : Output) → IsSound Q → printing_at Q m ≡ Some o → line_count o.text ≤ text_lines_most
+printing_few Q m o sound is = few_lines o.text (printing_sound Q m o sound is).text

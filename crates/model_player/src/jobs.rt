@@ -1,0 +1,194 @@
+//! The job that a member runs or converts, on a plain queue.
+ghost use Rattle.std.specs.Prelude.{◌≡◌, ◌*◌, ◌≤◌, All, length, option_copied, true, IfOk, OnOk, IfSome};
+ghost use Rattle.mas_types.specs.Closings.{IsReplyNamed};
+ghost use Rattle.mas_types.specs.Commands.Life.{groups_of_outputs};
+ghost use Rattle.mas_types.specs.Fit.{IsOutSpec, IsText};
+ghost use Rattle.mas_types.specs.Limits.{index_most};
+ghost use Rattle.mas_types.specs.Queue.{is_member};
+ghost use Rattle.mas_types.specs.Sound.{IsSound};
+ghost use Rattle.job_exec.specs.Running.{AreOutputs};
+ghost use Rattle.job_outcome.specs.Next.{IsNamedEnd};
+ghost use Rattle.job_outcome.specs.Outcomes.{AreFitOutputs, IsNamedOutcome};
+ghost use Rattle.model_player.specs.Commands.{ended, freed, is_at_work as is_at_work_lem, job_at_work as job_at_work_lem, outcome_for, taken_for, tried_job, worked_as};
+
+use crate::giving::{PlayNo, give, take_groups};
+use mas_types::{Command, Copied, Job, JobNo, List, MemberId, OutSpec, Phase, Queue, Reply, Text};
+use model_queue::groups::groups_needed;
+use queue_laws::fitness::is_fit;
+use std::alloc::Global;
+use job_outcome::{Outcome, Read, UnitEnd, end_by, outcome_of};
+
+// Nobody's job: Drop of it gives up a member's groups alone.
+const NO_JOB: JobNo = JobNo(0);
+
+// The groups that the outputs need.
+fn groups_of(outputs: &[OutSpec]) -> u32
+    requires few { length outputs.now ≤ index_most }
+    requires each { All IsOutSpec outputs.now }
+    ensures groups { result ≡ groups_of_outputs outputs.now }
+    ensures few { result ≤ 10000 * length outputs.now }
+{
+    match outputs {
+        [] => 0,
+        [first, rest @ ..] => groups_needed(&first.text) + groups_of(rest),
+    }
+}
+
+// How a unit ends with this reply. Where that is a refusal, the member's groups become free.
+fn free_after(
+    alloc: Global,
+    queue: &mut Queue,
+    by: MemberId,
+    reply: Reply,
+) -> Result<UnitEnd, PlayNo>
+    requires sound { IsSound queue.old }
+    requires by { is_member queue.old.config by ≡ true }
+    requires named { IsReplyNamed reply }
+    ensures ok { IfOk result (λ end. freed by (queue.old, reply) ≡ (queue.new, end)) }
+    ensures sound { OnOk result (IsSound queue.new) }
+    ensures config { OnOk result (queue.new.config ≡ queue.old.config) }
+    ensures named { IfOk result IsNamedEnd }
+{
+    if let Reply::No(_) = &reply {
+        let _dropped = give(alloc, queue, by, &Command::Drop { job: NO_JOB })?;
+    }
+    Ok(end_by(&reply))
+}
+
+// The reply by which so many groups weren't all taken, if one is.
+fn take_for(
+    alloc: Global,
+    queue: &mut Queue,
+    by: MemberId,
+    groups: u32,
+) -> Result<Option<Reply>, PlayNo>
+    requires sound { IsSound queue.old }
+    requires by { is_member queue.old.config by ≡ true }
+    ensures ok { IfOk result (λ why. taken_for queue.old by groups ≡ (queue.new, why)) }
+    ensures sound { OnOk result (IsSound queue.new) }
+    ensures config { OnOk result (queue.new.config ≡ queue.old.config) }
+    ensures named { IfOk result (λ why. IfSome why IsReplyNamed) }
+{
+    if groups == 0 {
+        return Ok(None);
+    }
+    take_groups(alloc, queue, by, groups)
+}
+
+// Ends a job with these outputs, which need so many groups.
+fn end_job(
+    alloc: Global,
+    queue: &mut Queue,
+    by: MemberId,
+    job: JobNo,
+    groups: u32,
+    outputs: List<OutSpec>,
+) -> Result<UnitEnd, PlayNo>
+    requires sound { IsSound queue.old }
+    requires by { is_member queue.old.config by ≡ true }
+    requires outputs { AreOutputs outputs }
+    ensures ok { IfOk result (λ end. ended queue.old by job groups outputs ≡ (queue.new, end)) }
+    ensures sound { OnOk result (IsSound queue.new) }
+    ensures config { OnOk result (queue.new.config ≡ queue.old.config) }
+    ensures named { IfOk result IsNamedEnd }
+{
+    let reply = match take_for(alloc, queue, by, groups)? {
+        None => give(alloc, queue, by, &Command::Ended { job, outputs })?,
+        Some(why) => why,
+    };
+    free_after(alloc, queue, by, reply)
+}
+
+// What becomes of a job that is run, or else converted.
+fn outcome_at(alloc: Global, job: &Job, runs: bool) -> Result<Outcome, PlayNo>
+    requires { IsText job.now.text }
+    ensures outcome { IfOk result (λ outcome. outcome ≡ outcome_for runs job.now) }
+    ensures fits { IfOk result AreFitOutputs }
+    ensures named { IfOk result IsNamedOutcome }
+{
+    let fields = job.fields;
+    if !is_fit(&Command::Begin { fields }) {
+        return Err(PlayNo::Unplayed);
+    }
+    let read = match &job.text {
+        Text::Whole(lines) => Read::Lines(lines.copy(alloc)?),
+        Text::Gone(group, _) => Read::Gone(*group),
+    };
+    Ok(outcome_of(alloc, runs, &fields, &read)?)
+}
+
+// The job that the member runs, or else converts.
+fn job_at_work(queue: &Queue, by: MemberId, runs: bool) -> Option<&Job>
+    ensures { option_copied result ≡ job_at_work_lem runs queue.now by }
+{
+    queue
+        .jobs
+        .as_slice()
+        .iter()
+        .find(|job| is_at_work(job, by, runs))
+}
+
+fn is_at_work(job: &Job, by: MemberId, runs: bool) -> bool
+    ensures { result ≡ is_at_work_lem runs by job.now }
+{
+    let in_phase = match job.phase {
+        Phase::Execute => runs,
+        Phase::Convert => !runs,
+        _ => false,
+    };
+    in_phase && job.busy.0 == by.0
+}
+
+// The job of this number goes on so.
+fn go_on(
+    alloc: Global,
+    queue: &mut Queue,
+    by: MemberId,
+    job: JobNo,
+    cancelled: bool,
+    outcome: Outcome,
+) -> Result<UnitEnd, PlayNo>
+    requires sound { IsSound queue.old }
+    requires by { is_member queue.old.config by ≡ true }
+    requires fits { AreFitOutputs outcome }
+    requires named { IsNamedOutcome outcome }
+    ensures ok { IfOk result (λ end. worked_as queue.old by job cancelled outcome ≡ (queue.new, end)) }
+    ensures sound { OnOk result (IsSound queue.new) }
+    ensures config { OnOk result (queue.new.config ≡ queue.old.config) }
+    ensures named { IfOk result IsNamedEnd }
+{
+    match outcome {
+        Outcome::Convert => Ok(end_by(&give(alloc, queue, by, &Command::Converted { job })?)),
+        Outcome::End(outputs) => {
+            let groups = if cancelled {
+                0
+            } else {
+                groups_of(outputs.as_slice())
+            };
+            end_job(alloc, queue, by, job, groups, outputs)
+        }
+        Outcome::Stop(end) => Ok(UnitEnd::Refused(end)),
+    }
+}
+
+/// Runs the job at the member, or else converts it; none where there is none.
+pub fn try_job(
+    alloc: Global,
+    queue: &mut Queue,
+    by: MemberId,
+    runs: bool,
+) -> Result<Option<UnitEnd>, PlayNo>
+    requires sound { IsSound queue.old }
+    requires by { is_member queue.old.config by ≡ true }
+    ensures ok { IfOk result (λ end. tried_job runs queue.old by ≡ (queue.new, end)) }
+    ensures sound { OnOk result (IsSound queue.new) }
+    ensures config { OnOk result (queue.new.config ≡ queue.old.config) }
+    ensures named { IfOk result (λ end. IfSome end IsNamedEnd) }
+{
+    let Some(job) = job_at_work(queue, by, runs) else {
+        return Ok(None);
+    };
+    let (number, cancelled) = (job.number, job.cancelled);
+    let outcome = outcome_at(alloc, job, runs)?;
+    Ok(Some(go_on(alloc, queue, by, number, cancelled, outcome)?))
+}

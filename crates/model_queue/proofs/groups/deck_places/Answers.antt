@@ -1,0 +1,7 @@
+use Rattle.mas_types.specs.declared.queues.Owner.TheVariants as owner
+use Rattle.model_queue.proofs.Handing.{places_more}
+use Rattle.model_queue.proofs.groups.deck_places.Goals as goal
+
+pub loop-place-preserved : goal.loop-place-preserved
+loop-place-preserved c =
+    rw c.in_ok-push.ensures.ok (places_more (λ p. owner.Deck c.args.job p) c.loop-place.place c.groups_needed-count.result c.loop-place.places _ c.loop-place-test.true c.loop-place.invariant)

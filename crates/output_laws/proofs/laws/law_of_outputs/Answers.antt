@@ -1,9 +1,0 @@
-use Rattle.output_laws.proofs.Effects.{commands_take}
-use Rattle.output_laws.proofs.Entries.{entries_take}
-use Rattle.output_laws.proofs.laws.law_of_outputs.Goals as goal
-
-pub returns : goal.returns
-returns c = record {
-  commands = commands_take;
-  entries = entries_take;
-}

@@ -1,5 +1,0 @@
-use Rattle.std.proofs.Common.{length}
-use Rattle.plain_list.proofs.jobs.+groups_of.Given as goal
-
-abbrev pub decreases-groups_of : goal.decreases-groups_of
-decreases-groups_of l = length l.outputs.now

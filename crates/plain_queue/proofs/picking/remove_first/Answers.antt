@@ -1,6 +1,0 @@
-use Rattle.std.proofs.Common.{sym}
-use Rattle.plain_queue.proofs.Places.{without_nothing, nothing}
-use Rattle.plain_queue.proofs.picking.remove_first.Goals as goal
-
-pub returns-in_default : goal.returns-in_default
-returns-in_default g c = sym (without_nothing (g.P.Picks.picks c.args.test.now) c.args.items.now (nothing c.first_place.result c.in_default.is c.first_place.ensures.none))

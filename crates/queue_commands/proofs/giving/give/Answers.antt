@@ -1,0 +1,24 @@
+use Rattle.std.proofs.Common.{arith}
+use Rattle.queue_commands.proofs.GivenLemmas.{giver_few, given_sound, given_named, given_spelling, given_config}
+use Rattle.queue_commands.proofs.giving.give.Goals as goal
+
+pub apply-requires-clause-member : goal.apply-requires-clause-member
+apply-requires-clause-member c = giver_few c.args.by c.args.command.now c.requires.giver
+
+pub returns-in-Ok-clause-sound : goal.returns-in-Ok-clause-sound
+returns-in-Ok-clause-sound c s may = given_sound c.args.tables.now c.apply.new.tables c.args.by c.args.command.now c.in-Ok.reply c.requires.command c.in-Ok.ensures.plays s may
+
+pub returns-in-Ok-clause-named : goal.returns-in-Ok-clause-named
+returns-in-Ok-clause-named c =
+    given_named c.args.tables.now c.apply.new.tables c.args.by c.args.command.now c.requires.giver c.read_numbers.ensures c.requires.command c.requires.spelling
+    c.law_of_told_queues.ensures.tell c.in-Ok.reply c.in-Ok.ensures.plays
+
+pub returns-in-Ok-clause-spelling : goal.returns-in-Ok-clause-spelling
+returns-in-Ok-clause-spelling c =
+    given_spelling c.args.tables.now c.apply.new.tables c.args.by c.args.command.now c.requires.giver c.read_numbers.ensures c.requires.command c.requires.spelling
+    c.law_of_told_queues.ensures.tell c.in-Ok.reply c.in-Ok.ensures.plays c.apply.ensures.fits (omega (arith, c.apply.ensures.order, c.requires.order))
+
+pub returns-in-Ok-clause-config : goal.returns-in-Ok-clause-config
+returns-in-Ok-clause-config c =
+    given_config c.args.tables.now c.apply.new.tables c.args.by c.args.command.now c.requires.giver c.read_numbers.ensures c.requires.command c.requires.spelling
+    c.law_of_told_queues.ensures.tell c.in-Ok.reply c.in-Ok.ensures.plays

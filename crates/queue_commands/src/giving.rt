@@ -1,0 +1,97 @@
+//! A command on tables that have a spelling.
+ghost use Rattle.std.specs.Prelude.{◌≡◌, ◌≤◌, ◌<◌, ◌+◌, ◌^◌, true, All, IfOk, OnOk, OnErr};
+ghost use Rattle.mas_types.specs.declared.ids.MemberId.{MemberId};
+ghost use Rattle.mas_types.specs.Closings.{IsReplyNamed};
+ghost use Rattle.mas_types.specs.Fit.{IsFit};
+ghost use Rattle.mas_types.specs.Step.{may_give, row_of};
+ghost use Rattle.lay_bytes.specs.Limits.{copies_most};
+ghost use Rattle.ckpt_pages.specs.declared.tables.Tables.{Tables};
+ghost use Rattle.ckpt_pages.specs.Shape.{HasSpelling};
+ghost use Rattle.queue_tables.specs.Telling.{TellSound};
+ghost use Rattle.queue_effect.specs.Standing.{AreFit, IfRefused, Plays};
+ghost use Rattle.queue_commands.specs.Given.{IsGiver, IsInRange, is_plain as is_plain_lem};
+
+use ckpt_pages::Tables;
+use mas_types::{Command, MemberId, NoMemory, OutSpec, Reply};
+use queue_effect::apply;
+use std::alloc::Global;
+use queue_tables::law_of_told_queues;
+
+/// Gives a command of a member, or Restart by the operator: for each queue that the tables tell, whatever its texts are, they tell
+/// what the command leaves of it, and the reply is the command's.
+/// The tables can be spelled by pages as before, and where they told a sound queue, and the command's giver may give it, they still do. A refused command, or one for which there is no memory, changes nothing.
+///
+/// The orders of jobs and outputs are below the next one, which is below 2^63 - 32, and what is busy is so at nobody or at one of
+/// at most eight members. What the command carries is within the limits.
+pub fn give(
+    alloc: Global,
+    tables: &mut Tables,
+    by: MemberId,
+    command: &Command,
+) -> Result<Reply, NoMemory>
+    requires spelling { HasSpelling tables.old }
+    requires fit { AreFit tables.old }
+    requires order { tables.old.order + 32 < 2 ^ 63 }
+    requires giver { IsGiver by command.now }
+    requires command { IsFit command.now }
+    ensures plays { IfOk result (λ reply. Plays tables.old tables.new (λ Q. row_of Q by command.now) reply) }
+    ensures sound { OnOk result ((s : TellSound tables.old) → may_give s.queue by command.now ≡ true → TellSound tables.new) }
+    ensures named { IfOk result IsReplyNamed }
+    ensures refused { IfOk result (λ reply. IfRefused reply (tables.new ≡ tables.old)) }
+    ensures no_memory { OnErr result (tables.new ≡ tables.old) }
+    ensures spelling { HasSpelling tables.new }
+    ensures fit { AreFit tables.new }
+    ensures order { tables.new.order ≤ tables.old.order + 32 }
+    ensures config { tables.new.config ≡ tables.old.config }
+{
+    law_of_told_queues();
+    read_numbers(command);
+    match apply(alloc, tables, by, command) {
+        Ok(reply) => Ok(reply),
+        Err(NoMemory) => Err(NoMemory),
+    }
+}
+
+/// Reads the numbers of a command that tables keep, which are within the ranges of their types.
+fn read_numbers(command: &Command)
+    ensures { IsInRange command.now }
+{
+    match command {
+        Command::Ended { outputs, .. } => read_copies(outputs.as_slice()),
+        Command::Sent { number, .. } => {
+            let _number = *number;
+        }
+        Command::Got { number, .. } => {
+            let _number = *number;
+        }
+        _ => {}
+    }
+}
+
+fn read_copies(outputs: &[OutSpec])
+    ensures { All (λ s. s.copies ≤ copies_most) outputs.now }
+{
+    for output in outputs {
+        read_copies_of(output);
+    }
+}
+
+fn read_copies_of(output: &OutSpec)
+    ensures { output.now.copies ≤ copies_most }
+{
+    let _copies = output.copies;
+}
+
+/// Whether a command brings no text and is of no line to another node.
+pub fn is_plain(command: &Command) -> bool
+    ensures { result ≡ is_plain_lem command.now }
+{
+    !matches!(
+        command,
+        Command::Enter { .. }
+            | Command::Ended { .. }
+            | Command::Load { .. }
+            | Command::Sent { .. }
+            | Command::Got { .. }
+    )
+}

@@ -1,0 +1,54 @@
+-- Which queues tables tell.
+use Rattle.std.specs.Prelude.{◌≡◌, ℕ, List, map, All}
+use Rattle.mas_types.specs.declared.ids.Page.{Page}
+use Rattle.mas_types.specs.declared.jobs.Text.{Text}
+use Rattle.mas_types.specs.declared.queues.Config.{Config}
+use Rattle.mas_types.specs.declared.queues.Queue.{Queue}
+use Rattle.mas_types.specs.declared.queues.Route.{Route}
+use Rattle.mas_types.specs.Starts.{empty_queue}
+use Rattle.mas_types.specs.Queue.{line_count}
+use Rattle.lay_bytes.specs.declared.records.JobRec.{JobRec}
+use Rattle.lay_bytes.specs.declared.records.OutRec.{OutRec}
+use Rattle.ckpt_pages.specs.declared.tables.Tables.{Tables}
+use Rattle.ckpt_pages.specs.QueueOf.{used, queue_of}
+use Rattle.ckpt_pages.specs.Shape.{HasSpelling}
+use Rattle.ckpt_pages.specs.Sound.{AreSound}
+use Rattle.ckpt_pages.specs.Starts.{empty_tables}
+use Rattle.queue_slots.specs.Listed.{listed}
+use Rattle.job_queue.specs.Jobs as jobs
+use Rattle.output_queue.specs.Outputs as outputs
+use Rattle.queue_tables.specs.Telling.{Tell, TellSound, PagesTell, AreToldAlike}
+
+-- the texts have as many lines as the slots say
+pub record HaveLines (t : Tables) (deck : JobRec → Text) (print : OutRec → Text) : Type 0 where
+  pub decks : All (λ j. line_count (deck j) ≡ j.cards) (used t.jobs)
+  pub prints : All (λ o. line_count (print o) ≡ o.lines) (used t.outputs)
+
+-- tables tell the queue that they give with texts of as many lines
+abbrev pub TellTheirQueue : Type 0
+TellTheirQueue = (t : Tables) (deck : JobRec → Text) (print : OutRec → Text) → HaveLines t deck print → Tell t (queue_of t deck print)
+
+-- the texts are those of the queue's jobs and outputs in order
+pub record AreTextsOf (t : Tables) (Q : Queue) (deck : JobRec → Text) (print : OutRec → Text) : Type 0 where
+  pub decks : map deck (listed jobs.order_of t.jobs) ≡ map (λ j. j.text) Q.jobs
+  pub prints : map print (listed outputs.order_of t.outputs) ≡ map (λ o. o.text) Q.outputs
+
+-- and a queue that they tell is the one that they give with its texts
+abbrev pub GiveTheirQueue : Type 0
+GiveTheirQueue = (t : Tables) (Q : Queue) (deck : JobRec → Text) (print : OutRec → Text) → Tell t Q → AreTextsOf t Q deck print → queue_of t deck print ≡ Q
+
+-- queues that the same tables tell differ in their texts alone
+abbrev pub TellAlike : Type 0
+TellAlike = (t : Tables) (Q R : Queue) → Tell t Q → Tell t R → AreToldAlike Q R
+
+-- and so do queues that the same pages tell, which have one level
+abbrev pub PagesTellAlike : Type 0
+PagesTellAlike = (pages : List Page) (level age : ℕ) (Q R : Queue) → PagesTell pages level Q → PagesTell pages age R → AreToldAlike Q R × (level ≡ age)
+
+-- empty tables tell the empty queue
+abbrev pub EmptyTellEmpty : Type 0
+EmptyTellEmpty = (config : Config) (routes : List Route) → Tell (empty_tables config routes) (empty_queue config routes)
+
+-- tables without a fault tell a queue with the sound parts
+abbrev pub SoundTellSound : Type 0
+SoundTellSound = (t : Tables) → HasSpelling t → AreSound t → TellSound t

@@ -1,0 +1,34 @@
+-- What the next run finds of what a run left.
+use Rattle.std.specs.Prelude.{◌⊎◌, ℕ, ◌≤◌, ◌||◌, ◌++◌, Bool, false}
+use Rattle.mas_types.specs.declared.answers.Status.{Status}
+use Rattle.mas_types.specs.declared.journals.Journal.{Journal}
+use Rattle.mas_types.specs.declared.queues.Queue.{Queue}
+use Rattle.mas_types.specs.Journal.{kept_at, flying_at}
+use Rattle.script_lang.specs.declared.types.Script.{Script}
+use Rattle.spool_disk.specs.Acts.{Goes}
+use Rattle.spool_disk.specs.View.{View}
+use Rattle.mas_complex.specs.Meaning.{run}
+use Rattle.mas_complex.specs.Texts.{lost_now}
+use Rattle.mas_run.specs.Runs.{IsRun}
+use Rattle.run_laws.specs.Left.{IsLeftBy}
+use Rattle.run_laws.specs.Again.{IsQueueAgain}
+
+-- the volumes that are lost at the end of one run or of the next
+abbrev pub lost_in : View → View → ℕ → Bool
+lost_in one next n = lost_now one n || lost_now next n
+
+-- the queue after the entries that were kept at a moment, or the one with those that were in flight, again
+abbrev pub IsQueueOf : (ℕ → Bool) → Queue → Journal → ℕ → Queue → Type 0
+IsQueueOf gone base J t found =
+    IsQueueAgain gone base.config.groups (run base (kept_at J t)) found
+    ⊎ IsQueueAgain gone base.config.groups (run base (kept_at J t ++ flying_at J t)) found
+
+-- A run was played, cold or warm, and at a moment of it a crash left what a plant shows. A warm run on that plant begins with the
+-- queue of the moment.
+abbrev pub FindsWhatIsLeft : Type 0 → Type 0 → Type 0
+FindsWhatIsLeft first_tells next_tells =
+    first_tells → next_tells
+    → (cold : Bool) (script next : Script) (answer ends : Status) (base found : Queue) (J K : Journal) (since from t : ℕ) (first last old new : View)
+    → IsRun cold first_tells script answer base J since first last → since ≤ t → t ≤ last.now → IsLeftBy t last old
+    → Goes old new → IsRun false next_tells next ends found K from old new
+    → ∥ IsQueueOf (lost_in last new) base J t found ∥₁

@@ -1,7 +1,0 @@
-use Rattle.std.proofs.Common.{◌≡◌, ◌≤◌, length, take}
-use Rattle.ckpt_pages.specs.QueueOf.{used}
-use Rattle.slot_order.proofs.slots.used_count.Given as goal
-
--- how many of the slots so far
-abbrev pub invariant-loop-slot : goal.invariant-loop-slot
-invariant-loop-slot g l = (l.count ≡ length (used (take l.slot-index l.slots))) × (l.count ≤ l.slot-index)
