@@ -7,7 +7,7 @@ ghost use Rattle.mas_types.specs.Numerals.{is_digit};
 use mas_types::read_name;
 
 /// What a card is outside data.
-#[derive(Clone, Copy, Debug, PartialEq, Eq)]
+#[derive(Clone, Copy, PartialEq, Eq)]
 pub enum Kind {
     /// `//*`.
     Comment,
@@ -24,7 +24,7 @@ pub enum Kind {
 }
 
 /// The operation of a statement.
-#[derive(Clone, Copy, Debug, PartialEq, Eq)]
+#[derive(Clone, Copy, PartialEq, Eq)]
 pub enum Operation {
     Job,
     Exec,

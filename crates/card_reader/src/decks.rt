@@ -12,7 +12,7 @@ use std::alloc::Global;
 use thiserror::Error;
 
 /// A job's deck: what it says of the job, and the text that is stored.
-#[derive(Debug, Drop)]
+#[derive(Drop)]
 pub struct Deck {
     pub fields: JobFields,
     /// All cards before the one that ends the job.
@@ -20,7 +20,7 @@ pub struct Deck {
 }
 
 /// A card that is refused, counted from 1, and why.
-#[derive(Clone, Copy, Debug, PartialEq, Eq)]
+#[derive(Clone, Copy, PartialEq, Eq)]
 pub struct Refused {
     pub card: usize,
     pub cause: CardCause,
@@ -46,7 +46,7 @@ impl From<NoMemory> for DeckNo {
 }
 
 /// What was seen of a deck up to one of its cards.
-#[derive(Clone, Copy, Debug, PartialEq, Eq)]
+#[derive(Clone, Copy, PartialEq, Eq)]
 pub struct Seen {
     /// The priority of a `/*PRIORITY` card.
     pub priority: Option<Prio>,

@@ -7,7 +7,7 @@ use crate::statements::Operands;
 use mas_types::{Class, Prio, read_class};
 
 /// What the operands of a JOB statement say.
-#[derive(Clone, Copy, Debug, PartialEq, Eq)]
+#[derive(Clone, Copy, PartialEq, Eq)]
 pub struct JobOperands {
     pub class: Class,
     pub msgclass: Class,

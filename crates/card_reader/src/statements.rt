@@ -10,7 +10,7 @@ use mas_types::{Lines, List, NoMemory};
 use std::alloc::Global;
 
 /// The operands of a statement.
-#[derive(Debug, Drop)]
+#[derive(Drop)]
 pub struct Operands {
     /// The operand fields of its cards, one after another.
     pub text: List<u8>,
@@ -21,7 +21,7 @@ pub struct Operands {
 }
 
 /// What ends the data behind a DD statement.
-#[derive(Clone, Copy, Debug, PartialEq, Eq)]
+#[derive(Clone, Copy, PartialEq, Eq)]
 pub enum Ending {
     /// The statement has no data.
     NoData,
@@ -34,7 +34,7 @@ pub enum Ending {
 }
 
 /// The cards of data behind a DD statement.
-#[derive(Clone, Copy, Debug, PartialEq, Eq)]
+#[derive(Clone, Copy, PartialEq, Eq)]
 pub struct DataCards {
     /// The cards of data.
     pub cards: usize,

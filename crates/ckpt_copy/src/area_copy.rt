@@ -27,7 +27,7 @@ use spool_disk::Plant;
 use std::alloc::Global;
 
 /// The pages stand twice: in an open area, and older ones or none in the other.
-#[derive(Clone, Copy, Debug)]
+#[derive(Clone, Copy)]
 pub struct AreaCopy {
     dev: Dev,
     pages: u16,

@@ -14,7 +14,7 @@ use mas_types::{JobNo, Level, List, Page};
 use std::alloc::Global;
 
 /// What page 0 says but for the levels of the other pages.
-#[derive(Clone, Copy, Debug, PartialEq, Eq)]
+#[derive(Clone, Copy, PartialEq, Eq)]
 pub(crate) struct Header {
     pub level: Level,
     pub members: u8,

@@ -24,7 +24,7 @@ pub(crate) const FIRST_JOB_PAGE: u16 = 3;
 
 /// The queue as a checkpoint has it: jobs and outputs in slots, listed by their order and not by
 /// their places, and the owner of each track group.
-#[derive(Debug, Drop)]
+#[derive(Drop)]
 pub struct Tables {
     pub config: Config,
     /// A slot for each job that the configuration has room for.

@@ -1,5 +1,4 @@
-use jcl_convert::{JclNo, convert};
-use jcl_convert::{Dd, DdKind, Program, Step};
+use jcl_convert::{Dd, DdKind, JclNo, Program, Step, convert};
 use mas_types::{Class, JclCause, JobFields, Lines, List, Name8, NoMemory, Prio};
 use std::alloc::Global;
 use std::test::Fail;

@@ -4,9 +4,9 @@ ghost use Rattle.jcl_convert.specs.declared.convert_text.JclNo.TheVariants.{NoMe
 
 use crate::dds::DdForm;
 use crate::statements::{Line, kind_at, read_line};
+use crate::{Dd, Program, Step};
 use card_reader::cards::{Kind, ends_job, kind_of};
 use card_reader::statements::further_at;
-use crate::{Dd, Program, Step};
 use mas_types::limits::{INDEX_MOST, JOB_STEPS_MOST};
 use mas_types::{JclCause, JobFields, Lines, List, NoMemory};
 use std::alloc::Global;
@@ -32,14 +32,14 @@ impl From<NoMemory> for JclNo {
 }
 
 /// A card that is refused, counted from 1, and why.
-#[derive(Clone, Copy, Debug, PartialEq, Eq)]
+#[derive(Clone, Copy, PartialEq, Eq)]
 pub struct Refused {
     pub card: usize,
     pub cause: JclCause,
 }
 
 /// The steps so far, and the number of DD statements with SYSOUT among theirs.
-#[derive(Debug, Drop)]
+#[derive(Drop)]
 pub struct Converted {
     pub steps: List<Step>,
     pub sysouts: usize,

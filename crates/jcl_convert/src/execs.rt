@@ -4,9 +4,9 @@ ghost use Rattle.std.specs.List.{list_any, list_all};
 ghost use Rattle.card_reader.specs.Operands.{operands_of, operands_left};
 ghost use Rattle.jcl_convert.specs.Execs.{names_data_set as names_data_set_lem, is_exec_operand as is_exec_operand_lem, program_of, exec_of};
 
+use crate::Program;
 use card_reader::operands::{cut_operand, first_operand, is_balanced};
 use card_reader::statements::Operands;
-use crate::Program;
 use mas_types::JclCause;
 
 // DSN= or DSNAME=.

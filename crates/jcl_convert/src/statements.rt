@@ -3,15 +3,15 @@ ghost use Rattle.std.specs.Prelude.{◌≡◌, ◌+◌, ◌-◌, ◌^◌, ◌≤
 
 use crate::dds::{DdForm, read_dd};
 use crate::execs::read_exec;
+use crate::{DdKind, Program};
 use card_reader::cards::{Operation, is_statement_name, name_of, operation_of};
 use card_reader::read_name8;
 use card_reader::statements::{Operands, data_from, ending_of, operands_at};
-use crate::{DdKind, Program};
 use mas_types::{JclCause, JobFields, Lines, Name8, NoMemory};
 use std::alloc::Global;
 
 /// What a statement says to the converter.
-#[derive(Clone, Copy, Debug, PartialEq, Eq)]
+#[derive(Clone, Copy, PartialEq, Eq)]
 pub enum Line {
     /// The JOB statement, which the card reader read.
     Job,

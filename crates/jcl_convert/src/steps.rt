@@ -2,7 +2,7 @@
 use mas_types::{Class, Lines, List, Name8};
 
 /// A program that a step runs.
-#[derive(Clone, Copy, Debug, PartialEq, Eq)]
+#[derive(Clone, Copy, PartialEq, Eq)]
 pub enum Program {
     /// IEFBR14, which does nothing.
     Br14,
@@ -11,7 +11,7 @@ pub enum Program {
 }
 
 /// What a DD statement stands for.
-#[derive(Debug, Drop)]
+#[derive(Drop)]
 pub enum DdKind {
     /// Nothing is read, and what is written is dropped.
     Dummy,
@@ -29,14 +29,14 @@ pub enum DdKind {
 }
 
 /// A DD statement.
-#[derive(Debug, Drop)]
+#[derive(Drop)]
 pub struct Dd {
     pub name: Name8,
     pub kind: DdKind,
 }
 
 /// A step: an EXEC statement, and the DD statements up to the next one.
-#[derive(Debug, Drop)]
+#[derive(Drop)]
 pub struct Step {
     pub program: Program,
     pub dds: List<Dd>,

@@ -9,7 +9,7 @@ use mas_types::{Copied, Lines, List, NoMemory, OutSpec};
 use std::alloc::Global;
 
 /// What the steps of a job gave.
-#[derive(Debug, Drop)]
+#[derive(Drop)]
 pub struct Ran {
     /// The outputs, in the order of their DD statements.
     pub outputs: List<OutSpec>,
@@ -18,7 +18,7 @@ pub struct Ran {
 }
 
 /// Why IEBGENER doesn't copy.
-#[derive(Clone, Copy, Debug, PartialEq, Eq)]
+#[derive(Clone, Copy, PartialEq, Eq)]
 pub enum Message {
     SysinNotEmpty,
     MissingSysut1,

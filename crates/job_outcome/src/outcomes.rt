@@ -12,7 +12,7 @@ use mas_types::{Closing, GroupNo, JclCause, JobFields, Lines, List, NoMemory, Ou
 use std::alloc::Global;
 
 /// What the spool volumes give of a job's text.
-#[derive(Debug, Drop)]
+#[derive(Drop)]
 pub enum Read {
     /// All its lines.
     Lines(Lines),
@@ -23,7 +23,7 @@ pub enum Read {
 }
 
 /// What becomes of a job whose text was read.
-#[derive(Debug, Drop)]
+#[derive(Drop)]
 pub enum Outcome {
     /// It is converted, and goes on to execution.
     Convert,

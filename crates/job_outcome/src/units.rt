@@ -5,7 +5,7 @@ ghost use Rattle.job_outcome.specs.Next.{end_by as end_by_lem};
 use mas_types::{Closing, Reply};
 
 /// How a unit of work ends.
-#[derive(Debug, Drop)]
+#[derive(Drop)]
 pub enum UnitEnd {
     /// It is done.
     Done,

@@ -16,7 +16,7 @@ pub struct BadField(pub u16);
 
 /// Which bytes may stand in a field. A field with two numbers holds one from the first to the
 /// second.
-#[derive(Clone, Copy, Debug, PartialEq, Eq)]
+#[derive(Clone, Copy, PartialEq, Eq)]
 pub enum Field {
     /// A number of one byte.
     Byte(u8, u8),

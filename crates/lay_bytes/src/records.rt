@@ -2,7 +2,7 @@
 use mas_types::{Class, JobFields, JobNo, MemberId, Name8, OutNo, Phase};
 
 /// A job as its slot has it: with the number of its cards and its order in place of its text.
-#[derive(Clone, Copy, Debug, PartialEq, Eq)]
+#[derive(Clone, Copy, PartialEq, Eq)]
 pub struct JobRec {
     pub number: JobNo,
     pub fields: JobFields,
@@ -17,7 +17,7 @@ pub struct JobRec {
 }
 
 /// An output as its slot has it: with the number of its lines and its order in place of its text.
-#[derive(Clone, Copy, Debug, PartialEq, Eq)]
+#[derive(Clone, Copy, PartialEq, Eq)]
 pub struct OutRec {
     /// The job that made it.
     pub job: JobNo,

@@ -1,6 +1,6 @@
-use script_input::{SourceNo, read_script, read_source};
 use mas_types::limits::SCRIPT_BYTES;
 use mas_types::{Command, Dev, LineCause, Lines, List, MemberId, Name8, NoMemory, What};
+use script_input::{SourceNo, read_script, read_source};
 use script_lang::{Ask, ScriptNo, Step};
 use spool_disk::{Got, MemSource, Source};
 use std::alloc::Global;

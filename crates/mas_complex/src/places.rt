@@ -6,7 +6,7 @@ ghost use Rattle.mas_complex.specs.Seen.{IsPlaceSeen};
 use duplex_pair::{Look, LookNo, PairNo, pages_level};
 
 /// How far the batch in flight has come on a copy.
-#[derive(Clone, Copy, Debug, PartialEq, Eq)]
+#[derive(Clone, Copy, PartialEq, Eq)]
 pub enum Place {
     /// The copy is as before the batch.
     Before,

@@ -1,10 +1,10 @@
 //! `mas`: does what its words ask for, on the devices of a folder. Standard input is the script, standard output the console.
 #![tactic(auto)]
 
-use mas_words::{Words, WordsNo, read_words};
 use mas_run::code;
 use mas_top::{calm_top, task_of};
 use mas_types::{NoMemory, Status, status_line};
+use mas_words::{Words, WordsNo, read_words};
 use plant_files::{FilePlant, StdSource};
 use plant_fuse::Fused;
 use std::io::{self, ErrorKind, Write};

@@ -34,10 +34,10 @@ use duplex_pair::Pair;
 use mas_types::{Dev, MemberId, Status};
 use member_node::{Checkpoint, Member};
 use queue_effect::law_of_fit_tables;
+use queue_tables::law_of_told_queues;
 use script_lang::{Script, Step};
 use spool_disk::Plant;
 use std::alloc::Global;
-use queue_tables::law_of_told_queues;
 use warm_start::{StartNo, Started, Unstarted, warm};
 
 /// The operator, who gives Restart.

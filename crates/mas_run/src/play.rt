@@ -43,10 +43,10 @@ use mas_types::{
     Config, Dev, Journal, List, MemberId, NoMemory, Queue, Route, Status, empty_queue, no_queue,
 };
 use member_node::{Member, NodeNo, blank};
+use queue_tables::law_of_told_queues;
 use script_lang::{Script, Step};
 use spool_disk::Plant;
 use std::alloc::Global;
-use queue_tables::law_of_told_queues;
 use warm_start::refuse_small;
 
 /// The operator, who formats the copies.

@@ -3,12 +3,12 @@ ghost use Rattle.std.specs.Prelude.{◌≡◌, map, string_bytes};
 ghost use Rattle.mas_words.specs.Words.{Reads};
 ghost use Rattle.mas_top.specs.Tasks.{status_of_no as status_of_no_lem, task_asked, task_of as task_of_lem};
 
-use mas_words::{Verb, Words, WordsNo, read_words};
 use mas_types::Status;
+use mas_words::{Verb, Words, WordsNo, read_words};
 use std::alloc::Global;
 
 /// What the program does, of what is built.
-#[derive(Clone, Copy, Debug, PartialEq, Eq)]
+#[derive(Clone, Copy, PartialEq, Eq)]
 pub enum Task {
     /// Plays a script, cold where true: from an empty queue. Else from the queue that is found.
     Play(bool),

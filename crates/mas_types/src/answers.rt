@@ -89,7 +89,7 @@ pub enum CopyState {
 }
 
 /// How a run ends.
-#[derive(Clone, Copy, Debug, PartialEq, Eq)]
+#[derive(Clone, Copy, PartialEq, Eq)]
 pub enum Status {
     /// Every step has closed, but for those whose member stopped.
     Done,
@@ -129,7 +129,7 @@ pub enum Status {
 }
 
 /// How a step closes.
-#[derive(Debug, Drop)]
+#[derive(Drop)]
 pub enum Closing {
     /// By the reply to its last command.
     Reply(Reply),
@@ -166,7 +166,7 @@ pub enum Closing {
 }
 
 /// What a check of the checkpoint finds wrong.
-#[derive(Clone, Copy, Debug, PartialEq, Eq)]
+#[derive(Clone, Copy, PartialEq, Eq)]
 pub enum FaultKind {
     /// A page is no spelling.
     Page,
@@ -181,7 +181,7 @@ pub enum FaultKind {
 }
 
 /// What a check of the checkpoint answers.
-#[derive(Clone, Copy, Debug, PartialEq, Eq)]
+#[derive(Clone, Copy, PartialEq, Eq)]
 pub enum Verdict {
     /// Nothing is wrong.
     Sound,

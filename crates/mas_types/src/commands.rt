@@ -5,7 +5,7 @@ use crate::lists::List;
 use crate::texts::Lines;
 
 /// What a display shows.
-#[derive(Clone, Copy, Debug, PartialEq, Eq)]
+#[derive(Clone, Copy, PartialEq, Eq)]
 pub enum What {
     /// The jobs.
     Queue,
@@ -20,7 +20,7 @@ pub enum What {
 }
 
 /// A command of a member. Restart is given by member 0, any other command by a member of the configuration.
-#[derive(Debug, Drop)]
+#[derive(Drop)]
 pub enum Command {
     /// A new job stands last in the list, in Input, busy at the member, with the next number and no text. Answers Job.
     /// NoNode where its node is neither the own one nor one of the routes, JobsFull where there is no room.
@@ -214,7 +214,7 @@ pub enum Command {
 }
 
 /// Why a command is refused.
-#[derive(Clone, Copy, Debug, PartialEq, Eq)]
+#[derive(Clone, Copy, PartialEq, Eq)]
 pub enum Refusal {
     /// There is no room for another job.
     JobsFull,
@@ -248,7 +248,7 @@ pub enum Refusal {
 }
 
 /// What a command answers.
-#[derive(Debug, Drop)]
+#[derive(Drop)]
 pub enum Reply {
     /// It was done.
     Plain,

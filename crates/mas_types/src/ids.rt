@@ -19,27 +19,27 @@ impl From<AllocError> for NoMemory {
 pub struct MemberId(pub u8);
 
 /// A job number from 1 to `NUMBER_MOST`, or 0 for none.
-#[derive(Clone, Copy, Debug, PartialEq, Eq)]
+#[derive(Clone, Copy, PartialEq, Eq)]
 pub struct JobNo(pub u32);
 
 /// The index of an output of its job, from 1 to 32.
-#[derive(Clone, Copy, Debug, PartialEq, Eq)]
+#[derive(Clone, Copy, PartialEq, Eq)]
 pub struct OutNo(pub u8);
 
 /// A track group, counted from 0 over all volumes: volume v has the groups from (v - 1) times the groups of a volume on.
-#[derive(Clone, Copy, Debug, PartialEq, Eq)]
+#[derive(Clone, Copy, PartialEq, Eq)]
 pub struct GroupNo(pub u32);
 
 /// A class of jobs or of output, a byte of A to Z and 0 to 9.
-#[derive(Clone, Copy, Debug, PartialEq, Eq)]
+#[derive(Clone, Copy, PartialEq, Eq)]
 pub struct Class(pub u8);
 
 /// A priority from 0 to 15. A higher number is selected first.
-#[derive(Clone, Copy, Debug, PartialEq, Eq)]
+#[derive(Clone, Copy, PartialEq, Eq)]
 pub struct Prio(pub u8);
 
 /// A name of 1 to 8 bytes of A to Z, 0 to 9, `@`, `#` and `$`, padded with blanks.
-#[derive(Clone, Copy, Debug, PartialEq, Eq)]
+#[derive(Clone, Copy, PartialEq, Eq)]
 pub struct Name8(pub [u8; 8]);
 
 /// The bytes of a page of the checkpoint, or of a track group.

@@ -3,7 +3,7 @@ use crate::ids::{Class, GroupNo, JobNo, MemberId, Name8, OutNo, Prio};
 use crate::texts::Lines;
 
 /// Where a job is on its way through the spool.
-#[derive(Clone, Copy, Debug, PartialEq, Eq)]
+#[derive(Clone, Copy, PartialEq, Eq)]
 pub enum Phase {
     /// Its deck is being read.
     Input,
@@ -22,7 +22,7 @@ pub enum Phase {
 }
 
 /// The text of a deck or of an output.
-#[derive(Debug, Drop)]
+#[derive(Drop)]
 pub enum Text {
     /// All its lines.
     Whole(Lines),
@@ -31,7 +31,7 @@ pub enum Text {
 }
 
 /// What a deck says of its job.
-#[derive(Clone, Copy, Debug, PartialEq, Eq)]
+#[derive(Clone, Copy, PartialEq, Eq)]
 pub struct JobFields {
     /// The name on the JOB statement.
     pub name: Name8,
@@ -56,7 +56,7 @@ pub struct JobFields {
 }
 
 /// A job.
-#[derive(Debug, Drop)]
+#[derive(Drop)]
 pub struct Job {
     /// Its number, by which commands name it.
     pub number: JobNo,
@@ -73,7 +73,7 @@ pub struct Job {
 }
 
 /// What a job's end says of an output.
-#[derive(Debug, Drop)]
+#[derive(Drop)]
 pub struct OutSpec {
     /// The class that a printer takes it by.
     pub class: Class,
@@ -90,7 +90,7 @@ pub struct OutSpec {
 }
 
 /// An output of a job.
-#[derive(Debug, Drop)]
+#[derive(Drop)]
 pub struct Output {
     /// Its job.
     pub job: JobNo,

@@ -4,7 +4,7 @@ use crate::ids::MemberId;
 use crate::lists::List;
 
 /// A command that was given, and its reply.
-#[derive(Debug, Drop)]
+#[derive(Drop)]
 pub struct Entry {
     /// The member that gave it.
     pub by: MemberId,
@@ -17,7 +17,7 @@ pub struct Entry {
 }
 
 /// What became of a batch.
-#[derive(Clone, Copy, Debug, PartialEq, Eq)]
+#[derive(Clone, Copy, PartialEq, Eq)]
 pub enum Fate {
     /// It is committed.
     Kept,
@@ -28,7 +28,7 @@ pub enum Fate {
 }
 
 /// Entries that are kept together or not at all.
-#[derive(Debug, Drop)]
+#[derive(Drop)]
 pub struct Batch {
     /// The moment before its first write.
     pub first: u64,
@@ -43,7 +43,7 @@ pub struct Batch {
 }
 
 /// The history of a run.
-#[derive(Debug, Drop)]
+#[derive(Drop)]
 pub struct Journal {
     /// The batches in order.
     pub batches: List<Batch>,

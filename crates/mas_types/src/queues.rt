@@ -4,7 +4,7 @@ use crate::jobs::{Job, Output};
 use crate::lists::List;
 
 /// What owns groups for its text.
-#[derive(Clone, Copy, Debug, PartialEq, Eq)]
+#[derive(Clone, Copy, PartialEq, Eq)]
 pub enum Thing {
     /// The deck of a job.
     Deck(JobNo),
@@ -13,7 +13,7 @@ pub enum Thing {
 }
 
 /// Whose a track group is.
-#[derive(Clone, Copy, Debug, PartialEq, Eq)]
+#[derive(Clone, Copy, PartialEq, Eq)]
 pub enum Owner {
     /// Nobody's.
     Free,
@@ -38,7 +38,7 @@ pub enum Owner {
 }
 
 /// The configuration of a spool.
-#[derive(Clone, Copy, Debug, PartialEq, Eq)]
+#[derive(Clone, Copy, PartialEq, Eq)]
 pub struct Config {
     /// The number of members, 1 to 8.
     pub members: u8,
@@ -59,7 +59,7 @@ pub struct Config {
 }
 
 /// What a member's initiators and its printer take.
-#[derive(Debug, Drop)]
+#[derive(Drop)]
 pub struct Setting {
     /// The classes of jobs that its initiators run, the first before the others.
     pub init: List<Class>,
@@ -72,7 +72,7 @@ pub struct Setting {
 }
 
 /// The line that leads to another node.
-#[derive(Clone, Copy, Debug, PartialEq, Eq)]
+#[derive(Clone, Copy, PartialEq, Eq)]
 pub struct Route {
     /// The node.
     pub name: Name8,
@@ -81,7 +81,7 @@ pub struct Route {
 }
 
 /// What went over a line to another node.
-#[derive(Clone, Copy, Debug, PartialEq, Eq)]
+#[derive(Clone, Copy, PartialEq, Eq)]
 pub struct LineCount {
     /// The number of the last job that was sent and acknowledged.
     pub sent: u32,
@@ -92,7 +92,7 @@ pub struct LineCount {
 }
 
 /// The whole queue.
-#[derive(Debug, Drop)]
+#[derive(Drop)]
 pub struct Queue {
     /// The configuration.
     pub config: Config,

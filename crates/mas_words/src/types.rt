@@ -6,7 +6,7 @@ use mas_types::{List, NoMemory};
 use thiserror::Error;
 
 /// The command.
-#[derive(Clone, Copy, Debug, PartialEq, Eq)]
+#[derive(Clone, Copy, PartialEq, Eq)]
 pub enum Verb {
     /// Plays a script.
     Play,
@@ -23,7 +23,7 @@ pub enum Verb {
 }
 
 /// The words, read.
-#[derive(Debug, Drop)]
+#[derive(Drop)]
 pub struct Words {
     pub verb: Verb,
     /// `--cold` stands there: the run begins with an empty queue.

@@ -28,7 +28,7 @@ pub struct Checkpoint {
 }
 
 /// What a write puts on the copies.
-#[derive(Debug, Drop)]
+#[derive(Drop)]
 pub enum Draft {
     /// No page changes, and nothing is written.
     Same,

@@ -15,8 +15,8 @@ ghost use Rattle.queue_commands.specs.Given.{IsGiver};
 use crate::checkpoint::{Checkpoint, blank};
 use mas_types::limits::PAGE_BYTES;
 use mas_types::{Command, Config, Entry, List, MemberId, NoMemory, Page, Reply};
-use std::alloc::Global;
 use queue_commands::give;
+use std::alloc::Global;
 use thiserror::Error;
 
 /// Why a member's call wasn't done.

@@ -30,6 +30,7 @@ ghost use Rattle.member_work.specs.Units.{drop_groups, ending, groups_for_end as
 use crate::closing::{give_up, hold_again, keep_given};
 use crate::giving::{give_back, give_end, groups_for_end, take_for_end};
 use crate::spooling::spool_outputs;
+use job_outcome::UnitEnd;
 use mas_complex::{Complex, Steady};
 use mas_types::{Closing, JobNo, List, OutSpec};
 use member_node::{Member, NodeNo};
@@ -37,7 +38,6 @@ use spool_disk::Plant;
 use spool_text::law_of_groups;
 use spool_volumes::law_of_read_texts;
 use std::alloc::Global;
-use job_outcome::UnitEnd;
 
 // Gives Ended with these outputs, whose texts stand in the member's groups unless the job was cancelled; after a refused one the member's
 // groups become free.

@@ -21,12 +21,12 @@ ghost use Rattle.member_work.specs.Units.{drop_groups, ending, groups_for_end as
 
 use crate::spooling::groups_of_outputs;
 use ckpt_pages::Tables;
+use job_outcome::{UnitEnd, end_by, law_of_ended_texts};
 use job_queue::find_job;
 use mas_types::{Command, JobNo, List, NoMemory, OutSpec, Reply};
 use member_node::Member;
 use queue_texts::law_of_texts;
 use std::alloc::Global;
-use job_outcome::{UnitEnd, end_by, law_of_ended_texts};
 
 // Nobody's job: Drop of it gives up a member's groups alone.
 const NO_JOB: JobNo = JobNo(0);

@@ -24,13 +24,13 @@ use crate::ending::end_job;
 use crate::gone::gone_deck;
 use crate::looking::look_at;
 use crate::working::play_command;
+use job_outcome::{Outcome, UnitEnd};
 use lay_bytes::JobRec;
 use mas_complex::{Complex, Steady};
 use mas_types::{Closing, Command, JobNo};
 use member_node::{Member, NodeNo};
 use spool_disk::Plant;
 use std::alloc::Global;
-use job_outcome::{Outcome, UnitEnd};
 
 // Reads the text of a job that is run, or else converted, without the lock, and answers what becomes of the job. A text that was gone when
 // the run began isn't read.

@@ -14,6 +14,7 @@ ghost use Rattle.member_work.specs.Rounds.{IsWhole};
 ghost use Rattle.member_work.specs.Steps.{IsAtWork, IsLookedAt, IsTold};
 
 use crate::reading::read_text;
+use job_outcome::{Outcome, outcome_of};
 use lay_bytes::JobRec;
 use mas_complex::{Complex, Steady};
 use mas_types::Thing;
@@ -21,7 +22,6 @@ use member_node::{Member, NodeNo};
 use spool_disk::Plant;
 use std::alloc::Global;
 use track_groups::{groups_of, law_of_places};
-use job_outcome::{Outcome, outcome_of};
 
 /// Gives the lock up, reads the text of a job that is run, or else converted, and takes the lock again. Answers what becomes of the job.
 pub(crate) fn look_at<P: Plant + Drop, C: Steady + Drop>(

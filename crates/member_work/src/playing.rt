@@ -22,6 +22,7 @@ use crate::closing::keep_given;
 use crate::going::play_text;
 use crate::printing::play_print;
 use crate::working::play_command;
+use job_outcome::UnitEnd;
 use job_queue::find_job;
 use mas_complex::{Complex, Steady};
 use mas_types::{Command, JobNo, Unit};
@@ -30,7 +31,6 @@ use queue_effect::unit;
 use queue_texts::law_of_texts;
 use spool_disk::Plant;
 use std::alloc::Global;
-use job_outcome::UnitEnd;
 
 // The one command of a unit; none of one that reads a text, or that doesn't apply.
 fn command_of(unit: Unit) -> Option<Command>

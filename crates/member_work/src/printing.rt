@@ -32,6 +32,7 @@ use crate::gone::gone_output;
 use crate::reading::read_text;
 use crate::working::play_command;
 use ckpt_pages::Tables;
+use job_outcome::{Read, UnitEnd};
 use lay_bytes::OutRec;
 use mas_complex::{Complex, Steady};
 use mas_types::{Closing, Command, JobNo, Lines, MemberId, OutNo, Setting, Thing};
@@ -41,7 +42,6 @@ use printer_proc::{forward, print_line};
 use spool_disk::{Act, Plant};
 use std::alloc::Global;
 use track_groups::{groups_of, law_of_places};
-use job_outcome::{Read, UnitEnd};
 
 fn setting(tables: &Tables, by: MemberId) -> Option<&Setting>
     ensures { (Q : Queue) → Tell tables.now Q → setting_of Q by ≡ option_copied result }

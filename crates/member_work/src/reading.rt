@@ -17,6 +17,7 @@ ghost use Rattle.member_work.specs.Looks.{as_it_is};
 ghost use Rattle.member_work.specs.Reading.{AddsUnless, AreRecords, IsCounted, IsFailedRead, IsReadOf, OnlyReads};
 ghost use Rattle.member_work.specs.Rounds.{HasFailed};
 
+use job_outcome::Read;
 use mas_complex::{Complex, Steady};
 use mas_types::limits::PAGE_BYTES;
 use mas_types::{GroupNo, Lines, MemberId, Page};
@@ -24,7 +25,6 @@ use member_node::NodeNo;
 use spool_disk::{Act, Plant};
 use spool_text::{TextNo, law_of_reading, unpack};
 use std::alloc::Global;
-use job_outcome::Read;
 
 // The volume on which a group lies, where there are so many volumes with so many groups each.
 fn volume_of(volumes: u8, per: u32, group: GroupNo) -> u8

@@ -27,13 +27,13 @@ ghost use Rattle.member_work.specs.Work.{batches_in};
 
 use crate::closing::{close_work, give_up, hold_again, keep_given};
 use crate::playing::play_unit;
+use job_outcome::{UnitEnd, end_by};
 use mas_complex::{Complex, Steady};
 use mas_types::{Closing, Command};
 use member_node::{Member, NodeNo};
 use queue_texts::law_of_texts;
 use spool_disk::Plant;
 use std::alloc::Global;
-use job_outcome::{UnitEnd, end_by};
 
 // The entries of a batch.
 const BATCH_MOST: usize = 64;

@@ -12,11 +12,11 @@ ghost use Rattle.job_outcome.specs.Outcomes.{AreFitOutputs, IsNamedOutcome};
 ghost use Rattle.model_player.specs.Commands.{ended, freed, is_at_work as is_at_work_lem, job_at_work as job_at_work_lem, outcome_for, taken_for, tried_job, worked_as};
 
 use crate::giving::{PlayNo, give, take_groups};
+use job_outcome::{Outcome, Read, UnitEnd, end_by, outcome_of};
 use mas_types::{Command, Copied, Job, JobNo, List, MemberId, OutSpec, Phase, Queue, Reply, Text};
 use model_queue::groups::groups_needed;
 use queue_laws::fitness::is_fit;
 use std::alloc::Global;
-use job_outcome::{Outcome, Read, UnitEnd, end_by, outcome_of};
 
 // Nobody's job: Drop of it gives up a member's groups alone.
 const NO_JOB: JobNo = JobNo(0);

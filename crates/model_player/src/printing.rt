@@ -9,11 +9,11 @@ ghost use Rattle.model_player.specs.Commands.{tried_output};
 ghost use Rattle.model_player.specs.Printing.{gone_of as gone_of_lem, last_line as last_line_lem, limit_of as limit_of_lem, next_command as next_command_lem, printed_behind, printed_next, wanting as wanting_lem};
 
 use crate::giving::{PlayNo, give};
+use job_outcome::{UnitEnd, end_by};
 use mas_types::{Closing, Command, GroupNo, Lines, MemberId, Output, Queue, Text};
 use model_queue::outputs::{printing_at, setting_of, total};
 use printer_proc::{forward, print_line};
 use std::alloc::Global;
-use job_outcome::{UnitEnd, end_by};
 
 // The lines that the member's printer prints at a time.
 fn limit_of(queue: &Queue, by: MemberId) -> u32

@@ -15,9 +15,9 @@ use crate::jobs::try_job;
 use crate::kinds::Kind;
 use crate::lines::closed;
 use crate::printing::{print_next, try_output};
+use job_outcome::{UnitEnd, end_by};
 use mas_types::{Closing, Command, Lines, MemberId, Queue, Refusal, Reply};
 use std::alloc::Global;
-use job_outcome::{UnitEnd, end_by};
 
 // Whether a command was refused for want of anything to do.
 fn is_nothing(reply: &Reply) -> bool

@@ -10,11 +10,11 @@ use mas_types::{
     Reply, default_config,
 };
 use member_node::{Member, blank, reply_lines};
+use queue_commands::give;
 use queue_effect::law_of_fit_tables;
 use queue_laws::fitness::is_fit;
 use std::alloc::Global;
 use std::test::Fail;
-use queue_commands::give;
 
 const ONE: JobNo = JobNo(1);
 

@@ -10,7 +10,7 @@ use mas_types::limits::{
 use mas_types::read_number;
 
 /// Numbers of at most so many digits, from the least to the greatest. Leading zeros are accepted.
-#[derive(Clone, Copy, Debug, PartialEq, Eq)]
+#[derive(Clone, Copy, PartialEq, Eq)]
 pub struct Numbers {
     pub width: usize,
     pub least: u32,
@@ -18,7 +18,7 @@ pub struct Numbers {
 }
 
 /// What may stand in a place of a form.
-#[derive(Clone, Copy, Debug, PartialEq, Eq)]
+#[derive(Clone, Copy, PartialEq, Eq)]
 pub enum Place {
     /// This byte.
     Byte(u8),

@@ -14,8 +14,8 @@ ghost use Rattle.queue_commands.specs.Given.{IsGiver, IsInRange, is_plain as is_
 use ckpt_pages::Tables;
 use mas_types::{Command, MemberId, NoMemory, OutSpec, Reply};
 use queue_effect::apply;
-use std::alloc::Global;
 use queue_tables::law_of_told_queues;
+use std::alloc::Global;
 
 /// Gives a command of a member, or Restart by the operator: for each queue that the tables tell, whatever its texts are, they tell
 /// what the command leaves of it, and the reply is the command's.

@@ -51,7 +51,7 @@ pub trait Rank<T>: Test<T> {
 }
 
 /// A record and its slot.
-#[derive(Clone, Copy, Debug)]
+#[derive(Clone, Copy)]
 pub struct Found<T> {
     /// The place of the slot, counted from 0.
     pub at: usize,

@@ -19,7 +19,7 @@ const FIRST: MemberId = MemberId(1);
 const SECOND: MemberId = MemberId(2);
 
 /// A reply, by the number of its lines where it is a display.
-#[derive(Clone, Copy, Debug, PartialEq, Eq)]
+#[derive(Clone, Copy, PartialEq, Eq)]
 enum Said {
     Plain,
     Job(u32),

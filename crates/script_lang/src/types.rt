@@ -7,7 +7,7 @@ use spool_disk::Fuse;
 use thiserror::Error;
 
 /// What a step asks for.
-#[derive(Debug, Drop)]
+#[derive(Drop)]
 pub enum Ask {
     /// To enter a deck of these cards.
     Deck(Lines),
@@ -32,14 +32,14 @@ pub enum Ask {
 }
 
 /// A step: its member, 0 where a device is lost, and what it asks for.
-#[derive(Debug, Drop)]
+#[derive(Drop)]
 pub struct Step {
     pub by: MemberId,
     pub what: Ask,
 }
 
 /// What a script says.
-#[derive(Debug, Drop)]
+#[derive(Drop)]
 pub struct Script {
     pub config: Config,
     pub routes: List<Route>,
@@ -70,7 +70,7 @@ impl From<NoMemory> for ScriptNo {
 }
 
 /// What the run of a script allows.
-#[derive(Clone, Copy, Debug, PartialEq, Eq)]
+#[derive(Clone, Copy, PartialEq, Eq)]
 pub struct Run {
     /// It begins with an empty queue.
     pub cold: bool,

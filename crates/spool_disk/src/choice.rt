@@ -1,5 +1,5 @@
 /// What a crash makes of bytes that aren't synced.
-#[derive(Clone, Copy, Debug, PartialEq, Eq)]
+#[derive(Clone, Copy, PartialEq, Eq)]
 pub enum Choice {
     /// They are as before their writes.
     Old,

@@ -34,9 +34,9 @@ use duplex_pair::{Pair, PairNo, pages_level};
 use mas_complex::{Complex, Steady};
 use mas_types::limits::PAGE_BYTES;
 use mas_types::{Config, Dev, Level, List, Page, Queue};
+use queue_tables::law_of_told_queues;
 use spool_disk::{Part, Plant};
 use std::alloc::Global;
-use queue_tables::law_of_told_queues;
 
 /// What a run goes on with after a warm start.
 #[derive(Drop)]
