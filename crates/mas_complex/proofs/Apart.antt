@@ -13,6 +13,8 @@ use Rattle.ckpt_copy.specs.Meanwhile.{Meanwhile}
 use Rattle.duplex_pair.specs.Halves.{IsCkpt}
 use Rattle.duplex_pair.specs.Both.{BothMeanwhile}
 use Rattle.mas_complex.specs.Elsewhere.{Elsewhere, OnCopies}
+use Rattle.mas_complex.specs.Paper.{SamePapers}
+use Rattle.mas_complex.proofs.Papers.{same_papers}
 
 abbrev coded_stretch : Coded Stretch
 coded_stretch = code_by (ℕ × ℕ) (coded× coded_ℕ coded_ℕ) (λ s. (s.from, s.len)) (λ p. record { from = p.0; len = p.1 }) (λ _. refl)
@@ -26,13 +28,14 @@ abbrev pub coded_line : Coded Line
 coded_line = code_by (List ℕ × Bool) (coded× (coded_list coded_ℕ) coded_bool) (λ l. (l.text, l.whole)) (λ p. record { text = p.0; whole = p.1 }) (λ _. refl)
 
 pub elsewhere_of : (dev : Dev) (P : Disk → Type 0) (old new : View) → Meanwhile dev P old new → Elsewhere dev old new
-elsewhere_of dev P old new m = record { others = m.others; console = m.console }
+elsewhere_of dev P old new m = record { others = m.others; console = m.console; papers = λ t from le. (m.sides t from le).paper }
 
 -- equations of devices and lines need no choice
 pub elsewhere_is : (dev : Dev) (old new : View) → ∥ Elsewhere dev old new ∥₁ → Elsewhere dev old new
 elsewhere_is dev old new some = record {
   others = λ t from le d ne. ∥∥₁_elim some (Coded-set coded_disk _ _) (λ e. e.others t from le d ne);
   console = λ t from le. ∥∥₁_elim some (Coded-set (coded_list coded_line) _ _) (λ e. e.console t from le);
+  papers = λ t from le m. ∥∥₁_elim some (Coded-set (coded_list coded_line) _ _) (λ e. e.papers t from le m);
 }
 
 -- a volume that is lost, in one moment
@@ -47,6 +50,7 @@ module _ (v : ℕ) (old new : View) (there : LosesThere (Spool v) old new) where
         (λ (h : t ≤ old.now). let e : t ≡ old.now = omega (arith, h, from) in subst (λ (m : ℕ). (new.world m).console ≡ (old.world old.now).console) (sym e) (ap (λ (w : World). w.console) (loses.goes.past old.now (omega arith))))
         (λ (h : old.now < t). let e : t ≡ new.now = omega (arith, h, le, loses.time) in subst (λ (m : ℕ). (new.world m).console ≡ (old.world old.now).console) (sym e) there.only.console)
         (either_way t old.now);
+    papers = same_papers old new loses.goes loses.time there.only.paper;
   }
 
   pub bytes_lost : (d : Dev) → (disk_now new d).bytes ≡ (disk_now old d).bytes
@@ -72,6 +76,13 @@ on_one (Spool n) ckpt old new goes e = absurd ckpt
 
 pub on_both : (P Q : Disk → Type 0) (old new : View) → BothMeanwhile P Q old new → OnCopies old new
 on_both P Q old new m = record { volumes = m.others new.now m.goes.later (omega arith); console = m.console new.now m.goes.later (omega arith) }
+
+-- printers through a call on both copies
+pub papers_both : (P Q : Disk → Type 0) (old new : View) → BothMeanwhile P Q old new → SamePapers old new
+papers_both P Q old new m t from le = (m.sides t from le).paper
+
+pub papers_is : (old new : View) → ∥ SamePapers old new ∥₁ → SamePapers old new
+papers_is old new some t from le m = ∥∥₁_elim some (Coded-set (coded_list coded_line) _ _) (λ e. e t from le m)
 
 -- these equations need no choice either
 pub on_is : (old new : View) → ∥ OnCopies old new ∥₁ → OnCopies old new

@@ -126,6 +126,7 @@ given_kept base (b ∷ js) t are = All-append (IsGiven base) (kept_of b t) (kept
 -- of a journal with what is in flight at its end
 pub kept_paper : (base : Queue) (since : ℕ) (js : List Batch) (c : Option Batch) (printed : List ℕ) (book : Book) (v : View) → IsSound base → KeepsPaper base since js c printed book v → PaperKept base since (js ++ in_flight c) v
 kept_paper base since js c printed book v sound k = record {
+  given = k.given;
   marks = λ t from le. marks_answer (IsOnPaper (v.world t).paper) base (kept (js ++ in_flight c) t) sound (given_kept base (js ++ in_flight c) t k.given)
       (λ before after is. k.marks t from le before (after ++ flying (js ++ in_flight c) t) (ap (λ (l : List Entry). l ++ flying (js ++ in_flight c) t) is ∙ append_assoc before after (flying (js ++ in_flight c) t)));
   lines = k.lines;

@@ -10,5 +10,5 @@ stand_alike Q R pages alike stand = let x = stand.tell in record {
   level = stand.level;
   sized = stand.sized;
   joined = stand.joined;
-  tell = record { tables = x.tables; levels = x.levels; fit = x.fit; ages = x.ages; spell = x.spell; tell = alike x.tables x.tell };
+  tell = record { tables = x.tables; levels = x.levels; fit = x.fit; ages = x.ages; spell = x.spell; orders = x.orders; tell = alike x.tables x.tell };
 }

@@ -3,11 +3,13 @@ use Rattle.std.specs.Prelude.{◌≡◌, ◌≢◌}
 use Rattle.mas_types.specs.declared.ids.Dev.{Dev}
 use Rattle.mas_types.specs.declared.ids.Dev.TheVariants.{Ckpt1, Ckpt2}
 use Rattle.spool_disk.specs.View.{View, disk_at, disk_now, Throughout}
+use Rattle.mas_complex.specs.Paper.{SamePapers}
 
--- at each moment of the call every other device and the console are as before it
+-- at each moment of the call every other device, the console and the printers are as before it
 pub record Elsewhere (dev : Dev) (old new : View) : Type 0 where
   pub others : Throughout old.now new.now (λ t. (d : Dev) → d ≢ dev → disk_at new t d ≡ disk_now old d)
   pub console : Throughout old.now new.now (λ t. (new.world t).console ≡ (old.world old.now).console)
+  pub papers : SamePapers old new
 
 -- after the call every volume and the console are as before it
 pub record OnCopies (old new : View) : Type 0 where

@@ -128,7 +128,8 @@ pub record KeepsPaper (base : Queue) (since : ℕ) (js : List Batch) (current : 
 
 -- At each moment since the first: where a Mark among the kept entries answered a count, the lines of its output from behind its mark in the base (0 if it is
 -- new) up to that stand on paper, where no Forward has touched it. And from each moment to the next each printer keeps its lines, or has one more: the
--- next one of the output that is busy at its member.
+-- next one of the output that is busy at its member. Each entry is within the limits, and of a member that may give it.
 pub record PaperKept (base : Queue) (since : ℕ) (J : List Batch) (v : View) : Type 0 where
+  pub given : AreGivenIn base J
   pub marks : (t : ℕ) → since ≤ t → t ≤ v.now → AreMarkedLinesOn (IsOnPaper (v.world t).paper) base (kept J t)
   pub lines : (t : ℕ) → since ≤ t → t < v.now → (m : MemberId) → LineAt base J since v t m

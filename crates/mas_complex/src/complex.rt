@@ -28,7 +28,7 @@ ghost use Rattle.mas_complex.specs.Changed.{NamesOnly};
 ghost use Rattle.mas_complex.specs.Texts.{HasTexts, spools_at, lost_now};
 ghost use Rattle.mas_complex.specs.Replies.{HaveReplies, AreReplied};
 ghost use Rattle.mas_complex.specs.Locking.{book_of, MayAct, IsUp, IsOwn};
-ghost use Rattle.mas_complex.specs.Paper.{KeepsPaper, MayBegin, no_counts, printed_after};
+ghost use Rattle.mas_complex.specs.Paper.{KeepsPaper, MayBegin, SamePapers, no_counts, printed_after};
 ghost use Rattle.mas_types.specs.Sound.{IsSound};
 
 use crate::counts::{COUNTS, count_anew};
@@ -874,6 +874,7 @@ impl<P: Plant + Drop, C: Steady + Drop> Complex<P, C> {
         ensures acted { PairActed by.0 self.old.pair.first.alive self.new.pair.first.alive self.old.pair.second.alive self.new.pair.second.alive (pair_stopped result) (P.view self.old.plant) (P.view self.new.plant) }
         ensures apart { P.tells → OnCopies (P.view self.old.plant) (P.view self.new.plant) }
         ensures throughout { P.tells → OnlyOnCopies (P.view self.old.plant) (P.view self.new.plant) }
+        ensures papers { P.tells → SamePapers (P.view self.old.plant) (P.view self.new.plant) }
         ensures both { IsErrOf result PairNoBothLost → IsBothLost self.new.pair.first.alive self.new.pair.second.alive }
         ensures ok { OnOk result (SomeAlive self.new.pair.first.alive self.new.pair.second.alive) }
     {
@@ -909,6 +910,7 @@ impl<P: Plant + Drop, C: Steady + Drop> Complex<P, C> {
         ensures acted { PairActed by.0 self.old.pair.first.alive self.new.pair.first.alive self.old.pair.second.alive self.new.pair.second.alive (pair_stopped result) (P.view self.old.plant) (P.view self.new.plant) }
         ensures apart { P.tells → OnCopies (P.view self.old.plant) (P.view self.new.plant) }
         ensures throughout { P.tells → OnlyOnCopies (P.view self.old.plant) (P.view self.new.plant) }
+        ensures papers { P.tells → SamePapers (P.view self.old.plant) (P.view self.new.plant) }
         ensures both { IsErrOf result PairNoBothLost → IsBothLost self.new.pair.first.alive self.new.pair.second.alive }
         ensures ok { OnOk result (SomeAlive self.new.pair.first.alive self.new.pair.second.alive) }
     {

@@ -25,6 +25,7 @@ use Rattle.mas_complex.specs.Journals.{begun, fated, has_step, kept_all, with_la
 use Rattle.mas_complex.specs.Meaning.{Closes, run, step}
 use Rattle.ckpt_pages.specs.declared.tables.Tables.{Tables}
 use Rattle.queue_effect.specs.Standing.{AreFit}
+use Rattle.queue_tables.specs.Orders.{HaveOrders}
 use Rattle.queue_tables.specs.Telling.{Tell}
 use Rattle.member_node.specs.declared.checkpoint.Checkpoint.{Checkpoint}
 use Rattle.member_node.specs.Batches.{HasDone}
@@ -35,7 +36,7 @@ use Rattle.member_node.specs.declared.member.NodeNo.{NodeNo}
 use Rattle.member_node.specs.declared.member.NodeNo.TheVariants as no_node
 use Rattle.member_node.specs.Calls.{IsLeft}
 use Rattle.member_node.specs.Writes.{IsWrite}
-use Rattle.member_node.proofs.CourseLemmas.{course_none, left, only_none}
+use Rattle.member_node.proofs.CourseLemmas.{course_none, left, only_none, papers_none}
 use Rattle.member_steps.specs.Steps.{AreAllKept}
 use Rattle.member_steps.proofs.StepLemmas.{journal_kept}
 use Rattle.mas_complex.specs.Paper.{MayBegin}
@@ -71,8 +72,8 @@ pub tell_none : (t : Tables) (base : Queue) (batches : List Batch) → batches �
 tell_none t base batches none told = subst (λ (bs : List Batch). Tell t (run base (kept_all bs))) (sym none) told
 
 -- nothing is done yet
-pub reset_done : (base : Queue) (batches : List Batch) (batch : List Entry) (k : Checkpoint) → batches ≡ [] → batch ≡ [] → AreDrawn k.tables k.level k.levels k.pages → AreFit k.tables → Tell k.tables base → HasDone (run base (kept_all batches)) batch k
-reset_done base batches batch k none nothing drawn fit told = subst (λ (es : List Entry). HasDone (run base (kept_all batches)) es k) (sym nothing) (nothing_done (run base (kept_all batches)) k drawn fit (tell_none k.tables base batches none told))
+pub reset_done : (base : Queue) (batches : List Batch) (batch : List Entry) (k : Checkpoint) → batches ≡ [] → batch ≡ [] → AreDrawn k.tables k.level k.levels k.pages → AreFit k.tables → HaveOrders k.tables → Tell k.tables base → HasDone (run base (kept_all batches)) batch k
+reset_done base batches batch k none nothing drawn fit orders told = subst (λ (es : List Entry). HasDone (run base (kept_all batches)) es k) (sym nothing) (nothing_done (run base (kept_all batches)) k drawn fit orders (tell_none k.tables base batches none told))
 
 -- WHAT IT LEAVES
 
@@ -91,7 +92,7 @@ some_left was1 is1 was2 is2 some is = ⊎_elim (λ here. here) (λ same. subst (
 
 module _ (told : Type 0) (b : Batch) (batches : List Batch) where
   pub reset_none : (is1 is2 : Bool) (v : View) → batches ≡ [] → HasReset {T = Unit {0}} told b batches is1 is1 is2 is2 v v (Err no_node.NoMemory)
-  reset_none is1 is2 v none = record { course = course_none is1 is2 v; loses = λ d. refl; ends = (none, refl, refl); apart = λ t. record { others = only_none v; console = refl } }
+  reset_none is1 is2 v none = record { course = course_none is1 is2 v; loses = λ d. refl; ends = (none, refl, refl); apart = λ t. record { others = only_none v; console = refl; papers = papers_none v } }
 
   -- the operator is never stopped
   pub reset_written : (was1 is1 was2 is2 : Bool) (old new : View) (r : Result (Unit {0}) NodeNo) → SomeAlive was1 was2 → (r ≡ Err no_node.Halted → ⊥) → IsWrite told 0 b [] batches was1 is1 was2 is2 old new r

@@ -29,7 +29,9 @@ use Rattle.mas_types.specs.Fit.{IsConfig}
 use Rattle.mas_types.specs.Limits.{routes_most}
 use Rattle.mas_types.specs.Sound.{IsSound}
 use Rattle.mas_types.proofs.EmptyQueue.{empty_queue-sound}
+use Rattle.queue_tables.specs.Orders.{HaveOrders}
 use Rattle.queue_tables.specs.Telling.{Tell, TellSound}
+use Rattle.queue_tables.proofs.OrderLemmas.{empty_orders}
 use Rattle.mas_complex.specs.Texts.{HasTexts, Spools}
 use Rattle.spool_disk.specs.View.{View, Line, Disk}
 use Rattle.spool_disk.specs.declared.plant.Part.TheVariants.{Disk as DiskPart, Console}
@@ -396,6 +398,9 @@ module _ (config : Config) (routes : List Route) (t : Tables) (is : t ≡ empty_
 
   pub low_empty : (batches : ℕ) → HasShape t → AreLow t.config batches t
   low_empty batches shape = record { same = refl; fit = fit_empty shape; order = subst (λ (u : Tables). u.order ≤ orders_after batches) (sym is) (omega arith) }
+
+  pub orders_empty : HaveOrders t
+  orders_empty = subst HaveOrders (sym is) (empty_orders config routes)
 
   pub told_empty : (Q : Queue) → Q ≡ empty_queue config routes → Tell (empty_tables config routes) (empty_queue config routes) → Tell t Q
   told_empty Q queue told = subst (Tell t) (sym queue) (subst (λ (u : Tables). Tell u (empty_queue config routes)) (sym is) told)

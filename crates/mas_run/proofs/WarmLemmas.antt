@@ -28,7 +28,7 @@ use Rattle.spool_volumes.specs.Volumes.{volume_of}
 use Rattle.track_groups.specs.Places.{groups_of}
 use Rattle.warm_start.specs.declared.choosing.StartNo.{StartNo}
 use Rattle.warm_start.specs.declared.choosing.StartNo.TheVariants as no_start
-use Rattle.warm_start.specs.Starting.{IsCauseOf, Starts, IsOnce, IsHeld, WhileStarting}
+use Rattle.warm_start.specs.Starting.{IsCauseOf, Starts, LosesBoth, IsOnce, IsHeld, WhileStarting}
 use Rattle.warm_start.specs.Usable.{AreOf, HaveSize}
 use Rattle.member_node.specs.Calls.{Grows}
 use Rattle.member_node.specs.Drawn.{AreDrawn}
@@ -110,15 +110,15 @@ why_not_lost no_start.BothLost = inl refl
 why_not_lost (no_start.DeviceSize dev size) = inr (λ e. absurd (cc))
 why_not_lost no_start.NoMemory = inr (λ e. absurd (cc))
 
-pub not_started : (tells : Type 0) (why : StartNo) (old new : View) → ((alive1 alive2 : Bool) × IsCauseOf reads tells areas_size old new alive1 alive2 why) → (why ≡ no_start.BothLost → Starts false false old new) → IsNotStarted tells (status_of_start why) old new
+pub not_started : (tells : Type 0) (why : StartNo) (old new : View) → ((alive1 alive2 : Bool) × IsCauseOf reads tells areas_size old new alive1 alive2 why) → (why ≡ no_start.BothLost → LosesBoth old new) → IsNotStarted tells (status_of_start why) old new
 not_started tells (no_start.NotFormatted first second) old new cause lost = record { alive1 = cause.0; alive2 = cause.1; cause = cause.2 }
 not_started tells no_start.BothLost old new cause lost = lost refl
 not_started tells (no_start.DeviceSize dev size) old new cause lost = record { alive1 = cause.0; alive2 = cause.1; cause = cause.2 }
 not_started tells no_start.NoMemory old new cause lost = tt
 
-pub start_caused : (why : StartNo) (old new : View) → (why ≡ no_start.BothLost → Starts false false old new) → IsCaused (status_of_start why) old new
+pub start_caused : (why : StartNo) (old new : View) → (why ≡ no_start.BothLost → LosesBoth old new) → IsCaused (status_of_start why) old new
 start_caused (no_start.NotFormatted first second) old new lost = record { lost = λ e. absurd (cc); failed1 = λ e. absurd (cc); failed2 = λ e. absurd (cc); console = λ e. absurd (cc) }
-start_caused no_start.BothLost old new lost = let s = lost refl in record { lost = λ e. (s.lost1 refl, s.lost2 refl); failed1 = λ e. s.taken1 refl; failed2 = λ e. s.taken2 refl; console = λ e. absurd (cc) }
+start_caused no_start.BothLost old new lost = let s = (lost refl).starts in record { lost = λ e. (s.lost1 refl, s.lost2 refl); failed1 = λ e. s.taken1 refl; failed2 = λ e. s.taken2 refl; console = λ e. absurd (cc) }
 start_caused (no_start.DeviceSize dev size) old new lost = record { lost = λ e. absurd (cc); failed1 = λ e. absurd (cc); failed2 = λ e. absurd (cc); console = λ e. absurd (cc) }
 start_caused no_start.NoMemory old new lost = record { lost = λ e. absurd (cc); failed1 = λ e. absurd (cc); failed2 = λ e. absurd (cc); console = λ e. absurd (cc) }
 

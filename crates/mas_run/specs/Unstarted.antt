@@ -6,7 +6,7 @@ use Rattle.spool_disk.specs.View.{View}
 use Rattle.ckpt_copy.specs.Areas.{reads, areas_size}
 use Rattle.warm_start.specs.declared.choosing.StartNo.{StartNo}
 use Rattle.warm_start.specs.declared.choosing.StartNo.TheVariants as no_start
-use Rattle.warm_start.specs.Starting.{IsCauseOf, Starts}
+use Rattle.warm_start.specs.Starting.{IsCauseOf, LosesBoth}
 
 -- the status of a run whose warm start gave nothing
 abbrev pub status_of_start : StartNo → Status
@@ -22,9 +22,9 @@ pub record StartCauses (tells : Type 0) (why : StartNo) (old new : View) : Type 
   pub cause : IsCauseOf reads tells areas_size old new alive1 alive2 why
 
 -- The cause of a warm run's status where it hasn't begun. No copy can be used where it is NotFormatted; both are lost where it
--- is BothLost.
+-- is BothLost, and an act on one of them failed.
 abbrev pub IsNotStarted : Type 0 → Status → View → View → Type 0
 IsNotStarted tells (status.NotFormatted first second) old new = StartCauses tells (no_start.NotFormatted first second) old new
 IsNotStarted tells (status.DeviceSize dev size) old new = StartCauses tells (no_start.DeviceSize dev size) old new
-IsNotStarted tells status.BothLost old new = Starts false false old new
+IsNotStarted tells status.BothLost old new = LosesBoth old new
 IsNotStarted tells _ old new = Unit {0}

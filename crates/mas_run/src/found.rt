@@ -19,6 +19,7 @@ ghost use Rattle.member_node.specs.Copies.{RestsAt};
 ghost use Rattle.member_node.specs.Drawn.{AreDrawn};
 ghost use Rattle.member_steps.specs.Locked.{IsOpenTo};
 ghost use Rattle.queue_effect.specs.Standing.{AreFit};
+ghost use Rattle.queue_tables.specs.Orders.{HaveOrders};
 ghost use Rattle.queue_tables.specs.Telling.{Tell, TellSound};
 ghost use Rattle.mas_run.specs.Turns.{Sight, turns_from};
 ghost use Rattle.mas_run.specs.Runs.{has_begun, Begins, IsUnbegun, HasSteps, IsRun};
@@ -75,6 +76,7 @@ fn play_reset<P: Plant + Drop>(
     requires drawn { AreDrawn found.tables found.complex.level found.levels found.pages }
     requires queue { Tell found.tables found.complex.base }
     requires fit { AreFit found.tables }
+    requires orders { HaveOrders found.tables }
     requires sound { TellSound found.tables }
     requires rests1 { RestsAt P.tells found.complex.pair.first.alive found.complex.first (⟦<AreaCopy as Copying>⟧.count found.complex.pair.first.copy) found.pages (reads (disk_now (P.view found.complex.plant) Ckpt1).bytes) }
     requires rests2 { RestsAt P.tells found.complex.pair.second.alive found.complex.second (⟦<AreaCopy as Copying>⟧.count found.complex.pair.second.copy) found.pages (reads (disk_now (P.view found.complex.plant) Ckpt2).bytes) }

@@ -9,6 +9,7 @@ ghost use Rattle.duplex_pair.specs.Halves.{SomeAlive};
 ghost use Rattle.mas_complex.specs.Journals.{begun, end_of, kept_all};
 ghost use Rattle.mas_complex.specs.Meaning.{run};
 ghost use Rattle.queue_effect.specs.Standing.{AreFit};
+ghost use Rattle.queue_tables.specs.Orders.{HaveOrders};
 ghost use Rattle.queue_tables.specs.Telling.{Tell, TellSound};
 ghost use Rattle.member_node.specs.Batches.{HasDone};
 ghost use Rattle.mas_run.specs.Resets.{restart_entries};
@@ -66,6 +67,7 @@ impl<P: Plant + Drop, C: Steady + Drop> Running<P, C> {
         requires same_level { self.old.complex.level ≡ self.old.member.checkpoint.level }
         requires queue { Tell self.old.member.checkpoint.tables self.old.complex.base }
         requires fit { AreFit self.old.member.checkpoint.tables }
+        requires orders { HaveOrders self.old.member.checkpoint.tables }
         requires sound { TellSound self.old.member.checkpoint.tables }
         requires rests1 { RestsAt P.tells self.old.complex.pair.first.alive self.old.complex.first (C.count self.old.complex.pair.first.copy) self.old.member.checkpoint.pages (C.reads (disk_now (P.view self.old.complex.plant) Ckpt1).bytes) }
         requires rests2 { RestsAt P.tells self.old.complex.pair.second.alive self.old.complex.second (C.count self.old.complex.pair.second.copy) self.old.member.checkpoint.pages (C.reads (disk_now (P.view self.old.complex.plant) Ckpt2).bytes) }

@@ -27,7 +27,7 @@ use Rattle.member_node.specs.declared.member.NodeNo.{NodeNo}
 use Rattle.member_node.specs.declared.member.NodeNo.TheVariants.{BothLost, Halted, ConsoleFault, NoMemory}
 use Rattle.member_node.specs.Calls.{Course, IsLeft, console_now}
 use Rattle.member_node.specs.Writes.{HasKept}
-use Rattle.member_node.proofs.CourseLemmas.{course_then, no, rose_later, rose_more}
+use Rattle.member_node.proofs.CourseLemmas.{course_then, no, papers_on, rose_later, rose_more}
 use Rattle.member_steps.specs.Saying.{Breaks}
 use Rattle.member_steps.specs.Steps.{IsStep, StepTells, entry_with, reply_to}
 use Rattle.member_decks.specs.declared.opening.Opened.{Opened}
@@ -198,6 +198,7 @@ module _ (told : Type 0) (by : MemberId) (at per : ℕ) (n : JobNo) (text : List
     is = λ t. (tt, refl);
     course = course_spool told by.0 a b v0 v1 acts;
     loses = λ t d. acts.loses d;
+    papers = acts.papers;
     cause = spool_causes e a b v0 v1 stops;
     rest = [];
     batches_are = none ∙ sym (append-nil front);
@@ -216,6 +217,7 @@ module _ (told : Type 0) (by : MemberId) (at per : ℕ) (n : JobNo) (text : List
       is = λ t. (lies t, refl);
       course = course_then a a a' b b b' v0 v1 v2 (course_spool told by.0 a b v0 v1 acts) hold.course;
       loses = λ t d. hold.loses t d ∙ acts.loses d;
+      papers = λ t. papers_on v0 v1 v2 acts.goes.later hold.course.goes (acts.papers t) (hold.apart t).papers;
       cause = causes_then (Err e) by.0 a a a' b b b' v0 v1 v2 (inr (refl, refl)) acts.goes (copy_causes (Err e) by.0 a a' b b' v1 v2 hold.cause);
       rest = [];
       batches_are = none ∙ sym (append-nil front);
@@ -238,6 +240,7 @@ module _ (told : Type 0) (by : MemberId) (at per : ℕ) (n : JobNo) (text : List
           is = λ t. (lies t, f.is t);
           course = course_then a a' a'' b b' b'' v0 v2 v3 (course_then a a a' b b b' v0 v1 v2 (course_spool told by.0 a b v0 v1 acts) hold.course) f.step.course;
           loses = λ t d. f.step.loses t d ∙ hold.loses t d ∙ acts.loses d;
+          papers = λ t. papers_on v0 v2 v3 le f.step.course.goes (papers_on v0 v1 v2 acts.goes.later hold.course.goes (acts.papers t) (hold.apart t).papers) (f.step.papers t);
           cause = causes_then r by.0 a a' a'' b b' b'' v0 v2 v3 hold.cause goes
               (one_causes told by lines (last_of lost f.reply) (omega arith) front batches a' a'' b' b'' v0.now v2 v3 le r f.step);
           rest = leaves.rest;
@@ -339,6 +342,7 @@ module _ (told : Type 0) (by : MemberId) (at per : ℕ) (Q : Queue) (fields : Jo
     closes = (closing_reply (all_entries (First ∷ Behind)), refl);
     course = acts.course;
     loses = acts.loses;
+    papers = λ t. (acts.apart t).papers;
     cause = copy_causes (Err e) by.0 a a' b b' v w acts.cause;
     rest = [];
     batches_are = none ∙ sym (append-nil front);
@@ -363,6 +367,7 @@ module _ (told : Type 0) (by : MemberId) (at per : ℕ) (Q : Queue) (fields : Jo
         closes = s.closes;
         course = course_then a a' a'' b b' b'' v w x acts.course s.course;
         loses = λ t d. s.loses t d ∙ acts.loses t d;
+        papers = λ t. papers_on v w x acts.course.goes.later s.course.goes (acts.apart t).papers (s.papers t);
         cause = causes_then r by.0 a a' a'' b b' b'' v w x acts.cause acts.course.goes s.cause;
         rest = s.rest;
         batches_are = s.batches_are;
@@ -436,6 +441,7 @@ module _ (told : Type 0) (by : MemberId) (at per : ℕ) (Q : Queue) (fields : Jo
             closes = (closing_reply (all_entries (First ∷ Behind)), refl);
             course = acts.course;
             loses = acts.loses;
+            papers = λ t. (acts.apart t).papers;
             cause = copy_causes (Err e) by.0 a a' b b' v w acts.cause;
             rest = leaves.rest;
             batches_are = leaves.are;
@@ -473,6 +479,7 @@ module _ (told : Type 0) (by : MemberId) (at per : ℕ) (Q : Queue) (fields : Jo
           closes = (closing_reply es, refl);
           course = step.course;
           loses = step.loses;
+          papers = step.papers;
           cause = one_causes told by closing es some front batches a a' b b' v.now v w same r step;
           rest = leaves.rest;
           batches_are = leaves.are;
@@ -531,6 +538,7 @@ module _ (told : Type 0) (by : MemberId) (at per : ℕ) (Q : Queue) (fields : Jo
             closes = (closing_reply (Second None r), refl);
             course = acts.course;
             loses = acts.loses;
+            papers = λ t. (acts.apart t).papers;
             cause = copy_causes (Err e) by.0 a a' b b' v w acts.cause;
             rest = leaves.0;
             batches_are = leaves.1;
@@ -561,6 +569,7 @@ module _ (told : Type 0) (by : MemberId) (at per : ℕ) (Q : Queue) (fields : Jo
             closes = (closing_reply (Second s.lost s.reply), refl);
             course = course_then a a' a'' b b' b'' v w x acts.course s.course;
             loses = λ t d. s.loses t d ∙ acts.loses t d;
+            papers = λ t. papers_on v w x acts.course.goes.later s.course.goes (acts.apart t).papers (s.papers t);
             cause = causes_then r by.0 a a' a'' b b' b'' v w x acts.cause acts.course.goes s.cause;
             rest = b1 ∷ s.rest;
             batches_are = behind s.rest s.batches_are;

@@ -27,6 +27,7 @@ use Rattle.mas_complex.specs.Texts.{Spools, spools_at, bytes_on, IsSynced, IsThe
 use Rattle.queue_laws.proofs.Finds.{test_cases}
 use Rattle.mas_complex.proofs.Quotients.{few_quotient}
 use Rattle.mas_complex.proofs.Spooled.{each_quiet, spared_other, sync_quiet}
+use Rattle.member_node.proofs.CourseLemmas.{papers_act, papers_none, papers_on}
 use Rattle.member_decks.specs.declared.spooling.SpoolNo.{SpoolNo}
 use Rattle.member_decks.specs.declared.spooling.SpoolNo.TheVariants.{Lost, Halted as Stopped}
 use Rattle.member_decks.specs.Spooling.{AreQuiet, AreRoomy, OnVolumes, Rise, SpoolCauses, StandBelow, answer_of, lies_there, page_in}
@@ -43,6 +44,7 @@ acts_none told by v = record {
   first = λ t. refl;
   second = λ t. refl;
   console = λ t. refl;
+  papers = λ t. papers_none v;
 }
 
 pub acts_on : (told : Type 0) (by : ℕ) (old mid new : View) → OnVolumes told by old mid → OnVolumes told by mid new → OnVolumes told by old new
@@ -55,6 +57,7 @@ acts_on told by old mid new one two = record {
   first = λ t. two.first t ∙ one.first t;
   second = λ t. two.second t ∙ one.second t;
   console = λ t. two.console t ∙ one.console t;
+  papers = λ t. papers_on old mid new one.goes.later two.goes (one.papers t) (two.papers t);
 }
 
 -- one act on a volume
@@ -68,6 +71,7 @@ act_on told by v old new r acts only = record {
   first = λ t. (only t).others Ckpt1 (λ same. absurd (cc));
   second = λ t. (only t).others Ckpt2 (λ same. absurd (cc));
   console = λ t. (only t).console;
+  papers = λ t. papers_act old new acts.goes acts.time (only t).paper;
 }
 
 -- ONE PAGE

@@ -10,6 +10,7 @@ use Rattle.spool_disk.specs.View.{View}
 use Rattle.spool_disk.specs.Acts.{Rose}
 use Rattle.duplex_pair.specs.Halves.{IsBothLost}
 use Rattle.mas_complex.specs.Journals.{begun}
+use Rattle.mas_complex.specs.Paper.{SamePapers}
 use Rattle.member_node.specs.declared.member.NodeNo.{NodeNo}
 use Rattle.member_node.specs.declared.member.NodeNo.TheVariants.{BothLost, Halted, ConsoleFault, NoMemory}
 use Rattle.member_node.specs.Calls.{Apart, Course, IsLeft, console_now}
@@ -28,7 +29,7 @@ CopyCauses (Err BothLost) by was1 is1 was2 is2 old new = IsBothLost is1 is2
 CopyCauses (Err Halted) by was1 is1 was2 is2 old new = IsLeft was1 is1 was2 is2 × Rose (old.stops by) (new.stops by)
 CopyCauses (Err ConsoleFault) by was1 is1 was2 is2 old new = ⊥
 
--- Acts on the copies: where content is told the volumes and the console are as they were, and no copy is lost by a call.
+-- Acts on the copies: where content is told the volumes, the console and the printers are as they were, and no copy is lost by a call.
 pub record IsOnCopies {T : Type 0} (told : Type 0) (by : ℕ) (was1 is1 was2 is2 : Bool) (old new : View) (result : Result T NodeNo) : Type 0 where
   pub course : Course was1 is1 was2 is2 old new
   pub loses : told → (d : Dev) → new.loses d ≡ old.loses d
@@ -65,6 +66,7 @@ pub record IsRest {T : Type 0} (told : Type 0) (by : MemberId) (at per : ℕ) (n
   pub is : told → LiesOn (Ready n) per Q by text lost × (reply ≡ reply_to Q by (finishing lost n text))
   pub course : Course was1 is1 was2 is2 old new
   pub loses : told → (d : Dev) → new.loses d ≡ old.loses d
+  pub papers : told → SamePapers old new
   pub cause : DeckCauses result by.0 was1 is1 was2 is2 old new
   pub rest : List Batch
   pub batches_are : batches ≡ front ++ rest

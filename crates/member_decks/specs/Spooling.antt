@@ -13,6 +13,7 @@ use Rattle.spool_disk.specs.declared.plant.Part.TheVariants.{Disk as DiskPart}
 use Rattle.spool_disk.specs.View.{View, Disk, Stretch, Avoids, disk_now, slice}
 use Rattle.spool_disk.specs.Acts.{Goes, Rose}
 use Rattle.spool_volumes.specs.Volumes.{volume_of, start_of}
+use Rattle.mas_complex.specs.Paper.{SamePapers}
 use Rattle.mas_complex.specs.Texts.{Spools}
 use Rattle.member_decks.specs.declared.spooling.SpoolNo.{SpoolNo}
 use Rattle.member_decks.specs.declared.spooling.SpoolNo.TheVariants.{Lost, Halted}
@@ -46,7 +47,7 @@ abbrev pub lies_there : ℕ → ℕ → List GroupNo → Bool
 lies_there per volume groups = list_any (λ g. volume_of per g == volume) groups
 
 -- Acts of a member on spool volumes: no other part is lost, nobody else is stopped, nor the operator, and where content is told, the
--- copies and the console are as they were.
+-- copies, the console and at each moment the printers are as they were.
 pub record OnVolumes (told : Type 0) (by : ℕ) (old new : View) : Type 0 where
   pub goes : Goes old new
   pub else_lost : (p : Part) → ((n : ℕ) → p ≢ DiskPart (Spool n)) → new.lost p ≡ old.lost p
@@ -56,6 +57,7 @@ pub record OnVolumes (told : Type 0) (by : ℕ) (old new : View) : Type 0 where
   pub first : told → disk_now new Ckpt1 ≡ disk_now old Ckpt1
   pub second : told → disk_now new Ckpt2 ≡ disk_now old Ckpt2
   pub console : told → (new.world new.now).console ≡ (old.world old.now).console
+  pub papers : told → SamePapers old new
 
 -- why it stopped: a volume on which a group lies failed and is lost, or the member was stopped
 abbrev pub SpoolCauses : {T : Type 0} → Result T SpoolNo → ℕ → ℕ → List GroupNo → View → View → Type 0

@@ -15,6 +15,7 @@ use Rattle.spool_disk.specs.Acts.{Rose}
 use Rattle.duplex_pair.specs.Halves.{IsBothLost}
 use Rattle.track_groups.specs.Groups.{held_by}
 use Rattle.mas_complex.specs.Meaning.{run}
+use Rattle.mas_complex.specs.Paper.{SamePapers}
 use Rattle.member_node.specs.declared.member.NodeNo.{NodeNo}
 use Rattle.member_node.specs.declared.member.NodeNo.TheVariants.{BothLost, Halted, ConsoleFault, NoMemory}
 use Rattle.member_node.specs.Calls.{Course, IsLeft, console_now}
@@ -59,7 +60,8 @@ pub record IsDeckOf (by : MemberId) (at per : ℕ) (Q : Queue) (fields : JobFiel
   pub lines_are : lines ≡ deck_lines Q by at fields text lost
 
 -- A deck's step, over a journal with these batches before it, from the queue Q on: at most two batches of entries of the step, whatever
--- their replies are, and the lines that a reply or a lost volume makes. Where content is told they are those that the deck gives at Q.
+-- their replies are, and the lines that a reply or a lost volume makes. Where content is told they are those that the deck gives at Q, and
+-- nothing is printed.
 pub record IsDeckStep {T : Type 0} (told : Type 0) (by : MemberId) (at per : ℕ) (Q : Queue) (fields : JobFields) (text : List (List ℕ)) (front batches : List Batch) (was1 is1 was2 is2 : Bool) (old new : View) (result : Result T NodeNo) : Type 0 where
   pub lost : Option ℕ
   pub found : IsFoundLost lost old new
@@ -71,6 +73,7 @@ pub record IsDeckStep {T : Type 0} (told : Type 0) (by : MemberId) (at per : ℕ
   pub closes : (r : Reply) × (lines ≡ lines_by by at lost r)
   pub course : Course was1 is1 was2 is2 old new
   pub loses : told → (d : Dev) → new.loses d ≡ old.loses d
+  pub papers : told → SamePapers old new
   pub cause : DeckCauses result by.0 was1 is1 was2 is2 old new
   pub rest : List Batch
   pub batches_are : batches ≡ front ++ rest

@@ -5,12 +5,13 @@ use Rattle.mas_types.specs.declared.ids.Dev.TheVariants.{Ckpt1, Ckpt2, Spool}
 use Rattle.spool_disk.specs.declared.plant.Part.TheVariants.{Disk as DiskPart, Console}
 use Rattle.spool_disk.specs.declared.plant.Act.{Act}
 use Rattle.spool_disk.specs.View.{View, World, disk_at}
-use Rattle.spool_disk.specs.Acts.{Goes, Acts, Says, Loses, Rose, next}
+use Rattle.spool_disk.specs.Acts.{Goes, Acts, Says, SamePaper, Loses, Rose, next}
 use Rattle.ckpt_copy.specs.Moments.{either_way, goes_on, goes_none}
 use Rattle.duplex_pair.specs.Halves.{Acted, IsCkpt}
 use Rattle.duplex_pair.specs.Both.{PairActed}
 use Rattle.duplex_pair.proofs.Composing.{acted_first, acted_second}
 use Rattle.mas_complex.specs.Elsewhere.{Elsewhere}
+use Rattle.mas_complex.specs.Paper.{SamePapers}
 use Rattle.member_node.specs.Calls.{Apart, Course, Grows, IsOnlyOn, WasLost}
 
 -- WHICH COPIES COUNT AS ALIVE
@@ -187,10 +188,10 @@ left false false some f g = absurd (cc)
 -- WHAT STAYS AS IT WAS
 
 pub apart_first : (old new : View) → old.now ≤ new.now → Elsewhere Ckpt1 old new → Apart old new
-apart_first old new later e = record { others = λ t from le d one two. e.others t from le d one; console = e.console new.now later (omega arith) }
+apart_first old new later e = record { others = λ t from le d one two. e.others t from le d one; console = e.console new.now later (omega arith); papers = e.papers }
 
 pub apart_second : (old new : View) → old.now ≤ new.now → Elsewhere Ckpt2 old new → Apart old new
-apart_second old new later e = record { others = λ t from le d one two. e.others t from le d two; console = e.console new.now later (omega arith) }
+apart_second old new later e = record { others = λ t from le d one two. e.others t from le d two; console = e.console new.now later (omega arith); papers = e.papers }
 
 -- two calls one after the other that act on the copies alone
 pub only_on : (entry old new : View) → entry.now ≤ old.now → Goes old new → IsOnlyOn entry old → IsOnlyOn old new → IsOnlyOn entry new
@@ -202,12 +203,29 @@ only_on entry old new later goes before after t from le d one two = ⊎_elim
 pub only_none : (v : View) → IsOnlyOn v v
 only_none v t from le d one two = let now : t ≡ v.now = omega arith in ap (λ (n : ℕ). disk_at v n d) now
 
-pub apart_then : (old mid new : View) → old.now ≤ mid.now → Goes mid new → Apart old mid → Apart mid new → Apart old new
-apart_then old mid new later goes x y = record { others = only_on old mid new later goes x.others y.others; console = y.console ∙ x.console }
-
 -- a moment after one act is that before it or the one that it made
 after_act : (v1 v2 : View) (t : ℕ) → v2.now ≡ next v1.now → v1.now ≤ t → t ≤ v2.now → (t ≡ v1.now) ⊎ (t ≡ v2.now)
 after_act v1 v2 t time from le = ⊎_elim (λ h. inl (omega arith)) (λ h. inr (omega (arith, time))) (either_way t v1.now)
+
+-- so the printers
+pub papers_on : (entry old new : View) → entry.now ≤ old.now → Goes old new → SamePapers entry old → SamePapers old new → SamePapers entry new
+papers_on entry old new later goes before after t from le m = ⊎_elim
+    (λ early. ap (λ (w : World). w.paper m) (goes.past t early) ∙ before t from early m)
+    (λ late. after t (omega arith) le m ∙ before old.now later (omega arith) m)
+    (either_way t old.now)
+
+pub papers_none : (v : View) → SamePapers v v
+papers_none v t from le m = let now : t ≡ v.now = omega arith in ap (λ (n : ℕ). (v.world n).paper m) now
+
+-- and through one act that keeps their lines
+pub papers_act : (v1 v2 : View) → Goes v1 v2 → v2.now ≡ next v1.now → SamePaper v1 v2 → SamePapers v1 v2
+papers_act v1 v2 goes time same t from le m = ⊎_elim
+    (λ e. ap (λ (n : ℕ). (v2.world n).paper m) e ∙ ap (λ (w : World). w.paper m) (goes.past v1.now (omega arith)))
+    (λ e. ap (λ (n : ℕ). (v2.world n).paper m) e ∙ same m)
+    (after_act v1 v2 t time from le)
+
+pub apart_then : (old mid new : View) → old.now ≤ mid.now → Goes mid new → Apart old mid → Apart mid new → Apart old new
+apart_then old mid new later goes x y = record { others = only_on old mid new later goes x.others y.others; console = y.console ∙ x.console; papers = papers_on old mid new later goes x.papers y.papers }
 
 pub only_said : (by : ℕ) (line : List ℕ) (v1 v2 : View) (said : Act) → Acts by Console v1 v2 said → Says line v1 v2 said → IsOnlyOn v1 v2
 only_said by line v1 v2 said act says t from le d one two = ⊎_elim

@@ -24,6 +24,7 @@ use Rattle.ckpt_pages.specs.Shape.{IsRoute}
 use Rattle.ckpt_pages.specs.Starts.{empty_tables, first_levels}
 use Rattle.ckpt_pages.specs.Laws.{EmptyHasSpelling, AreFirstLevels}
 use Rattle.mas_types.specs.declared.queues.Queue.{Queue}
+use Rattle.queue_tables.specs.Orders.{HaveOrders}
 use Rattle.queue_tables.specs.Telling.{Tell, PagesTell}
 use Rattle.mas_complex.specs.Meaning.{StandFor}
 use Rattle.mas_complex.specs.Changed.{NamesOnly}
@@ -67,12 +68,12 @@ drawn_level t at levels pages drawn =
       first_is [] at is = absurd (cc)
       first_is (l ∷ levels) at is = cc
 
--- drawn pages stand for each queue that their tables tell
-pub drawn_tell : (t : Tables) (at : ℕ) (levels : List ℕ) (pages : List Page) (Q : Queue) → AreDrawn t at levels pages → Tell t Q → PagesTell pages at Q
-drawn_tell t at levels pages Q drawn told = record { tables = t; levels = levels; fit = drawn.spelling; ages = drawn.leveled; spell = drawn.spelled; tell = told }
+-- drawn pages stand for each queue that their tables tell, which have no order twice
+pub drawn_tell : (t : Tables) (at : ℕ) (levels : List ℕ) (pages : List Page) (Q : Queue) → AreDrawn t at levels pages → HaveOrders t → Tell t Q → PagesTell pages at Q
+drawn_tell t at levels pages Q drawn orders told = record { tables = t; levels = levels; fit = drawn.spelling; ages = drawn.leveled; spell = drawn.spelled; orders = orders; tell = told }
 
-pub drawn_stand : (t : Tables) (at : ℕ) (levels : List ℕ) (pages : List Page) (Q : Queue) → AreDrawn t at levels pages → Tell t Q → StandFor Q (bytes_of pages)
-drawn_stand t at levels pages Q drawn told = record { pages = pages; level = at; sized = drawn.sized; joined = refl; tell = drawn_tell t at levels pages Q drawn told }
+pub drawn_stand : (t : Tables) (at : ℕ) (levels : List ℕ) (pages : List Page) (Q : Queue) → AreDrawn t at levels pages → HaveOrders t → Tell t Q → StandFor Q (bytes_of pages)
+drawn_stand t at levels pages Q drawn orders told = record { pages = pages; level = at; sized = drawn.sized; joined = refl; tell = drawn_tell t at levels pages Q drawn orders told }
 
 -- THE LEVELS
 

@@ -14,6 +14,7 @@ use Rattle.mas_types.specs.declared.queues.Queue.{Queue}
 use Rattle.mas_types.specs.Step.{row_of}
 use Rattle.ckpt_pages.specs.declared.tables.Tables.{Tables}
 use Rattle.ckpt_pages.specs.Shape.{HasSpelling, AreLevels, page_count}
+use Rattle.queue_tables.specs.Orders.{HaveOrders}
 use Rattle.queue_tables.specs.Telling.{Tell, PagesTell}
 use Rattle.queue_effect.specs.Standing.{AreFit, Plays}
 use Rattle.mas_complex.specs.Meaning.{step, run}
@@ -61,32 +62,34 @@ leveled_too t u at levels same is = record { count = is.count ∙ ap page_count 
 
 -- commands more, with their replies
 pub all_done : (Q : Queue) (entries more : List Entry) (k n : Checkpoint) → HasDone Q entries k → n.pages ≡ k.pages → n.level ≡ k.level → n.levels ≡ k.levels → n.tables.config ≡ k.tables.config
-    → HasSpelling n.tables → AreFit n.tables → HaveReplies (run Q entries) more → Tell n.tables (run (run Q entries) more) → HasDone Q (entries ++ more) n
-all_done Q entries more k n done pages level levels config spelling fit replied queue = record {
+    → HasSpelling n.tables → AreFit n.tables → HaveOrders n.tables → HaveReplies (run Q entries) more → Tell n.tables (run (run Q entries) more) → HasDone Q (entries ++ more) n
+all_done Q entries more k n done pages level levels config spelling fit orders replied queue = record {
   pages = subst (λ (ps : List Page). PagesTell ps n.level Q) (sym pages) (subst (λ (l : ℕ). PagesTell k.pages l Q) (sym level) done.pages);
   leveled = leveled_too k.tables n.tables n.level n.levels config (subst (λ (l : ℕ). AreLevels k.tables l n.levels) (sym level) (subst (AreLevels k.tables k.level) (sym levels) done.leveled));
   as_many = ap length pages ∙ done.as_many ∙ ap page_count (sym config);
   sized = subst (All (λ page. length page.0 ≡ page_bytes)) (sym pages) done.sized;
   spelling = spelling;
   fit = fit;
+  orders = orders;
   queue = subst (Tell n.tables) (sym (run_append Q entries more)) queue;
   replied = replies_append Q entries more done.replied replied;
 }
 
 -- one command more
 pub more_done : (Q : Queue) (entries : List Entry) (k n : Checkpoint) (e : Entry) → HasDone Q entries k → n.pages ≡ k.pages → n.level ≡ k.level → n.levels ≡ k.levels → n.tables.config ≡ k.tables.config
-    → HasSpelling n.tables → AreFit n.tables → e.reply ≡ (step (run Q entries) e.by e.command).1 → Tell n.tables (step (run Q entries) e.by e.command).0 → HasDone Q (entries ++ e ∷ []) n
-more_done Q entries k n e done pages level levels config spelling fit reply queue = all_done Q entries (e ∷ []) k n done pages level levels config spelling fit (reply, tt) queue
+    → HasSpelling n.tables → AreFit n.tables → HaveOrders n.tables → e.reply ≡ (step (run Q entries) e.by e.command).1 → Tell n.tables (step (run Q entries) e.by e.command).0 → HasDone Q (entries ++ e ∷ []) n
+more_done Q entries k n e done pages level levels config spelling fit orders reply queue = all_done Q entries (e ∷ []) k n done pages level levels config spelling fit orders (reply, tt) queue
 
 -- nothing was done yet
-pub nothing_done : (Q : Queue) (k : Checkpoint) → AreDrawn k.tables k.level k.levels k.pages → AreFit k.tables → Tell k.tables Q → HasDone Q [] k
-nothing_done Q k drawn fit told = record {
-  pages = drawn_tell k.tables k.level k.levels k.pages Q drawn told;
+pub nothing_done : (Q : Queue) (k : Checkpoint) → AreDrawn k.tables k.level k.levels k.pages → AreFit k.tables → HaveOrders k.tables → Tell k.tables Q → HasDone Q [] k
+nothing_done Q k drawn fit orders told = record {
+  pages = drawn_tell k.tables k.level k.levels k.pages Q drawn orders told;
   leveled = drawn.leveled;
   as_many = drawn.spelled.count;
   sized = drawn.sized;
   spelling = drawn.spelling;
   fit = fit;
+  orders = orders;
   queue = told;
   replied = tt;
 }

@@ -18,6 +18,7 @@ use Rattle.ckpt_pages.specs.Checkpoints.{IsCheckpoint, IsLeastBad, SpellSome, Sp
 use Rattle.ckpt_pages.specs.Given.{levels_given, AreTheirLevels}
 use Rattle.ckpt_pages.specs.Pages.{page_in}
 use Rattle.ckpt_pages.specs.Shape.{page_count}
+use Rattle.queue_tables.specs.Orders.{HaveOrders}
 use Rattle.queue_tables.specs.Telling.{Tell}
 use Rattle.mas_complex.specs.Meaning.{StandFor}
 use Rattle.member_node.specs.declared.checkpoint.Checkpoint.{Checkpoint}
@@ -31,8 +32,9 @@ use Rattle.duplex_pair.specs.Both.{PairActed}
 use Rattle.mas_complex.specs.declared.places.Place.{Place}
 use Rattle.mas_complex.specs.Elsewhere.{OnCopies}
 use Rattle.mas_complex.specs.Kept.{OnlyOnCopies}
+use Rattle.mas_complex.specs.Paper.{SamePapers}
 use Rattle.member_node.specs.Calls.{Course}
-use Rattle.member_node.proofs.CourseLemmas.{no as not_both, rose_later, apart_then, course_none, course_of, course_then, only_none}
+use Rattle.member_node.proofs.CourseLemmas.{no as not_both, rose_later, apart_then, course_none, course_of, course_then, only_none, papers_none}
 use Rattle.member_node.proofs.DrawnLemmas.{drawn_level, page_joined}
 
 -- THE SAME PAGES
@@ -170,17 +172,19 @@ up_to given config pages t levels is sized are may k same_t same_ls same_l same_
       may = rw same_t may;
     }
 
--- where these stand for a queue the tables tell it
+-- where these stand for a queue the tables tell it, and have no order twice
 pub tell_up_to : SpellsOneAtMost → ((xs ys : List Page) → All (λ page. length page.0 ≡ page_bytes) xs → All (λ page. length page.0 ≡ page_bytes) ys → bytes_of xs ≡ bytes_of ys → xs ≡ ys)
-    → (Q : Queue) (reached : ℕ) (config : Config) (pages : List Page) (k : Checkpoint) → StandAt Q reached pages → IsUpTo config pages k → Tell k.tables Q × (reached ≡ k.level)
+    → (Q : Queue) (reached : ℕ) (config : Config) (pages : List Page) (k : Checkpoint) → StandAt Q reached pages → IsUpTo config pages k → Tell k.tables Q × (reached ≡ k.level) × HaveOrders k.tables
 tell_up_to one joined Q reached config pages k stand up =
     let s = stand.queue in
     let same : s.pages ≡ k.pages = joined s.pages k.pages s.sized up.drawn.sized (s.joined ∙ ap bytes_of (sym up.has)) in
     let own : IsCheckpoint k.pages k.tables = record { level = k.level; levels = k.levels; fit = up.drawn.spelling; ages = up.drawn.leveled; spell = up.drawn.spelled } in
     let theirs : IsCheckpoint k.pages s.tell.tables = subst (λ (ps : List Page). IsCheckpoint ps s.tell.tables) same
-    (record { level = s.level; levels = s.tell.levels; fit = s.tell.fit; ages = s.tell.ages; spell = s.tell.spell }) in (
-      subst (λ (t : Tables). Tell t Q) (one k.pages s.tell.tables k.tables theirs own) s.tell.tell,
+    (record { level = s.level; levels = s.tell.levels; fit = s.tell.fit; ages = s.tell.ages; spell = s.tell.spell }) in
+    let same_t : s.tell.tables ≡ k.tables = one k.pages s.tell.tables k.tables theirs own in (
+      subst (λ (t : Tables). Tell t Q) same_t s.tell.tell,
       sym stand.at_level ∙ ap (λ (ps : List Page). level (bytes_of ps)) (sym up.has) ∙ drawn_level k.tables k.level k.levels k.pages up.drawn,
+      subst HaveOrders same_t s.tell.orders,
     )
 
 -- PAGES READ ONE AFTER ANOTHER
@@ -227,17 +231,17 @@ pub record IsReadTo (told : Type 0) (was1 is1 was2 is2 : Bool) (old new : View) 
   pub some : (page ≡ first) ⊎ SomeAlive is1 is2
 
 -- what one call on the copies that only reads comes to
-pub read_acted : (told : Type 0) (by : ℕ) (a a' b b' stopped : Bool) (old new : View) → PairActed by a a' b b' stopped old new → (told → OnlyOnCopies old new) → (told → OnCopies old new)
+pub read_acted : (told : Type 0) (by : ℕ) (a a' b b' stopped : Bool) (old new : View) → PairActed by a a' b b' stopped old new → (told → OnlyOnCopies old new) → (told → OnCopies old new) → (told → SamePapers old new)
     → (told → (d : Dev) → (disk_now new d).bytes ≡ (disk_now old d).bytes) → HasRead told a a' b b' old new
-read_acted told by a a' b b' stopped old new acted throughout apart bytes = record {
+read_acted told by a a' b b' stopped old new acted throughout apart papers bytes = record {
   course = course_of by a a' b b' stopped old new acted;
   loses = λ t d. acted.loses d;
-  apart = λ t. record { others = throughout t; console = (apart t).console };
+  apart = λ t. record { others = throughout t; console = (apart t).console; papers = papers t };
   bytes = bytes;
 }
 
 pub read_none : (told : Type 0) (a b : Bool) (v : View) → HasRead told a a b b v v
-read_none told a b v = record { course = course_none a b v; loses = λ t d. refl; apart = λ t. record { others = only_none v; console = refl }; bytes = λ t d. refl }
+read_none told a b v = record { course = course_none a b v; loses = λ t d. refl; apart = λ t. record { others = only_none v; console = refl; papers = papers_none v }; bytes = λ t d. refl }
 
 pub read_then : (told : Type 0) (a a' a'' b b' b'' : Bool) (v0 v1 v2 : View) → HasRead told a a' b b' v0 v1 → HasRead told a' a'' b' b'' v1 v2 → HasRead told a a'' b b'' v0 v2
 read_then told a a' a'' b b' b'' v0 v1 v2 x y = record {

@@ -7,6 +7,7 @@ use Rattle.ckpt_copy.specs.Pages.{bytes_of, ArePages}
 use Rattle.ckpt_pages.specs.declared.tables.Tables.{Tables}
 use Rattle.ckpt_pages.specs.Shape.{page_count}
 use Rattle.queue_tables.specs.Laws.{PagesTellAlike}
+use Rattle.queue_tables.specs.Orders.{HaveOrders}
 use Rattle.queue_tables.specs.Telling.{Tell, PagesTell}
 use Rattle.mas_complex.specs.Meaning.{run}
 use Rattle.mas_complex.specs.declared.places.Place.{Place}
@@ -31,14 +32,17 @@ ready_draft alike d told Q entries k n reached done at small same drawn redrawn 
   after : Tell n.tables (run Q entries)
   after = subst (λ (t : Tables). Tell t (run Q entries)) (sym same) done.queue
 
+  orders : HaveOrders n.tables
+  orders = subst HaveOrders (sym same) done.orders
+
   by_draft : (e : Draft) → IsRedrawn e k.level k.pages n.level n.pages → IsDraftOf e told Q entries reached n.pages
   by_draft draft.Same redrawn =
-      let here : PagesTell k.pages n.level (run Q entries) = subst (λ (ps : List Page). PagesTell ps n.level (run Q entries)) redrawn.1 (drawn_tell n.tables n.level n.levels n.pages (run Q entries) drawn after) in
+      let here : PagesTell k.pages n.level (run Q entries) = subst (λ (ps : List Page). PagesTell ps n.level (run Q entries)) redrawn.1 (drawn_tell n.tables n.level n.levels n.pages (run Q entries) drawn orders after) in
       (alike k.pages k.level n.level Q (run Q entries) done.pages here).0
   by_draft (draft.Changed numbers) redrawn = (
     drawn_level n.tables n.level n.levels n.pages drawn ∙ redrawn.level ∙ ap (λ (l : ℕ). l + 1) (sym at),
     omega (arith, at, small),
-    drawn_stand n.tables n.level n.levels n.pages (run Q entries) drawn after,
+    drawn_stand n.tables n.level n.levels n.pages (run Q entries) drawn orders after,
   )
 
 -- as many as before

@@ -11,7 +11,7 @@ use Rattle.mas_complex.specs.Journals.{begun, entries_reserved, fated, with_last
 use Rattle.member_node.specs.declared.member.NodeNo.TheVariants.{BothLost, Halted}
 use Rattle.member_node.specs.Calls.{Apart}
 use Rattle.member_node.specs.Writes.{IsWrite}
-use Rattle.member_node.proofs.CourseLemmas.{course_of, course_none, only_none}
+use Rattle.member_node.proofs.CourseLemmas.{course_of, course_none, only_none, papers_none}
 use Rattle.member_node.proofs.WriteLemmas.{kept_out, flying_out}
 
 -- the entries that are reserved
@@ -28,7 +28,7 @@ module _ (T : Type 0) (told : Type 0) (by : MemberId) (es : List Entry) (front w
     loses = λ d. refl;
     cause = inr (refl, refl);
     journal = (v0.now, omega arith, omega arith, kept_out front was batches place (fated Kept v0.now (begun v0.now by es)) placed current one is unplaced none);
-    apart = λ t. record { others = only_none v0; console = refl };
+    apart = λ t. record { others = only_none v0; console = refl; papers = papers_none v0 };
   }
 
   module _ (a' b' : Bool) (v1 : View) (apart : told → Apart v0 v1) where

@@ -9,6 +9,7 @@ use Rattle.mas_types.specs.Limits.{page_bytes}
 use Rattle.spool_disk.specs.Acts.{top}
 use Rattle.ckpt_copy.specs.Pages.{bytes_of, level}
 use Rattle.ckpt_pages.specs.Shape.{HasSpelling, AreLevels, page_count}
+use Rattle.queue_tables.specs.Orders.{HaveOrders}
 use Rattle.queue_tables.specs.Telling.{Tell, PagesTell, AreToldAlike}
 use Rattle.mas_complex.specs.Meaning.{StandFor, run}
 use Rattle.mas_complex.specs.Replies.{HaveReplies}
@@ -31,7 +32,7 @@ pub record CanDraw (k : Checkpoint) : Type 0 where
   pub spelling : HasSpelling k.tables
 
 -- The pages of a checkpoint stand for the queue, and its tables tell the queue after the entries, which have the replies that the
--- commands give at their places. The tables can be spelled and given commands.
+-- commands give at their places. The tables can be spelled and given commands, and have no order twice.
 pub record HasDone (Q : Queue) (entries : List Entry) (k : Checkpoint) : Type 0 where
   pub pages : PagesTell k.pages k.level Q
   pub leveled : AreLevels k.tables k.level k.levels
@@ -39,6 +40,7 @@ pub record HasDone (Q : Queue) (entries : List Entry) (k : Checkpoint) : Type 0 
   pub sized : All (λ page. length page.0 ≡ page_bytes) k.pages
   pub spelling : HasSpelling k.tables
   pub fit : AreFit k.tables
+  pub orders : HaveOrders k.tables
   pub queue : Tell k.tables (run Q entries)
   pub replied : HaveReplies Q entries
 

@@ -6,6 +6,7 @@ use Rattle.spool_disk.specs.declared.plant.Part.TheVariants.{Disk}
 use Rattle.spool_disk.specs.View.{View, Line, disk_at, disk_now, Throughout}
 use Rattle.spool_disk.specs.Acts.{Goes, Rose}
 use Rattle.duplex_pair.specs.Halves.{SomeAlive}
+use Rattle.mas_complex.specs.Paper.{SamePapers}
 
 -- what stands on the console now
 abbrev pub console_now : View → List Line
@@ -15,10 +16,11 @@ console_now v = (v.world v.now).console
 abbrev pub IsOnlyOn : View → View → Type 0
 IsOnlyOn old new = Throughout old.now new.now (λ t. (d : Dev) → d ≢ Ckpt1 → d ≢ Ckpt2 → disk_at new t d ≡ disk_now old d)
 
--- what calls leave as it was: at each moment the other devices, and at the end the console
+-- what calls leave as it was: at each moment the other devices and the printers, and at the end the console
 pub record Apart (old new : View) : Type 0 where
   pub others : IsOnlyOn old new
   pub console : console_now new ≡ console_now old
+  pub papers : SamePapers old new
 
 -- a device was lost: its faults rose, or the calls that lose it did
 abbrev pub WasLost : Dev → View → View → Type 0

@@ -17,6 +17,7 @@ ghost use Rattle.mas_complex.specs.Journals.{kept_all};
 ghost use Rattle.mas_complex.specs.Locking.{IsOperatorAway, MayAct};
 ghost use Rattle.mas_complex.specs.Meaning.{run};
 ghost use Rattle.member_node.specs.declared.member.NodeNo.TheVariants as no_node;
+ghost use Rattle.queue_tables.specs.Orders.{HaveOrders};
 ghost use Rattle.queue_tables.specs.Telling.{Tell};
 ghost use Rattle.mas_complex.specs.declared.places.Place.TheVariants.{Before};
 ghost use Rattle.member_node.specs.Calls.{Course};
@@ -581,6 +582,7 @@ impl Member {
         ensures rests1 { OnOk result (RestsAt P.tells complex.new.pair.first.alive complex.new.first (C.count complex.new.pair.first.copy) self.new.checkpoint.pages (C.reads (disk_now (P.view complex.new.plant) Ckpt1).bytes)) }
         ensures rests2 { OnOk result (RestsAt P.tells complex.new.pair.second.alive complex.new.second (C.count complex.new.pair.second.copy) self.new.checkpoint.pages (C.reads (disk_now (P.view complex.new.plant) Ckpt2).bytes)) }
         ensures told { OnOk result (P.tells → ∥ Tell self.new.checkpoint.tables (run complex.new.base (kept_all complex.new.journal.batches)) ∥₁) }
+        ensures ordered { OnOk result (P.tells → ∥ HaveOrders self.new.checkpoint.tables ∥₁) }
         ensures same_level { OnOk result (P.tells → complex.new.level ≡ self.new.checkpoint.level) }
     {
         self.read_all(complex)?;

@@ -17,7 +17,7 @@ use Rattle.spool_disk.specs.View.{View}
 use Rattle.mas_complex.specs.Locking.{MayAct, IsUp}
 use Rattle.member_node.specs.declared.member.NodeNo.{NodeNo}
 use Rattle.member_node.specs.declared.member.NodeNo.TheVariants.{BothLost, Halted, ConsoleFault, NoMemory}
-use Rattle.member_node.proofs.CourseLemmas.{course_none, only_none}
+use Rattle.member_node.proofs.CourseLemmas.{course_none, only_none, papers_none}
 use Rattle.member_steps.specs.Saying.{HaveSaid}
 use Rattle.member_steps.specs.Locked.{IsOpenTo, IsDenial, closing_of}
 use Rattle.member_steps.proofs.SayLemmas.{console_course}
@@ -130,6 +130,7 @@ module _ (told : Type 0) (by : ℕ) (lines : List (List ℕ)) (front batches : L
     cause = inr (refl, refl);
     same = same;
     others = λ t. only_none v0;
+    papers = λ t. papers_none v0;
     console = λ t. refl;
   }
 
@@ -143,6 +144,7 @@ module _ (told : Type 0) (by : ℕ) (lines : List (List ℕ)) (front batches : L
     cause = inr (refl, refl);
     same = same;
     others = said.acts.others;
+    papers = said.acts.papers;
     console = said.console;
   }
   denied_told v1 (Err ConsoleFault) said = record {
@@ -152,6 +154,7 @@ module _ (told : Type 0) (by : ℕ) (lines : List (List ℕ)) (front batches : L
     cause = (inr (refl, refl), said.cause);
     same = same;
     others = said.acts.others;
+    papers = said.acts.papers;
     console = said.console;
   }
   denied_told v1 (Err Halted) said = record {
@@ -161,5 +164,6 @@ module _ (told : Type 0) (by : ℕ) (lines : List (List ℕ)) (front batches : L
     cause = (inr (refl, refl), said.cause);
     same = same;
     others = said.acts.others;
+    papers = said.acts.papers;
     console = λ t. let some = said.console t in inr (tt, some.0, some.1, some.2);
   }

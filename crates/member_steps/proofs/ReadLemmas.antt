@@ -18,7 +18,9 @@ use Rattle.ckpt_pages.specs.declared.tables.Tables.{Tables}
 use Rattle.ckpt_pages.specs.Checkpoints.{IsCheckpoint}
 use Rattle.ckpt_pages.specs.Shape.{page_count}
 use Rattle.ckpt_pages.proofs.DecodingLemmas.{one_value}
+use Rattle.queue_tables.specs.Orders.{HaveOrders}
 use Rattle.queue_tables.specs.Telling.{Tell, TellSound}
+use Rattle.queue_tables.proofs.OrderLemmas.{orders_are}
 use Rattle.queue_tables.proofs.ToldLemmas.{tell_alike}
 use Rattle.duplex_pair.specs.Halves.{SomeAlive}
 use Rattle.queue_effect.specs.Standing.{AreFit}
@@ -35,7 +37,7 @@ use Rattle.member_node.specs.Drawn.{AreDrawn}
 use Rattle.member_node.specs.Lines.{reply_lines}
 use Rattle.member_node.specs.Reads.{AreLow, HasRead, IsCalm, IsSettle, IsUpTo, ReadCauses, ReadInCauses, ReadsLow, orders_after, too_high}
 use Rattle.member_node.specs.Writes.{HasKept}
-use Rattle.member_node.proofs.CourseLemmas.{apart_then, course_then, only_on, rose_later}
+use Rattle.member_node.proofs.CourseLemmas.{apart_then, course_then, only_on, papers_on, rose_later}
 use Rattle.member_node.proofs.DrawnLemmas.{drawn_level}
 use Rattle.member_node.proofs.ReadLemmas.{low_again, same_pages}
 use Rattle.member_node.proofs.WriteLemmas.{none_out}
@@ -78,6 +80,7 @@ module _ (told : Type 0) (by : ℕ) (was1 is1 was2 is2 : Bool) (v0 v1 : View) (a
     cause = cause;
     journal = inl same;
     others = λ t. (acts.apart t).others;
+    papers = λ t. (acts.apart t).papers;
     console = λ t. (acts.apart t).console;
   }
   step_unbegun lines b front batches Halted same cause = record {
@@ -86,6 +89,7 @@ module _ (told : Type 0) (by : ℕ) (was1 is1 was2 is2 : Bool) (v0 v1 : View) (a
     cause = (inl cause.0, cause.1);
     journal = inl same;
     others = λ t. (acts.apart t).others;
+    papers = λ t. (acts.apart t).papers;
     console = λ t. inl (acts.apart t).console;
   }
   step_unbegun lines b front batches NoMemory same cause = record {
@@ -94,6 +98,7 @@ module _ (told : Type 0) (by : ℕ) (was1 is1 was2 is2 : Bool) (v0 v1 : View) (a
     cause = inl cause;
     journal = same;
     others = λ t. (acts.apart t).others;
+    papers = λ t. (acts.apart t).papers;
     console = λ t. (acts.apart t).console;
   }
   step_unbegun lines b front batches ConsoleFault same cause = absurd cause
@@ -121,6 +126,7 @@ module _ (told : Type 0) (by : ℕ) (was1 mid1 is1 was2 mid2 is2 : Bool) (v0 v1 
     cause = causes_behind r step.cause;
     journal = step.journal;
     others = λ t. only_on v0 v1 v2 acts.course.goes.later step.course.goes (acts.apart t).others (step.others t);
+    papers = λ t. papers_on v0 v1 v2 acts.course.goes.later step.course.goes (acts.apart t).papers (step.papers t);
     console = λ t. subst (λ (l : List Line). StepTells r lines (HasKept front batches b v2.now) l (console_now v2)) (acts.apart t).console (step.console t);
   }
 
@@ -219,8 +225,8 @@ one_batch front batches placed current b now unplaced none kept =
 
 -- a member that is at the lock, and has read
 pub between_read : (tells : Type 0) (base : Queue) (batches : List Batch) (current : Option Batch) (placed : Bool) (level : ℕ) (batch : List Entry) (k : Checkpoint) (config : Config) → current ≡ None → placed ≡ false → batch ≡ [] → IsUpTo config k.pages k
-    → (tells → ∥ Tell k.tables (run base (kept_all batches)) ∥₁) → (tells → level ≡ k.level) → (tells → IsToldSound (run base (kept_all batches))) → IsBetween tells base batches current placed level batch k
-between_read tells base batches current placed level batch k config none unplaced nothing up told at sound = record {
+    → (tells → ∥ Tell k.tables (run base (kept_all batches)) ∥₁) → (tells → ∥ HaveOrders k.tables ∥₁) → (tells → level ≡ k.level) → (tells → IsToldSound (run base (kept_all batches))) → IsBetween tells base batches current placed level batch k
+between_read tells base batches current placed level batch k config none unplaced nothing up told ordered at sound = record {
   none = none;
   unplaced = unplaced;
   same_level = at;
@@ -228,6 +234,7 @@ between_read tells base batches current placed level batch k config none unplace
   drawn = up.drawn;
   queue = λ t. tell_is k.tables (run base (kept_all batches)) (told t);
   fit = up.may.fit;
+  orders = λ t. orders_are k.tables (ordered t);
   sound = λ t. sound t k.tables (tell_is k.tables (run base (kept_all batches)) (told t));
 }
 

@@ -37,7 +37,7 @@ use Rattle.member_node.specs.Batches.{CanDraw, HasDone, last_reply, level_with}
 use Rattle.member_node.specs.Calls.{console_now}
 use Rattle.member_node.specs.Drawn.{AreDrawn}
 use Rattle.member_node.specs.Writes.{HasKept, IsWrite}
-use Rattle.member_node.proofs.CourseLemmas.{course_none, course_then, only_none, only_on, rose_later}
+use Rattle.member_node.proofs.CourseLemmas.{course_none, course_then, only_none, only_on, papers_none, papers_on, rose_later}
 use Rattle.member_node.proofs.EntryLemmas.{nothing_done}
 use Rattle.member_node.proofs.TextLemmas.{plain_brings, texts_after}
 use Rattle.member_node.proofs.WriteLemmas.{run_append}
@@ -56,6 +56,7 @@ module _ (told : Type 0) (by : ℕ) (lines : List (List ℕ)) (b : Batch) (front
     cause = inr (refl, refl);
     journal = none;
     others = λ t. only_none v;
+    papers = λ t. papers_none v;
     console = λ t. refl;
   }
 
@@ -70,6 +71,7 @@ module _ (told : Type 0) (by : ℕ) (lines : List (List ℕ)) (b : Batch) (front
       cause = write.cause;
       journal = inr write.journal;
       others = λ t. (write.apart t).others;
+      papers = λ t. (write.apart t).papers;
       console = λ t. (write.apart t).console;
     }
     step_unwritten Halted write = record {
@@ -78,6 +80,7 @@ module _ (told : Type 0) (by : ℕ) (lines : List (List ℕ)) (b : Batch) (front
       cause = write.cause;
       journal = inr (inl write.journal);
       others = λ t. (write.apart t).others;
+      papers = λ t. (write.apart t).papers;
       console = λ t. inl (write.apart t).console;
     }
 
@@ -98,6 +101,7 @@ module _ (told : Type 0) (by : ℕ) (lines : List (List ℕ)) (b : Batch) (front
         cause = write.cause;
         journal = kept_then said.acts.goes.later;
         others = λ t. only_on v0 v1 v2 write.course.goes.later said.acts.goes (write.apart t).others (said.acts.others t);
+        papers = λ t. papers_on v0 v1 v2 write.course.goes.later said.acts.goes (write.apart t).papers (said.acts.papers t);
         console = λ t. said.console t ∙ ap (λ (l : List Line). l ++ map whole lines) (write.apart t).console;
       }
       step_told (Err ConsoleFault) said = record {
@@ -106,6 +110,7 @@ module _ (told : Type 0) (by : ℕ) (lines : List (List ℕ)) (b : Batch) (front
         cause = (write.cause, rose_later (v0.faults Console) (v1.faults Console) (v2.faults Console) (write.course.goes.faults Console) said.cause);
         journal = kept_then said.acts.goes.later;
         others = λ t. only_on v0 v1 v2 write.course.goes.later said.acts.goes (write.apart t).others (said.acts.others t);
+        papers = λ t. papers_on v0 v1 v2 write.course.goes.later said.acts.goes (write.apart t).papers (said.acts.papers t);
         console = λ t. let some = said.console t in (some.0, some.1, console_then t some.0 some.2);
       }
       step_told (Err Halted) said = record {
@@ -114,6 +119,7 @@ module _ (told : Type 0) (by : ℕ) (lines : List (List ℕ)) (b : Batch) (front
         cause = (write.cause, rose_later (v0.stops by) (v1.stops by) (v2.stops by) (write.course.goes.stops by) said.cause);
         journal = inr (inr (kept_then said.acts.goes.later));
         others = λ t. only_on v0 v1 v2 write.course.goes.later said.acts.goes (write.apart t).others (said.acts.others t);
+        papers = λ t. papers_on v0 v1 v2 write.course.goes.later said.acts.goes (write.apart t).papers (said.acts.papers t);
         console = λ t. let some = said.console t in inr (kept_then said.acts.goes.later, some.0, some.1, subst (λ (l : List Line). Breaks some.0 lines l (console_now v2)) (write.apart t).console some.2);
       }
 
@@ -124,7 +130,7 @@ pub between_done : (tells : Type 0) (base : Queue) (batches : List Batch) (curre
     → HasDone (run base (kept_all batches)) batch k
 between_done tells base batches current placed level batch k between told =
     subst (λ (es : List Entry). HasDone (run base (kept_all batches)) es k) (sym between.nothing)
-    (nothing_done (run base (kept_all batches)) k between.drawn between.fit (between.queue told))
+    (nothing_done (run base (kept_all batches)) k between.drawn between.fit (between.orders told) (between.queue told))
 
 -- a batch that had no entry has the one that came
 pub only_entry : (was is : List Entry) (e : Entry) → is ≡ was ++ e ∷ [] → was ≡ [] → is ≡ e ∷ []

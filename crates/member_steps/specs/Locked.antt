@@ -12,6 +12,7 @@ use Rattle.lock_cycle.specs.declared.answers.LockNo.{LockNo}
 use Rattle.lock_cycle.specs.declared.answers.LockNo.TheVariants as lock
 use Rattle.lock_cycle.specs.Books.{Book, IsMember, is_stopped}
 use Rattle.spool_disk.specs.View.{View}
+use Rattle.mas_complex.specs.Paper.{SamePapers}
 use Rattle.member_node.specs.declared.member.NodeNo.{NodeNo}
 use Rattle.member_node.specs.declared.member.NodeNo.TheVariants.{BothLost}
 use Rattle.member_node.specs.Calls.{Course, IsOnlyOn, console_now}
@@ -33,7 +34,7 @@ closing_of (lock.Dormant tick) = closing.Dormant tick
 abbrev pub denied_lines : MemberId → ℕ → LockNo → List (List ℕ)
 denied_lines by at why = closing_line by at (closing_of why) ∷ []
 
--- A step whose member doesn't get the lock, and which closes with these lines: nothing is added to the journal.
+-- A step whose member doesn't get the lock, and which closes with these lines: nothing is added to the journal, and nothing is printed.
 pub record IsDenial {T : Type 0} (told : Type 0) (by : ℕ) (lines : List (List ℕ)) (front batches : List Batch) (was1 is1 was2 is2 : Bool) (old new : View) (result : Result T NodeNo) : Type 0 where
   pub not_lost : result ≡ Err BothLost → ⊥
   pub course : Course was1 is1 was2 is2 old new
@@ -41,4 +42,5 @@ pub record IsDenial {T : Type 0} (told : Type 0) (by : ℕ) (lines : List (List 
   pub cause : StepCauses result by was1 is1 was2 is2 old new
   pub same : batches ≡ front
   pub others : told → IsOnlyOn old new
+  pub papers : told → SamePapers old new
   pub console : told → StepTells result lines (Unit {0}) (console_now old) (console_now new)

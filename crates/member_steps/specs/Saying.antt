@@ -5,6 +5,7 @@ use Rattle.spool_disk.specs.declared.plant.Part.TheVariants.{Disk, Console}
 use Rattle.spool_disk.specs.View.{View, Line, disk_now}
 use Rattle.spool_disk.specs.Acts.{Goes, Rose}
 use Rattle.mas_complex.specs.Headline.{whole}
+use Rattle.mas_complex.specs.Paper.{SamePapers}
 use Rattle.member_node.specs.declared.member.NodeNo.{NodeNo}
 use Rattle.member_node.specs.declared.member.NodeNo.TheVariants.{BothLost, Halted, ConsoleFault, NoMemory}
 use Rattle.member_node.specs.Calls.{IsOnlyOn, console_now}
@@ -36,13 +37,14 @@ SayCauses (Err Halted) by old new = Rose (old.stops by) (new.stops by)
 SayCauses (Err BothLost) by old new = ⊥
 SayCauses (Err NoMemory) by old new = ⊥
 
--- Acts on the console: no device is lost, and where content is told, each holds at each moment what it held.
+-- Acts on the console: no device is lost, and where content is told, each holds at each moment what it held, and so does each printer.
 pub record OnConsole (told : Type 0) (old new : View) : Type 0 where
   pub goes : Goes old new
   pub lost : (d : Dev) → new.lost (Disk d) ≡ old.lost (Disk d)
   pub loses : (d : Dev) → new.loses d ≡ old.loses d
   pub disks : told → (d : Dev) → disk_now new d ≡ disk_now old d
   pub others : told → IsOnlyOn old new
+  pub papers : told → SamePapers old new
 
 -- The lines were said one after another, up to one that couldn't be.
 pub record HaveSaid {T : Type 0} (told : Type 0) (by : ℕ) (lines : List (List ℕ)) (old new : View) (result : Result T NodeNo) : Type 0 where

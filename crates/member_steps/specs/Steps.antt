@@ -14,11 +14,13 @@ use Rattle.spool_disk.specs.View.{View, Line}
 use Rattle.spool_disk.specs.Acts.{Rose}
 use Rattle.duplex_pair.specs.Halves.{IsBothLost}
 use Rattle.ckpt_pages.specs.declared.tables.Tables.{Tables}
+use Rattle.queue_tables.specs.Orders.{HaveOrders}
 use Rattle.queue_tables.specs.Telling.{Tell, TellSound}
 use Rattle.queue_effect.specs.Standing.{AreFit}
 use Rattle.mas_complex.specs.Headline.{whole}
 use Rattle.mas_complex.specs.Journals.{begun, kept_all}
 use Rattle.mas_complex.specs.Meaning.{step, run}
+use Rattle.mas_complex.specs.Paper.{SamePapers}
 use Rattle.member_node.specs.declared.checkpoint.Checkpoint.{Checkpoint}
 use Rattle.member_node.specs.declared.member.NodeNo.{NodeNo}
 use Rattle.member_node.specs.declared.member.NodeNo.TheVariants.{BothLost, Halted, ConsoleFault, NoMemory}
@@ -58,7 +60,7 @@ abbrev pub IsToldSound : Queue → Type 0
 IsToldSound Q = (t : Tables) → Tell t Q → TellSound t
 
 -- A member in a step, which knows the copies: no batch is in flight or has its place, and where content is told its checkpoint tells the
--- queue after the kept batches, which has the sound parts.
+-- queue after the kept batches, which has the sound parts, and its tables have no order twice.
 pub record IsBetween (tells : Type 0) (base : Queue) (batches : List Batch) (current : Option Batch) (placed : Bool) (level : ℕ) (batch : List Entry) (k : Checkpoint) : Type 0 where
   pub none : current ≡ None
   pub unplaced : placed ≡ false
@@ -67,6 +69,7 @@ pub record IsBetween (tells : Type 0) (base : Queue) (batches : List Batch) (cur
   pub drawn : AreDrawn k.tables k.level k.levels k.pages
   pub queue : tells → Tell k.tables (run base (kept_all batches))
   pub fit : AreFit k.tables
+  pub orders : tells → HaveOrders k.tables
   pub sound : tells → TellSound k.tables
 
 -- each batch is kept by now
@@ -109,13 +112,15 @@ StepTells (Err BothLost) lines kept was now = now ≡ was
 StepTells (Err ConsoleFault) lines kept was now = (n : ℕ) × (n < length lines) × (now ≡ was ++ map whole (take n lines))
 StepTells (Err Halted) lines kept was now = (now ≡ was) ⊎ (kept × (n : ℕ) × (n < length lines) × Breaks n lines was now)
 
--- A step whose commands are this batch, and which closes with these lines, over a journal with these batches before it.
+-- A step whose commands are this batch, and which closes with these lines, over a journal with these batches before it. Nothing is printed
+-- in it.
 pub record IsStep {T : Type 0} (told : Type 0) (by : ℕ) (lines : List (List ℕ)) (b : Batch) (front batches : List Batch) (was1 is1 was2 is2 : Bool) (old new : View) (result : Result T NodeNo) : Type 0 where
   pub course : Course was1 is1 was2 is2 old new
   pub loses : told → (d : Dev) → new.loses d ≡ old.loses d
   pub cause : StepCauses result by was1 is1 was2 is2 old new
   pub journal : StepLeaves result front batches b new.now
   pub others : told → IsOnlyOn old new
+  pub papers : told → SamePapers old new
   pub console : told → StepTells result lines (HasKept front batches b new.now) (console_now old) (console_now new)
 
 -- A step that gives a command: its batch and its lines are those of a reply, which is the command's where content is told.

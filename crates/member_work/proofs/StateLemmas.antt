@@ -80,7 +80,7 @@ module _ (told : Type 0) (v : View) (since : ℕ) (base : Queue) (batches : List
     work_sound t = told_sound k.tables (run base (kept_all batches)) (w.sound t) (work_queue t)
 
     pub work_back : IsBetween told base batches current placed level batch k
-    work_back = record { none = w.none; unplaced = w.unplaced; same_level = w.same_level; nothing = nothing; drawn = w.drawn nothing; queue = work_queue; fit = w.fit; sound = w.sound }
+    work_back = record { none = w.none; unplaced = w.unplaced; same_level = w.same_level; nothing = nothing; drawn = w.drawn nothing; queue = work_queue; fit = w.fit; orders = λ t. (w.done t).orders; sound = w.sound }
 
     pub work_low : told → AreLow base.config (length batches) k.tables
     work_low t = record { same = sym w.config; fit = w.fit; order = let le = w.low t in let none = ap length nothing in omega (arith, le, none) }
@@ -181,6 +181,7 @@ between_by told base base' batches batches' current current' placed placed' leve
   drawn = b.drawn;
   queue = λ t. subst (Tell k.tables) (sym (ap (λ (q : Queue). run q (kept_all batches')) one ∙ ap (λ (bs : List Batch). run base (kept_all bs)) two)) (b.queue t);
   fit = b.fit;
+  orders = b.orders;
   sound = b.sound;
 }
 

@@ -7,6 +7,8 @@ ghost use Rattle.mas_types.specs.Step.{may_give, row_of};
 ghost use Rattle.lay_bytes.specs.Limits.{copies_most};
 ghost use Rattle.ckpt_pages.specs.declared.tables.Tables.{Tables};
 ghost use Rattle.ckpt_pages.specs.Shape.{HasSpelling};
+ghost use Rattle.ckpt_pages.specs.Sound.{AreSound};
+ghost use Rattle.queue_tables.specs.Orders.{HaveOrders};
 ghost use Rattle.queue_tables.specs.Telling.{TellSound};
 ghost use Rattle.queue_effect.specs.Standing.{AreFit, IfRefused, Plays};
 ghost use Rattle.queue_commands.specs.Given.{IsGiver, IsInRange, is_plain as is_plain_lem};
@@ -19,7 +21,8 @@ use std::alloc::Global;
 
 /// Gives a command of a member, or Restart by the operator: for each queue that the tables tell, whatever its texts are, they tell
 /// what the command leaves of it, and the reply is the command's.
-/// The tables can be spelled by pages as before, and where they told a sound queue, and the command's giver may give it, they still do. A refused command, or one for which there is no memory, changes nothing.
+/// The tables can be spelled by pages as before, and where they told a sound queue, and the command's giver may give it, they still do. A refused command, or one for which there is no memory, changes nothing. Where no two jobs or outputs had one order, none have;
+/// so tables without a fault stay so.
 ///
 /// The orders of jobs and outputs are below the next one, which is below 2^63 - 32, and what is busy is so at nobody or at one of
 /// at most eight members. What the command carries is within the limits.
@@ -36,11 +39,13 @@ pub fn give(
     requires command { IsFit command.now }
     ensures plays { IfOk result (λ reply. Plays tables.old tables.new (λ Q. row_of Q by command.now) reply) }
     ensures sound { OnOk result ((s : TellSound tables.old) → may_give s.queue by command.now ≡ true → TellSound tables.new) }
+    ensures faultless { OnOk result (AreSound tables.old → (s : TellSound tables.old) → may_give s.queue by command.now ≡ true → AreSound tables.new) }
     ensures named { IfOk result IsReplyNamed }
     ensures refused { IfOk result (λ reply. IfRefused reply (tables.new ≡ tables.old)) }
     ensures no_memory { OnErr result (tables.new ≡ tables.old) }
     ensures spelling { HasSpelling tables.new }
     ensures fit { AreFit tables.new }
+    ensures orders { HaveOrders tables.old → HaveOrders tables.new }
     ensures order { tables.new.order ≤ tables.old.order + 32 }
     ensures config { tables.new.config ≡ tables.old.config }
 {

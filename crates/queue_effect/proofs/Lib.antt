@@ -5,6 +5,7 @@ pub mod GroupLemmas
 pub mod LawLemmas
 pub mod Leaving
 pub mod Loops
+pub mod OrderLemmas
 pub mod Showing
 pub mod SlotLemmas
 pub mod Sorting

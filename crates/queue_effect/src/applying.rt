@@ -3,6 +3,7 @@ ghost use Rattle.std.specs.Prelude.{◌≡◌, ◌≤◌, ◌<◌, ◌+◌, ◌^
 ghost use Rattle.mas_types.specs.Fit.{IsFit};
 ghost use Rattle.mas_types.specs.Limits.{members_most};
 ghost use Rattle.mas_types.specs.Step.{row_of};
+ghost use Rattle.queue_tables.specs.Orders.{HaveOrders};
 ghost use Rattle.queue_effect.specs.Standing.{Plays, IfRefused, AreFit};
 
 use crate::displays::display;
@@ -18,7 +19,8 @@ use mas_types::{Command, MemberId, NoMemory, Reply};
 use std::alloc::Global;
 
 /// Gives a command of a member: for each queue that the tables tell, they tell what the command leaves of it, and the
-/// reply is the command's. A refused command changes nothing, and neither does one for which there is no memory.
+/// reply is the command's. A refused command changes nothing, and neither does one for which there is no memory. Where no two jobs or
+/// outputs had one order, none have.
 ///
 /// The tables have their shape, their orders are below the next one, which is below 2^63 - 32, and what is busy is so at nobody
 /// or at one of at most eight members, as is the member itself. What the command carries is within the limits.
@@ -36,6 +38,7 @@ pub fn apply(
     ensures refused { IfOk result (λ reply. IfRefused reply (tables.new ≡ tables.old)) }
     ensures no_memory { OnErr result (tables.new ≡ tables.old) }
     ensures fits { AreFit tables.new }
+    ensures orders { HaveOrders tables.old → HaveOrders tables.new }
     ensures order { tables.new.order ≤ tables.old.order + 32 }
 {
     match command {

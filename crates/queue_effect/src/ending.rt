@@ -10,6 +10,7 @@ ghost use Rattle.mas_types.specs.Commands.Life.{ended_row, ended, with_outputs, 
 ghost use Rattle.track_groups.specs.Groups.{given};
 ghost use Rattle.job_queue.specs.Jobs.{HasJob};
 ghost use Rattle.ckpt_pages.specs.QueueOf.{used};
+ghost use Rattle.queue_tables.specs.Orders.{HaveOrders};
 ghost use Rattle.queue_tables.specs.Telling.{Tell};
 ghost use Rattle.queue_effect.specs.Standing.{Plays, IfRefused, AreFit, IsFitJob};
 
@@ -28,6 +29,7 @@ use track_groups::{law_of_giving, member_count};
 fn ended_record(job: &JobRec) -> JobRec
     ensures value { result ≡ record job.now { phase = if job.now.cancelled then Phase.Purge else Phase.Output; busy = nobody } }
     ensures fit { (n : ℕ) → IsFitJob n job.now → IsFitJob n result }
+    ensures same_order { result.order ≡ job.now.order }
 {
     JobRec {
         phase: purge_if(job.cancelled, Phase::Output),
@@ -71,6 +73,7 @@ fn add_output(tables: &mut Tables, by: MemberId, job: JobNo, index: OutNo, outpu
     ensures used { length (used tables.new.outputs) ≡ length (used tables.old.outputs) + 1 }
     ensures order { tables.new.order ≡ tables.old.order + 1 }
     ensures fits { AreFit tables.new }
+    ensures orders { HaveOrders tables.old → HaveOrders tables.new }
 {
     let order = tables.order;
     let Ok(()) = add(tables.outputs.as_mut_slice(), job, index, output, order) else {
@@ -96,6 +99,7 @@ fn add_outputs(tables: &mut Tables, by: MemberId, job: JobNo, first: u8, outputs
     ensures stands { (Q : Queue) → Tell tables.old Q → Tell tables.new (record Q { outputs = Q.outputs ++ new_outputs job first outputs.now; owners = given by (places_of_outputs job first outputs.now) Q.owners }) }
     ensures order { tables.new.order ≡ tables.old.order + length outputs.now }
     ensures fits { AreFit tables.new }
+    ensures orders { HaveOrders tables.old → HaveOrders tables.new }
 {
     let Some((output, rest)) = outputs.split_first() else {
         return;
@@ -123,6 +127,7 @@ fn end_with(
     ensures stands { (Q : Queue) → Tell tables.old Q → HasJob (has_number job) tables.old.jobs Q.jobs found.now.at found.now.item → Tell tables.new (with_outputs by job outputs.now (change_job job ended Q)) }
     ensures order { tables.new.order ≡ tables.old.order + length outputs.now }
     ensures fits { AreFit tables.new }
+    ensures orders { HaveOrders tables.old → HaveOrders tables.new }
 {
     law_of_giving();
     put_job(tables, found.at, ended_record(&found.item));
@@ -139,6 +144,7 @@ pub fn end_job(tables: &mut Tables, by: MemberId, job: JobNo, outputs: &List<Out
     ensures plays { Plays tables.old tables.new (λ Q. ended_row Q by job outputs.now) result }
     ensures refused { IfRefused result (tables.new ≡ tables.old) }
     ensures fits { AreFit tables.new }
+    ensures orders { HaveOrders tables.old → HaveOrders tables.new }
     ensures order { tables.new.order ≤ tables.old.order + 32 }
 {
     let found = match job_at_work(tables, by, job, Stage::Run) {

@@ -5,6 +5,7 @@ ghost use Rattle.mas_types.specs.Owners.{freed, is_members, taken, free_count, m
 ghost use Rattle.mas_types.specs.Queue.{is_of};
 ghost use Rattle.track_groups.specs.Groups.{is_things, first_places, given};
 ghost use Rattle.output_queue.specs.Outputs.{AreOutputs};
+ghost use Rattle.queue_tables.specs.Orders.{HaveOrders};
 ghost use Rattle.queue_effect.specs.Standing.{AreFit};
 
 use ckpt_pages::Tables;
@@ -17,6 +18,7 @@ use track_groups::{SpoolFull, free_member, free_thing, give_to, law_of_giving, t
 pub fn free_groups(tables: &mut Tables, thing: Thing)
     ensures value { tables.new ≡ record tables.old { owners = freed (is_things thing) tables.old.owners } }
     ensures fit { AreFit tables.old → AreFit tables.new }
+    ensures orders { HaveOrders tables.old → HaveOrders tables.new }
 {
     free_thing(tables.owners.as_mut_slice(), thing);
 }
@@ -25,6 +27,7 @@ pub fn free_groups(tables: &mut Tables, thing: Thing)
 pub fn free_members(tables: &mut Tables, by: MemberId)
     ensures value { tables.new ≡ record tables.old { owners = freed (is_members by) tables.old.owners } }
     ensures fit { AreFit tables.old → AreFit tables.new }
+    ensures orders { HaveOrders tables.old → HaveOrders tables.new }
 {
     free_member(tables.owners.as_mut_slice(), by);
 }
@@ -37,6 +40,7 @@ pub fn take_groups(tables: &mut Tables, by: MemberId, want: u32) -> Result<u32, 
     ensures full { OnErr result ((free_count tables.old.owners == 0) ≡ true) }
     ensures unchanged { OnErr result (tables.new ≡ tables.old) }
     ensures fit { AreFit tables.old → AreFit tables.new }
+    ensures orders { HaveOrders tables.old → HaveOrders tables.new }
 {
     take(tables.owners.as_mut_slice(), by, want)
 }
@@ -48,6 +52,7 @@ pub fn give_groups(tables: &mut Tables, by: MemberId, thing: Thing, count: u32)
     ensures value { tables.new ≡ record tables.old { owners = given by (first_places thing count) tables.old.owners } }
     ensures left { member_count by tables.new.owners + count ≡ member_count by tables.old.owners }
     ensures fit { AreFit tables.old → AreFit tables.new }
+    ensures orders { HaveOrders tables.old → HaveOrders tables.new }
 {
     give_to(tables.owners.as_mut_slice(), by, thing, count);
 }
@@ -58,6 +63,7 @@ pub fn hand_out(tables: &mut Tables, by: MemberId, thing: Thing, count: u32)
     requires room { count ≤ member_count by tables.old.owners }
     ensures value { tables.new ≡ record tables.old { owners = handed_out by (first_places thing count) tables.old.owners } }
     ensures fit { AreFit tables.old → AreFit tables.new }
+    ensures orders { HaveOrders tables.old → HaveOrders tables.new }
 {
     law_of_giving();
     give_groups(tables, by, thing, count);
@@ -94,6 +100,7 @@ fn free_owners(owners: &mut [Owner], outputs: &[Option<OutRec>], job: JobNo)
 pub fn free_prints(tables: &mut Tables, job: JobNo)
     ensures value { (os : List Output) → AreOutputs tables.old.outputs os → tables.new ≡ record tables.old { owners = freed (is_of_any (filter (is_of job) os)) tables.old.owners } }
     ensures fit { AreFit tables.old → AreFit tables.new }
+    ensures orders { HaveOrders tables.old → HaveOrders tables.new }
     ensures jobs { tables.new.jobs ≡ tables.old.jobs }
     ensures order { tables.new.order ≡ tables.old.order }
 {

@@ -11,6 +11,7 @@ ghost use Rattle.mas_types.specs.Owners.{groups_needed as groups_needed_lem, mem
 ghost use Rattle.mas_types.specs.Queue.{has_number, knows_node as knows_node_lem};
 ghost use Rattle.mas_types.specs.Commands.Input.{begun, begin_row, take_row, drop_row, enter_row, entered, not_entered};
 ghost use Rattle.job_queue.specs.Jobs.{HasJob};
+ghost use Rattle.queue_tables.specs.Orders.{HaveOrders};
 ghost use Rattle.queue_tables.specs.Telling.{Tell};
 ghost use Rattle.queue_effect.specs.Standing.{Plays, IfRefused, AreFit, IsFitJob};
 
@@ -49,6 +50,7 @@ fn add_job(tables: &mut Tables, by: MemberId, fields: &JobFields) -> Result<JobN
     ensures unchanged { OnErr result (tables.new ≡ tables.old) }
     ensures order { OnOk result (tables.new.order ≡ tables.old.order + 1) }
     ensures fits { OnOk result (AreFit tables.new) }
+    ensures orders { OnOk result (HaveOrders tables.old → HaveOrders tables.new) }
 {
     let job = add(
         tables.jobs.as_mut_slice(),
@@ -70,6 +72,7 @@ pub fn begin(tables: &mut Tables, by: MemberId, fields: &JobFields) -> Reply
     ensures plays { Plays tables.old tables.new (λ Q. begin_row Q by fields.now) result }
     ensures refused { IfRefused result (tables.new ≡ tables.old) }
     ensures fits { AreFit tables.new }
+    ensures orders { HaveOrders tables.old → HaveOrders tables.new }
     ensures order { tables.new.order ≤ tables.old.order + 1 }
 {
     if !knows_node(tables, &fields.node) {
@@ -86,6 +89,7 @@ pub fn take(tables: &mut Tables, by: MemberId, want: u32) -> Reply
     ensures plays { Plays tables.old tables.new (λ Q. take_row Q by want) result }
     ensures refused { IfRefused result (tables.new ≡ tables.old) }
     ensures fit { AreFit tables.old → AreFit tables.new }
+    ensures orders { HaveOrders tables.old → HaveOrders tables.new }
     ensures order { tables.new.order ≡ tables.old.order }
 {
     match take_groups(tables, by, want) {
@@ -99,6 +103,7 @@ pub fn drop_job(tables: &mut Tables, by: MemberId, job: JobNo) -> Reply
     ensures plays { Plays tables.old tables.new (λ Q. drop_row Q by job) result }
     ensures refused { IfRefused result (tables.new ≡ tables.old) }
     ensures fit { AreFit tables.old → AreFit tables.new }
+    ensures orders { HaveOrders tables.old → HaveOrders tables.new }
     ensures order { tables.new.order ≡ tables.old.order }
 {
     if job.0 == 0 {
@@ -131,6 +136,7 @@ fn entered_record(node: &Name8, job: &JobRec, text: &Lines) -> JobRec
     requires { AreLines text.now }
     ensures value { result ≡ record job.now { phase = if job.now.cancelled then Phase.Purge else (if same_name_lem job.now.fields.node node.now then Phase.Convert else Phase.Xmit); busy = nobody; cards = length text.now } }
     ensures fit { (n : ℕ) → IsFitJob n job.now → IsFitJob n result }
+    ensures same_order { result.order ≡ job.now.order }
 {
     JobRec {
         phase: phase_entered(node, job),
@@ -169,6 +175,7 @@ pub fn enter_job(tables: &mut Tables, found: &Found<JobRec>, by: MemberId, job: 
     requires room { groups_needed_lem text.now ≤ member_count_lem by tables.old.owners }
     ensures stands { (Q : Queue) → Tell tables.old Q → HasJob (has_number job) tables.old.jobs Q.jobs found.now.at found.now.item → Tell tables.new (entered by job text.now Q) }
     ensures fit { AreFit tables.old → AreFit tables.new }
+    ensures orders { HaveOrders tables.old → HaveOrders tables.new }
     ensures order { tables.new.order ≡ tables.old.order }
     ensures lines { tables.new.lines ≡ tables.old.lines }
 {
@@ -184,6 +191,7 @@ pub fn enter(tables: &mut Tables, by: MemberId, job: JobNo, text: &Lines) -> Rep
     ensures plays { Plays tables.old tables.new (λ Q. enter_row Q by job text.now) result }
     ensures refused { IfRefused result (tables.new ≡ tables.old) }
     ensures fits { AreFit tables.new }
+    ensures orders { HaveOrders tables.old → HaveOrders tables.new }
     ensures order { tables.new.order ≡ tables.old.order }
 {
     match entering(tables, by, job, text) {

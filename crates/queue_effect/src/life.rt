@@ -7,6 +7,7 @@ ghost use Rattle.mas_types.specs.Queue.{is_in, first_in as first_in_lem, has_out
 ghost use Rattle.mas_types.specs.Selection.{is_for_convert, for_convert as for_convert_lem, is_for_execute, for_execute as for_execute_lem};
 ghost use Rattle.mas_types.specs.Commands.Life.{take_convert_row, take_exec_row, converted_row, gather_row, purge_row};
 ghost use Rattle.job_queue.specs.Jobs.{HasJob, in_phase};
+ghost use Rattle.queue_tables.specs.Orders.{HaveOrders};
 ghost use Rattle.queue_tables.specs.Telling.{Tell};
 ghost use Rattle.queue_effect.specs.Standing.{Plays, IfRefused, AreFit, IsFitJob};
 
@@ -50,6 +51,7 @@ fn first_job_in(tables: &Tables, phase: Phase) -> Option<Found<JobRec>>
 fn busy_at(job: &JobRec, by: MemberId) -> JobRec
     ensures value { result ≡ record job.now { busy = by } }
     ensures fit { (n : ℕ) → by.0 ≤ members_most → IsFitJob n job.now → IsFitJob n result }
+    ensures same_order { result.order ≡ job.now.order }
 {
     JobRec { busy: by, ..*job }
 }
@@ -58,6 +60,7 @@ fn busy_at(job: &JobRec, by: MemberId) -> JobRec
 pub fn in_phase_of(job: &JobRec, phase: Phase) -> JobRec
     ensures value { result ≡ record job.now { phase = phase } }
     ensures fit { (n : ℕ) → IsFitJob n job.now → IsFitJob n result }
+    ensures same_order { result.order ≡ job.now.order }
 {
     JobRec { phase, ..*job }
 }
@@ -68,6 +71,7 @@ pub fn take_convert(tables: &mut Tables, by: MemberId) -> Reply
     ensures plays { Plays tables.old tables.new (λ Q. take_convert_row Q by) result }
     ensures refused { IfRefused result (tables.new ≡ tables.old) }
     ensures fit { AreFit tables.old → AreFit tables.new }
+    ensures orders { HaveOrders tables.old → HaveOrders tables.new }
     ensures order { tables.new.order ≡ tables.old.order }
 {
     let Some(found) = for_convert(tables) else {
@@ -83,6 +87,7 @@ pub fn take_exec(tables: &mut Tables, by: MemberId) -> Reply
     ensures plays { Plays tables.old tables.new (λ Q. take_exec_row Q by) result }
     ensures refused { IfRefused result (tables.new ≡ tables.old) }
     ensures fit { AreFit tables.old → AreFit tables.new }
+    ensures orders { HaveOrders tables.old → HaveOrders tables.new }
     ensures order { tables.new.order ≡ tables.old.order }
 {
     let Some(found) = for_execute(tables, by) else {
@@ -107,6 +112,7 @@ pub fn gather(tables: &mut Tables) -> Reply
     ensures plays { Plays tables.old tables.new gather_row result }
     ensures refused { IfRefused result (tables.new ≡ tables.old) }
     ensures fit { AreFit tables.old → AreFit tables.new }
+    ensures orders { HaveOrders tables.old → HaveOrders tables.new }
     ensures order { tables.new.order ≡ tables.old.order }
 {
     let Some(found) = first_job_in(tables, Phase::Output) else {
@@ -122,6 +128,7 @@ pub fn purge(tables: &mut Tables) -> Reply
     ensures plays { Plays tables.old tables.new purge_row result }
     ensures refused { IfRefused result (tables.new ≡ tables.old) }
     ensures fit { AreFit tables.old → AreFit tables.new }
+    ensures orders { HaveOrders tables.old → HaveOrders tables.new }
     ensures order { tables.new.order ≡ tables.old.order }
 {
     let Some(found) = first_job_in(tables, Phase::Purge) else {
@@ -135,6 +142,7 @@ pub fn purge(tables: &mut Tables) -> Reply
 fn converted_record(job: &JobRec) -> JobRec
     ensures value { result ≡ record job.now { phase = if job.now.cancelled then Phase.Purge else Phase.Execute; busy = nobody } }
     ensures fit { (n : ℕ) → IsFitJob n job.now → IsFitJob n result }
+    ensures same_order { result.order ≡ job.now.order }
 {
     JobRec {
         phase: purge_if(job.cancelled, Phase::Execute),
@@ -148,6 +156,7 @@ pub fn converted(tables: &mut Tables, by: MemberId, job: JobNo) -> Reply
     ensures plays { Plays tables.old tables.new (λ Q. converted_row Q by job) result }
     ensures refused { IfRefused result (tables.new ≡ tables.old) }
     ensures fit { AreFit tables.old → AreFit tables.new }
+    ensures orders { HaveOrders tables.old → HaveOrders tables.new }
     ensures order { tables.new.order ≡ tables.old.order }
 {
     match job_at_work(tables, by, job, Stage::Convert) {

@@ -7,6 +7,7 @@ ghost use Rattle.mas_types.specs.Queue.{setting_of, has_number, has_key, prints_
 ghost use Rattle.mas_types.specs.Queue.{printing_at as printing_at_lem};
 ghost use Rattle.job_queue.specs.Jobs.{HasJob};
 ghost use Rattle.output_queue.specs.Outputs.{HasOutput};
+ghost use Rattle.queue_tables.specs.Orders.{HaveOrders};
 ghost use Rattle.queue_tables.specs.Telling.{Tell};
 ghost use Rattle.queue_effect.specs.Standing.{AreFit, IsFitJob, IsFitOutput};
 
@@ -86,6 +87,7 @@ pub fn put_job(tables: &mut Tables, at: usize, job: JobRec)
     requires { at < length tables.old.jobs }
     ensures value { tables.new ≡ record tables.old { jobs = slice_set tables.old.jobs at (Some job) } }
     ensures fit { (x : JobRec) → slice_get tables.old.jobs at ≡ Some (Some x) → (IsFitJob tables.old.order x → IsFitJob tables.old.order job) → AreFit tables.old → AreFit tables.new }
+    ensures orders { (x : JobRec) → slice_get tables.old.jobs at ≡ Some (Some x) → job.order ≡ x.order → HaveOrders tables.old → HaveOrders tables.new }
 {
     *tables.jobs.item_mut(at) = Some(job);
 }
@@ -95,6 +97,7 @@ pub fn take_job(tables: &mut Tables, at: usize)
     requires { at < length tables.old.jobs }
     ensures value { tables.new ≡ record tables.old { jobs = slice_set tables.old.jobs at None } }
     ensures fit { AreFit tables.old → AreFit tables.new }
+    ensures orders { HaveOrders tables.old → HaveOrders tables.new }
 {
     *tables.jobs.item_mut(at) = None;
 }
@@ -104,6 +107,7 @@ pub fn put_output(tables: &mut Tables, at: usize, output: OutRec)
     requires { at < length tables.old.outputs }
     ensures value { tables.new ≡ record tables.old { outputs = slice_set tables.old.outputs at (Some output) } }
     ensures fit { (x : OutRec) → slice_get tables.old.outputs at ≡ Some (Some x) → (IsFitOutput tables.old.order x → IsFitOutput tables.old.order output) → AreFit tables.old → AreFit tables.new }
+    ensures orders { (x : OutRec) → slice_get tables.old.outputs at ≡ Some (Some x) → output.order ≡ x.order → HaveOrders tables.old → HaveOrders tables.new }
 {
     *tables.outputs.item_mut(at) = Some(output);
 }
@@ -113,6 +117,7 @@ pub fn take_output(tables: &mut Tables, at: usize)
     requires { at < length tables.old.outputs }
     ensures value { tables.new ≡ record tables.old { outputs = slice_set tables.old.outputs at None } }
     ensures fit { AreFit tables.old → AreFit tables.new }
+    ensures orders { HaveOrders tables.old → HaveOrders tables.new }
 {
     *tables.outputs.item_mut(at) = None;
 }

@@ -8,6 +8,7 @@ ghost use Rattle.mas_types.specs.Reset.{reset as reset_lem, phase_reset as phase
 ghost use Rattle.mas_types.specs.Commands.Members.{set_init_row, set_prt_row, reset_row, restart_row};
 ghost use Rattle.queue_effect.specs.Resets.{is_one_of as is_one_of_lem, job_reset, output_reset};
 ghost use Rattle.queue_effect.specs.Slots.{changed_where, setting_changed};
+ghost use Rattle.queue_tables.specs.Orders.{HaveOrders};
 ghost use Rattle.queue_tables.specs.Telling.{Tell};
 ghost use Rattle.queue_effect.specs.Standing.{Plays, IfRefused, AreFit};
 
@@ -20,6 +21,7 @@ fn put_init_at(tables: &mut Tables, at: usize, init: List<Class>)
     requires { AreClasses init }
     ensures value { tables.new ≡ record tables.old { members = change_at at (λ s. record s { init = init }) tables.old.members } }
     ensures fit { AreFit tables.old → AreFit tables.new }
+    ensures orders { HaveOrders tables.old → HaveOrders tables.new }
 {
     if at >= tables.members.len() {
         return;
@@ -31,6 +33,7 @@ fn put_init(tables: &mut Tables, by: MemberId, init: List<Class>)
     requires { AreClasses init }
     ensures value { tables.new ≡ record tables.old { members = setting_changed by (λ s. record s { init = init }) tables.old.members } }
     ensures fit { AreFit tables.old → AreFit tables.new }
+    ensures orders { HaveOrders tables.old → HaveOrders tables.new }
 {
     if by.0 == 0 {
         return;
@@ -50,6 +53,7 @@ pub fn set_init(
     ensures refused { IfOk result (λ reply. IfRefused reply (tables.new ≡ tables.old)) }
     ensures unchanged { OnErr result (tables.new ≡ tables.old) }
     ensures fit { AreFit tables.old → AreFit tables.new }
+    ensures orders { HaveOrders tables.old → HaveOrders tables.new }
     ensures order { tables.new.order ≡ tables.old.order }
 {
     let init = classes.copy(alloc)?;
@@ -63,6 +67,7 @@ fn put_prt_at(tables: &mut Tables, at: usize, prt: List<Class>, forms: Name8, li
     requires lines { ArePrinterLines lines }
     ensures value { tables.new ≡ record tables.old { members = change_at at (λ s. record s { prt = prt; forms = forms; lines = lines }) tables.old.members } }
     ensures fit { AreFit tables.old → AreFit tables.new }
+    ensures orders { HaveOrders tables.old → HaveOrders tables.new }
 {
     if at >= tables.members.len() {
         return;
@@ -79,6 +84,7 @@ fn put_prt(tables: &mut Tables, by: MemberId, prt: List<Class>, forms: Name8, li
     requires lines { ArePrinterLines lines }
     ensures value { tables.new ≡ record tables.old { members = setting_changed by (λ s. record s { prt = prt; forms = forms; lines = lines }) tables.old.members } }
     ensures fit { AreFit tables.old → AreFit tables.new }
+    ensures orders { HaveOrders tables.old → HaveOrders tables.new }
 {
     if by.0 == 0 {
         return;
@@ -102,6 +108,7 @@ pub fn set_prt(
     ensures refused { IfOk result (λ reply. IfRefused reply (tables.new ≡ tables.old)) }
     ensures unchanged { OnErr result (tables.new ≡ tables.old) }
     ensures fit { AreFit tables.old → AreFit tables.new }
+    ensures orders { HaveOrders tables.old → HaveOrders tables.new }
     ensures order { tables.new.order ≡ tables.old.order }
 {
     let prt = classes.copy(alloc)?;
@@ -206,6 +213,7 @@ fn reset_owner_list(owners: &mut [Owner], who: Who)
 fn reset_jobs(tables: &mut Tables, who: Who)
     ensures value { tables.new ≡ record tables.old { jobs = map (changed_where (λ r. is_one_of_lem who r.busy) job_reset) tables.old.jobs } }
     ensures fit { AreFit tables.old → AreFit tables.new }
+    ensures orders { HaveOrders tables.old → HaveOrders tables.new }
 {
     reset_job_slots(tables.jobs.as_mut_slice(), who);
 }
@@ -213,6 +221,7 @@ fn reset_jobs(tables: &mut Tables, who: Who)
 fn reset_outputs(tables: &mut Tables, who: Who)
     ensures value { tables.new ≡ record tables.old { outputs = map (changed_where (λ r. is_one_of_lem who r.busy) output_reset) tables.old.outputs } }
     ensures fit { AreFit tables.old → AreFit tables.new }
+    ensures orders { HaveOrders tables.old → HaveOrders tables.new }
 {
     reset_output_slots(tables.outputs.as_mut_slice(), who);
 }
@@ -220,6 +229,7 @@ fn reset_outputs(tables: &mut Tables, who: Who)
 fn reset_owners(tables: &mut Tables, who: Who)
     ensures value { tables.new ≡ record tables.old { owners = freed (is_held_by (is_one_of_lem who)) tables.old.owners } }
     ensures fit { AreFit tables.old → AreFit tables.new }
+    ensures orders { HaveOrders tables.old → HaveOrders tables.new }
 {
     reset_owner_list(tables.owners.as_mut_slice(), who);
 }
@@ -228,6 +238,7 @@ fn reset_owners(tables: &mut Tables, who: Who)
 fn reset_members(tables: &mut Tables, who: Who)
     ensures stands { (Q : Queue) → Tell tables.old Q → Tell tables.new (reset_lem (is_one_of_lem who) Q) }
     ensures fit { AreFit tables.old → AreFit tables.new }
+    ensures orders { HaveOrders tables.old → HaveOrders tables.new }
     ensures order { tables.new.order ≡ tables.old.order }
 {
     reset_jobs(tables, who);
@@ -240,6 +251,7 @@ pub fn reset(tables: &mut Tables, of: MemberId) -> Reply
     ensures plays { Plays tables.old tables.new (λ Q. reset_row Q of) result }
     ensures refused { IfRefused result (tables.new ≡ tables.old) }
     ensures fit { AreFit tables.old → AreFit tables.new }
+    ensures orders { HaveOrders tables.old → HaveOrders tables.new }
     ensures order { tables.new.order ≡ tables.old.order }
 {
     if !is_one_of(Who::Every(tables.config.members), of) {
@@ -254,6 +266,7 @@ pub fn restart(tables: &mut Tables) -> Reply
     ensures plays { Plays tables.old tables.new restart_row result }
     ensures refused { IfRefused result (tables.new ≡ tables.old) }
     ensures fit { AreFit tables.old → AreFit tables.new }
+    ensures orders { HaveOrders tables.old → HaveOrders tables.new }
     ensures order { tables.new.order ≡ tables.old.order }
 {
     reset_members(tables, Who::Every(tables.config.members));

@@ -9,6 +9,7 @@ ghost use Rattle.std.specs.List.{list_any};
 ghost use Rattle.mas_types.specs.Commands.Operator.{held_row, set_prio_row, set_class_row, set_out_row, cancel_row, out_row, is_held_of, released as released_lem, printing_elsewhere as printing_elsewhere_lem, without_outputs_of, has_yet_to_run as has_yet_to_run_lem};
 ghost use Rattle.output_queue.specs.Outputs.{HasOutput};
 ghost use Rattle.queue_effect.specs.Slots.{emptied_where, changed_where};
+ghost use Rattle.queue_tables.specs.Orders.{HaveOrders};
 ghost use Rattle.queue_tables.specs.Telling.{Tell};
 ghost use Rattle.queue_effect.specs.Standing.{Plays, IfRefused, AreFit, IsFitJob, IsFitOutput};
 
@@ -25,6 +26,7 @@ use queue_slots::Found;
 fn with_held(job: &JobRec, held: bool) -> JobRec
     ensures value { result ≡ record job.now { fields = record job.now.fields { held = held } } }
     ensures fit { (n : ℕ) → IsFitJob n job.now → IsFitJob n result }
+    ensures same_order { result.order ≡ job.now.order }
 {
     JobRec {
         fields: JobFields { held, ..job.fields },
@@ -37,6 +39,7 @@ pub fn set_held(tables: &mut Tables, job: JobNo, held: bool) -> Reply
     ensures plays { Plays tables.old tables.new (λ Q. held_row Q job held) result }
     ensures refused { IfRefused result (tables.new ≡ tables.old) }
     ensures fit { AreFit tables.old → AreFit tables.new }
+    ensures orders { HaveOrders tables.old → HaveOrders tables.new }
     ensures order { tables.new.order ≡ tables.old.order }
 {
     let Some(found) = job_at(tables, job) else {
@@ -49,6 +52,7 @@ pub fn set_held(tables: &mut Tables, job: JobNo, held: bool) -> Reply
 fn with_prio(job: &JobRec, prio: Prio) -> JobRec
     ensures value { result ≡ record job.now { fields = record job.now.fields { prio = prio } } }
     ensures fit { (n : ℕ) → IsFitJob n job.now → IsFitJob n result }
+    ensures same_order { result.order ≡ job.now.order }
 {
     JobRec {
         fields: JobFields { prio, ..job.fields },
@@ -61,6 +65,7 @@ pub fn set_prio(tables: &mut Tables, job: JobNo, prio: Prio) -> Reply
     ensures plays { Plays tables.old tables.new (λ Q. set_prio_row Q job prio) result }
     ensures refused { IfRefused result (tables.new ≡ tables.old) }
     ensures fit { AreFit tables.old → AreFit tables.new }
+    ensures orders { HaveOrders tables.old → HaveOrders tables.new }
     ensures order { tables.new.order ≡ tables.old.order }
 {
     let Some(found) = job_at(tables, job) else {
@@ -82,6 +87,7 @@ fn has_yet_to_run(phase: Phase) -> bool
 fn with_class(job: &JobRec, class: Class) -> JobRec
     ensures value { result ≡ record job.now { fields = record job.now.fields { class = class } } }
     ensures fit { (n : ℕ) → IsFitJob n job.now → IsFitJob n result }
+    ensures same_order { result.order ≡ job.now.order }
 {
     JobRec {
         fields: JobFields {
@@ -97,6 +103,7 @@ pub fn set_class(tables: &mut Tables, job: JobNo, class: Class) -> Reply
     ensures plays { Plays tables.old tables.new (λ Q. set_class_row Q job class) result }
     ensures refused { IfRefused result (tables.new ≡ tables.old) }
     ensures fit { AreFit tables.old → AreFit tables.new }
+    ensures orders { HaveOrders tables.old → HaveOrders tables.new }
     ensures order { tables.new.order ≡ tables.old.order }
 {
     let Some(found) = job_at(tables, job) else {
@@ -112,6 +119,7 @@ pub fn set_class(tables: &mut Tables, job: JobNo, class: Class) -> Reply
 fn with_out_class(output: &OutRec, class: Class) -> OutRec
     ensures value { result ≡ record output.now { class = class } }
     ensures fit { (n : ℕ) → IsFitOutput n output.now → IsFitOutput n result }
+    ensures same_order { result.order ≡ output.now.order }
 {
     OutRec { class, ..*output }
 }
@@ -121,6 +129,7 @@ pub fn set_out(tables: &mut Tables, by: MemberId, job: JobNo, index: OutNo, clas
     ensures plays { Plays tables.old tables.new (λ Q. set_out_row Q by job index class) result }
     ensures refused { IfRefused result (tables.new ≡ tables.old) }
     ensures fit { AreFit tables.old → AreFit tables.new }
+    ensures orders { HaveOrders tables.old → HaveOrders tables.new }
     ensures order { tables.new.order ≡ tables.old.order }
 {
     let Some(found) = output_at(tables, job, index) else {
@@ -136,6 +145,7 @@ pub fn set_out(tables: &mut Tables, by: MemberId, job: JobNo, index: OutNo, clas
 fn cancelled(job: &JobRec) -> JobRec
     ensures value { result ≡ record job.now { cancelled = Bool.true } }
     ensures fit { (n : ℕ) → IsFitJob n job.now → IsFitJob n result }
+    ensures same_order { result.order ≡ job.now.order }
 {
     JobRec {
         cancelled: true,
@@ -169,6 +179,7 @@ fn empty_slots(outputs: &mut [Option<OutRec>], job: JobNo)
 fn empty_outputs(tables: &mut Tables, job: JobNo)
     ensures value { tables.new ≡ record tables.old { outputs = map (emptied_where (λ r. same_number r.job job)) tables.old.outputs } }
     ensures fit { AreFit tables.old → AreFit tables.new }
+    ensures orders { HaveOrders tables.old → HaveOrders tables.new }
 {
     empty_slots(tables.outputs.as_mut_slice(), job);
 }
@@ -178,6 +189,7 @@ fn drop_outputs(tables: &mut Tables, job: JobNo)
     ensures stands { (Q : Queue) → Tell tables.old Q → Tell tables.new (without_outputs_of job Q) }
     ensures jobs { tables.new.jobs ≡ tables.old.jobs }
     ensures fit { AreFit tables.old → AreFit tables.new }
+    ensures orders { HaveOrders tables.old → HaveOrders tables.new }
     ensures order { tables.new.order ≡ tables.old.order }
 {
     free_prints(tables, job);
@@ -197,6 +209,7 @@ pub fn cancel(tables: &mut Tables, by: MemberId, job: JobNo) -> Reply
     ensures plays { Plays tables.old tables.new (λ Q. cancel_row Q by job) result }
     ensures refused { IfRefused result (tables.new ≡ tables.old) }
     ensures fit { AreFit tables.old → AreFit tables.new }
+    ensures orders { HaveOrders tables.old → HaveOrders tables.new }
     ensures order { tables.new.order ≡ tables.old.order }
 {
     let Some(found) = job_at(tables, job) else {
@@ -275,6 +288,7 @@ fn release_outputs(tables: &mut Tables, job: JobNo)
     ensures value { tables.new ≡ record tables.old { outputs = map (changed_where (λ r. same_number r.job job && r.held) (λ r. record r { held = Bool.false })) tables.old.outputs } }
     ensures stands { (Q : Queue) → Tell tables.old Q → Tell tables.new (record Q { outputs = change (is_held_of job) released_lem Q.outputs }) }
     ensures fit { AreFit tables.old → AreFit tables.new }
+    ensures orders { HaveOrders tables.old → HaveOrders tables.new }
 {
     release_slots(tables.outputs.as_mut_slice(), job);
 }
@@ -285,6 +299,7 @@ pub fn out(tables: &mut Tables, job: JobNo) -> Reply
     ensures plays { Plays tables.old tables.new (λ Q. out_row Q job) result }
     ensures refused { IfRefused result (tables.new ≡ tables.old) }
     ensures fits { AreFit tables.new }
+    ensures orders { HaveOrders tables.old → HaveOrders tables.new }
     ensures order { tables.new.order ≡ tables.old.order }
 {
     let Some(_found) = job_at(tables, job) else {

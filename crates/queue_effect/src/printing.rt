@@ -8,6 +8,7 @@ ghost use Rattle.mas_types.specs.Selection.{is_for_printer, for_printer as for_p
 ghost use Rattle.mas_types.specs.Commands.Printing.{pick_row, mark_row, done_row, back_row, forward_row, output_gone, with_job_over};
 ghost use Rattle.mas_types.specs.Commands.Operator.{cancel_out_row};
 ghost use Rattle.output_queue.specs.Outputs.{HasOutput};
+ghost use Rattle.queue_tables.specs.Orders.{HaveOrders};
 ghost use Rattle.queue_tables.specs.Telling.{Tell};
 ghost use Rattle.queue_effect.specs.Standing.{Plays, IfRefused, AreFit, IsFitOutput};
 
@@ -41,6 +42,7 @@ fn for_printer(tables: &Tables, by: MemberId) -> Option<Found<OutRec>>
 fn busy_at(output: &OutRec, by: MemberId) -> OutRec
     ensures value { result ≡ record output.now { busy = by } }
     ensures fit { (n : ℕ) → by.0 ≤ members_most → IsFitOutput n output.now → IsFitOutput n result }
+    ensures same_order { result.order ≡ output.now.order }
 {
     OutRec {
         busy: by,
@@ -54,6 +56,7 @@ pub fn pick(tables: &mut Tables, by: MemberId) -> Reply
     ensures plays { Plays tables.old tables.new (λ Q. pick_row Q by) result }
     ensures refused { IfRefused result (tables.new ≡ tables.old) }
     ensures fit { AreFit tables.old → AreFit tables.new }
+    ensures orders { HaveOrders tables.old → HaveOrders tables.new }
     ensures order { tables.new.order ≡ tables.old.order }
 {
     if let Some(_other) = printing_at(tables, by) {
@@ -75,6 +78,7 @@ fn total(output: &OutRec) -> u32
 fn marked(output: &OutRec, mark: u32) -> OutRec
     ensures value { result ≡ record output.now { mark = mark } }
     ensures fit { (n : ℕ) → IsFitOutput n output.now → IsFitOutput n result }
+    ensures same_order { result.order ≡ output.now.order }
 {
     OutRec { mark, ..*output }
 }
@@ -84,6 +88,7 @@ pub fn mark(tables: &mut Tables, by: MemberId, job: JobNo, index: OutNo, at: u32
     ensures plays { Plays tables.old tables.new (λ Q. mark_row Q by job index at) result }
     ensures refused { IfRefused result (tables.new ≡ tables.old) }
     ensures fit { AreFit tables.old → AreFit tables.new }
+    ensures orders { HaveOrders tables.old → HaveOrders tables.new }
     ensures order { tables.new.order ≡ tables.old.order }
 {
     let Some(found) = output_at(tables, job, index) else {
@@ -102,6 +107,7 @@ pub fn back(tables: &mut Tables, by: MemberId, lines: u32) -> Reply
     ensures plays { Plays tables.old tables.new (λ Q. back_row Q by lines) result }
     ensures refused { IfRefused result (tables.new ≡ tables.old) }
     ensures fit { AreFit tables.old → AreFit tables.new }
+    ensures orders { HaveOrders tables.old → HaveOrders tables.new }
     ensures order { tables.new.order ≡ tables.old.order }
 {
     let Some(found) = printing_at(tables, by) else {
@@ -117,6 +123,7 @@ pub fn set_forward(tables: &mut Tables, by: MemberId, lines: u32) -> Reply
     ensures plays { Plays tables.old tables.new (λ Q. forward_row Q by lines) result }
     ensures refused { IfRefused result (tables.new ≡ tables.old) }
     ensures fit { AreFit tables.old → AreFit tables.new }
+    ensures orders { HaveOrders tables.old → HaveOrders tables.new }
     ensures order { tables.new.order ≡ tables.old.order }
 {
     let Some(found) = printing_at(tables, by) else {
@@ -141,6 +148,7 @@ fn phase_over(tables: &Tables, job: &JobRec) -> Phase
 fn close_job(tables: &mut Tables, job: JobNo)
     ensures stands { (Q : Queue) → Tell tables.old Q → Tell tables.new (with_job_over job Q) }
     ensures fit { AreFit tables.old → AreFit tables.new }
+    ensures orders { HaveOrders tables.old → HaveOrders tables.new }
     ensures order { tables.new.order ≡ tables.old.order }
 {
     let Some(found) = job_at(tables, job) else {
@@ -155,6 +163,7 @@ fn remove_output(tables: &mut Tables, found: &Found<OutRec>, job: JobNo, index: 
     requires { slice_get tables.old.outputs found.now.at ≡ Some (Some found.now.item) }
     ensures stands { (Q : Queue) → Tell tables.old Q → HasOutput (has_key job index) tables.old.outputs Q.outputs found.now.at found.now.item → Tell tables.new (output_gone job index Q) }
     ensures fit { AreFit tables.old → AreFit tables.new }
+    ensures orders { HaveOrders tables.old → HaveOrders tables.new }
     ensures order { tables.new.order ≡ tables.old.order }
 {
     take_output(tables, found.at);
@@ -167,6 +176,7 @@ pub fn finish(tables: &mut Tables, by: MemberId, job: JobNo, index: OutNo) -> Re
     ensures plays { Plays tables.old tables.new (λ Q. done_row Q by job index) result }
     ensures refused { IfRefused result (tables.new ≡ tables.old) }
     ensures fit { AreFit tables.old → AreFit tables.new }
+    ensures orders { HaveOrders tables.old → HaveOrders tables.new }
     ensures order { tables.new.order ≡ tables.old.order }
 {
     let Some(found) = output_at(tables, job, index) else {
@@ -194,6 +204,7 @@ pub fn cancel_out(tables: &mut Tables, by: MemberId, job: JobNo, index: OutNo) -
     ensures plays { Plays tables.old tables.new (λ Q. cancel_out_row Q by job index) result }
     ensures refused { IfRefused result (tables.new ≡ tables.old) }
     ensures fit { AreFit tables.old → AreFit tables.new }
+    ensures orders { HaveOrders tables.old → HaveOrders tables.new }
     ensures order { tables.new.order ≡ tables.old.order }
 {
     let Some(found) = output_at(tables, job, index) else {

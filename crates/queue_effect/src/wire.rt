@@ -10,6 +10,7 @@ ghost use Rattle.mas_types.specs.Selection.{is_for_wire, for_wire as for_wire_le
 ghost use Rattle.mas_types.specs.Commands.Wire.{load_row, sent_row, got_row, either, again, gap, sent_on, got_on};
 ghost use Rattle.job_queue.specs.Jobs.{AreJobs, HasJob};
 ghost use Rattle.queue_effect.specs.Slots.{count_changed};
+ghost use Rattle.queue_tables.specs.Orders.{HaveOrders};
 ghost use Rattle.queue_tables.specs.Telling.{Tell};
 ghost use Rattle.queue_effect.specs.Standing.{Plays, IfRefused, AreFit};
 
@@ -130,6 +131,7 @@ fn put_current(tables: &mut Tables, line: u8, job: JobNo)
     requires within { line ≤ length tables.old.lines }
     ensures value { tables.new ≡ record tables.old { lines = count_changed line (λ count. record count { current = job }) tables.old.lines } }
     ensures fit { AreFit tables.old → AreFit tables.new }
+    ensures orders { HaveOrders tables.old → HaveOrders tables.new }
 {
     tables.lines.item_mut(line as usize - 1).current = job;
 }
@@ -141,6 +143,7 @@ pub fn load(tables: &mut Tables, line: u8) -> Reply
     ensures plays { Plays tables.old tables.new (λ Q. load_row Q line) result }
     ensures refused { IfRefused result (tables.new ≡ tables.old) }
     ensures fits { AreFit tables.new }
+    ensures orders { HaveOrders tables.old → HaveOrders tables.new }
     ensures order { tables.new.order ≡ tables.old.order }
 {
     let Some(job) = loaded(tables, line) else {
@@ -186,6 +189,7 @@ fn put_sent(tables: &mut Tables, line: u8, number: u32)
     requires within { line ≤ length tables.old.lines }
     ensures value { tables.new ≡ record tables.old { lines = count_changed line (λ count. record count { sent = number; current = no_number }) tables.old.lines } }
     ensures fit { AreFit tables.old → AreFit tables.new }
+    ensures orders { HaveOrders tables.old → HaveOrders tables.new }
 {
     let count = tables.lines.item_mut(line as usize - 1);
     count.sent = number;
@@ -199,6 +203,7 @@ pub fn acknowledge(tables: &mut Tables, line: u8, number: u32) -> Reply
     ensures plays { Plays tables.old tables.new (λ Q. sent_row Q line number) result }
     ensures refused { IfRefused result (tables.new ≡ tables.old) }
     ensures fits { AreFit tables.new }
+    ensures orders { HaveOrders tables.old → HaveOrders tables.new }
     ensures order { tables.new.order ≡ tables.old.order }
 {
     if let Some(why) = refusal_of_number(sent(tables, line), number) {
@@ -217,6 +222,7 @@ fn put_got(tables: &mut Tables, line: u8, number: u32)
     requires within { line ≤ length tables.old.lines }
     ensures value { tables.new ≡ record tables.old { lines = count_changed line (λ count. record count { got = number }) tables.old.lines } }
     ensures fit { AreFit tables.old → AreFit tables.new }
+    ensures orders { HaveOrders tables.old → HaveOrders tables.new }
 {
     tables.lines.item_mut(line as usize - 1).got = number;
 }
@@ -236,6 +242,7 @@ pub fn receive(
     ensures plays { Plays tables.old tables.new (λ Q. got_row Q by line number job text.now) result }
     ensures refused { IfRefused result (tables.new ≡ tables.old) }
     ensures fits { AreFit tables.new }
+    ensures orders { HaveOrders tables.old → HaveOrders tables.new }
     ensures order { tables.new.order ≡ tables.old.order }
 {
     if let Some(why) = refusal_of_number(got(tables, line), number) {

@@ -1,1 +1,4 @@
 pub mod ToldLemmas
+pub mod Lists
+pub mod OrderLemmas
+pub mod SoundTables

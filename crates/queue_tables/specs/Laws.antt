@@ -7,6 +7,7 @@ use Rattle.mas_types.specs.declared.queues.Queue.{Queue}
 use Rattle.mas_types.specs.declared.queues.Route.{Route}
 use Rattle.mas_types.specs.Starts.{empty_queue}
 use Rattle.mas_types.specs.Queue.{line_count}
+use Rattle.mas_types.specs.Sound.{IsSound}
 use Rattle.lay_bytes.specs.declared.records.JobRec.{JobRec}
 use Rattle.lay_bytes.specs.declared.records.OutRec.{OutRec}
 use Rattle.ckpt_pages.specs.declared.tables.Tables.{Tables}
@@ -17,6 +18,7 @@ use Rattle.ckpt_pages.specs.Starts.{empty_tables}
 use Rattle.queue_slots.specs.Listed.{listed}
 use Rattle.job_queue.specs.Jobs as jobs
 use Rattle.output_queue.specs.Outputs as outputs
+use Rattle.queue_tables.specs.Orders.{HaveOrders}
 use Rattle.queue_tables.specs.Telling.{Tell, TellSound, PagesTell, AreToldAlike}
 
 -- the texts have as many lines as the slots say
@@ -52,3 +54,17 @@ EmptyTellEmpty = (config : Config) (routes : List Route) → Tell (empty_tables 
 -- tables without a fault tell a queue with the sound parts
 abbrev pub SoundTellSound : Type 0
 SoundTellSound = (t : Tables) → HasSpelling t → AreSound t → TellSound t
+
+-- ORDERS
+
+-- tables without a fault have no order twice, and each below the next one
+abbrev pub SoundHaveOrders : Type 0
+SoundHaveOrders = (t : Tables) → AreSound t → HaveOrders t
+
+-- and tables of such orders that tell a queue with the sound parts have no fault
+abbrev pub ToldAreSound : Type 0
+ToldAreSound = (t : Tables) (Q : Queue) → Tell t Q → IsSound Q → HaveOrders t → AreSound t
+
+-- empty tables have such orders, having none
+abbrev pub EmptyHaveOrders : Type 0
+EmptyHaveOrders = (config : Config) (routes : List Route) → HaveOrders (empty_tables config routes)

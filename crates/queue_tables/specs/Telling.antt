@@ -8,6 +8,7 @@ use Rattle.ckpt_pages.specs.Shape.{HasSpelling, AreLevels}
 use Rattle.ckpt_pages.specs.Pages.{Spell}
 use Rattle.job_queue.specs.Jobs.{AreJobs}
 use Rattle.output_queue.specs.Outputs.{AreOutputs}
+use Rattle.queue_tables.specs.Orders.{HaveOrders}
 
 -- the tables tell all of the queue but its texts, of which they tell the numbers of lines
 pub record Tell (t : Tables) (Q : Queue) : Type 0 where
@@ -26,13 +27,14 @@ pub record TellSound (t : Tables) : Type 0 where
   pub told : Tell t queue
   pub sound : IsSound queue
 
--- the pages are a checkpoint of this level, whose tables tell the queue
+-- the pages are a checkpoint of this level, whose tables tell the queue and have no order twice
 pub record PagesTell (pages : List Page) (level : ℕ) (Q : Queue) : Type 0 where
   pub tables : Tables
   pub levels : List ℕ
   pub fit : HasSpelling tables
   pub ages : AreLevels tables level levels
   pub spell : Spell tables levels pages
+  pub orders : HaveOrders tables
   pub tell : Tell tables Q
 
 -- whatever tables tell the one queue tell the other: the two differ in their texts alone, which have as many lines

@@ -1,5 +1,5 @@
 //! Which queues the tables of a checkpoint tell.
-ghost use Rattle.queue_tables.specs.Laws.{TellTheirQueue, GiveTheirQueue, TellAlike, PagesTellAlike, EmptyTellEmpty, SoundTellSound};
+ghost use Rattle.queue_tables.specs.Laws.{TellTheirQueue, GiveTheirQueue, TellAlike, PagesTellAlike, EmptyTellEmpty, SoundTellSound, SoundHaveOrders, ToldAreSound, EmptyHaveOrders};
 
 use ckpt_pages::{law_of_checkpoints, law_of_empty_tables, law_of_sound_tables};
 
@@ -18,3 +18,11 @@ pub fn law_of_told_queues()
     law_of_empty_tables();
     law_of_sound_tables();
 }
+
+/// Tables without a fault have no order twice, and each order is below the next one; so have empty tables. Tables that have such
+/// orders and tell a queue with the sound parts have no fault.
+pub fn law_of_orders()
+    ensures sound { SoundHaveOrders }
+    ensures told { ToldAreSound }
+    ensures empty { EmptyHaveOrders }
+{}

@@ -3,4 +3,4 @@
 
 mod laws;
 
-pub use laws::law_of_told_queues;
+pub use laws::{law_of_orders, law_of_told_queues};

@@ -31,7 +31,7 @@ shown_there true bytes is = absurd (cc)
 shown_there false bytes is = refl
 
 -- the bytes of a device that isn't lost are an image of what was left
-image_of : (t : ℕ) (last old : View) (dev : Dev) → IsLeftBy t last old → old.lost (DiskPart dev) ≡ false → IsImage (left_at last t dev) (disk_now old dev).bytes
+pub image_of : (t : ℕ) (last old : View) (dev : Dev) → IsLeftBy t last old → old.lost (DiskPart dev) ≡ false → IsImage (left_at last t dev) (disk_now old dev).bytes
 image_of t last old dev left there = subst (IsLeft (left_at last t dev)) (shown_there (old.lost (DiskPart dev)) (disk_now old dev).bytes there) (left dev)
 
 below_top : (t : ℕ) (lost : Bool) (disk : Disk) → t < top → lost_if ((t == top) && lost) disk ≡ disk
@@ -68,15 +68,10 @@ module _ (reads : List ℕ → Option (List ℕ)) (was : List ℕ) (coming : Opt
       one_of (reads (disk_now old dev).bytes) (each (disk_now old dev).bytes (image_of t last old dev left seen.0)) (seen.1 ∙ is)
 
 -- the pages found are the kept ones or those in flight
-module _ (reads : List ℕ → Option (List ℕ)) (base : Queue) (J : Journal) (t : ℕ) (last old new : View) (found : List ℕ) where
-  pub stands : AreAlike reads base J t (left_at last t Ckpt1) (left_at last t Ckpt2) → IsLeftBy t last old → IsFound reads old new found
-      → StandFor (run base (kept_at J t)) found ⊎ StandFor (run base (kept_at J t ++ flying_at J t)) found
-  stands alike left is =
-      let which : (found ≡ alike.was) ⊎ (alike.coming ≡ Some found)
-      = ⊎_elim
-      (λ b. seen_one reads alike.was alike.coming found Ckpt1 t last old new left alike.first is.one is.seen1 b.0)
-      (λ b. seen_one reads alike.was alike.coming found Ckpt2 t last old new left alike.second is.two is.seen2 b.0)
-      is.best in
+module _ (reads : List ℕ → Option (List ℕ)) (base : Queue) (J : Journal) (t : ℕ) (last old : View) (found : List ℕ) where
+  pub stand_by : (alike : AreAlike reads base J t (left_at last t Ckpt1) (left_at last t Ckpt2))
+      → (found ≡ alike.was) ⊎ (alike.coming ≡ Some found) → StandFor (run base (kept_at J t)) found ⊎ StandFor (run base (kept_at J t ++ flying_at J t)) found
+  stand_by alike which =
       ⊎_elim
       (λ e. inl (subst (StandFor (run base (kept_at J t))) (sym e) alike.stands))
       (λ e.
@@ -84,6 +79,14 @@ module _ (reads : List ℕ → Option (List ℕ)) (base : Queue) (J : Journal) (
       = subst (λ (o : Option (List ℕ)). IfSome o (λ pages. (level pages ≡ level alike.was + 1) × StandFor (run base (kept_at J t ++ flying_at J t)) pages)) {y = Some found} e alike.comes in
       inr next.1)
       which
+
+  pub stands : (new : View) → AreAlike reads base J t (left_at last t Ckpt1) (left_at last t Ckpt2) → IsLeftBy t last old → IsFound reads old new found
+      → StandFor (run base (kept_at J t)) found ⊎ StandFor (run base (kept_at J t ++ flying_at J t)) found
+  stands new alike left is =
+      stand_by alike (⊎_elim
+      (λ b. seen_one reads alike.was alike.coming found Ckpt1 t last old new left alike.first is.one is.seen1 b.0)
+      (λ b. seen_one reads alike.was alike.coming found Ckpt2 t last old new left alike.second is.two is.seen2 b.0)
+      is.best)
 
 -- the tables that pages spell tell the queue for which they stand
 pub told_by : SpellsOneAtMost → (Q : Queue) (pages : List Page) (t : Tables) → AreOf pages t → HaveSize pages → StandFor Q (bytes_of pages) → Tell t Q

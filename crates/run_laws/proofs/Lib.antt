@@ -1,3 +1,4 @@
 mod Copies
 mod Rows
 mod Found
+mod Beginning

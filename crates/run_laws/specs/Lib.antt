@@ -1,3 +1,4 @@
 pub mod Left
 pub mod Again
 pub mod Joins
+pub mod Beginning

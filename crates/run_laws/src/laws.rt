@@ -1,6 +1,7 @@
 //! What the next run finds of what a run left.
 ghost use Rattle.run_laws.specs.Left.{CrashesLeave};
 ghost use Rattle.run_laws.specs.Joins.{FindsWhatIsLeft};
+ghost use Rattle.run_laws.specs.Beginning.{BeginsWithWhatIsLeft};
 
 use ckpt_pages::law_of_checkpoints;
 use queue_laws::laws::law_of_runs;
@@ -16,6 +17,19 @@ pub fn law_of_crashes()
 /// lost, only the number of lines is said.
 pub fn law_of_next_runs<P: Plant, N: Plant>(left: &P, next: &N)
     ensures { FindsWhatIsLeft P.tells N.tells }
+{
+    let _left = left;
+    let _next = next;
+    law_of_checkpoints();
+    law_of_runs();
+}
+
+/// A warm run on a plant that shows what a crash at a moment of a run may leave begins: what the copies hold and the sizes of devices
+/// don't hinder it, where levels and orders are left and the devices are large enough. Else want of memory may, or its script, or that both
+/// copies are lost: the crash left none, or an act failed in the new run on one that it left. With which queue it begins
+/// `law_of_next_runs` says.
+pub fn law_of_beginnings<P: Plant, N: Plant>(left: &P, next: &N)
+    ensures { BeginsWithWhatIsLeft P.tells N.tells }
 {
     let _left = left;
     let _next = next;

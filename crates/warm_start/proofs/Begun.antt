@@ -15,19 +15,21 @@ use Rattle.duplex_pair.specs.declared.errors.PairNo.TheVariants.{BothLost, Halte
 use Rattle.duplex_pair.specs.Halves.{IsBothLost}
 use Rattle.mas_complex.specs.declared.places.Place.TheVariants.{Before}
 use Rattle.mas_complex.specs.Crash.{setting, CopyAt, copy_of}
+use Rattle.ckpt_pages.specs.Sound.{AreSound}
 use Rattle.queue_tables.specs.Telling.{Tell}
+use Rattle.queue_tables.proofs.OrderLemmas.{sound_orders}
 use Rattle.mas_complex.specs.Meaning.{StandFor}
 use Rattle.warm_start.specs.Starting.{IsSeen, IsFound, IsUnfit}
 use Rattle.warm_start.specs.Usable.{HaveSize}
 
--- the pages stand for a queue that their tables tell
-pub stand_of : (base : Queue) (pages : List Page) (t : Tables) → HaveSize pages → IsCheckpoint pages t → Tell t base → StandFor base (bytes_of pages)
-stand_of base pages t sized is told = record {
+-- the pages stand for a queue that their tables tell, which have no fault
+pub stand_of : (base : Queue) (pages : List Page) (t : Tables) → HaveSize pages → IsCheckpoint pages t → AreSound t → Tell t base → StandFor base (bytes_of pages)
+stand_of base pages t sized is sound told = record {
   pages = pages;
   level = is.level;
   sized = sized;
   joined = refl;
-  tell = record { tables = t; levels = is.levels; fit = is.fit; ages = is.ages; spell = is.spell; tell = told };
+  tell = record { tables = t; levels = is.levels; fit = is.fit; ages = is.ages; spell = is.spell; orders = sound_orders t sound; tell = told };
 }
 
 -- a copy that rests these pages, or is lost
@@ -64,6 +66,11 @@ kept reads dev old mid new found true goes looked stays unfit = inr (unfit_later
 kept reads dev old mid new found false goes looked stays unfit = inl (stays refl ∙ looked)
 
 -- both are lost where the operator's call isn't done
+-- what holds where both copies were lost, since nobody is stopped
+pub by_loss : (F : Type 0) (why : PairNo) → (why ≡ BothLost → F) → (why ≡ Halted → ⊥) → F
+by_loss F BothLost lost halts = lost refl
+by_loss F Halted lost halts = absurd (halts refl)
+
 pub lost_both : (no : PairNo) (a b : Bool) → (no ≡ BothLost → IsBothLost a b) → (no ≡ Halted → ⊥) → IsBothLost a b
 lost_both BothLost a b both halts = both refl
 lost_both Halted a b both halts = absurd (halts refl)

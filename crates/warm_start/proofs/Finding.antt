@@ -257,12 +257,12 @@ module _ {C : Type 0} (count room : C → ℕ) (room_most : ℕ) (ready : C → 
       by_states state.Unsound state.Unsound s t = (has_state Ckpt1 alive1 state.Unsound s, has_state Ckpt2 alive2 state.Unsound t, tt)
 
 -- a device that is too small for the pages found, or for the groups of their configuration
-pub small_cause : (reads : List ℕ → Option (List ℕ)) (tells : Type 0) (needs : ℕ → ℕ) (old v : View) (alive1 alive2 : Bool) (pages : List Page) (t : Tables) (needed : ℕ) → needed ≡ needs (length pages) → AreOf pages t → (tells → IsFound reads old v (bytes_of pages))
+pub small_cause : (reads : List ℕ → Option (List ℕ)) (tells : Type 0) (needs : ℕ → ℕ) (old v : View) (alive1 alive2 : Bool) (pages : List Page) (t : Tables) (needed : ℕ) → needed ≡ needs (length pages) → AreOf pages t → HaveSize pages → (tells → IsFound reads old v (bytes_of pages))
     → (why : StartNo) → IsSmallAt needed t.config v why → IsCauseOf reads tells needs old v alive1 alive2 why
-small_cause reads tells needs old v alive1 alive2 pages t needed is are found (no_start.DeviceSize dev size) small = (pages, t, are, found, subst (λ (n : ℕ). IsSmall n t.config dev size v) is small)
-small_cause reads tells needs old v alive1 alive2 pages t needed is are found (no_start.NotFormatted first second) small = absurd small
-small_cause reads tells needs old v alive1 alive2 pages t needed is are found no_start.BothLost small = absurd small
-small_cause reads tells needs old v alive1 alive2 pages t needed is are found no_start.NoMemory small = absurd small
+small_cause reads tells needs old v alive1 alive2 pages t needed is are sized found (no_start.DeviceSize dev size) small = (pages, t, are, sized, found, subst (λ (n : ℕ). IsSmall n t.config dev size v) is small)
+small_cause reads tells needs old v alive1 alive2 pages t needed is are sized found (no_start.NotFormatted first second) small = absurd small
+small_cause reads tells needs old v alive1 alive2 pages t needed is are sized found no_start.BothLost small = absurd small
+small_cause reads tells needs old v alive1 alive2 pages t needed is are sized found no_start.NoMemory small = absurd small
 
 -- a volume that is too small
 pub small_volume : (config : Config) (n size needed : ℕ) (v : View) (why : StartNo) → needed ≡ page_bytes * config.groups → 1 ≤ n → n ≤ config.volumes → (why ≡ no_start.DeviceSize (Spool n) size) × (size < needed) × (v.lost (DiskPart (Spool n)) ≡ false) → size ≡ v.size (Spool n)

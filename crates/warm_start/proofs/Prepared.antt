@@ -22,12 +22,12 @@ use Rattle.mas_complex.proofs.Spooled.{texts_fewer, texts_same}
 use Rattle.warm_start.specs.declared.choosing.Start.{Start}
 use Rattle.warm_start.specs.declared.choosing.StartNo.{StartNo}
 use Rattle.warm_start.specs.declared.choosing.StartNo.TheVariants.{BothLost}
-use Rattle.warm_start.specs.Starting.{Chosen, IsCauseOf, IsHeld, OnlyLooked, OnlyLookedAtAll, HeldBack, Starts, WhileStarting}
+use Rattle.warm_start.specs.Starting.{Chosen, IsCauseOf, IsHeld, OnlyLooked, OnlyLookedAtAll, HeldBack, LosesBoth, WhileStarting}
 use Rattle.warm_start.specs.Spooled.{IsGiven, AreGiven}
 use Rattle.warm_start.proofs.Begun.{found_later, unfit_later}
 use Rattle.warm_start.proofs.Spooling.{given_same}
 use Rattle.warm_start.proofs.Seeing.{has_later}
-use Rattle.warm_start.proofs.Starts.{fits_later, held_since, less_held, less_more, no_volume1, no_volume2, starts_looked}
+use Rattle.warm_start.proofs.Starts.{each_failed, fits_later, held_since, less_held, less_more, no_volume1, no_volume2, starts_looked}
 
 no_volume : (n : ℕ) → Spool n ≢ Ckpt1
 no_volume n e = absurd (cc)
@@ -124,11 +124,11 @@ held_looked reads old new x =
     }
 
 -- both copies are lost where looks at them find it so
-pub starts_lost : (reads : List ℕ → Option (List ℕ)) (tells : Type 0) (needs : ℕ → ℕ) (old v : View) (a b : Bool) (why : StartNo) → PairActed 0 true a true b false old v → IsCauseOf reads tells needs old v a b why → why ≡ BothLost → Starts false false old v
+pub starts_lost : (reads : List ℕ → Option (List ℕ)) (tells : Type 0) (needs : ℕ → ℕ) (old v : View) (a b : Bool) (why : StartNo) → PairActed 0 true a true b false old v → IsCauseOf reads tells needs old v a b why → why ≡ BothLost → LosesBoth old v
 starts_lost reads tells needs old v a b why acted cause is =
     let both : (a ≡ false) × (b ≡ false) = subst (λ (w : StartNo). IsCauseOf reads tells needs old v a b w) is cause in
     let lost : PairActed 0 true false true false false old v = subst (λ (x : Bool). PairActed 0 true x true false false old v) both.0 (subst (λ (y : Bool). PairActed 0 true a true y false old v) both.1 acted) in
-    starts_looked old v false false lost (λ e. absurd (cc)) (λ e. absurd (cc))
+    record { starts = starts_looked old v false false lost (λ e. absurd (cc)) (λ e. absurd (cc)); failed = each_failed old v (acted.failed1 refl both.0) (acted.failed2 refl both.1) }
 
 -- images of the copies, from the looks on
 pub held_all : (reads : List ℕ → Option (List ℕ)) (found : List ℕ) (old mid new : View) → OnlyLookedAtAll old mid → BothMeanwhile (IsHeld reads (disk_now mid Ckpt1) found) (IsHeld reads (disk_now mid Ckpt2) found) mid new

@@ -1,5 +1,5 @@
 -- What a start does to the copies, call by call.
-use Rattle.std.proofs.Common.{◌≡◌, ◌≢◌, inl, inr, ⊎_elim, ℕ, ◌<◌, ◌≤◌, ◌&&◌, not, Bool, true, false, List, [], length, Option, Some, refl, sym, ◌∙◌, ap, subst, arith}
+use Rattle.std.proofs.Common.{◌≡◌, ◌≢◌, ◌⊎◌, inl, inr, ⊎_elim, ℕ, ◌<◌, ◌≤◌, ◌&&◌, not, Bool, true, false, List, [], length, Option, Some, refl, sym, ◌∙◌, ap, subst, arith}
 use Rattle.mas_types.specs.declared.ids.Dev.{Dev}
 use Rattle.mas_types.specs.declared.ids.Dev.TheVariants.{Ckpt1, Ckpt2, Spool}
 use Rattle.mas_types.specs.declared.ids.Page.{Page}
@@ -12,13 +12,13 @@ use Rattle.ckpt_copy.specs.Pages.{bytes_of, level}
 use Rattle.ckpt_copy.specs.Reading.{EachReads}
 use Rattle.ckpt_copy.specs.Staying.{no_more_image}
 use Rattle.spool_volumes.specs.Looks.{LooksAt}
-use Rattle.duplex_pair.specs.Halves.{IsGone, SameOrLost}
+use Rattle.duplex_pair.specs.Halves.{IsBothLost, IsGone, SameOrLost}
 use Rattle.duplex_pair.specs.Both.{PairActed, Touched, BothMeanwhile}
 use Rattle.duplex_pair.specs.Lagging.{Lags}
 use Rattle.duplex_pair.proofs.Composing.{no, ne12, ne21}
 use Rattle.duplex_pair.proofs.Chosen.{part12, part21}
 use Rattle.warm_start.proofs.Seeing.{has_later}
-use Rattle.warm_start.specs.Starting.{MayLose, IsOnce, WasTaken, Starts, IsHeld, Fitting}
+use Rattle.warm_start.specs.Starting.{MayLose, IsOnce, WasTaken, Starts, OneFailed, NoneOrFailed, IsHeld, Fitting}
 
 by_copy : {A : Type 0} (x : Bool) → (x ≡ true → A) → (x ≡ false → A) → A
 by_copy true f g = f refl
@@ -287,3 +287,27 @@ module _ {C : Type 0} (count room : C → ℕ) (room_most : ℕ) (ready : C → 
       (subst (λ (b : Bool). Fitting count room room_most ready rests tells dev w one b found' pages) (sym same_alive)
       (subst (λ (n : ℕ). Fitting count room room_most ready rests tells dev w one alive n pages) (sym same_found)
       (record { own = fit.own; has = has_later count room room_most ready reads rests tells dev v w one alive found lost stays disk fit.own fit.has; as_many = fit.as_many; either = fit.either })))
+
+-- WHERE BOTH COPIES WERE LOST
+
+not_before : (was is : Bool) → (was ≡ true → is ≡ true) → is ≡ false → was ≡ false
+not_before true is later there = absurd (no is (later refl) there)
+not_before false is later there = refl
+
+-- one of them counted as alive before the mend, so it wasn't lost before, and an act on it failed
+pub one_failed : (A B : Type 0) (old mid new : View) (a a' b b' stopped : Bool) → Starts a b old mid → PairActed 0 a a' b b' stopped mid new → IsBothLost a' b' → ((a ≡ true) × A) ⊎ ((b ≡ true) × B) → OneFailed old new
+one_failed A B old mid new a a' b b' stopped s acted both (inl one) = inl (
+  not_before (old.lost (DiskPart Ckpt1)) (mid.lost (DiskPart Ckpt1)) (s.goes.lost (DiskPart Ckpt1)) (s.there1 one.0),
+  rose_later (old.faults (DiskPart Ckpt1)) (mid.faults (DiskPart Ckpt1)) (new.faults (DiskPart Ckpt1)) (s.goes.faults (DiskPart Ckpt1)) (acted.failed1 one.0 both.0),
+)
+one_failed A B old mid new a a' b b' stopped s acted both (inr two) = inr (
+  not_before (old.lost (DiskPart Ckpt2)) (mid.lost (DiskPart Ckpt2)) (s.goes.lost (DiskPart Ckpt2)) (s.there2 two.0),
+  rose_later (old.faults (DiskPart Ckpt2)) (mid.faults (DiskPart Ckpt2)) (new.faults (DiskPart Ckpt2)) (s.goes.faults (DiskPart Ckpt2)) (acted.failed2 two.0 both.1),
+)
+
+-- where an act on each of them failed, it did so on one that wasn't lost, if one wasn't
+pub each_failed : (old new : View) → Rose (old.faults (DiskPart Ckpt1)) (new.faults (DiskPart Ckpt1)) → Rose (old.faults (DiskPart Ckpt2)) (new.faults (DiskPart Ckpt2)) → NoneOrFailed old new
+each_failed old new one two =
+    by_copy (old.lost (DiskPart Ckpt1))
+    (λ gone. by_copy (old.lost (DiskPart Ckpt2)) (λ gone2. inl (gone, gone2)) (λ there. inr (inr (there, two))))
+    (λ there. inr (inl (there, one)))

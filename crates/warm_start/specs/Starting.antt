@@ -121,6 +121,23 @@ pub record Starts (is1 is2 : Bool) (old new : View) : Type 0 where
   pub else_once : (d : Dev) → d ≢ Ckpt1 → d ≢ Ckpt2 → new.loses d ≡ old.loses d
   pub stops : (m : ℕ) → new.stops m ≡ old.stops m
 
+-- an act failed on a device that wasn't lost before
+abbrev pub HasFailed : Dev → View → View → Type 0
+HasFailed dev old new = (old.lost (DiskPart dev) ≡ false) × Rose (old.faults (DiskPart dev)) (new.faults (DiskPart dev))
+
+-- so on one of the copies
+abbrev pub OneFailed : View → View → Type 0
+OneFailed old new = HasFailed Ckpt1 old new ⊎ HasFailed Ckpt2 old new
+
+-- both copies were lost before, or an act failed on one that wasn't
+abbrev pub NoneOrFailed : View → View → Type 0
+NoneOrFailed old new = ((old.lost (DiskPart Ckpt1) ≡ true) × (old.lost (DiskPart Ckpt2) ≡ true)) ⊎ OneFailed old new
+
+-- a start in which both copies were lost, if they weren't before: an act failed on one of them then
+pub record LosesBoth (old new : View) : Type 0 where
+  pub starts : Starts false false old new
+  pub failed : NoneOrFailed old new
+
 -- during a start each image of a copy is one of before, or reads as the copy did or as the pages found
 abbrev pub IsHeld : (List ℕ → Option (List ℕ)) → Disk → List ℕ → Disk → Type 0
 IsHeld reads was found disk = LeavesOnly disk (λ image. IsImage was image ⊎ ((reads image ≡ reads was.bytes) ⊎ (reads image ≡ Some found)))
@@ -169,7 +186,7 @@ IsCauseOf reads tells needs old new alive1 alive2 (no_start.NotFormatted first s
     IsState reads tells Ckpt1 new alive1 first × IsState reads tells Ckpt2 new alive2 second × AreNotLost first second
 IsCauseOf reads tells needs old new alive1 alive2 no_start.BothLost = (alive1 ≡ false) × (alive2 ≡ false)
 IsCauseOf reads tells needs old new alive1 alive2 (no_start.DeviceSize dev size) =
-    (found : List Page) × (t : Tables) × AreOf found t × (tells → IsFound reads old new (bytes_of found)) × IsSmall (needs (length found)) t.config dev size new
+    (found : List Page) × (t : Tables) × AreOf found t × HaveSize found × (tells → IsFound reads old new (bytes_of found)) × IsSmall (needs (length found)) t.config dev size new
 IsCauseOf reads tells needs old new alive1 alive2 no_start.NoMemory = Unit {0}
 
 -- a look at the copies: no byte of them changed

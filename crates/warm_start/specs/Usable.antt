@@ -35,6 +35,6 @@ pub record AreUsable (bytes : List ℕ) : Type 0 where
   pub joined : bytes_of pages ≡ bytes
   pub usable : IsUsable pages
 
--- pages stand for each queue that the tables tell which they spell
+-- pages stand for each queue that the tables tell which they spell, where these have no fault
 abbrev pub StandForWhatIsTold : Type 0
-StandForWhatIsTold = (pages : List Page) (t : Tables) (Q : Queue) → HaveSize pages → IsCheckpoint pages t → Tell t Q → StandFor Q (bytes_of pages)
+StandForWhatIsTold = (pages : List Page) (t : Tables) (Q : Queue) → HaveSize pages → IsCheckpoint pages t → AreSound t → Tell t Q → StandFor Q (bytes_of pages)

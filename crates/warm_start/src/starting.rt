@@ -23,7 +23,7 @@ ghost use Rattle.warm_start.specs.Judging.{Has};
 ghost use Rattle.warm_start.specs.Inspecting.{FindsNone};
 ghost use Rattle.mas_complex.specs.Texts.{HasTexts, lost_now, spools_at};
 ghost use Rattle.warm_start.specs.Spooled.{AreRoomy, AreGiven};
-ghost use Rattle.warm_start.specs.Starting.{Chosen, Fitting, MayLose, Starts, IsHeld, IsCauseOf, IsSmallAt, IsSmallVolumeAt, OnlyLooked, OnlyLookedAtAll, HasStarted, HeldBack};
+ghost use Rattle.warm_start.specs.Starting.{Chosen, Fitting, MayLose, Starts, OneFailed, LosesBoth, IsHeld, IsCauseOf, IsSmallAt, IsSmallVolumeAt, OnlyLooked, OnlyLookedAtAll, HasStarted, HeldBack};
 
 use crate::choosing::{Good, Start, StartNo, choose, is_to_go};
 use crate::looking::{OPERATOR, judge_both};
@@ -190,7 +190,7 @@ fn prepare<P: Plant, C: Steady + Drop>(
     ensures during { P.tells → OnlyLookedAtAll (P.view plant.old) (P.view plant.new) }
     ensures starts { OnOk result (Starts pair.new.first.alive pair.new.second.alive (P.view plant.old) (P.view plant.new)) }
     ensures cause { IfErr result (IsCauseOf C.reads P.tells C.needs (P.view plant.old) (P.view plant.new) pair.new.first.alive pair.new.second.alive) }
-    ensures lost { IfErr result (λ why. why ≡ StartNo.BothLost → Starts false false (P.view plant.old) (P.view plant.new)) }
+    ensures lost { IfErr result (λ why. why ≡ StartNo.BothLost → LosesBoth (P.view plant.old) (P.view plant.new)) }
     ensures large { IfOk result (λ ready. (C.needs (length ready.start.found.pages) ≤ (P.view plant.new).size Ckpt1) × (C.needs (length ready.start.found.pages) ≤ (P.view plant.new).size Ckpt2)) }
     ensures roomy { IfOk result (λ ready. AreRoomy (P.view plant.new) ready.start.found.tables.config) }
     ensures levels { IfOk result (λ ready. ready.levels ≡ levels_given ready.start.found.pages) }
@@ -278,6 +278,7 @@ fn bring<P: Plant, C: Steady + Drop>(
     ensures kept1 { goes_lem Ckpt1 start.now ≡ false → (P.view plant.new).loses Ckpt1 ≡ (P.view plant.old).loses Ckpt1 }
     ensures kept2 { goes_lem Ckpt2 start.now ≡ false → (P.view plant.new).loses Ckpt2 ≡ (P.view plant.old).loses Ckpt2 }
     ensures both { IsErrOf result PairNoBothLost → IsBothLost pair.new.first.alive pair.new.second.alive }
+    ensures failed { IsErrOf result PairNoBothLost → (old : View) → Starts pair.old.first.alive pair.old.second.alive old (P.view plant.old) → OneFailed old (P.view plant.new) }
     ensures halts { IsErrOf result PairNoHalted → ⊥ }
     ensures ok { OnOk result (SomeAlive pair.new.first.alive pair.new.second.alive) }
 {
@@ -295,8 +296,8 @@ fn bring<P: Plant, C: Steady + Drop>(
 ///
 /// NotFormatted comes where no copy can be used while one isn't lost, with the state of each; DeviceSize where a device is
 /// too small for the pages found, or a volume that isn't lost for the groups of their configuration, the first such; BothLost only
-/// where both copies count as lost at the end. After an error other than BothLost nothing was written, and no copy was lost by a
-/// call.
+/// where both copies count as lost at the end, and were lost before or an act failed on one that wasn't. After an error other than
+/// BothLost nothing was written, and no copy was lost by a call.
 pub fn warm<P: Plant + Drop, C: Steady + Drop>(
     alloc: Global,
     plant: P,
@@ -314,7 +315,7 @@ pub fn warm<P: Plant + Drop, C: Steady + Drop>(
     ensures book { IfOk result (λ w. w.complex.book ≡ book_of w.complex.base.config) }
     ensures cause { IfErr result (λ u. (alive1 alive2 : Bool) × IsCauseOf C.reads P.tells C.needs (P.view plant) (P.view u.plant) alive1 alive2 u.why) }
     ensures looked { IfErr result (λ u. u.why ≢ StartNo.BothLost → (P.tells → OnlyLookedAtAll (P.view plant) (P.view u.plant)) × ((d : DevLem) → (P.view u.plant).loses d ≡ (P.view plant).loses d)) }
-    ensures lost { IfErr result (λ u. u.why ≡ StartNo.BothLost → Starts false false (P.view plant) (P.view u.plant)) }
+    ensures lost { IfErr result (λ u. u.why ≡ StartNo.BothLost → LosesBoth (P.view plant) (P.view u.plant)) }
     ensures goes { IfErr result (λ u. Goes (P.view plant) (P.view u.plant)) }
     ensures held { IfErr result (λ u. P.tells → HeldBack C.reads (P.view plant) (P.view u.plant)) }
 {

@@ -7,6 +7,7 @@ use Rattle.mas_types.specs.declared.ids.Dev.TheVariants.{Ckpt1, Ckpt2}
 use Rattle.mas_types.specs.declared.queues.Config.{Config}
 use Rattle.mas_types.specs.declared.queues.Queue.{Queue}
 use Rattle.queue_tables.specs.Telling.{Tell}
+use Rattle.queue_tables.proofs.OrderLemmas.{sound_orders}
 use Rattle.mas_complex.specs.Texts.{HasTexts, lost_now, spools_at}
 use Rattle.ckpt_copy.specs.Areas.{reads, areas_size}
 use Rattle.ckpt_copy.specs.Moments.{goes_on}
@@ -100,6 +101,9 @@ play_reset-requires-clause-fit g c =
     let w = c.in-Ok.found in
     let s = c.in-Ok.ensures.started in
     c.law_of_fit_tables.ensures w.tables s.usable.0.fit.shape s.usable.1.sound
+
+pub play_reset-requires-clause-orders : goal.play_reset-requires-clause-orders
+play_reset-requires-clause-orders g c = sound_orders c.in-Ok.found.tables c.in-Ok.ensures.started.usable.1.sound
 
 pub play_reset-requires-clause-sound : goal.play_reset-requires-clause-sound
 play_reset-requires-clause-sound g c =

@@ -29,7 +29,7 @@ use Rattle.script_input.specs.Played.{sysa}
 use Rattle.mas_run.specs.Turns.{Sight, turns_from, turns_of}
 use Rattle.mas_run.proofs.LockLemmas.{begins_open}
 use Rattle.mas_types.specs.Limits.{members_most}
-use Rattle.mas_run.proofs.RunLemmas.{begun_empty, caused_unformed, cold_steps, steps_since, none_kept, caused_since, formed_copy, empty_texts, low_empty, sound_base, sound_empty, told_empty}
+use Rattle.mas_run.proofs.RunLemmas.{begun_empty, caused_unformed, cold_steps, steps_since, none_kept, caused_since, formed_copy, empty_texts, low_empty, orders_empty, sound_base, sound_empty, told_empty}
 use Rattle.mas_run.proofs.ScriptLemmas.{roomy_later}
 use Rattle.mas_run.proofs.VolumeLemmas.{kept_on}
 use Rattle.mas_run.proofs.WarmLemmas.{no, play_begins, play_not_text}
@@ -47,7 +47,7 @@ make-complex-requires-clause-begins g c told =
     let config = c.args.script.now.config in
     let routes = c.args.script.now.routes in
     let told_base : Tell k.tables c.in-Ok.base = told_empty config routes k.tables c.in-Ok.ensures.tables c.in-Ok.base c.in-Ok.ensures.base (c.law_of_told_queues.ensures.empty config routes) in
-    let stand : StandFor c.in-Ok.base (bytes_of k.pages) = drawn_stand k.tables k.level k.levels k.pages c.in-Ok.base c.in-Ok.ensures.drawn told_base in
+    let stand : StandFor c.in-Ok.base (bytes_of k.pages) = drawn_stand k.tables k.level k.levels k.pages c.in-Ok.base c.in-Ok.ensures.drawn (orders_empty config routes k.tables c.in-Ok.ensures.tables) told_base in
     let first = formed_copy c.in-Ok.base v.now (λ pages disk. Rests n.first.copy.pages n.first.copy.second n.first.copy.stale pages disk) (λ was next disk. Holds n.first.copy.pages n.first.copy.second n.first.copy.stale was next disk) n.first.alive (disk_now v Ckpt1) (bytes_of k.pages)
     (λ is. rw c.as_slice.ensures at (f.formed1 told is)) (λ not lt. f.gone1 told c.new-pair.ensures.alive.0 not lt) in
     let second = formed_copy c.in-Ok.base v.now (λ pages disk. Rests n.second.copy.pages n.second.copy.second n.second.copy.stale pages disk) (λ was next disk. Holds n.second.copy.pages n.second.copy.second n.second.copy.stale was next disk) n.second.alive (disk_now v Ckpt2) (bytes_of k.pages)

@@ -82,7 +82,7 @@ returns-clause-between g c =
     let a = c.requires.at_lock in
     ok_of c.primary.result (rw (s.base, s.journal, s.current, s.placed, s.level)
     (between_read P.tells y.base y.journal.batches y.current y.placed y.level m.batch m.checkpoint c.args.member.now.checkpoint.tables.config (r.current ∙ a.none) (r.placed ∙ a.unplaced) (r.batch ∙ a.nothing) k.up
-    k.told k.same_level (λ told. rw (r.base, r.journal) (c.requires.sound told))))
+    k.told k.ordered k.same_level (λ told. rw (r.base, r.journal) (c.requires.sound told))))
 
 pub returns-clause-rests1 : goal.returns-clause-rests1
 returns-clause-rests1 g c = on_ok c.primary.result (λ rests. rw c.in_ok-read_in.ensures.here at rests) c.primary.ensures.rests1

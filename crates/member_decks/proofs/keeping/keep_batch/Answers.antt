@@ -4,6 +4,7 @@ use Rattle.mas_types.specs.declared.journals.Batch.{Batch}
 use Rattle.mas_types.specs.declared.journals.Fate.TheVariants.{Kept}
 use Rattle.mas_types.specs.declared.queues.Queue.{Queue}
 use Rattle.ckpt_pages.specs.declared.tables.Tables.{Tables}
+use Rattle.queue_tables.specs.Orders.{HaveOrders}
 use Rattle.queue_tables.specs.Telling.{Tell, TellSound}
 use Rattle.mas_complex.specs.Journals.{begun, end_of, entries_reserved, fated, kept_all}
 use Rattle.mas_complex.specs.Meaning.{run}
@@ -118,6 +119,7 @@ returns-clause-between g c =
       queue = λ told. subst (Tell n.tables) (queue_kept x.base z.base Q (run Q c.args.member.now.batch) x.journal.batches z.journal.batches (P.view z.plant).now b c.args.member.now.batch
           (k.base ∙ e.base) refl journal (ap entries_reserved c.in-Ok.ensures.reserved) refl) (subst (λ (u : Tables). Tell u (run Q c.args.member.now.batch)) (sym e.tables) (c.requires.done told).queue);
       fit = rw e.tables c.requires.fit;
+      orders = λ told. subst HaveOrders (sym e.tables) (c.requires.done told).orders;
       sound = λ told. subst TellSound (sym e.tables) (c.requires.sound told);
     }
 

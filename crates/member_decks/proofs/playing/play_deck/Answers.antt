@@ -84,7 +84,7 @@ give_up-requires-clause-done g c told =
     let need : ℕ = groups_needed c.args.text in
     let groups : c.groups_needed-groups.result ≡ need = c.groups_needed-groups.ensures in
     let Q : Queue = run x.base (kept_all x.journal.batches) in
-    d.done Q (nothing_done Q m.checkpoint c.requires.between.drawn c.requires.between.fit (c.requires.between.queue told))
+    d.done Q (nothing_done Q m.checkpoint c.requires.between.drawn c.requires.between.fit (c.requires.between.orders told) (c.requires.between.queue told))
 
 pub give_up-requires-clause-small : goal.give_up-requires-clause-small
 give_up-requires-clause-small g c =
@@ -222,7 +222,7 @@ close_deck-requires-clause-done g c told =
     let need : ℕ = groups_needed c.args.text in
     let groups : c.groups_needed-groups.result ≡ need = c.groups_needed-groups.ensures in
     let Q : Queue = run x.base (kept_all x.journal.batches) in
-    d.done Q (nothing_done Q m.checkpoint c.requires.between.drawn c.requires.between.fit (c.requires.between.queue told))
+    d.done Q (nothing_done Q m.checkpoint c.requires.between.drawn c.requires.between.fit (c.requires.between.orders told) (c.requires.between.queue told))
 
 pub close_deck-requires-clause-small : goal.close_deck-requires-clause-small
 close_deck-requires-clause-small g c =
@@ -393,7 +393,7 @@ keep_batch-requires-clause-done g c told =
     let need : ℕ = groups_needed c.args.text in
     let groups : c.groups_needed-groups.result ≡ need = c.groups_needed-groups.ensures in
     let Q : Queue = run x.base (kept_all x.journal.batches) in
-    d.done Q (nothing_done Q m.checkpoint c.requires.between.drawn c.requires.between.fit (c.requires.between.queue told))
+    d.done Q (nothing_done Q m.checkpoint c.requires.between.drawn c.requires.between.fit (c.requires.between.orders told) (c.requires.between.queue told))
 
 pub keep_batch-requires-clause-small : goal.keep_batch-requires-clause-small
 keep_batch-requires-clause-small g c =

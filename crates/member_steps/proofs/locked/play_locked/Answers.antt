@@ -263,7 +263,7 @@ play_command-requires-clause-between g c =
     let a = c.requires.at_lock in
     rw (s.base, s.journal, s.current, s.placed, s.level)
     (between_read P.tells y.base y.journal.batches y.current y.placed y.level m.batch m.checkpoint c.args.member.now.checkpoint.tables.config (r.current ∙ l.current ∙ a.none) (r.placed ∙ l.placed ∙ a.unplaced) (r.batch ∙ a.nothing) k.up
-    k.told k.same_level (λ told. rw (r.base, r.journal, l.base, l.journal) (c.requires.sound told)))
+    k.told k.ordered k.same_level (λ told. rw (r.base, r.journal, l.base, l.journal) (c.requires.sound told)))
 
 pub play_command-requires-clause-rests1 : goal.play_command-requires-clause-rests1
 play_command-requires-clause-rests1 g c = rw c.in_ok-read_in.ensures.here at c.in_ok-primary.ensures.rests1

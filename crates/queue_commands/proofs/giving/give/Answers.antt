@@ -1,4 +1,6 @@
 use Rattle.std.proofs.Common.{arith}
+use Rattle.queue_tables.proofs.OrderLemmas.{sound_orders}
+use Rattle.queue_tables.proofs.SoundTables.{told_are_sound}
 use Rattle.queue_commands.proofs.GivenLemmas.{giver_few, given_sound, given_named, given_spelling, given_config}
 use Rattle.queue_commands.proofs.giving.give.Goals as goal
 
@@ -7,6 +9,12 @@ apply-requires-clause-member c = giver_few c.args.by c.args.command.now c.requir
 
 pub returns-in-Ok-clause-sound : goal.returns-in-Ok-clause-sound
 returns-in-Ok-clause-sound c s may = given_sound c.args.tables.now c.apply.new.tables c.args.by c.args.command.now c.in-Ok.reply c.requires.command c.in-Ok.ensures.plays s may
+
+pub returns-in-Ok-clause-faultless : goal.returns-in-Ok-clause-faultless
+returns-in-Ok-clause-faultless c sound s may =
+    let t = c.args.tables.now in
+    let is = given_sound t c.apply.new.tables c.args.by c.args.command.now c.in-Ok.reply c.requires.command c.in-Ok.ensures.plays s may in
+    told_are_sound c.apply.new.tables is.queue is.told is.sound (c.apply.ensures.orders (sound_orders t sound))
 
 pub returns-in-Ok-clause-named : goal.returns-in-Ok-clause-named
 returns-in-Ok-clause-named c =

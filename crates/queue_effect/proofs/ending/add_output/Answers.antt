@@ -11,6 +11,7 @@ use Rattle.output_queue.proofs.OutputLemmas.{length-outputs}
 use Rattle.track_groups.specs.Groups.{given}
 use Rattle.queue_effect.specs.Gone.{output_of}
 use Rattle.queue_effect.proofs.FitLemmas.{length-used_set, output_added_fit, refill_whole}
+use Rattle.queue_effect.proofs.OrderLemmas.{output_added_orders}
 use Rattle.queue_effect.proofs.Showing.{some_outputs}
 use Rattle.queue_effect.proofs.ending.add_output.Goals as goal
 
@@ -61,3 +62,12 @@ returns-clause-fits c =
     let is : c.add.new.outputs ≡ set t.outputs placed.0 (Some r) = placed.2 ∙ ap (λ os. set os placed.0 (Some r)) c.as_mut_slice.ensures.value in
     let whole = refill_whole t.outputs c.add.new.outputs (sym (ap length is ∙ length-set t.outputs placed.0 (Some r))) in
     c.give_groups.ensures.fit (rw whole (output_added_fit t c.requires.fit c.args.job c.args.index c.args.output.now placed.0 c.add.new.outputs is))
+
+pub returns-clause-orders : goal.returns-clause-orders
+returns-clause-orders c = λ had.
+    let t = c.args.tables.now in
+    let placed = c.in-Ok.ensures.placed in
+    let r : OutRec = new_rec c.args.job c.args.index c.args.output.now t.order in
+    let is : c.add.new.outputs ≡ set t.outputs placed.0 (Some r) = placed.2 ∙ ap (λ os. set os placed.0 (Some r)) c.as_mut_slice.ensures.value in
+    let whole = refill_whole t.outputs c.add.new.outputs (sym (ap length is ∙ length-set t.outputs placed.0 (Some r))) in
+    c.give_groups.ensures.orders (rw (whole, is) (output_added_orders t.jobs t.outputs placed.0 r had))

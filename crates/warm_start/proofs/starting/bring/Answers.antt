@@ -1,7 +1,7 @@
-use Rattle.std.proofs.Common.{List, ℕ, ◌∙◌, arith}
+use Rattle.std.proofs.Common.{◌≡◌, List, ℕ, ◌∙◌, arith}
 use Rattle.mas_types.specs.declared.ids.Dev.TheVariants.{Ckpt1, Ckpt2}
 use Rattle.spool_disk.specs.View.{disk_now}
-use Rattle.ckpt_copy.specs.Pages.{bytes_of}
+use Rattle.ckpt_copy.specs.Pages.{bytes_of, level}
 use Rattle.ckpt_copy.specs.Moments.{goes_on}
 use Rattle.ckpt_copy.specs.Reading.{EachReads}
 use Rattle.duplex_pair.specs.Halves.{SameOrLost}
@@ -9,7 +9,7 @@ use Rattle.duplex_pair.specs.Both.{Touched}
 use Rattle.duplex_pair.proofs.Composing.{both_then}
 use Rattle.mas_complex.proofs.Shows.{on_ok}
 use Rattle.warm_start.specs.Starting.{IsHeld}
-use Rattle.warm_start.proofs.Starts.{starts_acted, acted_unstopped, gone_on, both_weaker, own_of, own_lags, less_lost, less_held, held_since, held_touched, first_now, second_now}
+use Rattle.warm_start.proofs.Starts.{starts_acted, acted_unstopped, gone_on, both_weaker, own_of, own_lags, less_lost, less_held, held_since, held_touched, first_now, one_failed, second_now}
 use Rattle.warm_start.proofs.starting.bring.Goals as goal
 
 pub returns-clause-goes : goal.returns-clause-goes
@@ -125,3 +125,12 @@ returns-clause-kept1 g c = λ stays. c.mend.ensures.acted.loses Ckpt1 ∙ c.lose
 
 pub returns-clause-kept2 : goal.returns-clause-kept2
 returns-clause-kept2 g c = λ stays. c.mend.ensures.acted.loses Ckpt2 ∙ c.lose_unfit.ensures.kept2 stays
+
+pub returns-clause-failed : goal.returns-clause-failed
+returns-clause-failed g c = λ is old s.
+    let view = g.P.Plant.view in
+    let p = c.lose_unfit.new.pair in
+    let q = c.mend.new.self in
+    let found = level (bytes_of c.args.start.now.found.pages) in
+    one_failed (p.first.found ≡ found) (p.second.found ≡ found) old (view c.lose_unfit.new.plant) (view c.mend.new.plant) p.first.alive q.first.alive p.second.alive q.second.alive _
+    (c.lose_unfit.ensures.starts old s) c.mend.ensures.acted (c.mend.ensures.both is) c.lose_unfit.ensures.one

@@ -12,4 +12,4 @@ returns-in_err-refuse_small-clause-cause g c =
     let b = c.choose_copy.new.pair.second in
     let p = err_from_is_err_and c.from_residual-in_err-refuse_small.result c.from_residual-in_err-refuse_small.ensures.1 in
     rw (p.1, p.2)
-    (small_cause C.reads g.P.Plant.tells C.needs old v a.alive b.alive c.in_ok-start.start.found.pages c.in_ok-start.start.found.tables c.size_for-needed.result (search rules) c.in_ok-start.ensures.chosen.usable c.in_ok-start.ensures.chosen.found _ c.in_err-refuse_small.ensures.small)
+    (small_cause C.reads g.P.Plant.tells C.needs old v a.alive b.alive c.in_ok-start.start.found.pages c.in_ok-start.start.found.tables c.size_for-needed.result (search rules) c.in_ok-start.ensures.chosen.usable c.in_ok-start.ensures.chosen.sized c.in_ok-start.ensures.chosen.found _ c.in_err-refuse_small.ensures.small)

@@ -1,12 +1,12 @@
-use Rattle.std.proofs.Common.{◌∙◌, ◌≤◌, false, Bool, ℕ, length, Err, refl, sym, ap, subst}
+use Rattle.std.proofs.Common.{◌∙◌, ◌≤◌, false, Bool, inr, ℕ, length, Err, refl, sym, ap, subst}
 use Rattle.mas_types.specs.declared.ids.Dev.TheVariants.{Ckpt1, Ckpt2}
 use Rattle.spool_disk.specs.View.{disk_now}
 use Rattle.ckpt_copy.specs.Pages.{bytes_of, level}
 use Rattle.warm_start.specs.Choosing.{goes}
 use Rattle.mas_types.specs.declared.queues.Config.{Config}
 use Rattle.mas_complex.specs.Texts.{HasTexts, lost_now, spools_at}
-use Rattle.warm_start.specs.Starting.{IsHeld, Starts}
-use Rattle.warm_start.proofs.Begun.{stand_of, rested_copy, found_later, kept, lost_both}
+use Rattle.warm_start.specs.Starting.{IsHeld, OneFailed, Starts}
+use Rattle.warm_start.proofs.Begun.{stand_of, rested_copy, found_later, kept, by_loss, lost_both}
 use Rattle.warm_start.proofs.Prepared.{given_kept, held_looked, held_all, held_back, texts_left}
 use Rattle.warm_start.proofs.Spooling.{roomy_later, steady_first, steady_then}
 use Rattle.warm_start.proofs.starting.warm.Goals as goal
@@ -22,7 +22,10 @@ returns-in_default-clause-lost g c = λ why.
     let new = g.P.Plant.view c.bring.new.plant in
     let p = c.bring.new.pair in
     let both = lost_both c.in_default.field-0 p.first.alive p.second.alive (λ e. c.in_default.ensures.both (ap Err e)) (λ e. c.in_default.ensures.halts (ap Err e)) in
-    subst (λ (a : Bool). Starts a false old new) both.0 (subst (λ (b : Bool). Starts p.first.alive b old new) both.1 (c.bring.ensures.starts old c.in-Ok.ensures.starts))
+    record {
+      starts = subst (λ (a : Bool). Starts a false old new) both.0 (subst (λ (b : Bool). Starts p.first.alive b old new) both.1 (c.bring.ensures.starts old c.in-Ok.ensures.starts));
+      failed = inr (by_loss (OneFailed old new) c.in_default.field-0 (λ e. c.in_default.ensures.failed (ap Err e) old c.in-Ok.ensures.starts) (λ e. c.in_default.ensures.halts (ap Err e)));
+    }
 
 pub returns-in_default-clause-held : goal.returns-in_default-clause-held
 returns-in_default-clause-held g c = λ told.
@@ -43,7 +46,7 @@ make-complex-requires-clause-begins g c told =
     let second = rested_copy C.reads base v.now (C.rests n.second.copy) (C.holds n.second.copy) n.second.alive (disk_now v Ckpt2) pages
     (λ is. c.in-Ok-bring.ensures.rests2 told is) (λ dead lt. c.bring.ensures.gone2 told (c.prepare.ensures.gone2 told) refl dead lt) in
     let at_level = sym (c.pages_level-level.ensures ∙ ap (λ ps. level (bytes_of ps)) c.as_slice.ensures) in
-    let queue = stand_of base F.pages F.tables c.in-Ok.ensures.chosen.sized c.in-Ok.ensures.chosen.usable.0 c.in-Ok.ensures.tell in
+    let queue = stand_of base F.pages F.tables c.in-Ok.ensures.chosen.sized c.in-Ok.ensures.chosen.usable.0 c.in-Ok.ensures.chosen.usable.1.sound c.in-Ok.ensures.tell in
     let texts = subst (λ (cfg : Config). HasTexts (lost_now v) (spools_at v v.now) cfg.groups base) (sym c.in-Ok.ensures.tell.config)
     (texts_left F.tables.config.groups base (IsHeld C.reads (disk_now mid Ckpt1) pages) (IsHeld C.reads (disk_now mid Ckpt2) pages) mid v (c.bring.ensures.during told) (c.in-Ok.ensures.texts told)) in
     ∣ record { pages = pages; stands = record { at_level = at_level; queue = queue }; texts = texts; first_at = first; second_at = second } ∣₁

@@ -6,7 +6,7 @@ use Rattle.mas_complex.specs.Crash.{Setting, setting, copy_of}
 use Rattle.ckpt_copy.specs.Changes.{NoMore}
 use Rattle.mas_complex.proofs.Calm.{both_keep, more_reads, read_copy}
 use Rattle.mas_complex.proofs.Shows.{read_bytes}
-use Rattle.mas_complex.proofs.Apart.{on_both}
+use Rattle.mas_complex.proofs.Apart.{on_both, papers_both}
 use Rattle.mas_complex.proofs.Lost.{pair_lost}
 use Rattle.mas_complex.proofs.Papers.{stays_on_paper}
 use Rattle.mas_complex.proofs.complex.Complex.read_page.Goals as goal
@@ -52,6 +52,9 @@ returns-clause-apart g c told = on_both _ _ (g.P.Plant.view c.args.self.now.plan
 
 pub returns-clause-throughout : goal.returns-clause-throughout
 returns-clause-throughout g c told = (c.read_page.ensures.during told).others
+
+pub returns-clause-papers : goal.returns-clause-papers
+returns-clause-papers g c told = papers_both _ _ (g.P.Plant.view c.args.self.now.plant) (g.P.Plant.view c.read_page.new.plant) (c.read_page.ensures.during told)
 
 pub invariant_of-self-clause-paper : goal.invariant_of-self-clause-paper
 invariant_of-self-clause-paper g c told sound =

@@ -10,7 +10,7 @@ use Rattle.duplex_pair.specs.Both.{Touched}
 use Rattle.mas_complex.proofs.Calm.{both_keep, settle_rests, settle_reads, settle_copy}
 use Rattle.mas_complex.proofs.Lost.{pair_lost}
 use Rattle.mas_complex.proofs.Shows.{on_ok}
-use Rattle.mas_complex.proofs.Apart.{coded_disk, on_both, on_is}
+use Rattle.mas_complex.proofs.Apart.{coded_disk, on_both, on_is, papers_both, papers_is}
 use Rattle.mas_complex.proofs.Papers.{stays_on_paper}
 use Rattle.mas_complex.proofs.complex.Complex.settle.Goals as goal
 
@@ -62,6 +62,21 @@ returns-clause-apart g c told =
     let p = c.settle-done.new.self in
     let pages = bytes_of c.args.pages.now in
     on_is old new (∥∥₁_map (s.kept told) (λ kk. on_both _ _ old new (c.settle-done.ensures.during told
+    (settle_rests S kk.was kk.coming Ckpt1 old new first.rests (C.rests p.first.copy) first.holds (C.holds p.first.copy) first.place c.place_after-self.result first.alive p.first.alive pages kk.first_at c.requires.first (λ was d r. g.met.C.Copying.rests_now s.pair.first.copy was d r) (c.requires.reads1 told))
+    (settle_rests S kk.was kk.coming Ckpt2 old new second.rests (C.rests p.second.copy) second.holds (C.holds p.second.copy) second.place c.place_after-self-2.result second.alive p.second.alive pages kk.second_at c.requires.second (λ was d r. g.met.C.Copying.rests_now s.pair.second.copy was d r) (c.requires.reads2 told)))))
+
+pub returns-clause-papers : goal.returns-clause-papers
+returns-clause-papers g c told =
+    let s = c.args.self.now in
+    let C = g.C.Copying in
+    let S : Setting = setting C.reads s.base s.since in
+    let first = copy_of (C.rests s.pair.first.copy) (C.holds s.pair.first.copy) s.pair.first.alive s.first in
+    let second = copy_of (C.rests s.pair.second.copy) (C.holds s.pair.second.copy) s.pair.second.alive s.second in
+    let old = g.P.Plant.view s.plant in
+    let new = g.P.Plant.view c.settle-done.new.plant in
+    let p = c.settle-done.new.self in
+    let pages = bytes_of c.args.pages.now in
+    papers_is old new (∥∥₁_map (s.kept told) (λ kk. papers_both _ _ old new (c.settle-done.ensures.during told
     (settle_rests S kk.was kk.coming Ckpt1 old new first.rests (C.rests p.first.copy) first.holds (C.holds p.first.copy) first.place c.place_after-self.result first.alive p.first.alive pages kk.first_at c.requires.first (λ was d r. g.met.C.Copying.rests_now s.pair.first.copy was d r) (c.requires.reads1 told))
     (settle_rests S kk.was kk.coming Ckpt2 old new second.rests (C.rests p.second.copy) second.holds (C.holds p.second.copy) second.place c.place_after-self-2.result second.alive p.second.alive pages kk.second_at c.requires.second (λ was d r. g.met.C.Copying.rests_now s.pair.second.copy was d r) (c.requires.reads2 told)))))
 

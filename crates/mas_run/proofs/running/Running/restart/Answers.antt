@@ -50,7 +50,7 @@ pub ready-requires-clause-done : goal.ready-requires-clause-done
 ready-requires-clause-done g c told =
     let x = c.args.self.now.complex in
     let m = c.args.self.now.member in
-    ∣ c.in-Ok.ensures.done (run x.base (kept_all x.journal.batches)) (reset_done x.base x.journal.batches m.batch m.checkpoint c.requires.journal c.requires.at_lock.nothing c.requires.at_lock.drawn c.requires.fit c.requires.queue) ∣₁
+    ∣ c.in-Ok.ensures.done (run x.base (kept_all x.journal.batches)) (reset_done x.base x.journal.batches m.batch m.checkpoint c.requires.journal c.requires.at_lock.nothing c.requires.at_lock.drawn c.requires.fit c.requires.orders c.requires.queue) ∣₁
 
 pub ready-requires-clause-small : goal.ready-requires-clause-small
 ready-requires-clause-small g c = subst (λ (n : ℕ). n + 1 < 2 ^ 63) (c.requires.same_level ∙ sym c.give_restart.ensures.level) c.requires.level
@@ -72,7 +72,7 @@ write-requires-clause-replied g c told =
     let x = c.args.self.now.complex in
     let m = c.args.self.now.member in
     let done : HasDone (run x.base (kept_all x.journal.batches)) c.give_restart.new.member.batch c.give_restart.new.member.checkpoint =
-    c.in-Ok.ensures.done (run x.base (kept_all x.journal.batches)) (reset_done x.base x.journal.batches m.batch m.checkpoint c.requires.journal c.requires.at_lock.nothing c.requires.at_lock.drawn c.requires.fit c.requires.queue) in
+    c.in-Ok.ensures.done (run x.base (kept_all x.journal.batches)) (reset_done x.base x.journal.batches m.batch m.checkpoint c.requires.journal c.requires.at_lock.nothing c.requires.at_lock.drawn c.requires.fit c.requires.orders c.requires.queue) in
     rw (c.ready.ensures.base, c.ready.ensures.kept, c.in-Ok-ready.ensures.reserved) (∣ done.replied ∣₁)
 
 pub write-requires-clause-allowed : goal.write-requires-clause-allowed
@@ -231,7 +231,7 @@ returns-clause-sound g c =
     let b : Batch = begun (P.view y.plant).now c.ready.new.self.id (entries_reserved y.reserved) in
     let journal : z.journal.batches ≡ x.journal.batches ++ fated Kept (P.view z.plant).now b ∷ [] =
     journal_kept x.journal.batches y.journal.batches z.journal.batches grown.0 (fated Kept (P.view z.plant).now b) grown.1 k.kept in
-    let done : HasDone Q d.batch d.checkpoint = c.in-Ok.ensures.done Q (reset_done x.base x.journal.batches m.batch m.checkpoint c.requires.journal c.requires.at_lock.nothing c.requires.at_lock.drawn c.requires.fit c.requires.queue) in
+    let done : HasDone Q d.batch d.checkpoint = c.in-Ok.ensures.done Q (reset_done x.base x.journal.batches m.batch m.checkpoint c.requires.journal c.requires.at_lock.nothing c.requires.at_lock.drawn c.requires.fit c.requires.orders c.requires.queue) in
     told_sound d.checkpoint.tables (run z.base (kept_all z.journal.batches)) c.in-Ok.ensures.sound
     (subst (Tell d.checkpoint.tables) (queue_kept x.base z.base Q (run Q d.batch) x.journal.batches z.journal.batches (P.view z.plant).now b d.batch (k.base ∙ e.base) refl journal (ap entries_reserved c.in-Ok-ready.ensures.reserved) refl) done.queue)
 

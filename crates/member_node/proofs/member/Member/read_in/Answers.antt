@@ -127,6 +127,14 @@ returns-clause-told g c told =
     let up = c.in_ok-is_caught_up.ensures.up c.if-not-branch.false i.behind in
     ∥∥₁_map (i.stand told) (λ st. (tell_up_to one_value same_pages (run z.base (kept_all z.journal.batches)) z.level m.checkpoint.tables.config m.room c.is_caught_up.new.self.checkpoint st up).0)
 
+pub returns-clause-ordered : goal.returns-clause-ordered
+returns-clause-ordered g c told =
+    let z = c.loop-complex.complex in
+    let m = c.loop-complex.self in
+    let i = c.loop-complex.invariant in
+    let up = c.in_ok-is_caught_up.ensures.up c.if-not-branch.false i.behind in
+    ∥∥₁_map (i.stand told) (λ st. (tell_up_to one_value same_pages (run z.base (kept_all z.journal.batches)) z.level m.checkpoint.tables.config m.room c.is_caught_up.new.self.checkpoint st up).2)
+
 pub returns-clause-same_level : goal.returns-clause-same_level
 returns-clause-same_level g c told =
     let z = c.loop-complex.complex in

@@ -1,0 +1,199 @@
+-- The next run begins.
+use Rattle.std.proofs.Common.{◌≡◌, ◌⊎◌, inl, inr, ⊎_elim, ℕ, ◌+◌, ◌*◌, ◌≤◌, ◌<◌, ◌++◌, Bool, true, false, List, [], ◌∷◌, All, Option, Some, refl, sym, ◌∙◌, ap, subst, arith}
+use Rattle.std.specs.List.{filter}
+use Rattle.std.proofs.Math.Logic.{∥∥₁_elim}
+use Rattle.std.proofs.lemmas.List.Elements.{All-nil, All-append}
+use Rattle.mas_types.specs.declared.answers.CopyState.{CopyState}
+use Rattle.mas_types.specs.declared.answers.CopyState.TheVariants as state
+use Rattle.mas_types.specs.declared.answers.Status.{Status}
+use Rattle.mas_types.specs.declared.answers.Status.TheVariants as status
+use Rattle.mas_types.specs.declared.ids.Dev.{Dev}
+use Rattle.mas_types.specs.declared.ids.Dev.TheVariants.{Ckpt1, Ckpt2, Spool}
+use Rattle.mas_types.specs.declared.ids.Page.{Page}
+use Rattle.mas_types.specs.declared.journals.Batch.{Batch}
+use Rattle.mas_types.specs.declared.journals.Entry.{Entry}
+use Rattle.mas_types.specs.declared.journals.Journal.{Journal}
+use Rattle.mas_types.specs.declared.queues.Config.{Config}
+use Rattle.mas_types.specs.declared.queues.Queue.{Queue}
+use Rattle.mas_types.specs.Journal.{entries_of, is_kept_by, is_flying_at, kept_at, flying_at}
+use Rattle.mas_types.specs.Limits.{page_bytes}
+use Rattle.mas_types.specs.Sound.{IsSound}
+use Rattle.queue_laws.specs.Runs.{IsGiven, RunsKeepConfiguration, RunsKeepSound}
+use Rattle.spool_disk.specs.declared.plant.Part.TheVariants.{Disk as DiskPart}
+use Rattle.spool_disk.specs.Acts.{Goes}
+use Rattle.spool_disk.specs.View.{View, LeavesOnly, disk_now}
+use Rattle.ckpt_copy.specs.Areas.{reads, areas_size}
+use Rattle.ckpt_copy.specs.Pages.{bytes_of}
+use Rattle.ckpt_pages.specs.declared.tables.Tables.{Tables}
+use Rattle.ckpt_pages.specs.Checkpoints.{IsCheckpoint, SpellsOneAtMost}
+use Rattle.ckpt_pages.specs.Shape.{page_count}
+use Rattle.ckpt_pages.proofs.SlotLists.{test_cases}
+use Rattle.mas_complex.specs.Crash.{left_at, IsOneOf}
+use Rattle.mas_complex.specs.Headline.{AreAlike, AreAlwaysAlike}
+use Rattle.mas_complex.specs.Meaning.{StandFor, run}
+use Rattle.mas_complex.specs.Paper.{AreGivenIn, PaperKept}
+use Rattle.warm_start.specs.declared.choosing.StartNo.TheVariants as no_start
+use Rattle.warm_start.specs.Starting.{IsSmall, IsState, AreNotLost, OnlyLookedAtAll}
+use Rattle.warm_start.specs.Usable.{AreOf, AreUsable, HaveSize, MayStart}
+use Rattle.mas_run.specs.Runs.{has_begun, Begins}
+use Rattle.mas_run.specs.Statuses.{IsCaused}
+use Rattle.mas_run.specs.Unstarted.{IsNotStarted, StartCauses}
+use Rattle.run_laws.specs.Left.{IsLeftBy}
+use Rattle.queue_tables.proofs.SoundTables.{told_are_sound}
+use Rattle.run_laws.specs.Beginning.{AreLarge, AreLow, BothLow, IsHindered, IsLow, BeginsWithWhatIsLeft}
+use Rattle.run_laws.proofs.Copies.{image_of, stand_by, stands, told_by}
+
+-- THE QUEUE THAT IS LEFT
+
+all_given : (base : Queue) (picks : Batch → Bool) (bs : List Batch) → AreGivenIn base bs → All (IsGiven base) (entries_of (filter picks bs))
+all_given base picks [] given = All-nil (IsGiven base)
+all_given base picks (b ∷ bs) given =
+    test_cases (picks b) (All (IsGiven base) (entries_of (filter picks (b ∷ bs))))
+    (λ e. rw e (All-append (IsGiven base) b.entries (entries_of (filter picks bs)) given.0 (all_given base picks bs given.1)))
+    (λ e. rw e (all_given base picks bs given.1))
+
+-- pages that stand for a queue with the sound parts can be used, where levels and orders are left
+usable_of : (Q : Queue) (bytes : List ℕ) → StandFor Q bytes → IsSound Q → AreLow bytes → AreUsable bytes
+usable_of Q bytes s sound low =
+    let x = s.tell in
+    let is : IsCheckpoint s.pages x.tables = record { level = s.level; levels = x.levels; fit = x.fit; ages = x.ages; spell = x.spell } in
+    let left : IsLow s.pages x.tables = low s.pages x.tables s.sized s.joined is in
+    let may : MayStart s.pages x.tables = record {
+      sound = told_are_sound x.tables Q x.tell sound x.orders;
+      low_level = left.low_level;
+      low_order = left.low_order;
+    } in
+    let of : AreOf s.pages x.tables = (is, may) in
+    record { pages = s.pages; sized = s.sized; joined = s.joined; usable = (x.tables, of) }
+
+-- A COPY
+
+-- a device that isn't lost wasn't lost before
+was_there : (dev : Dev) (old new : View) → Goes old new → new.lost (DiskPart dev) ≡ false → old.lost (DiskPart dev) ≡ false
+was_there dev old new goes there =
+    test_cases (old.lost (DiskPart dev)) (old.lost (DiskPart dev) ≡ false)
+    (λ e. let gone : new.lost (DiskPart dev) ≡ true = goes.lost (DiskPart dev) e in absurd (cc))
+    (λ e. e)
+
+abbrev IsGone : CopyState → Type 0
+IsGone state.Lost = Unit {0}
+IsGone _ = ⊥
+
+not_both_gone : (one two : CopyState) → IsGone one → IsGone two → AreNotLost one two → ⊥
+not_both_gone state.Lost state.Lost a b not = not
+not_both_gone state.Lost state.Unread a b not = b
+not_both_gone state.Lost state.Unsound a b not = b
+not_both_gone state.Unread two a b not = a
+not_both_gone state.Unsound two a b not = a
+
+-- a copy that is left reads as pages that can be used: so where a start found none on it, it is lost
+module _ (was : List ℕ) (coming : Option (List ℕ)) (dev : Dev) (t : ℕ) (last old new : View) (left : IsLeftBy t last old) (each : LeavesOnly (left_at last t dev) (λ image. IsOneOf was coming (reads image)))
+    (usable : (bytes : List ℕ) → reads (disk_now old dev).bytes ≡ Some bytes → (bytes ≡ was) ⊎ (coming ≡ Some bytes) → AreUsable bytes)
+    (goes : Goes old new) (same : (disk_now new dev).bytes ≡ (disk_now old dev).bytes) where
+  read_one : new.lost (DiskPart dev) ≡ false → IsOneOf was coming (reads (disk_now new dev).bytes)
+  read_one there =
+      subst (λ (bs : List ℕ). IsOneOf was coming (reads bs)) (sym same) (each (disk_now old dev).bytes (image_of t last old dev left (was_there dev old new goes there)))
+
+  gone : (tells : Type 0) → tells → (alive : Bool) (s : CopyState) → IsState reads tells dev new alive s → IsGone s
+  gone tells told alive state.Lost is = tt
+  gone tells told alive state.Unread is = subst (IsOneOf was coming) (is.none told).now (read_one is.there)
+  gone tells told alive state.Unsound is =
+      let found = is.2 told in
+      let one : IsOneOf was coming (Some found.0) = subst (IsOneOf was coming) found.1 (read_one is.1) in
+      found.2 (usable found.0 (ap reads (sym same) ∙ found.1) one)
+
+-- SIZES
+
+enough : (needed size is was : ℕ) → size ≡ is → is ≡ was → needed ≤ was → size < needed → ⊥
+enough needed size is was a b c d = omega (arith, a, b, c, d)
+
+never_small : (config : Config) (old new : View) → Goes old new → AreLarge config old → (dev : Dev) (size : ℕ) → IsSmall (areas_size (page_count config)) config dev size new → ⊥
+never_small config old new goes large Ckpt1 size is = enough (areas_size (page_count config)) size (new.size Ckpt1) (old.size Ckpt1) is.0 (goes.size Ckpt1) large.first is.1
+never_small config old new goes large Ckpt2 size is = enough (areas_size (page_count config)) size (new.size Ckpt2) (old.size Ckpt2) is.0 (goes.size Ckpt2) large.second is.1
+never_small config old new goes large (Spool n) size is =
+    let small = is.1 in
+    enough (page_bytes * config.groups) (new.size (Spool n)) (new.size (Spool n)) (old.size (Spool n)) refl (goes.size (Spool n))
+    (large.roomy n small.some small.few (was_there (Spool n) old new goes small.there)) small.small
+
+-- THE RUN
+
+module _ (spells : SpellsOneAtMost) (configs : RunsKeepConfiguration) (sounds : RunsKeepSound) (base : Queue) (J : Journal) (t : ℕ) (last old new : View)
+    (left : IsLeftBy t last old) (sound : IsSound base) (given : AreGivenIn base J.batches) (low : BothLow old) (large : AreLarge base.config old)
+    (alike : AreAlike reads base J t (left_at last t Ckpt1) (left_at last t Ckpt2)) (goes : Goes old new) (tells : Type 0) (told : tells) where
+  kept_given : All (IsGiven base) (kept_at J t)
+  kept_given = all_given base (is_kept_by t) J.batches given
+
+  kept_sound : IsSound (run base (kept_at J t))
+  kept_sound = sounds base (kept_at J t) sound kept_given
+
+  coming_sound : IsSound (run base (kept_at J t ++ flying_at J t))
+  coming_sound = sounds base (kept_at J t ++ flying_at J t) sound (All-append (IsGiven base) (kept_at J t) (flying_at J t) kept_given (all_given base (is_flying_at t) J.batches given))
+
+  usable_by : (bytes : List ℕ) → AreLow bytes → (bytes ≡ alike.was) ⊎ (alike.coming ≡ Some bytes) → AreUsable bytes
+  usable_by bytes lows one =
+      ⊎_elim (λ s. usable_of (run base (kept_at J t)) bytes s kept_sound lows)
+      (λ s. usable_of (run base (kept_at J t ++ flying_at J t)) bytes s coming_sound lows)
+      (stand_by reads base J t last old bytes alike one)
+
+  -- it isn't so that no copy can be used
+  some_found : (disk_now new Ckpt1).bytes ≡ (disk_now old Ckpt1).bytes → (disk_now new Ckpt2).bytes ≡ (disk_now old Ckpt2).bytes → (one two : CopyState) → StartCauses tells (no_start.NotFormatted one two) old new → ⊥
+  some_found same1 same2 one two causes =
+      let x = causes.cause in
+      not_both_gone one two
+      (gone alike.was alike.coming Ckpt1 t last old new left alike.first (λ bytes e. usable_by bytes (low.first bytes e)) goes same1 tells told causes.alive1 one x.0)
+      (gone alike.was alike.coming Ckpt2 t last old new left alike.second (λ bytes e. usable_by bytes (low.second bytes e)) goes same2 tells told causes.alive2 two x.1)
+      x.2
+
+  -- the configuration of pages that were found
+  config_of : (pages : List Page) (u : Tables) → AreOf pages u → HaveSize pages → (es : List Entry) → StandFor (run base es) (bytes_of pages) → u.config ≡ base.config
+  config_of pages u are sized es s = sym (told_by spells (run base es) pages u are sized s).config ∙ (configs base es).config
+
+  -- no device is too small
+  none_small : (dev : Dev) (size : ℕ) → StartCauses tells (no_start.DeviceSize dev size) old new → ⊥
+  none_small dev size causes =
+      let x = causes.cause in
+      let pages : List Page = x.0 in
+      let u : Tables = x.1 in
+      let config : u.config ≡ base.config =
+      ⊎_elim (λ s. config_of pages u x.2 x.3 (kept_at J t) s) (λ s. config_of pages u x.2 x.3 (kept_at J t ++ flying_at J t) s)
+      (stands reads base J t last old (bytes_of pages) new alike left (x.4 told)) in
+      let small : IsSmall (areas_size (page_count u.config)) u.config dev size new = subst (λ (n : ℕ). IsSmall (areas_size n) u.config dev size new) x.2.0.spell.count x.5 in
+      never_small base.config old new goes large dev size (subst (λ (c : Config). IsSmall (areas_size (page_count c)) c dev size new) config small)
+
+-- no byte of a copy changed in a start that gave nothing
+same_bytes : (tells : Type 0) → tells → (old new : View) → (new ≡ old) ⊎ (tells → OnlyLookedAtAll old new) → ((disk_now new Ckpt1).bytes ≡ (disk_now old Ckpt1).bytes) × ((disk_now new Ckpt2).bytes ≡ (disk_now old Ckpt2).bytes)
+same_bytes tells told old new looked =
+    ⊎_elim (λ e. (ap (λ (v : View). (disk_now v Ckpt1).bytes) e, ap (λ (v : View). (disk_now v Ckpt2).bytes) e))
+    (λ f. let w = f told in ((w.first new.now w.goes.later (omega arith)).bytes, (w.second new.now w.goes.later (omega arith)).bytes)) looked
+
+not_lost : (A : Type 0) (one two : CopyState) → (status.NotFormatted one two ≡ status.BothLost) ⊎ A → A
+not_lost A one two (inl e) = absurd (cc)
+not_lost A one two (inr a) = a
+
+pub begins : SpellsOneAtMost → RunsKeepConfiguration → RunsKeepSound → (first_tells next_tells : Type 0) → BeginsWithWhatIsLeft first_tells next_tells
+begins spells configs sounds first_tells next_tells told also cold script answer ends base found J since t first last old new was ge le left low large ended =
+    test_cases (has_begun found) ((has_begun found ≡ true) ⊎ IsHindered ends old new) (λ e. inl e)
+    (λ e. inr (hindered ends ended.begun (ended.unstarted e) (ended.untouched e) ended.cause e))
+  where
+    -- so what a start would have found isn't so
+    never : (A : Type 0) → (AreGivenIn base J.batches → AreAlike reads base J t (left_at last t Ckpt1) (left_at last t Ckpt2) → A → ⊥) → A → ⊥
+    never A clash a =
+        ∥∥₁_elim (was.steps.safe.alike told) (λ x y. absurd x) (λ (alike : AreAlwaysAlike reads base J since last).
+        ∥∥₁_elim (was.steps.safe.paper told) (λ x y. absurd x) (λ (paper : PaperKept base since J.batches last). clash paper.given (alike t ge le) a))
+
+    hindered : (s : Status) → Begins s found → IsNotStarted next_tells s old new → (s ≡ status.BothLost) ⊎ ((new ≡ old) ⊎ (next_tells → OnlyLookedAtAll old new)) → IsCaused s old new → has_begun found ≡ false → IsHindered s old new
+    hindered status.Done begun why looked cause none = absurd (cc)
+    hindered status.ConsoleFault begun why looked cause none = absurd (cc)
+    hindered (status.NotFormatted one two) begun why looked cause none =
+        let same = same_bytes next_tells also old new (not_lost ((new ≡ old) ⊎ (next_tells → OnlyLookedAtAll old new)) one two looked) in
+        never (StartCauses next_tells (no_start.NotFormatted one two) old new)
+        (λ given alike causes. some_found spells configs sounds base J t last old new left was.sound given low large alike ended.goes next_tells also same.0 same.1 one two causes) why
+    hindered (status.DeviceSize dev size) begun why looked cause none =
+        never (StartCauses next_tells (no_start.DeviceSize dev size) old new)
+        (λ given alike causes. none_small spells configs sounds base J t last old new left was.sound given low large alike ended.goes next_tells also dev size causes) why
+    hindered status.BothLost begun why looked cause none = (cause.failed1 refl, cause.failed2 refl, why.failed)
+    hindered status.Words begun why looked cause none = tt
+    hindered (status.BadLine line cause) begun why looked caused none = tt
+    hindered status.TooLong begun why looked cause none = tt
+    hindered status.SourceFault begun why looked cause none = tt
+    hindered status.NoMemory begun why looked cause none = tt

@@ -1,0 +1,77 @@
+-- That a next run begins.
+use Rattle.std.specs.Prelude.{◌≡◌, ◌⊎◌, ℕ, ◌≤◌, ◌<◌, ◌^◌, Bool, true, false, List, Some}
+use Rattle.mas_types.specs.declared.answers.Status.{Status}
+use Rattle.mas_types.specs.declared.answers.Status.TheVariants as status
+use Rattle.mas_types.specs.declared.ids.Dev.TheVariants.{Ckpt1, Ckpt2}
+use Rattle.mas_types.specs.declared.ids.Page.{Page}
+use Rattle.mas_types.specs.declared.journals.Journal.{Journal}
+use Rattle.mas_types.specs.declared.queues.Config.{Config}
+use Rattle.mas_types.specs.declared.queues.Queue.{Queue}
+use Rattle.script_lang.specs.declared.types.Script.{Script}
+use Rattle.spool_disk.specs.Acts.{Goes}
+use Rattle.spool_disk.specs.View.{View, disk_now}
+use Rattle.ckpt_copy.specs.Areas.{reads, areas_size}
+use Rattle.ckpt_copy.specs.Pages.{bytes_of, level}
+use Rattle.ckpt_pages.specs.declared.tables.Tables.{Tables}
+use Rattle.ckpt_pages.specs.Checkpoints.{IsCheckpoint}
+use Rattle.ckpt_pages.specs.Shape.{page_count}
+use Rattle.warm_start.specs.Spooled.{AreRoomy}
+use Rattle.warm_start.specs.Starting.{NoneOrFailed, OnlyLookedAtAll, WasTaken}
+use Rattle.warm_start.specs.Usable.{HaveSize}
+use Rattle.mas_run.specs.Runs.{has_begun, Begins, IsRun}
+use Rattle.mas_run.specs.Statuses.{IsCaused}
+use Rattle.mas_run.specs.Unstarted.{IsNotStarted}
+use Rattle.run_laws.specs.Left.{IsLeftBy}
+
+-- WHAT IS LEFT
+
+-- levels and orders are left on these pages, which spell these tables
+pub record IsLow (pages : List Page) (t : Tables) : Type 0 where
+  pub low_level : level (bytes_of pages) < 2 ^ 62
+  pub low_order : t.order < 2 ^ 62
+
+-- so it is of pages that are these bytes, one after another
+abbrev pub AreLow : List ℕ → Type 0
+AreLow bytes = (pages : List Page) (t : Tables) → HaveSize pages → bytes_of pages ≡ bytes → IsCheckpoint pages t → IsLow pages t
+
+-- and of the pages that each copy reads as
+pub record BothLow (v : View) : Type 0 where
+  pub first : (bytes : List ℕ) → reads (disk_now v Ckpt1).bytes ≡ Some bytes → AreLow bytes
+  pub second : (bytes : List ℕ) → reads (disk_now v Ckpt2).bytes ≡ Some bytes → AreLow bytes
+
+-- the devices are as large as a configuration asks
+pub record AreLarge (config : Config) (v : View) : Type 0 where
+  pub first : areas_size (page_count config) ≤ v.size Ckpt1
+  pub second : areas_size (page_count config) ≤ v.size Ckpt2
+  pub roomy : AreRoomy v config
+
+-- THE NEXT RUN
+
+-- How a warm run ended, by what its contract says of runs that haven't begun.
+pub record HasEnded (tells : Type 0) (ends : Status) (found : Queue) (old new : View) : Type 0 where
+  pub begun : Begins ends found
+  pub unstarted : has_begun found ≡ false → IsNotStarted tells ends old new
+  pub untouched : has_begun found ≡ false → (ends ≡ status.BothLost) ⊎ ((new ≡ old) ⊎ (tells → OnlyLookedAtAll old new))
+  pub cause : IsCaused ends old new
+  pub goes : Goes old new
+
+-- What hinders a run from beginning is not what stands on the copies, nor a device's size: its words, its script or their source, want of
+-- memory, or that both copies were lost: before it, or in it, one at least that wasn't before by an act that failed, and the other so or
+-- by the start.
+abbrev pub IsHindered : Status → View → View → Type 0
+IsHindered status.Done old new = ⊥
+IsHindered status.ConsoleFault old new = ⊥
+IsHindered (status.NotFormatted first second) old new = ⊥
+IsHindered (status.DeviceSize dev size) old new = ⊥
+IsHindered status.BothLost old new = WasTaken Ckpt1 old new × WasTaken Ckpt2 old new × NoneOrFailed old new
+IsHindered _ old new = Unit {0}
+
+-- A run was played, cold or warm, and at a moment of it a crash left what a plant shows, on devices that are large enough; levels and
+-- orders are left. A warm run on that plant begins, unless something else hinders it.
+abbrev pub BeginsWithWhatIsLeft : Type 0 → Type 0 → Type 0
+BeginsWithWhatIsLeft first_tells next_tells =
+    first_tells → next_tells
+    → (cold : Bool) (script : Script) (answer ends : Status) (base found : Queue) (J : Journal) (since t : ℕ) (first last old new : View)
+    → IsRun cold first_tells script answer base J since first last → since ≤ t → t ≤ last.now → IsLeftBy t last old
+    → BothLow old → AreLarge base.config old → HasEnded next_tells ends found old new
+    → (has_begun found ≡ true) ⊎ IsHindered ends old new
