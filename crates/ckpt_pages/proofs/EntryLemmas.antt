@@ -7,8 +7,8 @@ use Rattle.std.proofs.lemmas.List.Elements.{All-push, All-get_or, All-head, All-
 use Rattle.lay_bytes.specs.Bytes.{are_zeros}
 use Rattle.lay_bytes.specs.Fields.{piece}
 use Rattle.lay_bytes.proofs.SlotLemmas.{zeros_of}
-use Rattle.ckpt_pages.specs.declared.entries.NotRead.{NotRead}
-use Rattle.ckpt_pages.specs.declared.entries.NotRead.TheVariants.{Bad}
+use Rattle.ckpt_pages.specs.declared.entries.EntryError.{EntryError}
+use Rattle.ckpt_pages.specs.declared.entries.EntryError.TheVariants.{Bad}
 use Rattle.ckpt_pages.specs.Reading.{AreEntries, ReadsEntries, AreNoEntries}
 use Rattle.ckpt_pages.proofs.Putting.{concat-append}
 
@@ -26,7 +26,7 @@ pub zeros_rest : (at : ℕ) (bytes : List ℕ) (b : Bool) → b ≡ are_zeros (t
 zeros_rest at bytes b h = ap are_zeros (sym (take_all (length bytes - at) (drop at bytes) (omega (arith, length-drop at bytes)))) ∙ sym h
 
 -- what was handed on is what the call answered
-pub bad_again : (X Y : Type 0) (r : Result X NotRead) (e e' : NotRead) → r ≡ Err e → e ≡ e' → r ≡ Err Bad → ◌≡◌ {A = Result Y NotRead} (Err e') (Err Bad)
+pub bad_again : (X Y : Type 0) (r : Result X EntryError) (e e' : EntryError) → r ≡ Err e → e ≡ e' → r ≡ Err Bad → ◌≡◌ {A = Result Y EntryError} (Err e') (Err Bad)
 bad_again X Y r e e' a b h = let is : e' ≡ Bad = cc in rw is refl
 
 -- i items are read, the bytes before at

@@ -18,8 +18,8 @@ use Rattle.ckpt_pages.specs.declared.tables.Tables.{Tables}
 use Rattle.ckpt_pages.specs.Shape.{HasSpelling, AreLevels}
 use Rattle.ckpt_pages.specs.Headers.{IsHeader, header_with, header_bytes}
 use Rattle.ckpt_pages.specs.Pages.{filled, filled_to, part, page_in, page_of}
-use Rattle.ckpt_pages.specs.declared.entries.NotRead.{NotRead}
-use Rattle.ckpt_pages.specs.declared.entries.NotRead.TheVariants as notread
+use Rattle.ckpt_pages.specs.declared.entries.EntryError.{EntryError}
+use Rattle.ckpt_pages.specs.declared.entries.EntryError.TheVariants as notread
 use Rattle.ckpt_pages.specs.declared.entries.PageNo.{PageNo}
 use Rattle.ckpt_pages.specs.declared.entries.PageNo.TheVariants.{BadPage, NoMemory}
 use Rattle.ckpt_pages.specs.Reading.{AreEntries, ArePages, IsFirstBad, IfBadPage, page_no}
@@ -191,9 +191,9 @@ other_page P Q NoMemory h f = tt
 pub handed_on : (T : Type 0) (Q : ℕ → Type 0) (r : Result T PageNo) (y e : PageNo) → r ≡ Err y → y ≡ e → IfBadPage e Q → IfErr r (λ x. IfBadPage x Q)
 handed_on T Q r y e a b h = rw (a, b) h
 
-pub of_reader : (Q : ℕ → Type 0) (why : NotRead) (p : ℕ) → (why ≡ notread.Bad → Q p) → IfBadPage (page_no why p) Q
+pub of_reader : (Q : ℕ → Type 0) (why : EntryError) (p : ℕ) → (why ≡ notread.Bad → Q p) → IfBadPage (page_no why p) Q
 of_reader Q notread.Bad p f = f refl
 of_reader Q notread.NoMemory p f = tt
 
-pub err_is : (T : Type 0) (why : NotRead) → why ≡ notread.Bad → ◌≡◌ {A = Result T NotRead} (Err why) (Err notread.Bad)
+pub err_is : (T : Type 0) (why : EntryError) → why ≡ notread.Bad → ◌≡◌ {A = Result T EntryError} (Err why) (Err notread.Bad)
 err_is T why e = rw e refl

@@ -1,8 +1,8 @@
 -- What bytes and pages are where they are entries of one width.
 use Rattle.std.specs.Prelude.{◌≡◌, ℕ, ◌+◌, ◌-◌, ◌*◌, ◌≤◌, ◌<◌, min, List, ◌++◌, length, map, All}
 use Rattle.mas_types.specs.declared.ids.Page.{Page}
-use Rattle.ckpt_pages.specs.declared.entries.NotRead.{NotRead}
-use Rattle.ckpt_pages.specs.declared.entries.NotRead.TheVariants as notread
+use Rattle.ckpt_pages.specs.declared.entries.EntryError.{EntryError}
+use Rattle.ckpt_pages.specs.declared.entries.EntryError.TheVariants as notread
 use Rattle.ckpt_pages.specs.declared.entries.PageNo.{PageNo}
 use Rattle.ckpt_pages.specs.declared.entries.PageNo.TheVariants.{BadPage, NoMemory}
 use Rattle.ckpt_pages.specs.Pages.{filled, filled_to, part, page_in}
@@ -38,7 +38,7 @@ pub record IsFirstBad {X : Type 0} (spelling : X → List ℕ) (Fits : X → Typ
   pub bad : AreNoEntries spelling Fits (min (total - a_page * (p - first)) a_page) (page_in pages p)
 
 -- what is answered where page p was not read
-abbrev pub page_no : NotRead → ℕ → PageNo
+abbrev pub page_no : EntryError → ℕ → PageNo
 page_no notread.Bad p = BadPage p
 page_no notread.NoMemory p = NoMemory
 

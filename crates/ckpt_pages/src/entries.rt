@@ -1,7 +1,7 @@
 //! Entries of one width, one after another.
 ghost use Rattle.std.specs.Prelude.{◌≡◌, ℕ, ◌-◌, ◌*◌, ◌^◌, ◌≤◌, ◌<◌, List, length, true, false, Err, OnOk, IfOk, IfErr};
 ghost use Rattle.mas_types.specs.Limits.{page_bytes};
-ghost use Rattle.ckpt_pages.specs.declared.entries.NotRead.TheVariants.{Bad};
+ghost use Rattle.ckpt_pages.specs.declared.entries.EntryError.TheVariants.{Bad};
 ghost use Rattle.ckpt_pages.specs.Testing.{SpellsOne};
 ghost use Rattle.ckpt_pages.specs.Reading.{ReadsEntries, AreNoEntries, ArePages, IsFirstBad, IfBadPage, page_no};
 
@@ -12,7 +12,7 @@ use thiserror::Error;
 
 /// Why bytes were not read.
 #[derive(Clone, Copy, Debug, PartialEq, Eq, Error)]
-pub enum NotRead {
+pub enum EntryError {
     /// They are no spelling.
     #[error("the bytes are no spelling")]
     Bad,
@@ -30,14 +30,14 @@ pub enum PageNo {
     NoMemory,
 }
 
-impl NotRead {
+impl EntryError {
     /// What is answered where this page was not read.
     pub(crate) fn at_page(self, page: u16) -> PageNo
         ensures { result ≡ page_no self page }
     {
         match self {
-            NotRead::Bad => PageNo::BadPage(page),
-            NotRead::NoMemory => PageNo::NoMemory,
+            EntryError::Bad => PageNo::BadPage(page),
+            EntryError::NoMemory => PageNo::NoMemory,
         }
     }
 }
@@ -56,7 +56,7 @@ pub(crate) trait Entry: Drop + Sized {
     const WIDTH: usize;
 
     /// Reads an entry. `Bad` comes exactly where it is no spelling.
-    fn read(alloc: Global, bytes: &[u8]) -> Result<Self, NotRead>
+    fn read(alloc: Global, bytes: &[u8]) -> Result<Self, EntryError>
         requires { length bytes.now ≡ WIDTH }
         ensures found { IfOk result (λ x. has_spelling x × (bytes.now ≡ spelling x)) }
         ensures bad { result ≡ Err Bad → (x : Self) → has_spelling x → bytes.now ≡ spelling x → ⊥ };
@@ -78,7 +78,7 @@ pub(crate) fn read_entries<E: Entry>(
     bytes: &[u8],
     count: usize,
     into: &mut List<E>,
-) -> Result<(), NotRead>
+) -> Result<(), EntryError>
     requires { E.WIDTH * count ≤ length bytes.now }
     ensures ok { OnOk result (ReadsEntries E.spelling E.has_spelling count bytes.now into.old into.new) }
     ensures bad { result ≡ Err Bad → AreNoEntries E.spelling E.has_spelling count bytes.now }
@@ -87,14 +87,14 @@ pub(crate) fn read_entries<E: Entry>(
     for _entry in 0..count {
         let item = E::read(alloc, &bytes[at..at + E::WIDTH])?;
         let Ok(()) = into.push(item) else {
-            return Err(NotRead::NoMemory);
+            return Err(EntryError::NoMemory);
         };
         at += E::WIDTH;
     }
     if is_zero(&bytes[at..]) {
         Ok(())
     } else {
-        Err(NotRead::Bad)
+        Err(EntryError::Bad)
     }
 }
 
@@ -129,8 +129,8 @@ pub(crate) fn read_pages<E: Entry>(
         let count = rest.min(a_page);
         match read_entries(alloc, bytes_in(&pages[page]), count, &mut items) {
             Ok(()) => {}
-            Err(NotRead::Bad) => return Err(PageNo::BadPage(page as u16)),
-            Err(NotRead::NoMemory) => return Err(PageNo::NoMemory),
+            Err(EntryError::Bad) => return Err(PageNo::BadPage(page as u16)),
+            Err(EntryError::NoMemory) => return Err(PageNo::NoMemory),
         }
         rest -= count;
         page += 1;

@@ -3,11 +3,11 @@ ghost use Rattle.std.specs.Prelude.{◌≡◌, ◌≤◌, ◌&&◌, nat_le, leng
 ghost use Rattle.std.specs.List.{list_all};
 ghost use Rattle.lay_bytes.specs.Fields.{pieces};
 ghost use Rattle.ckpt_pages.specs.declared.header.Header.{Header as HeaderLem};
-ghost use Rattle.ckpt_pages.specs.declared.entries.NotRead.TheVariants.{Bad};
+ghost use Rattle.ckpt_pages.specs.declared.entries.EntryError.TheVariants.{Bad};
 ghost use Rattle.ckpt_pages.specs.Fields.{header_fields, header_in};
 ghost use Rattle.ckpt_pages.specs.Headers.{HasNumbers, IsHeader, NoHeader, header_bytes, pages_of, is_whole as is_whole_lem, are_ages as are_ages_lem};
 
-use crate::entries::{NotRead, bytes_in, read_entries};
+use crate::entries::{EntryError, bytes_in, read_entries};
 use crate::tables::{JOBS_A_PAGE, OUTPUTS_A_PAGE, pages_for};
 use lay_bytes::{Field, check_fields, read_u16, read_u32, read_u64};
 use mas_types::{JobNo, Level, List, Page};
@@ -77,20 +77,20 @@ fn is_whole(header: &Header) -> bool
 }
 
 /// Reads the numbers of the header.
-pub(crate) fn read_numbers(head: &[u8]) -> Result<Header, NotRead>
+pub(crate) fn read_numbers(head: &[u8]) -> Result<Header, EntryError>
     requires { length head.now ≡ 1024 }
     ensures found { IfOk result (λ header. HasNumbers header × (head.now ≡ header_bytes header)) }
     ensures bad { result ≡ Err Bad → (header : HeaderLem) → HasNumbers header → head.now ≡ header_bytes header → ⊥ }
     ensures only { IfErr result (λ e. e ≡ Bad) }
 {
     let Ok(()) = check_fields(&HEADER_FIELDS, head) else {
-        return Err(NotRead::Bad);
+        return Err(EntryError::Bad);
     };
     let header = header_of(head);
     if is_whole(&header) {
         Ok(header)
     } else {
-        Err(NotRead::Bad)
+        Err(EntryError::Bad)
     }
 }
 
@@ -121,23 +121,23 @@ fn are_ages(level: Level, levels: &[Level]) -> bool
 }
 
 /// Reads the header of so many pages. `Bad` comes exactly where page 0 is no spelling.
-pub(crate) fn read_header(alloc: Global, pages: &[Page]) -> Result<Header, NotRead>
+pub(crate) fn read_header(alloc: Global, pages: &[Page]) -> Result<Header, EntryError>
     ensures found { IfOk result (λ header. IsHeader header pages.now) }
     ensures bad { result ≡ Err Bad → NoHeader pages.now }
 {
     let Some(page) = pages.first() else {
-        return Err(NotRead::Bad);
+        return Err(EntryError::Bad);
     };
     let (head, rest) = bytes_in(page).split_at(1024);
     let header = read_numbers(head)?;
     if pages_asked(&header) != pages.len() {
-        return Err(NotRead::Bad);
+        return Err(EntryError::Bad);
     }
     let mut levels = List::new(alloc);
     read_entries(alloc, rest, pages.len(), &mut levels)?;
     if are_ages(header.level, levels.as_slice()) {
         Ok(header)
     } else {
-        Err(NotRead::Bad)
+        Err(EntryError::Bad)
     }
 }

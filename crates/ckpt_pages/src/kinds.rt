@@ -12,7 +12,7 @@ ghost use Rattle.ckpt_pages.specs.Pages.{setting_entry, line_entry, route_entry}
 ghost use Rattle.ckpt_pages.specs.Fields.{setting_fields, classes_in, line_fields, line_in, route_fields, route_in};
 ghost use Rattle.ckpt_pages.specs.Kinds.{line_size, line_apart, route_size, route_apart, level_size, level_apart, setting_size, setting_apart};
 
-use crate::entries::{Entry, NotRead};
+use crate::entries::{Entry, EntryError};
 use lay_bytes::{
     Field, JobRec, OutRec, check_fields, read_job, read_output, read_owner, read_u16, read_u32,
     read_u64,
@@ -47,10 +47,10 @@ impl Entry for Option<JobRec> {
 
     const WIDTH: usize = 256;
 
-    fn read(_alloc: Global, bytes: &[u8]) -> Result<Self, NotRead> {
+    fn read(_alloc: Global, bytes: &[u8]) -> Result<Self, EntryError> {
         let mut slot = [0; 256];
         slot.copy_from_slice(bytes);
-        read_job(&slot).map_err(|_| NotRead::Bad)
+        read_job(&slot).map_err(|_| EntryError::Bad)
     }
 
     fn is_entry(bytes: &[u8]) -> bool {
@@ -73,10 +73,10 @@ impl Entry for Option<OutRec> {
 
     const WIDTH: usize = 128;
 
-    fn read(_alloc: Global, bytes: &[u8]) -> Result<Self, NotRead> {
+    fn read(_alloc: Global, bytes: &[u8]) -> Result<Self, EntryError> {
         let mut slot = [0; 128];
         slot.copy_from_slice(bytes);
-        read_output(&slot).map_err(|_| NotRead::Bad)
+        read_output(&slot).map_err(|_| EntryError::Bad)
     }
 
     fn is_entry(bytes: &[u8]) -> bool {
@@ -99,10 +99,10 @@ impl Entry for Owner {
 
     const WIDTH: usize = 8;
 
-    fn read(_alloc: Global, bytes: &[u8]) -> Result<Self, NotRead> {
+    fn read(_alloc: Global, bytes: &[u8]) -> Result<Self, EntryError> {
         let mut entry = [0; 8];
         entry.copy_from_slice(bytes);
-        read_owner(&entry).map_err(|_| NotRead::Bad)
+        read_owner(&entry).map_err(|_| EntryError::Bad)
     }
 
     fn is_entry(bytes: &[u8]) -> bool {
@@ -125,7 +125,7 @@ impl Entry for Level {
 
     const WIDTH: usize = 8;
 
-    fn read(_alloc: Global, bytes: &[u8]) -> Result<Self, NotRead> {
+    fn read(_alloc: Global, bytes: &[u8]) -> Result<Self, EntryError> {
         Ok(read_u64(bytes, 0))
     }
 
@@ -168,9 +168,9 @@ impl Entry for LineCount {
 
     const WIDTH: usize = 16;
 
-    fn read(_alloc: Global, bytes: &[u8]) -> Result<Self, NotRead> {
+    fn read(_alloc: Global, bytes: &[u8]) -> Result<Self, EntryError> {
         let Ok(()) = check_fields(&LINE_FIELDS, bytes) else {
-            return Err(NotRead::Bad);
+            return Err(EntryError::Bad);
         };
         Ok(line_of(bytes))
     }
@@ -203,9 +203,9 @@ impl Entry for Route {
 
     const WIDTH: usize = 16;
 
-    fn read(_alloc: Global, bytes: &[u8]) -> Result<Self, NotRead> {
+    fn read(_alloc: Global, bytes: &[u8]) -> Result<Self, EntryError> {
         let Ok(()) = check_fields(&ROUTE_FIELDS, bytes) else {
-            return Err(NotRead::Bad);
+            return Err(EntryError::Bad);
         };
         Ok(route_of(bytes))
     }
@@ -254,12 +254,12 @@ impl Entry for Setting {
 
     const WIDTH: usize = 128;
 
-    fn read(alloc: Global, bytes: &[u8]) -> Result<Self, NotRead> {
+    fn read(alloc: Global, bytes: &[u8]) -> Result<Self, EntryError> {
         let Ok(()) = check_fields(&SETTING_FIELDS, bytes) else {
-            return Err(NotRead::Bad);
+            return Err(EntryError::Bad);
         };
         let Ok(setting) = setting_of(alloc, bytes) else {
-            return Err(NotRead::NoMemory);
+            return Err(EntryError::NoMemory);
         };
         Ok(setting)
     }

@@ -1,6 +1,6 @@
 use mas_types::limits::SCRIPT_BYTES;
 use mas_types::{Command, Dev, LineCause, Lines, List, MemberId, Name8, NoMemory, What};
-use script_input::{SourceNo, read_script, read_source};
+use script_input::{SourceError, read_script, read_source};
 use script_lang::{Ask, ScriptNo, Step};
 use spool_disk::{Got, MemSource, Source};
 use std::alloc::Global;
@@ -191,7 +191,7 @@ fn reads_a_source_to_its_end(rt: HostRuntime) -> Result<(), Fail> {
     assert!(rt; bytes.as_slice() == script.as_slice());
     for at in [0, 10] {
         let mut source = MemSource::new(list_of(rt.alloc(), script)?, Some(at));
-        let failed = matches!(read_source(rt.alloc(), &mut source), Err(SourceNo::Fault));
+        let failed = matches!(read_source(rt.alloc(), &mut source), Err(SourceError::Fault));
         assert!(rt; failed, "at {at}");
     }
     let mut most = Zeros { left: SCRIPT_BYTES };
@@ -200,7 +200,7 @@ fn reads_a_source_to_its_end(rt: HostRuntime) -> Result<(), Fail> {
     let mut endless = Zeros { left: usize::MAX };
     let too_long = matches!(
         read_source(rt.alloc(), &mut endless),
-        Err(SourceNo::TooLong)
+        Err(SourceError::TooLong)
     );
     assert!(rt; too_long);
     assert!(rt; endless.left == usize::MAX - (SCRIPT_BYTES + 1));

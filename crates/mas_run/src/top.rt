@@ -23,7 +23,7 @@ use crate::ended::Ended;
 use crate::found::play_warm;
 use crate::play::{play_cold, unbegun};
 use mas_types::Status;
-use script_input::{SourceNo, read_script, read_source};
+use script_input::{SourceError, read_script, read_source};
 use script_lang::{Script, ScriptNo};
 use spool_disk::{Plant, Source};
 use std::alloc::Global;
@@ -46,9 +46,9 @@ fn read_all<S: Source>(
 {
     let bytes = match read_source(alloc, source) {
         Ok(bytes) => bytes,
-        Err(SourceNo::Fault) => return Err(Status::SourceFault),
-        Err(SourceNo::TooLong) => return Err(Status::TooLong),
-        Err(SourceNo::NoMemory) => return Err(Status::NoMemory),
+        Err(SourceError::Fault) => return Err(Status::SourceFault),
+        Err(SourceError::TooLong) => return Err(Status::TooLong),
+        Err(SourceError::NoMemory) => return Err(Status::NoMemory),
     };
     match read_script(alloc, bytes.as_slice(), cold, only) {
         Ok(script) => Ok(script),

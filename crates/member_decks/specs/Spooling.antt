@@ -15,8 +15,8 @@ use Rattle.spool_disk.specs.Acts.{Goes, Rose}
 use Rattle.spool_volumes.specs.Volumes.{volume_of, start_of}
 use Rattle.mas_complex.specs.Paper.{SamePapers}
 use Rattle.mas_complex.specs.Texts.{Spools}
-use Rattle.member_decks.specs.declared.spooling.SpoolNo.{SpoolNo}
-use Rattle.member_decks.specs.declared.spooling.SpoolNo.TheVariants.{Lost, Halted}
+use Rattle.member_decks.specs.declared.spooling.SpoolError.{SpoolError}
+use Rattle.member_decks.specs.declared.spooling.SpoolError.TheVariants.{Lost, Halted}
 
 -- each volume of the configuration that isn't lost has the size that its groups need
 abbrev pub AreRoomy : View → Config → Type 0
@@ -60,13 +60,13 @@ pub record OnVolumes (told : Type 0) (by : ℕ) (old new : View) : Type 0 where
   pub papers : told → SamePapers old new
 
 -- why it stopped: a volume on which a group lies failed and is lost, or the member was stopped
-abbrev pub SpoolCauses : {T : Type 0} → Result T SpoolNo → ℕ → ℕ → List GroupNo → View → View → Type 0
+abbrev pub SpoolCauses : {T : Type 0} → Result T SpoolError → ℕ → ℕ → List GroupNo → View → View → Type 0
 SpoolCauses (Ok done) by per groups old new = Unit {0}
 SpoolCauses (Err (Lost v)) by per groups old new = (lies_there per v groups ≡ true) × (new.lost (DiskPart (Spool v)) ≡ true) × Rose (old.faults (DiskPart (Spool v))) (new.faults (DiskPart (Spool v)))
 SpoolCauses (Err Halted) by per groups old new = (0 < by) × Rose (old.stops by) (new.stops by)
 
 -- the answer of an act on a volume
-abbrev pub answer_of : Act → ℕ → Result (Unit {0}) SpoolNo
+abbrev pub answer_of : Act → ℕ → Result (Unit {0}) SpoolError
 answer_of act.Done volume = Ok tt
 answer_of act.Failed volume = Err (Lost volume)
 answer_of act.Halted volume = Err Halted

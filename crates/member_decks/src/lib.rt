@@ -17,4 +17,4 @@ pub use locked::play_locked_deck;
 pub use opening::{Opened, take_groups};
 pub use playing::play_deck;
 pub use refusing::refuse;
-pub use spooling::{SpoolNo, spool_text, sync_volumes, write_pages};
+pub use spooling::{SpoolError, spool_text, sync_volumes, write_pages};

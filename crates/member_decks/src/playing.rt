@@ -28,7 +28,7 @@ ghost use Rattle.member_decks.specs.Steps.{AreOf, IsDeckStep, IsFoundLost, LiesO
 use crate::holding::take_hold;
 use crate::keeping::{close_deck, finishing, give_up, keep_batch};
 use crate::opening::{Opened, open_deck};
-use crate::spooling::{SpoolNo, spool_text};
+use crate::spooling::{SpoolError, spool_text};
 use mas_complex::{Complex, Steady};
 use mas_types::{JobFields, JobNo, Lines};
 use member_node::{Member, NodeNo};
@@ -83,8 +83,8 @@ fn spool_deck<P: Plant + Drop, C: Steady + Drop>(
     };
     let lost = match spool_text(complex, by, &held.as_slice()[..groups as usize], text) {
         Ok(()) => None,
-        Err(SpoolNo::Lost(volume)) => Some(volume),
-        Err(SpoolNo::Halted) => return Err(NodeNo::Halted),
+        Err(SpoolError::Lost(volume)) => Some(volume),
+        Err(SpoolError::Halted) => return Err(NodeNo::Halted),
     };
     let Ok(()) = complex.try_lock(by, true) else {
         unreachable!();

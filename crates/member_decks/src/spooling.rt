@@ -22,7 +22,7 @@ use thiserror::Error;
 
 /// Why a text doesn't stand in its groups.
 #[derive(Clone, Copy, Debug, PartialEq, Eq, Error)]
-pub enum SpoolNo {
+pub enum SpoolError {
     /// This volume is lost.
     #[error("a spool volume is lost")]
     Lost(u8),
@@ -57,13 +57,13 @@ fn lies_there(per: u32, volume: u8, groups: &[GroupNo]) -> bool
     groups.iter().any(|group| is_on(per, volume, *group))
 }
 
-fn answer(act: Act, volume: u8) -> Result<(), SpoolNo>
+fn answer(act: Act, volume: u8) -> Result<(), SpoolError>
     ensures { result ≡ answer_of act volume }
 {
     match act {
         Act::Done => Ok(()),
-        Act::Failed => Err(SpoolNo::Lost(volume)),
-        Act::Halted => Err(SpoolNo::Halted),
+        Act::Failed => Err(SpoolError::Lost(volume)),
+        Act::Halted => Err(SpoolError::Halted),
     }
 }
 
@@ -81,7 +81,7 @@ fn write_page<P: Plant + Drop, C: Steady + Drop>(
     group: GroupNo,
     text: &Lines,
     place: u32,
-) -> Result<(), SpoolNo>
+) -> Result<(), SpoolError>
     requires up { IsUp complex.old.book by }
     requires none { complex.old.current ≡ None }
     requires text { AreLines text.now }
@@ -119,7 +119,7 @@ pub fn write_pages<P: Plant + Drop, C: Steady + Drop>(
     by: MemberId,
     groups: &[GroupNo],
     text: &Lines,
-) -> Result<(), SpoolNo>
+) -> Result<(), SpoolError>
     requires up { IsUp complex.old.book by }
     requires none { complex.old.current ≡ None }
     requires text { AreLines text.now }
@@ -156,7 +156,7 @@ fn sync_volume<P: Plant + Drop, C: Steady + Drop>(
     by: MemberId,
     groups: &[GroupNo],
     volume: u8,
-) -> Result<(), SpoolNo>
+) -> Result<(), SpoolError>
     requires up { IsUp complex.old.book by }
     requires some { 1 ≤ complex.old.base.config.groups }
     requires volume { IsVolumeOf complex.old.base.config volume }
@@ -187,7 +187,7 @@ pub fn sync_volumes<P: Plant + Drop, C: Steady + Drop>(
     complex: &mut Complex<P, C>,
     by: MemberId,
     groups: &[GroupNo],
-) -> Result<(), SpoolNo>
+) -> Result<(), SpoolError>
     requires up { IsUp complex.old.book by }
     requires some { 1 ≤ complex.old.base.config.groups }
     requires within { All (IsGroupOf complex.old.base.config) groups.now }
@@ -223,7 +223,7 @@ pub fn spool_text<P: Plant + Drop, C: Steady + Drop>(
     by: MemberId,
     groups: &[GroupNo],
     text: &Lines,
-) -> Result<(), SpoolNo>
+) -> Result<(), SpoolError>
     requires up { IsUp complex.old.book by }
     requires none { complex.old.current ≡ None }
     requires text { AreLines text.now }

@@ -20,7 +20,7 @@ ghost use Rattle.member_work.specs.Spooled.{AreSpooled, AreWritten};
 
 use mas_complex::{Complex, Steady};
 use mas_types::{GroupNo, MemberId, OutSpec};
-use member_decks::{SpoolNo, sync_volumes, write_pages};
+use member_decks::{SpoolError, sync_volumes, write_pages};
 use member_node::{Member, NodeNo};
 use spool_disk::Plant;
 use spool_text::{groups_needed, law_of_groups};
@@ -63,7 +63,7 @@ fn write_outputs<P: Plant + Drop, C: Steady + Drop>(
     by: MemberId,
     groups: &[GroupNo],
     specs: &[OutSpec],
-) -> Result<(), SpoolNo>
+) -> Result<(), SpoolError>
     requires up { IsUp complex.old.book by }
     requires none { complex.old.current ≡ None }
     requires outputs { All IsOutSpec specs.now }
@@ -101,7 +101,7 @@ fn write_and_sync<P: Plant + Drop, C: Steady + Drop>(
     by: MemberId,
     groups: &[GroupNo],
     specs: &[OutSpec],
-) -> Result<(), SpoolNo>
+) -> Result<(), SpoolError>
     requires up { IsUp complex.old.book by }
     requires none { complex.old.current ≡ None }
     requires outputs { All IsOutSpec specs.now }
@@ -176,8 +176,8 @@ pub(crate) fn spool_outputs<P: Plant + Drop, C: Steady + Drop>(
     };
     let lost = match write_and_sync(complex, by, &held.as_slice()[..needed as usize], specs) {
         Ok(()) => None,
-        Err(SpoolNo::Lost(volume)) => Some(volume),
-        Err(SpoolNo::Halted) => return Err(NodeNo::Halted),
+        Err(SpoolError::Lost(volume)) => Some(volume),
+        Err(SpoolError::Halted) => return Err(NodeNo::Halted),
     };
     let Ok(()) = complex.try_lock(by, true) else {
         unreachable!();

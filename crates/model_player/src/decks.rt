@@ -8,7 +8,7 @@ ghost use Rattle.mas_types.specs.Sound.{IsSound};
 ghost use Rattle.model_player.specs.Commands.{entered};
 ghost use Rattle.model_player.specs.Steps.{deck};
 
-use crate::giving::{PlayNo, give, take_groups};
+use crate::giving::{PlayError, give, take_groups};
 use crate::lines::{closed, reply_lines};
 use card_reader::{Deck, DeckNo, read_deck};
 use mas_types::{Closing, Command, Lines, MemberId, Queue, Reply};
@@ -16,7 +16,7 @@ use model_queue::groups::groups_needed;
 use std::alloc::Global;
 
 // The reply with which a deck's step closes.
-fn enter(alloc: Global, queue: &mut Queue, by: MemberId, deck: Deck) -> Result<Reply, PlayNo>
+fn enter(alloc: Global, queue: &mut Queue, by: MemberId, deck: Deck) -> Result<Reply, PlayError>
     requires sound { IsSound queue.old }
     requires fields { IsJobFields deck.fields }
     requires lines { AreLines deck.text }
@@ -47,7 +47,7 @@ pub fn play_deck(
     by: MemberId,
     at: u32,
     cards: &Lines,
-) -> Result<Lines, PlayNo>
+) -> Result<Lines, PlayError>
     requires sound { IsSound queue.old }
     requires by { is_member queue.old.config by ≡ true }
     requires most { by.0 ≤ members_most }
@@ -63,6 +63,6 @@ pub fn play_deck(
         Err(DeckNo::BadCard { card, cause }) => {
             closed(alloc, by, at, &Closing::BadCard(card, cause))
         }
-        Err(DeckNo::NoMemory) => Err(PlayNo::NoMemory),
+        Err(DeckNo::NoMemory) => Err(PlayError::NoMemory),
     }
 }

@@ -5,7 +5,7 @@ ghost use Rattle.mas_types.specs.Fit.{IsFit};
 ghost use Rattle.mas_types.specs.Queue.{is_member};
 ghost use Rattle.mas_types.specs.Sound.{IsSound};
 ghost use Rattle.mas_types.specs.Step.{may_give, step};
-ghost use Rattle.model_player.specs.declared.giving.PlayNo.TheVariants.{NoMemory as no_memory};
+ghost use Rattle.model_player.specs.declared.giving.PlayError.TheVariants.{NoMemory as no_memory};
 ghost use Rattle.model_player.specs.Commands.{taken};
 
 use mas_types::{Command, MemberId, NoMemory, Queue, Reply};
@@ -16,7 +16,7 @@ use thiserror::Error;
 
 /// Why a step wasn't played.
 #[derive(Clone, Copy, Debug, Error)]
-pub enum PlayNo {
+pub enum PlayError {
     /// The script isn't read, the step isn't one of those that are played here, or a job's fields are beyond the limits.
     #[error("the step isn't played")]
     Unplayed,
@@ -25,11 +25,11 @@ pub enum PlayNo {
     NoMemory,
 }
 
-impl From<NoMemory> for PlayNo {
+impl From<NoMemory> for PlayError {
     ghost from_gives = { λ _ no. no ≡ no_memory };
 
-    fn from(_error: NoMemory) -> PlayNo {
-        PlayNo::NoMemory
+    fn from(_error: NoMemory) -> PlayError {
+        PlayError::NoMemory
     }
 }
 
@@ -39,7 +39,7 @@ pub fn give(
     queue: &mut Queue,
     by: MemberId,
     command: &Command,
-) -> Result<Reply, PlayNo>
+) -> Result<Reply, PlayError>
     requires sound { IsSound queue.old }
     requires fit { IsFit command.now }
     requires by { may_give queue.old by command.now ≡ true }
@@ -60,7 +60,7 @@ pub fn take_groups(
     queue: &mut Queue,
     by: MemberId,
     want: u32,
-) -> Result<Option<Reply>, PlayNo>
+) -> Result<Option<Reply>, PlayError>
     requires sound { IsSound queue.old }
     requires by { is_member queue.old.config by ≡ true }
     ensures ok { IfOk result (λ why. taken queue.old by want ≡ (queue.new, why)) }

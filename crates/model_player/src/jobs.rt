@@ -11,7 +11,7 @@ ghost use Rattle.job_outcome.specs.Next.{IsNamedEnd};
 ghost use Rattle.job_outcome.specs.Outcomes.{AreFitOutputs, IsNamedOutcome};
 ghost use Rattle.model_player.specs.Commands.{ended, freed, is_at_work as is_at_work_lem, job_at_work as job_at_work_lem, outcome_for, taken_for, tried_job, worked_as};
 
-use crate::giving::{PlayNo, give, take_groups};
+use crate::giving::{PlayError, give, take_groups};
 use job_outcome::{Outcome, Read, UnitEnd, end_by, outcome_of};
 use mas_types::{Command, Copied, Job, JobNo, List, MemberId, OutSpec, Phase, Queue, Reply, Text};
 use model_queue::groups::groups_needed;
@@ -40,7 +40,7 @@ fn free_after(
     queue: &mut Queue,
     by: MemberId,
     reply: Reply,
-) -> Result<UnitEnd, PlayNo>
+) -> Result<UnitEnd, PlayError>
     requires sound { IsSound queue.old }
     requires by { is_member queue.old.config by ≡ true }
     requires named { IsReplyNamed reply }
@@ -61,7 +61,7 @@ fn take_for(
     queue: &mut Queue,
     by: MemberId,
     groups: u32,
-) -> Result<Option<Reply>, PlayNo>
+) -> Result<Option<Reply>, PlayError>
     requires sound { IsSound queue.old }
     requires by { is_member queue.old.config by ≡ true }
     ensures ok { IfOk result (λ why. taken_for queue.old by groups ≡ (queue.new, why)) }
@@ -83,7 +83,7 @@ fn end_job(
     job: JobNo,
     groups: u32,
     outputs: List<OutSpec>,
-) -> Result<UnitEnd, PlayNo>
+) -> Result<UnitEnd, PlayError>
     requires sound { IsSound queue.old }
     requires by { is_member queue.old.config by ≡ true }
     requires outputs { AreOutputs outputs }
@@ -100,7 +100,7 @@ fn end_job(
 }
 
 // What becomes of a job that is run, or else converted.
-fn outcome_at(alloc: Global, job: &Job, runs: bool) -> Result<Outcome, PlayNo>
+fn outcome_at(alloc: Global, job: &Job, runs: bool) -> Result<Outcome, PlayError>
     requires { IsText job.now.text }
     ensures outcome { IfOk result (λ outcome. outcome ≡ outcome_for runs job.now) }
     ensures fits { IfOk result AreFitOutputs }
@@ -108,7 +108,7 @@ fn outcome_at(alloc: Global, job: &Job, runs: bool) -> Result<Outcome, PlayNo>
 {
     let fields = job.fields;
     if !is_fit(&Command::Begin { fields }) {
-        return Err(PlayNo::Unplayed);
+        return Err(PlayError::Unplayed);
     }
     let read = match &job.text {
         Text::Whole(lines) => Read::Lines(lines.copy(alloc)?),
@@ -147,7 +147,7 @@ fn go_on(
     job: JobNo,
     cancelled: bool,
     outcome: Outcome,
-) -> Result<UnitEnd, PlayNo>
+) -> Result<UnitEnd, PlayError>
     requires sound { IsSound queue.old }
     requires by { is_member queue.old.config by ≡ true }
     requires fits { AreFitOutputs outcome }
@@ -177,7 +177,7 @@ pub fn try_job(
     queue: &mut Queue,
     by: MemberId,
     runs: bool,
-) -> Result<Option<UnitEnd>, PlayNo>
+) -> Result<Option<UnitEnd>, PlayError>
     requires sound { IsSound queue.old }
     requires by { is_member queue.old.config by ≡ true }
     ensures ok { IfOk result (λ end. tried_job runs queue.old by ≡ (queue.new, end)) }

@@ -17,7 +17,7 @@ ghost use Rattle.std.specs.Prelude.{IfOk, OnOk};
 ghost use Rattle.mas_types.specs.Sound.{IsSound};
 ghost use Rattle.script_laws.specs.Limits.{IsScript};
 
-use giving::PlayNo;
+use giving::PlayError;
 use mas_types::{Lines, Queue, empty_queue};
 use playing::{play_step, restart};
 use script_lang::{Script, read_script};
@@ -35,30 +35,30 @@ fn cut(bytes: &[u8]) -> (&[u8], Option<&[u8]>) {
 }
 
 // The script that these bytes are.
-fn script_of(alloc: Global, bytes: &[u8], cold: bool) -> Result<Script, PlayNo>
+fn script_of(alloc: Global, bytes: &[u8], cold: bool) -> Result<Script, PlayError>
     ensures { IfOk result IsScript }
 {
     law_of_limits();
     let Ok(script) = read_script(alloc, bytes, cold, false, false) else {
-        return Err(PlayNo::Unplayed);
+        return Err(PlayError::Unplayed);
     };
     Ok(script)
 }
 
-fn say(rt: &HostRuntime, lines: &Lines) -> Result<(), PlayNo> {
+fn say(rt: &HostRuntime, lines: &Lines) -> Result<(), PlayError> {
     let mut out = rt.stdout();
     for at in 0..lines.len() {
         if out.write_all(lines.line(at)).is_err() || out.write_all(b"\n").is_err() {
-            return Err(PlayNo::Unplayed);
+            return Err(PlayError::Unplayed);
         }
     }
     Ok(())
 }
 
 // A byte 0 between two lists of lines.
-fn part(rt: &HostRuntime) -> Result<(), PlayNo> {
+fn part(rt: &HostRuntime) -> Result<(), PlayError> {
     if rt.stdout().write_all(&[0]).is_err() {
-        return Err(PlayNo::Unplayed);
+        return Err(PlayError::Unplayed);
     }
     Ok(())
 }
@@ -69,7 +69,7 @@ fn play(
     queue: &mut Queue,
     paper: &mut Lines,
     script: &Script,
-) -> Result<(), PlayNo>
+) -> Result<(), PlayError>
     requires sound { IsSound queue.old }
     requires script { IsScript script.now }
     ensures sound { OnOk result (IsSound queue.new) }
@@ -84,10 +84,10 @@ fn play(
     say(rt, paper)
 }
 
-fn run(rt: &HostRuntime) -> Result<(), PlayNo> {
+fn run(rt: &HostRuntime) -> Result<(), PlayError> {
     let mut bytes = Vec::new(rt.alloc());
     if rt.reader().read_to_end(&mut bytes).is_err() {
-        return Err(PlayNo::Unplayed);
+        return Err(PlayError::Unplayed);
     }
     let (first, second) = cut(bytes.as_slice());
     let script = script_of(rt.alloc(), first, true)?;

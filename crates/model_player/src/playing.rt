@@ -11,7 +11,7 @@ ghost use Rattle.script_laws.specs.Limits.{IsAsk, IsStep};
 ghost use Rattle.model_player.specs.Steps.{given as given_lem, played, replied, up_at as up_at_lem};
 
 use crate::decks::play_deck;
-use crate::giving::{PlayNo, give};
+use crate::giving::{PlayError, give};
 use crate::lines::{closed, reply_lines};
 use crate::works::play_work;
 use mas_types::{Closing, Command, Config, Dev, Lines, MemberId, Queue};
@@ -43,7 +43,7 @@ fn play_reply(
     by: MemberId,
     at: u32,
     given: &Command,
-) -> Result<Lines, PlayNo>
+) -> Result<Lines, PlayError>
     requires sound { IsSound queue.old }
     requires fit { IsFit given.now }
     requires by { may_give queue.old by given.now ≡ true }
@@ -63,7 +63,7 @@ fn play_given(
     by: MemberId,
     at: u32,
     given: &Command,
-) -> Result<Lines, PlayNo>
+) -> Result<Lines, PlayError>
     requires sound { IsSound queue.old }
     requires fit { IsFit given.now }
     requires by { may_give queue.old by given.now ≡ true }
@@ -86,7 +86,7 @@ fn play_asked(
     by: MemberId,
     at: u32,
     what: &Ask,
-) -> Result<Lines, PlayNo>
+) -> Result<Lines, PlayError>
     requires sound { IsSound queue.old }
     requires what { IsAsk what.now }
     requires by { is_member_lem queue.old.config by ≡ true }
@@ -96,10 +96,10 @@ fn play_asked(
 {
     match what {
         Ask::Deck(cards) => play_deck(alloc, queue, by, at, cards),
-        Ask::Command(Command::Restart) => Err(PlayNo::Unplayed),
+        Ask::Command(Command::Restart) => Err(PlayError::Unplayed),
         Ask::Command(given) => play_given(alloc, queue, by, at, given),
         Ask::Work(units) => play_work(alloc, queue, paper, by, at, *units),
-        _ => Err(PlayNo::Unplayed),
+        _ => Err(PlayError::Unplayed),
     }
 }
 
@@ -111,7 +111,7 @@ pub fn play_step(
     paper: &mut Lines,
     at: u32,
     step: &Step,
-) -> Result<Lines, PlayNo>
+) -> Result<Lines, PlayError>
     requires sound { IsSound queue.old }
     requires step { IsStep step.now }
     ensures played { IfOk result (λ lines. played queue.old paper.old at step.now ≡ Some (queue.new, paper.new, lines)) }
@@ -121,13 +121,13 @@ pub fn play_step(
         return Ok(Lines::new(alloc));
     }
     if !is_member(&queue.config, step.by) {
-        return Err(PlayNo::Unplayed);
+        return Err(PlayError::Unplayed);
     }
     play_asked(alloc, queue, paper, step.by, at, &step.what)
 }
 
 /// What a start does to the queue that it finds: the reset of all members.
-pub fn restart(alloc: Global, queue: &mut Queue) -> Result<(), PlayNo>
+pub fn restart(alloc: Global, queue: &mut Queue) -> Result<(), PlayError>
     requires { IsSound queue.old }
     ensures restarted { OnOk result (queue.new ≡ (step_lem queue.old nobody Restart).0) }
     ensures sound { OnOk result (IsSound queue.new) }

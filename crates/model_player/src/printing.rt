@@ -8,7 +8,7 @@ ghost use Rattle.job_outcome.specs.Next.{IsNamedEnd};
 ghost use Rattle.model_player.specs.Commands.{tried_output};
 ghost use Rattle.model_player.specs.Printing.{gone_of as gone_of_lem, last_line as last_line_lem, limit_of as limit_of_lem, next_command as next_command_lem, printed_behind, printed_next, wanting as wanting_lem};
 
-use crate::giving::{PlayNo, give};
+use crate::giving::{PlayError, give};
 use job_outcome::{UnitEnd, end_by};
 use mas_types::{Closing, Command, GroupNo, Lines, MemberId, Output, Queue, Text};
 use model_queue::outputs::{printing_at, setting_of, total};
@@ -72,7 +72,11 @@ fn next_command(output: &Output, limit: u32) -> Command
 }
 
 /// The output that is busy at the member is marked up to the last line that is printed next, or is done; none where there is none.
-pub fn try_output(alloc: Global, queue: &mut Queue, by: MemberId) -> Result<Option<UnitEnd>, PlayNo>
+pub fn try_output(
+    alloc: Global,
+    queue: &mut Queue,
+    by: MemberId,
+) -> Result<Option<UnitEnd>, PlayError>
     requires sound { IsSound queue.old }
     requires by { is_member queue.old.config by ≡ true }
     ensures ok { IfOk result (λ end. tried_output queue.old by ≡ (queue.new, end)) }
@@ -97,7 +101,7 @@ fn print_lines(
     last: u32,
     text: &Lines,
     paper: &mut Lines,
-) -> Result<(), PlayNo>
+) -> Result<(), PlayError>
     requires some { 1 ≤ length text.now }
     ensures { OnOk result (paper.new ≡ paper.old ++ printed_behind output.now.job output.now.index text.now output.now.mark (last - output.now.mark)) }
 {
@@ -114,7 +118,7 @@ pub fn print_next(
     queue: &Queue,
     by: MemberId,
     paper: &mut Lines,
-) -> Result<(), PlayNo>
+) -> Result<(), PlayError>
     requires { IsSound queue.now }
     ensures { OnOk result (paper.new ≡ paper.old ++ printed_next queue.now by) }
 {

@@ -10,7 +10,7 @@ ghost use Rattle.job_outcome.specs.Next.{IsNamedEnd};
 ghost use Rattle.model_player.specs.Commands.{first_tried, is_nothing as is_nothing_lem, next_tried, tried, unit_tried, worked_from};
 ghost use Rattle.model_player.specs.Steps.{work};
 
-use crate::giving::{PlayNo, give};
+use crate::giving::{PlayError, give};
 use crate::jobs::try_job;
 use crate::kinds::Kind;
 use crate::lines::closed;
@@ -32,7 +32,7 @@ fn try_command(
     queue: &mut Queue,
     by: MemberId,
     command: &Command,
-) -> Result<Option<UnitEnd>, PlayNo>
+) -> Result<Option<UnitEnd>, PlayError>
     requires sound { IsSound queue.old }
     requires fit { IsFit command.now }
     requires by { may_give queue.old by command.now ≡ true }
@@ -54,7 +54,7 @@ fn try_unit(
     queue: &mut Queue,
     by: MemberId,
     kind: Kind,
-) -> Result<Option<UnitEnd>, PlayNo>
+) -> Result<Option<UnitEnd>, PlayError>
     requires sound { IsSound queue.old }
     requires by { is_member queue.old.config by ≡ true }
     ensures ok { IfOk result (λ end. unit_tried kind queue.old by ≡ (queue.new, end)) }
@@ -80,7 +80,7 @@ fn try_first(
     queue: &mut Queue,
     by: MemberId,
     kinds: &[Kind],
-) -> Result<Option<UnitEnd>, PlayNo>
+) -> Result<Option<UnitEnd>, PlayError>
     requires sound { IsSound queue.old }
     requires by { is_member queue.old.config by ≡ true }
     ensures ok { IfOk result (λ end. first_tried kinds.now queue.old by ≡ (queue.new, end)) }
@@ -98,7 +98,7 @@ fn try_first(
 }
 
 // The next unit; none where none applies.
-fn try_next(alloc: Global, queue: &mut Queue, by: MemberId) -> Result<Option<UnitEnd>, PlayNo>
+fn try_next(alloc: Global, queue: &mut Queue, by: MemberId) -> Result<Option<UnitEnd>, PlayError>
     requires sound { IsSound queue.old }
     requires by { is_member queue.old.config by ≡ true }
     ensures ok { IfOk result (λ end. next_tried queue.old by ≡ (queue.new, end)) }
@@ -127,7 +127,7 @@ fn work_from(
     by: MemberId,
     units: u32,
     done: u32,
-) -> Result<Closing, PlayNo>
+) -> Result<Closing, PlayError>
     requires sound { IsSound queue.old }
     requires by { is_member queue.old.config by ≡ true }
     requires most { units + done < 2 ^ 32 }
@@ -156,7 +156,7 @@ pub fn play_work(
     by: MemberId,
     at: u32,
     units: u32,
-) -> Result<Lines, PlayNo>
+) -> Result<Lines, PlayError>
     requires sound { IsSound queue.old }
     requires by { is_member queue.old.config by ≡ true }
     requires most { by.0 ≤ members_most }

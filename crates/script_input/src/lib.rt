@@ -8,5 +8,5 @@ mod played;
 mod reading;
 mod script;
 
-pub use reading::{SourceNo, read_source};
+pub use reading::{SourceError, read_source};
 pub use script::read_script;

@@ -2,7 +2,7 @@
 ghost use Rattle.std.specs.Prelude.{◌≡◌, ℕ, ◌+◌, ◌≤◌, ◌<◌, [], ◌++◌, length, take, drop, IfOk, IfErr, OnOk, OnErr, IsErrOf, Ok};
 ghost use Rattle.spool_disk.specs.Acts.{Rose};
 ghost use Rattle.script_input.specs.Reading.{TakesAtMost};
-ghost use Rattle.script_input.specs.declared.reading.SourceNo.TheVariants.{NoMemory as no_memory};
+ghost use Rattle.script_input.specs.declared.reading.SourceError.TheVariants.{NoMemory as no_memory};
 
 use mas_types::limits::SCRIPT_BYTES;
 use mas_types::{List, NoMemory};
@@ -15,7 +15,7 @@ const PIECE: usize = 65_536;
 
 /// Why a source gave no script.
 #[derive(Clone, Copy, Debug, PartialEq, Eq, Error)]
-pub enum SourceNo {
+pub enum SourceError {
     /// The source failed.
     #[error("the source failed")]
     Fault,
@@ -27,11 +27,11 @@ pub enum SourceNo {
     NoMemory,
 }
 
-impl From<NoMemory> for SourceNo {
+impl From<NoMemory> for SourceError {
     ghost from_gives = { λ _ no. no ≡ no_memory };
 
-    fn from(_error: NoMemory) -> SourceNo {
-        SourceNo::NoMemory
+    fn from(_error: NoMemory) -> SourceError {
+        SourceError::NoMemory
     }
 }
 
@@ -54,11 +54,15 @@ fn append(bytes: &mut List<u8>, piece: &[u8]) -> Result<(), NoMemory>
 }
 
 // Fills the front of a piece, of at most `room` bytes: how many came, none where nothing was left.
-fn next_piece<S: Source>(source: &mut S, piece: &mut [u8], room: usize) -> Result<usize, SourceNo>
+fn next_piece<S: Source>(
+    source: &mut S,
+    piece: &mut [u8],
+    room: usize,
+) -> Result<usize, SourceError>
     requires some { 0 < room }
     requires there { room ≤ length piece.old }
     ensures within { IfOk result (λ n. n ≤ room) }
-    ensures fault { IfErr result (λ no. (no ≡ SourceNo.Fault) × Rose (S.faults source.old) (S.faults source.new)) }
+    ensures fault { IfErr result (λ no. (no ≡ SourceError.Fault) × Rose (S.faults source.old) (S.faults source.new)) }
     ensures faults { S.faults source.old ≤ S.faults source.new }
     ensures came { S.tells → IfOk result (λ n. take n piece.new ++ S.left source.new ≡ S.left source.old) }
     ensures over { S.tells → result ≡ Ok 0 → S.left source.new ≡ [] }
@@ -67,14 +71,14 @@ fn next_piece<S: Source>(source: &mut S, piece: &mut [u8], room: usize) -> Resul
     match source.next(&mut piece[..room]) {
         Got::Bytes(n) => Ok(n),
         Got::End => Ok(0),
-        Got::Failed => Err(SourceNo::Fault),
+        Got::Failed => Err(SourceError::Fault),
     }
 }
 
 /// Reads a source to its end. At most `SCRIPT_BYTES` bytes and one more are taken from it.
-pub fn read_source<S: Source>(alloc: Global, source: &mut S) -> Result<List<u8>, SourceNo>
+pub fn read_source<S: Source>(alloc: Global, source: &mut S) -> Result<List<u8>, SourceError>
     ensures within { IfOk result (λ bytes. length bytes ≤ SCRIPT_BYTES) }
-    ensures fault { IsErrOf result SourceNo.Fault → Rose (S.faults source.old) (S.faults source.new) }
+    ensures fault { IsErrOf result SourceError.Fault → Rose (S.faults source.old) (S.faults source.new) }
     ensures faults { S.faults source.old ≤ S.faults source.new }
 
     // All that was left came, and nothing is left.
@@ -82,8 +86,8 @@ pub fn read_source<S: Source>(alloc: Global, source: &mut S) -> Result<List<u8>,
     ensures nothing_left { S.tells → OnOk result (S.left source.new ≡ []) }
 
     // There is a byte too many, and it was taken.
-    ensures too_long { S.tells → IsErrOf result SourceNo.TooLong → SCRIPT_BYTES < length (S.left source.old) }
-    ensures read { S.tells → IsErrOf result SourceNo.TooLong → S.left source.new ≡ drop (SCRIPT_BYTES + 1) (S.left source.old) }
+    ensures too_long { S.tells → IsErrOf result SourceError.TooLong → SCRIPT_BYTES < length (S.left source.old) }
+    ensures read { S.tells → IsErrOf result SourceError.TooLong → S.left source.new ≡ drop (SCRIPT_BYTES + 1) (S.left source.old) }
 
     // Whatever comes, what is left is the rest of what was left.
     ensures taken { S.tells → TakesAtMost (SCRIPT_BYTES + 1) (S.left source.old) (S.left source.new) }
@@ -98,5 +102,5 @@ pub fn read_source<S: Source>(alloc: Global, source: &mut S) -> Result<List<u8>,
         }
         append(&mut bytes, &piece[..n])?;
     }
-    Err(SourceNo::TooLong)
+    Err(SourceError::TooLong)
 }

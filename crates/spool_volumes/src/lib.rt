@@ -5,4 +5,4 @@ mod laws;
 mod reading;
 
 pub use laws::{law_of_left_texts, law_of_read_texts};
-pub use reading::{ReadNo, read_text};
+pub use reading::{ReadError, read_text};

@@ -9,7 +9,7 @@ ghost use Rattle.spool_disk.specs.declared.plant.Part.TheVariants.{Disk};
 ghost use Rattle.spool_volumes.specs.Volumes.{page_of, volume_of, volumes_now, IsPlaced, IsSteady};
 ghost use Rattle.spool_volumes.specs.Looks.{volumes_shown, lie_on_lost, LooksAt};
 ghost use Rattle.spool_volumes.specs.Texts.{last_of, records_on, text_of, whole_text, Adds, IsLimited};
-ghost use Rattle.spool_volumes.specs.declared.reading.ReadNo.TheVariants.{Halted as ReadNoHalted};
+ghost use Rattle.spool_volumes.specs.declared.reading.ReadError.TheVariants.{Halted as ReadErrorHalted};
 
 use mas_types::limits::PAGE_BYTES;
 use mas_types::{Dev, GroupNo, Lines, MemberId, NoMemory, Page, Text};
@@ -20,7 +20,7 @@ use thiserror::Error;
 
 /// Why a text was not read.
 #[derive(Clone, Copy, Debug, PartialEq, Eq, Error)]
-pub enum ReadNo {
+pub enum ReadError {
     /// The member was stopped inside a read.
     #[error("the member was stopped")]
     Halted,
@@ -36,7 +36,7 @@ fn read_page<P: Plant>(
     per: u32,
     group: GroupNo,
     into: &mut [u8],
-) -> Result<bool, ReadNo>
+) -> Result<bool, ReadError>
     requires some { 1 ≤ per }
     requires page { length into.old ≡ page_bytes }
     requires placed { IsPlaced (P.view plant.old) per group }
@@ -44,7 +44,7 @@ fn read_page<P: Plant>(
     ensures read { result ≡ OkLem true → P.tells → page_of (volumes_now (P.view plant.old)) per group ≡ Some into.new }
     ensures lost { result ≡ OkLem false → IsSteady (P.view plant.old) (P.view plant.new) → page_of (volumes_now (P.view plant.old)) per group ≡ None }
     ensures out { result ≡ OkLem false → (P.view plant.new).lost (Disk (Spool (volume_of per group))) ≡ true }
-    ensures halted { IsErrOf result ReadNoHalted → (0 < by.0) × Rose ((P.view plant.old).stops by.0) ((P.view plant.new).stops by.0) }
+    ensures halted { IsErrOf result ReadErrorHalted → (0 < by.0) × Rose ((P.view plant.old).stops by.0) ((P.view plant.new).stops by.0) }
 {
     let dev = Dev::Spool((group.0 / per) as u8 + 1);
     if plant.lost(Part::Disk(dev)) {
@@ -54,7 +54,7 @@ fn read_page<P: Plant>(
     match plant.read(by, dev, at, into) {
         Act::Done => Ok(true),
         Act::Failed => Ok(false),
-        Act::Halted => Err(ReadNo::Halted),
+        Act::Halted => Err(ReadError::Halted),
     }
 }
 
@@ -66,7 +66,7 @@ fn add_group<P: Plant>(
     per: u32,
     group: GroupNo,
     lines: &mut Lines,
-) -> Result<bool, ReadNo>
+) -> Result<bool, ReadError>
     requires some { 1 ≤ per }
     requires placed { IsPlaced (P.view plant.old) per group }
     ensures looks { LooksAt P.tells by.0 (P.view plant.old) (P.view plant.new) }
@@ -74,7 +74,7 @@ fn add_group<P: Plant>(
     ensures records { result ≡ OkLem true → All (λ line. is_record line ≡ true) lines.old → All (λ line. is_record line ≡ true) lines.new }
     ensures none { result ≡ OkLem false → P.tells → IsSteady (P.view plant.old) (P.view plant.new) → records_on (volumes_now (P.view plant.old)) per group ≡ None }
     ensures out { result ≡ OkLem false → P.tells → (P.view plant.new).lost (Disk (Spool (volume_of per group))) ≡ false → records_on (volumes_shown (P.view plant.old)) per group ≡ None }
-    ensures halted { IsErrOf result ReadNoHalted → (0 < by.0) × Rose ((P.view plant.old).stops by.0) ((P.view plant.new).stops by.0) }
+    ensures halted { IsErrOf result ReadErrorHalted → (0 < by.0) × Rose ((P.view plant.old).stops by.0) ((P.view plant.new).stops by.0) }
 {
     law_of_reading();
     let mut page = Page([0; 4096]);
@@ -84,7 +84,7 @@ fn add_group<P: Plant>(
     match unpack(alloc, &page, lines) {
         Ok(()) => Ok(true),
         Err(TextNo::Bad) => Ok(false),
-        Err(TextNo::NoMemory) => Err(ReadNo::NoMemory),
+        Err(TextNo::NoMemory) => Err(ReadError::NoMemory),
     }
 }
 
@@ -122,7 +122,7 @@ pub fn read_text<P: Plant>(
     per: u32,
     groups: &[GroupNo],
     count: u16,
-) -> Result<Text, ReadNo>
+) -> Result<Text, ReadError>
     requires some { 1 ≤ per }
     requires placed { All (IsPlaced (P.view plant.old) per) groups.now }
     ensures looks { LooksAt P.tells by.0 (P.view plant.old) (P.view plant.new) }
@@ -130,7 +130,7 @@ pub fn read_text<P: Plant>(
     ensures limited { IfOk result IsLimited }
     ensures left { IfOk result (λ text. P.tells → lie_on_lost (P.view plant.new) per groups.now ≡ false → text ≡ text_of (records_on (volumes_shown (P.view plant.old)) per) count groups.now) }
     ensures text { IfOk result (λ text. P.tells → IsSteady (P.view plant.old) (P.view plant.new) → text ≡ text_of (records_on (volumes_now (P.view plant.old)) per) count groups.now) }
-    ensures halted { IsErrOf result ReadNoHalted → (0 < by.0) × Rose ((P.view plant.old).stops by.0) ((P.view plant.new).stops by.0) }
+    ensures halted { IsErrOf result ReadErrorHalted → (0 < by.0) × Rose ((P.view plant.old).stops by.0) ((P.view plant.new).stops by.0) }
 {
     let mut lines = Lines::new(alloc);
     for group in groups {
