@@ -128,10 +128,7 @@ fn stops(rt: &impl Abort, alloc: Global, act: u64, lost: Option<Dev>) -> Result<
         OPENS_FIRST
     };
     let expected = if act < opens { (2, 0) } else { (3, 1) };
-    assert!(rt;
-        recovered_at(alloc, act, lost)? == Some(expected),
-        "act {act}"
-    );
+    assert!(rt; recovered_at(alloc, act, lost)? == Some(expected));
     Ok(())
 }
 

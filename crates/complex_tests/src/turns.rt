@@ -59,8 +59,8 @@ fn tries(
 #[test]
 fn one_gets_the_lock(rt: HostRuntime) -> Result<(), Fail> {
     let answers = tries(rt.alloc(), FIRST, SECOND)?;
-    assert_eq!(rt; answers, (Ok(()), Err(LockNo::Busy(FIRST)), FIRST));
+    assert!(rt; answers == (Ok(()), Err(LockNo::Busy(FIRST)), FIRST));
     let answers = tries(rt.alloc(), SECOND, SECOND)?;
-    assert_eq!(rt; answers, (Ok(()), Ok(()), SECOND));
+    assert!(rt; answers == (Ok(()), Ok(()), SECOND));
     Ok(())
 }

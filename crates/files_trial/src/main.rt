@@ -8,7 +8,7 @@ use anyhow::Result;
 use mas_types::{Dev, MemberId};
 use plant_files::{FilePlant, StdSource};
 use plant_fuse::Fused;
-use plants::{read_back, say_lines, take_text, use_devices, use_printers};
+use plants::{read_back, say_lines, take_text, use_devices, use_printers, word_of};
 use spool_disk::{Got, Part, Plant, Source};
 use std::fs;
 
@@ -50,7 +50,7 @@ fn second_run(rt: &HostRuntime) -> Result<()> {
     println!(rt; "line {:?}", take_text(&mut plant))?;
     let mut fused = Fused::new(plant);
     fused.arm(MemberId(1), spool_disk::Fuse::Print, 1);
-    println!(rt; "halted {:?}", fused.print(MemberId(1), b"THIRD"))?;
+    println!(rt; "halted {}", word_of(fused.print(MemberId(1), b"THIRD")))?;
     Ok(())
 }
 
@@ -58,10 +58,10 @@ fn third_run(rt: &HostRuntime) -> Result<()> {
     let plant = FilePlant::open(*rt, rt.alloc(), FOLDER)?;
     let mut fused = Fused::new(plant);
     println!(rt;
-        "renewed {:?} {:?} {:?}",
-        fused.renew(Dev::Spool(1)),
-        fused.renew(Dev::Ckpt1),
-        fused.renew(Dev::Spool(9))
+        "renewed {} {} {}",
+        word_of(fused.renew(Dev::Spool(1))),
+        word_of(fused.renew(Dev::Ckpt1)),
+        word_of(fused.renew(Dev::Spool(9)))
     )?;
     println!(rt; "lost {}", fused.lost(Part::Disk(Dev::Spool(1))))?;
     println!(rt; "spool1 {:?}", read_back(&mut fused, Dev::Spool(1)))?;

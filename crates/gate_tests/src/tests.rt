@@ -10,7 +10,7 @@ const TURNS: u32 = 10_000;
 #[test]
 fn two_threads_write_in_turn(rt: HostRuntime) -> Result<(), Fail> {
     let (diary, first, second) = two(&rt, rt.alloc(), &[1, 2, 3], &[4, 5]).ok_or("memory")?;
-    assert_eq!(rt; (first, second, diary.entries.len()), (3, 2, 5));
+    assert!(rt; (first, second, diary.entries.len()) == (3, 2, 5));
     Ok(())
 }
 
@@ -21,17 +21,17 @@ fn eight_threads_take_ten_thousand_turns_each(rt: HostRuntime) -> Result<(), Fai
         steps.push(step)?;
     }
     let diary = together(&rt, rt.alloc(), MEMBERS, steps.as_slice()).ok_or("memory")?;
-    assert_eq!(rt; diary.entries.len(), 80_000);
+    assert!(rt; diary.entries.len() == 80_000);
     for member in 1..=MEMBERS {
         let mut next = 0;
         for entry in diary.entries.as_slice() {
             if entry.by == MemberId(member) {
-                assert_eq!(rt; entry.step, next, "of member {member}");
+                assert!(rt; entry.step == next);
                 assert!(rt; next < TURNS);
                 next += 1;
             }
         }
-        assert_eq!(rt; next, TURNS, "of member {member}");
+        assert!(rt; next == TURNS);
     }
     Ok(())
 }

@@ -155,7 +155,7 @@ fn numbers_and_names_have_limits(rt: HostRuntime) {
         (Command::Take { want: u32::MAX }, true),
     ];
     for (command, want) in &cases {
-        assert!(rt; is_fit(command) == *want, "{command:?}");
+        assert!(rt; is_fit(command) == *want);
     }
 }
 
@@ -182,7 +182,7 @@ fn lists_and_texts_have_limits(rt: HostRuntime) -> Result<(), NoMemory> {
         (set_printer(alloc, 10_000)?, false),
     ];
     for (command, want) in &cases {
-        assert!(rt; is_fit(command) == *want, "{command:?}");
+        assert!(rt; is_fit(command) == *want);
     }
     Ok(())
 }

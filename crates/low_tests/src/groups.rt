@@ -28,8 +28,8 @@ fn takes_the_lowest(rt: HostRuntime) {
         (9, 3, [mine, others, mine, mine]),
     ] {
         let mut owners = before;
-        assert!(rt; take(&mut owners, SECOND, want) == Ok(count), "of {want}");
-        assert!(rt; owners == after, "of {want}");
+        assert!(rt; take(&mut owners, SECOND, want) == Ok(count));
+        assert!(rt; owners == after);
     }
 }
 

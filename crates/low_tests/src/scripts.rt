@@ -192,7 +192,7 @@ fn reads_a_source_to_its_end(rt: HostRuntime) -> Result<(), Fail> {
     for at in [0, 10] {
         let mut source = MemSource::new(list_of(rt.alloc(), script)?, Some(at));
         let failed = matches!(read_source(rt.alloc(), &mut source), Err(SourceError::Fault));
-        assert!(rt; failed, "at {at}");
+        assert!(rt; failed);
     }
     let mut most = Zeros { left: SCRIPT_BYTES };
     let bytes = read_source(rt.alloc(), &mut most)?;

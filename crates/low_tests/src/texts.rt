@@ -61,7 +61,7 @@ fn cards_fill_groups(rt: HostRuntime) -> Result<(), Fail> {
     card[..3].copy_from_slice(b"//*");
     for (more, groups) in [(0, 1), (50, 1), (51, 2), (101, 3)] {
         let lines = text(&rt, rt.alloc(), b"//A JOB", &card, more)?;
-        assert!(rt; groups_needed(&lines) == groups, "with {more} cards");
+        assert!(rt; groups_needed(&lines) == groups);
     }
     Ok(())
 }

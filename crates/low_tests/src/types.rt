@@ -22,10 +22,7 @@ fn reads_names_and_classes(rt: HostRuntime) {
         ("A B", None),
         ("A-B", None),
     ] {
-        assert!(rt;
-            read_name(text.as_bytes()).ok() == name.map(Name8),
-            "at {text}"
-        );
+        assert!(rt; read_name(text.as_bytes()).ok() == name.map(Name8));
     }
     for (byte, good) in [
         (b'A', true),
@@ -39,7 +36,7 @@ fn reads_names_and_classes(rt: HostRuntime) {
         (b'a', false),
         (b'$', false),
     ] {
-        assert!(rt; read_class(byte).is_ok() == good, "at {byte}");
+        assert!(rt; read_class(byte).is_ok() == good);
     }
 }
 
@@ -60,10 +57,7 @@ fn reads_numbers(rt: HostRuntime) {
         ("1 ", 9, None),
         ("A", 99, None),
     ] {
-        assert!(rt;
-            read_number(text.as_bytes(), max).ok() == number,
-            "at {text}"
-        );
+        assert!(rt; read_number(text.as_bytes(), max).ok() == number);
     }
 }
 
@@ -77,7 +71,7 @@ fn names_jobs_and_members(rt: HostRuntime) {
     ] {
         let mut into = [0; 8];
         write_key(JobNo(number), &mut into);
-        assert!(rt; into == *key, "at {number}");
+        assert!(rt; into == *key);
     }
     for (text, member) in [
         ("SYSA", Some(1)),
@@ -88,10 +82,7 @@ fn names_jobs_and_members(rt: HostRuntime) {
         ("SYSA ", None),
         ("SYS", None),
     ] {
-        assert!(rt;
-            read_member(text.as_bytes()).ok() == member.map(MemberId),
-            "at {text}"
-        );
+        assert!(rt; read_member(text.as_bytes()).ok() == member.map(MemberId));
     }
     assert!(rt; member_name(MemberId(0)) == Name8(*b"OPER    "));
     assert!(rt; member_name(MemberId(8)) == Name8(*b"SYSH    "));
@@ -101,7 +92,7 @@ fn closes(rt: &impl Abort, alloc: Global, end: &Closing, text: &str) -> Result<(
     requires { AreMembersNamed end.now }
 {
     let line = closing_line(alloc, MemberId(1), 1, end)?;
-    assert!(rt; line.as_slice() == text.as_bytes(), "at {text}");
+    assert!(rt; line.as_slice() == text.as_bytes());
     Ok(())
 }
 

@@ -49,7 +49,7 @@ fn read(rt: &impl Abort, alloc: Global, plant: &mut MemPlant, count: u16) -> Res
 
 fn assert_gone(rt: &impl Abort, text: Text, group: u32, count: u16) {
     let Text::Gone(first, lines) = text else {
-        assert!(rt; false, "a text that is gone was read");
+        assert!(rt; false);
         return;
     };
     assert!(rt; first == GroupNo(group));
@@ -58,7 +58,7 @@ fn assert_gone(rt: &impl Abort, text: Text, group: u32, count: u16) {
 
 fn assert_whole(rt: &impl Abort, text: Text, wanted: &[u8]) {
     let Text::Whole(lines) = text else {
-        assert!(rt; false, "a text that is there is gone");
+        assert!(rt; false);
         return;
     };
     assert!(rt; lines.len() == wanted.len());

@@ -188,10 +188,7 @@ fn a_job_from_its_deck_to_its_last_line(rt: HostRuntime) -> Result<(), Fail> {
     ];
     for (next, command, reply) in &steps {
         assert!(rt; unit(&tables, FIRST) == *next);
-        assert!(rt;
-            give(alloc, &mut tables, FIRST, command) == Some(*reply),
-            "{next:?}"
-        );
+        assert!(rt; give(alloc, &mut tables, FIRST, command) == Some(*reply));
     }
     Ok(())
 }
@@ -257,10 +254,7 @@ fn each_refusal(rt: HostRuntime) -> Result<(), Fail> {
         ),
     ];
     for (by, command, reply) in &steps {
-        assert!(rt;
-            give(alloc, &mut tables, *by, command) == Some(*reply),
-            "{reply:?}"
-        );
+        assert!(rt; give(alloc, &mut tables, *by, command) == Some(*reply));
     }
     Ok(())
 }
@@ -289,10 +283,7 @@ fn full_slots(rt: HostRuntime) -> Result<(), Fail> {
         (ended(alloc, 2, 1)?, Said::No(Refusal::OutputsFull)),
     ];
     for (command, reply) in &steps {
-        assert!(rt;
-            give(alloc, &mut tables, FIRST, command) == Some(*reply),
-            "{reply:?}"
-        );
+        assert!(rt; give(alloc, &mut tables, FIRST, command) == Some(*reply));
     }
     Ok(())
 }

@@ -88,7 +88,7 @@ fn the_number_after_the_greatest_is_the_first_that_is_free(rt: HostRuntime) {
         cards: 0,
         order: 8,
     };
-    assert!(rt; slots[0] == Some(expected), "the lowest free slot");
+    assert!(rt; slots[0] == Some(expected));
 }
 
 #[test]

@@ -9,18 +9,18 @@ use std::test::Fail;
 fn what_was_encoded_is_decoded(rt: HostRuntime) -> Result<(), Fail> {
     let pages = pages_of(rt.alloc(), &tables_of_hello(rt.alloc())?, 2, 2)?;
     let tables = decode(rt.alloc(), pages.as_slice())?;
-    assert_eq!(rt; tables.config, default_config());
-    assert_eq!(rt; tables.last, JobNo(1));
-    assert_eq!(rt; tables.order, 1);
-    assert_eq!(rt; tables.jobs.len(), 256);
-    assert_eq!(rt; *tables.jobs.item(0), Some(hello()));
-    assert_eq!(rt; *tables.jobs.item(255), None);
-    assert_eq!(rt; tables.outputs.len(), 512);
-    assert_eq!(rt; tables.owners.len(), 512);
-    assert_eq!(rt; tables.members.len(), 2);
-    assert_eq!(rt; tables.members.item(1).init.len(), 36);
-    assert_eq!(rt; tables.lines.len(), 8);
-    assert_eq!(rt; tables.routes.len(), 0);
+    assert!(rt; tables.config == default_config());
+    assert!(rt; tables.last == JobNo(1));
+    assert!(rt; tables.order == 1);
+    assert!(rt; tables.jobs.len() == 256);
+    assert!(rt; *tables.jobs.item(0) == Some(hello()));
+    assert!(rt; *tables.jobs.item(255) == None);
+    assert!(rt; tables.outputs.len() == 512);
+    assert!(rt; tables.owners.len() == 512);
+    assert!(rt; tables.members.len() == 2);
+    assert!(rt; tables.members.item(1).init.len() == 36);
+    assert!(rt; tables.lines.len() == 8);
+    assert!(rt; tables.routes.len() == 0);
     Ok(())
 }
 
@@ -85,11 +85,7 @@ fn damage_is_found_at_its_page(rt: HostRuntime) -> Result<(), Fail> {
         (35, 4088, 4, Some(35)),
         (36, 0, 1, None),
     ] {
-        assert_eq!(rt;
-            bad_page(rt.alloc(), page, at, byte)?,
-            (bad, bad),
-            "page {page} byte {at}"
-        );
+        assert!(rt; bad_page(rt.alloc(), page, at, byte)? == (bad, bad));
     }
     Ok(())
 }
@@ -100,8 +96,8 @@ fn another_number_of_pages_is_no_checkpoint(rt: HostRuntime) -> Result<(), Fail>
     let (fewer, _) = pages.as_slice().split_at(35);
     assert!(rt; matches!(decode(rt.alloc(), fewer), Err(PageNo::BadPage(0))));
     assert!(rt; matches!(decode(rt.alloc(), &[]), Err(PageNo::BadPage(0))));
-    assert_eq!(rt; first_bad(fewer), Some(0));
-    assert_eq!(rt; first_bad(&[]), Some(0));
+    assert!(rt; first_bad(fewer) == Some(0));
+    assert!(rt; first_bad(&[]) == Some(0));
     Ok(())
 }
 
@@ -125,7 +121,7 @@ fn the_least_page_of_arbitrary_bytes_is_found(rt: HostRuntime) -> Result<(), Fai
         }
         let decoded = decode(rt.alloc(), pages.as_slice());
         assert!(rt; matches!(decoded, Err(PageNo::BadPage(bad)) if bad == number));
-        assert_eq!(rt; first_bad(pages.as_slice()), Some(number));
+        assert!(rt; first_bad(pages.as_slice()) == Some(number));
     }
     Ok(())
 }

@@ -106,7 +106,7 @@ fn a_wrong_job_is_found(rt: HostRuntime) -> Result<(), Fail> {
             [Owner::Free; 2]
         };
         let found = fault_of(rt.alloc(), [first, second], None, owners)?;
-        assert_eq!(rt; found, bad.map(TableFault::Number), "{first:?} {second:?}");
+        assert!(rt; found == bad.map(TableFault::Number));
     }
     Ok(())
 }
@@ -187,7 +187,7 @@ fn a_wrong_output_or_group_is_found(rt: HostRuntime) -> Result<(), Fail> {
         (converted, None, [deck(1, 1), deck(1, 0)], None),
     ] {
         let found = fault_of(rt.alloc(), [first, None], output, owners)?;
-        assert_eq!(rt; found, fault, "{first:?} {output:?} {owners:?}");
+        assert!(rt; found == fault);
     }
     Ok(())
 }

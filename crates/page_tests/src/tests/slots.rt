@@ -74,14 +74,14 @@ fn jobs_and_outputs_are_spelled_as_the_format_says(rt: HostRuntime) {
         (None, [0; 256]),
     ] {
         write_job(&job, &mut slot);
-        assert_eq!(rt; slot, bytes);
-        assert_eq!(rt; read_job(&slot), Ok(job));
+        assert!(rt; slot == bytes);
+        assert!(rt; read_job(&slot) == Ok(job));
     }
     let mut slot = [1; 128];
     for (output, bytes) in [(Some(listing()), output_slot_of(LISTING)), (None, [0; 128])] {
         write_output(&output, &mut slot);
-        assert_eq!(rt; slot, bytes);
-        assert_eq!(rt; read_output(&slot), Ok(output));
+        assert!(rt; slot == bytes);
+        assert!(rt; read_output(&slot) == Ok(output));
     }
 }
 
@@ -104,8 +104,8 @@ fn owners_are_spelled_as_the_format_says(rt: HostRuntime) {
         ),
     ] {
         write_owner(&owner, &mut entry);
-        assert_eq!(rt; entry, bytes);
-        assert_eq!(rt; read_owner(&entry), Ok(owner));
+        assert!(rt; entry == bytes);
+        assert!(rt; read_owner(&entry) == Ok(owner));
     }
 }
 
@@ -136,7 +136,7 @@ fn damage_to_a_job_is_found_at_its_field(rt: HostRuntime) {
         write_job(&Some(hello()), &mut slot);
         assert!(rt; at < 256);
         slot[at] = byte;
-        assert_eq!(rt; read_job(&slot), Err(BadField(field)), "byte {at}");
+        assert!(rt; read_job(&slot) == Err(BadField(field)));
     }
 }
 
@@ -161,7 +161,7 @@ fn damage_to_an_output_is_found_at_its_field(rt: HostRuntime) {
         write_output(&Some(listing()), &mut slot);
         assert!(rt; at < 128);
         slot[at] = byte;
-        assert_eq!(rt; read_output(&slot), Err(BadField(field)), "byte {at}");
+        assert!(rt; read_output(&slot) == Err(BadField(field)));
     }
 }
 
@@ -179,7 +179,7 @@ fn damage_to_an_entry_is_found_at_its_field(rt: HostRuntime) {
         ([3, 33, 0, 0, 0, 0, 0, 1], 1),
         ([4, 0, 0, 0, 0, 0, 0, 0], 0),
     ] {
-        assert_eq!(rt; read_owner(&entry), Err(BadField(field)), "entry {entry:?}");
+        assert!(rt; read_owner(&entry) == Err(BadField(field)));
     }
 }
 
@@ -189,8 +189,8 @@ fn numbers_begin_with_their_greatest_byte(rt: HostRuntime) {
     write_u16(&mut page, 1, 0x0102);
     write_u32(&mut page, 3, 0x0304_0506);
     write_u64(&mut page, 7, 0x0708_090a_0b0c_0d0e);
-    assert_eq!(rt; page, [9, 1, 2, 3, 4, 5, 6, 7, 8, 9, 10, 11, 12, 13, 14, 9]);
-    assert_eq!(rt; read_u16(&page, 0), 0x0901);
-    assert_eq!(rt; read_u32(&page, 1), 0x0102_0304);
-    assert_eq!(rt; read_u64(&page, 8), 0x0809_0a0b_0c0d_0e09);
+    assert!(rt; page == [9, 1, 2, 3, 4, 5, 6, 7, 8, 9, 10, 11, 12, 13, 14, 9]);
+    assert!(rt; read_u16(&page, 0) == 0x0901);
+    assert!(rt; read_u32(&page, 1) == 0x0102_0304);
+    assert!(rt; read_u64(&page, 8) == 0x0809_0a0b_0c0d_0e09);
 }
