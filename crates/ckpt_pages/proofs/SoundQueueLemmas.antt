@@ -23,7 +23,8 @@ use Rattle.lay_bytes.specs.declared.records.OutRec.{OutRec}
 use Rattle.lay_bytes.specs.Slots.{IsJobRec, IsOutRec}
 use Rattle.ckpt_pages.specs.declared.tables.Tables.{Tables}
 use Rattle.ckpt_pages.specs.Shape.{HasSpelling}
-use Rattle.ckpt_pages.specs.QueueOf.{used, in_order, job_with, output_with, queue_of}
+use Rattle.ckpt_pages.specs.QueueOf.{used, job_with, output_with, queue_of}
+use Rattle.mas_types.specs.Sorted.{in_order}
 use Rattle.ckpt_pages.specs.Sound.{is_there, is_wrong_job_slot, same_print, is_wrong_output_slot, has_deck, is_wrong_owner, AreSound}
 use Rattle.ckpt_pages.specs.SoundQueues.{AreTexts}
 use Rattle.ckpt_pages.proofs.SlotLists.{eq_sym, any_found, distinct_agree, any_map, distinct_map, all_right, apart_right, in_slots, any_used, distinct_used, all_used, few_used, all_ordered, any_ordered, distinct_ordered, length_ordered}

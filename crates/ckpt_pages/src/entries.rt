@@ -1,5 +1,5 @@
 //! Entries of one width, one after another.
-ghost use Rattle.std.specs.Prelude.{◌≡◌, ℕ, ◌-◌, ◌*◌, ◌^◌, ◌≤◌, ◌<◌, List, length, true, false, Err, OnOk, IfOk, IfErr};
+ghost use Rattle.std.specs.Prelude.{◌≡◌, ℕ, ◌-◌, ◌*◌, ◌^◌, ◌≤◌, ◌<◌, All, List, length, true, false, Err, OnOk, IfOk, IfErr};
 ghost use Rattle.mas_types.specs.Limits.{page_bytes};
 ghost use Rattle.ckpt_pages.specs.declared.entries.EntryError.TheVariants.{Bad};
 ghost use Rattle.ckpt_pages.specs.Testing.{SpellsOne};
@@ -136,4 +136,13 @@ pub(crate) fn read_pages<E: Entry>(
         page += 1;
     }
     Ok(items)
+}
+
+/// Pages have the size of a page each.
+pub fn law_of_page_sizes(pages: &[Page])
+    ensures { All (λ page. length page.0 ≡ page_bytes) pages.now }
+{
+    for page in pages {
+        let _bytes = bytes_in(page);
+    }
 }

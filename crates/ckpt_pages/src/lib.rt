@@ -17,7 +17,7 @@ mod testing;
 
 pub use decoding::{decode, law_of_checkpoints};
 pub use encoding::{encode, encode_page};
-pub use entries::PageNo;
+pub use entries::{PageNo, law_of_page_sizes};
 pub use faults::{TableFault, law_of_sound_tables, sound};
 pub use levels::{changed, law_of_levels, level_of, levels_of};
 pub use tables::{Tables, empty, law_of_empty_tables, page_count};

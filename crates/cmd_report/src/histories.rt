@@ -1,14 +1,15 @@
 //! Histories.
-ghost use Rattle.std.specs.Prelude.{◌≡◌, ◌++◌, ◌+◌, ◌<◌, ◌^◌, length, All, decimal, IfOk, OnOk};
-ghost use Rattle.mas_types.specs.Closings.{IsReplyNamed, IsRefusalNamed, refusal_text};
+ghost use Rattle.std.specs.Prelude.{◌≡◌, ◌++◌, ◌+◌, ◌<◌, ◌^◌, length, All, IfOk, OnOk};
+ghost use Rattle.mas_types.specs.Closings.{IsReplyNamed};
 ghost use Rattle.mas_types.specs.Histories.{command_word as command_word_lem, outcome_text, history_line as history_line_lem, history_lines, history_end as history_end_lem, history as history_lem};
 ghost use Rattle.mas_types.specs.Journal.{is_kept as is_kept_lem, kept_list};
 ghost use Rattle.cmd_report.specs.Named.{IsEntryNamed, IsHistoryNamed, kept_in};
 
+use mas_types::closings::push_refusal;
 use mas_types::words::{
-    push_decimal, push_digits, push_key, push_member, push_output_key, push_phase, push_text,
+    push_decimal, push_digits, push_key, push_member, push_output_key, push_text,
 };
-use mas_types::{Batch, Command, Entry, Fate, Journal, Lines, List, NoMemory, Refusal, Reply};
+use mas_types::{Batch, Command, Entry, Fate, Journal, Lines, List, NoMemory, Reply};
 use std::alloc::Global;
 
 /// The lines of a run's history: of each entry that was kept, in order and counted from 1, who gave it, its step, its
@@ -98,42 +99,6 @@ fn push_outcome(line: &mut List<u8>, reply: &Reply) -> Result<(), NoMemory>
         Reply::No(why) => {
             push_text(line, b"NO ")?;
             push_refusal(line, *why)
-        }
-    }
-}
-
-fn push_with_number(line: &mut List<u8>, text: &[u8], n: u64) -> Result<(), NoMemory>
-    ensures { OnOk result (line.new ≡ line.old ++ (text.now ++ decimal n)) }
-{
-    push_text(line, text)?;
-    push_decimal(line, n)
-}
-
-fn push_refusal(line: &mut List<u8>, why: Refusal) -> Result<(), NoMemory>
-    requires { IsRefusalNamed why }
-    ensures { OnOk result (line.new ≡ line.old ++ refusal_text why) }
-{
-    match why {
-        Refusal::JobsFull => push_text(line, b"JOBS FULL"),
-        Refusal::OutputsFull => push_text(line, b"OUTPUTS FULL"),
-        Refusal::SpoolFull => push_text(line, b"SPOOL FULL"),
-        Refusal::NoJob => push_text(line, b"NO JOB"),
-        Refusal::NoOutput => push_text(line, b"NO OUTPUT"),
-        Refusal::InUse(member) => {
-            push_text(line, b"IN USE ")?;
-            push_member(line, member)
-        }
-        Refusal::WrongPhase(phase) => {
-            push_text(line, b"PHASE ")?;
-            push_phase(line, phase)
-        }
-        Refusal::Nothing => push_text(line, b"NOTHING"),
-        Refusal::NoMember => push_text(line, b"NO MEMBER"),
-        Refusal::NoNode => push_text(line, b"NO NODE"),
-        Refusal::Again(n) => push_with_number(line, b"AGAIN ", n as u64),
-        Refusal::Gap { number, kept } => {
-            push_with_number(line, b"GAP ", number as u64)?;
-            push_with_number(line, b" ", kept as u64)
         }
     }
 }

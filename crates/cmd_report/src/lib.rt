@@ -4,7 +4,9 @@
 mod displays;
 mod histories;
 mod lines;
+mod steps;
 
 pub use displays::show;
 pub use histories::history;
 pub use lines::{closing, details};
+pub use steps::{one_line, reply_lines};

@@ -22,7 +22,8 @@ use mas_types::{Dev, List, MemberId, Page};
 use spool_disk::Plant;
 use std::alloc::Global;
 
-fn better_of(one: List<Page>, two: List<Page>) -> List<Page>
+/// The pages of greater level, the first where they have one level.
+pub fn better_of(one: List<Page>, two: List<Page>) -> List<Page>
     ensures { result ≡ better one two }
 {
     if pages_level(one.as_slice()) < pages_level(two.as_slice()) {

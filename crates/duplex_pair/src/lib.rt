@@ -12,6 +12,7 @@ mod pages;
 mod pair;
 
 pub use errors::{Halted, Look, LookNo, PairFindNo, PairNo};
+pub use finding::better_of;
 pub use half::Half;
 pub use pages::{first_numbers, page_numbers, pages_level};
 pub use pair::Pair;

@@ -17,6 +17,7 @@ use Rattle.gate_facts.specs.declared.desks.Hold.{Hold}
 use Rattle.gate_facts.specs.declared.desks.Group.{Group}
 use Rattle.mas_complex.specs.declared.places.Place.{Place}
 use Rattle.mas_complex.specs.declared.places.Place.TheVariants.{Put, Opened}
+use Rattle.mas_complex.specs.Places.{is_opened}
 use Rattle.mas_complex.specs.Spool.{device_of}
 
 -- each device
@@ -55,10 +56,6 @@ abbrev pub is_logged : Place → Bool
 is_logged Put = true
 is_logged Opened = true
 is_logged _ = false
-
-abbrev pub is_opened : Place → Bool
-is_opened Opened = true
-is_opened _ = false
 
 -- the copies of which the places pass a test
 abbrev pub copies_at : (Place → Bool) → Place → Place → List Dev

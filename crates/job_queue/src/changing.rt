@@ -13,7 +13,7 @@ ghost use Rattle.job_queue.specs.Advance.{advanced, refusal_of};
 use crate::finding::find_job;
 use crate::kinds::is_in;
 use lay_bytes::JobRec;
-use mas_types::{JobFields, JobNo, MemberId, NUMBER_MOST, Phase, Refusal};
+use mas_types::{JobFields, JobNo, MemberId, NUMBER_MOST, Phase, Refusal, purge_if};
 use queue_slots::{free_slot, used_count};
 use thiserror::Error;
 
@@ -91,12 +91,6 @@ fn new_record(number: JobNo, order: u64, fields: JobFields, by: MemberId) -> Job
         cards: 0,
         order,
     }
-}
-
-fn purge_if(cancelled: bool, other: Phase) -> Phase
-    ensures { result ≡ (if cancelled then Phase.Purge else other) }
-{
-    if cancelled { Phase::Purge } else { other }
 }
 
 /// The job goes on from one phase to another, or to Purge where it is cancelled, and is busy no longer. `NoJob` where none has the

@@ -1,22 +1,12 @@
 //! Tests of names and classes in bytes.
 ghost use Rattle.std.specs.Prelude.{◌≡◌, ◌&&◌, ◌≤◌, ◌==◌, length, take};
 ghost use Rattle.std.specs.List.{list_all, list_any};
-ghost use Rattle.mas_types.specs.Names.{is_name_byte as is_name_byte_lem, is_name8};
+ghost use Rattle.mas_types.specs.Names.{is_name8};
 ghost use Rattle.mas_types.specs.Fit.{is_class_byte};
 ghost use Rattle.lay_bytes.specs.Bytes.{are_classes, are_different};
 
 use crate::runs::is_zero;
-
-/// Whether a byte may stand in a name.
-fn is_name_byte(byte: u8) -> bool
-    ensures { result ≡ is_name_byte_lem byte }
-{
-    byte.is_ascii_uppercase()
-        || byte.is_ascii_digit()
-        || byte == b'@'
-        || byte == b'#'
-        || byte == b'$'
-}
+use mas_types::is_name_byte;
 
 /// Whether the bytes are a name and then blanks. A name is one or more of A to Z, 0 to 9, `@`,
 /// `#` and `$`.

@@ -8,7 +8,8 @@ use duplex_pair::pages_level;
 use lay_bytes::is_same_page;
 use mas_types::Page;
 
-fn same_pages(found: &[Page], other: &[Page]) -> bool
+/// Whether two lists of pages are the same, byte for byte.
+pub fn same_pages(found: &[Page], other: &[Page]) -> bool
     ensures { result ≡ are_same found.now other.now }
 {
     if found.len() != other.len() {

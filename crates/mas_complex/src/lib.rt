@@ -18,7 +18,7 @@ mod steady;
 
 pub use complex::{Complex, Ended};
 pub use counts::COUNTS;
-pub use fitting::fits;
+pub use fitting::{fits, same_pages};
 pub use places::Place;
 pub use recover::RecoverNo;
 pub use spool::examples_of_texts;

@@ -13,7 +13,7 @@ use Rattle.script_lang.specs.Script.{Said}
 use Rattle.spool_disk.specs.declared.plant.Part.TheVariants.{Disk}
 use Rattle.spool_disk.specs.View.{View}
 use Rattle.spool_disk.specs.Acts.{Rose}
-use Rattle.member_decks.specs.Spooling.{AreRoomy}
+use Rattle.spool_volumes.specs.Volumes.{AreRoomy}
 use Rattle.warm_start.specs.declared.choosing.StartNo.{StartNo}
 use Rattle.warm_start.specs.declared.choosing.StartNo.TheVariants as no_start
 use Rattle.warm_start.specs.Starting.{IsSmallAt, IsSmallVolume}

@@ -12,7 +12,7 @@ use Rattle.mas_types.specs.declared.journals.Entry.{Entry}
 use Rattle.mas_types.specs.declared.journals.Fate.{Fate}
 use Rattle.mas_types.specs.declared.journals.Fate.TheVariants.{Kept, Flying}
 use Rattle.mas_types.specs.declared.queues.Queue.{Queue}
-use Rattle.mas_types.specs.Closings.{closing_line}
+use Rattle.mas_types.specs.Closings.{closing_line, reply_lines}
 use Rattle.script_input.specs.Played.{sysa}
 use Rattle.lock_cycle.specs.declared.answers.LockNo.{LockNo}
 use Rattle.spool_disk.specs.declared.plant.Part.TheVariants.{Disk}
@@ -33,7 +33,6 @@ use Rattle.duplex_pair.specs.Halves.{IsCkpt, other, pick}
 use Rattle.mas_complex.specs.Elsewhere.{Elsewhere}
 use Rattle.member_node.proofs.CourseLemmas.{apart_first, apart_second, course_first, course_none, course_second}
 use Rattle.member_steps.specs.Locked.{IsDenial, denied_lines}
-use Rattle.member_node.specs.Lines.{reply_lines}
 use Rattle.member_steps.specs.Steps.{GivesStep, StepTells, entry_with}
 use Rattle.mas_run.specs.Steps.{FindsLost, IsOutcome, LeavesVolumes, Outcome, loses_after_step, outcome_of}
 use Rattle.mas_run.specs.Stops.{IsLeftOrLost, IsStepOf, TurnLeaves}

@@ -8,12 +8,11 @@ use Rattle.mas_types.specs.declared.ids.Dev.{Dev}
 use Rattle.mas_types.specs.declared.ids.Dev.TheVariants.{Ckpt1, Ckpt2, Spool}
 use Rattle.mas_types.specs.declared.journals.Entry.{Entry}
 use Rattle.mas_types.specs.declared.queues.Queue.{Queue}
-use Rattle.mas_types.specs.Closings.{closing_line}
+use Rattle.mas_types.specs.Closings.{closing_line, reply_lines}
 use Rattle.mas_types.specs.Owners.{groups_needed}
 use Rattle.spool_disk.specs.View.{View}
 use Rattle.spool_disk.specs.Acts.{Goes, next}
 use Rattle.mas_complex.specs.Meaning.{run}
-use Rattle.member_node.specs.Lines.{reply_lines}
 use Rattle.member_steps.specs.Locked.{denied_lines}
 use Rattle.member_steps.specs.Steps as command_step
 use Rattle.member_decks.specs.Decks.{all_entries, deck_batches, deck_lines, ends_as, lines_by}

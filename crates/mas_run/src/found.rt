@@ -13,7 +13,7 @@ ghost use Rattle.ckpt_pages.specs.Shape.{page_count};
 ghost use Rattle.duplex_pair.specs.Halves.{SomeAlive};
 ghost use Rattle.script_input.specs.Played.{IsPlayed, sysa};
 ghost use Rattle.warm_start.specs.Starting.{OnlyLookedAtAll};
-ghost use Rattle.member_decks.specs.Spooling.{AreRoomy};
+ghost use Rattle.spool_volumes.specs.Volumes.{AreRoomy};
 ghost use Rattle.member_node.specs.Calls.{Grows, console_now};
 ghost use Rattle.member_node.specs.Copies.{RestsAt};
 ghost use Rattle.member_node.specs.Drawn.{AreDrawn};

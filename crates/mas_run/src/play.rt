@@ -21,7 +21,7 @@ ghost use Rattle.mas_complex.specs.Headline.{Headline};
 ghost use Rattle.mas_complex.specs.Journals.{end_of, kept_all};
 ghost use Rattle.mas_complex.specs.Meaning.{run as run_of};
 ghost use Rattle.mas_run.specs.Refusals.{bytes_needed, refused_devices, Answers, IsTooSmall, IsDeviceSize};
-ghost use Rattle.member_decks.specs.Spooling.{AreRoomy};
+ghost use Rattle.spool_volumes.specs.Volumes.{AreRoomy};
 ghost use Rattle.member_node.specs.Calls.{Grows, console_now};
 ghost use Rattle.member_node.specs.Drawn.{AreDrawn};
 ghost use Rattle.member_node.specs.Reads.{IsCalm, ReadsLow};

@@ -57,7 +57,7 @@ fn reset_of(given: &Command) -> Option<MemberId>
 
 impl<P: Plant + Drop, C: Steady + Drop> Running<P, C> {
     ghost use Rattle.lock_cycle.specs.Books.{try_refusal};
-    ghost use Rattle.member_decks.specs.Spooling.{AreRoomy};
+    ghost use Rattle.spool_volumes.specs.Volumes.{AreRoomy};
     ghost use Rattle.member_decks.specs.Steps.{AreOf};
     ghost use Rattle.member_node.specs.Calls.{console_now};
     ghost use Rattle.member_node.specs.Reads.{IsCalm, ReadsLow, orders_after, too_high};

@@ -1,4 +1,5 @@
 pub mod ListLemmas
+pub mod Sorting
 pub mod LineLemmas
 pub mod NumeralLemmas
 pub mod EmptyQueue

@@ -102,3 +102,12 @@ detail_line by step text = words (member_word by ∷ in_digits 5 step ∷ codes 
 -- the lines of a display, which stand before the closing line
 abbrev pub detail_lines : MemberId → ℕ → List (List ℕ) → List (List ℕ)
 detail_lines by step shown = map (detail_line by step) shown
+
+-- the lines of a reply: those of a display
+abbrev pub details_of : MemberId → ℕ → Reply → List (List ℕ)
+details_of by step (reply.Shown lines) = detail_lines by step lines
+details_of by step _ = []
+
+-- the lines of a step that closes with the reply: those of a display, and behind them the closing line
+abbrev pub reply_lines : MemberId → ℕ → Reply → List (List ℕ)
+reply_lines by step answer = details_of by step answer ++ closing_line by step (closing.Reply answer) ∷ []

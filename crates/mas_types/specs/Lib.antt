@@ -1,5 +1,6 @@
 pub mod Lends
 pub mod Lists
+pub mod Sorted
 pub mod LineBytes
 pub mod Limits
 pub mod Ids

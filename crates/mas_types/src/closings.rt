@@ -81,7 +81,8 @@ fn push_reply(line: &mut List<u8>, reply: &Reply) -> Result<(), NoMemory>
     }
 }
 
-fn push_refusal(line: &mut List<u8>, why: Refusal) -> Result<(), NoMemory>
+/// Adds the text of a refusal.
+pub fn push_refusal(line: &mut List<u8>, why: Refusal) -> Result<(), NoMemory>
     requires named { IsRefusalNamed why }
     ensures { OnOk result (line.new ≡ line.old ++ refusal_text why) }
 {

@@ -1,4 +1,6 @@
 //! Jobs and outputs.
+ghost use Rattle.std.specs.Prelude.{◌≡◌, if◌then◌else◌};
+
 use crate::ids::{Class, GroupNo, JobNo, MemberId, Name8, OutNo, Prio};
 use crate::texts::Lines;
 
@@ -19,6 +21,13 @@ pub enum Phase {
     Purge,
     /// It waits for a line to another node, or is sent.
     Xmit,
+}
+
+/// Purge for a cancelled job, else the other phase.
+pub fn purge_if(cancelled: bool, other: Phase) -> Phase
+    ensures { result ≡ (if cancelled then Phase.Purge else other) }
+{
+    if cancelled { Phase::Purge } else { other }
 }
 
 /// The text of a deck or of an output.

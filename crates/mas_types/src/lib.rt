@@ -28,13 +28,13 @@ pub use commands::{Command, Refusal, Reply, What};
 pub use copies::Copied;
 pub use examples::law_of_lines;
 pub use ids::{Class, Dev, GroupNo, JobNo, Level, MemberId, Name8, NoMemory, OutNo, Page, Prio};
-pub use jobs::{Job, JobFields, OutSpec, Output, Phase, Text};
+pub use jobs::{Job, JobFields, OutSpec, Output, Phase, Text, purge_if};
 pub use journals::{Batch, Entry, Fate, Journal};
 pub use limits::{MEMBERS_MOST, NUMBER_MOST};
 pub use lists::List;
 pub use names::{
-    BadClass, BadName, BadNumber, member_name, read_class, read_member, read_name, read_number,
-    write_key,
+    BadClass, BadName, BadNumber, is_name_byte, member_name, read_class, read_member, read_name,
+    read_number, write_key,
 };
 pub use queues::{Config, LineCount, Owner, Queue, Route, Setting, Thing};
 pub use starts::{default_config, default_setting, empty_queue, no_queue};

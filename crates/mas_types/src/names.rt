@@ -24,7 +24,8 @@ pub struct BadClass;
 #[error("no number")]
 pub struct BadNumber;
 
-fn is_name_byte(byte: u8) -> bool
+/// Whether a byte may stand in a name: A to Z, 0 to 9, `@`, `#` and `$`.
+pub fn is_name_byte(byte: u8) -> bool
     ensures { result ≡ is_name_byte_lem byte }
 {
     byte.is_ascii_uppercase()

@@ -22,7 +22,8 @@ use Rattle.member_core.specs.Worlds.{is_nil, at_or, absent, member_in, is_up_in,
 use Rattle.mas_types.specs.Sound.{IsSound}
 use Rattle.member_core.specs.Events.{new_copy, new_members, fate_by, made_sure, opens_first, opens_second, is_hit, is_longer, left_of, after_crash, anyone_opens, has_fallen, is_any_good, is_nobody_up, can_start, has_risen, restarting, risen, restart_entry, after_start}
 use Rattle.queue_laws.specs.Runs.{IsGiven}
-use Rattle.member_core.specs.Holds.{IsCopy, IsAhead, IsPending, IsUnsure, AreGiven, IsAt, printed_at, AreLinesInked, printed_in, IsNoUpReset, IsTold, HoldsOf, mark_of}
+use Rattle.member_core.specs.Holds.{IsCopy, IsAhead, IsPending, IsUnsure, AreGiven, IsAt, AreLinesInked, printed_in, IsNoUpReset, IsTold, HoldsOf}
+use Rattle.paper_laws.specs.Paper.{printed_at, mark_of}
 use Rattle.member_core.proofs.Basics.{test_cases, and_left, and_right, or_cases, both_ways, map_rel, all_weaker, all_append, same_member_is}
 use Rattle.member_core.proofs.Frames.{fewer, writer_none, nobody_up, resets_less}
 use Rattle.member_core.proofs.Journals.{flying_settled, journal_settled, unkept_settled, by_settled}

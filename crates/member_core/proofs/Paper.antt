@@ -25,13 +25,15 @@ use Rattle.mas_types.specs.Fit.{IsFit}
 use Rattle.mas_types.specs.Step.{may_give}
 use Rattle.member_core.specs.Events.{can_do, allowed, has_done, printed_after, entry_of, can_print, is_idle, has_line, next_line, has_printed}
 use Rattle.queue_laws.specs.Runs.{IsGiven}
-use Rattle.member_core.specs.Holds.{AreGiven, IsAt, IsReady, is_writing, IsNoneBy, printed_at, AreLinesInked, printed_in, IsPaper, resets_up, HoldsOf, is_line, is_inked}
+use Rattle.member_core.specs.Holds.{AreGiven, IsAt, IsReady, is_writing, IsNoneBy, AreLinesInked, printed_in, IsPaper, resets_up, HoldsOf, is_line, is_inked}
+use Rattle.paper_laws.specs.Paper.{printed_at}
 use Rattle.member_core.proofs.Basics.{test_cases, and_left, and_right, and_both, or_left, or_right, or_cases, not_true, away_is, ready_is, nil_is, change_rel, change_same, change_other, change_length, each_member, acting_inside, all_append, same_member_is, both_ways}
 use Rattle.member_core.proofs.Frames.{acts_as, told_on, alone_on, stages_on, unsure_on, at_work_on, writer_on, resets_on, worker_keeps}
 use Rattle.member_core.proofs.Locks.{up_acts, away_quiet}
 use Rattle.member_core.proofs.Copies.{none_by_other}
 use Rattle.member_core.proofs.Members.{stage_with, mine_of}
-use Rattle.member_core.proofs.Runs.{sound_run, run_append, IsMarkRight, lines_push, WasBusy, was_busy, one_printer, find_passes}
+use Rattle.member_core.proofs.Runs.{sound_run, IsMarkRight, lines_push, WasBusy, was_busy, one_printer, find_passes}
+use Rattle.paper_laws.proofs.Runs.{run_append}
 
 pub after_le : (c : Command) (n : ℕ) → printed_after c n ≤ n
 after_le command.Pick n = omega arith

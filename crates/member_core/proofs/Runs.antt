@@ -25,9 +25,12 @@ use Rattle.queue_laws.proofs.Configuration.{keeps_configuration}
 use Rattle.queue_laws.proofs.MarksFollow.{marks_follow}
 use Rattle.queue_laws.proofs.SoundAll.{keeps_sound}
 use Rattle.queue_laws.proofs.Refused.{refused_changes_nothing}
-use Rattle.member_core.specs.Events.{printed_after, may_mark, busy_in}
-use Rattle.member_core.specs.Holds.{AreGiven, IsNoneBy, printed_at, AreLinesInked, is_inked, is_forward, touches, touched, mark_of}
-use Rattle.member_core.proofs.Basics.{test_cases, or_left, or_right, both_ways, neither, same_member_is}
+use Rattle.member_core.specs.Events.{printed_after}
+use Rattle.paper_laws.proofs.Runs.{run_push, touched_push}
+use Rattle.paper_laws.specs.Counts.{may_mark}
+use Rattle.member_core.specs.Holds.{AreGiven, IsNoneBy, AreLinesInked, is_inked}
+use Rattle.paper_laws.specs.Paper.{printed_at, is_forward, touches, touched, mark_of, busy_in}
+use Rattle.member_core.proofs.Basics.{test_cases, or_left, or_right, both_ways, same_member_is}
 use Rattle.member_core.proofs.Frames.{printed_at_le}
 
 -- THE CONFIGURATION STAYS
@@ -43,21 +46,6 @@ pub sound_run : (base Q : Queue) (es : List Entry) → IsSound Q → Q.config �
 sound_run base Q [] s c g = (s, c)
 sound_run base Q (e ∷ es) s c g =
     sound_run base (step Q e.by e.command).0 es (keeps_sound Q e.by e.command s g.0.fit (give_same base Q e.by e.command c g.0.by)) (config_kept Q e.by e.command ∙ c) g.1
-
-pub run_push : (Q : Queue) (es : List Entry) (e : Entry) → run Q (es ++ e ∷ []) ≡ (step (run Q es) e.by e.command).0
-run_push Q [] e = refl
-run_push Q (x ∷ es) e = run_push (step Q x.by x.command).0 es e
-
-pub run_append : (Q : Queue) (es fs : List Entry) → run Q (es ++ fs) ≡ run (run Q es) fs
-run_append Q [] fs = refl
-run_append Q (x ∷ es) fs = run_append (step Q x.by x.command).0 es fs
-
-pub touched_push : (Q : Queue) (es : List Entry) (e : Entry) (n : JobNo) (i : OutNo) → touched Q (es ++ e ∷ []) n i ≡ false → (touched Q es n i ≡ false) × (touches (run Q es) e n i ≡ false)
-touched_push Q [] e n i h = (refl, (neither (touches Q e n i) false h).0)
-touched_push Q (x ∷ es) e n i h =
-    let parts : (touches Q x n i ≡ false) × (touched (step Q x.by x.command).0 (es ++ e ∷ []) n i ≡ false) = neither (touches Q x n i) (touched (step Q x.by x.command).0 (es ++ e ∷ []) n i) h in
-    let rest : (touched (step Q x.by x.command).0 es n i ≡ false) × (touches (run (step Q x.by x.command).0 es) e n i ≡ false) = touched_push (step Q x.by x.command).0 es e n i parts.1 in
-    (rw (parts.0, rest.0) refl, rest.1)
 
 -- LINES PRINTED, ONE COMMAND FURTHER
 

@@ -16,9 +16,11 @@ use Rattle.mas_types.specs.declared.journals.Fate.TheVariants as fate
 use Rattle.mas_types.specs.declared.journals.Entry.{Entry}
 use Rattle.mas_types.specs.declared.journals.Batch.{Batch}
 use Rattle.mas_types.specs.Ids.{is_somebody, same_member, nobody}
-use Rattle.mas_types.specs.Queue.{output_at, prints_at, printing_at, total}
+use Rattle.mas_types.specs.Queue.{output_at, printing_at, total}
 use Rattle.mas_types.specs.Owners.{is_members}
 use Rattle.queue_laws.specs.OwnerChange.{is_thing}
+use Rattle.paper_laws.specs.Counts.{may_mark}
+use Rattle.paper_laws.specs.Paper.{busy_in}
 use Rattle.mas_types.specs.Step.{step}
 use Rattle.mas_types.specs.Run.{run}
 use Rattle.member_core.specs.declared.worlds.At.{At}
@@ -131,11 +133,6 @@ primary w m = record w {
 }
 
 -- DO
-
--- a mark at most at what was printed
-abbrev pub may_mark : MemberId → ℕ → ℕ → Option Output → Bool
-may_mark m printed n None = true
-may_mark m printed n (Some o) = not (same_member o.busy m) || nat_le n (o.mark + printed)
 
 abbrev pub allowed : World → MemberId → Command → Bool
 allowed w m (command.Reset of_member) = not (is_up w of_member)
@@ -284,10 +281,6 @@ abbrev pub spool_sync : World → ℕ → World
 spool_sync w v = record w { unsynced = filter (λ g. not (is_in_volume w.base.config v g)) w.unsynced }
 
 -- PRINTED LINES
-
-abbrev pub busy_in : Option Output → MemberId → Bool
-busy_in None m = false
-busy_in (Some o) m = prints_at m o
 
 -- the output is busy there in the other queue too, and has a further line
 abbrev pub has_line : Queue → MemberId → ℕ → Option Output → Bool

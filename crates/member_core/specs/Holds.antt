@@ -1,5 +1,5 @@
 -- What holds of every world that the events give.
-use Rattle.std.specs.Prelude.{◌≡◌, ◌⊎◌, ◌<◌, ◌≤◌, ◌+◌, ℕ, suc, Bool, true, false, not, ◌&&◌, ◌||◌, ◌==◌, if◌then◌else◌, List, [], ◌∷◌, ◌++◌, length, Option, Some, None}
+use Rattle.std.specs.Prelude.{◌≡◌, ◌⊎◌, ◌<◌, ◌≤◌, ◌+◌, ℕ, suc, Bool, true, false, not, ◌&&◌, ◌==◌, if◌then◌else◌, List, [], ◌∷◌, ◌++◌, length, Some, None}
 use Rattle.std.specs.List.{list_any, AllByRecursion}
 use Rattle.mas_types.specs.declared.ids.MemberId.{MemberId}
 use Rattle.mas_types.specs.declared.ids.JobNo.{JobNo}
@@ -14,7 +14,6 @@ use Rattle.mas_types.specs.declared.journals.Batch.{Batch}
 use Rattle.mas_types.specs.Ids.{is_somebody, same_member, same_number, same_index}
 use Rattle.mas_types.specs.Queue.{output_at}
 use Rattle.mas_types.specs.Journal.{is_flying}
-use Rattle.queue_laws.specs.Laws.{is_refusal}
 use Rattle.queue_laws.specs.Runs.{IsGiven}
 use Rattle.mas_types.specs.Sound.{IsSound}
 use Rattle.mas_types.specs.Step.{step}
@@ -27,7 +26,8 @@ use Rattle.member_core.specs.declared.worlds.Inked.{Inked}
 use Rattle.member_core.specs.declared.worlds.Said.{Said}
 use Rattle.member_core.specs.declared.worlds.World.{World}
 use Rattle.member_core.specs.Worlds.{is_nil, is_away, is_ready, member_in, acts_in, is_up_in, first_copy, second_copy, kept_in, flying_in, is_of, has_unkept}
-use Rattle.member_core.specs.Events.{is_synced, busy_in}
+use Rattle.member_core.specs.Events.{is_synced}
+use Rattle.paper_laws.specs.Paper.{mark_of, printed_at, touched}
 
 -- COPIES
 
@@ -155,26 +155,6 @@ is_line n i line x = same_number x.job n && (same_index x.index i && (x.line == 
 
 abbrev pub is_inked : JobNo → OutNo → ℕ → List Inked → Bool
 is_inked n i line inked = list_any (is_line n i line) inked
-
-abbrev pub is_forward : Command → Bool
-is_forward (command.Forward lines) = true
-is_forward _ = false
-
--- the entry is a Forward of this output that isn't refused
-abbrev pub touches : Queue → Entry → JobNo → OutNo → Bool
-touches Q e n i = is_forward e.command && (not (is_refusal (step Q e.by e.command).1) && busy_in (output_at Q n i) e.by)
-
-abbrev pub touched : Queue → List Entry → JobNo → OutNo → Bool
-touched Q [] n i = false
-touched Q (e ∷ es) n i = touches Q e n i || touched (step Q e.by e.command).0 es n i
-
-abbrev pub mark_of : Option Output → ℕ
-mark_of None = 0
-mark_of (Some o) = o.mark
-
--- the lines of an output that its member printed after its mark
-abbrev pub printed_at : (MemberId → ℕ) → MemberId → ℕ
-printed_at counts m = if is_somebody m then counts m else 0
 
 -- each line up to an output's mark, and those that its member printed after it, are printed
 abbrev pub AreLinesInked : Queue → List Inked → (MemberId → ℕ) → List Entry → Type 0

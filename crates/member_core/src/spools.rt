@@ -6,7 +6,8 @@ ghost use Rattle.mas_types.specs.Run.{run};
 ghost use Rattle.mas_types.specs.Sound.{IsSound};
 ghost use Rattle.member_core.specs.declared.worlds.Event.TheVariants as event;
 ghost use Rattle.member_core.specs.Worlds.{flying, kept, member_in, on_member};
-ghost use Rattle.member_core.specs.Events.{busy_in, has_line, has_printed, is_idle as is_idle_lem, moved, next_line as next_line_lem, possible};
+ghost use Rattle.member_core.specs.Events.{has_line, has_printed, is_idle as is_idle_lem, moved, next_line as next_line_lem, possible};
+ghost use Rattle.paper_laws.specs.Paper.{busy_in};
 
 use crate::people::{is_nil, is_up, printed_of};
 use crate::stages::{is_away, is_ready};

@@ -8,7 +8,8 @@ ghost use Rattle.mas_types.specs.Step.{step};
 ghost use Rattle.queue_laws.specs.OwnerChange.{is_thing as is_of_thing};
 ghost use Rattle.member_core.specs.declared.worlds.Event.TheVariants as event;
 ghost use Rattle.member_core.specs.Worlds.{member_at, on_member};
-ghost use Rattle.member_core.specs.Events.{allowed, has_done, has_written, is_synced as each_synced, is_thing_at as thing_at, may_mark as mark_allowed, possible, moved, printed_after as count_after, written_stage as stage_written};
+ghost use Rattle.member_core.specs.Events.{allowed, has_done, has_written, is_synced as each_synced, is_thing_at as thing_at, possible, moved, printed_after as count_after, written_stage as stage_written};
+ghost use Rattle.paper_laws.specs.Counts.{may_mark as mark_allowed};
 
 use crate::batches::{keep_once, with_entry};
 use crate::pair::{all_read, next_first, next_second, open_first, open_second};

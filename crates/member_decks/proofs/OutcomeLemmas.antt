@@ -29,14 +29,14 @@ use Rattle.member_node.specs.Calls.{Course, IsLeft, console_now}
 use Rattle.member_node.specs.Writes.{HasKept}
 use Rattle.member_node.proofs.CourseLemmas.{course_then, no, papers_on, rose_later, rose_more}
 use Rattle.member_steps.specs.Saying.{Breaks}
-use Rattle.member_steps.specs.Steps.{IsStep, StepTells, entry_with, reply_to}
+use Rattle.member_steps.specs.Steps.{IsStep, StepTells, entry_with, reply_to, StepCauses}
 use Rattle.member_decks.specs.declared.opening.Opened.{Opened}
 use Rattle.member_decks.specs.declared.opening.Opened.TheVariants as opened
 use Rattle.member_decks.specs.Batches.{BatchesLeave, HasAll, IsFlyingBatch, IsKeptBatch, OneFlies}
 use Rattle.member_decks.specs.Decks.{all_entries, batches_behind, closes, closing_reply, deck_batches, deck_lines, ends_as, finishing, given_in, lines_by, reply_in, opening}
 use Rattle.member_decks.specs.Keeping.{CopyCauses, GivesUpLeaves, IsFinish, IsOnCopies, IsRest, KeepLeaves}
 use Rattle.member_decks.specs.Spooling.{OnVolumes}
-use Rattle.member_decks.specs.Steps.{AreOf, DeckCauses, IsDeckOf, IsDeckStep, IsFoundLost, LiesOn, SpoolStops, opened_queue}
+use Rattle.member_decks.specs.Steps.{AreOf, IsDeckOf, IsDeckStep, IsFoundLost, LiesOn, SpoolStops, opened_queue}
 use Rattle.member_decks.specs.Taking.{LeaveOut}
 use Rattle.member_decks.proofs.BatchLemmas.{all_sooner, leaves_next, leaves_sooner}
 use Rattle.member_decks.proofs.DeckLemmas.{given_of}
@@ -68,7 +68,7 @@ found_within (Some volume) v0 v1 v2 v3 before after found =
     (after.lost part found.0, rose_later (v0.faults part) (v1.faults part) (v3.faults part) (before.faults part) (rose_more (v1.faults part) (v2.faults part) (v3.faults part) found.1 (after.faults part)))
 
 -- an answer's cause, behind another part
-pub causes_then : (r : Result (Unit {0}) NodeNo) (by : ℕ) (a a' a'' b b' b'' : Bool) (v0 v1 v2 : View) → IsLeft a a' b b' → Goes v0 v1 → DeckCauses r by a' a'' b' b'' v1 v2 → DeckCauses r by a a'' b b'' v0 v2
+pub causes_then : (r : Result (Unit {0}) NodeNo) (by : ℕ) (a a' a'' b b' b'' : Bool) (v0 v1 v2 : View) → IsLeft a a' b b' → Goes v0 v1 → StepCauses r by a' a'' b' b'' v1 v2 → StepCauses r by a a'' b b'' v0 v2
 causes_then (Ok done) by a a' a'' b b' b'' v0 v1 v2 left goes cause = left_then a a' a'' b b' b'' left cause
 causes_then (Err NoMemory) by a a' a'' b b' b'' v0 v1 v2 left goes cause = left_then a a' a'' b b' b'' left cause
 causes_then (Err BothLost) by a a' a'' b b' b'' v0 v1 v2 left goes cause = cause
@@ -76,7 +76,7 @@ causes_then (Err ConsoleFault) by a a' a'' b b' b'' v0 v1 v2 left goes cause = (
 causes_then (Err Halted) by a a' a'' b b' b'' v0 v1 v2 left goes cause = (left_then a a' a'' b b' b'' left cause.0, rose_later (v0.stops by) (v1.stops by) (v2.stops by) (goes.stops by) cause.1)
 
 -- that of acts on the copies
-pub copy_causes : (r : Result (Unit {0}) NodeNo) (by : ℕ) (a a' b b' : Bool) (v w : View) → CopyCauses r by a a' b b' v w → DeckCauses r by a a' b b' v w
+pub copy_causes : (r : Result (Unit {0}) NodeNo) (by : ℕ) (a a' b b' : Bool) (v w : View) → CopyCauses r by a a' b b' v w → StepCauses r by a a' b b' v w
 copy_causes (Ok done) by a a' b b' v w cause = cause
 copy_causes (Err NoMemory) by a a' b b' v w cause = cause
 copy_causes (Err BothLost) by a a' b b' v w cause = cause
@@ -158,7 +158,7 @@ module _ (told : Type 0) (by : MemberId) (lines : List (List ℕ)) (es : List En
       more)
       s.journal
 
-  pub one_causes : (r : Result (Unit {0}) NodeNo) → OneStep r → DeckCauses r by.0 was1 is1 was2 is2 old new
+  pub one_causes : (r : Result (Unit {0}) NodeNo) → OneStep r → StepCauses r by.0 was1 is1 was2 is2 old new
   one_causes (Ok done) s = s.cause
   one_causes (Err NoMemory) s = s.cause
   one_causes (Err BothLost) s = s.cause
@@ -178,7 +178,7 @@ module _ (told : Type 0) (by : MemberId) (at per : ℕ) (n : JobNo) (text : List
   reply_at lost = reply_to Q by (finishing lost n text)
 
   -- the text wasn't spooled
-  spool_causes : (e : NodeNo) (a b : Bool) (v0 v1 : View) → SpoolStops {T = Unit {0}} (Err e) by.0 v0 v1 → DeckCauses {T = Unit {0}} (Err e) by.0 a a b b v0 v1
+  spool_causes : (e : NodeNo) (a b : Bool) (v0 v1 : View) → SpoolStops {T = Unit {0}} (Err e) by.0 v0 v1 → StepCauses {T = Unit {0}} (Err e) by.0 a a b b v0 v1
   spool_causes NoMemory a b v0 v1 stops = inr (refl, refl)
   spool_causes Halted a b v0 v1 stops = (inr (refl, refl), stops)
   spool_causes BothLost a b v0 v1 stops = absurd stops

@@ -21,7 +21,7 @@ use Rattle.ckpt_copy.specs.Moments.{either_way, goes_on, goes_none}
 use Rattle.spool_text.specs.Laws.{HasNeededGroups}
 use Rattle.spool_text.specs.Texts.{packed}
 use Rattle.spool_volumes.specs.Laws.{HavePages, ReadsTexts}
-use Rattle.spool_volumes.specs.Volumes.{volume_of, start_of}
+use Rattle.spool_volumes.specs.Volumes.{volume_of, start_of, AreRoomy}
 use Rattle.mas_complex.specs.Spool.{IsGroupOf, device_of, is_within, page_start, page_part, WritesGroup}
 use Rattle.mas_complex.specs.Texts.{Spools, spools_at, bytes_on, IsSynced, IsThere}
 use Rattle.queue_laws.proofs.Finds.{test_cases}
@@ -30,7 +30,7 @@ use Rattle.mas_complex.proofs.Spooled.{each_quiet, spared_other, sync_quiet}
 use Rattle.member_node.proofs.CourseLemmas.{papers_act, papers_none, papers_on}
 use Rattle.member_decks.specs.declared.spooling.SpoolError.{SpoolError}
 use Rattle.member_decks.specs.declared.spooling.SpoolError.TheVariants.{Lost, Halted as Stopped}
-use Rattle.member_decks.specs.Spooling.{AreQuiet, AreRoomy, OnVolumes, Rise, SpoolCauses, StandBelow, answer_of, lies_there, page_in}
+use Rattle.member_decks.specs.Spooling.{AreQuiet, OnVolumes, Rise, SpoolCauses, StandBelow, answer_of, lies_there, page_in}
 
 -- ACTS
 

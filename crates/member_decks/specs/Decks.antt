@@ -13,10 +13,9 @@ use Rattle.mas_types.specs.declared.commands.Reply.TheVariants as reply
 use Rattle.mas_types.specs.declared.answers.Closing.TheVariants as closing
 use Rattle.mas_types.specs.declared.journals.Entry.{Entry}
 use Rattle.mas_types.specs.declared.queues.Queue.{Queue}
-use Rattle.mas_types.specs.Closings.{closing_line}
+use Rattle.mas_types.specs.Closings.{closing_line, reply_lines}
 use Rattle.mas_types.specs.Owners.{groups_needed}
 use Rattle.mas_complex.specs.Meaning.{step, run}
-use Rattle.member_node.specs.Lines.{reply_lines}
 use Rattle.member_steps.specs.Steps.{entry_of}
 use Rattle.member_decks.specs.declared.opening.Opened.{Opened}
 use Rattle.member_decks.specs.declared.opening.Opened.TheVariants as opened

@@ -15,11 +15,11 @@ use Rattle.member_node.specs.declared.member.NodeNo.{NodeNo}
 use Rattle.member_node.specs.declared.member.NodeNo.TheVariants.{BothLost, Halted, ConsoleFault, NoMemory}
 use Rattle.member_node.specs.Calls.{Apart, Course, IsLeft, console_now}
 use Rattle.member_node.specs.Writes.{HasKept, HasFlying}
-use Rattle.member_steps.specs.Steps.{IsStep, StepTells, entry_with, reply_to}
+use Rattle.member_steps.specs.Steps.{IsStep, StepTells, entry_with, reply_to, StepCauses}
 use Rattle.member_decks.specs.declared.opening.Opened.TheVariants.{Ready}
 use Rattle.member_decks.specs.Batches.{BatchesLeave, HasAll}
 use Rattle.member_decks.specs.Decks.{closing_reply, finishing, lines_by}
-use Rattle.member_decks.specs.Steps.{DeckCauses, IsFoundLost, LiesOn}
+use Rattle.member_decks.specs.Steps.{IsFoundLost, LiesOn}
 
 -- the cause of an answer to acts on the copies, and which of them count as alive after it
 abbrev pub CopyCauses : {T : Type 0} → Result T NodeNo → ℕ → Bool → Bool → Bool → Bool → View → View → Type 0
@@ -67,7 +67,7 @@ pub record IsRest {T : Type 0} (told : Type 0) (by : MemberId) (at per : ℕ) (n
   pub course : Course was1 is1 was2 is2 old new
   pub loses : told → (d : Dev) → new.loses d ≡ old.loses d
   pub papers : told → SamePapers old new
-  pub cause : DeckCauses result by.0 was1 is1 was2 is2 old new
+  pub cause : StepCauses result by.0 was1 is1 was2 is2 old new
   pub rest : List Batch
   pub batches_are : batches ≡ front ++ rest
   pub journal : BatchesLeave result by old.now new.now ((entry_with by at (finishing lost n text) reply ∷ []) ∷ []) rest

@@ -1,10 +1,9 @@
 -- A text that goes into groups on the spool volumes.
-use Rattle.std.specs.Prelude.{◌≡◌, ◌≢◌, ◌⊎◌, ℕ, ◌*◌, ◌≤◌, ◌<◌, ◌==◌, Bool, true, false, List, Some, slice_get, Result, Ok, Err}
+use Rattle.std.specs.Prelude.{◌≡◌, ◌≢◌, ◌⊎◌, ℕ, ◌<◌, ◌==◌, Bool, true, List, Some, slice_get, Result, Ok, Err}
 use Rattle.std.specs.List.{list_any}
 use Rattle.mas_types.specs.declared.ids.GroupNo.{GroupNo}
 use Rattle.mas_types.specs.declared.ids.Dev.{Dev}
 use Rattle.mas_types.specs.declared.ids.Dev.TheVariants.{Ckpt1, Ckpt2, Spool}
-use Rattle.mas_types.specs.declared.queues.Config.{Config}
 use Rattle.mas_types.specs.Limits.{page_bytes}
 use Rattle.spool_disk.specs.declared.plant.Act.{Act}
 use Rattle.spool_disk.specs.declared.plant.Act.TheVariants as act
@@ -17,10 +16,6 @@ use Rattle.mas_complex.specs.Paper.{SamePapers}
 use Rattle.mas_complex.specs.Texts.{Spools}
 use Rattle.member_decks.specs.declared.spooling.SpoolError.{SpoolError}
 use Rattle.member_decks.specs.declared.spooling.SpoolError.TheVariants.{Lost, Halted}
-
--- each volume of the configuration that isn't lost has the size that its groups need
-abbrev pub AreRoomy : View → Config → Type 0
-AreRoomy v config = (n : ℕ) → 1 ≤ n → n ≤ config.volumes → v.lost (DiskPart (Spool n)) ≡ false → page_bytes * config.groups ≤ v.size (Spool n)
 
 -- the groups rise
 abbrev pub Rise : List GroupNo → Type 0

@@ -9,17 +9,16 @@ use Rattle.mas_types.specs.declared.journals.Batch.{Batch}
 use Rattle.mas_types.specs.declared.journals.Entry.{Entry}
 use Rattle.mas_types.specs.declared.queues.Queue.{Queue}
 use Rattle.mas_types.specs.Owners.{groups_needed}
-use Rattle.spool_disk.specs.declared.plant.Part.TheVariants.{Disk as DiskPart, Console}
+use Rattle.spool_disk.specs.declared.plant.Part.TheVariants.{Disk as DiskPart}
 use Rattle.spool_disk.specs.View.{View}
 use Rattle.spool_disk.specs.Acts.{Rose}
-use Rattle.duplex_pair.specs.Halves.{IsBothLost}
 use Rattle.track_groups.specs.Groups.{held_by}
 use Rattle.mas_complex.specs.Meaning.{run}
 use Rattle.mas_complex.specs.Paper.{SamePapers}
 use Rattle.member_node.specs.declared.member.NodeNo.{NodeNo}
 use Rattle.member_node.specs.declared.member.NodeNo.TheVariants.{BothLost, Halted, ConsoleFault, NoMemory}
-use Rattle.member_node.specs.Calls.{Course, IsLeft, console_now}
-use Rattle.member_steps.specs.Steps.{StepTells}
+use Rattle.member_node.specs.Calls.{Course, console_now}
+use Rattle.member_steps.specs.Steps.{StepCauses, StepTells}
 use Rattle.member_decks.specs.declared.opening.Opened.{Opened}
 use Rattle.member_decks.specs.declared.opening.Opened.TheVariants as opened
 use Rattle.member_decks.specs.Batches.{BatchesLeave, HasAll}
@@ -40,14 +39,6 @@ abbrev pub LiesOn : Opened → ℕ → Queue → MemberId → List (List ℕ) �
 LiesOn ends per Q by text None = Unit {0}
 LiesOn opened.Closed per Q by text (Some volume) = ⊥
 LiesOn (opened.Ready n) per Q by text (Some volume) = lies_there per volume (take (groups_needed text) (held_by by Q.owners)) ≡ true
-
--- the cause of an answer, and which copies count as alive after it
-abbrev pub DeckCauses : {T : Type 0} → Result T NodeNo → ℕ → Bool → Bool → Bool → Bool → View → View → Type 0
-DeckCauses (Ok done) by was1 is1 was2 is2 old new = IsLeft was1 is1 was2 is2
-DeckCauses (Err NoMemory) by was1 is1 was2 is2 old new = IsLeft was1 is1 was2 is2
-DeckCauses (Err BothLost) by was1 is1 was2 is2 old new = IsBothLost is1 is2
-DeckCauses (Err ConsoleFault) by was1 is1 was2 is2 old new = IsLeft was1 is1 was2 is2 × Rose (old.faults Console) (new.faults Console)
-DeckCauses (Err Halted) by was1 is1 was2 is2 old new = IsLeft was1 is1 was2 is2 × Rose (old.stops by) (new.stops by)
 
 -- the entries are of this member's step
 abbrev pub AreOf : MemberId → ℕ → List Entry → Type 0
@@ -74,7 +65,7 @@ pub record IsDeckStep {T : Type 0} (told : Type 0) (by : MemberId) (at per : ℕ
   pub course : Course was1 is1 was2 is2 old new
   pub loses : told → (d : Dev) → new.loses d ≡ old.loses d
   pub papers : told → SamePapers old new
-  pub cause : DeckCauses result by.0 was1 is1 was2 is2 old new
+  pub cause : StepCauses result by.0 was1 is1 was2 is2 old new
   pub rest : List Batch
   pub batches_are : batches ≡ front ++ rest
   pub journal : BatchesLeave result by old.now new.now gave rest

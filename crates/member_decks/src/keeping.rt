@@ -21,10 +21,10 @@ ghost use Rattle.member_decks.specs.Decks.{closes as closes_lem, closing_reply, 
 ghost use Rattle.member_decks.specs.Keeping.{GivesUpLeaves, IsOnCopies, KeepLeaves};
 ghost use Rattle.mas_complex.specs.Paper.{MayBegin, printed_after};
 
-use cmd_report::closing;
+use cmd_report::{closing, reply_lines};
 use mas_complex::{Complex, Steady};
 use mas_types::{Closing, Command, Entry, JobNo, Lines, MemberId, NoMemory, Reply};
-use member_node::{Member, NodeNo, reply_lines};
+use member_node::{Member, NodeNo};
 use member_steps::play_batch;
 use spool_disk::Plant;
 use std::alloc::Global;

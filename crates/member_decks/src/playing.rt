@@ -22,7 +22,8 @@ ghost use Rattle.member_node.specs.Reads.{AreLow, orders_after, too_high};
 ghost use Rattle.member_steps.specs.Steps.{AreAllKept, IsBetween};
 ghost use Rattle.member_decks.specs.declared.opening.Opened.TheVariants.{Ready};
 ghost use Rattle.member_decks.specs.Keeping.{IsFinish, IsRest};
-ghost use Rattle.member_decks.specs.Spooling.{AreRoomy, OnVolumes};
+ghost use Rattle.member_decks.specs.Spooling.{OnVolumes};
+ghost use Rattle.spool_volumes.specs.Volumes.{AreRoomy};
 ghost use Rattle.member_decks.specs.Steps.{AreOf, IsDeckStep, IsFoundLost, LiesOn, SpoolStops};
 
 use crate::holding::take_hold;

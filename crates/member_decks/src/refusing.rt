@@ -1,5 +1,5 @@
 //! A step that closes before any try of the lock.
-ghost use Rattle.std.specs.Prelude.{◌≡◌, ◌≤◌, ◌∷◌, [], false, None, IfOk};
+ghost use Rattle.std.specs.Prelude.{◌≡◌, ◌≤◌, ◌∷◌, [], false, None};
 ghost use Rattle.mas_types.specs.declared.ids.Dev.{Dev};
 ghost use Rattle.mas_types.specs.Closings.{AreMembersNamed, closing_line};
 ghost use Rattle.mas_types.specs.Limits.{members_most};
@@ -9,25 +9,13 @@ ghost use Rattle.mas_complex.specs.Locking.{IsUp};
 ghost use Rattle.member_steps.specs.Locked.{IsDenial};
 ghost use Rattle.member_steps.specs.Steps.{AreAllKept};
 
-use cmd_report::closing;
+use cmd_report::one_line;
 use mas_complex::{Complex, Steady};
 use mas_types::{Closing, Lines, MemberId, NoMemory};
 use member_node::{Member, NodeNo};
 use member_steps::tell_lines;
 use spool_disk::Plant;
 use std::alloc::Global;
-
-// The one line of such a step.
-fn one_line(alloc: Global, by: MemberId, step: u32, end: &Closing) -> Result<Lines, NoMemory>
-    requires by { by.0 ≤ members_most }
-    requires named { AreMembersNamed end.now }
-    ensures { IfOk result (λ lines. lines ≡ closing_line by step end.now ∷ []) }
-{
-    let line = closing(alloc, by, step, end)?;
-    let mut lines = Lines::new(alloc);
-    lines.push(line.as_slice())?;
-    Ok(lines)
-}
 
 /// Closes a member's step that gives no command and makes no try of the lock: its line says how it closes, and nothing else is done.
 pub fn refuse<P: Plant + Drop, C: Steady + Drop>(

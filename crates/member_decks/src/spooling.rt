@@ -5,19 +5,19 @@ ghost use Rattle.mas_types.specs.Fit.{AreLines};
 ghost use Rattle.mas_types.specs.declared.ids.GroupNo.{GroupNo};
 ghost use Rattle.mas_types.specs.Owners.{groups_needed};
 ghost use Rattle.spool_text.specs.Texts.{packed};
-ghost use Rattle.spool_volumes.specs.Volumes.{volume_of as volume_of_lem};
+ghost use Rattle.spool_volumes.specs.Volumes.{volume_of as volume_of_lem, AreRoomy};
 ghost use Rattle.mas_complex.specs.Journals.{kept_all};
 ghost use Rattle.mas_complex.specs.Locking.{IsUp};
 ghost use Rattle.mas_complex.specs.Meaning.{run};
 ghost use Rattle.mas_complex.specs.Spool.{IsGroupOf, IsHeldBy, IsVolumeOf};
 ghost use Rattle.mas_complex.specs.Texts.{IsSynced, IsThere, spools_at};
-ghost use Rattle.member_decks.specs.Spooling.{AreQuiet, AreRoomy, OnVolumes, Rise, SpoolCauses, StandBelow, answer_of, lies_there as lies_there_lem, page_in};
+ghost use Rattle.member_decks.specs.Spooling.{AreQuiet, OnVolumes, Rise, SpoolCauses, StandBelow, answer_of, lies_there as lies_there_lem, page_in};
 
 use mas_complex::{Complex, Steady};
 use mas_types::{GroupNo, Lines, MemberId, Page};
 use spool_disk::{Act, Plant};
 use spool_text::{law_of_groups, pack};
-use spool_volumes::law_of_read_texts;
+use spool_volumes::{law_of_read_texts, volume_of};
 use thiserror::Error;
 
 /// Why a text doesn't stand in its groups.
@@ -29,16 +29,6 @@ pub enum SpoolError {
     /// The member was stopped.
     #[error("the member was stopped")]
     Halted,
-}
-
-// The volume on which a group lies, where there are so many volumes with so many groups each.
-fn volume_of(volumes: u8, per: u32, group: GroupNo) -> u8
-    requires some { 1 ≤ per }
-    requires placed { volume_of_lem per group ≤ volumes }
-    ensures { result ≡ volume_of_lem per group }
-{
-    prove!((group.0 / per) as u64 + 1 <= volumes as u64);
-    (group.0 / per) as u8 + 1
 }
 
 // Whether a group lies on a volume.

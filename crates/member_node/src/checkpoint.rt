@@ -5,7 +5,6 @@ ghost use Rattle.mas_types.specs.Fit.{IsConfig};
 ghost use Rattle.mas_types.specs.Limits.{page_bytes, routes_most};
 ghost use Rattle.ckpt_copy.specs.Pages.{bytes_of, ArePages, Covers};
 ghost use Rattle.mas_complex.specs.Changed.{NamesOnly};
-ghost use Rattle.mas_complex.specs.Fits.{are_same};
 ghost use Rattle.ckpt_pages.specs.Shape.{page_count as page_count_lem, HasShape, HasSpelling, AreLevels, IsRoute};
 ghost use Rattle.ckpt_pages.specs.Pages.{Spell};
 ghost use Rattle.ckpt_pages.specs.Starts.{empty_tables, first_levels as first_levels_lem};
@@ -76,20 +75,6 @@ pub fn blank(alloc: Global, config: &Config, routes: &List<Route>) -> Result<Che
         levels,
         pages,
     })
-}
-
-pub(crate) fn same_pages(found: &[Page], other: &[Page]) -> bool
-    ensures { result ≡ are_same found.now other.now }
-{
-    if found.len() != other.len() {
-        return false;
-    }
-    for page in 0..found.len() {
-        if !is_same_page(&found[page], &other[page]) {
-            return false;
-        }
-    }
-    true
 }
 
 // Adds a number where it is asked for.

@@ -3,11 +3,10 @@
 
 mod batch;
 mod checkpoint;
-mod lines;
 mod member;
 mod reading;
 mod writing;
 
 pub use checkpoint::{Checkpoint, Draft, blank, redraw};
-pub use lines::reply_lines;
+pub use cmd_report::reply_lines;
 pub use member::{Member, NodeNo};

@@ -23,13 +23,15 @@ ghost use Rattle.mas_complex.specs.declared.places.Place.TheVariants.{Before};
 ghost use Rattle.member_node.specs.Calls.{Course};
 ghost use Rattle.member_node.specs.Reads.{ArePagesOf, IsCalm, IsRead, IsReadWhole, MayGoOn, ReadsAs, StandAt, copies_alive, is_job_below, is_output_below};
 
-use crate::checkpoint::same_pages;
 use crate::member::{Member, NodeNo};
-use ckpt_pages::{PageNo, Tables, decode, first_bad, law_of_checkpoints, law_of_levels, levels_of};
+use ckpt_pages::{
+    PageNo, Tables, decode, first_bad, law_of_checkpoints, law_of_levels, law_of_page_sizes,
+    levels_of,
+};
 use duplex_pair::{PairNo, pages_level};
 use lay_bytes::{JobRec, OutRec};
 use lock_cycle::{LockNo, NotHolder};
-use mas_complex::{Complex, Steady};
+use mas_complex::{Complex, Steady, same_pages};
 use mas_types::{Config, Dev, Level, List, MemberId, NoMemory, Page};
 use spool_disk::Plant;
 use std::alloc::Global;
@@ -241,22 +243,6 @@ fn may_go_on(config: &Config, pages: &[Page], tables: &Tables) -> bool
         return false;
     }
     are_outputs_below(tables.outputs.as_slice(), tables.order)
-}
-
-fn bytes_in(page: &Page) -> &[u8]
-    ensures bytes { result.now ≡ page.now.0 }
-    ensures size { length result.now ≡ page_bytes }
-{
-    &page.0
-}
-
-// Pages have the size of a page each.
-fn law_of_sizes(pages: &[Page])
-    ensures { All (λ page. length page.0 ≡ page_bytes) pages.now }
-{
-    for page in pages {
-        let _bytes = bytes_in(page);
-    }
 }
 
 impl Member {
@@ -510,7 +496,7 @@ impl Member {
         let levels = levels_of(alloc, pages)?;
         law_of_levels();
         law_of_checkpoints();
-        law_of_sizes(pages);
+        law_of_page_sizes(pages);
         self.take_up(alloc, tables, levels);
         Ok(true)
     }
@@ -648,7 +634,7 @@ impl Member {
         ensures as_many { length self.old.checkpoint.pages ≡ length self.old.room → length self.new.room ≡ length self.old.room }
         ensures sized { All (λ page. length page.0 ≡ page_bytes) self.old.room }
     {
-        law_of_sizes(self.room.as_slice());
+        law_of_page_sizes(self.room.as_slice());
         match self.catch_up(alloc) {
             Ok(up) => Ok(up),
             Err(NoMemory) => Err(NodeNo::NoMemory),

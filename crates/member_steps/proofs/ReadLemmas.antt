@@ -34,7 +34,7 @@ use Rattle.member_node.specs.declared.member.NodeNo.TheVariants.{BothLost, Halte
 use Rattle.member_node.specs.Calls.{Apart, Course, IsLeft, console_now}
 use Rattle.member_node.specs.Copies.{RestsAt}
 use Rattle.member_node.specs.Drawn.{AreDrawn}
-use Rattle.member_node.specs.Lines.{reply_lines}
+use Rattle.mas_types.specs.Closings.{reply_lines}
 use Rattle.member_node.specs.Reads.{AreLow, HasRead, IsCalm, IsSettle, IsUpTo, ReadCauses, ReadInCauses, ReadsLow, orders_after, too_high}
 use Rattle.member_node.specs.Writes.{HasKept}
 use Rattle.member_node.proofs.CourseLemmas.{apart_then, course_then, only_on, papers_on, rose_later}

@@ -12,7 +12,7 @@ use Rattle.mas_types.specs.declared.answers.Closing.TheVariants as closing
 use Rattle.mas_types.specs.declared.commands.Reply.{Reply}
 use Rattle.mas_types.specs.declared.commands.Reply.TheVariants as reply
 use Rattle.mas_types.specs.declared.journals.Entry.{Entry}
-use Rattle.mas_types.specs.Closings.{closing_line, closing_text, detail_lines}
+use Rattle.mas_types.specs.Closings.{closing_line, closing_text, detail_lines, reply_lines}
 use Rattle.mas_types.specs.Numerals.{in_digits, value_after, value_of}
 use Rattle.mas_types.specs.Shown.{member_word}
 use Rattle.spool_disk.specs.View.{Line}
@@ -20,7 +20,6 @@ use Rattle.mas_complex.specs.Crash.{EachTells}
 use Rattle.mas_complex.specs.Headline.{whole}
 use Rattle.mas_complex.specs.Journals.{has_step}
 use Rattle.mas_complex.specs.Meaning.{Closes}
-use Rattle.member_node.specs.Lines.{reply_lines}
 use Rattle.member_steps.specs.Steps.{entry_of, reply_to}
 use Rattle.member_steps.specs.Untold.{TellNoLaterStep}
 

@@ -26,7 +26,7 @@ use Rattle.member_node.specs.declared.member.NodeNo.{NodeNo}
 use Rattle.member_node.specs.declared.member.NodeNo.TheVariants.{BothLost, Halted, ConsoleFault, NoMemory}
 use Rattle.member_node.specs.Calls.{Course, IsLeft, IsOnlyOn, console_now}
 use Rattle.member_node.specs.Drawn.{AreDrawn}
-use Rattle.member_node.specs.Lines.{reply_lines}
+use Rattle.mas_types.specs.Closings.{reply_lines}
 use Rattle.member_node.specs.Writes.{HasKept, HasFlying}
 use Rattle.member_steps.specs.Saying.{Breaks}
 

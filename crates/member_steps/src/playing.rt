@@ -20,9 +20,10 @@ ghost use Rattle.member_steps.specs.Steps.{AreAllKept, GivesStep, IsBetween, IsG
 ghost use Rattle.paper_laws.specs.Counts.{is_mark};
 
 use crate::batches::play_batch;
+use cmd_report::reply_lines;
 use mas_complex::{Complex, Steady};
 use mas_types::{Command, Lines, NoMemory};
-use member_node::{Member, NodeNo, reply_lines};
+use member_node::{Member, NodeNo};
 use queue_texts::law_of_texts;
 use spool_disk::Plant;
 use std::alloc::Global;

@@ -34,7 +34,8 @@ use Rattle.member_decks.specs.Decks.{are_refused, given_in, takes}
 use Rattle.member_decks.specs.Taking.{IsPart}
 use Rattle.member_decks.proofs.MayLemmas.{IsUnmarked, Unmarked, given_fit, given_unmarked, takes_unmarked}
 use Rattle.member_decks.proofs.PlayLemmas.{all_front}
-use Rattle.member_work.specs.Units.{drop_groups, ending, is_refusal, taking}
+use Rattle.member_work.specs.Units.{drop_groups, ending, taking}
+use Rattle.queue_laws.specs.Laws.{is_refusal}
 
 module _ (base : Queue) (by : MemberId) (js : List Batch) (printed : List ℕ) where
   -- commands without a Mark, or the first ones of them

@@ -39,7 +39,8 @@ use Rattle.member_work.specs.Causes.{MayEndUnit}
 use Rattle.member_work.specs.Ending.{IsLastPart}
 use Rattle.member_work.specs.Giving.{GivesAt, HasGiven}
 use Rattle.member_work.specs.Steps.{HasCopy, IsAtWork, IsKeeping}
-use Rattle.member_work.specs.Units.{drop_groups, ending, is_refusal, taken_end, taking}
+use Rattle.member_work.specs.Units.{drop_groups, ending, taken_end, taking}
+use Rattle.queue_laws.specs.Laws.{is_refusal}
 use Rattle.member_work.specs.Work.{batches_in}
 use Rattle.member_work.proofs.BeginLemmas.{part_begins}
 use Rattle.member_work.proofs.GivingLemmas.{taking_all, taking_refused, taking_some}

@@ -55,7 +55,8 @@ use Rattle.job_outcome.specs.Ending.{EndedBringsTexts, IsOfOutput, shares}
 use Rattle.job_outcome.specs.Next.{IsNamedEnd, end_by}
 use Rattle.member_work.specs.Giving.{GivesAt, HasGiven, IsSoundPlain, LeaveWhere, MayEnd}
 use Rattle.member_work.specs.Spooled.{AreSpooled}
-use Rattle.member_work.specs.Units.{drop_groups, ending, is_refusal, taken_end, taking}
+use Rattle.member_work.specs.Units.{drop_groups, ending, taken_end, taking}
+use Rattle.queue_laws.specs.Laws.{is_refusal}
 
 -- WHAT A MEMBER HAS
 

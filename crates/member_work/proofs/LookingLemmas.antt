@@ -33,7 +33,7 @@ use Rattle.track_groups.specs.Laws.{AreItsOwn}
 use Rattle.track_groups.specs.Places.{groups_of}
 use Rattle.mas_complex.specs.Spool.{IsGroupOf}
 use Rattle.mas_complex.specs.Texts.{HasTexts, IsThereUnless, lost_now, spools_at}
-use Rattle.member_decks.specs.Spooling.{AreRoomy}
+use Rattle.spool_volumes.specs.Volumes.{AreRoomy}
 use Rattle.member_decks.proofs.PageLemmas.{all_at}
 use Rattle.job_outcome.specs.declared.outcomes.Read.{Read}
 use Rattle.job_outcome.specs.declared.outcomes.Read.TheVariants as read

@@ -53,7 +53,8 @@ use Rattle.member_node.specs.declared.member.NodeNo.{NodeNo}
 use Rattle.member_node.specs.declared.member.NodeNo.TheVariants.{BothLost, ConsoleFault, NoMemory, Halted as HaltedNo}
 use Rattle.member_node.specs.Calls.{Course}
 use Rattle.member_decks.specs.Keeping.{CopyCauses}
-use Rattle.member_decks.specs.Spooling.{AreRoomy, OnVolumes}
+use Rattle.member_decks.specs.Spooling.{OnVolumes}
+use Rattle.spool_volumes.specs.Volumes.{AreRoomy}
 use Rattle.member_decks.specs.Steps.{SpoolStops}
 use Rattle.member_decks.proofs.OpenLemmas.{tells_some}
 use Rattle.member_decks.proofs.PageLemmas.{all_at}

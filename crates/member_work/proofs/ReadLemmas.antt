@@ -23,14 +23,14 @@ use Rattle.spool_disk.specs.Acts.{Acts, Goes, ReadBy, Reads}
 use Rattle.spool_text.specs.Laws.{ReadsWhatIsHeld}
 use Rattle.spool_text.specs.Reading.{AddsRecords}
 use Rattle.spool_volumes.specs.Texts.{Held, all_records, first_gone, gone_or, held, records_on, text_of, text_unless}
-use Rattle.spool_volumes.specs.Volumes.{page_of, start_of, volume_of}
+use Rattle.spool_volumes.specs.Volumes.{page_of, start_of, volume_of, AreRoomy}
 use Rattle.mas_complex.specs.Spool.{IsGroupOf, ReadsGroup, device_of, is_within, page_part, page_start}
 use Rattle.mas_complex.specs.Texts.{Spools, bytes_on, lost_now, spools_at, IsThereUnless}
 use Rattle.mas_complex.proofs.Quotients.{few_quotient}
 use Rattle.mas_complex.proofs.Spooled.{each_quiet, read_quiet}
 use Rattle.queue_laws.proofs.Finds.{test_cases}
 use Rattle.queue_laws.proofs.SoundEnter.{All-none}
-use Rattle.member_decks.specs.Spooling.{AreQuiet, AreRoomy, OnVolumes, lies_there}
+use Rattle.member_decks.specs.Spooling.{AreQuiet, OnVolumes, lies_there}
 use Rattle.member_node.specs.declared.member.NodeNo.{NodeNo}
 use Rattle.member_node.specs.declared.member.NodeNo.TheVariants as no
 use Rattle.member_decks.specs.Steps.{SpoolStops}

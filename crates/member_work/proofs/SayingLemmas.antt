@@ -19,11 +19,10 @@ use Rattle.member_node.specs.Copies.{RestsAt}
 use Rattle.member_node.specs.Reads.{AreLow, orders_after}
 use Rattle.member_steps.specs.Locked.{IsDenial}
 use Rattle.member_steps.specs.Saying.{HaveSaid}
-use Rattle.member_steps.specs.Steps.{IsBetween, IsStep, StepCauses, StepLeaves}
+use Rattle.member_steps.specs.Steps.{IsBetween, IsStep, StepLeaves}
 use Rattle.member_steps.proofs.LockLemmas.{denied_told}
 use Rattle.member_steps.proofs.ReadLemmas.{one_batch}
 use Rattle.member_decks.specs.Batches.{AreCut, BatchesLeave, HasAll}
-use Rattle.member_decks.specs.Steps.{DeckCauses}
 use Rattle.member_decks.proofs.BatchLemmas.{some_cut}
 use Rattle.member_decks.proofs.OutcomeLemmas.{all_of, one_causes, one_leaves, tells_then}
 use Rattle.member_node.specs.Writes.{HasKept}
@@ -37,19 +36,12 @@ closing_said told by lines front batches same a b v w r said =
     record {
       course = d.course;
       loses = λ t k. d.loses k;
-      cause = causes r d.cause;
+      cause = d.cause;
       rest = [];
       batches_are = same ∙ sym (append-nil front);
       journal = leaves r;
       console = λ t. tells_then r lines (Unit {0}) (HasAll by v.now w.now [] front batches) v v w refl (λ has. ([], same ∙ sym (append-nil front), tt)) (d.console t);
     } where
-      causes : (r : Result (Unit {0}) NodeNo) → StepCauses r by.0 a a b b v w → DeckCauses r by.0 a a b b v w
-      causes (Ok done) c = c
-      causes (Err NoMemory) c = c
-      causes (Err BothLost) c = c
-      causes (Err ConsoleFault) c = c
-      causes (Err Halted) c = c
-
       leaves : (r : Result (Unit {0}) NodeNo) → WorkLeaves r by v.now w.now [] []
       leaves (Ok done) = tt
       leaves (Err NoMemory) = inr tt

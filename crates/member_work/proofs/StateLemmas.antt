@@ -31,7 +31,7 @@ use Rattle.member_node.specs.Reads.{AreLow, IsCalm, ReadsLow, orders_after}
 use Rattle.member_steps.specs.Steps.{AreAllKept, IsAtLock, IsBetween, IsToldSound}
 use Rattle.member_steps.proofs.ReadLemmas.{calm_rest, low_written, told_sound, untold_later}
 use Rattle.member_steps.proofs.StepLemmas.{between_done, can_draw, kept_later, untold_by}
-use Rattle.member_decks.specs.Spooling.{AreRoomy}
+use Rattle.spool_volumes.specs.Volumes.{AreRoomy}
 use Rattle.member_decks.specs.Steps.{AreOf}
 use Rattle.member_decks.proofs.PageLemmas.{still_roomy}
 use Rattle.member_work.specs.Steps.{IsAtWork, IsStepUntold}

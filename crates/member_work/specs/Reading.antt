@@ -10,9 +10,9 @@ use Rattle.mas_types.specs.Limits.{line_bytes}
 use Rattle.spool_disk.specs.declared.plant.Part.TheVariants.{Disk as DiskPart}
 use Rattle.spool_disk.specs.View.{View}
 use Rattle.spool_volumes.specs.Texts.{gone_or, records_on}
-use Rattle.spool_volumes.specs.Volumes.{volume_of}
+use Rattle.spool_volumes.specs.Volumes.{volume_of, AreRoomy}
 use Rattle.mas_complex.specs.Texts.{bytes_on, spools_at}
-use Rattle.member_decks.specs.Spooling.{AreQuiet, AreRoomy}
+use Rattle.member_decks.specs.Spooling.{AreQuiet}
 use Rattle.job_outcome.specs.declared.outcomes.Read.{Read}
 use Rattle.job_outcome.specs.declared.outcomes.Read.TheVariants as read
 use Rattle.member_work.specs.Looks.{as_it_is}

@@ -39,11 +39,11 @@ use Rattle.member_node.specs.Calls.{Course, console_now}
 use Rattle.member_node.specs.Copies.{RestsAt}
 use Rattle.member_node.specs.Drawn.{AreDrawn}
 use Rattle.member_node.specs.Reads.{orders_after}
-use Rattle.member_steps.specs.Steps.{AreAllKept, StepTells, entry_with, reply_to}
+use Rattle.member_steps.specs.Steps.{AreAllKept, StepTells, entry_with, reply_to, StepCauses}
 use Rattle.member_decks.specs.Batches.{AreAll, AreCut, HasAll, OneFlies}
 use Rattle.member_decks.specs.Keeping.{CopyCauses}
-use Rattle.member_decks.specs.Spooling.{AreRoomy}
-use Rattle.member_decks.specs.Steps.{AreOf, DeckCauses}
+use Rattle.spool_volumes.specs.Volumes.{AreRoomy}
+use Rattle.member_decks.specs.Steps.{AreOf}
 use Rattle.job_outcome.specs.declared.outcomes.Outcome.{Outcome}
 use Rattle.job_outcome.specs.declared.outcomes.Read.{Read}
 use Rattle.job_outcome.specs.declared.units.UnitEnd.{UnitEnd}
@@ -74,7 +74,7 @@ WorkLeaves (Err Halted) by from now ess bs = AreCut by from now ess bs ⊎ OneFl
 pub record IsClosing {T : Type 0} (told : Type 0) (by : MemberId) (lines : List (List ℕ)) (ess : List (List Entry)) (front batches : List Batch) (was1 is1 was2 is2 : Bool) (old new : View) (result : Result T NodeNo) : Type 0 where
   pub course : Course was1 is1 was2 is2 old new
   pub loses : told → (d : Dev) → new.loses d ≡ old.loses d
-  pub cause : DeckCauses result by.0 was1 is1 was2 is2 old new
+  pub cause : StepCauses result by.0 was1 is1 was2 is2 old new
   pub rest : List Batch
   pub batches_are : batches ≡ front ++ rest
   pub journal : WorkLeaves result by old.now new.now ess rest

@@ -21,6 +21,7 @@ use Rattle.mas_types.specs.Commands.Life.{groups_of_outputs, outputs_at_end}
 use Rattle.mas_types.specs.Ids.{no_number}
 use Rattle.mas_types.specs.Queue.{job_at, output_at, total}
 use Rattle.mas_types.specs.Units.{unit_of}
+use Rattle.queue_laws.specs.Laws.{is_refusal}
 use Rattle.paper_laws.specs.Next.{limit_of}
 use Rattle.mas_complex.specs.Meaning.{run}
 use Rattle.member_steps.specs.Steps.{entry_of, reply_to}
@@ -47,10 +48,6 @@ outcome_for runs look j = outcome_of runs j.fields (read_of look.read j.text)
 pub record UnitPlay : Type 0 where
   pub parts : List (List Entry)
   pub ends : UnitEnd
-
-abbrev pub is_refusal : Reply → Bool
-is_refusal (reply.No why) = true
-is_refusal _ = false
 
 -- a unit of one command
 abbrev pub one_command : Queue → MemberId → ℕ → Command → UnitPlay

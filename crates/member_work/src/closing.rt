@@ -1,5 +1,5 @@
 //! What a step has given since the last batch, kept; the copies read anew; and the line with which the step closes.
-ghost use Rattle.std.specs.Prelude.{◌≡◌, ◌+◌, ◌≤◌, ◌<◌, ◌^◌, ◌∷◌, [], length, None, Err, IfOk, OnOk};
+ghost use Rattle.std.specs.Prelude.{◌≡◌, ◌+◌, ◌≤◌, ◌<◌, ◌^◌, ◌∷◌, [], length, None, Err, OnOk};
 ghost use Rattle.mas_types.specs.declared.ids.Dev.TheVariants.{Ckpt1, Ckpt2};
 ghost use Rattle.mas_types.specs.Closings.{AreMembersNamed, closing_line};
 ghost use Rattle.mas_types.specs.Limits.{members_most};
@@ -14,7 +14,7 @@ ghost use Rattle.member_decks.specs.Keeping.{IsOnCopies};
 ghost use Rattle.member_work.specs.Steps.{HasCopy, IsAtWork, IsClosing, IsKeeping};
 ghost use Rattle.member_work.specs.Work.{batches_in};
 
-use cmd_report::closing;
+use cmd_report::one_line;
 use mas_complex::{Complex, Steady};
 use mas_types::{Closing, Lines, MemberId, NoMemory};
 use member_decks::{keep_batch, take_hold};
@@ -22,18 +22,6 @@ use member_node::{Member, NodeNo};
 use member_steps::{play_batch, tell_lines};
 use spool_disk::Plant;
 use std::alloc::Global;
-
-// The one line with which a step closes.
-fn one_line(alloc: Global, by: MemberId, step: u32, end: &Closing) -> Result<Lines, NoMemory>
-    requires by { by.0 ≤ members_most }
-    requires named { AreMembersNamed end.now }
-    ensures { IfOk result (λ lines. lines ≡ closing_line by step end.now ∷ []) }
-{
-    let line = closing(alloc, by, step, end)?;
-    let mut lines = Lines::new(alloc);
-    lines.push(line.as_slice())?;
-    Ok(lines)
-}
 
 /// Keeps what the member gave since the last batch, if anything, as a batch, and makes room for the next one; nothing is said.
 pub(crate) fn keep_given<P: Plant + Drop, C: Steady + Drop>(

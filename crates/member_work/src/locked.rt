@@ -13,7 +13,7 @@ ghost use Rattle.mas_complex.specs.Meaning.{run};
 ghost use Rattle.member_node.specs.Reads.{IsCalm, ReadsLow, orders_after, too_high};
 ghost use Rattle.member_steps.specs.Locked.{IsDenial, IsOpenTo, denied_lines};
 ghost use Rattle.member_steps.specs.Steps.{AreAllKept, IsAtLock, IsToldSound};
-ghost use Rattle.member_decks.specs.Spooling.{AreRoomy};
+ghost use Rattle.spool_volumes.specs.Volumes.{AreRoomy};
 ghost use Rattle.member_work.specs.Steps.{IsCount, IsStepUntold, IsWorkStep, levels_in};
 
 use crate::working::play_work;

@@ -1,12 +1,12 @@
 //! Printing the lines of an output that come next.
-ghost use Rattle.std.specs.Prelude.{◌≡◌, ◌*◌, ◌+◌, ◌≤◌, ◌<◌, ◌^◌, ◌++◌, [], ℕ, List, length, min, option_copied, true, false, None, Some, IfOk, IfSome, OnOk};
+ghost use Rattle.std.specs.Prelude.{◌≡◌, ◌*◌, ◌+◌, ◌≤◌, ◌<◌, ◌^◌, ◌++◌, [], ℕ, List, length, min, true, false, None, Some, IfOk, IfSome, OnOk};
 ghost use Rattle.mas_types.specs.declared.ids.Dev.TheVariants.{Ckpt1, Ckpt2};
 ghost use Rattle.mas_types.specs.declared.jobs.Output.{Output};
 ghost use Rattle.mas_types.specs.declared.queues.Queue.{Queue};
 ghost use Rattle.mas_types.specs.Closings.{AreMembersNamed};
 ghost use Rattle.mas_types.specs.Fit.{IsIndex};
 ghost use Rattle.mas_types.specs.Limits.{members_most, printer_lines_most};
-ghost use Rattle.mas_types.specs.Queue.{is_member, output_at, setting_of};
+ghost use Rattle.mas_types.specs.Queue.{is_member, output_at};
 ghost use Rattle.mas_types.specs.Sound.{IsSound};
 ghost use Rattle.ckpt_pages.specs.Shape.{HasSpelling};
 ghost use Rattle.queue_tables.specs.Telling.{Tell};
@@ -39,18 +39,10 @@ use mas_types::{Closing, Command, JobNo, Lines, MemberId, OutNo, Setting, Thing}
 use member_node::{Member, NodeNo};
 use output_queue::find_output;
 use printer_proc::{forward, print_line};
+use queue_effect::setting;
 use spool_disk::{Act, Plant};
 use std::alloc::Global;
 use track_groups::{groups_of, law_of_places};
-
-fn setting(tables: &Tables, by: MemberId) -> Option<&Setting>
-    ensures { (Q : Queue) → Tell tables.now Q → setting_of Q by ≡ option_copied result }
-{
-    if by.0 == 0 {
-        return None;
-    }
-    tables.members.as_slice().get(by.0 as usize - 1)
-}
 
 // The lines that a member's printer prints at a time.
 fn limit_at(tables: &Tables, by: MemberId) -> u16

@@ -5,12 +5,12 @@ ghost use Rattle.mas_types.specs.declared.jobs.Text.{Text};
 ghost use Rattle.mas_types.specs.Limits.{page_bytes, text_lines_most};
 ghost use Rattle.mas_types.specs.Queue.{line_count};
 ghost use Rattle.spool_disk.specs.declared.plant.Part.TheVariants.{Disk as DiskPart};
-ghost use Rattle.spool_volumes.specs.Texts.{last_of, text_unless};
-ghost use Rattle.spool_volumes.specs.Volumes.{page_of, volume_of as volume_of_lem};
+ghost use Rattle.spool_volumes.specs.Texts.{text_unless};
+ghost use Rattle.spool_volumes.specs.Volumes.{page_of, volume_of as volume_of_lem, AreRoomy};
 ghost use Rattle.mas_complex.specs.Locking.{IsUp};
 ghost use Rattle.mas_complex.specs.Spool.{IsGroupOf};
 ghost use Rattle.mas_complex.specs.Texts.{bytes_on, lost_now, spools_at, IsThereUnless};
-ghost use Rattle.member_decks.specs.Spooling.{AreRoomy, OnVolumes};
+ghost use Rattle.member_decks.specs.Spooling.{OnVolumes};
 ghost use Rattle.member_decks.specs.Steps.{SpoolStops};
 ghost use Rattle.job_outcome.specs.Outcomes.{IsReadable};
 ghost use Rattle.member_work.specs.Looks.{as_it_is};
@@ -24,17 +24,8 @@ use mas_types::{GroupNo, Lines, MemberId, Page};
 use member_node::NodeNo;
 use spool_disk::{Act, Plant};
 use spool_text::{TextNo, law_of_reading, unpack};
+use spool_volumes::{last_group, volume_of};
 use std::alloc::Global;
-
-// The volume on which a group lies, where there are so many volumes with so many groups each.
-fn volume_of(volumes: u8, per: u32, group: GroupNo) -> u8
-    requires some { 1 ≤ per }
-    requires placed { volume_of_lem per group ≤ volumes }
-    ensures { result ≡ volume_of_lem per group }
-{
-    prove!((group.0 / per) as u64 + 1 <= volumes as u64);
-    (group.0 / per) as u8 + 1
-}
 
 // A page has its bytes.
 fn law_of_pages(page: &Page)
@@ -125,15 +116,6 @@ fn add_group<P: Plant + Drop, C: Steady + Drop>(
             Ok(None)
         }
         Err(TextNo::NoMemory) => Err(NodeNo::NoMemory),
-    }
-}
-
-fn last_group(groups: &[GroupNo]) -> GroupNo
-    ensures { result ≡ last_of groups.now }
-{
-    match groups.last() {
-        Some(group) => *group,
-        None => GroupNo(0),
     }
 }
 

@@ -19,7 +19,7 @@ ghost use Rattle.mas_complex.specs.Paper.{counts_of};
 ghost use Rattle.member_node.specs.Copies.{RestsAt};
 ghost use Rattle.member_node.specs.Reads.{AreLow, orders_after, too_high};
 ghost use Rattle.member_steps.specs.Steps.{AreAllKept, IsBetween};
-ghost use Rattle.member_decks.specs.Spooling.{AreRoomy};
+ghost use Rattle.spool_volumes.specs.Volumes.{AreRoomy};
 ghost use Rattle.member_decks.specs.Steps.{AreOf};
 ghost use Rattle.job_outcome.specs.Next.{IsNamedEnd};
 ghost use Rattle.member_work.specs.Steps.{HasCopy, IsAtWork, IsCommanded, IsCount, IsKeeping, IsRest, IsStepUntold, IsWorkStep, IsWorking, levels_in};

@@ -1,5 +1,5 @@
 -- What a step of a script gives on a plain queue: the queue that it leaves, the lines that it says, and those that are printed.
-use Rattle.std.specs.Prelude.{ℕ, Bool, true, false, if◌then◌else◌, List, [], ◌∷◌, ◌++◌, Option, Some, None, Result, Ok, Err}
+use Rattle.std.specs.Prelude.{ℕ, Bool, true, false, if◌then◌else◌, List, [], ◌∷◌, Option, Some, None, Result, Ok, Err}
 use Rattle.mas_types.specs.declared.ids.Dev.TheVariants as dev
 use Rattle.mas_types.specs.declared.ids.MemberId.{MemberId}
 use Rattle.mas_types.specs.declared.answers.Closing.{Closing}
@@ -11,7 +11,7 @@ use Rattle.mas_types.specs.declared.commands.Reply.TheVariants as reply
 use Rattle.mas_types.specs.declared.jobs.JobFields.{JobFields}
 use Rattle.mas_types.specs.declared.queues.Config.{Config}
 use Rattle.mas_types.specs.declared.queues.Queue.{Queue}
-use Rattle.mas_types.specs.Closings.{closing_line, detail_lines}
+use Rattle.mas_types.specs.Closings.{closing_line, reply_lines}
 use Rattle.mas_types.specs.Queue.{is_member}
 use Rattle.mas_types.specs.Step.{step}
 use Rattle.card_reader.specs.declared.decks.Refused.{Refused}
@@ -23,17 +23,8 @@ use Rattle.model_player.specs.Commands.{Worked, entered, worked_from}
 
 -- LINES
 
--- the lines of a display
-abbrev pub details_of : MemberId → ℕ → Reply → List (List ℕ)
-details_of by at (reply.Shown lines) = detail_lines by at lines
-details_of by at _ = []
-
 abbrev pub closed_with : MemberId → ℕ → Closing → List (List ℕ)
 closed_with by at end = closing_line by at end ∷ []
-
--- those of a display, and behind them the closing line
-abbrev pub reply_lines : MemberId → ℕ → Reply → List (List ℕ)
-reply_lines by at answer = details_of by at answer ++ closed_with by at (closing.Reply answer)
 
 -- STEPS
 

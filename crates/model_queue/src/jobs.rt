@@ -13,7 +13,7 @@ use crate::conditions::{
     is_convert, is_execute, is_output, is_purge, is_somebody, is_waiting, same_class, same_number,
 };
 use crate::picking::{Changes, Classed, Picks, Ranks, change_first, first, remove_first};
-use mas_types::{Class, Job, JobNo, List, MemberId, Phase, Prio};
+use mas_types::{Class, Job, JobNo, List, MemberId, Phase, Prio, purge_if};
 
 /// The job with a number.
 #[derive(Clone, Copy)]
@@ -109,12 +109,6 @@ impl Changes<Job> for BusyAt {
     fn change(&self, item: &mut Job) {
         item.busy = self.0;
     }
-}
-
-fn purge_if(test: bool, other: Phase) -> Phase
-    ensures { result ≡ (if test then Phase.Purge else other) }
-{
-    if test { Phase::Purge } else { other }
 }
 
 /// Its conversion has ended.

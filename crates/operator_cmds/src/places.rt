@@ -7,7 +7,7 @@ ghost use Rattle.mas_types.specs.Names.{is_name_byte as is_name_byte_lem};
 use mas_types::limits::{
     CLASSES_MOST, INDEX_MOST, MEMBERS_MOST, NAME_BYTES, NUMBER_MOST, PRINTER_LINES_MOST, PRIO_MOST,
 };
-use mas_types::read_number;
+use mas_types::{is_name_byte, read_number};
 
 /// Numbers of at most so many digits, from the least to the greatest. Leading zeros are accepted.
 #[derive(Clone, Copy, PartialEq, Eq)]
@@ -147,16 +147,6 @@ fn are_class_bytes(text: &[u8]) -> bool
 {
     text.iter()
         .all(|b| b.is_ascii_uppercase() || b.is_ascii_digit())
-}
-
-fn is_name_byte(byte: u8) -> bool
-    ensures { result ≡ is_name_byte_lem byte }
-{
-    byte.is_ascii_uppercase()
-        || byte.is_ascii_digit()
-        || byte == b'@'
-        || byte == b'#'
-        || byte == b'$'
 }
 
 fn are_name_bytes(text: &[u8]) -> bool

@@ -8,5 +8,4 @@ pub mod Loops
 pub mod OrderLemmas
 pub mod Showing
 pub mod SlotLemmas
-pub mod Sorting
 pub mod UnitLemmas

@@ -15,12 +15,11 @@ ghost use Rattle.queue_tables.specs.Telling.{Tell};
 ghost use Rattle.queue_effect.specs.Standing.{Plays, IfRefused, AreFit, IsFitJob};
 
 use crate::groups::{free_members, give_groups};
-use crate::life::purge_if;
 use crate::lookups::put_job;
 use crate::working::{Stage, job_at_work};
 use ckpt_pages::Tables;
 use lay_bytes::JobRec;
-use mas_types::{JobNo, List, MemberId, OutNo, OutSpec, Phase, Refusal, Reply, Thing};
+use mas_types::{JobNo, List, MemberId, OutNo, OutSpec, Phase, Refusal, Reply, Thing, purge_if};
 use output_queue::add;
 use queue_slots::{Found, used_count};
 use spool_text::groups_needed;

@@ -18,5 +18,6 @@ mod working;
 
 pub use applying::apply;
 pub use laws::law_of_fit_tables;
+pub use lookups::setting;
 pub use mas_types::Unit;
 pub use units::unit;

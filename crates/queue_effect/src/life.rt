@@ -17,7 +17,7 @@ use crate::working::{Stage, job_at_work};
 use ckpt_pages::Tables;
 use job_queue::{find_convert, find_exec, find_in};
 use lay_bytes::JobRec;
-use mas_types::{JobNo, MemberId, Phase, Refusal, Reply, Thing};
+use mas_types::{JobNo, MemberId, Phase, Refusal, Reply, Thing, purge_if};
 use output_queue::has_output;
 use queue_slots::Found;
 
@@ -166,11 +166,4 @@ pub fn converted(tables: &mut Tables, by: MemberId, job: JobNo) -> Reply
         }
         Err(why) => Reply::No(why),
     }
-}
-
-/// Purge for a cancelled job, else the other phase.
-pub fn purge_if(cancelled: bool, other: Phase) -> Phase
-    ensures { result ≡ (if cancelled then Phase.Purge else other) }
-{
-    if cancelled { Phase::Purge } else { other }
 }

@@ -9,10 +9,12 @@ use Rattle.std.proofs.lemmas.List.{take_more}
 use Rattle.std.specs.List.{All}
 use Rattle.std.proofs.lemmas.List.Elements.{All-cons, All-head, All-tail, All-filter, All-weaker}
 use Rattle.mas_types.specs.Lists.{without}
-use Rattle.ckpt_pages.specs.QueueOf.{used, insert_by, in_order}
+use Rattle.ckpt_pages.specs.QueueOf.{used}
+use Rattle.mas_types.specs.Sorted.{insert_by, in_order}
 use Rattle.queue_slots.specs.Listed.{listed}
 use Rattle.queue_slots.proofs.Cases.{test_cases}
-use Rattle.queue_slots.proofs.Rising.{placed, insert_by-before, insert_by-after, insert_by-above, insert_by-last, insert_by-front, All-in_order, Rises, Rises-in_order}
+use Rattle.queue_slots.proofs.Rising.{placed, insert_by-above, insert_by-last, insert_by-front, All-in_order}
+use Rattle.mas_types.proofs.Sorting.{insert_by-before, insert_by-after, Rises, Rises-in_order}
 
 module _ {X : Type 0} (number : X → ℕ) where
   length-insert_by : (x : X) (ys : List X) → length (insert_by number x ys) ≡ suc (length ys)

@@ -2,9 +2,11 @@
 use Rattle.std.proofs.Common.{◌≡◌, ℕ, zero, suc, ◌<◌, ◌≤◌, Bool, true, List, [], ◌∷◌, Option, Some, None, slice_get, refl, ap, ◌∙◌, arith}
 use Rattle.std.specs.List.{All}
 use Rattle.std.proofs.lemmas.List.Elements.{All-cons, All-nil}
-use Rattle.ckpt_pages.specs.QueueOf.{used, insert_by, in_order}
+use Rattle.ckpt_pages.specs.QueueOf.{used}
+use Rattle.mas_types.specs.Sorted.{insert_by, in_order}
 use Rattle.queue_slots.specs.Listed.{listed, StandsFirst}
-use Rattle.queue_slots.proofs.Rising.{All-in_order, Rises-in_order, find-insert_least, change-insert_least, without-insert_least, find-insert_other, change-insert_other, without-insert_other}
+use Rattle.queue_slots.proofs.Rising.{All-in_order, find-insert_least, change-insert_least, without-insert_least, find-insert_other, change-insert_other, without-insert_other}
+use Rattle.mas_types.proofs.Sorting.{Rises-in_order}
 
 -- what holds of what stands in each slot holds of all that stand in slots
 pub All-used : {X : Type 0} (P : X → Type 0) (slots : List (Option X)) → ((j : ℕ) (y : X) → slice_get slots j ≡ Some (Some y) → P y) → All P (used slots)

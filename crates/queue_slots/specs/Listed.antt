@@ -1,7 +1,8 @@
 -- Slots, and the list of what stands in them.
 use Rattle.std.specs.Prelude.{◌≡◌, ℕ, Bool, List, Option, Some, None, find, slice_get, slice_set}
 use Rattle.mas_types.specs.Lists.{change_first, without_first}
-use Rattle.ckpt_pages.specs.QueueOf.{used, in_order}
+use Rattle.ckpt_pages.specs.QueueOf.{used}
+use Rattle.mas_types.specs.Sorted.{in_order}
 
 -- what stands in the slots, in ascending number
 abbrev pub listed : {X : Type 0} → (X → ℕ) → List (Option X) → List X

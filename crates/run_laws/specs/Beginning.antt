@@ -15,7 +15,7 @@ use Rattle.ckpt_copy.specs.Pages.{bytes_of, level}
 use Rattle.ckpt_pages.specs.declared.tables.Tables.{Tables}
 use Rattle.ckpt_pages.specs.Checkpoints.{IsCheckpoint}
 use Rattle.ckpt_pages.specs.Shape.{page_count}
-use Rattle.warm_start.specs.Spooled.{AreRoomy}
+use Rattle.spool_volumes.specs.Volumes.{AreRoomy}
 use Rattle.warm_start.specs.Starting.{NoneOrFailed, OnlyLookedAtAll, WasTaken}
 use Rattle.warm_start.specs.Usable.{HaveSize}
 use Rattle.mas_run.specs.Runs.{has_begun, Begins, IsRun}

@@ -1,53 +1,11 @@
 //! Where steps stand in the lines of a script.
-ghost use Rattle.std.specs.Prelude.{◌≡◌, ℕ, ◌+◌, ◌-◌, ◌==◌, ◌<◌, ◌^◌, [], ◌∷◌, ◌&&◌, if◌then◌else◌, length, MatchOption, false, position, slice_index_or};
-ghost use Rattle.std.specs.List.{slice_split, list_all};
-ghost use Rattle.std.specs.Str.Lines.{strip_carriage_return};
+ghost use Rattle.std.specs.Prelude.{◌≡◌, ℕ, ◌+◌, ◌-◌, ◌==◌, ◌<◌, ◌^◌, ◌&&◌, if◌then◌else◌, length, false, slice_index_or};
+ghost use Rattle.std.specs.List.{list_all};
 ghost use Rattle.mas_types.specs.Names.{is_blank};
-ghost use Rattle.script_lang.specs.Lines.{lines_of, is_deck_end as is_deck_end_lem, is_empty as is_empty_lem};
+ghost use Rattle.script_lang.specs.Lines.{lines_of, is_empty as is_empty_lem};
 ghost use Rattle.script_input.specs.Lines.{is_config as is_config_lem, begins_deck as begins_deck_lem, is_step_line as is_step_line_lem, stays_inside as stays_inside_lem, step_lines};
 
-fn place_of(text: &[u8], at: u8) -> Option<usize>
-    ensures { result ≡ position (λ b. b == at) text.now }
-{
-    text.iter().position(|b| *b == at)
-}
-
-// What stands before the first such byte, and what stands behind it if there is one.
-fn cut(text: &[u8], at: u8) -> (&[u8], Option<&[u8]>)
-    ensures parts { MatchOption result.1
-        (slice_split (λ b. b == at) text.now ≡ result.0.now ∷ [])
-        (λ behind. slice_split (λ b. b == at) text.now ≡ result.0.now ∷ slice_split (λ b. b == at) behind.now) }
-    ensures lengths { MatchOption result.1
-        (result.0.now ≡ text.now)
-        (λ behind. length result.0.now + length behind.now + 1 ≡ length text.now) }
-{
-    match place_of(text, at) {
-        Some(place) => (&text[..place], Some(&text[place + 1..])),
-        None => (text, None),
-    }
-}
-
-fn without_return(part: &[u8]) -> &[u8]
-    ensures { result.now ≡ strip_carriage_return part.now }
-{
-    match part {
-        [front @ .., b'\r'] => front,
-        _ => part,
-    }
-}
-
-// The first line of a script, and the rest of the script.
-fn next_line(script: &[u8]) -> (&[u8], &[u8])
-    requires { 0 < length script.now }
-    ensures lines { lines_of script.now ≡ result.0.now ∷ lines_of result.1.now }
-    ensures shorter { length result.1.now < length script.now }
-{
-    let (part, behind) = cut(script, b'\n');
-    match behind {
-        Some(rest) => (without_return(part), rest),
-        None => (without_return(part), &[]),
-    }
-}
+use script_lang::{cut, is_deck_end, next_line};
 
 fn are_blanks(text: &[u8]) -> bool
     ensures { result ≡ list_all is_blank text.now }
@@ -59,12 +17,6 @@ fn is_empty(line: &[u8]) -> bool
     ensures { result ≡ is_empty_lem line.now }
 {
     are_blanks(line)
-}
-
-fn is_deck_end(line: &[u8]) -> bool
-    ensures { result ≡ is_deck_end_lem line.now }
-{
-    line == b"++END".as_slice()
 }
 
 fn is_config(line: &[u8]) -> bool

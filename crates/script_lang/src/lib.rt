@@ -8,5 +8,6 @@ mod lines;
 mod script;
 mod types;
 
+pub use lines::{cut, is_deck_end, next_line};
 pub use script::read_script;
 pub use types::{Ask, Script, ScriptNo, Step};

@@ -15,7 +15,7 @@ fn place_of(text: &[u8], at: u8) -> Option<usize>
 }
 
 /// What stands before the first such byte, and what stands behind it if there is one.
-pub(crate) fn cut(text: &[u8], at: u8) -> (&[u8], Option<&[u8]>)
+pub fn cut(text: &[u8], at: u8) -> (&[u8], Option<&[u8]>)
     ensures parts { MatchOption result.1
         (slice_split (λ b. b == at) text.now ≡ result.0.now ∷ [])
         (λ behind. slice_split (λ b. b == at) text.now ≡ result.0.now ∷ slice_split (λ b. b == at) behind.now) }
@@ -39,7 +39,7 @@ fn without_return(part: &[u8]) -> &[u8]
 }
 
 /// The first line of a script, and the rest of the script.
-pub(crate) fn next_line(script: &[u8]) -> (&[u8], &[u8])
+pub fn next_line(script: &[u8]) -> (&[u8], &[u8])
     requires { 0 < length script.now }
     ensures lines { lines_of script.now ≡ result.0.now ∷ lines_of result.1.now }
     ensures shorter { length result.1.now < length script.now }
@@ -71,7 +71,7 @@ pub(crate) fn is_line(line: &[u8]) -> bool
 }
 
 /// Whether a line ends a deck.
-pub(crate) fn is_deck_end(line: &[u8]) -> bool
+pub fn is_deck_end(line: &[u8]) -> bool
     ensures { result ≡ is_deck_end_lem line.now }
 {
     line == b"++END".as_slice()

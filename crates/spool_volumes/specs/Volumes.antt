@@ -1,6 +1,7 @@
 -- Where groups lie on the spool volumes.
 use Rattle.std.specs.Prelude.{◌≡◌, ℕ, ◌+◌, ◌*◌, ◌/◌, ◌%◌, ◌≤◌, Bool, true, false, List, Option, Some, None, option_map}
 use Rattle.mas_types.specs.declared.ids.GroupNo.{GroupNo}
+use Rattle.mas_types.specs.declared.queues.Config.{Config}
 use Rattle.mas_types.specs.declared.ids.Dev.{Dev}
 use Rattle.mas_types.specs.declared.ids.Dev.TheVariants.{Spool}
 use Rattle.mas_types.specs.Limits.{page_bytes}
@@ -35,6 +36,10 @@ volumes_now v n = bytes_unless (v.lost (DiskPart (Spool n))) (disk_now v (Spool 
 pub record IsPlaced (v : View) (per : ℕ) (g : GroupNo) : Type 0 where
   pub volume : volume_of per g ≤ 255
   pub within : v.lost (DiskPart (Spool (volume_of per g))) ≡ false → start_of per g + page_bytes ≤ v.size (Spool (volume_of per g))
+
+-- each volume of the configuration that isn't lost has the size that its groups need
+abbrev pub AreRoomy : View → Config → Type 0
+AreRoomy v config = (n : ℕ) → 1 ≤ n → n ≤ config.volumes → v.lost (DiskPart (Spool n)) ≡ false → page_bytes * config.groups ≤ v.size (Spool n)
 
 -- no volume was lost in between
 abbrev pub IsSteady : View → View → Type 0

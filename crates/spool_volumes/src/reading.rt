@@ -99,7 +99,8 @@ fn ended(count: u16, groups: &[GroupNo], lines: Lines) -> Text
     Text::Gone(last_group(groups), count)
 }
 
-fn last_group(groups: &[GroupNo]) -> GroupNo
+/// The last of groups, 0 where there is none.
+pub fn last_group(groups: &[GroupNo]) -> GroupNo
     ensures { result ≡ last_of groups.now }
 {
     match groups.last() {

@@ -9,9 +9,10 @@ use Rattle.mas_types.specs.declared.queues.Owner.{Owner}
 use Rattle.mas_types.specs.declared.queues.Thing.{Thing}
 use Rattle.track_groups.specs.declared.places.Placed.{Placed}
 use Rattle.track_groups.specs.Groups.{is_things, groups_where}
-use Rattle.track_groups.specs.Places.{place_of, place_in, insert_by, in_order, placed_from, groups_of}
+use Rattle.track_groups.specs.Places.{place_of, place_in, placed_from, groups_of}
+use Rattle.mas_types.specs.Sorted.{insert_by, in_order}
 use Rattle.track_groups.proofs.Walks.{test_cases}
-use Rattle.track_groups.proofs.Sorting.{Rises, Rises-in_order}
+use Rattle.mas_types.proofs.Sorting.{Rises, Rises-in_order}
 
 module _ {X : Type 0} (key : X → ℕ) where
   -- the same items in another order

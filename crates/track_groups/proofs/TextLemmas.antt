@@ -16,7 +16,7 @@ use Rattle.track_groups.specs.Places.{place_of, placed_from, groups_of}
 use Rattle.track_groups.specs.Laws.{AreNoMembers, AreNotOf}
 use Rattle.track_groups.proofs.Walks.{test_cases}
 use Rattle.track_groups.proofs.Giving.{given-none}
-use Rattle.track_groups.proofs.Sorting.{Rises, in_order-Rises}
+use Rattle.mas_types.proofs.Sorting.{Rises, in_order-Rises}
 
 -- WHOSE A GROUP IS
 

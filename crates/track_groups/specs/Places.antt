@@ -1,10 +1,11 @@
 -- The groups of a text in the order of their places.
-use Rattle.std.specs.Prelude.{ℕ, ◌+◌, nat_le, if◌then◌else◌, List, [], ◌∷◌, map, slice_get}
+use Rattle.std.specs.Prelude.{ℕ, ◌+◌, if◌then◌else◌, List, [], ◌∷◌, map, slice_get}
 use Rattle.std.specs.Option.{option_map_or}
 use Rattle.mas_types.specs.declared.ids.GroupNo.{GroupNo}
 use Rattle.mas_types.specs.declared.queues.Owner.{Owner}
 use Rattle.mas_types.specs.declared.queues.Owner.TheVariants as owner
 use Rattle.mas_types.specs.declared.queues.Thing.{Thing}
+use Rattle.mas_types.specs.Sorted.{in_order}
 use Rattle.track_groups.specs.declared.places.Placed.{Placed}
 use Rattle.track_groups.specs.Groups.{is_things}
 
@@ -17,16 +18,6 @@ place_of _ = 0
 -- the place of a group of which the number is given, 0 where there is no such group
 abbrev pub place_in : List Owner → GroupNo → ℕ
 place_in gs g = option_map_or place_of (slice_get gs g.0) 0
-
--- before the first item with no lesser number
-abbrev pub insert_by : {X : Type 0} → (X → ℕ) → X → List X → List X
-insert_by number x [] = x ∷ []
-insert_by number x (y ∷ ys) = if nat_le (number x) (number y) then x ∷ y ∷ ys else y ∷ insert_by number x ys
-
--- the items in ascending number; those of one number stay in their order
-abbrev pub in_order : {X : Type 0} → (X → ℕ) → List X → List X
-in_order number [] = []
-in_order number (x ∷ xs) = insert_by number x (in_order number xs)
 
 -- the groups of a deck or an output with their places, in ascending number; the first of these groups has the number at
 abbrev pub placed_from : Thing → ℕ → List Owner → List Placed

@@ -17,7 +17,7 @@ use Rattle.warm_start.proofs.Bared.{bare_told}
 use Rattle.warm_start.specs.declared.choosing.Start.{Start}
 use Rattle.warm_start.specs.declared.choosing.StartNo.{StartNo}
 use Rattle.warm_start.specs.declared.choosing.StartNo.TheVariants as no_start
-use Rattle.warm_start.specs.Spooled.{AreRoomy}
+use Rattle.spool_volumes.specs.Volumes.{AreRoomy}
 use Rattle.warm_start.specs.Usable.{HaveSize}
 use Rattle.warm_start.specs.Starting.{IsSeen, Chosen, IsSmall, IsSmallAt, OnlyLooked}
 use Rattle.warm_start.specs.Inspecting.{HasFailed, Looks, SomeThere, HasFound, FindsNone, HasLooked, SeesNone, greatest}

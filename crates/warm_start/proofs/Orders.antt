@@ -1,17 +1,7 @@
 -- Lists in ascending number, and what stands in slots.
-use Rattle.std.proofs.Common.{◌≡◌, ℕ, ◌+◌, ◌<◌, nat_le, if◌then◌else◌, List, [], ◌∷◌, ◌++◌, length, take, get_or, Option, Some, None, refl, ap, ◌∙◌}
+use Rattle.std.proofs.Common.{◌≡◌, ℕ, ◌+◌, ◌<◌, List, [], ◌∷◌, ◌++◌, length, take, get_or, Option, Some, None, refl, ap}
 use Rattle.std.proofs.lemmas.List.{take_more}
-use Rattle.ckpt_pages.specs.QueueOf.{used, insert_by, in_order}
-use Rattle.track_groups.specs.Places.{insert_by as insert_placed, in_order as in_placed_order}
-
-module _ {X : Type 0} (number : X → ℕ) where
-  same_insert : (x : X) (ys : List X) → insert_placed number x ys ≡ insert_by number x ys
-  same_insert x [] = refl
-  same_insert x (y ∷ ys) = ap (λ (zs : List X). if nat_le (number x) (number y) then x ∷ y ∷ ys else y ∷ zs) (same_insert x ys)
-
-  pub same_order : (xs : List X) → in_placed_order number xs ≡ in_order number xs
-  same_order [] = refl
-  same_order (x ∷ xs) = ap (insert_placed number x) (same_order xs) ∙ same_insert x (in_order number xs)
+use Rattle.ckpt_pages.specs.QueueOf.{used}
 
 -- one more slot
 used_last : {X : Type 0} (xs : List (Option X)) (s : Option X) → used (xs ++ s ∷ []) ≡ used xs ++ used (s ∷ [])

@@ -30,7 +30,7 @@ use Rattle.ckpt_pages.specs.QueueOf.{job_with, output_with}
 use Rattle.track_groups.specs.Groups.{is_things, groups_where}
 use Rattle.track_groups.specs.Laws.{AreItsOwn}
 use Rattle.track_groups.specs.Places.{groups_of}
-use Rattle.spool_volumes.specs.Volumes.{Volumes, volume_of, start_of, volumes_now, bytes_unless, IsPlaced, IsSteady}
+use Rattle.spool_volumes.specs.Volumes.{Volumes, volume_of, start_of, volumes_now, bytes_unless, IsPlaced, IsSteady, AreRoomy}
 use Rattle.spool_volumes.specs.Texts.{held, records_on, text_of, IsLimited}
 use Rattle.spool_volumes.specs.Looks.{lie_on_lost, OnlyLooksAt, LooksAt}
 use Rattle.spool_volumes.proofs.LookLemmas.{looks_then, still}
@@ -39,7 +39,7 @@ use Rattle.output_queue.specs.Outputs as outputs
 use Rattle.mas_complex.specs.Texts.{lost_now, spools_at, bytes_on, IsThereUnless, IsReadUnless, HasTexts}
 use Rattle.mas_complex.proofs.Quotients.{few_quotient}
 use Rattle.mas_complex.proofs.Spooled.{same_text}
-use Rattle.warm_start.specs.Spooled.{AreRoomy, IsGiven, AreGiven}
+use Rattle.warm_start.specs.Spooled.{IsGiven, AreGiven}
 
 -- LOST VOLUMES
 

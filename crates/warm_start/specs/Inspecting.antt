@@ -21,7 +21,7 @@ use Rattle.duplex_pair.specs.Founds.{better}
 use Rattle.warm_start.specs.Bare.{bare_deck, bare_print}
 use Rattle.warm_start.specs.declared.choosing.StartNo.{StartNo}
 use Rattle.warm_start.specs.declared.choosing.StartNo.TheVariants as no_start
-use Rattle.warm_start.specs.Spooled.{AreRoomy}
+use Rattle.spool_volumes.specs.Volumes.{AreRoomy}
 use Rattle.warm_start.specs.Usable.{AreOf, AreUsable, HaveSize}
 use Rattle.warm_start.specs.Starting.{IsSeen, IsFound, IsSmall, AreNotLost, OnlyLooked}
 

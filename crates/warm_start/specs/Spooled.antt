@@ -1,22 +1,14 @@
 -- Room for the texts of a queue, and what they are.
-use Rattle.std.specs.Prelude.{◌≡◌, ℕ, ◌*◌, ◌≤◌, false, List, All}
-use Rattle.mas_types.specs.declared.ids.Dev.TheVariants.{Spool}
+use Rattle.std.specs.Prelude.{◌≡◌, ℕ, List, All}
 use Rattle.mas_types.specs.declared.ids.GroupNo.{GroupNo}
 use Rattle.mas_types.specs.declared.jobs.Text.{Text}
-use Rattle.mas_types.specs.declared.queues.Config.{Config}
 use Rattle.mas_types.specs.declared.queues.Queue.{Queue}
 use Rattle.mas_types.specs.declared.queues.Thing.TheVariants.{Deck, Output}
-use Rattle.mas_types.specs.Limits.{page_bytes}
 use Rattle.mas_types.specs.Queue.{line_count}
-use Rattle.spool_disk.specs.declared.plant.Part.TheVariants.{Disk as DiskPart}
 use Rattle.spool_disk.specs.View.{View}
 use Rattle.track_groups.specs.Places.{groups_of}
 use Rattle.spool_volumes.specs.Volumes.{volumes_now}
 use Rattle.spool_volumes.specs.Texts.{records_on, text_of}
-
--- volumes of the configuration that aren't lost have room for their groups
-abbrev pub AreRoomy : View → Config → Type 0
-AreRoomy v config = (n : ℕ) → 1 ≤ n → n ≤ config.volumes → v.lost (DiskPart (Spool n)) ≡ false → page_bytes * config.groups ≤ v.size (Spool n)
 
 -- The text is what its groups give, of which so many lines are counted. With a group on a lost volume, or with one that holds no
 -- records, it is gone, and names the first such group.

@@ -17,7 +17,7 @@ use Rattle.ckpt_pages.specs.declared.tables.Tables.{Tables}
 use Rattle.ckpt_pages.specs.Given.{levels_given}
 use Rattle.duplex_pair.specs.Halves.{SomeAlive}
 use Rattle.duplex_pair.specs.Looks.{WasLost}
-use Rattle.spool_volumes.specs.Volumes.{IsSteady}
+use Rattle.spool_volumes.specs.Volumes.{IsSteady, AreRoomy}
 use Rattle.queue_tables.specs.Telling.{Tell}
 use Rattle.ckpt_copy.specs.Changes.{NoMore}
 use Rattle.duplex_pair.specs.Both.{BothMeanwhile}
@@ -27,7 +27,7 @@ use Rattle.warm_start.specs.declared.choosing.StartNo.TheVariants as no_start
 use Rattle.mas_complex.specs.Fits.{fits}
 use Rattle.mas_complex.specs.Texts.{HasTexts, lost_now, spools_at}
 use Rattle.warm_start.specs.Usable.{AreOf, IsUsable, AreUsable, HaveSize}
-use Rattle.warm_start.specs.Spooled.{AreRoomy, AreGiven}
+use Rattle.warm_start.specs.Spooled.{AreGiven}
 use Rattle.warm_start.specs.Choosing.{goes}
 use Rattle.warm_start.specs.Judging.{Has, IsUnread}
 

@@ -1,7 +1,6 @@
 //! A look at both copies of the checkpoint, which changes neither.
 ghost use Rattle.std.specs.Prelude.{◌≡◌, IfOk, IfErr, true};
 ghost use Rattle.ckpt_copy.specs.Areas.{reads, areas_size};
-ghost use Rattle.duplex_pair.specs.Founds.{better};
 ghost use Rattle.warm_start.specs.Inspecting.{Looks, HasFound, FindsNone, HasLooked, SeesNone, AreFoundAgain, greatest as greatest_lem};
 
 use crate::choosing::StartNo;
@@ -10,7 +9,7 @@ use crate::queues::queue_of;
 use crate::starting::{choose_copy, refuse_small};
 use ckpt_copy::{AreaCopy, Copying};
 use ckpt_pages::law_of_checkpoints;
-use duplex_pair::{Look, Pair, pages_level};
+use duplex_pair::{Look, Pair, better_of};
 use mas_complex::Steady;
 use mas_types::{CopyState, Dev, List, Page, Queue};
 use spool_disk::Plant;
@@ -18,16 +17,6 @@ use std::alloc::Global;
 
 /// The pages of a copy, until it is looked at.
 const PAGES: u16 = 1;
-
-fn better_of(one: List<Page>, two: List<Page>) -> List<Page>
-    ensures { result ≡ better one two }
-{
-    if pages_level(one.as_slice()) < pages_level(two.as_slice()) {
-        two
-    } else {
-        one
-    }
-}
 
 // What looks at both copies give together: the pages of greatest level, the first on a tie, or why there are none.
 fn greatest(first: Look, second: Look) -> Result<List<Page>, StartNo>

@@ -11,7 +11,7 @@ ghost use Rattle.warm_start.specs.Choosing.{HasFew};
 ghost use Rattle.warm_start.specs.Judging.{WasLooked, WasJudged, HasSizes};
 
 use crate::choosing::{Judged, judge};
-use crate::sound_pages::law_of_page_sizes;
+use ckpt_pages::law_of_page_sizes;
 use duplex_pair::{Look, Pair};
 use mas_complex::Steady;
 use mas_types::{Dev, MemberId, NoMemory};

@@ -2,7 +2,8 @@
 ghost use Rattle.std.specs.Prelude.{◌≡◌, List, Option, IfOk, map};
 ghost use Rattle.lay_bytes.specs.declared.records.JobRec.{JobRec as JobRecLem};
 ghost use Rattle.lay_bytes.specs.declared.records.OutRec.{OutRec as OutRecLem};
-ghost use Rattle.ckpt_pages.specs.QueueOf.{used, in_order, job_with, output_with, queue_of as queue_of_lem};
+ghost use Rattle.ckpt_pages.specs.QueueOf.{used, job_with, output_with, queue_of as queue_of_lem};
+ghost use Rattle.mas_types.specs.Sorted.{in_order};
 ghost use Rattle.warm_start.specs.Bare.{bare_text, bare_deck, bare_print};
 ghost use Rattle.warm_start.specs.Usable.{StandForWhatIsTold};
 

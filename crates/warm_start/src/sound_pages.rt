@@ -1,8 +1,7 @@
 //! Pages that a start may begin with.
-ghost use Rattle.std.specs.Prelude.{◌≡◌, true, false, length, IfOk, IfSome, IfNone};
-ghost use Rattle.mas_types.specs.Limits.{page_bytes};
+ghost use Rattle.std.specs.Prelude.{◌≡◌, true, false, IfOk, IfSome, IfNone};
 ghost use Rattle.ckpt_pages.specs.Shape.{HasShape};
-ghost use Rattle.warm_start.specs.Usable.{IsUsable, AreOf, MayStart, HaveSize};
+ghost use Rattle.warm_start.specs.Usable.{IsUsable, AreOf, MayStart};
 
 use ckpt_pages::{PageNo, Tables, decode, sound};
 use duplex_pair::pages_level;
@@ -39,21 +38,5 @@ pub fn usable(alloc: Global, pages: &[Page]) -> Result<Option<Tables>, NoMemory>
         Ok(Some(tables))
     } else {
         Ok(None)
-    }
-}
-
-fn bytes_in(page: &Page) -> &[u8]
-    ensures bytes { result.now ≡ page.now.0 }
-    ensures size { length result.now ≡ page_bytes }
-{
-    &page.0
-}
-
-/// Pages have the size of a page each.
-pub(crate) fn law_of_page_sizes(pages: &[Page])
-    ensures { HaveSize pages.now }
-{
-    for page in pages {
-        let _bytes = bytes_in(page);
     }
 }

@@ -8,7 +8,7 @@ ghost use Rattle.mas_types.specs.declared.queues.Thing.TheVariants.{Deck, Output
 ghost use Rattle.mas_types.specs.Queue.{line_count};
 ghost use Rattle.spool_disk.specs.declared.plant.Part.TheVariants.{Disk};
 ghost use Rattle.spool_disk.specs.View.{disk_now};
-ghost use Rattle.spool_volumes.specs.Volumes.{volume_of, IsSteady};
+ghost use Rattle.spool_volumes.specs.Volumes.{volume_of, IsSteady, AreRoomy};
 ghost use Rattle.spool_volumes.specs.Looks.{LooksAt};
 ghost use Rattle.spool_volumes.specs.Texts.{IsLimited};
 ghost use Rattle.track_groups.specs.Places.{groups_of as groups_of_lem};
@@ -17,7 +17,7 @@ ghost use Rattle.job_queue.specs.Jobs.{AreJobs};
 ghost use Rattle.output_queue.specs.Outputs.{AreOutputs};
 ghost use Rattle.queue_tables.specs.Telling.{Tell};
 ghost use Rattle.mas_complex.specs.Texts.{lost_now, spools_at, bytes_on, IsReadUnless, HasTexts};
-ghost use Rattle.warm_start.specs.Spooled.{AreRoomy, IsGiven, AreGiven};
+ghost use Rattle.warm_start.specs.Spooled.{IsGiven, AreGiven};
 
 use crate::looking::OPERATOR;
 use crate::queues::{jobs_in_order, outputs_in_order};

@@ -16,13 +16,13 @@ ghost use Rattle.duplex_pair.specs.Both.{PairActed, BothMeanwhile};
 ghost use Rattle.mas_complex.specs.declared.places.Place.TheVariants.{Before as AtBefore};
 ghost use Rattle.mas_complex.specs.Locking.{book_of};
 ghost use Rattle.mas_complex.specs.Headline.{LeavesQueue};
-ghost use Rattle.spool_volumes.specs.Volumes.{IsSteady};
+ghost use Rattle.spool_volumes.specs.Volumes.{IsSteady, AreRoomy};
 ghost use Rattle.queue_tables.specs.Telling.{Tell};
 ghost use Rattle.warm_start.specs.Choosing.{IsFew, goes as goes_lem};
 ghost use Rattle.warm_start.specs.Judging.{Has};
 ghost use Rattle.warm_start.specs.Inspecting.{FindsNone};
 ghost use Rattle.mas_complex.specs.Texts.{HasTexts, lost_now, spools_at};
-ghost use Rattle.warm_start.specs.Spooled.{AreRoomy, AreGiven};
+ghost use Rattle.warm_start.specs.Spooled.{AreGiven};
 ghost use Rattle.warm_start.specs.Starting.{Chosen, Fitting, MayLose, Starts, OneFailed, LosesBoth, IsHeld, IsCauseOf, IsSmallAt, IsSmallVolumeAt, OnlyLooked, OnlyLookedAtAll, HasStarted, HeldBack};
 
 use crate::choosing::{Good, Start, StartNo, choose, is_to_go};

@@ -16,14 +16,13 @@ use Rattle.ckpt_pages.specs.Shape.{page_count}
 use Rattle.spool_disk.specs.View.{World, disk_now}
 use Rattle.spool_disk.specs.Acts.{Goes}
 use Rattle.mas_complex.specs.Locking.{book_of}
-use Rattle.spool_volumes.specs.Volumes.{IsSteady}
+use Rattle.spool_volumes.specs.Volumes.{IsSteady, AreRoomy}
 use Rattle.warm_start.specs.Spooled.{AreGiven}
 use Rattle.warm_start.specs.Starting.{IsHeld}
 use Rattle.warm_start.proofs.Begun.{found_later, kept_later}
 use Rattle.warm_start.proofs.Prepared.{given_before}
 use Rattle.warm_start.proofs.Spooling.{steady_first}
 use Rattle.script_input.specs.Played.{sysa}
-use Rattle.member_decks.specs.Spooling.{AreRoomy}
 use Rattle.member_node.specs.Calls.{console_now}
 use Rattle.mas_run.specs.Turns.{Sight, turns_of}
 use Rattle.mas_run.proofs.LockLemmas.{begins_open}

@@ -2,7 +2,8 @@ use Rattle.std.proofs.Common.{◌≡◌, ◌≢◌, All}
 use Rattle.mas_types.specs.declared.ids.GroupNo.{GroupNo}
 use Rattle.spool_text.specs.Texts.{packed}
 use Rattle.mas_complex.specs.Texts.{spools_at}
-use Rattle.member_decks.specs.Spooling.{AreRoomy, OnVolumes, StandBelow, page_in}
+use Rattle.member_decks.specs.Spooling.{OnVolumes, StandBelow, page_in}
+use Rattle.spool_volumes.specs.Volumes.{AreRoomy}
 use Rattle.member_decks.proofs.spooling.write_pages.Given as goal
 
 -- the pages at the places so far stand in their groups

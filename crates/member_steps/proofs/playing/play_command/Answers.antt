@@ -4,7 +4,7 @@ use Rattle.mas_types.specs.declared.queues.Queue.{Queue}
 use Rattle.mas_complex.specs.Journals.{begun, end_of, kept_all}
 use Rattle.mas_complex.specs.Meaning.{run}
 use Rattle.mas_complex.specs.Texts.{lost_now, spools_at}
-use Rattle.member_node.specs.Lines.{reply_lines}
+use Rattle.mas_types.specs.Closings.{reply_lines}
 use Rattle.member_node.proofs.WriteLemmas.{none_out}
 use Rattle.member_steps.specs.Steps.{entry_of, entry_with, reply_to}
 use Rattle.member_steps.proofs.StepLemmas.{begins_alone, between_done, can_draw, may_alike, own_of_one, reply_is, some_of_one, step_named, step_texts, step_unplayed, untold_by}

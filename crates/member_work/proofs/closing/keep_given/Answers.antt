@@ -15,7 +15,7 @@ use Rattle.member_node.specs.Reads.{orders_after, too_high}
 use Rattle.member_node.proofs.WriteLemmas.{none_out}
 use Rattle.member_steps.specs.Steps.{AreAllKept}
 use Rattle.member_steps.proofs.StepLemmas.{kept_later, ok_of}
-use Rattle.member_decks.specs.Spooling.{AreRoomy}
+use Rattle.spool_volumes.specs.Volumes.{AreRoomy}
 use Rattle.member_decks.proofs.OpenLemmas.{on_ok}
 use Rattle.member_decks.proofs.PageLemmas.{still_roomy}
 use Rattle.member_work.specs.Work.{batches_in}

@@ -15,7 +15,8 @@ use Rattle.mas_complex.specs.Meaning.{run}
 use Rattle.mas_complex.specs.Spool.{IsGroupOf, IsHeldBy}
 use Rattle.mas_complex.specs.Texts.{spools_at}
 use Rattle.spool_text.specs.Texts.{packed}
-use Rattle.member_decks.specs.Spooling.{AreRoomy, Rise, StandBelow}
+use Rattle.member_decks.specs.Spooling.{Rise, StandBelow}
+use Rattle.spool_volumes.specs.Volumes.{AreRoomy}
 use Rattle.member_decks.proofs.OpenLemmas.{on_ok}
 use Rattle.member_decks.proofs.PageLemmas.{acts_none, acts_on, still_roomy}
 use Rattle.member_work.specs.Spooled.{AreWritten}

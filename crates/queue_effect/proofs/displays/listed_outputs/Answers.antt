@@ -1,8 +1,8 @@
 use Rattle.std.proofs.Common.{rules, ◌≡◌, take, arith}
 use Rattle.std.proofs.lemmas.List.{take_all}
-use Rattle.ckpt_pages.specs.QueueOf.{in_order}
+use Rattle.mas_types.specs.Sorted.{in_order}
 use Rattle.lay_bytes.specs.declared.records.OutRec.{OutRec}
-use Rattle.queue_effect.proofs.Sorting.{in_order_from_sort_by_key}
+use Rattle.mas_types.proofs.Sorting.{in_order_from_sort_by_key}
 use Rattle.queue_effect.proofs.displays.listed_outputs.Goals as goal
 
 pub returns : goal.returns

@@ -1,8 +1,8 @@
 use Rattle.std.proofs.Common.{rules, ◌≡◌, take, arith}
 use Rattle.std.proofs.lemmas.List.{take_all}
-use Rattle.track_groups.specs.Places.{in_order}
+use Rattle.mas_types.specs.Sorted.{in_order}
 use Rattle.track_groups.specs.declared.places.Placed.{Placed}
-use Rattle.track_groups.proofs.Sorting.{in_order_from_sort_by_key}
+use Rattle.mas_types.proofs.Sorting.{in_order_from_sort_by_key}
 use Rattle.track_groups.proofs.places.groups_of.Goals as goal
 
 pub returns : goal.returns

@@ -5,7 +5,7 @@ use Rattle.script_input.specs.Played.{IsPlayed}
 use Rattle.spool_disk.specs.View.{World}
 use Rattle.mas_complex.specs.Journals.{kept_all}
 use Rattle.mas_complex.specs.Meaning.{run}
-use Rattle.member_decks.specs.Spooling.{AreRoomy}
+use Rattle.spool_volumes.specs.Volumes.{AreRoomy}
 use Rattle.member_node.proofs.WriteLemmas.{none_out}
 use Rattle.mas_run.proofs.ScriptLemmas.{book_at_base, book_now, few_here, kept_here, play_done, play_ends, play_more, play_none, roomy_later, step_at_base, untold_here}
 use Rattle.mas_run.proofs.running.Running.play_steps.Goals as goal

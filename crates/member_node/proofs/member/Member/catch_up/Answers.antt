@@ -31,5 +31,5 @@ returns-clause-up c is behind =
     let s = c.args.self.now in
     let t = c.take_up.ensures in
     up_to c.law_of_levels.ensures.given s.checkpoint.tables.config s.room c.in-Ok.tables c.in_ok-levels.levels (rw c.as_slice-pages.ensures at c.in-Ok.ensures.found)
-    (rw c.as_slice-pages.ensures at c.law_of_sizes.ensures) (rw c.as_slice-pages.ensures at c.in_ok-levels.ensures) (rw c.as_slice-pages.ensures at (c.may_go_on.ensures.may c.if-not-may_go_on.false))
+    (rw c.as_slice-pages.ensures at c.law_of_page_sizes.ensures) (rw c.as_slice-pages.ensures at c.in_ok-levels.ensures) (rw c.as_slice-pages.ensures at (c.may_go_on.ensures.may c.if-not-may_go_on.false))
     c.take_up.new.self.checkpoint t.tables t.levels t.level t.pages

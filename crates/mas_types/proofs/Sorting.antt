@@ -12,8 +12,11 @@ use Rattle.std.proofs.lemmas.List.Sorted.{IsNonDecreasingBy-from_sort}
 use Rattle.std.proofs.lemmas.List.Elements.{All-cons, All-head, All-tail, All-nil, All-weaker, All-filter, filter_agree}
 use Rattle.std.proofs.lemmas.Bool.{le-leb, lt-leb}
 use Rattle.std.proofs.lemmas.Bool.Decides.{nat_tests}
-use Rattle.track_groups.specs.Places.{insert_by, in_order}
-use Rattle.track_groups.proofs.Walks.{test_cases}
+use Rattle.mas_types.specs.Sorted.{insert_by, in_order}
+
+test_cases : (b : Bool) (P : Type 0) → (b ≡ true → P) → (b ≡ false → P) → P
+test_cases true P at_true at_false = at_true refl
+test_cases false P at_true at_false = at_false refl
 
 module _ {X : Type 0} (key : X → ℕ) where
   -- the keys don't fall
@@ -24,13 +27,13 @@ module _ {X : Type 0} (key : X → ℕ) where
   abbrev tied : X → X → Bool
   tied x y = key x == key y
 
-  insert_by-before : (x y : X) (ys : List X) → key x ≤ key y → insert_by key x (y ∷ ys) ≡ x ∷ y ∷ ys
+  pub insert_by-before : (x y : X) (ys : List X) → key x ≤ key y → insert_by key x (y ∷ ys) ≡ x ∷ y ∷ ys
   insert_by-before x y ys h = rw (le-leb (key x) (key y) h) refl
 
-  insert_by-after : (x y : X) (ys : List X) → key y < key x → insert_by key x (y ∷ ys) ≡ y ∷ insert_by key x ys
+  pub insert_by-after : (x y : X) (ys : List X) → key y < key x → insert_by key x (y ∷ ys) ≡ y ∷ insert_by key x ys
   insert_by-after x y ys h = rw (lt-leb (key x) (key y) h) refl
 
-  All-insert_by : (P : X → Type 0) (x : X) (ys : List X) → P x → All P ys → All P (insert_by key x ys)
+  pub All-insert_by : (P : X → Type 0) (x : X) (ys : List X) → P x → All P ys → All P (insert_by key x ys)
   All-insert_by P x [] here all = All-cons P x [] here all
   All-insert_by P x (y ∷ ys) here all =
       test_cases (nat_le (key x) (key y)) (All P (insert_by key x (y ∷ ys)))

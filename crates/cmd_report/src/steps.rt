@@ -1,10 +1,9 @@
-//! The lines that a reply gives.
-ghost use Rattle.std.specs.Prelude.{◌≡◌, ◌≤◌, IfOk};
-ghost use Rattle.mas_types.specs.Closings.{IsReplyNamed};
+//! All the lines with which a step closes.
+ghost use Rattle.std.specs.Prelude.{◌≡◌, ◌≤◌, ◌∷◌, [], IfOk};
+ghost use Rattle.mas_types.specs.Closings.{AreMembersNamed, IsReplyNamed, closing_line, details_of, reply_lines as reply_lines_lem};
 ghost use Rattle.mas_types.specs.Limits.{members_most};
-ghost use Rattle.member_node.specs.Lines.{details_of, reply_lines as reply_lines_lem};
 
-use cmd_report::{closing, details};
+use crate::lines::{closing, details};
 use mas_types::{Closing, Copied, Lines, MemberId, NoMemory, Reply};
 use std::alloc::Global;
 
@@ -28,6 +27,18 @@ pub fn reply_lines(alloc: Global, by: MemberId, step: u32, reply: &Reply) -> Res
     let mut lines = detail_lines(alloc, by, step, reply)?;
     let end = Closing::Reply(reply.copy(alloc)?);
     let line = closing(alloc, by, step, &end)?;
+    lines.push(line.as_slice())?;
+    Ok(lines)
+}
+
+/// The one line of a step that closes so, and has no display.
+pub fn one_line(alloc: Global, by: MemberId, step: u32, end: &Closing) -> Result<Lines, NoMemory>
+    requires by { by.0 ≤ members_most }
+    requires named { AreMembersNamed end.now }
+    ensures { IfOk result (λ lines. lines ≡ closing_line by step end.now ∷ []) }
+{
+    let line = closing(alloc, by, step, end)?;
+    let mut lines = Lines::new(alloc);
     lines.push(line.as_slice())?;
     Ok(lines)
 }

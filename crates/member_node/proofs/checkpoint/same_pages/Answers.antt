@@ -1,6 +1,0 @@
-use Rattle.std.proofs.Common.{rules}
-use Rattle.mas_complex.proofs.Fitted.{same_only}
-use Rattle.member_node.proofs.checkpoint.same_pages.Goals as goal
-
-pub returns-then-found-other : goal.returns-then-found-other
-returns-then-found-other c = same_only c.args.found.now c.args.other.now (search rules)

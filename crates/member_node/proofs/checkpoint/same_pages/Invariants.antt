@@ -1,6 +1,0 @@
-use Rattle.std.proofs.Common.{◌≡◌, length, drop}
-use Rattle.mas_complex.specs.Fits.{are_same}
-use Rattle.member_node.proofs.checkpoint.same_pages.Given as goal
-
-abbrev pub invariant-loop-page : goal.invariant-loop-page
-invariant-loop-page l = (length l.found ≡ length l.other) × (are_same (drop l.page l.found) (drop l.page l.other) ≡ are_same l.found l.other)
