@@ -6,7 +6,7 @@ mod plants;
 
 use anyhow::Result;
 use mas_types::{Dev, MemberId};
-use plant_files::{FilePlant, StdSource};
+use plant_files::{FilePlant, Opening, StdSource, Streams};
 use plant_fuse::Fused;
 use plants::{read_back, say_lines, take_text, use_devices, use_printers, word_of};
 use spool_disk::{Got, Part, Plant, Source};
@@ -29,18 +29,24 @@ fn read_source(rt: &HostRuntime) -> Result<()> {
     Ok(())
 }
 
+fn open(rt: &HostRuntime, opening: Opening) -> Result<FilePlant<HostRuntime>> {
+    let streams = Streams::open(rt, rt.alloc())?;
+    Ok(FilePlant::open(*rt, rt.alloc(), streams, FOLDER, opening)?)
+}
+
 fn first_run(rt: &HostRuntime) -> Result<()> {
-    let mut plant = FilePlant::open(*rt, rt.alloc(), FOLDER)?;
+    let mut plant = open(rt, Opening::Make)?;
     println!(rt; "devices {:?}", use_devices(&mut plant))?;
     println!(rt; "printers {:?}", use_printers(&mut plant))?;
     println!(rt; "console {:?}", say_lines(&mut plant))?;
+    println!(rt; "held {}", open(rt, Opening::Look).is_err())?;
     plant.lose(Dev::Spool(1));
     Ok(())
 }
 
 fn second_run(rt: &HostRuntime) -> Result<()> {
     fs::write(rt, "trial/below/LINE1.IN", "INPUT")?;
-    let mut plant = FilePlant::open(*rt, rt.alloc(), FOLDER)?;
+    let mut plant = open(rt, Opening::GoOn)?;
     println!(rt; "ckpt1 {:?}", read_back(&mut plant, Dev::Ckpt1))?;
     println!(rt;
         "lost {} {}",
@@ -55,7 +61,7 @@ fn second_run(rt: &HostRuntime) -> Result<()> {
 }
 
 fn third_run(rt: &HostRuntime) -> Result<()> {
-    let plant = FilePlant::open(*rt, rt.alloc(), FOLDER)?;
+    let plant = open(rt, Opening::Make)?;
     let mut fused = Fused::new(plant);
     println!(rt;
         "renewed {} {} {}",

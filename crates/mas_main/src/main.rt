@@ -1,13 +1,18 @@
 //! `mas`: does what its words ask for, on the devices of a folder. Standard input is the script, standard output the console.
 #![tactic(auto)]
 
-use mas_run::code;
-use mas_top::{calm_top, task_of};
-use mas_types::{NoMemory, Status, status_line};
+ghost use Rattle.std.specs.Prelude.{◌≡◌};
+ghost use Rattle.mas_main.specs.Endings.{opening_for};
+
+mod ending;
+
+use ending::{Ending, code_of, write_line_of};
+use mas_top::{Task, calm_top, task_of};
+use mas_types::Status;
 use mas_words::{Words, WordsNo, read_words};
-use plant_files::{FilePlant, StdSource};
+use plant_files::{FilePlant, Opening, StdSource, Streams};
 use plant_fuse::Fused;
-use std::io::{self, ErrorKind, Write};
+use std::io::ErrorKind;
 use std::process::ExitCode;
 use std::{env, str};
 
@@ -39,38 +44,43 @@ fn folder_of(words: &Words) -> Result<&str, WordsNo> {
     str::from_utf8(words.dir.as_slice()).map_err(|_| WordsNo::Words)
 }
 
-// Does what the words ask for. Where they are refused, no file is touched.
-fn run(rt: &HostRuntime) -> Result<Status, WordsNo> {
+// What a task does with the folder.
+fn opening_of(task: Task) -> Opening
+    ensures { result ≡ opening_for task }
+{
+    match task {
+        Task::Play(true) | Task::Format => Opening::Make,
+        Task::Play(false) => Opening::GoOn,
+        Task::Report => Opening::Look,
+    }
+}
+
+// Does what the words ask for. Where they are refused, or the folder isn't opened, no file of it is touched.
+fn run(rt: &HostRuntime) -> Result<Status, Ending> {
+    // Before any other file is opened.
+    let streams = Streams::open(rt, rt.alloc()).map_err(|_| Ending::NoNullDevice)?;
     let words = words_of(rt)?;
     let read = read_words(rt.alloc(), &words)?;
-    if task_of(&read).is_none() {
-        return Err(WordsNo::Words);
-    }
+    let Some(task) = task_of(&read) else {
+        return Err(Ending::Top(Status::Words));
+    };
     let mut script = StdSource::new(*rt);
-    let files = FilePlant::open(*rt, rt.alloc(), folder_of(&read)?)?;
+    let files = FilePlant::open(
+        *rt,
+        rt.alloc(),
+        streams,
+        folder_of(&read)?,
+        opening_of(task),
+    )?;
     Ok(calm_top(rt.alloc(), &words, &mut script, Fused::new(files)).status)
 }
 
-// Writes the line of a status to standard error.
-fn report(rt: &HostRuntime, status: &Status) -> io::Result<()> {
-    let mut error = rt.stderr();
-    match status_line(rt.alloc(), status) {
-        Ok(None) => Ok(()),
-        Ok(Some(line)) => {
-            error.write_all(line.as_slice())?;
-            error.write_all(b"\n")
-        }
-        Err(NoMemory) => error.write_all(b"MAS NO MEMORY\n"),
-    }
-}
-
 fn main(rt: HostRuntime) -> ExitCode {
-    let status = match run(&rt) {
-        Ok(status) => status,
-        Err(WordsNo::Words) => Status::Words,
-        Err(WordsNo::NoMemory) => Status::NoMemory,
+    let ending = match run(&rt) {
+        Ok(status) => Ending::Top(status),
+        Err(ending) => ending,
     };
     // Where standard error can't be written to, the exit status alone tells.
-    let _ = report(&rt, &status);
-    ExitCode::from(code(&status))
+    let _ = write_line_of(&rt, &ending);
+    ExitCode::from(code_of(&ending))
 }

@@ -40,6 +40,17 @@ pub(crate) fn append<F: Write + Seek>(file: &mut F, bytes: &[u8]) -> io::Result<
 // A line of fewer bytes is written with its end at once.
 const LINE_MOST: usize = 512;
 
+// Writes a line and its end.
+pub(crate) fn write_line<W: Write>(stream: &mut W, line: &[u8]) -> io::Result<()> {
+    if line.len() >= LINE_MOST {
+        stream.write_all(line)?;
+        return stream.write_all(b"\n");
+    }
+    let mut whole = [b'\n'; LINE_MOST];
+    whole[..line.len()].copy_from_slice(line);
+    stream.write_all(&whole[..line.len() + 1])
+}
+
 // A file ends with the end of a line, or is empty.
 fn ends_a_line<F: FileExt + Seek>(file: &mut F) -> io::Result<bool> {
     let end = file.seek(SeekFrom::End(0))?;
@@ -51,23 +62,13 @@ fn ends_a_line<F: FileExt + Seek>(file: &mut F) -> io::Result<bool> {
     Ok(last[0] == b'\n')
 }
 
-// A line and its end.
-fn append_whole<F: Write + Seek>(file: &mut F, line: &[u8]) -> io::Result<()> {
-    if line.len() >= LINE_MOST {
-        append(file, line)?;
-        return file.write_all(b"\n");
-    }
-    let mut whole = [b'\n'; LINE_MOST];
-    whole[..line.len()].copy_from_slice(line);
-    append(file, &whole[..line.len() + 1])
-}
-
 // Adds a line at the end of a file. One before it that was cut off gets its end first.
 pub(crate) fn append_line<F: FileExt + Write + Seek>(file: &mut F, line: &[u8]) -> io::Result<()> {
     if !ends_a_line(file)? {
         append(file, b"\n")?;
     }
-    append_whole(file, line)
+    file.seek(SeekFrom::End(0))?;
+    write_line(file, line)
 }
 
 // The next bytes of a file, as many as one read gives.
@@ -81,6 +82,19 @@ pub(crate) fn read_next<F: Read>(file: &mut F, into: &mut [u8]) -> io::Result<us
         }
     }
     Err(io::Error::from(ErrorKind::Interrupted))
+}
+
+// Leaves what was written to a file on its disk. A device that keeps nothing, as a terminal or the null device, has nothing to leave.
+pub(crate) fn sync_written<F: OpenFile>(file: &F) -> io::Result<()> {
+    match file.sync_all() {
+        Err(error) if error.kind() == ErrorKind::InvalidInput => Ok(()),
+        answer => answer,
+    }
+}
+
+// The error of what has no file.
+pub(crate) fn not_there() -> io::Error {
+    io::Error::from(ErrorKind::NotFound)
 }
 
 // Leaves a file of no bytes, which reads as zeros, on the disk.

@@ -4,12 +4,14 @@ ghost use Rattle.spool_disk.specs.Acts.{Acts, FitsInto, act_of, top};
 ghost use Rattle.plant_files.specs.FileView.{size_of, tally_view};
 
 use crate::folder::{EACH_MOST, Folder, open_folder};
+use crate::hold::{FolderError, Opening, hold_folder};
+use crate::streams::Streams;
 use crate::tally::Tally;
-use mas_types::{Dev, MemberId, NoMemory};
+use mas_types::{Dev, MemberId};
 use spool_disk::{Act, Fuse, PLACES, Part, Plant, Took, place_number};
 use std::alloc::{AllocError, Global};
-use std::fs::OpenFile;
-use std::io::{self, Read, Seek, Write};
+use std::fs::{File, OpenFile};
+use std::io::{Read, Seek, Write};
 use std::os::unix::fs::FileExt;
 use std::rt::Files;
 
@@ -17,10 +19,14 @@ use std::rt::Files;
 pub const DEVICE_SIZE: u64 = 16_777_216;
 
 /// Devices, printers and lines as files of a folder, and standard output as the console. What the files of a system hold
-/// can't be known, so this plant tells nothing of it. No act of it halts, and arming a stop is only counted.
+/// can't be known, so this plant tells nothing of it. No act of it halts, and arming a stop is only counted. As long as it is there
+/// its folder is held, and the standard streams are open.
 #[derive(Drop)]
-pub struct FilePlant<R: Files + Print + Drop> {
+pub struct FilePlant<R: Files + Drop> {
     rt: R,
+    streams: Streams,
+    // The folder that is held, unless it isn't there. It is let go where this is closed.
+    held: Option<R::File>,
     folder: Folder<R::File>,
     tally: Tally,
 }
@@ -54,32 +60,37 @@ fn lost_parts<F: Read + Write + Seek + FileExt + OpenFile + Drop>(
     Ok(lost)
 }
 
-// Writes a line with its end to standard output.
-fn write_line<R: Print>(rt: &R, line: &[u8]) -> io::Result<()> {
-    let mut out = io::writer(rt);
-    out.write_all(line)?;
-    out.write_all(b"\n")?;
-    out.flush()
-}
-
-impl<R: Files + Print + Drop> FilePlant<R>
-where
-    R::File: FileExt,
-{
+impl<R: Files<File = File> + Drop> FilePlant<R> {
     ghost use Rattle.plant_files.specs.FileView.{IsFresh};
 
     /// A plant over a folder's files CKPT1, CKPT2, SPOOL1 to SPOOL8, PRT1 to PRT8, LINE1.IN to LINE8.IN and LINE1.OUT to
-    /// LINE8.OUT. The folder and files that are missing are made. A part is lost whose file can't be opened, or beside
-    /// which stands a file of its name and `.LOST`. NoMemory comes where the names of the files find none.
-    pub fn open(rt: R, alloc: Global, folder: &str) -> Result<FilePlant<R>, NoMemory>
+    /// LINE8.OUT. First the folder is held, and then the files of its devices: until this plant is dropped, or the program ends, no
+    /// other run opens them, but that any number may look at them at once. A part is lost whose file can't be opened, or beside which stands a file of its name and
+    /// `.LOST`. Which files are made, and how they are opened, is said by `opening`. Each error comes as it says, and changes no
+    /// byte of a file.
+    pub fn open(
+        rt: R,
+        alloc: Global,
+        streams: Streams,
+        folder: &str,
+        opening: Opening,
+    ) -> Result<FilePlant<R>, FolderError>
         ensures { IfOk result (λ p. IsFresh (tally_view p.tally)) }
     {
-        let folder = open_folder(&rt, alloc, folder)?;
+        let held = hold_folder(&rt, folder, opening)?;
+        let folder = open_folder(&rt, alloc, folder, opening)?;
+        if folder.has_twins() {
+            return Err(FolderError::OneFile);
+        }
+        folder.lock_devices(opening)?;
         let lost = lost_parts(alloc, &folder)?;
+        let tally = Tally::new(alloc, &lost)?;
         Ok(FilePlant {
             rt,
+            streams,
+            held,
             folder,
-            tally: Tally::new(alloc, &lost)?,
+            tally,
         })
     }
 }
@@ -102,7 +113,7 @@ fn finished_take(tally: &mut Tally, part: Part, n: usize) -> Took
     Took::Bytes(n)
 }
 
-impl<R: Files + Print + Drop> Plant for FilePlant<R>
+impl<R: Files + Drop> Plant for FilePlant<R>
 where
     R::File: FileExt,
 {
@@ -162,7 +173,7 @@ where
         if !self.tally.may_act(part) {
             return self.tally.end_act(part, false);
         }
-        let done = write_line(&self.rt, line).is_ok();
+        let done = self.streams.say(line).is_ok();
         self.tally.end_act(part, done)
     }
 
