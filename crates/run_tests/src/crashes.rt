@@ -83,10 +83,7 @@ fn starts_after(
     let told = left.console_lines(alloc)?.len();
     let (batches, _) = found(rt, alloc, left, long)?;
     let (kept, begun) = kept_and_begun(run.journal.batches.as_slice(), t);
-    assert!(rt;
-        kept <= batches && batches <= begun && told <= batches / 2,
-        "moment {t}"
-    );
+    assert!(rt; kept <= batches && batches <= begun && told <= batches / 2);
     Ok(())
 }
 
@@ -176,7 +173,7 @@ fn amid_the_formatting(rt: HostRuntime) -> Result<(), Fail> {
             let ended = start(alloc, b"", run.plant.crash_at(alloc, t, choice)?)?;
             let is_done = ended.status == Status::Done;
             assert!(rt; is_done || matches!(ended.status, Status::NotFormatted { .. }));
-            assert!(rt; is_done == (t >= FORM) || t + 1 == FORM, "moment {t}");
+            assert!(rt; is_done == (t >= FORM) || t + 1 == FORM);
             assert!(rt; ended.base.jobs.len() == 0);
         }
     }
@@ -191,7 +188,7 @@ fn are_equal(rt: &impl Abort, plant: &mut MemPlant) {
     for number in 1..BLOCKS {
         let first = page(rt, plant, Dev::Ckpt1, number);
         let second = page(rt, plant, Dev::Ckpt2, number);
-        assert!(rt; first == second, "page {number}");
+        assert!(rt; first == second);
     }
 }
 

@@ -93,11 +93,8 @@ fn one_act_fails(rt: HostRuntime) -> Result<(), Fail> {
         } else {
             (Status::ConsoleFault, 2, 0, 0, [false, false])
         };
-        assert!(rt; outcome == wanted, "act {act}");
-        assert!(rt;
-            batches_left(&rt, alloc, &left, Choice::Old)? == 2,
-            "act {act}"
-        );
+        assert!(rt; outcome == wanted);
+        assert!(rt; batches_left(&rt, alloc, &left, Choice::Old)? == 2);
     }
     Ok(())
 }
@@ -137,7 +134,7 @@ fn two_acts_fail(rt: HostRuntime) -> Result<(), Fail> {
             _ if act < ONE_KEPT => (Status::BothLost, 1, 1, 0, [true, true]),
             _ => (Status::ConsoleFault, 2, 0, 0, [true, false]),
         };
-        assert!(rt; outcome == wanted, "act {act}");
+        assert!(rt; outcome == wanted);
     }
     Ok(())
 }
@@ -167,11 +164,11 @@ fn an_act_halts(rt: HostRuntime) -> Result<(), Fail> {
             _ if act < KEPT => (Status::Done, 1, 1, 0, [false, false]),
             _ => (Status::Done, 2, 0, 0, [false, false]),
         };
-        assert!(rt; outcome == wanted, "act {act}");
+        assert!(rt; outcome == wanted);
         let synced = batches_left(&rt, alloc, &left, Choice::Old)?;
-        assert!(rt; synced == batches_since(act, OPEN), "act {act}");
+        assert!(rt; synced == batches_since(act, OPEN));
         let written = batches_left(&rt, alloc, &left, Choice::New)?;
-        assert!(rt; written == batches_since(act, 2 * OPEN), "act {act}");
+        assert!(rt; written == batches_since(act, 2 * OPEN));
     }
     Ok(())
 }

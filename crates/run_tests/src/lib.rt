@@ -7,6 +7,8 @@ mod crashes;
 #[cfg(test)]
 mod faults;
 #[cfg(test)]
+mod losses;
+#[cfg(test)]
 mod pages;
 #[cfg(test)]
 mod playing;

@@ -41,7 +41,7 @@ pub fn page(rt: &impl Abort, plant: &mut MemPlant, dev: Dev, number: u64) -> [u8
 // The block of this number begins so.
 fn begins(rt: &impl Abort, plant: &mut MemPlant, dev: Dev, number: u64, wanted: &[u8]) {
     let page = page(rt, plant, dev, number);
-    assert!(rt; page.starts_with(wanted), "page {number}");
+    assert!(rt; page.starts_with(wanted));
 }
 
 /// A copy that was formatted, and nothing more.
@@ -64,10 +64,7 @@ fn has_levels(rt: &impl Abort, first: &[u8; 4096]) {
 // The block has these bytes and then zeros.
 fn is_just(rt: &impl Abort, plant: &mut MemPlant, dev: Dev, number: u64, wanted: &[u8]) {
     let page = page(rt, plant, dev, number);
-    assert!(rt;
-        page.starts_with(wanted) && page.iter().skip(wanted.len()).all(|byte| *byte == 0),
-        "page {number}"
-    );
+    assert!(rt; page.starts_with(wanted) && page.iter().skip(wanted.len()).all(|byte| *byte == 0));
 }
 
 /// A copy with the job of one deck.

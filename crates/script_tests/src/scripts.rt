@@ -32,7 +32,7 @@ fn assert_refused(
 ) {
     let refused =
         matches!(read(alloc, mode, text), Err(ScriptNo::BadLine { line, cause }) if line == at && cause == why);
-    assert!(rt; refused, "line {at}");
+    assert!(rt; refused);
 }
 
 #[test]
@@ -321,7 +321,7 @@ fn assert_step(
     number: u32,
 ) {
     if at >= script.steps.len() {
-        assert!(rt; false, "no step {at}");
+        assert!(rt; false);
         return;
     }
     let step = script.steps.item(at);

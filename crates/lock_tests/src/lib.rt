@@ -1,5 +1,0 @@
-//! Tests of `lock_cycle`.
-#![tactic(auto)]
-
-#[cfg(test)]
-mod tests;

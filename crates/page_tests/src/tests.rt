@@ -1,6 +1,0 @@
-//! Slots, pages and faults, each in a module.
-mod checkpoints;
-mod faults;
-mod pages;
-mod samples;
-mod slots;
