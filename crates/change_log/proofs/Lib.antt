@@ -1,0 +1,2 @@
+pub mod Directing
+pub mod Placed
