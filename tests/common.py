@@ -1,5 +1,6 @@
 """What the scripts of this folder, of bench/ and of docs/ share."""
 import os
+import shutil
 import subprocess
 import sys
 
@@ -15,6 +16,12 @@ def proved_program():
     if subprocess.run([LAUNCHER, "--build"], check=False).returncode:
         sys.exit("there is no proved program to try")
     return PROGRAM
+
+
+def can_trace():
+    """Whether there is a `strace`, and it may look at programs here."""
+    look = ["strace", "-qq", "-o", "/dev/null", "true"]
+    return shutil.which("strace") is not None and subprocess.run(look, capture_output=True, check=False).returncode == 0
 
 
 def bytes_in(path, otherwise=None):

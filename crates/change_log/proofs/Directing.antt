@@ -1,13 +1,11 @@
 -- The bytes of a directory: written number by number, and read back.
-use Rattle.std.proofs.Common.{◌≡◌, ℕ, zero, suc, ◌+◌, ◌*◌, ◌-◌, ◌/◌, ◌%◌, ◌≤◌, ◌<◌, ◌&&◌, ◌==◌, nat_le, nat_lt, Bool, true, false, List, [], ◌∷◌, ◌++◌, length, take, drop, set, get_or, replicate, Some, append_assoc, length-append, add-one, refl, sym, ◌∙◌, ap, subst, arith, All}
+use Rattle.std.proofs.Common.{◌≡◌, ℕ, zero, suc, ◌+◌, ◌*◌, ◌-◌, ◌/◌, ◌%◌, ◌≤◌, ◌<◌, nat_le, true, List, [], ◌∷◌, ◌++◌, length, take, drop, set, get_or, replicate, append_assoc, length-append, refl, sym, ◌∙◌, ap, subst, arith, All}
 use Rattle.std.proofs.lemmas.Bool.{and_from, lt-ltb, le-leb, eq-eqb}
-use Rattle.std.proofs.lemmas.List.{take_at, drop_at, take_more, take_more_set, get_or-drop, drop-drop, drop-replicate}
+use Rattle.std.proofs.lemmas.List.{take_at, drop_at, take_more, take_more_set, get_or-drop, drop-drop}
 use Rattle.std.proofs.lemmas.List.Elements.{All-head, All-tail}
-use Rattle.std.specs.List.{list_all}
 use Rattle.std.specs.List.Sorted.{IsStrictlyIncreasing}
 use Rattle.std.specs.Int.{w16, to_be_bytes}
 use Rattle.mas_types.specs.Limits.{page_bytes, pages_most}
-use Rattle.spool_disk.specs.View.{slice}
 use Rattle.ckpt_copy.specs.Pages.{ArePages}
 use Rattle.lay_bytes.specs.Bytes.{are_zeros}
 use Rattle.change_log.specs.Directories.{count_in, words, numbers_in, ascend, are_pages, is_directory, word_bytes, directory}

@@ -1,2 +1,3 @@
 pub mod Directing
+pub mod Spelling
 pub mod Placed

@@ -1,6 +1,6 @@
 -- The directory of a log slot: the numbers of the pages that its images are of.
 use Rattle.std.specs.Int.{w16, to_be_bytes}
-use Rattle.std.specs.Prelude.{ℕ, ◌+◌, ◌*◌, ◌-◌, ◌&&◌, ◌==◌, nat_le, nat_lt, zero, suc, Bool, true, false, List, [], ◌∷◌, ◌++◌, length, drop, replicate, slice_index}
+use Rattle.std.specs.Prelude.{ℕ, ◌+◌, ◌*◌, ◌-◌, ◌&&◌, ◌==◌, nat_le, nat_lt, zero, suc, Bool, true, false, List, [], ◌∷◌, ◌++◌, length, take, drop, replicate, slice_index}
 use Rattle.spool_disk.specs.View.{slice}
 use Rattle.mas_types.specs.Limits.{page_bytes}
 use Rattle.lay_bytes.specs.Bytes.{are_zeros}
@@ -41,7 +41,14 @@ abbrev pub word_bytes : List ℕ → List ℕ
 word_bytes [] = []
 word_bytes (x ∷ numbers) = to_be_bytes w16 x ++ word_bytes numbers
 
--- the directory of a slot with images of these pages, at a level of eight bytes
+-- these bytes with numbers behind the level
+abbrev pub with_numbers : List ℕ → List ℕ → List ℕ
+with_numbers numbers bytes = take 16 bytes ++ word_bytes numbers ++ drop (16 + 2 * length numbers) bytes
+
+-- a directory up to its last number: of images of these pages, at a level of eight bytes
+abbrev pub directory_front : List ℕ → List ℕ → List ℕ
+directory_front level numbers = to_be_bytes w16 (length numbers) ++ replicate 6 0 ++ level ++ word_bytes numbers
+
+-- and the whole block
 abbrev pub directory : List ℕ → List ℕ → List ℕ
-directory level numbers =
-    to_be_bytes w16 (length numbers) ++ replicate 6 0 ++ level ++ word_bytes numbers ++ replicate (page_bytes - (16 + 2 * length numbers)) 0
+directory level numbers = directory_front level numbers ++ replicate (page_bytes - (16 + 2 * length numbers)) 0

@@ -1,5 +1,5 @@
 -- Logs written out.
-use Rattle.std.specs.Prelude.{◌≡◌, ℕ, ◌*◌, ◌++◌, zero, suc, true, false, List, [], ◌∷◌, replicate, refl}
+use Rattle.std.specs.Prelude.{◌≡◌, ℕ, ◌*◌, zero, suc, true, false, List, [], ◌∷◌, replicate, refl}
 use Rattle.change_log.specs.Directories.{numbers_in, is_directory}
 use Rattle.change_log.specs.Logs.{log_size, directory_block, block_head, place, free_after}
 

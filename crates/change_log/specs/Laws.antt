@@ -1,7 +1,7 @@
 -- What holds of a log whatever a crash leaves of its device.
-use Rattle.std.specs.Prelude.{◌≡◌, ℕ, ◌*◌, ◌≤◌, ◌<◌, true, Some, List, [], length}
+use Rattle.std.specs.Prelude.{◌≡◌, ℕ, ◌*◌, ◌≤◌, ◌<◌, true, Some, List, [], length, All}
 use Rattle.mas_types.specs.Limits.{page_bytes, pages_most}
-use Rattle.spool_disk.specs.View.{Disk}
+use Rattle.spool_disk.specs.View.{Disk, slice}
 use Rattle.ckpt_copy.specs.Has.{Has}
 use Rattle.ckpt_copy.specs.Pages.{page_in, ArePages}
 use Rattle.ckpt_copy.specs.Reading.{AllRead, EachReads}
@@ -14,6 +14,11 @@ use Rattle.change_log.specs.LogImages.{ArePlaced}
 abbrev pub ReadsDirectories : Type 0
 ReadsDirectories = (n : ℕ) (level numbers : List ℕ) → n ≤ pages_most → length level ≡ 8 → ArePages n numbers
     → (is_directory n (directory level numbers) ≡ true) × (numbers_in (directory level numbers) ≡ numbers)
+
+-- a valid directory is that of the pages that it lists, at its level: no other block of bytes is read
+abbrev pub SpellsDirectories : Type 0
+SpellsDirectories = (n : ℕ) (block : List ℕ) → n ≤ pages_most → length block ≡ page_bytes → All (λ b. b < 256) block
+    → is_directory n block ≡ true → block ≡ directory (slice 8 8 block) (numbers_in block)
 
 -- with a page wherever the slots put it, the device and each image of it read as the pages
 abbrev pub ReadsAtRest : Type 0

@@ -1,5 +1,5 @@
 -- What is read of a directory.
-use Rattle.std.specs.Prelude.{◌≡◌, ℕ, Bool, true, false, Option, Some, None, List, take}
+use Rattle.std.specs.Prelude.{◌≡◌, ℕ, true, false, Option, Some, None, List, take}
 use Rattle.change_log.specs.declared.directory.Listed.{Listed}
 use Rattle.change_log.specs.Directories.{numbers_in, count_in, is_directory}
 

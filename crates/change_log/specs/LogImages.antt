@@ -1,5 +1,5 @@
 -- What the images of a device read as, in the log form.
-use Rattle.std.proofs.Common.{◌≡◌, ◌⊎◌, inl, inr, ⊎_elim, ℕ, zero, suc, ◌+◌, ◌*◌, ◌≤◌, ◌<◌, ◌==◌, ◌&&◌, Bool, true, false, if◌then◌else◌, List, [], ◌∷◌, ◌++◌, length, slice_index, take, drop, Some, None, Option, drop-cons, refl, sym, ◌∙◌, ap, subst, arith}
+use Rattle.std.proofs.Common.{◌≡◌, ◌⊎◌, inl, inr, ⊎_elim, ℕ, zero, suc, ◌+◌, ◌*◌, ◌≤◌, ◌<◌, ◌==◌, ◌&&◌, Bool, true, false, if◌then◌else◌, List, [], ◌∷◌, ◌++◌, length, slice_index, take, Some, None, drop-cons, refl, sym, ◌∙◌, ap, subst, arith}
 use Rattle.std.proofs.lemmas.Bool.Decides.{nat_tests}
 use Rattle.std.proofs.lemmas.Bool.{and_from}
 use Rattle.std.proofs.lemmas.List.{take_all}
@@ -11,13 +11,12 @@ use Rattle.ckpt_copy.specs.Has.{Has}
 use Rattle.ckpt_copy.specs.Pages.{page_in}
 use Rattle.ckpt_copy.specs.Reading.{AllRead, EachReads}
 use Rattle.ckpt_copy.specs.Areas.{is_open, pages_in}
-use Rattle.ckpt_copy.specs.AreaStates.{IsClosed}
 use Rattle.ckpt_copy.specs.Slices.{Fits, fits_image, has_image, byte_in}
 use Rattle.change_log.specs.declared.layout.TheConstants.{FORM_LOG}
 use Rattle.change_log.specs.Directories.{numbers_in, is_directory}
-use Rattle.change_log.specs.Logs.{reads, is_valid, are_listed, slot_lists, gathered, page_read, block, place, laid, slots, gate_of, home_block, directory_block, image_block}
+use Rattle.change_log.specs.Logs.{reads, is_valid, are_listed, slot_lists, gathered, page_read, block, place, laid, slots, gate_of, directory_block, image_block}
 use Rattle.change_log.specs.LogStates.{IsReady, IsHeaded, Lists, SlotStands, Logged, Stands, AreHome, Turning, lists_any, with_list}
-use Rattle.change_log.specs.Placing.{place_same, place_opened, place_without, with_here, with_other, with_same}
+use Rattle.change_log.specs.Placing.{place_same, place_opened, place_without, with_other, with_same}
 
 -- what stands on one device stands on another, wherever each stretch with K stays
 module _ (old new : Disk) (size : length new.bytes ≡ length old.bytes) (K : ℕ → ℕ → Type 0)
@@ -100,7 +99,7 @@ all_listed : (n : ℕ) (bytes : List ℕ) (k : ℕ) → ((s : ℕ) → s < k →
 all_listed n bytes zero each = refl
 all_listed n bytes (suc s) each = and_from _ _ (all_listed n bytes s (λ j lt. each j (omega (arith, lt)))) (each s (omega arith))
 
-gathered_same : (f g : ℕ → List ℕ) (k : ℕ) → ((p : ℕ) → p < k → f p ≡ g p) → gathered k f ≡ gathered k g
+pub gathered_same : (f g : ℕ → List ℕ) (k : ℕ) → ((p : ℕ) → p < k → f p ≡ g p) → gathered k f ≡ gathered k g
 gathered_same f g zero same = refl
 gathered_same f g (suc p) same =
     ap (λ (l : List ℕ). l ++ f p) (gathered_same f g p (λ j lt. same j (omega (arith, lt)))) ∙ ap (λ (l : List ℕ). gathered p g ++ l) (same p (omega arith))

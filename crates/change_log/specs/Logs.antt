@@ -1,8 +1,7 @@
 -- The log form of a copy: what its bytes read as.
-use Rattle.std.specs.Prelude.{ℕ, ◌+◌, ◌*◌, ◌/◌, ◌%◌, ◌&&◌, ◌==◌, nat_le, if◌then◌else◌, zero, suc, Bool, true, false, Option, Some, None, List, [], ◌∷◌, ◌++◌, length, slice_index}
+use Rattle.std.specs.Prelude.{◌≡◌, ℕ, ◌+◌, ◌*◌, ◌/◌, ◌%◌, ◌&&◌, ◌==◌, nat_le, if◌then◌else◌, zero, suc, Bool, true, false, Option, Some, None, List, [], ◌∷◌, ◌++◌, length, slice_index}
 use Rattle.spool_disk.specs.View.{slice}
 use Rattle.mas_types.specs.Limits.{page_bytes, pages_least, pages_most}
-use Rattle.ckpt_copy.specs.declared.layout.TheConstants.{GATE_OPEN}
 use Rattle.ckpt_copy.specs.Areas.{is_open, pages_in}
 use Rattle.change_log.specs.declared.layout.TheConstants.{FORM_LOG}
 use Rattle.change_log.specs.Directories.{numbers_in, is_directory}
@@ -38,6 +37,10 @@ block b bytes = slice (page_bytes * b) page_bytes bytes
 abbrev pub laid : ℕ → ℕ → List ℕ → ℕ → ℕ
 laid b p [] under = under
 laid b p (x ∷ numbers) under = laid (b + 1) p numbers (if x == p then b else under)
+
+-- each page of a table stands so
+abbrev pub AreLaid : ℕ → List ℕ → List ℕ → List ℕ → Type 0
+AreLaid b numbers old new = (p : ℕ) → slice_index new p ≡ laid b p numbers (slice_index old p)
 
 -- Where page p stands once the images of the first slots lie over its home page, slot after slot. A slot has images of
 -- the pages that it lists.

@@ -1,8 +1,8 @@
 -- Where pages stand under the slots of a log.
-use Rattle.std.proofs.Common.{◌≡◌, ◌⊎◌, inl, inr, ⊎_elim, ℕ, zero, suc, ◌+◌, ◌*◌, ◌≤◌, ◌<◌, ◌==◌, Bool, true, false, if◌then◌else◌, List, [], ◌∷◌, length, refl, sym, ◌∙◌, ap, subst, arith}
+use Rattle.std.proofs.Common.{◌≡◌, ◌⊎◌, inl, inr, ⊎_elim, ℕ, zero, suc, ◌+◌, ◌≤◌, ◌<◌, ◌==◌, Bool, true, false, if◌then◌else◌, List, [], ◌∷◌, length, refl, sym, ◌∙◌, ap, arith}
 use Rattle.std.proofs.lemmas.Bool.Decides.{nat_tests}
 use Rattle.ckpt_copy.specs.Moments.{either_way}
-use Rattle.change_log.specs.Logs.{home_block, directory_block, image_block, laid, place}
+use Rattle.change_log.specs.Logs.{home_block, image_block, laid, place}
 use Rattle.change_log.specs.LogStates.{with_list}
 
 -- in the block `at` a page stands where it stood, or in one of so many images from block b on

@@ -1,8 +1,7 @@
 //! The directory of a log slot as bytes.
-ghost use Rattle.std.specs.Prelude.{◌≡◌, ◌+◌, ◌*◌, ◌≤◌, ◌<◌, ◌++◌, length, take, drop, replicate, slice_index, false};
-ghost use Rattle.std.specs.Int.{w16, to_be_bytes};
+ghost use Rattle.std.specs.Prelude.{◌≡◌, ◌+◌, ◌*◌, ◌≤◌, ◌<◌, ◌++◌, length, take, drop, slice_index};
 ghost use Rattle.mas_types.specs.Limits.{page_bytes, pages_most};
-ghost use Rattle.change_log.specs.Directories.{words, ascend, are_pages, word_bytes, directory};
+ghost use Rattle.change_log.specs.Directories.{words, ascend, are_pages, with_numbers, directory, directory_front};
 ghost use Rattle.change_log.specs.Listings.{IsListing};
 
 use crate::places::PLACES;
@@ -89,7 +88,7 @@ pub fn read_directory(block: &[u8; PAGE_BYTES], pages: u16) -> Option<Listed>
 // Writes numbers one after another behind the level. The other bytes stay.
 fn put_numbers(numbers: &[u16], into: &mut [u8])
     requires { 16 + 2 * length numbers.now ≤ length into.old }
-    ensures { into.new ≡ take 16 into.old ++ word_bytes numbers.now ++ drop (16 + 2 * length numbers.now) into.old }
+    ensures { into.new ≡ with_numbers numbers.now into.old }
 {
     for (i, number) in numbers.iter().enumerate() {
         write_u16(into, NUMBERS_AT + 2 * i, *number);
@@ -100,7 +99,7 @@ fn put_numbers(numbers: &[u16], into: &mut [u8])
 fn put_directory(level: &[u8; 8], numbers: &[u16], into: &mut [u8])
     requires few { length numbers.now < 65536 }
     requires room { 16 + 2 * length numbers.now ≤ length into.old }
-    ensures { into.new ≡ to_be_bytes w16 (length numbers.now) ++ replicate 6 0 ++ level.now ++ word_bytes numbers.now ++ drop (16 + 2 * length numbers.now) into.old }
+    ensures { into.new ≡ directory_front level.now numbers.now ++ drop (16 + 2 * length numbers.now) into.old }
 {
     put(&(numbers.len() as u16).to_be_bytes(), 0, into);
     put(&[0; 6], 2, into);

@@ -1,9 +1,10 @@
 //! What holds of a log whatever a crash leaves of its device.
-ghost use Rattle.change_log.specs.Laws.{ReadsDirectories, ReadsAtRest, ReadsWhileOpened, ReadsWhileClosed};
+ghost use Rattle.change_log.specs.Laws.{ReadsDirectories, SpellsDirectories, ReadsAtRest, ReadsWhileOpened, ReadsWhileClosed};
 
-/// A directory that is written is valid, and lists the pages that it was written for.
+/// A directory that is written is valid, and lists the pages that it was written for. No other block is valid.
 pub fn law_of_directories()
-    ensures { ReadsDirectories }
+    ensures reads { ReadsDirectories }
+    ensures spells { SpellsDirectories }
 {}
 
 /// A log with each page where its open slots put it reads as these pages, and so does whatever a crash leaves of it.

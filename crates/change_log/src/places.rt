@@ -1,7 +1,7 @@
 //! Where the pages of a copy stand, in blocks.
 ghost use Rattle.std.specs.Prelude.{◌≡◌, ◌+◌, ◌*◌, ◌≤◌, ◌<◌, ℕ, length, slice_index, All};
 ghost use Rattle.mas_types.specs.Limits.{pages_most};
-ghost use Rattle.change_log.specs.Logs.{home_block, laid};
+ghost use Rattle.change_log.specs.Logs.{home_block, AreLaid};
 
 use mas_types::limits::PAGES_MOST;
 
@@ -24,7 +24,7 @@ pub fn home_places() -> [u16; PLACES]
 pub fn lay_images(places: &mut [u16; PLACES], first: u16, numbers: &[u16])
     requires inside { All (λ p. p < pages_most) numbers.now }
     requires few { first + length numbers.now < 65536 }
-    ensures { (p : ℕ) → slice_index places.new p ≡ laid first p numbers.now (slice_index places.old p) }
+    ensures { AreLaid first numbers.now places.old places.new }
 {
     for (i, number) in numbers.iter().enumerate() {
         places[*number as usize] = first + i as u16;

@@ -1,4 +1,4 @@
-use Rattle.std.proofs.Common.{◌∙◌, arith, take, drop, ◌++◌, length, get_or, refl, sym, ap, List, ℕ}
+use Rattle.std.proofs.Common.{arith, take, get_or, refl}
 use Rattle.std.proofs.lemmas.List.{length-take-le}
 use Rattle.change_log.proofs.Directing.{number_put}
 use Rattle.change_log.proofs.directory.put_numbers.Goals as goal

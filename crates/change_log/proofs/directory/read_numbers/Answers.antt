@@ -1,4 +1,4 @@
-use Rattle.std.proofs.Common.{◌∙◌, arith, length, length-drop}
+use Rattle.std.proofs.Common.{◌∙◌, arith, length-drop}
 use Rattle.std.proofs.lemmas.List.{length-set}
 use Rattle.change_log.proofs.Directing.{number_read}
 use Rattle.change_log.proofs.directory.read_numbers.Goals as goal
