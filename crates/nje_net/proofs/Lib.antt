@@ -1,0 +1,13 @@
+pub mod Tests
+pub mod Items
+pub mod Firsts
+pub mod Counts
+pub mod Writes
+pub mod Joined
+pub mod Invariant
+pub mod Steps
+pub mod Sending
+pub mod Moves
+pub mod Bounds
+pub mod Ways
+pub mod Missing

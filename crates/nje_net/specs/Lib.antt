@@ -1,0 +1,9 @@
+pub mod Numbered
+pub mod Firsts
+pub mod Nets
+pub mod Worlds
+pub mod Events
+pub mod Lossless
+pub mod Paths
+pub mod Laws
+pub mod Examples
