@@ -1,0 +1,4 @@
+pub mod CountLemmas
+pub mod WorldLemmas
+pub mod GroupLemmas
+pub mod CheckLemmas

@@ -1,0 +1,12 @@
+//! The checker of images: what is wrong with the pages of a checkpoint, and with the texts that its spool volumes
+//! hold. It only reads.
+#![tactic(auto)]
+
+mod checking;
+mod groups;
+mod lines;
+mod reading;
+mod records;
+
+pub use checking::{CheckNo, check};
+pub use lines::check_line;
