@@ -38,14 +38,24 @@ fn random_events(alloc: Global, count: u32) -> Result<List<NetEvent>, NoMemory> 
     Ok(events)
 }
 
+/// What came of the events.
+#[derive(Drop)]
+struct Came {
+    entered: u32,
+    arrived: usize,
+}
+
 /// What came of so many random events; none where the net is none, or there are too many events.
-fn play(alloc: Global, net: &Net, count: u32) -> Result<Option<[usize; 2]>, NoMemory> {
+fn play(alloc: Global, net: &Net, count: u32) -> Result<Option<Came>, NoMemory> {
     let events = random_events(alloc, count)?;
     if events.len() >= u32::MAX as usize || !net_ok(net) {
         return Ok(None);
     }
     let world = no_net_loses(alloc, net, &events)?;
-    Ok(Some([world.entered as usize, world.arrived.len()]))
+    Ok(Some(Came {
+        entered: world.entered,
+        arrived: world.arrived.len(),
+    }))
 }
 
 /// How many nodes the path from the first node to the last passes, 0 where there is none.
@@ -62,11 +72,18 @@ fn passed(alloc: Global, net: &Net) -> usize {
 fn run(rt: &HostRuntime) -> Result<bool, NoMemory> {
     let alloc = rt.alloc();
     let net = net_of_64(alloc)?;
-    let Some([entered, arrived]) = play(alloc, &net, count(rt))? else {
-        return Ok(false);
-    };
     let length = passed(alloc, &net);
-    Ok(println!(rt; "entered {entered} arrived {arrived} passed {length}").is_ok())
+    match play(alloc, &net, count(rt))? {
+        Some(came) => Ok(say(rt, &came, length)),
+        None => Ok(false),
+    }
+}
+
+/// Says it; false where that fails.
+fn say(rt: &HostRuntime, came: &Came, length: usize) -> bool {
+    let entered = came.entered;
+    let arrived = came.arrived;
+    println!(rt; "entered {entered} arrived {arrived} passed {length}").is_ok()
 }
 
 fn main(rt: HostRuntime) -> ExitCode {
