@@ -1,0 +1,14 @@
+mod Readers
+mod Sequences
+mod Cards
+mod Numbers
+mod NodeNames
+mod FrameReaders
+mod FrontLemmas
+mod PartSteps
+mod StreamLemmas
+mod StreamSteps
+mod OnlyLemmas
+mod CardLines
+mod PushSteps
+mod TakeSteps
