@@ -7,8 +7,6 @@ use mas_types::{NoMemory, Status, status_line};
 use mas_words::WordsNo;
 use plant_files::FolderError;
 use std::io::{self, Write};
-use std::os::fd::AsFd;
-use std::process::ChildStdin;
 
 /// How the program ends.
 #[derive(Drop)]
@@ -74,9 +72,9 @@ fn write_text<W: Write>(error: &mut W, line: &[u8]) -> io::Result<()> {
 }
 
 /// Writes the line of an ending to standard error; none where every step has closed. Where that is a pipe whose reader has ended
-/// it fails, and no signal takes the place of the exit code.
+/// it fails; the program ignores the signal of it, so the exit code stays.
 pub fn write_line_of(rt: &HostRuntime, ending: &Ending) -> io::Result<()> {
-    let mut error = ChildStdin::from(rt.stderr().as_fd().try_clone_to_owned()?);
+    let mut error = rt.stderr();
     match ending {
         Ending::Top(status) => match status_line(rt.alloc(), status) {
             Ok(None) => Ok(()),

@@ -22,7 +22,7 @@ pub const DEVICE_SIZE: u64 = 16_777_216;
 /// can't be known, so this plant tells nothing of it. No act of it halts, and arming a stop is only counted. As long as it is there
 /// its folder is held, and the standard streams are open.
 #[derive(Drop)]
-pub struct FilePlant<R: Files + Drop> {
+pub struct FilePlant<R: Files + Print + Drop> {
     rt: R,
     streams: Streams,
     // The folder that is held, unless it isn't there. It is let go where this is closed.
@@ -60,7 +60,7 @@ fn lost_parts<F: Read + Write + Seek + FileExt + OpenFile + Drop>(
     Ok(lost)
 }
 
-impl<R: Files<File = File> + Drop> FilePlant<R> {
+impl<R: Files<File = File> + Print + Drop> FilePlant<R> {
     ghost use Rattle.plant_files.specs.FileView.{IsFresh};
 
     /// A plant over a folder's files CKPT1, CKPT2, SPOOL1 to SPOOL8, PRT1 to PRT8, LINE1.IN to LINE8.IN and LINE1.OUT to
@@ -113,7 +113,7 @@ fn finished_take(tally: &mut Tally, part: Part, n: usize) -> Took
     Took::Bytes(n)
 }
 
-impl<R: Files + Drop> Plant for FilePlant<R>
+impl<R: Files + Print + Drop> Plant for FilePlant<R>
 where
     R::File: FileExt,
 {
@@ -173,7 +173,7 @@ where
         if !self.tally.may_act(part) {
             return self.tally.end_act(part, false);
         }
-        let done = self.streams.say(line).is_ok();
+        let done = self.streams.say(&self.rt, line).is_ok();
         self.tally.end_act(part, done)
     }
 

@@ -2,9 +2,8 @@
 use crate::files::{not_there, write_line};
 use std::alloc::Global;
 use std::fs::{File, OpenOptions};
-use std::io;
+use std::io::{self, Write};
 use std::os::fd::AsFd;
-use std::process::ChildStdin;
 
 // What stands in the place of a stream that is closed. It is opened to be written alone, so that a read of it fails.
 const NULL_DEVICE: &str = "/dev/null";
@@ -16,8 +15,8 @@ const NULL_DEVICE: &str = "/dev/null";
 pub struct Streams {
     // The null devices in the places of those that were closed, which stay open as long as these streams.
     nulls: Vec<File>,
-    // Standard output, where it was open. A line behind a pipe's end fails, and raises no signal.
-    console: Option<ChildStdin>,
+    // Standard output was open.
+    has_console: bool,
 }
 
 fn is_open<S: AsFd>(stream: &S) -> bool {
@@ -32,7 +31,7 @@ impl Streams {
     /// Opens the null device in the place of each standard stream that is closed. No other file may be opened before. An error
     /// comes where that can't be done.
     pub fn open(rt: &HostRuntime, alloc: Global) -> io::Result<Streams> {
-        let console = rt.stdout().as_fd().try_clone_to_owned().ok();
+        let has_console = is_open(&rt.stdout());
         let mut nulls = Vec::new(alloc);
         for _ in 0..3 {
             if are_open(rt) {
@@ -44,17 +43,16 @@ impl Streams {
         if !are_open(rt) {
             return Err(not_there());
         }
-        Ok(Streams {
-            nulls,
-            console: console.map(ChildStdin::from),
-        })
+        Ok(Streams { nulls, has_console })
     }
 
-    // Writes a line with its end to standard output.
-    pub(crate) fn say(&mut self, line: &[u8]) -> io::Result<()> {
-        match &mut self.console {
-            Some(console) => write_line(console, line),
-            None => Err(not_there()),
+    // Writes a line with its end to standard output. A program ignores the signal of a pipe that has ended, so the write fails there.
+    pub(crate) fn say<R: Print>(&self, rt: &R, line: &[u8]) -> io::Result<()> {
+        if !self.has_console {
+            return Err(not_there());
         }
+        let mut out = io::writer(rt);
+        write_line(&mut out, line)?;
+        out.flush()
     }
 }
