@@ -1,7 +1,7 @@
 -- What acts of a put leave as it is: block 0, the open area, and what stands behind the closed gate.
-use Rattle.std.proofs.Common.{◌≡◌, inl, inr, ℕ, ◌+◌, ◌*◌, ◌<◌, Bool, true, false, not, List, [], ◌∷◌, length, refl, subst, arith}
+use Rattle.std.proofs.Common.{◌≡◌, inl, inr, ℕ, ◌+◌, ◌*◌, ◌<◌, Bool, true, false, not, List, [], ◌∷◌, length, refl, sym, ◌∙◌, ap, subst, arith}
 use Rattle.mas_types.specs.declared.ids.Dev.{Dev}
-use Rattle.spool_disk.specs.View.{View, Disk, Apart, disk_now}
+use Rattle.spool_disk.specs.View.{View, Disk, Apart, disk_now, slice}
 use Rattle.mas_types.specs.Limits.{page_bytes}
 use Rattle.ckpt_copy.specs.declared.layout.TheConstants.{GATE_OPEN, GATE_CLOSED, FORM_AREAS}
 use Rattle.ckpt_copy.specs.Has.{Has}
@@ -9,7 +9,7 @@ use Rattle.ckpt_copy.specs.Changes.{Spreads, IsPut}
 use Rattle.ckpt_copy.specs.Reading.{AllRead, EachReads}
 use Rattle.ckpt_copy.specs.Meanwhile.{Meanwhile}
 use Rattle.ckpt_copy.specs.Pages.{level}
-use Rattle.ckpt_copy.specs.Areas.{reads, gate_of, start_of}
+use Rattle.ckpt_copy.specs.Areas.{reads, gate_of, start_of, area}
 use Rattle.ckpt_copy.specs.AreaStates.{Stands, Shut, Stale, Holds, Rests, Opening}
 use Rattle.ckpt_copy.specs.Slices.{stretch, has_spreads, has_put}
 use Rattle.ckpt_copy.specs.Images.{area_ready, stale_reads, area_rests_reads, area_holds_reads, opening_reads}
@@ -118,6 +118,12 @@ module _ (dev : Dev) (n : ℕ) (second : Bool) (pages next : List ℕ) (at len :
         filled = has_put (start_of n (not second)) (page_bytes * n) next (disk_now new dev) there;
         newer = newer;
       }
+
+-- the pages that were put, by the device's bytes
+pub put_written : (n : ℕ) (second : Bool) (next : List ℕ) (disk : Disk) (at len : ℕ) → at ≡ start_of n (not second) → len ≡ n
+    → IsPut at (page_bytes * len) next disk → area n (not second) disk.bytes ≡ next
+put_written n second next disk at len place many put =
+    sym (ap (λ (k : ℕ). slice at (page_bytes * k) disk.bytes) many ∙ ap (λ (a : ℕ). slice a (page_bytes * n) disk.bytes) place) ∙ put.there
 
 -- closing, as the call has it
 module _ (dev : Dev) (n : ℕ) (second stale : Bool) (pages : List ℕ) (at : ℕ) (old new : View) where

@@ -35,13 +35,14 @@ answer_found (Err NotValid) = Done
 answer_found (Err NoMemory) = Done
 
 -- A call of a member that acts on one device alone, with this answer: Failed is answered only where the device's faults
--- rose, and the device is lost then; Halted only where the member's stops rose; else no part is lost and
+-- rose, and the device is lost then; Halted only where the member's stops rose; else no part is lost, no fault is counted and
 -- nobody is stopped by it. It arms nothing.
 pub record Caused (by : ℕ) (dev : Dev) (old new : View) (answer : Act) : Type 0 where
   pub goes : Goes old new
   pub failed : answer ≡ Failed → Rose (old.faults (DiskPart dev)) (new.faults (DiskPart dev))
   pub is_lost : answer ≡ Failed → new.lost (DiskPart dev) ≡ true
   pub else_lost : (p : Part) → (p ≢ DiskPart dev) ⊎ (answer ≢ Failed) → new.lost p ≡ old.lost p
+  pub else_faults : (p : Part) → (p ≢ DiskPart dev) ⊎ (answer ≢ Failed) → new.faults p ≡ old.faults p
   pub halted : answer ≡ Halted → Rose (old.stops by) (new.stops by)
   pub not_operator : answer ≡ Halted → 0 < by
   pub no_other_stop : (m : ℕ) → (m ≢ by) ⊎ (answer ≢ Halted) → new.stops m ≡ old.stops m

@@ -1,7 +1,9 @@
 -- What the images of a device read as, in the areas form.
-use Rattle.std.proofs.Common.{◌≡◌, ◌⊎◌, inl, inr, ℕ, ◌+◌, ◌*◌, ◌<◌, Bool, true, false, not, List, [], ◌∷◌, length, slice_index, Some, refl, sym, ◌∙◌, subst, arith, ◌==◌}
+use Rattle.std.proofs.Common.{◌≡◌, ◌⊎◌, inl, inr, ℕ, zero, suc, ◌+◌, ◌*◌, ◌<◌, Bool, true, false, not, List, [], ◌∷◌, length, replicate, get_or, slice_index, Some, None, refl, sym, ◌∙◌, ap, subst, arith, ◌==◌}
 use Rattle.std.proofs.lemmas.Bool.Decides.{nat_tests}
+use Rattle.std.proofs.lemmas.List.{get_or-drop}
 use Rattle.spool_disk.specs.View.{Disk, slice}
+use Rattle.spool_disk.specs.Acts.{DiffersIn}
 use Rattle.mas_types.specs.Limits.{page_bytes}
 use Rattle.ckpt_copy.specs.declared.layout.TheConstants.{GATE_OPEN, FORM_AREAS}
 use Rattle.ckpt_copy.specs.Pages.{level}
@@ -17,9 +19,9 @@ pub reads_valid : (image : List ℕ) (n : ℕ) → is_valid image (length image)
 reads_valid image n valid count = rw (valid, count)
 
 valid_from : (image : List ℕ) (n : ℕ) → slice_index image 0 ≡ GATE_OPEN → slice_index image 1 ≡ FORM_AREAS → pages_in image ≡ n → IsReady n (length image) → is_valid image (length image) ≡ true
-valid_from image n zero one count ready =
+valid_from image n gate form count ready =
     let enough = ready.enough in let few = ready.few in let large = ready.large in
-    rw (zero, one, count) (grind (arith, nat_tests))
+    rw (gate, form, count) (grind (arith, nat_tests))
 
 -- where the other gate is closed, or the other pages don't win, the open area is chosen
 chosen_open : (second : Bool) (other : Bool) (pages rest : List ℕ) → (other ≡ true → Loses second pages rest)
@@ -109,3 +111,26 @@ opening_reads n second pages next disk opening image is =
           inr (reads_shows n true next image (record { valid = shows.valid; count = shows.count; gate = open_at _ gate; here = there }) (λ t. subst (λ (p : List ℕ). Loses true next p) (sym shows.here) loses))
       by_gate true shows there loses true gate =
           inr (reads_shows n false next image (record { valid = shows.valid; count = shows.count; gate = open_at _ gate; here = there }) (λ t. subst (λ (p : List ℕ). Loses false next p) (sym shows.here) loses))
+
+-- the form of a device of zeros, whatever its first byte is
+second_of : (n byte : ℕ) → get_or (replicate n byte) 1 byte ≡ byte
+second_of zero byte = refl
+second_of (suc zero) byte = refl
+second_of (suc (suc n)) byte = refl
+
+pub blank_form : (size : ℕ) (image : List ℕ) → DiffersIn 0 1 (replicate size 0) image → slice_index image 1 ≡ 0
+blank_form size image differs =
+    sym (get_or-drop 1 image 0 0) ∙ ap (λ (l : List ℕ). get_or l 0 0) differs.after ∙ get_or-drop 1 (replicate size 0) 0 0 ∙ second_of size 0
+
+-- a device of another form isn't valid
+form_other : (image : List ℕ) (size : ℕ) → (slice_index image 1 == FORM_AREAS) ≡ false → is_valid image size ≡ false
+form_other image size other = by_gate (is_open 0 image) refl where
+  by_gate : (b : Bool) → is_open 0 image ≡ b → is_valid image size ≡ false
+  by_gate true gate = rw (gate, other)
+  by_gate false gate = rw gate
+
+pub blank_none : (size : ℕ) (image : List ℕ) → DiffersIn 0 1 (replicate size 0) image → reads image ≡ None
+blank_none size image differs =
+    let other : (slice_index image 1 == FORM_AREAS) ≡ false = ap (λ (b : ℕ). b == FORM_AREAS) (blank_form size image differs) in
+    let invalid : is_valid image (length image) ≡ false = form_other image (length image) other in
+    rw invalid

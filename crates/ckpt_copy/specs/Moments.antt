@@ -21,10 +21,11 @@ goes_on old mid new first then = record {
   faults = λ p. omega (arith, first.faults p, then.faults p);
   stops = λ m. omega (arith, first.stops m, then.stops m);
   lost = λ p is. then.lost p (first.lost p is);
+  arms = λ m. then.arms m ∙ first.arms m;
 }
 
 pub goes_none : (v : View) → Goes v v
-goes_none v = record { later = omega arith; past = λ t le. refl; size = λ d. refl; faults = λ p. omega arith; stops = λ m. omega arith; lost = λ p is. is }
+goes_none v = record { later = omega arith; past = λ t le. refl; size = λ d. refl; faults = λ p. omega arith; stops = λ m. omega arith; lost = λ p is. is; arms = λ m. refl }
 
 -- a moment of a call of one act
 moment_of : (old new t : ℕ) → new ≤ old + 1 → old ≤ t → t ≤ new → (t ≡ old) ⊎ (t ≡ new)

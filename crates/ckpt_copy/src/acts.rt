@@ -1,5 +1,8 @@
-// Acts on a device, answered as a `Result`.
-ghost use Rattle.std.specs.Prelude.{◌≡◌, ◌⊎◌, ◌+◌, ◌*◌, ◌≤◌, [], length, OnOk, false};
+//! Acts on the device of a copy, answered as a `Result`.
+//!
+//! Places and lengths are in bytes. In each call Failed comes only where the device's faults rose in it, and the device is
+//! lost then; Halted only where the stops of `by` rose. No call changes another device, the console, a printer or a wire.
+ghost use Rattle.std.specs.Prelude.{◌≡◌, ◌⊎◌, ◌+◌, ◌*◌, ◌≤◌, [], length, OnOk, IfOk, false};
 ghost use Rattle.mas_types.specs.Limits.{page_bytes, pages_most};
 ghost use Rattle.spool_disk.specs.declared.plant.Part.TheVariants.{Disk as DiskPart};
 ghost use Rattle.spool_disk.specs.Acts.{next};
@@ -10,7 +13,8 @@ ghost use Rattle.ckpt_copy.specs.Meanwhile.{Meanwhile};
 ghost use Rattle.ckpt_copy.specs.Pages.{bytes_of};
 
 use crate::copying::CopyNo;
-use crate::layout::{BLOCK, bytes_in};
+use crate::layout::BLOCK;
+use mas_types::limits::PAGE_BYTES;
 use mas_types::{Dev, MemberId, Page};
 use spool_disk::{Act, Plant};
 
@@ -24,7 +28,8 @@ fn answered(act: Act) -> Result<(), CopyNo>
     }
 }
 
-pub(crate) fn write_act<P: Plant>(
+/// Writes bytes, without a sync: a crash may leave any bytes there, and no others are touched.
+pub fn write_act<P: Plant>(
     plant: &mut P,
     by: MemberId,
     dev: Dev,
@@ -35,16 +40,19 @@ pub(crate) fn write_act<P: Plant>(
     ensures cause { Caused by.0 dev (P.view plant.old) (P.view plant.new) (answer_of result) }
     ensures out { P.tells → IsOut dev (P.view plant.new) (answer_of result) }
     ensures there { OnOk result ((P.view plant.new).lost (DiskPart dev) ≡ false) }
+    ensures one { (P.view plant.new).now ≡ next (P.view plant.old).now }
     ensures during { P.tells → Meanwhile dev (Spreads at (length bytes.now) (disk_now (P.view plant.old) dev)) (P.view plant.old) (P.view plant.new) }
     ensures put { OnOk result (P.tells → slice at (length bytes.now) (disk_now (P.view plant.new) dev).bytes ≡ bytes.now) }
 {
     answered(plant.write(by, dev, at, bytes))
 }
 
-pub(crate) fn sync_act<P: Plant>(plant: &mut P, by: MemberId, dev: Dev) -> Result<(), CopyNo>
+/// Syncs the device: what it has then is what each crash leaves of it. No byte changes.
+pub fn sync_act<P: Plant>(plant: &mut P, by: MemberId, dev: Dev) -> Result<(), CopyNo>
     ensures cause { Caused by.0 dev (P.view plant.old) (P.view plant.new) (answer_of result) }
     ensures out { P.tells → IsOut dev (P.view plant.new) (answer_of result) }
     ensures there { OnOk result ((P.view plant.new).lost (DiskPart dev) ≡ false) }
+    ensures one { (P.view plant.new).now ≡ next (P.view plant.old).now }
     ensures during { P.tells → Meanwhile dev (Spreads 0 0 (disk_now (P.view plant.old) dev)) (P.view plant.old) (P.view plant.new) }
     ensures synced { OnOk result (P.tells → ((disk_now (P.view plant.new) dev).unsynced ≡ [])
         × ((disk_now (P.view plant.new) dev).bytes ≡ (disk_now (P.view plant.old) dev).bytes)) }
@@ -52,8 +60,8 @@ pub(crate) fn sync_act<P: Plant>(plant: &mut P, by: MemberId, dev: Dev) -> Resul
     answered(plant.sync(by, dev))
 }
 
-// Writes bytes and syncs them.
-pub(crate) fn write_synced<P: Plant>(
+/// Writes bytes and syncs the device.
+pub fn write_synced<P: Plant>(
     plant: &mut P,
     by: MemberId,
     dev: Dev,
@@ -69,6 +77,14 @@ pub(crate) fn write_synced<P: Plant>(
 {
     write_act(plant, by, dev, at, bytes)?;
     sync_act(plant, by, dev)
+}
+
+/// The bytes of a page, `PAGE_BYTES` of them.
+pub fn bytes_in(page: &Page) -> &[u8]
+    ensures size { length result.now ≡ page_bytes }
+    ensures bytes { result.now ≡ page.now.0 }
+{
+    &page.0
 }
 
 // Writes pages one after another.
@@ -95,8 +111,8 @@ fn write_each<P: Plant>(
     Ok(())
 }
 
-// Writes pages one after another, and syncs them.
-pub(crate) fn write_pages<P: Plant>(
+/// Writes pages one after another, and syncs the device.
+pub fn write_pages<P: Plant>(
     plant: &mut P,
     by: MemberId,
     dev: Dev,
@@ -116,8 +132,8 @@ pub(crate) fn write_pages<P: Plant>(
     sync_act(plant, by, dev)
 }
 
-// Reads as many bytes as there is room for.
-pub(crate) fn read_act<P: Plant>(
+/// Reads as many bytes as there is room for. After an error nothing is said of `into`.
+pub fn read_act<P: Plant>(
     plant: &mut P,
     by: MemberId,
     dev: Dev,
@@ -133,4 +149,20 @@ pub(crate) fn read_act<P: Plant>(
     ensures read { OnOk result (P.tells → IsRead at (length into.old) into.new (disk_now (P.view plant.old) dev) (disk_now (P.view plant.new) dev)) }
 {
     answered(plant.read(by, dev, at, into))
+}
+
+/// Reads the page that begins there.
+pub fn read_block<P: Plant>(plant: &mut P, by: MemberId, dev: Dev, at: u64) -> Result<Page, CopyNo>
+    requires { at + page_bytes ≤ (P.view plant.old).size dev }
+    ensures one { (P.view plant.new).now ≡ next (P.view plant.old).now }
+    ensures cause { Caused by.0 dev (P.view plant.old) (P.view plant.new) (answer_of result) }
+    ensures out { P.tells → IsOut dev (P.view plant.new) (answer_of result) }
+    ensures there { OnOk result ((P.view plant.new).lost (DiskPart dev) ≡ false) }
+    ensures during { P.tells → Meanwhile dev (NoMore (disk_now (P.view plant.old) dev)) (P.view plant.old) (P.view plant.new) }
+    ensures same { OnOk result (P.tells → disk_now (P.view plant.new) dev ≡ disk_now (P.view plant.old) dev) }
+    ensures page { IfOk result (λ page. P.tells → page.0 ≡ slice at page_bytes (disk_now (P.view plant.old) dev).bytes) }
+{
+    let mut page = Page([0; PAGE_BYTES]);
+    read_act(plant, by, dev, at, &mut page.0)?;
+    Ok(page)
 }

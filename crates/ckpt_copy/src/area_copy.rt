@@ -12,12 +12,12 @@ ghost use Rattle.ckpt_copy.specs.Reading.{AllRead, EachReads, EachForms};
 ghost use Rattle.ckpt_copy.specs.Areas.{areas_size, area};
 ghost use Rattle.ckpt_copy.specs.Areas.{reads as area_reads};
 ghost use Rattle.ckpt_copy.specs.AreaStates.{IsReady, Rests, Shut, Holds, Formed};
-ghost use Rattle.ckpt_copy.specs.Images.{area_ready, area_rests_reads, area_rests_now, area_holds_reads};
+ghost use Rattle.ckpt_copy.specs.Images.{area_ready, area_rests_reads, area_rests_now, area_holds_reads, blank_none};
 ghost use Rattle.ckpt_copy.specs.Staying.{area_holds_rests, area_rests_stays, area_holds_stays};
 
-use crate::acts::{sync_act, write_act, write_pages, write_synced};
+use crate::acts::{read_block, sync_act, write_act, write_pages, write_synced};
 use crate::copying::{CopyNo, Copying, FindNo};
-use crate::finding::{choose_area, other_gate, read_head, read_one, read_pages};
+use crate::finding::{choose_area, other_gate, read_head, read_pages};
 use crate::layout::{
     BLOCK, GATE_CLOSED, GATE_OPEN, HEAD_AT, VALID_AT, area_gate, area_start, areas_head,
     size_of_areas,
@@ -114,6 +114,8 @@ impl Copying for AreaCopy {
 
     ghost behind = { λ c bytes. area c.pages (not c.second) bytes };
 
+    ghost written = { λ c numbers pages disk. area c.pages (not c.second) disk.bytes ≡ pages };
+
     ghost room_in = { λ bytes. 1 };
 
     ghost rests = { λ c was disk. Rests c.pages c.second c.stale was disk };
@@ -135,6 +137,8 @@ impl Copying for AreaCopy {
     ghost rests_stays = { λ c pages old new stays rests. area_rests_stays old new stays c.pages c.second c.stale pages rests };
 
     ghost holds_stays = { λ c was next old new stays holds. area_holds_stays old new stays c.pages c.second c.stale was next holds };
+
+    ghost blank_reads = { λ size image differs. blank_none size image differs };
 
     ghost holds_behind = { λ c was next disk holds. holds.filled.there };
 
@@ -191,7 +195,7 @@ impl Copying for AreaCopy {
         into: &mut Page,
     ) -> Result<(), CopyNo> {
         let at = area_start(self.pages, self.second) + BLOCK * page as u64;
-        *into = read_one(plant, by, self.dev, at)?;
+        *into = read_block(plant, by, self.dev, at)?;
         Ok(())
     }
 

@@ -1,8 +1,8 @@
 // A copy of the checkpoint on one device, of any form.
-ghost use Rattle.std.specs.Prelude.{◌≡◌, ◌⊎◌, ℕ, ◌+◌, ◌*◌, ◌≤◌, ◌<◌, [], ◌∷◌, List, length, OnOk, OnErr, IfOk, IsErrOf, Option, Some, None, false};
+ghost use Rattle.std.specs.Prelude.{◌≡◌, ◌⊎◌, ℕ, ◌+◌, ◌*◌, ◌≤◌, ◌<◌, [], ◌∷◌, List, length, replicate, OnOk, OnErr, IfOk, IsErrOf, Option, Some, None, false};
 ghost use Rattle.mas_types.specs.declared.ids.Dev.{Dev};
 ghost use Rattle.spool_disk.specs.View.{View, Disk, disk_now};
-ghost use Rattle.spool_disk.specs.Acts.{Goes, next};
+ghost use Rattle.spool_disk.specs.Acts.{Goes, DiffersIn, next};
 ghost use Rattle.spool_disk.specs.declared.plant.Part.TheVariants.{Disk as DiskPart};
 ghost use Rattle.mas_types.specs.Limits.{pages_least, pages_most};
 ghost use Rattle.ckpt_copy.specs.Causes.{Caused, IsOut, answer_of, answer_found, found_no, no_memory};
@@ -96,6 +96,9 @@ pub trait Copying {
 
     /// What stands behind the closed gate that `open_gate` opens.
     ghost behind: { Self → List ℕ → List ℕ };
+
+    /// What a put of the pages with these numbers, out of all these pages, leaves behind the closed gate.
+    ghost written: { Self → List ℕ → List ℕ → Disk → Type 0 };
 
     /// The puts possible before a settle, of the bytes alone.
     ghost room_in: { List ℕ → ℕ };
@@ -206,7 +209,8 @@ pub trait Copying {
             → Meanwhile (dev self.old) (AllRead reads was) (P.view plant.old) (P.view plant.new) }
         ensures held { OnOk result (P.tells → (was : List ℕ) → rests self.old was (disk_now (P.view plant.old) (dev self.old))
             → level was < level (bytes_of pages.now) → Covers (count self.old) changed.now was (bytes_of pages.now)
-            → holds self.new was (bytes_of pages.now) (disk_now (P.view plant.new) (dev self.old))) };
+            → holds self.new was (bytes_of pages.now) (disk_now (P.view plant.new) (dev self.old))) }
+        ensures written { OnOk result (P.tells → written self.new changed.now (bytes_of pages.now) (disk_now (P.view plant.new) (dev self.old))) };
 
     /// Opens the gate before the pages that the last `put` wrote, and syncs it. Without such a put nothing is said of what
     /// the copy reads afterwards.
@@ -274,6 +278,9 @@ pub trait Copying {
 
     /// And they leave the pages that wait.
     ghost holds_stays: { (copy : Self) (was next : List ℕ) (old new : Disk) → NoMore old new → holds copy was next old → holds copy was next new };
+
+    /// A device of zeros reads as none, whatever stands in its VALID gate.
+    ghost blank_reads: { (size : ℕ) (image : List ℕ) → DiffersIn 0 1 (replicate size 0) image → reads image ≡ None };
 
     /// The pages that wait stand on the device.
     ghost holds_behind: { (copy : Self) (was next : List ℕ) (disk : Disk) → holds copy was next disk → behind copy disk.bytes ≡ next };

@@ -2,7 +2,6 @@
 ghost use Rattle.std.specs.Prelude.{◌≡◌, ◌⊎◌, ◌+◌, ◌*◌, ◌≤◌, ◌<◌, [], length, OnOk, IfOk, IfSome, IsErrOf, Some, None, false, if◌then◌else◌};
 ghost use Rattle.mas_types.specs.Limits.{page_bytes, pages_most};
 ghost use Rattle.spool_disk.specs.declared.plant.Part.TheVariants.{Disk as DiskPart};
-ghost use Rattle.spool_disk.specs.Acts.{next};
 ghost use Rattle.spool_disk.specs.View.{disk_now, slice};
 ghost use Rattle.ckpt_copy.specs.Causes.{Caused, IsOut, answer_of, answer_found};
 ghost use Rattle.ckpt_copy.specs.Changes.{NoMore};
@@ -11,10 +10,10 @@ ghost use Rattle.ckpt_copy.specs.Pages.{bytes_of};
 ghost use Rattle.ckpt_copy.specs.AreaStates.{IsReady};
 ghost use Rattle.ckpt_copy.specs.Found.{IsHeadIn, area_chosen, level_from};
 
-use crate::acts::read_act;
+use crate::acts::{read_act, read_block};
 use crate::copying::{CopyNo, FindNo};
 use crate::layout::{BLOCK, FORM_AREAS, GATE_OPEN, area_start, size_of_areas};
-use mas_types::limits::{PAGE_BYTES, PAGES_LEAST, PAGES_MOST};
+use mas_types::limits::{PAGES_LEAST, PAGES_MOST};
 use mas_types::{Dev, List, MemberId, Page};
 use spool_disk::Plant;
 use std::alloc::Global;
@@ -120,27 +119,6 @@ pub(crate) fn choose_area<P: Plant>(
     }
 }
 
-// Reads a page.
-pub(crate) fn read_one<P: Plant>(
-    plant: &mut P,
-    by: MemberId,
-    dev: Dev,
-    at: u64,
-) -> Result<Page, CopyNo>
-    requires { at + page_bytes ≤ (P.view plant.old).size dev }
-    ensures one { (P.view plant.new).now ≡ next (P.view plant.old).now }
-    ensures cause { Caused by.0 dev (P.view plant.old) (P.view plant.new) (answer_of result) }
-    ensures out { P.tells → IsOut dev (P.view plant.new) (answer_of result) }
-    ensures there { OnOk result ((P.view plant.new).lost (DiskPart dev) ≡ false) }
-    ensures during { P.tells → Meanwhile dev (NoMore (disk_now (P.view plant.old) dev)) (P.view plant.old) (P.view plant.new) }
-    ensures same { OnOk result (P.tells → disk_now (P.view plant.new) dev ≡ disk_now (P.view plant.old) dev) }
-    ensures page { IfOk result (λ page. P.tells → page.0 ≡ slice at page_bytes (disk_now (P.view plant.old) dev).bytes) }
-{
-    let mut page = Page([0; PAGE_BYTES]);
-    read_act(plant, by, dev, at, &mut page.0)?;
-    Ok(page)
-}
-
 // Reads pages one after another.
 pub(crate) fn read_pages<P: Plant>(
     alloc: Global,
@@ -165,7 +143,7 @@ pub(crate) fn read_pages<P: Plant>(
     let mut pages = List::new(alloc);
     for place in 0..count {
         let at = start + BLOCK * place as u64;
-        let page = read_one(plant, by, dev, at)?;
+        let page = read_block(plant, by, dev, at)?;
         pages.push(page)?;
     }
     Ok(pages)

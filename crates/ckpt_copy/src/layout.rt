@@ -1,9 +1,7 @@
 // Where the parts of a copy stand.
-ghost use Rattle.std.specs.Prelude.{◌≡◌, ◌+◌, ◌*◌, ◌/◌, ◌%◌, ◌≤◌, ◌<◌, ◌∷◌, [], length};
-ghost use Rattle.mas_types.specs.Limits.{page_bytes};
+ghost use Rattle.std.specs.Prelude.{◌≡◌, ◌+◌, ◌*◌, ◌/◌, ◌%◌, ◌≤◌, ◌<◌, ◌∷◌, []};
 ghost use Rattle.ckpt_copy.specs.Areas.{areas_size, start_of, gate_of, block_head};
 
-use mas_types::Page;
 use mas_types::limits::PAGE_BYTES;
 
 // The bytes of a page, and of block 0.
@@ -12,17 +10,17 @@ pub(crate) const BLOCK: u64 = PAGE_BYTES as u64;
 /// The byte of an open gate. A gate with any other byte is closed.
 pub const GATE_OPEN: u8 = 0xA5;
 
-// The byte that closes a gate.
-pub(crate) const GATE_CLOSED: u8 = 0;
+/// The byte that closes a gate.
+pub const GATE_CLOSED: u8 = 0;
 
 /// The form of a copy of two areas.
 pub const FORM_AREAS: u8 = 1;
 
-// Where the VALID gate stands.
-pub(crate) const VALID_AT: u64 = 0;
+/// Where the VALID gate stands, in bytes from the first of the device.
+pub const VALID_AT: u64 = 0;
 
-// Where the rest of block 0 begins.
-pub(crate) const HEAD_AT: u64 = 1;
+/// Where the rest of block 0 begins.
+pub const HEAD_AT: u64 = 1;
 
 // Where the gate of the first area stands. That of the second stands behind it.
 const GATES_AT: u64 = 8;
@@ -58,11 +56,4 @@ pub(crate) fn areas_head(pages: u16) -> [u8; 9]
 {
     let [high, low] = pages.to_be_bytes();
     [FORM_AREAS, high, low, 0, 0, 0, 0, GATE_OPEN, GATE_CLOSED]
-}
-
-pub(crate) fn bytes_in(page: &Page) -> &[u8]
-    ensures size { length result.now ≡ page_bytes }
-    ensures bytes { result.now ≡ page.now.0 }
-{
-    &page.0
 }

@@ -10,7 +10,7 @@
 //! is out of range, the device is too small for two areas of n pages, or no area is open.
 #![tactic(auto)]
 
-mod acts;
+pub mod acts;
 mod area_copy;
 mod copying;
 mod finding;
@@ -18,4 +18,4 @@ mod layout;
 
 pub use area_copy::AreaCopy;
 pub use copying::{CopyNo, Copying, FindNo};
-pub use layout::{FORM_AREAS, GATE_OPEN};
+pub use layout::{FORM_AREAS, GATE_CLOSED, GATE_OPEN, HEAD_AT, VALID_AT};

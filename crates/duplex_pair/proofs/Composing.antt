@@ -49,6 +49,7 @@ module _ (by : ℕ) (old new : View) (a a' b : Bool) (stopped : Bool) where
         is_lost1 = x.is_lost;
         is_lost2 = λ is not. absurd (no b is not);
         else_lost = λ p one two. x.else_lost p one;
+        else_faults = λ p one two. x.else_faults p one;
         halted = x.halted;
         not_operator = x.not_operator;
         stands = λ is. or_left a' b (x.stands is);
@@ -68,6 +69,7 @@ module _ (by : ℕ) (old new : View) (a a' b : Bool) (stopped : Bool) where
         is_lost1 = λ is not. absurd (no b is not);
         is_lost2 = x.is_lost;
         else_lost = λ p one two. x.else_lost p two;
+        else_faults = λ p one two. x.else_faults p two;
         halted = x.halted;
         not_operator = x.not_operator;
         stands = λ is. or_right b a' (x.stands is);
@@ -93,6 +95,7 @@ module _ (by : ℕ) (old mid new : View) (a a' a'' b b' b'' stopped : Bool) wher
     is_lost1 = λ was not. is_lost Ckpt1 a' (x.is_lost1 was) (λ is. y.is_lost1 is not);
     is_lost2 = λ was not. is_lost Ckpt2 b' (x.is_lost2 was) (λ is. y.is_lost2 is not);
     else_lost = λ p one two. y.else_lost p (late p Ckpt1 a a' a'' y.alive1 x.alive1 one) (late p Ckpt2 b b' b'' y.alive2 x.alive2 two) ∙ x.else_lost p (early p Ckpt1 a a' a'' y.alive1 x.alive1 one) (early p Ckpt2 b b' b'' y.alive2 x.alive2 two);
+    else_faults = λ p one two. y.else_faults p (late p Ckpt1 a a' a'' y.alive1 x.alive1 one) (late p Ckpt2 b b' b'' y.alive2 x.alive2 two) ∙ x.else_faults p (early p Ckpt1 a a' a'' y.alive1 x.alive1 one) (early p Ckpt2 b b' b'' y.alive2 x.alive2 two);
     halted = λ is. rose_later (old.stops by) (mid.stops by) (new.stops by) (x.goes.stops by) (y.halted is);
     not_operator = y.not_operator;
     stands = y.stands;

@@ -3,3 +3,5 @@ pub mod FirstLevel
 pub mod Mends
 pub mod Numbers
 pub mod Chosen
+pub mod FindActs
+pub mod Replaces

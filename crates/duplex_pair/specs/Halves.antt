@@ -34,6 +34,7 @@ pub record Acted (by : ℕ) (dev : Dev) (was is stopped : Bool) (old new : View)
   pub failed : was ≡ true → is ≡ false → Rose (old.faults (DiskPart dev)) (new.faults (DiskPart dev))
   pub is_lost : was ≡ true → is ≡ false → new.lost (DiskPart dev) ≡ true
   pub else_lost : (p : Part) → (p ≢ DiskPart dev) ⊎ (is ≡ was) → new.lost p ≡ old.lost p
+  pub else_faults : (p : Part) → (p ≢ DiskPart dev) ⊎ (is ≡ was) → new.faults p ≡ old.faults p
   pub halted : stopped ≡ true → Rose (old.stops by) (new.stops by)
   pub not_operator : stopped ≡ true → 0 < by
   pub stands : stopped ≡ true → is ≡ true

@@ -6,7 +6,7 @@ use Rattle.duplex_pair.specs.declared.errors.PairNo.TheVariants.{BothLost, Halte
 use Rattle.duplex_pair.specs.declared.errors.LookNo.{LookNo}
 use Rattle.duplex_pair.specs.declared.errors.LookNo.TheVariants.{Halted as LookHalted, NoMemory as LookNoMemory}
 use Rattle.duplex_pair.specs.declared.errors.PairFindNo.{PairFindNo}
-use Rattle.duplex_pair.specs.declared.errors.PairFindNo.TheVariants.{Halted as FindHalted, NoMemory as FindNoMemory}
+use Rattle.duplex_pair.specs.declared.errors.PairFindNo.TheVariants.{BothLost as FindBothLost, Halted as FindHalted, NotValid, NoMemory as FindNoMemory}
 
 -- the member was stopped in a call on one copy
 abbrev pub half_stopped : {T : Type 0} → Result T Halted → Bool
@@ -24,6 +24,14 @@ abbrev pub look_stopped : {T : Type 0} → Result T LookNo → Bool
 look_stopped (Ok value) = false
 look_stopped (Err LookHalted) = true
 look_stopped (Err LookNoMemory) = false
+
+-- in a find
+abbrev pub find_stopped : {T : Type 0} → Result T PairFindNo → Bool
+find_stopped (Ok value) = false
+find_stopped (Err FindBothLost) = false
+find_stopped (Err FindHalted) = true
+find_stopped (Err NotValid) = false
+find_stopped (Err FindNoMemory) = false
 
 abbrev pub pair_halted : PairNo
 pair_halted = PairHalted

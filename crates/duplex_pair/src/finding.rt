@@ -1,17 +1,20 @@
 // The pages that two copies give together.
-ghost use Rattle.std.specs.Prelude.{◌≡◌, ◌≢◌, ◌⊎◌, ◌&&◌, not, ℕ, OnOk, IfOk, IsErrOf, true, false};
+ghost use Rattle.std.specs.Prelude.{◌≡◌, ◌≢◌, ◌⊎◌, ◌&&◌, not, ℕ, OnOk, OnErr, IfOk, IsErrOf, true, false};
+ghost use Rattle.mas_types.specs.declared.ids.Dev.{Dev as DevLem};
 ghost use Rattle.mas_types.specs.declared.ids.Dev.TheVariants.{Ckpt1, Ckpt2};
 ghost use Rattle.spool_disk.specs.View.{disk_now};
-ghost use Rattle.spool_disk.specs.Acts.{Goes, Rose};
+ghost use Rattle.spool_disk.specs.Acts.{Goes, Loses};
 ghost use Rattle.spool_disk.specs.declared.plant.Part.{Part};
 ghost use Rattle.spool_disk.specs.declared.plant.Part.TheVariants.{Disk};
 ghost use Rattle.ckpt_copy.specs.Changes.{NoMore};
 ghost use Rattle.ckpt_copy.specs.Pages.{bytes_of, level};
-ghost use Rattle.duplex_pair.specs.declared.errors.PairFindNo.TheVariants.{BothLost as FindNoBothLost, Halted as FindNoHalted, NotValid as FindNoNotValid};
+ghost use Rattle.duplex_pair.specs.declared.errors.PairFindNo.TheVariants.{BothLost as FindNoBothLost, NotValid as FindNoNotValid};
 ghost use Rattle.ckpt_copy.specs.Meanwhile.{Meanwhile};
 ghost use Rattle.ckpt_copy.specs.Reading.{IsNone};
 ghost use Rattle.duplex_pair.specs.Halves.{IsCkpt, pick, other, IsBothLost, SomeAlive};
 ghost use Rattle.duplex_pair.specs.Both.{BothMeanwhile};
+ghost use Rattle.duplex_pair.specs.Finds.{PairFound};
+ghost use Rattle.duplex_pair.specs.Outcomes.{find_stopped};
 ghost use Rattle.duplex_pair.specs.Founds.{better, chosen, goes_away, WasChosen};
 
 use crate::errors::{Look, PairFindNo};
@@ -64,6 +67,7 @@ impl<C: Copying + Drop> Pair<C> {
         ensures found { (pick dev self.new.first self.new.second).found ≡ (pick dev self.old.first self.old.second).found }
         ensures alive { (pick dev self.new.first self.new.second).alive ≡ ((pick dev self.old.first self.old.second).alive && not goes) }
         ensures goes { Goes (P.view plant.old) (P.view plant.new) }
+        ensures loses { goes ≡ true → Loses (Disk dev) (P.view plant.old) (P.view plant.new) }
         ensures is_lost { goes ≡ true → (P.view plant.new).lost (Disk dev) ≡ true }
         ensures else_lost { (p : Part) → (p ≢ Disk dev) ⊎ (goes ≡ false) → (P.view plant.new).lost p ≡ (P.view plant.old).lost p }
         ensures during { P.tells → Meanwhile dev (NoMore (disk_now (P.view plant.old) dev)) (P.view plant.old) (P.view plant.new) }
@@ -75,9 +79,9 @@ impl<C: Copying + Drop> Pair<C> {
     }
 
     /// Finds the pages of greatest level, those of CKPT1 on a tie: each copy is synced and then read. One that can't be read
-    /// is lost where the other can. The device of a copy that counts as lost has to be lost.
+    /// is lost, by one call, where the other can. The device of a copy that counts as lost has to be lost.
     ///
-    /// BothLost comes exactly where both copies count as lost after the looks, NotValid exactly where one doesn't and none
+    /// After an error no copy was lost by a call. BothLost comes exactly where both copies count as lost after the looks, NotValid exactly where one doesn't and none
     /// reads. At each moment of the call an image of a copy is one of before it.
     pub fn find<P: Plant>(
         &mut self,
@@ -87,8 +91,8 @@ impl<C: Copying + Drop> Pair<C> {
     ) -> Result<List<Page>, PairFindNo>
         requires lost1 { self.old.first.alive ≡ false → (P.view plant.old).lost (Disk Ckpt1) ≡ true }
         requires lost2 { self.old.second.alive ≡ false → (P.view plant.old).lost (Disk Ckpt2) ≡ true }
-        ensures goes { Goes (P.view plant.old) (P.view plant.new) }
-        ensures halted { IsErrOf result FindNoHalted → Rose ((P.view plant.old).stops by.0) ((P.view plant.new).stops by.0) }
+        ensures acted { PairFound by.0 self.old.first.alive self.new.first.alive self.old.second.alive self.new.second.alive (find_stopped result) (P.view plant.old) (P.view plant.new) }
+        ensures unlost { OnErr result ((d : DevLem) → (P.view plant.new).loses d ≡ (P.view plant.old).loses d) }
         ensures lost1 { self.new.first.alive ≡ false → (P.view plant.new).lost (Disk Ckpt1) ≡ true }
         ensures lost2 { self.new.second.alive ≡ false → (P.view plant.new).lost (Disk Ckpt2) ≡ true }
         ensures both { IsErrOf result FindNoBothLost → IsBothLost self.new.first.alive self.new.second.alive }

@@ -18,11 +18,12 @@ disk_part d e same = cc
 pub done_acts : (s : Shown) (by : ℕ) (part : Part) → s.now < top → (view_of s).lost part ≡ false → Acts by part (view_of s) (view_of (done_by s)) Done
 done_acts s by part below whole = record {
   time = omega (arith, below);
-  goes = record { later = omega arith; past = λ t le. refl; size = λ d. refl; faults = λ p. omega arith; stops = λ m. omega arith; lost = λ p is. is };
+  goes = record { later = omega arith; past = λ t le. refl; size = λ d. refl; faults = λ p. omega arith; stops = λ m. omega arith; lost = λ p is. is; arms = λ m. refl };
   failed = λ f. absurd (cc);
   is_lost = λ f. absurd (cc);
   stays_lost = λ was f. absurd (cc);
   else_lost = λ p other. refl;
+  else_faults = λ p other. refl;
   halted = λ f. absurd (cc);
   not_operator = λ f. absurd (cc);
   no_other_stop = λ m other. refl;
@@ -45,11 +46,13 @@ module _ (s : Shown) (part : Part) (there : place_of part < length s.parts) (sma
           faults = λ p. health_each s.parts (place_of part) new there (λ n g. (health_at s.parts n).faults ≤ g.faults) (omega (arith, fits)) (λ n. omega arith) (place_of p);
           stops = λ m. omega arith;
           lost = λ p is. health_each s.parts (place_of part) new there (λ n g. (health_at s.parts n).lost ≡ true → g.lost ≡ true) (λ was. refl) (λ n was. was) (place_of p) is;
+          arms = λ m. refl;
         };
         failed = λ f. omega (arith, ap (λ (g : Health). g.faults) here);
         is_lost = λ f. ap (λ (g : Health). g.lost) here;
         stays_lost = λ was f. absurd (cc);
         else_lost = λ p other. ap (λ (g : Health). g.lost) (health_other s.parts (place_of part) new there (place_of p) (λ same. ⊎_elim (λ ne. ne (place_same p part same)) (λ f. f refl) other));
+        else_faults = λ p other. ap (λ (g : Health). g.faults) (health_other s.parts (place_of part) new there (place_of p) (λ same. ⊎_elim (λ ne. ne (place_same p part same)) (λ f. f refl) other));
         halted = λ f. absurd (cc);
         not_operator = λ f. absurd (cc);
         no_other_stop = λ m other. refl;
@@ -73,6 +76,7 @@ lost_loses s dev there counted_there fits small =
         faults = λ p. omega (arith, faults p);
         stops = λ m. omega arith;
         lost = λ p is. health_each s.parts place new there (λ n g. (health_at s.parts n).lost ≡ true → g.lost ≡ true) (λ was. refl) (λ n was. was) (place_of p) is;
+        arms = λ m. refl;
       };
       is_lost = ap (λ (g : Health). g.lost) (health_same s.parts place new there place refl);
       else_lost = λ p ne. ap (λ (g : Health). g.lost) (health_other s.parts place new there (place_of p) (λ same. ne (place_same p (Disk dev) same)));

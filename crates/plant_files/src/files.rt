@@ -62,13 +62,18 @@ fn ends_a_line<F: FileExt + Seek>(file: &mut F) -> io::Result<bool> {
     Ok(last[0] == b'\n')
 }
 
+// Adds a line at the end of a file, which ends a line.
+pub(crate) fn add_line<F: Write + Seek>(file: &mut F, line: &[u8]) -> io::Result<()> {
+    file.seek(SeekFrom::End(0))?;
+    write_line(file, line)
+}
+
 // Adds a line at the end of a file. One before it that was cut off gets its end first.
 pub(crate) fn append_line<F: FileExt + Write + Seek>(file: &mut F, line: &[u8]) -> io::Result<()> {
     if !ends_a_line(file)? {
         append(file, b"\n")?;
     }
-    file.seek(SeekFrom::End(0))?;
-    write_line(file, line)
+    add_line(file, line)
 }
 
 // The next bytes of a file, as many as one read gives.

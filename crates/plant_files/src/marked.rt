@@ -1,5 +1,5 @@
 //! A file of the folder, and the mark beside it.
-use crate::files::{append_line, not_there, read_at, sync_written};
+use crate::files::{add_line, append_line, not_there, read_at, sync_written};
 use crate::hold::{FolderError, Opening, lock};
 use std::alloc::{AllocError, Global};
 use std::fs::{self, File, OpenFile, OpenOptions};
@@ -46,6 +46,8 @@ enum Paper {
 pub(crate) struct Marked<F: Drop> {
     kept: Kept<F>,
     paper: Paper,
+    // The last line that this run added has its end.
+    is_whole: bool,
     path: String,
     mark: String,
 }
@@ -110,6 +112,7 @@ pub(crate) fn open_marked<R: Files>(
     Ok(Marked {
         kept: open_kept(rt, path.as_str(), mark.as_str(), how),
         paper: Paper::Synced,
+        is_whole: false,
         path,
         mark,
     })
@@ -149,6 +152,7 @@ impl<F: Drop> Marked<F> {
     // Another file comes in its place.
     pub(crate) fn put(&mut self, file: F) {
         self.kept = Kept::Open(file);
+        self.is_whole = false;
     }
 }
 
@@ -204,12 +208,18 @@ impl<F: Read + Write + Seek + FileExt + OpenFile + Drop> Marked<F> {
     }
 
     pub(crate) fn print(&mut self, line: &[u8]) -> io::Result<()> {
+        let is_whole = self.is_whole;
         let file = self.file()?;
-        let printed = append_line(file, line);
+        let printed = if is_whole {
+            add_line(file, line)
+        } else {
+            append_line(file, line)
+        };
         if printed.is_err() {
             // The printer is lost, and no batch says of the lines since the last sync that they are printed.
             let _ = sync_written(file);
         }
+        self.is_whole = printed.is_ok();
         self.note_line(printed.is_ok());
         printed
     }

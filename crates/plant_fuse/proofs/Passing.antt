@@ -66,11 +66,13 @@ module _ (by : ℕ) (part : Part) (old new : View) (hs hs' : List Halved) (stops
       faults = act.goes.faults;
       stops = λ m. omega (arith, act.goes.stops m);
       lost = act.goes.lost;
+      arms = λ m. refl;
     };
     failed = act.failed;
     is_lost = act.is_lost;
     stays_lost = act.stays_lost;
     else_lost = act.else_lost;
+    else_faults = act.else_faults;
     halted = λ f. let rose = act.halted f in omega (arith, rose);
     not_operator = act.not_operator;
     no_other_stop = λ m ne. ap (λ (k : ℕ). k + slice_index stops m) (act.no_other_stop m ne);
@@ -90,11 +92,13 @@ module _ (by : ℕ) (part : Part) (old new : View) (hs hs' : List Halved) (stops
       faults = act.goes.faults;
       stops = λ m. omega (arith, act.goes.stops m, rises stops by m fits there);
       lost = act.goes.lost;
+      arms = λ m. refl;
     };
     failed = λ f. absurd (cc);
     is_lost = λ f. absurd (cc);
     stays_lost = λ was f. absurd (cc);
     else_lost = λ p other. act.else_lost p (inr (λ f. absurd (cc)));
+    else_faults = λ p other. act.else_faults p (inr (λ f. absurd (cc)));
     halted = λ f. let same : slice_index (counted stops by) by ≡ next (slice_index stops by) = get_or-set_same stops by _ 0 there in omega (arith, same, act.goes.stops by);
     not_operator = λ f. member;
     no_other_stop = λ m other. ⊎_elim
@@ -129,6 +133,7 @@ passed_loses part old new hs stops arms act = record {
     faults = act.goes.faults;
     stops = λ m. omega (arith, act.goes.stops m);
     lost = act.goes.lost;
+    arms = λ m. refl;
   };
   is_lost = act.is_lost;
   else_lost = act.else_lost;
@@ -145,7 +150,7 @@ abbrev pub with_lost : View → (Part → Bool) → View
 with_lost v lost = record { now = v.now; world = v.world; size = v.size; lost = lost; faults = v.faults; stops = v.stops; loses = v.loses; waiting = v.waiting; arms = v.arms }
 
 pub renews_goes : (dev : Dev) (old new : View) (result : Act) → Renews dev old new result → Goes old (with_lost new old.lost)
-renews_goes dev old new result act = record { later = act.later; past = act.past; size = act.size; faults = act.faults; stops = λ m. omega (arith, act.stops m); lost = λ p was. was }
+renews_goes dev old new result act = record { later = act.later; past = act.past; size = act.size; faults = act.faults; stops = λ m. omega (arith, act.stops m); lost = λ p was. was; arms = act.arms }
 
 pub passed_renews : (dev : Dev) (old new : View) (hs : List Halved) (stops arms : List ℕ) (result : Act) → Renews dev old new result → Renews dev (fused_view old hs stops arms) (fused_view new hs stops arms) result
 passed_renews dev old new hs stops arms result act = record {

@@ -255,6 +255,7 @@ module _ (s : State) (full : length s.deeds ≡ s.now) (by_now : (k : ℕ) → s
     faults = λ p. omega arith;
     stops = more;
     lost = λ p is. is;
+    arms = λ m. refl;
   }
 
   pub acts_done : (by : ℕ) (part : Part) (e : Deed) (waiting : ℕ → List ℕ) → Keeps e → s.now < top → (health_at s.parts (place_of part)).lost ≡ false → Acts by part (view_of s) (view_of (record (recorded s e s.stops) { waiting = waiting })) Done
@@ -265,6 +266,7 @@ module _ (s : State) (full : length s.deeds ≡ s.now) (by_now : (k : ℕ) → s
     is_lost = λ f. absurd (cc);
     stays_lost = λ was f. absurd (cc);
     else_lost = λ p other. refl;
+    else_faults = λ p other. refl;
     halted = λ f. absurd (cc);
     not_operator = λ f. absurd (cc);
     no_other_stop = λ m other. refl;
@@ -281,6 +283,7 @@ module _ (s : State) (full : length s.deeds ≡ s.now) (by_now : (k : ℕ) → s
     is_lost = λ f. absurd (cc);
     stays_lost = λ was f. absurd (cc);
     else_lost = λ p other. refl;
+    else_faults = λ p other. refl;
     halted = λ f. let same : slice_index (counted s.stops by) by ≡ next (slice_index s.stops by) = get_or-set_same s.stops by _ 0 there in omega (arith, same);
     not_operator = λ f. member;
     no_other_stop = λ m other. ⊎_elim (λ ne. get_or-set_other s.stops by m _ 0 ne) (λ f. absurd (f refl)) other;
@@ -407,14 +410,15 @@ module _ (acts : ℕ) (s s' : State) (part : Part) (h : Health) (small : s.now �
       ∙ ap (λ (f : ℕ → ℕ → List ℕ). record { disk = λ d. disk_in s t (slot_of d); console = lines_in s t 1; paper = λ m. lines_in s t (4 * m + 2); taken = f; given = λ w m. moved_in s' t true w m }) (wires false)
       ∙ ap (λ (f : ℕ → ℕ → List ℕ). record { disk = λ d. disk_in s t (slot_of d); console = lines_in s t 1; paper = λ m. lines_in s t (4 * m + 2); taken = λ w m. moved_in s t false w m; given = f }) (wires true)
 
-  pub goes_idled : ((p : Part) → (health_at s.parts (place_of p)).faults ≤ (health_at s'.parts (place_of p)).faults) → ((m : ℕ) → slice_index s.stops m ≤ slice_index s'.stops m) → Goes (view_of s) (view_of s')
-  goes_idled more stops = record {
+  pub goes_idled : ((p : Part) → (health_at s.parts (place_of p)).faults ≤ (health_at s'.parts (place_of p)).faults) → ((m : ℕ) → slice_index s.stops m ≤ slice_index s'.stops m) → s'.arms ≡ s.arms → Goes (view_of s) (view_of s')
+  goes_idled more stops arms = record {
     later = omega (arith, small, time);
     past = past_idled;
     size = λ d. ap (λ b. size_at b (slot_of d)) base;
     faults = more;
     stops = stops;
     lost = λ p is. ap (λ (l : List Health). (health_at l (place_of p)).lost) parts ∙ health_each s.parts (place_of part) h there (λ n g. (health_at s.parts n).lost ≡ true → g.lost ≡ true) (λ was. gone) (λ n was. was) (place_of p) is;
+    arms = λ m. ap (λ (l : List ℕ). slice_index l m) arms;
   }
 
   pub now_lost : (view_of s').lost part ≡ true

@@ -25,11 +25,13 @@ module _ (acts : ℕ) (s : State) (part : Part) (small : s.now ≤ top) (short :
         time = refl;
         goes = goes_idled acts s (failed acts s part) part new small short by_now there refl refl refl refl refl refl refl
             (λ p. health_each s.parts (place_of part) new there (λ n g. (health_at s.parts n).faults ≤ g.faults) (omega (arith, fits)) (λ n. omega arith) (place_of p))
-            (λ m. omega arith);
+            (λ m. omega arith)
+            refl;
         failed = λ f. omega (arith, set_is);
         is_lost = λ f. now_lost acts s (failed acts s part) part new small short by_now there refl refl refl refl refl refl refl;
         stays_lost = λ was f. absurd (cc);
         else_lost = λ p other. ap (λ (g : Health). g.lost) (else_same acts s (failed acts s part) part new small short by_now there refl refl refl refl refl refl refl p (λ same. ⊎_elim (λ ne. ne same) (λ f. f refl) other));
+        else_faults = λ p other. ap (λ (g : Health). g.faults) (else_same acts s (failed acts s part) part new small short by_now there refl refl refl refl refl refl refl p (λ same. ⊎_elim (λ ne. ne same) (λ f. f refl) other));
         halted = λ f. absurd (cc);
         not_operator = λ f. absurd (cc);
         no_other_stop = λ m other. refl;
@@ -58,7 +60,7 @@ module _ (acts : ℕ) (s : State) (dev : Dev) (small : s.now ≤ top) (short : l
       (λ p. health_each s.parts (place_of (DiskPart dev)) new there (λ n g. g.faults ≡ (health_at s.parts n).faults) refl (λ n. refl) (place_of p)) in
       record {
         time = refl;
-        goes = goes_idled acts s (lost acts s dev) (DiskPart dev) new small short by_now there refl refl refl refl refl refl refl (λ p. omega (arith, faults p)) (λ m. omega arith);
+        goes = goes_idled acts s (lost acts s dev) (DiskPart dev) new small short by_now there refl refl refl refl refl refl refl (λ p. omega (arith, faults p)) (λ m. omega arith) refl;
         is_lost = now_lost acts s (lost acts s dev) (DiskPart dev) new small short by_now there refl refl refl refl refl refl refl;
         else_lost = λ p ne. ap (λ (g : Health). g.lost) (else_same acts s (lost acts s dev) (DiskPart dev) new small short by_now there refl refl refl refl refl refl refl p ne);
         faults = faults;

@@ -21,7 +21,8 @@ next n = min (n + 1) top
 abbrev pub Rose : ℕ → ℕ → Type 0
 Rose old new = next old ≤ new
 
--- What holds after any number of acts: past worlds stay, counts don't fall, and a lost part stays lost.
+-- What holds after any number of acts and calls that lose a device: past worlds stay, counts don't fall, a lost part stays
+-- lost, and no stop was armed.
 pub record Goes (old new : View) : Type 0 where
   pub later : old.now ≤ new.now
   pub past : (t : ℕ) → t ≤ old.now → new.world t ≡ old.world t
@@ -29,6 +30,7 @@ pub record Goes (old new : View) : Type 0 where
   pub faults : (p : Part) → old.faults p ≤ new.faults p
   pub stops : (m : ℕ) → old.stops m ≤ new.stops m
   pub lost : (p : Part) → old.lost p ≡ true → new.lost p ≡ true
+  pub arms : (m : ℕ) → new.arms m ≡ old.arms m
 
 -- An act of a member on a part, with this answer.
 pub record Acts (by : ℕ) (part : Part) (old new : View) (result : Act) : Type 0 where
@@ -38,6 +40,7 @@ pub record Acts (by : ℕ) (part : Part) (old new : View) (result : Act) : Type 
   pub is_lost : result ≡ Failed → new.lost part ≡ true
   pub stays_lost : old.lost part ≡ true → result ≢ Done
   pub else_lost : (p : Part) → (p ≢ part) ⊎ (result ≢ Failed) → new.lost p ≡ old.lost p
+  pub else_faults : (p : Part) → (p ≢ part) ⊎ (result ≢ Failed) → new.faults p ≡ old.faults p
   pub halted : result ≡ Halted → Rose (old.stops by) (new.stops by)
   pub not_operator : result ≡ Halted → 0 < by
   pub no_other_stop : (m : ℕ) → (m ≢ by) ⊎ (result ≢ Halted) → new.stops m ≡ old.stops m

@@ -82,6 +82,12 @@ spent_by Go len book = spent len book
 spent_by Fail len book = book
 spent_by (Halt keep) len book = spent (min keep len) book
 
+-- the room after a take that comes to so many bytes. A halted one takes none
+abbrev pub spent_taking : Course → ℕ → Book → Book
+spent_taking Go n book = spent n book
+spent_taking Fail n book = book
+spent_taking (Halt keep) n book = book
+
 -- room for so many acts and bytes, of which nothing is used, and nothing planned or armed
 abbrev pub empty_book : ℕ → ℕ → Book
 empty_book acts bytes = record { acts = acts; bytes = bytes; left = bytes; plans = []; armed = none_armed }

@@ -432,7 +432,7 @@ impl Plant for MemPlant {
     ghost use Rattle.spool_disk.specs.MemView.{mem_view, mem_book, mem_reads, SameReads};
     ghost use Rattle.spool_disk.specs.Took.{IsRead, IfTook};
     ghost use Rattle.spool_disk.specs.MemLaws.{mem_sized, mem_there};
-    ghost use Rattle.spool_disk.specs.Courses.{course_of, answer, spent_by, acted, left_of, with_stop, renews_now};
+    ghost use Rattle.spool_disk.specs.Courses.{course_of, answer, spent_by, spent_taking, acted, left_of, with_stop, renews_now};
     ghost use Rattle.spool_disk.specs.Acts.{Acts, Reads, Writes, Syncs, Says, Prints, GivesOn, Takes, FitsInto, act_of, Arms, Renews, RenewsThere, Loses, LosesThere};
     ghost use Rattle.spool_disk.specs.View.{View, disk_now, paper_now, given_now};
     ghost use Rattle.spool_disk.specs.Deeds.{overwrite};
@@ -639,6 +639,8 @@ impl Plant for MemPlant {
         ensures content { Takes wire by.0 (mem_view self.old) (mem_view self.new) into.new result }
         ensures course { act_of result ≡ answer (course_of (mem_book self.old) (mem_view self.old) by.0 (Wire wire) (min (length ((mem_view self.old).waiting wire)) (length into.old))) }
         ensures all { IfTook result (λ n. n ≡ min (length ((mem_view self.old).waiting wire)) (length into.old)) }
+        ensures book { mem_book self.new ≡ acted by.0 (Wire wire) (spent_taking (course_of (mem_book self.old) (mem_view self.old) by.0 (Wire wire) (min (length ((mem_view self.old).waiting wire)) (length into.old)))
+            (min (length ((mem_view self.old).waiting wire)) (length into.old)) (mem_book self.old)) }
         ensures reads { (d : Dev) → SameReads d self.old self.new }
     {
         let n = self.incoming.count(wire).min(into.len());

@@ -1,18 +1,21 @@
 -- Looks at the spool volumes, one after another.
-use Rattle.std.proofs.Common.{◌≡◌, inl, inr, ⊎_elim, ℕ, ◌≤◌, ◌==◌, Bool, true, false, List, refl, sym, ◌∙◌, ap, subst, arith}
+use Rattle.std.proofs.Common.{◌≡◌, ◌≢◌, inl, inr, ⊎_elim, ℕ, ◌≤◌, ◌<◌, ◌==◌, Bool, true, false, List, [], ◌∷◌, length, get_or, refl, sym, ◌∙◌, ap, subst, arith}
 use Rattle.std.proofs.lemmas.Bool.{eqb-true, eqb-false}
+use Rattle.std.proofs.lemmas.List.Elements.{All-cons, All-get_or, All-head, All-nil}
 use Rattle.mas_types.specs.declared.ids.Dev.{Dev}
 use Rattle.mas_types.specs.declared.ids.Dev.TheVariants.{Ckpt1, Ckpt2, Spool}
+use Rattle.mas_types.specs.declared.ids.GroupNo.{GroupNo}
+use Rattle.spool_disk.specs.declared.plant.Part.{Part}
 use Rattle.spool_disk.specs.declared.plant.Act.{Act}
 use Rattle.spool_disk.specs.declared.plant.Act.TheVariants.{Done, Failed, Halted}
 use Rattle.spool_disk.specs.declared.plant.Part.TheVariants.{Disk as DiskPart}
 use Rattle.spool_disk.specs.View.{View, World, Disk, Stretch, Avoids, disk_at, disk_now}
 use Rattle.spool_disk.specs.Acts.{Acts, Reads, ReadBy, Syncs, Synced, OnDevice, IsLostAfter, Untouched, top}
 use Rattle.ckpt_copy.specs.Changes.{NoMore}
-use Rattle.ckpt_copy.specs.Meanwhile.{Meanwhile}
-use Rattle.ckpt_copy.specs.Moments.{either_way, goes_on, goes_none, meanwhile_one}
-use Rattle.spool_volumes.specs.Volumes.{AreSame}
-use Rattle.spool_volumes.specs.Looks.{OnlyLooksAt, LooksAt}
+use Rattle.ckpt_copy.specs.Meanwhile.{Meanwhile, SameSides}
+use Rattle.ckpt_copy.specs.Moments.{either_way, goes_on, goes_none, meanwhile_one, sides_none, sides_on}
+use Rattle.spool_volumes.specs.Volumes.{AreSame, volume_of}
+use Rattle.spool_volumes.specs.Looks.{OnlyLooksAt, LooksAt, IsElsewhere, SparesOthers}
 
 -- A DEVICE
 
@@ -74,6 +77,7 @@ only_on v old new on = record {
   first = λ t le ge. on.others t le ge Ckpt1 (λ e. absurd (cc));
   second = λ t le ge. on.others t le ge Ckpt2 (λ e. absurd (cc));
   console = on.console;
+  sides = on.sides;
 } where
   by_volume : (t : ℕ) → old.now ≤ t → t ≤ new.now → (n : ℕ) (b : Bool) → (n == v) ≡ b → NoMore (disk_now old (Spool n)) (disk_at new t (Spool n))
   by_volume t le ge n true e = subst (λ (m : ℕ). NoMore (disk_now old (Spool m)) (disk_at new t (Spool m))) (sym (eqb-true n v e)) (on.here t le ge)
@@ -110,6 +114,7 @@ looks_none tells by v = record {
     first = λ t le ge. let e : t ≡ v.now = omega arith in ap (λ (m : ℕ). disk_at v m Ckpt1) e;
     second = λ t le ge. let e : t ≡ v.now = omega arith in ap (λ (m : ℕ). disk_at v m Ckpt2) e;
     console = λ t le ge. let e : t ≡ v.now = omega arith in ap (λ (m : ℕ). (v.world m).console) e;
+    sides = λ t le ge. let e : v.now ≡ t = omega arith in subst (λ (m : ℕ). SameSides (v.world v.now) (v.world m)) e (sides_none (v.world v.now));
   };
   else_lost = λ p ne. refl;
   loses = λ d. refl;
@@ -136,6 +141,7 @@ module _ (old mid new : View) where
         (λ h. ap (λ (w : World). w.console) (y.goes.past t h) ∙ x.console t le h)
         (λ h. y.console t (omega arith) ge ∙ x.console mid.now x.goes.later (omega arith))
         (either_way t mid.now);
+    sides = sides_on old mid new x.goes y.goes x.sides y.sides;
   }
 
   pub looks_then : (tells : Type 0) (by : ℕ) → LooksAt tells by old mid → LooksAt tells by mid new → LooksAt tells by old new
@@ -146,6 +152,34 @@ module _ (old mid new : View) where
     loses = λ d. y.loses d ∙ x.loses d;
     no_other_stop = λ m why. y.no_other_stop m why ∙ x.no_other_stop m why;
   }
+
+-- WHAT READS OF GROUPS SPARE
+
+pub spares_none : (by per : ℕ) (groups : List GroupNo) (v : View) → SparesOthers by per groups false v v
+spares_none by per groups v = record { lost = λ p else. refl; faults = λ p else. refl; stops = λ m why. refl }
+
+-- an act on the volume of a group
+pub spares_act : (by per : ℕ) (g : GroupNo) (stopped : Bool) (old new : View) (act : Act) → (stopped ≡ false → act ≢ Halted) → Acts by (DiskPart (Spool (volume_of per g))) old new act → SparesOthers by per (g ∷ []) stopped old new
+spares_act by per g stopped old new act why acts = record {
+  lost = λ p else. acts.else_lost p (inl (apart p else));
+  faults = λ p else. acts.else_faults p (inl (apart p else));
+  stops = λ m other. acts.no_other_stop m (⊎_elim inl (λ none. inr (why none)) other);
+} where
+  apart : (p : Part) → IsElsewhere per (g ∷ []) p → p ≢ DiskPart (Spool (volume_of per g))
+  apart p else = All-head (λ h. p ≢ DiskPart (Spool (volume_of per h))) g [] else
+
+-- and then one more of the groups
+pub spares_then : (by per : ℕ) (groups : List GroupNo) (i : ℕ) (d : GroupNo) (stopped : Bool) (old mid new : View) → i < length groups
+    → SparesOthers by per groups false old mid → SparesOthers by per (get_or groups i d ∷ []) stopped mid new → SparesOthers by per groups stopped old new
+spares_then by per groups i d stopped old mid new there x y = record {
+  lost = λ p else. y.lost p (one p else) ∙ x.lost p else;
+  faults = λ p else. y.faults p (one p else) ∙ x.faults p else;
+  stops = λ m why. y.stops m why ∙ x.stops m (inr refl);
+} where
+  one : (p : Part) → IsElsewhere per groups p → IsElsewhere per (get_or groups i d ∷ []) p
+  one p else =
+      let P : GroupNo → Type 0 = λ h. p ≢ DiskPart (Spool (volume_of per h)) in
+      All-cons P (get_or groups i d) [] (All-get_or P groups i d there else) (All-nil P)
 
 -- what is left of each device at the end
 

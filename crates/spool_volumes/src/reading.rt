@@ -1,5 +1,5 @@
 //! Reading a text.
-ghost use Rattle.std.specs.Prelude.{◌≡◌, ◌≤◌, ◌<◌, ◌++◌, true, false, Some, None, All, length, IfOk, IsErrOf, Ok as OkLem};
+ghost use Rattle.std.specs.Prelude.{◌≡◌, ◌≤◌, ◌<◌, ◌++◌, true, false, Some, None, All, [], ◌∷◌, length, IfOk, IsErrOf, Ok as OkLem};
 ghost use Rattle.mas_types.specs.declared.ids.Dev.TheVariants.{Spool};
 ghost use Rattle.mas_types.specs.Limits.{page_bytes};
 ghost use Rattle.mas_types.specs.Queue.{line_count};
@@ -7,7 +7,7 @@ ghost use Rattle.mas_types.specs.Records.{is_record};
 ghost use Rattle.spool_disk.specs.Acts.{Rose};
 ghost use Rattle.spool_disk.specs.declared.plant.Part.TheVariants.{Disk};
 ghost use Rattle.spool_volumes.specs.Volumes.{page_of, volume_of, volumes_now, IsPlaced, IsSteady};
-ghost use Rattle.spool_volumes.specs.Looks.{volumes_shown, lie_on_lost, LooksAt};
+ghost use Rattle.spool_volumes.specs.Looks.{volumes_shown, lie_on_lost, LooksAt, SparesOthers, read_stopped};
 ghost use Rattle.spool_volumes.specs.Texts.{last_of, records_on, text_of, whole_text, Adds, IsLimited};
 ghost use Rattle.spool_volumes.specs.declared.reading.ReadError.TheVariants.{Halted as ReadErrorHalted};
 
@@ -41,6 +41,7 @@ fn read_page<P: Plant>(
     requires page { length into.old ≡ page_bytes }
     requires placed { IsPlaced (P.view plant.old) per group }
     ensures looks { LooksAt P.tells by.0 (P.view plant.old) (P.view plant.new) }
+    ensures spares { SparesOthers by.0 per (group ∷ []) (read_stopped result) (P.view plant.old) (P.view plant.new) }
     ensures read { result ≡ OkLem true → P.tells → page_of (volumes_now (P.view plant.old)) per group ≡ Some into.new }
     ensures lost { result ≡ OkLem false → IsSteady (P.view plant.old) (P.view plant.new) → page_of (volumes_now (P.view plant.old)) per group ≡ None }
     ensures out { result ≡ OkLem false → (P.view plant.new).lost (Disk (Spool (volume_of per group))) ≡ true }
@@ -70,6 +71,7 @@ fn add_group<P: Plant>(
     requires some { 1 ≤ per }
     requires placed { IsPlaced (P.view plant.old) per group }
     ensures looks { LooksAt P.tells by.0 (P.view plant.old) (P.view plant.new) }
+    ensures spares { SparesOthers by.0 per (group ∷ []) (read_stopped result) (P.view plant.old) (P.view plant.new) }
     ensures added { result ≡ OkLem true → P.tells → Adds (records_on (volumes_now (P.view plant.old)) per group) lines.old lines.new }
     ensures records { result ≡ OkLem true → All (λ line. is_record line ≡ true) lines.old → All (λ line. is_record line ≡ true) lines.new }
     ensures none { result ≡ OkLem false → P.tells → IsSteady (P.view plant.old) (P.view plant.new) → records_on (volumes_now (P.view plant.old)) per group ≡ None }
@@ -115,7 +117,8 @@ pub fn last_group(groups: &[GroupNo]) -> GroupNo
 ///
 /// Its lines are within the limits of a text, whatever the volumes hold. What else is said of the text holds where no volume was lost in the call, and so it does where none of its groups lies on a
 /// volume that is lost then: else read again. Halted comes only where the member was stopped inside a read, never for the
-/// operator. No byte of a volume is changed, and nothing more is unsynced.
+/// operator; else nobody is stopped. No byte of a volume is changed, and nothing more is unsynced. A volume on which none of the groups
+/// lies isn't lost, and no fault of it is counted.
 pub fn read_text<P: Plant>(
     alloc: Global,
     plant: &mut P,
@@ -127,6 +130,7 @@ pub fn read_text<P: Plant>(
     requires some { 1 ≤ per }
     requires placed { All (IsPlaced (P.view plant.old) per) groups.now }
     ensures looks { LooksAt P.tells by.0 (P.view plant.old) (P.view plant.new) }
+    ensures spares { SparesOthers by.0 per groups.now (read_stopped result) (P.view plant.old) (P.view plant.new) }
     ensures count { IfOk result (λ text. line_count text ≡ count) }
     ensures limited { IfOk result IsLimited }
     ensures left { IfOk result (λ text. P.tells → lie_on_lost (P.view plant.new) per groups.now ≡ false → text ≡ text_of (records_on (volumes_shown (P.view plant.old)) per) count groups.now) }

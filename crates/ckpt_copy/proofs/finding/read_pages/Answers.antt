@@ -14,14 +14,14 @@ loop-place-preserved g c =
     record {
       cause = caused_then _ _ _ _ _ _ now.cause c.in_ok-page.ensures.cause;
       there = λ was. c.in_ok-page.ensures.there;
-      during = λ told. calm_on _ _ _ _ (now.during told) (c.read_one.ensures.during told);
+      during = λ told. calm_on _ _ _ _ (now.during told) (c.read_block.ensures.during told);
       same = λ told. c.in_ok-page.ensures.same told ∙ now.same told;
       many = ap length pushed ∙ length-append c.loop-place.pages (c.in_ok-page.page ∷ []) ∙ ap (λ (n : ℕ). n + 1) now.many;
       read = λ told. ap bytes_of pushed ∙ page_read c.args.start i _ c.loop-place.pages c.in_ok-page.page old (disk_now (g.P.Plant.view c.loop-place.plant) c.args.dev) refl (now.same told) (now.read told) (c.in_ok-page.ensures.page told);
     }
 
 pub returns-in_err-page-clause-during : goal.returns-in_err-page-clause-during
-returns-in_err-page-clause-during g c told = calm_on _ _ _ _ (c.loop-place.invariant.during told) (c.read_one.ensures.during told)
+returns-in_err-page-clause-during g c told = calm_on _ _ _ _ (c.loop-place.invariant.during told) (c.read_block.ensures.during told)
 
 pub returns-in_err-push-clause-during : goal.returns-in_err-push-clause-during
-returns-in_err-push-clause-during g c told = calm_on _ _ _ _ (c.loop-place.invariant.during told) (c.read_one.ensures.during told)
+returns-in_err-push-clause-during g c told = calm_on _ _ _ _ (c.loop-place.invariant.during told) (c.read_block.ensures.during told)

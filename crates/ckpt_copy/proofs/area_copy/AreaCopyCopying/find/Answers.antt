@@ -1,6 +1,11 @@
-use Rattle.std.proofs.Common.{arith}
+use Rattle.std.proofs.Common.{arith, List}
+use Rattle.mas_types.specs.declared.ids.Page.{Page}
+use Rattle.std.proofs.lemmas.Result.{err_from_is_err_and}
 use Rattle.spool_disk.specs.View.{disk_now}
 use Rattle.ckpt_copy.specs.Pages.{bytes_of}
+use Rattle.spool_disk.specs.declared.plant.Act.TheVariants.{Done}
+use Rattle.ckpt_copy.specs.Causes.{Caused}
+use Rattle.ckpt_copy.proofs.Causing.{caused_then, answered_on}
 use Rattle.ckpt_copy.proofs.Calm.{calm_first, calm_on}
 use Rattle.ckpt_copy.proofs.Finds.{Read, find_no_head, find_no_area, find_rests}
 use Rattle.ckpt_copy.proofs.area_copy.AreaCopyCopying.find.Goals as goal
@@ -64,3 +69,17 @@ returns-clause-during g c told =
 pub returns-in_err-head-clause-during : goal.returns-in_err-head-clause-during
 returns-in_err-head-clause-during g c told =
     calm_on c.args.self.now.dev _ _ _ (calm_first c.args.self.now.dev _ _ (c.sync_act.ensures.during told)) (c.read_head.ensures.during told)
+
+pub returns-in_default-2-clause-during : goal.returns-in_default-2-clause-during
+returns-in_default-2-clause-during g c told =
+    calm_on c.args.self.now.dev _ _ _
+    (calm_on c.args.self.now.dev _ _ _ (calm_first c.args.self.now.dev _ _ (c.sync_act.ensures.during told)) (c.read_head.ensures.during told))
+    (c.choose_area.ensures.during told)
+
+pub returns-in_err-pages-clause-cause : goal.returns-in_err-pages-clause-cause
+returns-in_err-pages-clause-cause g c =
+    let view = g.P.Plant.view in
+    let looked : Caused c.args.by.0 c.args.self.now.dev (view c.args.plant.now) (view c.choose_area.new.plant) Done =
+    caused_then _ _ _ _ _ _ (caused_then _ _ _ _ _ _ c.in_ok-sync_act.ensures.cause c.in_ok-head.ensures.cause) c.in_ok-second.ensures.cause in
+    let p = err_from_is_err_and c.from_residual-in_err-pages.result c.from_residual-in_err-pages.ensures.1 in
+    caused_then _ _ _ _ _ _ looked (answered_on (List Page) c.args.by.0 c.args.self.now.dev (view c.choose_area.new.plant) (view c.read_pages.new.plant) c.from_residual-in_err-pages.result _ c.in_err-pages.field-0.0 p.1 p.2 c.in_err-pages.ensures.cause)
