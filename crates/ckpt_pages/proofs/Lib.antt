@@ -16,3 +16,4 @@ pub mod Vectors
 pub mod GivenLevels
 pub mod TestLemmas
 pub mod TestingLemmas
+pub mod KeyLemmas

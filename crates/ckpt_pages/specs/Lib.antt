@@ -18,3 +18,5 @@ pub mod Laws
 pub mod Writing
 pub mod Testing
 pub mod Given
+pub mod Keys
+pub mod Indexed

@@ -8,7 +8,7 @@ ghost use Rattle.mas_check.specs.declared.checking.CheckNo.TheVariants.{NoMemory
 
 use crate::groups::first_wrong_group;
 use crate::reading::{lost_volume, read_groups};
-use ckpt_pages::{PageNo, TableFault, Tables, decode, sound};
+use ckpt_pages::{PageNo, TableFault, Tables, decode, first_fault};
 use mas_types::{FaultKind, NoMemory, Page, Verdict};
 use spool_disk::Plant;
 use std::alloc::Global;
@@ -74,10 +74,11 @@ fn check_texts<P: Plant>(alloc: Global, plant: &mut P, tables: &Tables) -> Resul
     let per = tables.config.groups;
     let owners = tables.owners.as_slice();
     let groups = read_groups(alloc, plant, per, owners)?;
-    match lost_volume(plant, per, owners) {
-        Some(volume) => Err(CheckNo::SpoolLost(volume)),
-        None => Ok(text_verdict(first_wrong_group(tables, groups.as_slice()))),
+    if let Some(volume) = lost_volume(plant, per, owners) {
+        return Err(CheckNo::SpoolLost(volume));
     }
+    let wrong = first_wrong_group(alloc, tables, groups.as_slice())?;
+    Ok(text_verdict(wrong))
 }
 
 // Checks tables and their texts.
@@ -86,9 +87,9 @@ fn check_tables<P: Plant>(alloc: Global, plant: &mut P, tables: &Tables) -> Resu
     ensures reads { OnlyReads P.tells (P.view plant.old) (P.view plant.new) }
     ensures answer { IsCheckOrNone P.tells tables.now (P.view plant.old) (P.view plant.new) result }
 {
-    match sound(tables) {
-        Ok(()) => check_texts(alloc, plant, tables),
-        Err(fault) => Ok(verdict_of(fault)),
+    match first_fault(alloc, tables)? {
+        None => check_texts(alloc, plant, tables),
+        Some(fault) => Ok(verdict_of(fault)),
     }
 }
 

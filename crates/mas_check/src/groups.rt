@@ -1,11 +1,13 @@
 //! The groups of texts: which of them hold no records of their text.
-ghost use Rattle.std.specs.Prelude.{◌≡◌, ◌<◌, ◌^◌, ◌==◌, length, IfSome};
-ghost use Rattle.std.specs.List.{list_any};
-ghost use Rattle.mas_check.specs.Groups.{has_text as has_text_lem, same_text as same_text_lem, is_behind as is_behind_lem, is_last as is_last_lem, records_of as records_of_lem, cards_in as cards_in_lem, prints_in as prints_in_lem, lines_of as lines_of_lem, is_wrong_group as is_wrong_group_lem, wrong_group};
+ghost use Rattle.std.specs.Prelude.{◌≡◌, ◌<◌, ◌^◌, length, IfOk, IfSome};
+ghost use Rattle.mas_check.specs.Groups.{has_text as has_text_lem, cards_in as cards_in_lem, prints_in as prints_in_lem, lines_of as lines_of_lem, wrong_group};
+ghost use Rattle.mas_check.specs.Tallies.{place_of as place_of_lem, is_wrong_group as is_wrong_group_lem};
 
+use crate::tallies::Tallies;
 use ckpt_pages::Tables;
 use lay_bytes::{JobRec, OutRec};
-use mas_types::{JobNo, OutNo, Owner};
+use mas_types::{JobNo, NoMemory, OutNo, Owner};
+use std::alloc::Global;
 
 /// A group as it was found.
 #[derive(Clone, Copy)]
@@ -23,82 +25,18 @@ pub(crate) fn has_text(owner: &Owner) -> bool
     matches!(owner, Owner::Deck { .. } | Owner::Output { .. })
 }
 
-fn same_text(a: &Owner, b: &Owner) -> bool
-    ensures { result ≡ same_text_lem a.now b.now }
+fn place_of(owner: &Owner) -> u16
+    ensures { result ≡ place_of_lem owner.now }
 {
-    match (*a, *b) {
-        (
-            Owner::Deck { job, place: _ },
-            Owner::Deck {
-                job: number,
-                place: _,
-            },
-        ) => job.0 == number.0,
-        (
-            Owner::Output {
-                job,
-                index,
-                place: _,
-            },
-            Owner::Output {
-                job: number,
-                index: which,
-                place: _,
-            },
-        ) => job.0 == number.0 && index.0 == which.0,
-        _ => false,
+    match *owner {
+        Owner::Deck { job: _, place } => place,
+        Owner::Output {
+            job: _,
+            index: _,
+            place,
+        } => place,
+        _ => 0,
     }
-}
-
-// Whether the second group stands behind the first in one text.
-fn is_behind(a: &Owner, b: &Owner) -> bool
-    ensures { result ≡ is_behind_lem a.now b.now }
-{
-    match (*a, *b) {
-        (
-            Owner::Deck { job, place },
-            Owner::Deck {
-                job: number,
-                place: at,
-            },
-        ) => job.0 == number.0 && place < at,
-        (
-            Owner::Output { job, index, place },
-            Owner::Output {
-                job: number,
-                index: which,
-                place: at,
-            },
-        ) => job.0 == number.0 && index.0 == which.0 && place < at,
-        _ => false,
-    }
-}
-
-fn has_behind(groups: &[Group], owner: &Owner) -> bool
-    ensures { result ≡ list_any (λ g. is_behind_lem owner.now g.owner) groups.now }
-{
-    groups.iter().any(|group| is_behind(owner, &group.owner))
-}
-
-// Whether no group of its text stands behind it.
-fn is_last(groups: &[Group], owner: &Owner) -> bool
-    ensures { result ≡ is_last_lem groups.now owner.now }
-{
-    !has_behind(groups, owner)
-}
-
-// How many records the groups of a text hold.
-fn records_of(groups: &[Group], owner: &Owner) -> u64
-    requires { length groups.now < 2 ^ 32 }
-    ensures { result ≡ records_of_lem owner.now groups.now }
-{
-    let mut total = 0;
-    for group in groups {
-        if same_text(owner, &group.owner) {
-            total += group.records.unwrap_or(0) as u64;
-        }
-    }
-    total
 }
 
 fn cards_in(slots: &[Option<JobRec>], number: JobNo) -> u16
@@ -143,26 +81,31 @@ fn lines_of(tables: &Tables, owner: &Owner) -> u16
     }
 }
 
-fn is_wrong_group(tables: &Tables, groups: &[Group], group: &Group) -> bool
-    requires { length groups.now < 2 ^ 32 }
-    ensures { result ≡ is_wrong_group_lem tables.now groups.now group.now }
+fn is_wrong_group(tables: &Tables, tallies: &Tallies, group: &Group) -> bool
+    ensures { result ≡ is_wrong_group_lem tables.now tallies.now group.now }
 {
+    let tally = tallies.tally(&group.owner);
     has_text(&group.owner)
         && (group.records.is_none()
-            || is_last(groups, &group.owner)
-                && records_of(groups, &group.owner) != lines_of(tables, &group.owner) as u64)
+            || place_of(&group.owner) >= tally.last
+                && tally.records != lines_of(tables, &group.owner) as u64)
 }
 
 /// The first group of a text that holds no records of it.
-pub(crate) fn first_wrong_group(tables: &Tables, groups: &[Group]) -> Option<usize>
+pub(crate) fn first_wrong_group(
+    alloc: Global,
+    tables: &Tables,
+    groups: &[Group],
+) -> Result<Option<usize>, NoMemory>
     requires { length groups.now < 2 ^ 32 }
-    ensures first { result ≡ wrong_group tables.now groups.now }
-    ensures within { IfSome result (λ group. group < length groups.now) }
+    ensures first { IfOk result (λ found. found ≡ wrong_group tables.now groups.now) }
+    ensures within { IfOk result (λ found. IfSome found (λ group. group < length groups.now)) }
 {
+    let tallies = Tallies::of(alloc, groups)?;
     for (i, group) in groups.iter().enumerate() {
-        if is_wrong_group(tables, groups, group) {
-            return Some(i);
+        if is_wrong_group(tables, &tallies, group) {
+            return Ok(Some(i));
         }
     }
-    None
+    Ok(None)
 }

@@ -7,6 +7,7 @@ mod groups;
 mod lines;
 mod reading;
 mod records;
+mod tallies;
 
 pub use checking::{CheckNo, check};
 pub use lines::check_line;

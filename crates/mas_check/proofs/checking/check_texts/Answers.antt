@@ -28,7 +28,7 @@ returns-clause-answer g c =
     let t = c.args.tables.now in
     let old = P.view c.args.plant.now in
     let new = P.view c.read_groups.new.plant in
-    let none = subst (λ (os : List Owner). None ≡ lost_volume new t.config.groups os) c.as_slice-owners.ensures c.in-None.ensures in
+    let none = subst (λ (os : List Owner). None ≡ lost_volume new t.config.groups os) c.as_slice-owners.ensures c.in_default.ensures in
     let read = subst (λ (os : List Owner). AreGroups P.tells old new t.config.groups 0 os c.in_ok-groups.groups) c.as_slice-owners.ensures c.in_ok-groups.ensures.groups in
-    let first = c.first_wrong_group.ensures.first ∙ ap (λ (gs : List Group). wrong_group t gs) c.as_slice.ensures in
-    rw c.text_verdict.ensures (inr (text_check P.tells t old new c.requires.sound c.in_ok-groups.groups c.first_wrong_group.result none (λ told all. sym (read told all)) first))
+    let first = c.in_ok-wrong.ensures.first ∙ ap (λ (gs : List Group). wrong_group t gs) c.as_slice.ensures in
+    rw c.text_verdict.ensures (inr (text_check P.tells t old new c.requires.sound c.in_ok-groups.groups c.in_ok-wrong.wrong none (λ told all. sym (read told all)) first))

@@ -1,0 +1,11 @@
+use Rattle.std.proofs.Common.{List, sym, subst, take}
+use Rattle.std.proofs.lemmas.List.{take_more}
+use Rattle.mas_types.specs.declared.queues.Owner.{Owner}
+use Rattle.ckpt_pages.specs.Keys.{AreGroupKeys}
+use Rattle.ckpt_pages.proofs.keys.GroupKeys.of.Goals as goal
+
+pub loop-owner-preserved : goal.loop-owner-preserved
+loop-owner-preserved c =
+    let owners = c.args.owners.now in
+    let i = c.loop-owner.owner-index in
+    subst (λ (os : List Owner). AreGroupKeys c.add.new.self os) (sym (take_more owners i _ c.loop-owner-test.true)) (c.in_ok-add.ensures (take i owners) c.loop-owner.invariant)
