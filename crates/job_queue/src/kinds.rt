@@ -1,6 +1,6 @@
 //! Which jobs are picked.
 ghost use Rattle.std.specs.Prelude.{◌≡◌, ◌&&◌, not};
-ghost use Rattle.mas_types.specs.Ids.{same_number, same_member, same_class, is_somebody as is_somebody_lem};
+ghost use Rattle.mas_types.specs.Ids.{same_number, same_member, is_somebody as is_somebody_lem};
 ghost use Rattle.mas_types.specs.Queue.{in_convert, in_execute};
 ghost use Rattle.job_queue.specs.Jobs.{in_phase};
 
@@ -84,8 +84,12 @@ impl Test<JobRec> for ForConvert {
 impl Rank<JobRec> for ForConvert {
     ghost rank = { λ s r. r.fields.prio.0 };
 
-    fn rank(&self, item: &JobRec) -> u8 {
-        item.fields.prio.0
+    fn rank(&self, item: &JobRec) -> Option<u8> {
+        if self.picks(item) {
+            Some(item.fields.prio.0)
+        } else {
+            None
+        }
     }
 }
 
@@ -104,15 +108,19 @@ impl Test<JobRec> for ForExec {
 impl Rank<JobRec> for ForExec {
     ghost rank = { λ s r. r.fields.prio.0 };
 
-    fn rank(&self, item: &JobRec) -> u8 {
-        item.fields.prio.0
+    fn rank(&self, item: &JobRec) -> Option<u8> {
+        if self.picks(item) {
+            Some(item.fields.prio.0)
+        } else {
+            None
+        }
     }
 }
 
 impl Classed<JobRec> for ForExec {
-    ghost has_class = { λ s class r. same_class r.fields.class class };
+    ghost class = { λ s r. r.fields.class };
 
-    fn has_class(&self, class: Class, item: &JobRec) -> bool {
-        item.fields.class.0 == class.0
+    fn class(&self, item: &JobRec) -> Class {
+        item.fields.class
     }
 }

@@ -4,9 +4,11 @@
 mod changing;
 mod finding;
 mod kinds;
+mod places;
 
 pub use changing::{JobsFull, add, advance, next_number};
 pub use finding::{
     NoJob, find_convert, find_exec, find_in, find_job, find_working, first_in, place_of,
     select_convert, select_exec,
 };
+pub use places::{JobsByNumber, by_number, job_numbered};

@@ -1,11 +1,11 @@
 //! Which outputs are picked.
-ghost use Rattle.std.specs.Prelude.{◌≡◌, ◌≤◌, ◌&&◌, not};
-ghost use Rattle.mas_types.specs.Ids.{same_number, same_index, same_member, same_class, same_name as same_name_lem, is_somebody as is_somebody_lem};
+ghost use Rattle.std.specs.Prelude.{◌≡◌, ◌&&◌, not, Some, None, if◌then◌else◌};
+ghost use Rattle.mas_types.specs.Ids.{same_number, same_index, same_member, same_name as same_name_lem, is_somebody as is_somebody_lem};
 ghost use Rattle.mas_types.specs.Names.{member_name};
-ghost use Rattle.output_queue.specs.Outputs.{may_take, fits_printer as fits_printer_lem, is_hardcopy as is_hardcopy_lem, prio_of as prio_of_lem};
+ghost use Rattle.output_queue.specs.Outputs.{may_take, fits_printer as fits_printer_lem, is_hardcopy, prio_of};
 
-use job_queue::find_job;
-use lay_bytes::{JobRec, OutRec};
+use job_queue::{JobsByNumber, job_numbered};
+use lay_bytes::OutRec;
 use mas_types::{Class, JobNo, MemberId, Name8, OutNo, Phase};
 use queue_slots::{Classed, Rank, Test};
 
@@ -77,21 +77,19 @@ impl Test<OutRec> for Elsewhere {
     }
 }
 
-fn is_hardcopy(jobs: &[Option<JobRec>], job: JobNo) -> bool
-    ensures { result ≡ is_hardcopy_lem jobs.now job }
+/// The priority of a job in Hardcopy; none where no such job has the number.
+fn hardcopy_prio(jobs: &JobsByNumber<'_>, job: JobNo) -> Option<u8>
+    ensures { result ≡ (if is_hardcopy jobs.now.jobs.now job then Some (prio_of jobs.now.jobs.now job) else None) }
 {
-    match find_job(jobs, job) {
-        Some(found) => matches!(found.item.phase, Phase::Hardcopy),
-        None => false,
-    }
-}
-
-fn prio_of(jobs: &[Option<JobRec>], job: JobNo) -> u8
-    ensures { result ≡ prio_of_lem jobs.now job }
-{
-    match find_job(jobs, job) {
-        Some(found) => found.item.fields.prio.0,
-        None => 0,
+    match job_numbered(jobs, job) {
+        Some(job) => {
+            if matches!(job.phase, Phase::Hardcopy) {
+                Some(job.fields.prio.0)
+            } else {
+                None
+            }
+        }
+        None => None,
     }
 }
 
@@ -106,9 +104,9 @@ fn fits_printer(by: MemberId, name: &Name8, forms: &Name8, item: &OutRec) -> boo
 }
 
 /// The outputs that a member's printer may take, by the slots of the jobs.
-#[derive(Clone, Copy)]
+#[derive(Drop)]
 pub struct ForPrinter<'a> {
-    pub jobs: &'a [Option<JobRec>],
+    pub jobs: JobsByNumber<'a>,
     pub by: MemberId,
     pub name: Name8,
     pub forms: Name8,
@@ -116,28 +114,32 @@ pub struct ForPrinter<'a> {
 }
 
 impl<'a> Test<OutRec> for ForPrinter<'a> {
-    ghost picks = { λ s r. may_take s.jobs.now s.by s.forms r };
+    ghost picks = { λ s r. may_take s.jobs.jobs.now s.by s.forms r };
 
     fn picks(&self, item: &OutRec) -> bool {
-        !item.held
-            && !is_somebody(item.busy)
-            && fits_printer(self.by, &self.name, &self.forms, item)
-            && is_hardcopy(self.jobs, item.job)
+        self.rank(item).is_some()
     }
 }
 
 impl<'a> Rank<OutRec> for ForPrinter<'a> {
-    ghost rank = { λ s r. prio_of_lem s.jobs.now r.job };
+    ghost rank = { λ s r. prio_of s.jobs.jobs.now r.job };
 
-    fn rank(&self, item: &OutRec) -> u8 {
-        prio_of(self.jobs, item.job)
+    // The job last, since it takes the most to tell.
+    fn rank(&self, item: &OutRec) -> Option<u8> {
+        if item.held || is_somebody(item.busy) {
+            return None;
+        }
+        if !fits_printer(self.by, &self.name, &self.forms, item) {
+            return None;
+        }
+        hardcopy_prio(&self.jobs, item.job)
     }
 }
 
 impl<'a> Classed<OutRec> for ForPrinter<'a> {
-    ghost has_class = { λ s class r. same_class r.class class };
+    ghost class = { λ s r. r.class };
 
-    fn has_class(&self, class: Class, item: &OutRec) -> bool {
-        item.class.0 == class.0
+    fn class(&self, item: &OutRec) -> Class {
+        item.class
     }
 }

@@ -8,6 +8,7 @@ ghost use Rattle.job_queue.specs.Jobs.{AreJobs};
 ghost use Rattle.output_queue.specs.Outputs.{AreOutputs, HasOutput};
 
 use crate::kinds::ForPrinter;
+use job_queue::by_number;
 use lay_bytes::{JobRec, OutRec};
 use mas_types::{JobNo, MemberId, OutNo, Setting, member_name};
 use queue_slots::{Found, best_slot_by_class};
@@ -27,7 +28,7 @@ pub fn find_for_printer(
     ensures none { IfNone result ((Q : Queue) → AreJobs jobs.now Q.jobs → AreOutputs outputs.now Q.outputs → setting_of Q by ≡ Some setting.now → for_printer Q by ≡ None) }
 {
     let test = ForPrinter {
-        jobs,
+        jobs: by_number(jobs),
         by,
         name: member_name(by),
         forms: setting.forms,

@@ -9,3 +9,4 @@ pub mod OrderLemmas
 pub mod Showing
 pub mod SlotLemmas
 pub mod UnitLemmas
+pub mod PhaseLemmas

@@ -4,3 +4,4 @@ pub mod Resets
 pub mod Slots
 pub mod Standing
 pub mod Working
+pub mod Phases

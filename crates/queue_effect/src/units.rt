@@ -1,5 +1,5 @@
 //! The next work unit of a member.
-ghost use Rattle.std.specs.Prelude.{◌≡◌, ◌≤◌, ◌*◌, is_some, option_map, nat_lt, if◌then◌else◌};
+ghost use Rattle.std.specs.Prelude.{◌≡◌, ◌≤◌, ◌*◌, ◌||◌, length, is_some, option_map, nat_lt, if◌then◌else◌};
 ghost use Rattle.mas_types.specs.declared.queues.Queue.{Queue};
 ghost use Rattle.mas_types.specs.Limits.{members_most};
 ghost use Rattle.mas_types.specs.Queue.{first_in, printing_at};
@@ -7,11 +7,12 @@ ghost use Rattle.mas_types.specs.Selection.{for_convert, for_execute, for_printe
 ghost use Rattle.mas_types.specs.Units.{unit_of, print_unit as print_unit_lem, working_at};
 ghost use Rattle.job_queue.specs.Jobs.{in_phase};
 ghost use Rattle.queue_tables.specs.Telling.{Tell};
+ghost use Rattle.queue_effect.specs.Phases.{Tells, stands_in as stands_in_lem};
 
 use crate::lookups::setting;
 use ckpt_pages::Tables;
 use job_queue::{find_convert, find_exec, find_in, find_working};
-use lay_bytes::OutRec;
+use lay_bytes::{JobRec, OutRec};
 use mas_types::{JobNo, MemberId, Phase, Unit};
 use output_queue::{find_for_printer, find_printing};
 
@@ -26,16 +27,17 @@ pub fn unit(tables: &Tables, by: MemberId) -> Unit
     if may_pick(tables, by) {
         return Unit::Pick;
     }
-    if any_in(tables, Phase::Purge) {
+    let phases = phases_of(tables.jobs.as_slice());
+    if any_in(tables, phases.purge, Phase::Purge) {
         return Unit::Purge;
     }
-    if any_in(tables, Phase::Output) {
+    if any_in(tables, phases.output, Phase::Output) {
         return Unit::Gather;
     }
-    if let Some(job) = working(tables, by, Phase::Execute) {
+    if let Some(job) = working(tables, phases.execute, by, Phase::Execute) {
         return Unit::Run(job);
     }
-    if let Some(job) = working(tables, by, Phase::Convert) {
+    if let Some(job) = working(tables, phases.convert, by, Phase::Convert) {
         return Unit::Convert(job);
     }
     if may_execute(tables, by) {
@@ -85,16 +87,84 @@ fn may_pick(tables: &Tables, by: MemberId) -> bool
     }
 }
 
-fn any_in(tables: &Tables, phase: Phase) -> bool
-    ensures { (Q : Queue) → Tell tables.now Q → result ≡ is_some (first_in (in_phase phase) Q) }
-{
-    find_in(tables.jobs.as_slice(), phase).is_some()
+/// Of the phases in which there may be work, those that any job is in.
+#[derive(Clone, Copy)]
+struct Phases {
+    purge: bool,
+    output: bool,
+    execute: bool,
+    convert: bool,
 }
 
-fn working(tables: &Tables, by: MemberId, phase: Phase) -> Option<JobNo>
+/// One look at all slots, which mostly tells that there is nothing to do.
+fn phases_of(jobs: &[Option<JobRec>]) -> Phases
+    ensures purge { Tells Phase.Purge jobs.now (length jobs.now) result.purge }
+    ensures output { Tells Phase.Output jobs.now (length jobs.now) result.output }
+    ensures execute { Tells Phase.Execute jobs.now (length jobs.now) result.execute }
+    ensures convert { Tells Phase.Convert jobs.now (length jobs.now) result.convert }
+{
+    let mut purge = false;
+    let mut output = false;
+    let mut execute = false;
+    let mut convert = false;
+    for slot in jobs {
+        purge = seen(purge, slot, Phase::Purge);
+        output = seen(output, slot, Phase::Output);
+        execute = seen(execute, slot, Phase::Execute);
+        convert = seen(convert, slot, Phase::Convert);
+    }
+    Phases {
+        purge,
+        output,
+        execute,
+        convert,
+    }
+}
+
+fn seen(before: bool, slot: &Option<JobRec>, phase: Phase) -> bool
+    ensures { result ≡ (before || stands_in_lem phase slot.now) }
+{
+    before || stands_in(slot, phase)
+}
+
+fn stands_in(slot: &Option<JobRec>, phase: Phase) -> bool
+    ensures { result ≡ stands_in_lem phase slot.now }
+{
+    match slot {
+        Some(job) => is_in(job.phase, phase),
+        None => false,
+    }
+}
+
+fn is_in(phase: Phase, of: Phase) -> bool
+    ensures { result ≡ in_phase of phase }
+{
+    match of {
+        Phase::Input => matches!(phase, Phase::Input),
+        Phase::Convert => matches!(phase, Phase::Convert),
+        Phase::Execute => matches!(phase, Phase::Execute),
+        Phase::Output => matches!(phase, Phase::Output),
+        Phase::Hardcopy => matches!(phase, Phase::Hardcopy),
+        Phase::Purge => matches!(phase, Phase::Purge),
+        Phase::Xmit => matches!(phase, Phase::Xmit),
+    }
+}
+
+fn any_in(tables: &Tables, may_be: bool, phase: Phase) -> bool
+    requires { Tells phase tables.now.jobs (length tables.now.jobs) may_be }
+    ensures { (Q : Queue) → Tell tables.now Q → result ≡ is_some (first_in (in_phase phase) Q) }
+{
+    may_be && find_in(tables.jobs.as_slice(), phase).is_some()
+}
+
+fn working(tables: &Tables, may_be: bool, by: MemberId, phase: Phase) -> Option<JobNo>
+    requires { Tells phase tables.now.jobs (length tables.now.jobs) may_be }
     ensures { (Q : Queue) → Tell tables.now Q → result ≡ option_map (λ j. j.number) (working_at Q by (in_phase phase)) }
 {
     if by.0 == 0 {
+        return None;
+    }
+    if !may_be {
         return None;
     }
     match find_working(tables.jobs.as_slice(), by, phase) {

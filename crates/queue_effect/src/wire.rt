@@ -57,8 +57,12 @@ impl<'a> Test<JobRec> for ForLine<'a> {
 impl<'a> Rank<JobRec> for ForLine<'a> {
     ghost rank = { λ s r. r.fields.prio.0 };
 
-    fn rank(&self, item: &JobRec) -> u8 {
-        item.fields.prio.0
+    fn rank(&self, item: &JobRec) -> Option<u8> {
+        if self.picks(item) {
+            Some(item.fields.prio.0)
+        } else {
+            None
+        }
     }
 }
 

@@ -1,3 +1,4 @@
 pub mod Listed
 pub mod Best
 pub mod Telling
+pub mod Keys

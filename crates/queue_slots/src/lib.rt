@@ -4,6 +4,7 @@
 
 mod classes;
 mod slots;
+mod walking;
 
 pub use classes::{Classed, best_slot_by_class};
 pub use slots::{Found, Ordered, Rank, Test, best_slot, first_slot, free_slot, used_count};

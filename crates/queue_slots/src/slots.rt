@@ -1,10 +1,10 @@
 //! Records in slots.
-ghost use Rattle.std.specs.Prelude.{◌≡◌, ℕ, Bool, length, IfSome, IfNone, None, position, is_none, find, slice_get};
+ghost use Rattle.std.specs.Prelude.{◌≡◌, ℕ, Bool, length, IfSome, IfNone, None, Some, if◌then◌else◌, position, is_none, find};
 ghost use Rattle.mas_types.specs.Lists.{is_greatest_of};
 ghost use Rattle.ckpt_pages.specs.QueueOf.{used};
 ghost use Rattle.queue_slots.specs.Listed.{listed, StandsFirst};
-ghost use Rattle.queue_slots.specs.Best.{beats, better as better_lem, better_slot as better_slot_lem, is_before as is_before_lem};
 
+use crate::walking::{Weigh, Weight, found_at, walk};
 use lay_bytes::{JobRec, OutRec};
 
 /// A record that is listed by ascending order.
@@ -45,9 +45,9 @@ pub trait Test<T> {
 pub trait Rank<T>: Test<T> {
     ghost rank: { Self → T → ℕ };
 
-    /// The record's rank; the greatest goes first.
-    fn rank(&self, item: &T) -> u8
-        ensures { result ≡ rank self.now item.now };
+    /// The record's rank, of which the greatest goes first; none where it isn't picked.
+    fn rank(&self, item: &T) -> Option<u8>
+        ensures { result ≡ (if Self.picks self.now item.now then Some (rank self.now item.now) else None) };
 }
 
 /// A record and its slot.
@@ -59,16 +59,56 @@ pub struct Found<T> {
     pub item: T,
 }
 
+/// Those that are picked, without a rank.
+#[derive(Clone, Copy)]
+struct Picked<'a, P> {
+    test: &'a P,
+}
+
+impl<'a, T, P: Test<T>> Weigh<T> for Picked<'a, P> {
+    ghost weighs = { λ s x. P.picks s.test.now x };
+
+    ghost key = { λ s x. 0 };
+
+    ghost rank = { λ s x. 0 };
+
+    fn weight(&self, item: &T) -> Option<Weight> {
+        if self.test.picks(item) {
+            Some(Weight { key: 0, rank: 0 })
+        } else {
+            None
+        }
+    }
+}
+
+/// Those that are picked, by their rank.
+#[derive(Clone, Copy)]
+struct Ranked<'a, P> {
+    test: &'a P,
+}
+
+impl<'a, T, P: Rank<T>> Weigh<T> for Ranked<'a, P> {
+    ghost weighs = { λ s x. P.picks s.test.now x };
+
+    ghost key = { λ s x. 0 };
+
+    ghost rank = { λ s x. P.rank s.test.now x };
+
+    fn weight(&self, item: &T) -> Option<Weight> {
+        match self.test.rank(item) {
+            Some(rank) => Some(Weight { key: 0, rank }),
+            None => None,
+        }
+    }
+}
+
 /// The slot of the first record that the test picks in the list by ascending order; none exactly where it picks none.
 pub fn first_slot<T: Ordered + Copy, P: Test<T>>(slots: &[Option<T>], test: &P) -> Option<Found<T>>
     ensures some { IfSome result (λ f. StandsFirst T.order (P.picks test.now) slots.now f.at f.item) }
     ensures none { IfNone result (find (P.picks test.now) (listed T.order slots.now) ≡ None) }
 {
-    let mut first = None;
-    for (at, slot) in slots.iter().enumerate() {
-        first = sooner_slot(test, first, at, slot);
-    }
-    first
+    let best = walk(slots, &Picked { test });
+    found_at(slots, best)
 }
 
 /// The slot of the record that goes first: of those that are picked, of those of the greatest rank, the first in the list by
@@ -78,92 +118,8 @@ pub fn best_slot<T: Ordered + Copy, P: Rank<T>>(slots: &[Option<T>], test: &P) -
     ensures none { IfNone result (find (is_greatest_of (P.rank test.now) (P.picks test.now) (listed T.order slots.now)) (listed T.order slots.now) ≡ None) }
     ensures none_picked { IfNone result (find (P.picks test.now) (listed T.order slots.now) ≡ None) }
 {
-    let mut best = None;
-    for (at, slot) in slots.iter().enumerate() {
-        best = better_slot(test, best, at, slot);
-    }
-    best
-}
-
-fn sooner_slot<T: Ordered + Copy, P: Test<T>>(
-    test: &P,
-    first: Option<Found<T>>,
-    at: usize,
-    slot: &Option<T>,
-) -> Option<Found<T>>
-    ensures { result ≡ better_slot_lem T.order (λ x. 0) (P.picks test.now) first at slot.now }
-{
-    match slot {
-        None => first,
-        Some(item) => sooner(test, first, Found { at, item: *item }),
-    }
-}
-
-fn sooner<T: Ordered + Copy, P: Test<T>>(
-    test: &P,
-    first: Option<Found<T>>,
-    next: Found<T>,
-) -> Option<Found<T>>
-    ensures { result ≡ better_lem T.order (λ x. 0) (P.picks test.now) first next }
-{
-    if is_sooner(test, &first, &next.item) {
-        Some(next)
-    } else {
-        first
-    }
-}
-
-fn is_sooner<T: Ordered + Copy, P: Test<T>>(test: &P, first: &Option<Found<T>>, next: &T) -> bool
-    ensures { result ≡ beats T.order (λ x. 0) (P.picks test.now) first.now next.now }
-{
-    match first {
-        None => test.picks(next),
-        Some(other) => test.picks(next) && next.order() < other.item.order(),
-    }
-}
-
-fn better_slot<T: Ordered + Copy, P: Rank<T>>(
-    test: &P,
-    best: Option<Found<T>>,
-    at: usize,
-    slot: &Option<T>,
-) -> Option<Found<T>>
-    ensures { result ≡ better_slot_lem T.order (P.rank test.now) (P.picks test.now) best at slot.now }
-{
-    match slot {
-        None => best,
-        Some(item) => better(test, best, Found { at, item: *item }),
-    }
-}
-
-fn better<T: Ordered + Copy, P: Rank<T>>(
-    test: &P,
-    best: Option<Found<T>>,
-    next: Found<T>,
-) -> Option<Found<T>>
-    ensures { result ≡ better_lem T.order (P.rank test.now) (P.picks test.now) best next }
-{
-    if is_better(test, &best, &next.item) {
-        Some(next)
-    } else {
-        best
-    }
-}
-
-fn is_better<T: Ordered + Copy, P: Rank<T>>(test: &P, best: &Option<Found<T>>, next: &T) -> bool
-    ensures { result ≡ beats T.order (P.rank test.now) (P.picks test.now) best.now next.now }
-{
-    match best {
-        None => test.picks(next),
-        Some(other) => test.picks(next) && is_before(test, next, &other.item),
-    }
-}
-
-fn is_before<T: Ordered + Copy, P: Rank<T>>(test: &P, one: &T, other: &T) -> bool
-    ensures { result ≡ is_before_lem T.order (P.rank test.now) (P.picks test.now) one.now other.now }
-{
-    test.rank(other) < test.rank(one)
-        || (test.rank(one) == test.rank(other) && one.order() < other.order())
+    let best = walk(slots, &Ranked { test });
+    found_at(slots, best)
 }
 
 /// The lowest slot in which nothing stands; none exactly where something stands in each.
