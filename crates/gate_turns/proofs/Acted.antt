@@ -20,7 +20,7 @@ use Rattle.gate_facts.proofs.Values.{synced_refl}
 use Rattle.mas_complex.specs.Journals.{kept_all, coming}
 use Rattle.mas_complex.specs.Meaning.{run}
 use Rattle.mas_complex.specs.Paper.{counts_of}
-use Rattle.gate_turns.specs.Parts.{Shown}
+use Rattle.mas_complex.specs.Parts.{Shown}
 use Rattle.gate_turns.specs.Seats.{all_seats, has_lock}
 use Rattle.gate_turns.specs.Words.{speaker, lines_by}
 use Rattle.gate_turns.specs.Told.{told_by}

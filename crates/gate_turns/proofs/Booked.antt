@@ -16,7 +16,7 @@ use Rattle.gate_facts.proofs.Values.{synced_refl, later_refl}
 use Rattle.mas_complex.specs.declared.places.Place.{Place}
 use Rattle.mas_complex.specs.Journals.{coming, entries_reserved}
 use Rattle.mas_complex.specs.Locking.{reserved_after_stop}
-use Rattle.gate_turns.specs.Parts.{Shown}
+use Rattle.mas_complex.specs.Parts.{Shown}
 use Rattle.gate_turns.specs.Seats.{has_lock, shows_stopped}
 use Rattle.gate_turns.specs.Desks.{no_hold, whole_hold}
 use Rattle.gate_turns.specs.Shared.{pages_had, hold_of, desk_in, marks_of, facts_of}

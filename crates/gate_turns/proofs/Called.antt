@@ -33,7 +33,7 @@ use Rattle.mas_complex.specs.Seen.{IsFatedBy}
 use Rattle.mas_complex.proofs.Batches.{kept_all_append}
 use Rattle.mas_complex.proofs.BatchEnds.{with_last-append}
 use Rattle.mas_complex.proofs.Counted.{counts_first, counts_second, counts_both, counts_lost}
-use Rattle.gate_turns.specs.Parts.{Shown}
+use Rattle.mas_complex.specs.Parts.{Shown}
 use Rattle.gate_turns.specs.Seats.{all_seats, has_lock, shows_stopped}
 use Rattle.gate_turns.specs.Words.{lines_by}
 use Rattle.gate_turns.specs.Told.{told_by}

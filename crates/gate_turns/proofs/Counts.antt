@@ -16,7 +16,7 @@ use Rattle.paper_laws.specs.Counts.{begins_anew}
 use Rattle.mas_complex.specs.Journals.{kept_all}
 use Rattle.mas_complex.specs.Meaning.{run}
 use Rattle.mas_complex.specs.Paper.{counts_of, printed_by}
-use Rattle.gate_turns.specs.Parts.{Shown}
+use Rattle.mas_complex.specs.Parts.{Shown}
 use Rattle.gate_turns.specs.Words.{lines_by}
 use Rattle.gate_turns.specs.Desks.{kept_pages, no_hold, groups_on}
 use Rattle.gate_turns.specs.Shared.{said_since}

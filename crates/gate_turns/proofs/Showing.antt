@@ -5,7 +5,6 @@ use Rattle.std.proofs.lemmas.List.{length-append}
 use native.Mathlib.Bridge.{le_prop}
 use Rattle.std.specs.Prelude.{IfSome, OnOk, if◌then◌else◌}
 use Rattle.mas_types.specs.declared.ids.MemberId.{MemberId}
-use Rattle.mas_types.specs.declared.journals.Entry.{Entry}
 use Rattle.mas_types.specs.declared.queues.Config.{Config}
 use Rattle.spool_disk.specs.declared.plant.Plant.{Ghosts as PlantGhosts}
 use Rattle.ckpt_copy.specs.declared.copying.Copying.{Ghosts as CopyGhosts}
@@ -19,7 +18,7 @@ use Rattle.gate_facts.specs.Values.{no_desk, desk_of}
 use Rattle.gate_facts.specs.Memory.{Memory, MayGiveBack, IsLeft}
 use Rattle.gate_turns.specs.Seats.{has_lock}
 use Rattle.gate_turns.specs.Desks.{no_hold, whole_hold}
-use Rattle.gate_turns.specs.Parts.{Shown, shown_of}
+use Rattle.mas_complex.specs.Parts.{Parts, Shown, parts_of, shown_of, shows}
 use Rattle.gate_turns.specs.Shared.{pages_had, desk_in, facts_of}
 use Rattle.gate_turns.specs.Laws.{with_book, HasBegun}
 use Rattle.gate_turns.specs.Turning.{Serves, IsMemberOf, members_of}
@@ -42,36 +41,9 @@ pub few_seats : (config : Config) (m : MemberId) → IsMemberOf config m → m.0
 few_seats config m there = let l : m.0 ≤ members_of config = there.1 in omega arith
 
 module _ {P C : Type 0} {plants : PlantGhosts P} {steadies : SteadyGhosts C} {copies : CopyGhosts C} where
-  -- all but the book is as before
-  pub record IsBesideBook (was is : Complex P C plants steadies copies) : Type 0 where
-    pub plant : is.plant ≡ was.plant
-    pub pair : is.pair ≡ was.pair
-    pub base : is.base ≡ was.base
-    pub since : is.since ≡ was.since
-    pub journal : is.journal ≡ was.journal
-    pub current : is.current ≡ was.current
-    pub first : is.first ≡ was.first
-    pub second : is.second ≡ was.second
-    pub level : is.level ≡ was.level
-    pub printed : is.printed ≡ was.printed
-
-  pub shown_beside : (was is : Complex P C plants steadies copies) (b : Book) (r : Option (List Entry)) → IsBesideBook was is → is.book ≡ b → is.reserved ≡ r → shown_of is ≡ with_book (shown_of was) b r
-  shown_beside was is b r same book reserved = λ i. record {
-    view = plants.view (same.plant i);
-    reads = copies.reads;
-    first_alive = (same.pair i).first.alive;
-    second_alive = (same.pair i).second.alive;
-    book = book i;
-    base = same.base i;
-    since = same.since i;
-    batches = (same.journal i).batches;
-    current = same.current i;
-    reserved = reserved i;
-    printed = same.printed i;
-    first = same.first i;
-    second = same.second i;
-    level = same.level i;
-  }
+  -- a call that changes the book alone
+  pub shown_framed : (was is : Complex P C plants steadies copies) (b : Book) → parts_of is ≡ record (parts_of was) { book = b } → shown_of is ≡ with_book (shown_of was) b was.reserved
+  shown_framed was is b frame = ap (λ (p : Parts P C). shows copies.reads plants.view p) frame
 
   -- after a try the value may be given back
   pub tried_back : (was is : Complex P C plants steadies copies) (by : MemberId) (inner : Bool) (bound : Option ℕ) (cares : List Bool) (taken : Facts) (told : Bool)

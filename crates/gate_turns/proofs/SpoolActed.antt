@@ -27,7 +27,7 @@ use Rattle.mas_complex.specs.Meaning.{run}
 use Rattle.mas_complex.specs.Spool.{IsHeldBy, device_of, is_within, page_start, page_part, ReadsGroup, WritesGroup}
 use Rattle.mas_complex.specs.Texts.{spools_at}
 use Rattle.mas_complex.proofs.Spooled.{Spared, Quiet, quiet_same, quiet_untouched, quiet_spared, read_quiet, sync_quiet, each_quiet}
-use Rattle.gate_turns.specs.Parts.{Shown}
+use Rattle.mas_complex.specs.Parts.{Shown}
 use Rattle.gate_turns.specs.Words.{lines_by}
 use Rattle.gate_turns.specs.Desks.{Disks, if_at_level, if_good, one_of, kept_pages, groups_from, meets, is_unsynced, page_stretch, group_on, groups_on}
 use Rattle.gate_turns.specs.Shared.{said_since}

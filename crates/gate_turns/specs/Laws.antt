@@ -33,7 +33,7 @@ use Rattle.mas_complex.specs.Locking.{IsOwn, reserved_after_stop}
 use Rattle.mas_complex.specs.Seen.{IsFatedBy}
 use Rattle.gate_turns.specs.Desks.{group_on, groups_from}
 use Rattle.gate_turns.specs.Seats.{shows_stopped}
-use Rattle.gate_turns.specs.Parts.{Shown}
+use Rattle.mas_complex.specs.Parts.{Shown}
 use Rattle.gate_turns.specs.Words.{speaker}
 use Rattle.gate_turns.specs.Told.{step_told, IsShort}
 use Rattle.gate_turns.specs.Shared.{facts_of}

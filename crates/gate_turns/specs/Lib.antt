@@ -3,7 +3,6 @@ pub mod Words
 pub mod Told
 pub mod Desks
 pub mod Marked
-pub mod Parts
 pub mod Shared
 pub mod Turning
 pub mod Laws

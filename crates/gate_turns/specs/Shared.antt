@@ -15,7 +15,7 @@ use Rattle.mas_complex.specs.Journals.{kept_all, in_flight, coming}
 use Rattle.mas_complex.specs.Meaning.{run}
 use Rattle.mas_complex.specs.Paper.{counts_of}
 use Rattle.gate_turns.specs.Seats.{all_seats, has_lock, shows_stopped}
-use Rattle.gate_turns.specs.Parts.{Shown}
+use Rattle.mas_complex.specs.Parts.{Shown}
 use Rattle.gate_turns.specs.Words.{lines_by}
 use Rattle.gate_turns.specs.Told.{told_by}
 use Rattle.gate_turns.specs.Desks.{kept_pages, no_hold, whole_hold, groups_on}

@@ -5,7 +5,7 @@ use Rattle.mas_types.specs.declared.queues.Config.{Config}
 use Rattle.mas_types.specs.Limits.{members_most}
 use Rattle.mas_complex.specs.Locking.{IsOperatorAway}
 use Rattle.atomic_table.specs.Seated.{TableId}
-use Rattle.gate_turns.specs.Parts.{Shown}
+use Rattle.mas_complex.specs.Parts.{Shown}
 
 -- it holds without the content, and with it where the plant tells it
 pub record EachWay (tells : Type 0) (S : Bool → Type 0) : Type 0 where

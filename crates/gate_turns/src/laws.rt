@@ -1,7 +1,7 @@
 //! What calls of the shared value leave to the others.
 ghost use Rattle.gate_turns.specs.Examples.{LinesAreTheirs};
 ghost use Rattle.gate_turns.specs.Laws.{ItselfMayGoBack, OneByOne, TriesMayGoBack, FreesMayGoBack, StopsMayGoBack, SeizesMayGoBack, SpendsMayGoBack, KeepsMayGoBack, ReservesMayGoBack, CopyActsCount, PairActsCount, LossesCount, PassingLeavesGroups, CallsMayGoBack, PutsMayGoBack, OpensMayGoBack, RecoversMayGoBack, SaysMayGoBack, PrintsMayGoBack, BatchesLeaveCounts, ReadsMayGoBack, SyncsMayGoBack, WritesMayGoBack, UnsyncedAsTheyAre, HasBegun, ClosingsTell, OnlyClosingsTell};
-ghost use Rattle.gate_turns.specs.Parts.{shown_of};
+ghost use Rattle.mas_complex.specs.Parts.{shown_of};
 
 use mas_complex::{Complex, Steady};
 use spool_disk::Plant;

@@ -4,7 +4,7 @@ use spool_disk::Plant;
 
 /// A value at which members take turns. It tells of itself in proofs alone.
 pub trait Telling {
-    ghost use Rattle.gate_turns.specs.Parts.{Shown};
+    ghost use Rattle.mas_complex.specs.Parts.{Shown};
 
     /// That the plant tells its content.
     ghost tells: { Type 0 };
@@ -14,7 +14,7 @@ pub trait Telling {
 }
 
 impl<P: Plant + Drop, C: Steady + Drop> Telling for Complex<P, C> {
-    ghost use Rattle.gate_turns.specs.Parts.{shown_of};
+    ghost use Rattle.mas_complex.specs.Parts.{shown_of};
 
     ghost tells = { P.tells };
 

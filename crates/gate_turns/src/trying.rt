@@ -1,7 +1,7 @@
 //! One turn in which a member tries at the lock.
 ghost use Rattle.std.specs.Prelude.{◌≡◌, true, false, None, Some, OnOk, IfErr, IfSome, is_some};
 ghost use Rattle.lock_cycle.specs.Books.{after_try, try_refusal};
-ghost use Rattle.gate_turns.specs.Parts.{parts_of};
+ghost use Rattle.mas_complex.specs.Parts.{parts_of};
 ghost use Rattle.gate_turns.specs.Turning.{Serves, IsMemberOf};
 
 use crate::laws::law_of_lock_calls;

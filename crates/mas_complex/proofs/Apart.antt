@@ -1,5 +1,5 @@
 -- What a call on one copy leaves as it was, said of plain data.
-use Rattle.std.proofs.Common.{◌≡◌, ◌==◌, ⊎_elim, ℕ, ◌≤◌, ◌<◌, Bool, true, false, List, refl, sym, subst, ap, ◌∙◌, arith}
+use Rattle.std.proofs.Common.{◌≡◌, ◌≢◌, ◌==◌, ⊎_elim, ℕ, ◌≤◌, ◌<◌, Bool, true, false, List, refl, sym, subst, ap, ◌∙◌, arith}
 use Rattle.std.proofs.lemmas.Bool.{eqb-true, eqb-false}
 use Rattle.std.proofs.Math.Logic.{∥∥₁_elim}
 use Rattle.std.specs.Coded.{Coded, Coded-set, coded_list, coded_ℕ, coded_bool, coded×, code_by}
@@ -60,6 +60,10 @@ module _ (v : ℕ) (old new : View) (there : LosesThere (Spool v) old new) where
     by_volume : (b : Bool) → (n == v) ≡ b → (disk_now new (Spool n)).bytes ≡ (disk_now old (Spool n)).bytes
     by_volume true e = subst (λ (m : ℕ). (disk_now new (Spool m)).bytes ≡ (disk_now old (Spool m)).bytes) (sym (eqb-true n v e)) there.disk.bytes
     by_volume false e = ap (λ (x : Disk). x.bytes) (there.only.others (Spool n) (λ same. eqb-false n v e (cc same)))
+
+-- the bytes of the other devices
+pub bytes_else : (dev : Dev) (old new : View) → Goes old new → Elsewhere dev old new → (d : Dev) → d ≢ dev → (disk_now new d).bytes ≡ (disk_now old d).bytes
+bytes_else dev old new goes e d ne = ap (λ (x : Disk). x.bytes) (e.others new.now goes.later (omega arith) d ne)
 
 -- CALLS ONE AFTER ANOTHER
 

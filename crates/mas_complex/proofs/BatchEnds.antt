@@ -1,10 +1,10 @@
 -- The end of a journal is written.
-use Rattle.std.proofs.Common.{◌≡◌, ◌-◌, ◌<◌, List, [], ◌∷◌, ◌++◌, length, drop, slice_set, refl, ap, ◌∙◌, arith}
+use Rattle.std.proofs.Common.{◌≡◌, ℕ, suc, ◌-◌, ◌≤◌, ◌<◌, List, [], ◌∷◌, ◌++◌, length, drop, slice_set, refl, ap, sym, subst, ◌∙◌, arith}
 use Rattle.std.proofs.lemmas.List.{take-append-le, take_all, length-set}
 use Rattle.std.specs.List.{refill}
 use Rattle.std.specs.Prelude.{remove}
 use Rattle.mas_types.specs.declared.journals.Batch.{Batch}
-use Rattle.mas_complex.specs.Journals.{with_last, without_last}
+use Rattle.mas_complex.specs.Journals.{journal_most, with_last, without_last}
 
 -- a slice that was written as a whole is what was written
 refilled : {X : Type 0} (xs ws : List X) → length ws ≡ length xs → refill (length xs) xs ws ≡ ws
@@ -39,3 +39,11 @@ pub without_last-append : (bs : List Batch) (b : Batch) → without_last (bs ++ 
 without_last-append [] b = refl
 without_last-append (a ∷ []) b = refl
 without_last-append (a ∷ next ∷ bs) b = ap (λ (ys : List Batch). a ∷ ys) (without_last-append (next ∷ bs) b)
+
+-- another last batch leaves as many
+pub few_with_last : (b : Batch) (js : List Batch) → length js ≤ journal_most → length (with_last b js) ≤ journal_most
+few_with_last b js few = subst (λ (n : ℕ). n ≤ journal_most) (sym (as_many js)) few where
+  as_many : (l : List Batch) → length (with_last b l) ≡ length l
+  as_many [] = refl
+  as_many (a ∷ []) = refl
+  as_many (a ∷ next ∷ l) = ap suc (as_many (next ∷ l))

@@ -13,7 +13,9 @@ use Rattle.duplex_pair.specs.declared.errors.PairNo.TheVariants.{BothLost as Pai
 use Rattle.duplex_pair.specs.Halves.{IsCkpt, pick, other, Acted}
 use Rattle.duplex_pair.specs.Both.{PairActed}
 use Rattle.duplex_pair.specs.Outcomes.{look_stopped, pair_stopped}
+use Rattle.std.specs.Prelude.{IsErrOf}
 use Rattle.mas_complex.specs.declared.recover.RecoverNo.{RecoverNo}
+use Rattle.mas_complex.specs.declared.recover.RecoverNo.TheVariants.{BothLost as RecoverBothLost, Halted as RecoverHalted}
 use Rattle.mas_complex.specs.CallCounts.{IsLostOnce, KeepsCounts}
 use Rattle.mas_complex.specs.Recovers.{recover_no, recover_no_seen, recover_stopped}
 
@@ -91,6 +93,13 @@ counts_second by a a' b b' stopped old new same acted = record {
   else_loses = λ d one two. acted.loses d;
 }
 
+-- on the copy of one device
+pub counts_one : {H : Type 0} (alive : H → Bool) (by : ℕ) (dev : Dev) → IsCkpt dev → (h1 h2 k1 k2 : H) (stopped : Bool) (old new : View) → other dev k1 k2 ≡ other dev h1 h2 → Acted by dev (alive (pick dev h1 h2)) (alive (pick dev k1 k2)) stopped old new
+    → KeepsCounts by (alive h1) (alive k1) (alive h2) (alive k2) stopped old new
+counts_one alive by Ckpt1 ckpt h1 h2 k1 k2 stopped old new same acted = counts_first by (alive h1) (alive k1) (alive h2) (alive k2) stopped old new (ap alive same) acted
+counts_one alive by Ckpt2 ckpt h1 h2 k1 k2 stopped old new same acted = counts_second by (alive h1) (alive k1) (alive h2) (alive k2) stopped old new (ap alive same) acted
+counts_one alive by (Spool n) ckpt h1 h2 k1 k2 stopped old new same acted = absurd ckpt
+
 pub counts_both : (by : ℕ) (a a' b b' stopped : Bool) (old new : View) → PairActed by a a' b b' stopped old new → KeepsCounts by a a' b b' stopped old new
 counts_both by a a' b b' stopped old new acted = record {
   goes = acted.goes;
@@ -144,3 +153,10 @@ module _ {A : Type 0} (B : Type 0) (by : ℕ) (a a' b b' : Bool) (old new : View
 
   pub counts_brought : (why : PairNo) → r ≡ Err no → no ≡ recover_no why → KeepsCounts by a a' b b' (pair_stopped {T = B} (Err why)) old new → KeepsCounts by a a' b b' (recover_stopped r) old new
   counts_brought why is same x = subst (λ (s : Bool). KeepsCounts by a a' b b' s old new) (sym (ap recover_stopped (is ∙ ap Err same) ∙ brought_stopped A B why)) x
+
+-- a pair of which a copy counts as alive isn't lost
+pub not_brought : {T U : Type 0} (r : Result T RecoverNo) (answer : RecoverNo) (why : PairNo) → r ≡ Err answer → answer ≡ recover_no why → (IsErrOf {T = U} (Err why) PairBothLost → ⊥) → IsErrOf r RecoverBothLost → ⊥
+not_brought r answer PairBothLost is same not lost = not refl
+not_brought {T = T} r answer PairHalted is same not lost = apart r (is ∙ ap Err same) lost where
+  apart : (x : Result T RecoverNo) → x ≡ Err RecoverHalted → x ≡ Err RecoverBothLost → ⊥
+  apart x a b = cc

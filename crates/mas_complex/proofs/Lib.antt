@@ -32,3 +32,5 @@ pub mod SpoolActs
 pub mod Quotients
 pub mod Counted
 pub mod Keeping
+pub mod OnDevice
+pub mod Frames

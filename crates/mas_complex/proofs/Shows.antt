@@ -7,7 +7,7 @@ use Rattle.ckpt_copy.specs.Changes.{NoMore}
 use Rattle.ckpt_copy.specs.Pages.{level, Covers}
 use Rattle.ckpt_copy.specs.Meanwhile.{Meanwhile}
 use Rattle.ckpt_copy.specs.Moments.{meanwhile_end}
-use Rattle.duplex_pair.specs.Halves.{SameOrLost}
+use Rattle.duplex_pair.specs.Halves.{IsCkpt, SameOrLost}
 use Rattle.duplex_pair.specs.Both.{BothMeanwhile}
 use Rattle.mas_complex.specs.declared.places.Place.{Place}
 use Rattle.mas_complex.specs.declared.places.Place.TheVariants.{Before, Put}
@@ -53,15 +53,29 @@ module _ (old new : View) where
   other_bytes : (dev d : Dev) (P : Disk → Type 0) → d ≢ dev → Meanwhile dev P old new → (disk_now new d).bytes ≡ (disk_now old d).bytes
   other_bytes dev d P ne m = ap (λ (x : Disk). x.bytes) (m.others new.now m.goes.later (omega arith) d ne)
 
-  pub lose_first_bytes : Meanwhile Ckpt1 (SameOrLost (disk_now old Ckpt1)) old new → (d : Dev) → (disk_now new d).bytes ≡ (disk_now old d).bytes
+  lose_first_bytes : Meanwhile Ckpt1 (SameOrLost (disk_now old Ckpt1)) old new → (d : Dev) → (disk_now new d).bytes ≡ (disk_now old d).bytes
   lose_first_bytes m Ckpt1 = (meanwhile_end Ckpt1 (SameOrLost (disk_now old Ckpt1)) old new m).bytes
   lose_first_bytes m Ckpt2 = other_bytes Ckpt1 Ckpt2 (SameOrLost (disk_now old Ckpt1)) ne12 m
   lose_first_bytes m (Spool n) = other_bytes Ckpt1 (Spool n) (SameOrLost (disk_now old Ckpt1)) (ne13 n) m
 
-  pub lose_second_bytes : Meanwhile Ckpt2 (SameOrLost (disk_now old Ckpt2)) old new → (d : Dev) → (disk_now new d).bytes ≡ (disk_now old d).bytes
+  lose_second_bytes : Meanwhile Ckpt2 (SameOrLost (disk_now old Ckpt2)) old new → (d : Dev) → (disk_now new d).bytes ≡ (disk_now old d).bytes
   lose_second_bytes m Ckpt1 = other_bytes Ckpt2 Ckpt1 (SameOrLost (disk_now old Ckpt2)) ne21 m
   lose_second_bytes m Ckpt2 = (meanwhile_end Ckpt2 (SameOrLost (disk_now old Ckpt2)) old new m).bytes
   lose_second_bytes m (Spool n) = other_bytes Ckpt2 (Spool n) (SameOrLost (disk_now old Ckpt2)) (ne23 n) m
+
+  pub lose_bytes : (dev : Dev) → IsCkpt dev → Meanwhile dev (SameOrLost (disk_now old dev)) old new → (d : Dev) → (disk_now new d).bytes ≡ (disk_now old d).bytes
+  lose_bytes Ckpt1 ckpt m d = lose_first_bytes m d
+  lose_bytes Ckpt2 ckpt m d = lose_second_bytes m d
+  lose_bytes (Spool n) ckpt m d = absurd ckpt
+
+  pub look_bytes : (dev : Dev) → IsCkpt dev → Meanwhile dev (NoMore (disk_now old dev)) old new → (d : Dev) → (disk_now new d).bytes ≡ (disk_now old d).bytes
+  look_bytes Ckpt1 ckpt m Ckpt1 = (meanwhile_end Ckpt1 (NoMore (disk_now old Ckpt1)) old new m).bytes
+  look_bytes Ckpt1 ckpt m Ckpt2 = other_bytes Ckpt1 Ckpt2 (NoMore (disk_now old Ckpt1)) ne12 m
+  look_bytes Ckpt1 ckpt m (Spool n) = other_bytes Ckpt1 (Spool n) (NoMore (disk_now old Ckpt1)) (ne13 n) m
+  look_bytes Ckpt2 ckpt m Ckpt1 = other_bytes Ckpt2 Ckpt1 (NoMore (disk_now old Ckpt2)) ne21 m
+  look_bytes Ckpt2 ckpt m Ckpt2 = (meanwhile_end Ckpt2 (NoMore (disk_now old Ckpt2)) old new m).bytes
+  look_bytes Ckpt2 ckpt m (Spool n) = other_bytes Ckpt2 (Spool n) (NoMore (disk_now old Ckpt2)) (ne23 n) m
+  look_bytes (Spool n) ckpt m d = absurd ckpt
 
   pub read_bytes : BothMeanwhile (NoMore (disk_now old Ckpt1)) (NoMore (disk_now old Ckpt2)) old new → (d : Dev) → (disk_now new d).bytes ≡ (disk_now old d).bytes
   read_bytes m Ckpt1 = (m.first new.now m.goes.later (omega arith)).bytes

@@ -30,6 +30,11 @@ same_view dev P old new e here = subst (λ (v : View). Meanwhile dev P old v) (s
 at_place : (S : Setting) (rests : List ℕ → Disk → Type 0) (holds : List ℕ → List ℕ → Disk → Type 0) (was : List ℕ) (coming : Option (List ℕ)) (p q : Place) (d : Disk) → p ≡ q → IsAt S rests holds was coming p d → IsAt S rests holds was coming q d
 at_place S rests holds was coming p q d e side = subst (λ (x : Place). IsAt S rests holds was coming x d) e side
 
+-- a copy at which the batch hasn't come rests with the kept pages
+pub rests_before : (S : Setting) (rests : List ℕ → Disk → Type 0) (holds : List ℕ → List ℕ → Disk → Type 0) (was : List ℕ) (coming : Option (List ℕ)) (place : Place) (alive : Bool) (now : ℕ) (d : Disk)
+    → OneCopy S rests holds was coming place alive now d → (alive ≡ true → place ≡ Before) → alive ≡ true → rests was d
+rests_before S rests holds was coming place alive now d copy before is = at_place S rests holds was coming place Before d (before is) (copy.at is)
+
 pub no : (b : Bool) → b ≡ true → b ≡ false → ⊥
 no b p q = cc
 

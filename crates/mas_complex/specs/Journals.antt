@@ -1,5 +1,5 @@
 -- What the batches of a journal say of a moment, batch by batch.
-use Rattle.std.specs.Prelude.{◌≡◌, ℕ, ◌≤◌, ◌==◌, ◌&&◌, if◌then◌else◌, Bool, true, false, List, [], ◌∷◌, ◌++◌, Option, Some, None}
+use Rattle.std.specs.Prelude.{◌≡◌, ℕ, ◌^◌, ◌≤◌, ◌==◌, ◌&&◌, if◌then◌else◌, Bool, true, false, List, [], ◌∷◌, ◌++◌, Option, Some, None}
 use Rattle.std.specs.List.{list_any}
 use Rattle.mas_types.specs.declared.ids.MemberId.{MemberId}
 use Rattle.mas_types.specs.declared.journals.Batch.{Batch}
@@ -31,6 +31,10 @@ flying (b ∷ bs) t = flying_of b t ++ flying bs t
 abbrev pub kept_all : List Batch → List Entry
 kept_all [] = []
 kept_all (b ∷ bs) = (if is_kept b.fate then b.entries else []) ++ kept_all bs
+
+-- a journal has at most so many batches
+abbrev pub journal_most : ℕ
+journal_most = 2 ^ 40
 
 -- the batches have their fates, all by this moment
 abbrev pub AreSettled : List Batch → ℕ → Type 0

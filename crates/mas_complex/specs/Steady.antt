@@ -42,3 +42,7 @@ fit_where n size ready =
 
 pub stays_fit_lem : (n old new : ℕ) → new ≡ old → is_fit n old ≡ true → is_fit n new ≡ true
 stays_fit_lem n old new same fit = subst (λ (size : ℕ). is_fit n size ≡ true) (sym same) fit
+
+-- where a put is possible before a settle
+pub some_room : 1 ≤ 1
+some_room = omega arith

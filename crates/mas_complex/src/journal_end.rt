@@ -1,10 +1,26 @@
 //! The end of a journal.
-ghost use Rattle.std.specs.Prelude.{◌≡◌, ◌++◌, ◌∷◌, [], OnOk, OnErr};
+ghost use Rattle.std.specs.Prelude.{◌≡◌, ◌++◌, ◌∷◌, [], length, ◌≤◌, OnOk, OnErr};
 ghost use Rattle.mas_types.specs.declared.journals.Fate.TheVariants.{Dropped};
-ghost use Rattle.mas_complex.specs.Journals.{with_last, without_last, end_of};
+ghost use Rattle.mas_complex.specs.Journals.{journal_most, with_last, without_last, end_of};
 
-use mas_types::{Batch, Fate, Journal, List, MemberId};
+use mas_types::{Batch, Fate, Journal, List, MemberId, NoMemory};
 use std::alloc::Global;
+
+// A journal has at most so many batches.
+const JOURNAL_MOST: usize = 1 << 40;
+
+// The place of a batch to come stands last. NoMemory comes where there is none, or the journal has as many batches as it may.
+pub(crate) fn push_place(batches: &mut List<Batch>, place: Batch) -> Result<(), NoMemory>
+    requires few { length batches.old ≤ journal_most }
+    ensures ok { OnOk result (batches.new ≡ batches.old ++ place ∷ []) }
+    ensures err { OnErr result (batches.new ≡ batches.old) }
+    ensures few { length batches.new ≤ journal_most }
+{
+    if batches.len() >= JOURNAL_MOST {
+        return Err(NoMemory);
+    }
+    batches.push(place)
+}
 
 // The last batch is this one instead.
 pub(crate) fn set_last(batches: &mut List<Batch>, batch: Batch)

@@ -4,7 +4,9 @@
 //! what the console tells at it, and what stands on paper. `Complex::end` hands all of it out.
 #![tactic(auto)]
 
+mod begin_end;
 mod complex;
+mod copies;
 mod counts;
 mod fitting;
 mod journal_end;
@@ -12,9 +14,12 @@ mod locking;
 mod places;
 mod printing;
 mod recover;
+mod reserving;
+mod saying;
 mod seeing;
 mod spool;
 mod steady;
+mod writing;
 
 pub use complex::{Complex, Ended};
 pub use counts::COUNTS;

@@ -3,7 +3,8 @@ ghost use Rattle.std.specs.Prelude.{◌≡◌, true, false, min, length, Some, N
 ghost use Rattle.lock_cycle.specs.Books.{IsMember, is_stopped, is_holder, left_of, try_refusal, after_try, free_refusal, after_free, after_stop, seize_refusal, after_seize, after_spend};
 ghost use Rattle.spool_disk.specs.Acts.{top};
 ghost use Rattle.mas_complex.specs.Journals.{kept_all};
-ghost use Rattle.mas_complex.specs.Locking.{IsOperatorAway, reserved_after_stop, is_of_member};
+ghost use Rattle.mas_complex.specs.Locking.{IsOperatorAway, MayAct, reserved_after_stop, is_of_member};
+ghost use Rattle.mas_complex.specs.Parts.{parts_of};
 
 use crate::complex::Complex;
 use crate::steady::Steady;
@@ -103,6 +104,7 @@ impl<P: Plant + Drop, C: Steady + Drop> Complex<P, C> {
         ensures book { self.new.book ≡ after_try self.old.book by inner }
         ensures ok { OnOk result (try_refusal self.old.book by inner ≡ None) }
         ensures err { IfErr result (λ e. try_refusal self.old.book by inner ≡ Some e) }
+        ensures frame { parts_of self.new ≡ record (parts_of self.old) { book = after_try self.old.book by inner } }
     {
         self.book.try_lock(by, inner)
     }
@@ -130,8 +132,59 @@ impl<P: Plant + Drop, C: Steady + Drop> Complex<P, C> {
         ensures ok { OnOk result (free_refusal self.old.book by ≡ None) }
         ensures err { IfErr result (λ e. free_refusal self.old.book by ≡ Some e) }
         ensures err_reserved { OnErr result (self.new.reserved ≡ self.old.reserved) }
+        ensures frame { OnOk result (parts_of self.new ≡ record (parts_of self.old) { book = after_free self.old.book by inner; reserved = None }) }
+        ensures none { OnErr result (parts_of self.new ≡ parts_of self.old) }
     {
         give_up_after_free(&mut self.book, &mut self.reserved, by, inner)
+    }
+
+    /// The member that holds the lock leaves it in the middle of a step, for acts beside it. A batch that is reserved and hasn't begun
+    /// is given up. Nothing may be in flight.
+    pub fn leave_lock(&mut self, by: MemberId)
+        requires may { MayAct self.old.book by }
+        requires member { IsMember self.old.book by }
+        requires none { self.old.current ≡ None }
+        ensures plant { self.new.plant ≡ self.old.plant }
+        ensures pair { self.new.pair ≡ self.old.pair }
+        ensures base { self.new.base ≡ self.old.base }
+        ensures since { self.new.since ≡ self.old.since }
+        ensures printed { self.new.printed ≡ self.old.printed }
+        ensures journal { self.new.journal ≡ self.old.journal }
+        ensures current { self.new.current ≡ self.old.current }
+        ensures placed { self.new.placed ≡ self.old.placed }
+        ensures first { self.new.first ≡ self.old.first }
+        ensures second { self.new.second ≡ self.old.second }
+        ensures level { self.new.level ≡ self.old.level }
+        ensures reserved { self.new.reserved ≡ None }
+        ensures book { self.new.book ≡ after_free self.old.book by true }
+        ensures frame { parts_of self.new ≡ record (parts_of self.old) { book = after_free self.old.book by true; reserved = None } }
+    {
+        self.reserved = None;
+        let _freed = self.book.free(by, true);
+    }
+
+    /// The member takes the lock again that it left in the middle of a step. Nothing refuses it, and the operator may have nothing
+    /// reserved or in flight.
+    pub fn retake_lock(&mut self, by: MemberId)
+        requires member { IsMember self.old.book by }
+        requires away { IsOperatorAway self.old.book self.old.reserved self.old.current }
+        requires free { try_refusal self.old.book by true ≡ None }
+        ensures plant { self.new.plant ≡ self.old.plant }
+        ensures pair { self.new.pair ≡ self.old.pair }
+        ensures base { self.new.base ≡ self.old.base }
+        ensures since { self.new.since ≡ self.old.since }
+        ensures printed { self.new.printed ≡ self.old.printed }
+        ensures journal { self.new.journal ≡ self.old.journal }
+        ensures current { self.new.current ≡ self.old.current }
+        ensures placed { self.new.placed ≡ self.old.placed }
+        ensures first { self.new.first ≡ self.old.first }
+        ensures second { self.new.second ≡ self.old.second }
+        ensures level { self.new.level ≡ self.old.level }
+        ensures reserved { self.new.reserved ≡ self.old.reserved }
+        ensures book { self.new.book ≡ after_try self.old.book by true }
+        ensures frame { parts_of self.new ≡ record (parts_of self.old) { book = after_try self.old.book by true } }
+    {
+        let _taken = self.book.try_lock(by, true);
     }
 
     /// The member is stopped. It still holds what it held. A batch of it that is reserved and hasn't begun is given up.
@@ -150,6 +203,7 @@ impl<P: Plant + Drop, C: Steady + Drop> Complex<P, C> {
         ensures level { self.new.level ≡ self.old.level }
         ensures reserved { self.new.reserved ≡ reserved_after_stop by self.old.reserved }
         ensures book { self.new.book ≡ after_stop self.old.book by }
+        ensures frame { parts_of self.new ≡ record (parts_of self.old) { book = after_stop self.old.book by; reserved = reserved_after_stop by self.old.reserved } }
     {
         give_up_after_stop(&mut self.book, &mut self.reserved, by);
     }
@@ -175,6 +229,7 @@ impl<P: Plant + Drop, C: Steady + Drop> Complex<P, C> {
         ensures book { self.new.book ≡ after_seize self.old.book by of }
         ensures ok { OnOk result (seize_refusal self.old.book of ≡ None) }
         ensures err { IfErr result (λ e. seize_refusal self.old.book of ≡ Some e) }
+        ensures frame { parts_of self.new ≡ record (parts_of self.old) { book = after_seize self.old.book by of } }
     {
         self.book.seize(by, of)
     }
@@ -195,6 +250,7 @@ impl<P: Plant + Drop, C: Steady + Drop> Complex<P, C> {
         ensures level { self.new.level ≡ self.old.level }
         ensures reserved { self.new.reserved ≡ self.old.reserved }
         ensures book { self.new.book ≡ after_spend self.old.book by commands }
+        ensures frame { parts_of self.new ≡ record (parts_of self.old) { book = after_spend self.old.book by commands } }
     {
         self.book.spend(by, commands);
     }

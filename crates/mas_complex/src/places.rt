@@ -1,9 +1,11 @@
 //! How far a batch has come on a copy.
 ghost use Rattle.std.specs.Prelude.{◌≡◌, true};
+ghost use Rattle.duplex_pair.specs.Halves.{IsCkpt, other, pick};
 ghost use Rattle.mas_complex.specs.Places.{IsPlaceAfter, IsAtLevel};
 ghost use Rattle.mas_complex.specs.Seen.{IsPlaceSeen};
 
 use duplex_pair::{Look, LookNo, PairNo, pages_level};
+use mas_types::Dev;
 
 /// How far the batch in flight has come on a copy.
 #[derive(Clone, Copy, PartialEq, Eq)]
@@ -26,6 +28,19 @@ pub(crate) fn place_after(done: &Result<(), PairNo>, there: Place) -> Place
         Ok(()) => there,
         Err(PairNo::BothLost) => there,
         Err(PairNo::Halted) => Place::Unsure,
+    }
+}
+
+// How far the batch has come on the copy of one device.
+pub(crate) fn set_place(dev: Dev, first: &mut Place, second: &mut Place, place: Place)
+    requires { IsCkpt dev }
+    ensures place { pick dev first.new second.new ≡ place }
+    ensures other { other dev first.new second.new ≡ other dev first.old second.old }
+{
+    match dev {
+        Dev::Ckpt1 => *first = place,
+        Dev::Ckpt2 => *second = place,
+        Dev::Spool(_) => unreachable!(),
     }
 }
 

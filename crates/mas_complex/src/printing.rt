@@ -11,6 +11,7 @@ ghost use Rattle.paper_laws.specs.Paper.{AreLinesOn};
 ghost use Rattle.mas_complex.specs.Journals.{entries_in, kept_all};
 ghost use Rattle.mas_complex.specs.Locking.{IsOfOther, IsUp};
 ghost use Rattle.mas_complex.specs.Paper.{AreGivenIn, IsOnPaper, book_by, counts_of, printed_by, reserved_by};
+ghost use Rattle.mas_complex.specs.Parts.{parts_of};
 
 use crate::complex::Complex;
 use crate::counts::COUNTS;
@@ -74,6 +75,12 @@ impl<P: Plant + Drop, C: Steady + Drop> Complex<P, C> {
         ensures level { self.new.level ≡ self.old.level }
         ensures acts { Acts by.0 (Printer by) (P.view self.old.plant) (P.view self.new.plant) result }
         ensures content { P.tells → Prints by.0 line.now (P.view self.old.plant) (P.view self.new.plant) result }
+        ensures frame { parts_of self.new ≡ record (parts_of self.old) {
+          plant = self.new.plant;
+          printed = printed_by by result self.old.printed;
+          book = book_by by result self.old.book;
+          reserved = reserved_by by result self.old.reserved;
+        } }
     {
         let done = self.plant.print(by, line);
         count_line(&mut self.printed, by, done);

@@ -17,6 +17,7 @@ ghost use Rattle.mas_complex.specs.CallCounts.{KeepsCounts};
 ghost use Rattle.mas_complex.specs.Elsewhere.{OnCopies};
 ghost use Rattle.mas_complex.specs.Journals.{kept_all, entries_in};
 ghost use Rattle.mas_complex.specs.Meaning.{StandFor, run};
+ghost use Rattle.mas_complex.specs.Parts.{parts_of, with_copies, with_copy, with_half, with_pair};
 ghost use Rattle.mas_complex.specs.Places.{IsAtLevel};
 ghost use Rattle.mas_complex.specs.Seen.{IsOneSeen, ReadsSeen, Stays, HasFound, Chosen, IsNextOr, IsFatedBy, IsUnfit, WasUnfit};
 ghost use Rattle.mas_complex.specs.Recovers.{recover_no, recover_no_seen, recover_stopped};
@@ -86,17 +87,7 @@ impl<P: Plant + Drop, C: Steady + Drop> Complex<P, C> {
     fn lose_unless(&mut self, dev: Dev, stays: bool)
         requires ckpt { IsCkpt dev }
         requires alive { (pick dev self.old.pair.first self.old.pair.second).alive ≡ true }
-        ensures base { self.new.base ≡ self.old.base }
-        ensures since { self.new.since ≡ self.old.since }
-        ensures printed { self.new.printed ≡ self.old.printed }
-        ensures book { self.new.book ≡ self.old.book }
-        ensures journal { self.new.journal ≡ self.old.journal }
-        ensures current { self.new.current ≡ self.old.current }
-        ensures reserved { self.new.reserved ≡ self.old.reserved }
-        ensures placed { self.new.placed ≡ self.old.placed }
-        ensures level { self.new.level ≡ self.old.level }
-        ensures first { self.new.first ≡ self.old.first }
-        ensures second { self.new.second ≡ self.old.second }
+        ensures frame { parts_of self.new ≡ with_half dev (parts_of self.new) (parts_of self.old) }
         ensures other { other dev self.new.pair.first self.new.pair.second ≡ other dev self.old.pair.first self.old.pair.second }
         ensures lost { stays ≡ false → (pick dev self.new.pair.first self.new.pair.second).alive ≡ false }
         ensures stays { stays ≡ true → pick dev self.new.pair.first self.new.pair.second ≡ pick dev self.old.pair.first self.old.pair.second }
@@ -118,15 +109,7 @@ impl<P: Plant + Drop, C: Steady + Drop> Complex<P, C> {
         requires second { IsOneSeen (run self.old.base (kept_all self.old.journal.batches ++ entries_in self.old.current)) (entries_in self.old.current) P.tells self.old.level self.old.pair.second.alive (C.count self.old.pair.second.copy) self.old.second (Some second) }
         requires reads1 { P.tells → ReadsSeen C.reads (disk_now (P.view self.old.plant) Ckpt1).bytes (Some first) }
         requires reads2 { P.tells → ReadsSeen C.reads (disk_now (P.view self.old.plant) Ckpt2).bytes (Some second) }
-        ensures base { self.new.base ≡ self.old.base }
-        ensures since { self.new.since ≡ self.old.since }
-        ensures printed { self.new.printed ≡ self.old.printed }
-        ensures book { self.new.book ≡ self.old.book }
-        ensures journal { self.new.journal ≡ self.old.journal }
-        ensures current { self.new.current ≡ self.old.current }
-        ensures reserved { self.new.reserved ≡ self.old.reserved }
-        ensures placed { self.new.placed ≡ self.old.placed }
-        ensures level { self.new.level ≡ self.old.level }
+        ensures frame { parts_of self.new ≡ with_pair (parts_of self.new) (parts_of self.old) }
         ensures goes { Goes (P.view self.old.plant) (P.view self.new.plant) }
         ensures apart { P.tells → OnCopies (P.view self.old.plant) (P.view self.new.plant) }
         ensures counts { (by : ℕ) → KeepsCounts by self.old.pair.first.alive self.new.pair.first.alive self.old.pair.second.alive self.new.pair.second.alive false (P.view self.old.plant) (P.view self.new.plant) }
@@ -159,15 +142,7 @@ impl<P: Plant + Drop, C: Steady + Drop> Complex<P, C> {
         requires second { IsOneSeen (run self.old.base (kept_all self.old.journal.batches ++ entries_in self.old.current)) (entries_in self.old.current) P.tells self.old.level self.old.pair.second.alive (C.count self.old.pair.second.copy) self.old.second second }
         requires reads1 { P.tells → ReadsSeen C.reads (disk_now (P.view self.old.plant) Ckpt1).bytes first }
         requires reads2 { P.tells → ReadsSeen C.reads (disk_now (P.view self.old.plant) Ckpt2).bytes second }
-        ensures base { self.new.base ≡ self.old.base }
-        ensures since { self.new.since ≡ self.old.since }
-        ensures printed { self.new.printed ≡ self.old.printed }
-        ensures book { self.new.book ≡ self.old.book }
-        ensures journal { self.new.journal ≡ self.old.journal }
-        ensures current { self.new.current ≡ self.old.current }
-        ensures reserved { self.new.reserved ≡ self.old.reserved }
-        ensures placed { self.new.placed ≡ self.old.placed }
-        ensures level { self.new.level ≡ self.old.level }
+        ensures frame { parts_of self.new ≡ with_pair (parts_of self.new) (parts_of self.old) }
         ensures goes { Goes (P.view self.old.plant) (P.view self.new.plant) }
         ensures apart { P.tells → OnCopies (P.view self.old.plant) (P.view self.new.plant) }
         ensures counts { (by : ℕ) → KeepsCounts by self.old.pair.first.alive self.new.pair.first.alive self.old.pair.second.alive self.new.pair.second.alive false (P.view self.old.plant) (P.view self.new.plant) }
@@ -200,15 +175,7 @@ impl<P: Plant + Drop, C: Steady + Drop> Complex<P, C> {
         requires next { P.tells → IsNextOr (run self.old.base (kept_all self.old.journal.batches ++ entries_in self.old.current)) (entries_in self.old.current) self.old.level found.now }
         requires level { level (bytes_of found.now) ≡ self.old.level + 1 }
         requires same { P.tells → (other dev self.old.pair.first self.old.pair.second).alive ≡ true → (other dev self.old.first self.old.second ≡ AtOpened) × (C.reads (disk_now (P.view self.old.plant) (other dev Ckpt1 Ckpt2)).bytes ≡ Some (bytes_of found.now)) }
-        ensures base { self.new.base ≡ self.old.base }
-        ensures since { self.new.since ≡ self.old.since }
-        ensures printed { self.new.printed ≡ self.old.printed }
-        ensures book { self.new.book ≡ self.old.book }
-        ensures journal { self.new.journal ≡ self.old.journal }
-        ensures current { self.new.current ≡ self.old.current }
-        ensures reserved { self.new.reserved ≡ self.old.reserved }
-        ensures placed { self.new.placed ≡ self.old.placed }
-        ensures level { self.new.level ≡ self.old.level }
+        ensures frame { parts_of self.new ≡ with_copy dev (parts_of self.new) (parts_of self.old) }
         ensures acted { Acted by.0 dev (pick dev self.old.pair.first self.old.pair.second).alive (pick dev self.new.pair.first self.new.pair.second).alive (pair_stopped result) (P.view self.old.plant) (P.view self.new.plant) }
         ensures other_place { other dev self.new.first self.new.second ≡ other dev self.old.first self.old.second }
         ensures other { other dev self.new.pair.first self.new.pair.second ≡ other dev self.old.pair.first self.old.pair.second }
@@ -230,15 +197,7 @@ impl<P: Plant + Drop, C: Steady + Drop> Complex<P, C> {
     #[tactic(auto, using(crate::proofs::Counted::counts_none, crate::proofs::Counted::counts_first, crate::proofs::Counted::counts_second, crate::proofs::Apart::on_none))]
     fn bring(&mut self, by: MemberId, found: &[Page]) -> Result<(), PairNo>
         requires chosen { Chosen C.reads P.tells (run self.old.base (kept_all self.old.journal.batches ++ entries_in self.old.current)) (entries_in self.old.current) self.old.level self.old.pair.first.alive (C.count self.old.pair.first.copy) (C.room self.old.pair.first.copy) self.old.first (disk_now (P.view self.old.plant) Ckpt1).bytes self.old.pair.second.alive (C.count self.old.pair.second.copy) (C.room self.old.pair.second.copy) self.old.second (disk_now (P.view self.old.plant) Ckpt2).bytes found.now }
-        ensures base { self.new.base ≡ self.old.base }
-        ensures since { self.new.since ≡ self.old.since }
-        ensures printed { self.new.printed ≡ self.old.printed }
-        ensures book { self.new.book ≡ self.old.book }
-        ensures journal { self.new.journal ≡ self.old.journal }
-        ensures current { self.new.current ≡ self.old.current }
-        ensures reserved { self.new.reserved ≡ self.old.reserved }
-        ensures placed { self.new.placed ≡ self.old.placed }
-        ensures level { self.new.level ≡ self.old.level }
+        ensures frame { parts_of self.new ≡ with_copies (parts_of self.new) (parts_of self.old) }
         ensures goes { Goes (P.view self.old.plant) (P.view self.new.plant) }
         ensures apart { P.tells → OnCopies (P.view self.old.plant) (P.view self.new.plant) }
         ensures counts { KeepsCounts by.0 self.old.pair.first.alive self.new.pair.first.alive self.old.pair.second.alive self.new.pair.second.alive (pair_stopped result) (P.view self.old.plant) (P.view self.new.plant) }
@@ -274,18 +233,7 @@ impl<P: Plant + Drop, C: Steady + Drop> Complex<P, C> {
         requires next { P.tells → reached ≡ self.old.level + 1 }
         requires first { self.old.pair.first.alive ≡ true → self.old.first ≡ AtOpened }
         requires second { self.old.pair.second.alive ≡ true → self.old.second ≡ AtOpened }
-        ensures plant { self.new.plant ≡ self.old.plant }
-        ensures pair { self.new.pair ≡ self.old.pair }
-        ensures base { self.new.base ≡ self.old.base }
-        ensures since { self.new.since ≡ self.old.since }
-        ensures printed { self.new.printed ≡ self.old.printed }
-        ensures book { self.new.book ≡ self.old.book }
-        ensures journal { self.new.journal ≡ self.old.journal }
-        ensures current { self.new.current ≡ self.old.current }
-        ensures reserved { self.new.reserved ≡ self.old.reserved }
-        ensures placed { self.new.placed ≡ self.old.placed }
-        ensures still { (self.new.first ≡ AtBefore) × (self.new.second ≡ AtBefore) }
-        ensures level { self.new.level ≡ reached }
+        ensures { parts_of self.new ≡ record (parts_of self.old) { first = AtBefore; second = AtBefore; level = reached } }
     {
         self.first = Place::Before;
         self.second = Place::Before;
@@ -298,18 +246,19 @@ impl<P: Plant + Drop, C: Steady + Drop> Complex<P, C> {
         requires next { P.tells → reached ≢ self.old.level → reached ≡ self.old.level + 1 }
         requires first { self.old.pair.first.alive ≡ true → IsAtLevel reached self.old.level self.old.first }
         requires second { self.old.pair.second.alive ≡ true → IsAtLevel reached self.old.level self.old.second }
-        ensures plant { self.new.plant ≡ self.old.plant }
-        ensures pair { self.new.pair ≡ self.old.pair }
-        ensures base { self.new.base ≡ self.old.base }
-        ensures since { self.new.since ≡ self.old.since }
-        ensures printed { self.new.printed ≡ self.old.printed }
-        ensures book { self.new.book ≡ self.old.book }
-        ensures reserved { self.new.reserved ≡ self.old.reserved }
+        ensures frame { parts_of self.new ≡ record (parts_of self.old) {
+          batches = self.new.journal.batches;
+          current = None;
+          placed = self.new.placed;
+          first = self.new.first;
+          second = self.new.second;
+          level = reached;
+        } }
+        ensures unplaced { IsSome self.old.current → self.new.placed ≡ false }
+        ensures still_placed { self.old.current ≡ None → self.new.placed ≡ self.old.placed }
         ensures fated { IsFatedBy reached self.old.level (P.view self.old.plant).now self.old.current self.old.journal.batches self.new.journal.batches }
-        ensures none { self.new.current ≡ None }
         ensures first { self.new.pair.first.alive ≡ true → self.new.first ≡ AtBefore }
         ensures second { self.new.pair.second.alive ≡ true → self.new.second ≡ AtBefore }
-        ensures level { self.new.level ≡ reached }
     {
         let in_flight = self.current.is_some();
         match (reached == self.level, in_flight) {
@@ -326,8 +275,10 @@ impl<P: Plant + Drop, C: Steady + Drop> Complex<P, C> {
     /// up. The pages are those of greatest level, those of CKPT1 on a tie. A copy that can't be read, or whose pages don't fit
     /// them, is lost.
     ///
+    /// A batch that was in flight has no place after that; without one the place of a batch to come stays.
+    ///
     /// BothLost comes only where both copies count as lost at the end of the call, Halted only where the member was stopped
-    /// in it. After an error a batch in flight still is.
+    /// in it. After an error a batch in flight still is, in its place.
     pub fn recover(&mut self, alloc: Global, by: MemberId) -> Result<List<Page>, RecoverNo>
         requires may { MayAct self.old.book by }
         requires others { IsOfOther self.old.current by }
@@ -359,10 +310,20 @@ impl<P: Plant + Drop, C: Steady + Drop> Complex<P, C> {
             → Rose ((P.view self.old.plant).faults (Disk Ckpt2)) ((P.view self.new.plant).faults (Disk Ckpt2)) ⊎ WasUnfit C.reads (disk_now (P.view self.old.plant) Ckpt2).bytes self.old.level (C.room self.new.pair.second.copy) found) }
         ensures both_failed1 { IsErrOf result RecoverNoBothLost → P.tells → self.old.pair.first.alive ≡ true → Rose ((P.view self.old.plant).faults (Disk Ckpt1)) ((P.view self.new.plant).faults (Disk Ckpt1)) }
         ensures both_failed2 { IsErrOf result RecoverNoBothLost → P.tells → self.old.pair.second.alive ≡ true → Rose ((P.view self.old.plant).faults (Disk Ckpt2)) ((P.view self.new.plant).faults (Disk Ckpt2)) }
+        ensures frame { OnOk result (parts_of self.new ≡ record (with_copies (parts_of self.new) (parts_of self.old)) {
+          batches = self.new.journal.batches;
+          current = None;
+          reserved = None;
+          placed = self.new.placed;
+          level = self.new.level;
+        }) }
+        ensures frame_err { OnErr result (parts_of self.new ≡ record (with_copies (parts_of self.new) (parts_of self.old)) { reserved = None }) }
+        ensures unplaced { OnOk result (IsSome self.old.current → self.new.placed ≡ false) }
+        ensures still_placed { OnOk result (self.old.current ≡ None → self.new.placed ≡ self.old.placed) }
     {
         self.reserved = None;
-        let first = self.see_first(alloc, by)?;
-        let second = self.see_second(alloc, by)?;
+        let first = self.see_on(alloc, by, Dev::Ckpt1)?;
+        let second = self.see_on(alloc, by, Dev::Ckpt2)?;
         let Some(found) = self.choose_any(first, second) else {
             return Err(RecoverNo::BothLost);
         };

@@ -12,6 +12,7 @@ ghost use Rattle.mas_complex.specs.Spool.{IsGroupOf, IsVolumeOf, IsHeldBy, devic
 ghost use Rattle.mas_complex.specs.Texts.{HasTexts, lost_now, spools_at};
 ghost use Rattle.mas_complex.specs.TextExamples.{WorkedTexts};
 ghost use Rattle.spool_volumes.specs.Volumes.{volume_of, start_of};
+ghost use Rattle.mas_complex.specs.Parts.{parts_of};
 
 use crate::complex::Complex;
 use crate::steady::Steady;
@@ -114,6 +115,7 @@ impl<P: Plant + Drop, C: Steady + Drop> Complex<P, C> {
         ensures acts { Acts by.0 (Disk (device_of self.old.base.config.groups group)) (P.view self.old.plant) (P.view self.new.plant) result }
         ensures content { P.tells → ReadsGroup self.old.base.config.groups group (P.view self.old.plant) (P.view self.new.plant) into.new result }
         ensures nowhere { is_within (P.view self.old.plant) self.old.base.config.groups group ≡ false → into.new ≡ into.old }
+        ensures frame { parts_of self.new ≡ record (parts_of self.old) { plant = self.new.plant } }
     {
         read_group(
             &mut self.plant,
@@ -150,6 +152,7 @@ impl<P: Plant + Drop, C: Steady + Drop> Complex<P, C> {
         ensures level { self.new.level ≡ self.old.level }
         ensures acts { Acts by.0 (Disk (device_of self.old.base.config.groups group)) (P.view self.old.plant) (P.view self.new.plant) result }
         ensures content { P.tells → WritesGroup self.old.base.config.groups group (P.view self.old.plant) (P.view self.new.plant) bytes.now result }
+        ensures frame { parts_of self.new ≡ record (parts_of self.old) { plant = self.new.plant } }
     {
         law_of_places();
         write_group(
@@ -183,6 +186,7 @@ impl<P: Plant + Drop, C: Steady + Drop> Complex<P, C> {
         ensures level { self.new.level ≡ self.old.level }
         ensures acts { Acts by.0 (Disk (Spool volume)) (P.view self.old.plant) (P.view self.new.plant) result }
         ensures content { P.tells → Syncs (Spool volume) (P.view self.old.plant) (P.view self.new.plant) result }
+        ensures frame { parts_of self.new ≡ record (parts_of self.old) { plant = self.new.plant } }
     {
         self.plant.sync(by, Dev::Spool(volume))
     }

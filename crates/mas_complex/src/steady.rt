@@ -1,8 +1,8 @@
 //! Copies that a shared value may have.
-ghost use Rattle.std.specs.Prelude.{◌≡◌, ℕ, Bool, true};
+ghost use Rattle.std.specs.Prelude.{◌≡◌, ◌≤◌, ℕ, Bool, true};
 ghost use Rattle.spool_disk.specs.View.{View};
 ghost use Rattle.spool_disk.specs.Acts.{Goes};
-ghost use Rattle.mas_complex.specs.Steady.{is_fit, ready_where, fit_where, stays_fit_lem};
+ghost use Rattle.mas_complex.specs.Steady.{is_fit, ready_where, fit_where, stays_fit_lem, some_room};
 
 use ckpt_copy::{AreaCopy, Copying};
 
@@ -19,6 +19,9 @@ pub trait Steady: Copying {
 
     /// Any acts leave it as it is.
     ghost stays_fit: { (copy : Self) (old new : View) → Goes old new → fits copy old ≡ true → fits copy new ≡ true };
+
+    /// One that was settled has room for a put.
+    ghost has_room: { 1 ≤ Self.room_most };
 }
 
 impl Steady for AreaCopy {
@@ -29,4 +32,6 @@ impl Steady for AreaCopy {
     ghost ready_fit = { λ c v ready. fit_where c.pages (v.size c.dev) ready };
 
     ghost stays_fit = { λ c old new goes fit. stays_fit_lem c.pages (old.size c.dev) (new.size c.dev) (goes.size c.dev) fit };
+
+    ghost has_room = { some_room };
 }

@@ -34,8 +34,6 @@ pub fn take_hold<P: Plant + Drop, C: Steady + Drop>(
     requires low2 { ReadsLow P.tells complex.old.pair.second.alive member.old.checkpoint.tables.config (length complex.old.journal.batches) (C.reads (disk_now (P.view complex.old.plant) Ckpt2).bytes) }
     requires sound { P.tells → IsToldSound (run complex.old.base (kept_all complex.old.journal.batches)) }
     requires config { complex.old.base.config ≡ member.old.checkpoint.tables.config }
-    requires most { 1 ≤ C.room_most }
-    requires orders { orders_after (length complex.old.journal.batches) < too_high }
     requires level { complex.old.level < too_high }
     ensures base { complex.new.base ≡ complex.old.base }
     ensures printed { complex.new.printed ≡ complex.old.printed }

@@ -79,17 +79,13 @@ fn spool_deck<P: Plant + Drop, C: Steady + Drop>(
     let Ok(held) = held_by(alloc, member.checkpoint.tables.owners.as_slice(), by) else {
         return Err(NodeNo::NoMemory);
     };
-    let Ok(()) = complex.free(by, true) else {
-        unreachable!();
-    };
+    complex.leave_lock(by);
     let lost = match spool_text(complex, by, &held.as_slice()[..groups as usize], text) {
         Ok(()) => None,
         Err(SpoolError::Lost(volume)) => Some(volume),
         Err(SpoolError::Halted) => return Err(NodeNo::Halted),
     };
-    let Ok(()) = complex.try_lock(by, true) else {
-        unreachable!();
-    };
+    complex.retake_lock(by);
     Ok(lost)
 }
 
@@ -178,9 +174,7 @@ fn enter_deck<P: Plant + Drop, C: Steady + Drop>(
     requires config { complex.old.base.config ≡ member.old.checkpoint.tables.config }
     requires many { length member.old.room ≡ length member.old.checkpoint.pages }
     requires low { P.tells → AreLow complex.old.base.config (length complex.old.journal.batches) member.old.checkpoint.tables }
-    requires orders { orders_after (length complex.old.journal.batches) < too_high }
     requires level { complex.old.level < too_high }
-    requires most { 1 ≤ C.room_most }
     ensures base { complex.new.base ≡ complex.old.base }
     ensures since { complex.new.since ≡ complex.old.since }
     ensures id { member.new.id ≡ member.old.id }
@@ -240,10 +234,8 @@ pub fn play_deck<P: Plant + Drop, C: Steady + Drop>(
     requires many { length member.old.room ≡ length member.old.checkpoint.pages }
     requires order { member.old.checkpoint.tables.order < too_high }
     requires low { P.tells → AreLow complex.old.base.config (length complex.old.journal.batches) member.old.checkpoint.tables }
-    requires orders { orders_after (length complex.old.journal.batches + 1) < too_high }
     requires high { member.old.checkpoint.level < too_high }
     requires level { complex.old.level + 1 < too_high }
-    requires most { 1 ≤ C.room_most }
     requires room1 { complex.old.pair.first.alive ≡ true → 1 ≤ C.room complex.old.pair.first.copy }
     requires room2 { complex.old.pair.second.alive ≡ true → 1 ≤ C.room complex.old.pair.second.copy }
     ensures base { complex.new.base ≡ complex.old.base }

@@ -31,6 +31,7 @@ use Rattle.member_node.specs.Copies.{RestsAt}
 use Rattle.duplex_pair.specs.Both.{PairActed}
 use Rattle.mas_complex.specs.declared.places.Place.{Place}
 use Rattle.mas_complex.specs.Elsewhere.{OnCopies}
+use Rattle.mas_complex.specs.Journals.{journal_most}
 use Rattle.mas_complex.specs.Kept.{OnlyOnCopies}
 use Rattle.mas_complex.specs.Paper.{SamePapers}
 use Rattle.member_node.specs.Calls.{Course}
@@ -452,3 +453,7 @@ low_of told config batches a true b b' v0 v1 reads room t acts u some sized is o
     low1 u (acts.course.alive1 refl) room t sized (ap reads (sym (acts.bytes u Ckpt1)) ∙ one refl) is
 low_of told config batches a false b b' v0 v1 reads room t acts u some sized is one two low1 low2 =
     low2 u (acts.course.alive2 some) room t sized (ap reads (sym (acts.bytes u Ckpt2)) ∙ two some) is
+
+-- the orders after as many batches as a journal may have leave a step all that it can use
+pub few_orders : (batches : ℕ) → batches ≤ journal_most → orders_after batches < too_high
+few_orders batches few = omega (arith, few)

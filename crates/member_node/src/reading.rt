@@ -439,8 +439,8 @@ impl Member {
         ensures idle { 1 ≤ least_room complex.old.pair.first.alive complex.old.pair.second.alive (C.room complex.old.pair.first.copy) (C.room complex.old.pair.second.copy) → complex.new ≡ complex.old }
         ensures rests1 { OnOk result (RestsAt P.tells complex.new.pair.first.alive complex.new.first (C.count complex.new.pair.first.copy) (pages_had self.now.behind self.now.room self.now.checkpoint.pages) (C.reads (disk_now (P.view complex.new.plant) Ckpt1).bytes)) }
         ensures rests2 { OnOk result (RestsAt P.tells complex.new.pair.second.alive complex.new.second (C.count complex.new.pair.second.copy) (pages_had self.now.behind self.now.room self.now.checkpoint.pages) (C.reads (disk_now (P.view complex.new.plant) Ckpt2).bytes)) }
-        ensures room1 { OnOk result (complex.new.pair.first.alive ≡ true → (1 ≤ C.room complex.new.pair.first.copy) ⊎ (C.room complex.new.pair.first.copy ≡ C.room_most)) }
-        ensures room2 { OnOk result (complex.new.pair.second.alive ≡ true → (1 ≤ C.room complex.new.pair.second.copy) ⊎ (C.room complex.new.pair.second.copy ≡ C.room_most)) }
+        ensures room1 { OnOk result (complex.new.pair.first.alive ≡ true → 1 ≤ C.room complex.new.pair.first.copy) }
+        ensures room2 { OnOk result (complex.new.pair.second.alive ≡ true → 1 ≤ C.room complex.new.pair.second.copy) }
         ensures settle { IsSettle P.tells self.now.id.0 complex.old.pair.first.alive complex.new.pair.first.alive complex.old.pair.second.alive complex.new.pair.second.alive (P.view complex.old.plant) (P.view complex.new.plant) result }
     {
         if complex.pair.room() > 0 {
@@ -543,7 +543,6 @@ impl Member {
         requires config { P.tells → page_count (run complex.old.base (kept_all complex.old.journal.batches)).config ≡ length self.old.room }
         requires low1 { ReadsLow P.tells complex.old.pair.first.alive self.old.checkpoint.tables.config (length complex.old.journal.batches) (C.reads (disk_now (P.view complex.old.plant) Ckpt1).bytes) }
         requires low2 { ReadsLow P.tells complex.old.pair.second.alive self.old.checkpoint.tables.config (length complex.old.journal.batches) (C.reads (disk_now (P.view complex.old.plant) Ckpt2).bytes) }
-        requires orders { orders_after (length complex.old.journal.batches) < too_high }
         requires level { complex.old.level < too_high }
         ensures base { complex.new.base ≡ complex.old.base }
         ensures printed { complex.new.printed ≡ complex.old.printed }

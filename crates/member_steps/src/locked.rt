@@ -116,7 +116,6 @@ pub fn play_locked<P: Plant + Drop, C: Steady + Drop>(
     requires low2 { ReadsLow P.tells complex.old.pair.second.alive member.old.checkpoint.tables.config (length complex.old.journal.batches) (C.reads (disk_now (P.view complex.old.plant) Ckpt2).bytes) }
     requires sound { P.tells → IsToldSound (run complex.old.base (kept_all complex.old.journal.batches)) }
     requires config { complex.old.base.config ≡ member.old.checkpoint.tables.config }
-    requires most { 1 ≤ C.room_most }
     requires kept { AreAllKept complex.old.journal.batches (P.view complex.old.plant).now }
     requires untold { P.tells → IsUntold (setting C.reads complex.old.base complex.old.since) (P.view complex.old.plant) (entry_of (run complex.old.base (kept_all complex.old.journal.batches)) member.old.id step command ∷ []) }
     requires since { complex.old.since ≤ (P.view complex.old.plant).now }

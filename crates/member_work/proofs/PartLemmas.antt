@@ -335,14 +335,6 @@ module _ (told : Type 0) (by : MemberId) (batch : List Entry) where
       ap (run base) (sym (append-nil (kept_all batches)))
       ∙ queue_behind base by v.now w.now front k.rest batches (batches_in (batch ∷ [])) batch [] [] k.batches_are k.journal (append-nil (all_entries (batches_in (batch ∷ []))) ∙ entries_batches (batch ∷ []))
 
-  pub orders_kept : (front mid batches all : List Batch) (a a' b b' : Bool) (v w : View) → batches ≡ mid → all ≡ mid → IsKeeping {T = Unit {0}} told by (batches_in (batch ∷ [])) front all a a' b b' v w (Ok tt) → orders_after (length front + 1) < too_high → orders_after (length batches) < too_high
-  orders_kept front mid batches all a a' b b' v w same are k less =
-      let long = all_long by v.now w.now (batches_in (batch ∷ [])) k.rest k.journal in
-      let few = few_batches (batch ∷ []) in
-      let whole = ap length (same ∙ sym are ∙ k.batches_are) in
-      let sum = length-append front k.rest in
-      omega (arith, long, few, whole, sum, less)
-
 -- a job that needs groups isn't cancelled: all its outputs come
 pub whole_specs : (Q : Queue) (n : JobNo) (specs : List OutSpec) (needed : ℕ) → 1 ≤ needed → needed ≡ groups_for_end Q n specs → outputs_at_end (job_at Q n) specs ≡ specs
 whole_specs Q n specs needed some is = by_cancelled (is_cancelled (job_at Q n)) (is) where

@@ -164,9 +164,6 @@ one_batch_in (e ∷ es) some = refl
 
 -- ROOM
 
-pub has_room : (alive : Bool) (room most : ℕ) → 1 ≤ most → (alive ≡ true → (1 ≤ room) ⊎ (room ≡ most)) → alive ≡ true → 1 ≤ room
-has_room alive room most some has on = ⊎_elim (λ le. le) (λ same. subst (λ (n : ℕ). 1 ≤ n) (sym same) some) (has on)
-
 pub same_room : (k n : Checkpoint) (room room' : List Page) → room' ≡ room → length room ≡ length k.pages → CanDraw k → AreDrawn n.tables n.level n.levels n.pages → n.tables.config ≡ k.tables.config → length room' ≡ length n.pages
 same_room k n room room' same many draws drawn config = ap (λ (ps : List Page). length ps) same ∙ many ∙ draws.as_many ∙ sym (ap page_count config) ∙ sym drawn.spelled.count
 

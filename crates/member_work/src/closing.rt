@@ -34,7 +34,6 @@ pub(crate) fn keep_given<P: Plant + Drop, C: Steady + Drop>(
     requires untold { P.tells → IsUntold (setting C.reads complex.old.base complex.old.since) (P.view complex.old.plant) member.old.batch }
     requires copy1 { HasCopy P.tells complex.old.pair.first.alive complex.old.first (C.count complex.old.pair.first.copy) (C.room complex.old.pair.first.copy) member.old.checkpoint.pages (C.reads (disk_now (P.view complex.old.plant) Ckpt1).bytes) }
     requires copy2 { HasCopy P.tells complex.old.pair.second.alive complex.old.second (C.count complex.old.pair.second.copy) (C.room complex.old.pair.second.copy) member.old.checkpoint.pages (C.reads (disk_now (P.view complex.old.plant) Ckpt2).bytes) }
-    requires most { 1 ≤ C.room_most }
     requires high { member.old.checkpoint.level + 1 < 2 ^ 63 }
     requires level { complex.old.level + 1 < 2 ^ 63 }
     ensures base { complex.new.base ≡ complex.old.base }
@@ -72,7 +71,6 @@ pub(crate) fn give_up<P: Plant + Drop, C: Steady + Drop>(
     requires untold { P.tells → IsUntold (setting C.reads complex.old.base complex.old.since) (P.view complex.old.plant) member.old.batch }
     requires copy1 { HasCopy P.tells complex.old.pair.first.alive complex.old.first (C.count complex.old.pair.first.copy) (C.room complex.old.pair.first.copy) member.old.checkpoint.pages (C.reads (disk_now (P.view complex.old.plant) Ckpt1).bytes) }
     requires copy2 { HasCopy P.tells complex.old.pair.second.alive complex.old.second (C.count complex.old.pair.second.copy) (C.room complex.old.pair.second.copy) member.old.checkpoint.pages (C.reads (disk_now (P.view complex.old.plant) Ckpt2).bytes) }
-    requires most { 1 ≤ C.room_most }
     requires high { member.old.checkpoint.level + 1 < 2 ^ 63 }
     requires level { complex.old.level + 1 < 2 ^ 63 }
     ensures base { complex.new.base ≡ complex.old.base }
@@ -101,8 +99,6 @@ pub(crate) fn hold_again<P: Plant + Drop, C: Steady + Drop>(
     requires work { IsAtWork P.tells (P.view complex.old.plant) complex.old.since complex.old.base complex.old.journal.batches complex.old.current complex.old.placed complex.old.level complex.old.reserved complex.old.printed member.old.id member.old.batch member.old.checkpoint member.old.room member.old.behind }
     requires rests1 { RestsAt P.tells complex.old.pair.first.alive complex.old.first (C.count complex.old.pair.first.copy) member.old.checkpoint.pages (C.reads (disk_now (P.view complex.old.plant) Ckpt1).bytes) }
     requires rests2 { RestsAt P.tells complex.old.pair.second.alive complex.old.second (C.count complex.old.pair.second.copy) member.old.checkpoint.pages (C.reads (disk_now (P.view complex.old.plant) Ckpt2).bytes) }
-    requires most { 1 ≤ C.room_most }
-    requires orders { orders_after (length complex.old.journal.batches) < too_high }
     requires level { complex.old.level < too_high }
     ensures base { complex.new.base ≡ complex.old.base }
     ensures since { complex.new.since ≡ complex.old.since }
@@ -141,7 +137,6 @@ pub(crate) fn close_work<P: Plant + Drop, C: Steady + Drop>(
     requires untold { P.tells → IsUntold (setting C.reads complex.old.base complex.old.since) (P.view complex.old.plant) member.old.batch }
     requires copy1 { HasCopy P.tells complex.old.pair.first.alive complex.old.first (C.count complex.old.pair.first.copy) (C.room complex.old.pair.first.copy) member.old.checkpoint.pages (C.reads (disk_now (P.view complex.old.plant) Ckpt1).bytes) }
     requires copy2 { HasCopy P.tells complex.old.pair.second.alive complex.old.second (C.count complex.old.pair.second.copy) (C.room complex.old.pair.second.copy) member.old.checkpoint.pages (C.reads (disk_now (P.view complex.old.plant) Ckpt2).bytes) }
-    requires most { 1 ≤ C.room_most }
     requires high { member.old.checkpoint.level + 1 < 2 ^ 63 }
     requires level { complex.old.level + 1 < 2 ^ 63 }
     ensures base { complex.new.base ≡ complex.old.base }

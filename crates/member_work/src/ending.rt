@@ -62,7 +62,6 @@ fn end_given<P: Plant + Drop, C: Steady + Drop>(
     requires untold { P.tells → IsStepUntold (setting C.reads complex.old.base complex.old.since) member.old.id step (P.view complex.old.plant) }
     requires copy1 { HasCopy P.tells complex.old.pair.first.alive complex.old.first (C.count complex.old.pair.first.copy) (C.room complex.old.pair.first.copy) member.old.checkpoint.pages (C.reads (disk_now (P.view complex.old.plant) Ckpt1).bytes) }
     requires copy2 { HasCopy P.tells complex.old.pair.second.alive complex.old.second (C.count complex.old.pair.second.copy) (C.room complex.old.pair.second.copy) member.old.checkpoint.pages (C.reads (disk_now (P.view complex.old.plant) Ckpt2).bytes) }
-    requires most { 1 ≤ C.room_most }
     requires order { member.old.checkpoint.tables.order < too_high }
     requires high { member.old.checkpoint.level < too_high }
     requires level { complex.old.level + 1 < 2 ^ 63 }
@@ -110,7 +109,6 @@ fn take_given<P: Plant + Drop, C: Steady + Drop>(
     requires untold { P.tells → IsStepUntold (setting C.reads complex.old.base complex.old.since) member.old.id step (P.view complex.old.plant) }
     requires copy1 { HasCopy P.tells complex.old.pair.first.alive complex.old.first (C.count complex.old.pair.first.copy) (C.room complex.old.pair.first.copy) member.old.checkpoint.pages (C.reads (disk_now (P.view complex.old.plant) Ckpt1).bytes) }
     requires copy2 { HasCopy P.tells complex.old.pair.second.alive complex.old.second (C.count complex.old.pair.second.copy) (C.room complex.old.pair.second.copy) member.old.checkpoint.pages (C.reads (disk_now (P.view complex.old.plant) Ckpt2).bytes) }
-    requires most { 1 ≤ C.room_most }
     requires order { member.old.checkpoint.tables.order < too_high }
     requires high { member.old.checkpoint.level < too_high }
     requires level { complex.old.level + 1 < 2 ^ 63 }
@@ -158,7 +156,6 @@ fn drop_given<P: Plant + Drop, C: Steady + Drop>(
     requires untold { P.tells → IsStepUntold (setting C.reads complex.old.base complex.old.since) member.old.id step (P.view complex.old.plant) }
     requires copy1 { HasCopy P.tells complex.old.pair.first.alive complex.old.first (C.count complex.old.pair.first.copy) (C.room complex.old.pair.first.copy) member.old.checkpoint.pages (C.reads (disk_now (P.view complex.old.plant) Ckpt1).bytes) }
     requires copy2 { HasCopy P.tells complex.old.pair.second.alive complex.old.second (C.count complex.old.pair.second.copy) (C.room complex.old.pair.second.copy) member.old.checkpoint.pages (C.reads (disk_now (P.view complex.old.plant) Ckpt2).bytes) }
-    requires most { 1 ≤ C.room_most }
     requires order { member.old.checkpoint.tables.order < too_high }
     requires high { member.old.checkpoint.level < too_high }
     requires level { complex.old.level + 1 < 2 ^ 63 }
@@ -209,9 +206,7 @@ fn spool_taken<P: Plant + Drop, C: Steady + Drop>(
     requires untold { P.tells → IsUntold (setting C.reads complex.old.base complex.old.since) (P.view complex.old.plant) member.old.batch }
     requires copy1 { HasCopy P.tells complex.old.pair.first.alive complex.old.first (C.count complex.old.pair.first.copy) (C.room complex.old.pair.first.copy) member.old.checkpoint.pages (C.reads (disk_now (P.view complex.old.plant) Ckpt1).bytes) }
     requires copy2 { HasCopy P.tells complex.old.pair.second.alive complex.old.second (C.count complex.old.pair.second.copy) (C.room complex.old.pair.second.copy) member.old.checkpoint.pages (C.reads (disk_now (P.view complex.old.plant) Ckpt2).bytes) }
-    requires most { 1 ≤ C.room_most }
     requires high { member.old.checkpoint.level < too_high }
-    requires orders { orders_after (length complex.old.journal.batches + 1) < too_high }
     requires level { complex.old.level + 1 < too_high }
     ensures base { complex.new.base ≡ complex.old.base }
     ensures since { complex.new.since ≡ complex.old.since }
@@ -269,9 +264,7 @@ fn spool_and_end<P: Plant + Drop, C: Steady + Drop>(
     requires untold { P.tells → IsStepUntold (setting C.reads complex.old.base complex.old.since) member.old.id step (P.view complex.old.plant) }
     requires copy1 { HasCopy P.tells complex.old.pair.first.alive complex.old.first (C.count complex.old.pair.first.copy) (C.room complex.old.pair.first.copy) member.old.checkpoint.pages (C.reads (disk_now (P.view complex.old.plant) Ckpt1).bytes) }
     requires copy2 { HasCopy P.tells complex.old.pair.second.alive complex.old.second (C.count complex.old.pair.second.copy) (C.room complex.old.pair.second.copy) member.old.checkpoint.pages (C.reads (disk_now (P.view complex.old.plant) Ckpt2).bytes) }
-    requires most { 1 ≤ C.room_most }
     requires high { member.old.checkpoint.level < too_high }
-    requires orders { orders_after (length complex.old.journal.batches + 1) < too_high }
     requires level { complex.old.level + 1 < too_high }
     ensures base { complex.new.base ≡ complex.old.base }
     ensures since { complex.new.since ≡ complex.old.since }
@@ -323,10 +316,8 @@ pub(crate) fn end_job<P: Plant + Drop, C: Steady + Drop>(
     requires untold { P.tells → IsStepUntold (setting C.reads complex.old.base complex.old.since) member.old.id step (P.view complex.old.plant) }
     requires copy1 { HasCopy P.tells complex.old.pair.first.alive complex.old.first (C.count complex.old.pair.first.copy) (C.room complex.old.pair.first.copy) member.old.checkpoint.pages (C.reads (disk_now (P.view complex.old.plant) Ckpt1).bytes) }
     requires copy2 { HasCopy P.tells complex.old.pair.second.alive complex.old.second (C.count complex.old.pair.second.copy) (C.room complex.old.pair.second.copy) member.old.checkpoint.pages (C.reads (disk_now (P.view complex.old.plant) Ckpt2).bytes) }
-    requires most { 1 ≤ C.room_most }
     requires order { member.old.checkpoint.tables.order < too_high }
     requires high { member.old.checkpoint.level < too_high }
-    requires orders { orders_after (length complex.old.journal.batches + 1) < too_high }
     requires level { complex.old.level + 1 < too_high }
     ensures base { complex.new.base ≡ complex.old.base }
     ensures since { complex.new.since ≡ complex.old.since }

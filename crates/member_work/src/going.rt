@@ -92,8 +92,6 @@ fn read_job<P: Plant + Drop, C: Steady + Drop>(
     requires job { IsTold member.old.checkpoint.tables job.now }
     requires copy1 { HasCopy P.tells complex.old.pair.first.alive complex.old.first (C.count complex.old.pair.first.copy) (C.room complex.old.pair.first.copy) member.old.checkpoint.pages (C.reads (disk_now (P.view complex.old.plant) Ckpt1).bytes) }
     requires copy2 { HasCopy P.tells complex.old.pair.second.alive complex.old.second (C.count complex.old.pair.second.copy) (C.room complex.old.pair.second.copy) member.old.checkpoint.pages (C.reads (disk_now (P.view complex.old.plant) Ckpt2).bytes) }
-    requires most { 1 ≤ C.room_most }
-    requires orders { orders_after (length complex.old.journal.batches) < too_high }
     requires level { complex.old.level < too_high }
     ensures base { complex.new.base ≡ complex.old.base }
     ensures since { complex.new.since ≡ complex.old.since }
@@ -145,10 +143,8 @@ fn go_on<P: Plant + Drop, C: Steady + Drop>(
     requires untold { P.tells → IsStepUntold (setting C.reads complex.old.base complex.old.since) member.old.id step (P.view complex.old.plant) }
     requires copy1 { HasCopy P.tells complex.old.pair.first.alive complex.old.first (C.count complex.old.pair.first.copy) (C.room complex.old.pair.first.copy) member.old.checkpoint.pages (C.reads (disk_now (P.view complex.old.plant) Ckpt1).bytes) }
     requires copy2 { HasCopy P.tells complex.old.pair.second.alive complex.old.second (C.count complex.old.pair.second.copy) (C.room complex.old.pair.second.copy) member.old.checkpoint.pages (C.reads (disk_now (P.view complex.old.plant) Ckpt2).bytes) }
-    requires most { 1 ≤ C.room_most }
     requires order { member.old.checkpoint.tables.order < too_high }
     requires high { member.old.checkpoint.level < too_high }
-    requires orders { orders_after (length complex.old.journal.batches + 1) < too_high }
     requires level { complex.old.level + 1 < too_high }
     ensures base { complex.new.base ≡ complex.old.base }
     ensures since { complex.new.since ≡ complex.old.since }
@@ -202,8 +198,6 @@ pub(crate) fn play_text<P: Plant + Drop, C: Steady + Drop>(
     requires untold { P.tells → IsStepUntold (setting C.reads complex.old.base complex.old.since) member.old.id step (P.view complex.old.plant) }
     requires copy1 { HasCopy P.tells complex.old.pair.first.alive complex.old.first (C.count complex.old.pair.first.copy) (C.room complex.old.pair.first.copy) member.old.checkpoint.pages (C.reads (disk_now (P.view complex.old.plant) Ckpt1).bytes) }
     requires copy2 { HasCopy P.tells complex.old.pair.second.alive complex.old.second (C.count complex.old.pair.second.copy) (C.room complex.old.pair.second.copy) member.old.checkpoint.pages (C.reads (disk_now (P.view complex.old.plant) Ckpt2).bytes) }
-    requires most { 1 ≤ C.room_most }
-    requires orders { orders_after (length complex.old.journal.batches + 1) < too_high }
     requires level { complex.old.level + 1 < too_high }
     ensures base { complex.new.base ≡ complex.old.base }
     ensures since { complex.new.since ≡ complex.old.since }

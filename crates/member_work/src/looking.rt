@@ -64,15 +64,11 @@ pub(crate) fn look_at<P: Plant + Drop, C: Steady + Drop>(
     let Ok(groups) = groups_of(alloc, owners, Thing::Deck(job.number)) else {
         return Err(NodeNo::NoMemory);
     };
-    let Ok(()) = complex.free(by, true) else {
-        unreachable!();
-    };
+    complex.leave_lock(by);
     let read = read_text(complex, alloc, by, groups.as_slice(), job.cards)?;
     let Ok(outcome) = outcome_of(alloc, runs, &job.fields, &read) else {
         return Err(NodeNo::NoMemory);
     };
-    let Ok(()) = complex.try_lock(by, true) else {
-        unreachable!();
-    };
+    complex.retake_lock(by);
     Ok(outcome)
 }

@@ -72,8 +72,6 @@ fn play_job<P: Plant + Drop, C: Steady + Drop>(
     requires untold { P.tells → IsStepUntold (setting C.reads complex.old.base complex.old.since) member.old.id step (P.view complex.old.plant) }
     requires copy1 { HasCopy P.tells complex.old.pair.first.alive complex.old.first (C.count complex.old.pair.first.copy) (C.room complex.old.pair.first.copy) member.old.checkpoint.pages (C.reads (disk_now (P.view complex.old.plant) Ckpt1).bytes) }
     requires copy2 { HasCopy P.tells complex.old.pair.second.alive complex.old.second (C.count complex.old.pair.second.copy) (C.room complex.old.pair.second.copy) member.old.checkpoint.pages (C.reads (disk_now (P.view complex.old.plant) Ckpt2).bytes) }
-    requires most { 1 ≤ C.room_most }
-    requires orders { orders_after (length complex.old.journal.batches + 3) < too_high }
     requires level { complex.old.level + 3 < too_high }
     requires high { member.old.checkpoint.level + 1 < 2 ^ 63 }
     ensures base { complex.new.base ≡ complex.old.base }
@@ -126,10 +124,8 @@ pub(crate) fn play_unit<P: Plant + Drop, C: Steady + Drop>(
     requires untold { P.tells → IsStepUntold (setting C.reads complex.old.base complex.old.since) member.old.id step (P.view complex.old.plant) }
     requires copy1 { HasCopy P.tells complex.old.pair.first.alive complex.old.first (C.count complex.old.pair.first.copy) (C.room complex.old.pair.first.copy) member.old.checkpoint.pages (C.reads (disk_now (P.view complex.old.plant) Ckpt1).bytes) }
     requires copy2 { HasCopy P.tells complex.old.pair.second.alive complex.old.second (C.count complex.old.pair.second.copy) (C.room complex.old.pair.second.copy) member.old.checkpoint.pages (C.reads (disk_now (P.view complex.old.plant) Ckpt2).bytes) }
-    requires most { 1 ≤ C.room_most }
     requires order { member.old.checkpoint.tables.order + 32 < 2 ^ 63 }
     requires high { member.old.checkpoint.level + 1 < 2 ^ 63 }
-    requires orders { orders_after (length complex.old.journal.batches + 3) < too_high }
     requires level { complex.old.level + 3 < too_high }
     ensures base { complex.new.base ≡ complex.old.base }
     ensures since { complex.new.since ≡ complex.old.since }

@@ -201,14 +201,10 @@ fn print_at<P: Plant + Drop, C: Steady + Drop>(
     let Ok(groups) = groups_of(alloc, owners, thing) else {
         return Err(NodeNo::NoMemory);
     };
-    let Ok(()) = complex.free(by, true) else {
-        unreachable!();
-    };
+    complex.leave_lock(by);
     let read = read_text(complex, alloc, by, groups.as_slice(), output.lines)?;
     let end = print_text(complex, alloc, by, output, last, &read)?;
-    let Ok(()) = complex.try_lock(by, true) else {
-        unreachable!();
-    };
+    complex.retake_lock(by);
     Ok(end)
 }
 
@@ -275,8 +271,6 @@ fn print_and_hold<P: Plant + Drop, C: Steady + Drop>(
     requires printing { P.tells → IsPrinting (run complex.old.base (kept_all complex.old.journal.batches)) member.old.id output.now.job output.now.index }
     requires copy1 { HasCopy P.tells complex.old.pair.first.alive complex.old.first (C.count complex.old.pair.first.copy) (C.room complex.old.pair.first.copy) member.old.checkpoint.pages (C.reads (disk_now (P.view complex.old.plant) Ckpt1).bytes) }
     requires copy2 { HasCopy P.tells complex.old.pair.second.alive complex.old.second (C.count complex.old.pair.second.copy) (C.room complex.old.pair.second.copy) member.old.checkpoint.pages (C.reads (disk_now (P.view complex.old.plant) Ckpt2).bytes) }
-    requires most { 1 ≤ C.room_most }
-    requires orders { orders_after (length complex.old.journal.batches) < too_high }
     requires level { complex.old.level < too_high }
     ensures base { complex.new.base ≡ complex.old.base }
     ensures since { complex.new.since ≡ complex.old.since }
@@ -329,7 +323,6 @@ fn mark_printed<P: Plant + Drop, C: Steady + Drop>(
     requires untold { P.tells → IsStepUntold (setting C.reads complex.old.base complex.old.since) member.old.id step (P.view complex.old.plant) }
     requires copy1 { HasCopy P.tells complex.old.pair.first.alive complex.old.first (C.count complex.old.pair.first.copy) (C.room complex.old.pair.first.copy) member.old.checkpoint.pages (C.reads (disk_now (P.view complex.old.plant) Ckpt1).bytes) }
     requires copy2 { HasCopy P.tells complex.old.pair.second.alive complex.old.second (C.count complex.old.pair.second.copy) (C.room complex.old.pair.second.copy) member.old.checkpoint.pages (C.reads (disk_now (P.view complex.old.plant) Ckpt2).bytes) }
-    requires most { 1 ≤ C.room_most }
     requires order { member.old.checkpoint.tables.order < too_high }
     requires high { member.old.checkpoint.level < too_high }
     requires level { complex.old.level + 1 < too_high }
@@ -390,8 +383,6 @@ fn play_lines<P: Plant + Drop, C: Steady + Drop>(
     requires untold { P.tells → IsStepUntold (setting C.reads complex.old.base complex.old.since) member.old.id step (P.view complex.old.plant) }
     requires copy1 { HasCopy P.tells complex.old.pair.first.alive complex.old.first (C.count complex.old.pair.first.copy) (C.room complex.old.pair.first.copy) member.old.checkpoint.pages (C.reads (disk_now (P.view complex.old.plant) Ckpt1).bytes) }
     requires copy2 { HasCopy P.tells complex.old.pair.second.alive complex.old.second (C.count complex.old.pair.second.copy) (C.room complex.old.pair.second.copy) member.old.checkpoint.pages (C.reads (disk_now (P.view complex.old.plant) Ckpt2).bytes) }
-    requires most { 1 ≤ C.room_most }
-    requires orders { orders_after (length complex.old.journal.batches) < too_high }
     requires level { complex.old.level + 1 < too_high }
     ensures base { complex.new.base ≡ complex.old.base }
     ensures since { complex.new.since ≡ complex.old.since }
@@ -439,8 +430,6 @@ pub(crate) fn play_print<P: Plant + Drop, C: Steady + Drop>(
     requires untold { P.tells → IsStepUntold (setting C.reads complex.old.base complex.old.since) member.old.id step (P.view complex.old.plant) }
     requires copy1 { HasCopy P.tells complex.old.pair.first.alive complex.old.first (C.count complex.old.pair.first.copy) (C.room complex.old.pair.first.copy) member.old.checkpoint.pages (C.reads (disk_now (P.view complex.old.plant) Ckpt1).bytes) }
     requires copy2 { HasCopy P.tells complex.old.pair.second.alive complex.old.second (C.count complex.old.pair.second.copy) (C.room complex.old.pair.second.copy) member.old.checkpoint.pages (C.reads (disk_now (P.view complex.old.plant) Ckpt2).bytes) }
-    requires most { 1 ≤ C.room_most }
-    requires orders { orders_after (length complex.old.journal.batches + 3) < too_high }
     requires level { complex.old.level + 3 < too_high }
     requires high { member.old.checkpoint.level + 1 < 2 ^ 63 }
     ensures base { complex.new.base ≡ complex.old.base }

@@ -172,16 +172,12 @@ pub(crate) fn spool_outputs<P: Plant + Drop, C: Steady + Drop>(
     let Ok(held) = held_by(alloc, member.checkpoint.tables.owners.as_slice(), by) else {
         return Err(NodeNo::NoMemory);
     };
-    let Ok(()) = complex.free(by, true) else {
-        unreachable!();
-    };
+    complex.leave_lock(by);
     let lost = match write_and_sync(complex, by, &held.as_slice()[..needed as usize], specs) {
         Ok(()) => None,
         Err(SpoolError::Lost(volume)) => Some(volume),
         Err(SpoolError::Halted) => return Err(NodeNo::Halted),
     };
-    let Ok(()) = complex.try_lock(by, true) else {
-        unreachable!();
-    };
+    complex.retake_lock(by);
     Ok(lost)
 }

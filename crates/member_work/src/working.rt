@@ -61,7 +61,6 @@ pub(crate) fn play_command<P: Plant + Drop, C: Steady + Drop>(
     requires untold { P.tells → IsStepUntold (setting C.reads complex.old.base complex.old.since) member.old.id step (P.view complex.old.plant) }
     requires copy1 { HasCopy P.tells complex.old.pair.first.alive complex.old.first (C.count complex.old.pair.first.copy) (C.room complex.old.pair.first.copy) member.old.checkpoint.pages (C.reads (disk_now (P.view complex.old.plant) Ckpt1).bytes) }
     requires copy2 { HasCopy P.tells complex.old.pair.second.alive complex.old.second (C.count complex.old.pair.second.copy) (C.room complex.old.pair.second.copy) member.old.checkpoint.pages (C.reads (disk_now (P.view complex.old.plant) Ckpt2).bytes) }
-    requires most { 1 ≤ C.room_most }
     requires few { length member.old.batch < 64 }
     requires order { member.old.checkpoint.tables.order + 32 < 2 ^ 63 }
     requires high { member.old.checkpoint.level + 1 < 2 ^ 63 }
@@ -107,8 +106,6 @@ fn give_way<P: Plant + Drop, C: Steady + Drop>(
     requires untold { P.tells → IsUntold (setting C.reads complex.old.base complex.old.since) (P.view complex.old.plant) member.old.batch }
     requires copy1 { HasCopy P.tells complex.old.pair.first.alive complex.old.first (C.count complex.old.pair.first.copy) (C.room complex.old.pair.first.copy) member.old.checkpoint.pages (C.reads (disk_now (P.view complex.old.plant) Ckpt1).bytes) }
     requires copy2 { HasCopy P.tells complex.old.pair.second.alive complex.old.second (C.count complex.old.pair.second.copy) (C.room complex.old.pair.second.copy) member.old.checkpoint.pages (C.reads (disk_now (P.view complex.old.plant) Ckpt2).bytes) }
-    requires most { 1 ≤ C.room_most }
-    requires orders { orders_after (length complex.old.journal.batches + 1) < too_high }
     requires level { complex.old.level + 1 < too_high }
     requires high { member.old.checkpoint.level + 1 < 2 ^ 63 }
     ensures base { complex.new.base ≡ complex.old.base }
@@ -129,12 +126,8 @@ fn give_way<P: Plant + Drop, C: Steady + Drop>(
 {
     keep_given(member, alloc, complex)?;
     let by = member.id;
-    let Ok(()) = complex.free(by, true) else {
-        unreachable!();
-    };
-    let Ok(()) = complex.try_lock(by, true) else {
-        unreachable!();
-    };
+    complex.leave_lock(by);
+    complex.retake_lock(by);
     hold_again(member, alloc, complex)
 }
 
@@ -154,8 +147,6 @@ fn rest<P: Plant + Drop, C: Steady + Drop>(
     requires untold { P.tells → IsUntold (setting C.reads complex.old.base complex.old.since) (P.view complex.old.plant) member.old.batch }
     requires copy1 { HasCopy P.tells complex.old.pair.first.alive complex.old.first (C.count complex.old.pair.first.copy) (C.room complex.old.pair.first.copy) member.old.checkpoint.pages (C.reads (disk_now (P.view complex.old.plant) Ckpt1).bytes) }
     requires copy2 { HasCopy P.tells complex.old.pair.second.alive complex.old.second (C.count complex.old.pair.second.copy) (C.room complex.old.pair.second.copy) member.old.checkpoint.pages (C.reads (disk_now (P.view complex.old.plant) Ckpt2).bytes) }
-    requires most { 1 ≤ C.room_most }
-    requires orders { orders_after (length complex.old.journal.batches + 1) < too_high }
     requires level { complex.old.level + 1 < too_high }
     requires high { member.old.checkpoint.level + 1 < 2 ^ 63 }
     ensures base { complex.new.base ≡ complex.old.base }
@@ -207,10 +198,8 @@ fn play_units<P: Plant + Drop, C: Steady + Drop>(
     requires untold { P.tells → IsStepUntold (setting C.reads complex.old.base complex.old.since) member.old.id step (P.view complex.old.plant) }
     requires copy1 { HasCopy P.tells complex.old.pair.first.alive complex.old.first (C.count complex.old.pair.first.copy) (C.room complex.old.pair.first.copy) member.old.checkpoint.pages (C.reads (disk_now (P.view complex.old.plant) Ckpt1).bytes) }
     requires copy2 { HasCopy P.tells complex.old.pair.second.alive complex.old.second (C.count complex.old.pair.second.copy) (C.room complex.old.pair.second.copy) member.old.checkpoint.pages (C.reads (disk_now (P.view complex.old.plant) Ckpt2).bytes) }
-    requires most { 1 ≤ C.room_most }
     requires order { member.old.checkpoint.tables.order < too_high }
     requires high { member.old.checkpoint.level < too_high }
-    requires orders { orders_after (length complex.old.journal.batches + levels_in units) < too_high }
     requires level { complex.old.level + levels_in units < too_high }
     ensures base { complex.new.base ≡ complex.old.base }
     ensures since { complex.new.since ≡ complex.old.since }
@@ -282,11 +271,9 @@ pub fn play_work<P: Plant + Drop, C: Steady + Drop>(
     requires roomy { P.tells → AreRoomy (P.view complex.old.plant) complex.old.base.config }
     requires config { complex.old.base.config ≡ member.old.checkpoint.tables.config }
     requires many { length member.old.room ≡ length member.old.checkpoint.pages }
-    requires most { 1 ≤ C.room_most }
     requires order { member.old.checkpoint.tables.order < too_high }
     requires low { P.tells → AreLow complex.old.base.config (length complex.old.journal.batches) member.old.checkpoint.tables }
     requires high { member.old.checkpoint.level < too_high }
-    requires orders { orders_after (length complex.old.journal.batches + levels_in units) < too_high }
     requires level { complex.old.level + levels_in units < too_high }
     ensures base { complex.new.base ≡ complex.old.base }
     ensures since { complex.new.since ≡ complex.old.since }

@@ -1,10 +1,10 @@
 use Rattle.std.proofs.Common.{◌≡◌, true, false, None, sym, ap, subst}
 use Rattle.lock_cycle.specs.Books.{IsMember, after_try, try_refusal}
-use Rattle.gate_turns.specs.Parts.{shown_of}
+use Rattle.mas_complex.specs.Parts.{shown_of}
 use Rattle.gate_turns.specs.Laws.{with_book}
 use Rattle.gate_turns.specs.Turning.{Serves}
 use Rattle.gate_turns.proofs.BookLemmas.{tries_held}
-use Rattle.gate_turns.proofs.Showing.{on_ok, few_seats, in_book, shown_beside, tried_back, left_locked}
+use Rattle.gate_turns.proofs.Showing.{on_ok, few_seats, in_book, shown_framed, tried_back, left_locked}
 use Rattle.gate_turns.proofs.trying.try_in_turn.Goals as goal
 
 pub back-requires-clause-value : goal.back-requires-clause-value
@@ -16,10 +16,7 @@ back-requires-clause-value g c =
     let tried = c.try_lock-tried.ensures in
     let serves = subst (λ b. Serves b by.0) (sym took.bound) c.requires.serves in
     let member : IsMember was.book by = in_book was.base.config _ was.book by c.requires.member (ap (λ q. q.config) (took.value.bare by.0 c.requires.serves).base) took.rest.members in
-    let shown : shown_of is ≡ with_book (shown_of was) (after_try was.book by c.args.inner) was.reserved =
-    shown_beside was is (after_try was.book by c.args.inner) was.reserved
-    (record { plant = tried.plant; pair = tried.pair; base = tried.base; since = tried.since; journal = tried.journal; current = tried.current; first = tried.first; second = tried.second; level = tried.level; printed = tried.printed })
-    tried.book tried.reserved in
+    let shown : shown_of is ≡ with_book (shown_of was) (after_try was.book by c.args.inner) was.reserved = shown_framed was is (after_try was.book by c.args.inner) tried.frame in
     record {
       bare = tried_back was is by c.args.inner _ _ _ false serves took.taken.bare member shown;
       told = λ t. tried_back was is by c.args.inner _ _ _ true serves (took.taken.told t) member shown;

@@ -91,10 +91,10 @@ pub returns-clause-rests2 : goal.returns-clause-rests2
 returns-clause-rests2 g c = on_ok c.primary.result (λ rests. rw c.in_ok-read_in.ensures.here at rests) c.primary.ensures.rests2
 
 pub returns-clause-room1 : goal.returns-clause-room1
-returns-clause-room1 g c = on_ok c.primary.result (λ room on. ⊎_elim (λ some. some) (λ most. subst (λ (n : ℕ). 1 ≤ n) (sym most) c.requires.most) (room on)) c.primary.ensures.room1
+returns-clause-room1 g c = c.primary.ensures.room1
 
 pub returns-clause-room2 : goal.returns-clause-room2
-returns-clause-room2 g c = on_ok c.primary.result (λ room on. ⊎_elim (λ some. some) (λ most. subst (λ (n : ℕ). 1 ≤ n) (sym most) c.requires.most) (room on)) c.primary.ensures.room2
+returns-clause-room2 g c = c.primary.ensures.room2
 
 pub returns-clause-many : goal.returns-clause-many
 returns-clause-many g c = ok_of c.primary.result c.in_ok-read_in.ensures.many

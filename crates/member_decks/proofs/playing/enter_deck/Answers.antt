@@ -136,9 +136,6 @@ take_hold-requires-clause-sound g c told =
 pub take_hold-requires-clause-config : goal.take_hold-requires-clause-config
 take_hold-requires-clause-config g c = ap (λ (q : Queue). q.config) c.spool_deck.ensures.base ∙ c.requires.config
 
-pub take_hold-requires-clause-orders : goal.take_hold-requires-clause-orders
-take_hold-requires-clause-orders g c = subst (λ (j : Journal). orders_after (length j.batches) < too_high) (sym c.spool_deck.ensures.journal) c.requires.orders
-
 pub take_hold-requires-clause-level : goal.take_hold-requires-clause-level
 take_hold-requires-clause-level g c = subst (λ (n : ℕ). n < too_high) (sym c.spool_deck.ensures.level) c.requires.level
 

@@ -644,25 +644,6 @@ enter_deck-requires-clause-low g c told =
     (low_deck x.base.config (length x.journal.batches) (length y.journal.batches) c.groups_needed-groups.result m.checkpoint.tables l.checkpoint.tables (c.requires.low told) (ap (λ (u : Tables). u.config) e.tables ∙ d.config) k.between.fit
     (subst (λ (u : Tables). u.order ≤ m.checkpoint.tables.order + 32 * (c.groups_needed-groups.result + 2)) (sym e.tables) d.order) (omega (arith, groups, few)) one)
 
-pub enter_deck-requires-clause-orders : goal.enter_deck-requires-clause-orders
-enter_deck-requires-clause-orders g c =
-    let P = g.P.Plant in
-    let x = c.args.complex.now in
-    let m = c.args.member.now in
-    let n = c.open_deck.new.member in
-    let d = c.open_deck.ensures in
-    let need : ℕ = groups_needed c.args.text in
-    let groups : c.groups_needed-groups.result ≡ need = c.groups_needed-groups.ensures in
-    let y = c.keep_batch.new.complex in
-    let l = c.keep_batch.new.member in
-    let e = c.keep_batch.ensures in
-    let k = c.in_ok-keep_batch.ensures in
-    let id2 : l.id ≡ m.id = e.id ∙ d.id in
-    let kept : HasKept x.journal.batches (end_of y.placed y.current y.journal.batches) (begun (P.view x.plant).now m.id n.batch) (P.view y.plant).now =
-    subst (λ (i : MemberId). HasKept x.journal.batches (end_of y.placed y.current y.journal.batches) (begun (P.view x.plant).now i n.batch) (P.view y.plant).now) d.id k.leaves in
-    let one : length y.journal.batches ≡ length x.journal.batches + 1 = one_batch x.journal.batches y.journal.batches y.placed y.current (begun (P.view x.plant).now m.id n.batch) (P.view y.plant).now k.between.unplaced k.between.none kept in
-    subst (λ (i : ℕ). orders_after i < too_high) (sym one) c.requires.orders
-
 pub enter_deck-requires-clause-level : goal.enter_deck-requires-clause-level
 enter_deck-requires-clause-level g c = omega (arith, c.in_ok-keep_batch.ensures.reached, c.requires.level)
 

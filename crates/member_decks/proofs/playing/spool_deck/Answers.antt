@@ -35,16 +35,16 @@ pub spool_text-requires-clause-within : goal.spool_text-requires-clause-within
 spool_text-requires-clause-within g c =
     let m = c.args.member.now in
     let list : c.as_slice-2.result.now ≡ held_by m.id m.checkpoint.tables.owners = c.as_slice-2.ensures ∙ c.in-Ok.ensures ∙ ap (held_by m.id) c.as_slice.ensures in
-    let config : c.free.new.self.base.config ≡ m.checkpoint.tables.config = ap (λ (q : Queue). q.config) c.free.ensures.base ∙ c.requires.config in
-    subst (λ (l : List GroupNo). All (IsGroupOf c.free.new.self.base.config) (take c.args.groups l)) (sym list)
+    let config : c.leave_lock.new.self.base.config ≡ m.checkpoint.tables.config = ap (λ (q : Queue). q.config) c.leave_lock.ensures.base ∙ c.requires.config in
+    subst (λ (l : List GroupNo). All (IsGroupOf c.leave_lock.new.self.base.config) (take c.args.groups l)) (sym list)
     (subst (λ (k : Config). All (IsGroupOf k) (take c.args.groups (held_by m.id m.checkpoint.tables.owners))) (sym config) (all_within m.id m.checkpoint.tables.owners c.args.groups m.checkpoint.tables.config c.requires.shape.owners))
 
 pub spool_text-requires-clause-held : goal.spool_text-requires-clause-held
 spool_text-requires-clause-held g c told =
     let m = c.args.member.now in
-    let y = c.free.new.self in
+    let y = c.leave_lock.new.self in
     let list : c.as_slice-2.result.now ≡ held_by m.id m.checkpoint.tables.owners = c.as_slice-2.ensures ∙ c.in-Ok.ensures ∙ ap (held_by m.id) c.as_slice.ensures in
-    let owners : (run y.base (kept_all y.journal.batches)).owners ≡ m.checkpoint.tables.owners = rw (c.free.ensures.base, c.free.ensures.journal) (c.requires.owners told) in
+    let owners : (run y.base (kept_all y.journal.batches)).owners ≡ m.checkpoint.tables.owners = rw (c.leave_lock.ensures.base, c.leave_lock.ensures.journal) (c.requires.owners told) in
     subst (λ (l : List GroupNo). All (λ h. IsHeldBy m.id h (run y.base (kept_all y.journal.batches))) (take c.args.groups l)) (sym list) (all_held m.id m.checkpoint.tables.owners c.args.groups (run y.base (kept_all y.journal.batches)) owners)
 
 pub returns-clause-there : goal.returns-clause-there
@@ -55,7 +55,7 @@ returns-clause-there g c is told roomy =
     let list : c.as_slice-2.result.now ≡ held_by m.id (run x.base (kept_all x.journal.batches)).owners = c.as_slice-2.ensures ∙ c.in-Ok.ensures ∙ ap (held_by m.id) (c.as_slice.ensures ∙ sym (c.requires.owners told)) in
     elim c.match-spool_text.branch [
       | in-Ok-spool_text w ↦
-          let there = rw (c.free.ensures.plant, c.free.ensures.base, list) at w.in-Ok-spool_text.ensures.there in
-          rw c.try_lock.ensures.plant (there told roomy)
+          let there = rw (c.leave_lock.ensures.plant, c.leave_lock.ensures.base, list) at w.in-Ok-spool_text.ensures.there in
+          rw c.retake_lock.ensures.plant (there told roomy)
       | in-Err-Lost w ↦ absurd (not_lost c.match-spool_text.lost w.in-Err-Lost.volume (Ok c.match-spool_text.lost) w.lost-is refl is)
     ]

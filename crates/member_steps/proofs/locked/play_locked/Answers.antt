@@ -169,9 +169,6 @@ read_in-requires-clause-low1 g c = rw (c.lock.ensures.pair, c.lock.ensures.journ
 pub read_in-requires-clause-low2 : goal.read_in-requires-clause-low2
 read_in-requires-clause-low2 g c = rw (c.lock.ensures.pair, c.lock.ensures.journal, c.lock.ensures.plant) c.requires.low2
 
-pub read_in-requires-clause-orders : goal.read_in-requires-clause-orders
-read_in-requires-clause-orders g c = subst (λ (j : Journal). orders_after (length j.batches) < too_high) (sym c.lock.ensures.journal) c.requires.orders
-
 pub read_in-requires-clause-level : goal.read_in-requires-clause-level
 read_in-requires-clause-level g c = subst (λ (n : ℕ). n < too_high) (sym c.lock.ensures.level) c.requires.level
 
@@ -317,10 +314,10 @@ pub play_command-requires-clause-small : goal.play_command-requires-clause-small
 play_command-requires-clause-small g c = subst (λ (n : ℕ). n + 1 < 2 ^ 63) (sym (c.primary.ensures.level ∙ c.read_in.ensures.level ∙ c.lock.ensures.level)) (omega (arith, c.requires.level))
 
 pub play_command-requires-clause-room1 : goal.play_command-requires-clause-room1
-play_command-requires-clause-room1 g c on = ⊎_elim (λ some. some) (λ most. subst (λ (n : ℕ). 1 ≤ n) (sym most) c.requires.most) (c.in_ok-primary.ensures.room1 on)
+play_command-requires-clause-room1 g c on = c.in_ok-primary.ensures.room1 on
 
 pub play_command-requires-clause-room2 : goal.play_command-requires-clause-room2
-play_command-requires-clause-room2 g c on = ⊎_elim (λ some. some) (λ most. subst (λ (n : ℕ). 1 ≤ n) (sym most) c.requires.most) (c.in_ok-primary.ensures.room2 on)
+play_command-requires-clause-room2 g c on = c.in_ok-primary.ensures.room2 on
 
 pub returns-in_err-play_command-clause-granted : goal.returns-in_err-play_command-clause-granted
 returns-in_err-play_command-clause-granted g c got =

@@ -25,7 +25,7 @@ use Rattle.member_node.specs.Reads.{IsSettle, pages_had}
 use Rattle.member_steps.proofs.ReadLemmas.{one_batch}
 use Rattle.member_work.specs.Steps.{IsKeeping}
 use Rattle.member_work.proofs.KeepingLemmas.{keeping_none, keeping_then, kept_not_in, kept_ok, settled}
-use Rattle.member_work.proofs.StateLemmas.{between_by, has_room, none_batch, on_two, one_batch_in, same_room, some_batch, work_between, work_order}
+use Rattle.member_work.proofs.StateLemmas.{between_by, none_batch, on_two, one_batch_in, same_room, some_batch, work_between, work_order}
 use Rattle.member_work.proofs.closing.keep_given.Goals as goal
 
 pub returns-then-len-eq0-clause-nothing : goal.returns-then-len-eq0-clause-nothing
@@ -339,7 +339,7 @@ returns-clause-copy1 g c =
     let r = c.primary.result in
     let kept = kept_ok P.tells m.id m.batch some x.journal.batches (end_of y.placed y.current y.journal.batches) x.pair.first.alive y.pair.first.alive x.pair.second.alive y.pair.second.alive (P.view x.plant) (P.view y.plant) o.acts o.leaves in
     let out : end_of y.placed y.current y.journal.batches ≡ y.journal.batches = none_out y.journal.batches y.journal.batches y.placed y.current refl o.between.unplaced o.between.none in
-    on_two r (λ rests room. record { rests = subst (λ (behind : Bool). RestsAt P.tells z.pair.first.alive z.first (C.count z.pair.first.copy) (pages_had behind n.room n.checkpoint.pages) (C.reads (disk_now (P.view z.plant) Ckpt1).bytes)) k.here rests; room = has_room z.pair.first.alive (C.room z.pair.first.copy) C.room_most c.requires.most room }) p.rests1 p.room1
+    on_two r (λ rests room. record { rests = subst (λ (behind : Bool). RestsAt P.tells z.pair.first.alive z.first (C.count z.pair.first.copy) (pages_had behind n.room n.checkpoint.pages) (C.reads (disk_now (P.view z.plant) Ckpt1).bytes)) k.here rests; room = room }) p.rests1 p.room1
 
 pub returns-clause-copy2 : goal.returns-clause-copy2
 returns-clause-copy2 g c =
@@ -358,7 +358,7 @@ returns-clause-copy2 g c =
     let r = c.primary.result in
     let kept = kept_ok P.tells m.id m.batch some x.journal.batches (end_of y.placed y.current y.journal.batches) x.pair.first.alive y.pair.first.alive x.pair.second.alive y.pair.second.alive (P.view x.plant) (P.view y.plant) o.acts o.leaves in
     let out : end_of y.placed y.current y.journal.batches ≡ y.journal.batches = none_out y.journal.batches y.journal.batches y.placed y.current refl o.between.unplaced o.between.none in
-    on_two r (λ rests room. record { rests = subst (λ (behind : Bool). RestsAt P.tells z.pair.second.alive z.second (C.count z.pair.second.copy) (pages_had behind n.room n.checkpoint.pages) (C.reads (disk_now (P.view z.plant) Ckpt2).bytes)) k.here rests; room = has_room z.pair.second.alive (C.room z.pair.second.copy) C.room_most c.requires.most room }) p.rests2 p.room2
+    on_two r (λ rests room. record { rests = subst (λ (behind : Bool). RestsAt P.tells z.pair.second.alive z.second (C.count z.pair.second.copy) (pages_had behind n.room n.checkpoint.pages) (C.reads (disk_now (P.view z.plant) Ckpt2).bytes)) k.here rests; room = room }) p.rests2 p.room2
 
 pub returns-clause-high : goal.returns-clause-high
 returns-clause-high g c =

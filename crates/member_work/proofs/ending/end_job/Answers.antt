@@ -331,34 +331,6 @@ spool_and_end-requires-clause-under_way g c told =
     let groups : P.tells → groups_for_end R n c.args.specs ≡ groups_for_end Q n c.args.specs = λ t. groups_taken Q R by needed n c.args.specs (first t) in
     under_way_taken Q R by needed n (first told) (c.requires.under_way told)
 
-pub spool_and_end-requires-clause-orders : goal.spool_and_end-requires-clause-orders
-spool_and_end-requires-clause-orders g c =
-    let P = g.P.Plant in
-    let x = c.args.complex.now in
-    let m = c.args.member.now in
-    let w = c.requires.work in
-    let by = m.id in
-    let at = c.args.step in
-    let n = c.args.job in
-    let needed = c.groups_for_end-needed.result in
-    let Q : Queue = run x.base (kept_all x.journal.batches) in
-    let told_is : P.tells → Tell m.checkpoint.tables Q = λ t. work_queue P.tells (P.view x.plant) x.since x.base x.journal.batches x.current x.placed x.level x.reserved x.printed m.id m.batch m.checkpoint m.room m.behind w c.requires.nothing t in
-    let is : P.tells → needed ≡ groups_for_end Q n c.args.specs = λ t. rw c.as_slice.ensures at (c.groups_for_end-needed.ensures.groups Q (told_is t)) in
-    let some : 1 ≤ needed = let not = c.if-needed-eq0.false in omega (arith, not) in
-    let y = c.take_given.new.complex in
-    let o = c.take_given.new.member in
-    let u = c.take_given.ensures in
-    let k = c.in_ok-end.ensures in
-    let one = k.last in
-    let same : y.journal.batches ≡ x.journal.batches = sym (end_none y.placed y.current y.journal.batches k.work.unplaced k.work.none) ∙ same_journal {T = UnitEnd} P.tells by _ x.journal.batches (end_of y.placed y.current y.journal.batches) x.pair.first.alive y.pair.first.alive x.pair.second.alive y.pair.second.alive (P.view x.plant) (P.view y.plant) one.played.keeps in
-    let R : Queue = run y.base (kept_all y.journal.batches ++ o.batch) in
-    let queue : R ≡ run Q o.batch = ap (λ (b : Queue). run b (kept_all y.journal.batches ++ o.batch)) u.base ∙ ap (λ (l : List Batch). run x.base (kept_all l ++ o.batch)) same ∙ run_append x.base (kept_all x.journal.batches) o.batch in
-    let batch : P.tells → o.batch ≡ given_in Q by at (taking Q by needed) = λ t. one.played.left ∙ (one.is t).0 in
-    let done : P.tells → taken_end Q by at needed ≡ ends.Done = λ t. sym (one.played.ends ∙ (one.is t).1) ∙ c.in-Done.is in
-    let first : P.tells → R ≡ (step Q by (command.Take needed)).0 = λ t. queue ∙ queue_is Q by at needed some (done t) o.batch (batch t) in
-    let groups : P.tells → groups_for_end R n c.args.specs ≡ groups_for_end Q n c.args.specs = λ t. groups_taken Q R by needed n c.args.specs (first t) in
-    subst (λ (l : List Batch). orders_after (length l + 1) < too_high) (sym same) c.requires.orders
-
 pub spool_and_end-requires-clause-level : goal.spool_and_end-requires-clause-level
 spool_and_end-requires-clause-level g c =
     let same = c.in_ok-end.ensures.reached in omega (arith, same, c.requires.level)

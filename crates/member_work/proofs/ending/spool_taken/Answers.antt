@@ -27,7 +27,7 @@ use Rattle.member_work.specs.Work.{batches_in}
 use Rattle.member_work.proofs.CauseLemmas.{found_spooled, wider_found}
 use Rattle.member_work.proofs.EndingLemmas.{end_none}
 use Rattle.member_work.proofs.KeepingLemmas.{held_not, held_ok, keeping_error, keeping_ok, spooled_not, spooled_ok}
-use Rattle.member_work.proofs.PartLemmas.{copies_as, keeping_quiet, orders_kept, queue_kept, wider_lost}
+use Rattle.member_work.proofs.PartLemmas.{copies_as, keeping_quiet, queue_kept, wider_lost}
 use Rattle.member_work.proofs.SayingLemmas.{rests_as}
 use Rattle.member_work.proofs.StateLemmas.{untold_then, work_later, work_queue}
 use Rattle.member_work.proofs.ending.spool_taken.Goals as goal
@@ -161,21 +161,6 @@ hold_again-requires-clause-rests2 g c =
     let z = c.spool_outputs.new.complex in
     let s = c.spool_outputs.ensures in
     rw (s.pair, s.second) (rests_as P.tells y.pair.second.alive y.second (C.count y.pair.second.copy) n.checkpoint.pages (C.reads (disk_now (P.view y.plant) Ckpt2).bytes) (C.reads (disk_now (P.view z.plant) Ckpt2).bytes) (λ told. ap (λ d. C.reads d.bytes) (s.acts.second told)) k.copy2.rests)
-
-pub hold_again-requires-clause-orders : goal.hold_again-requires-clause-orders
-hold_again-requires-clause-orders g c =
-    let P = g.P.Plant in
-    let C = g.C.Copying in
-    let x = c.args.complex.now in
-    let m = c.args.member.now in
-    let y = c.keep_given.new.complex in
-    let n = c.keep_given.new.member in
-    let u = c.keep_given.ensures in
-    let k = c.in_ok-keep_given.ensures in
-    let w = k.work in
-    let z = c.spool_outputs.new.complex in
-    let s = c.spool_outputs.ensures in
-    orders_kept P.tells m.id m.batch x.journal.batches y.journal.batches z.journal.batches (end_of y.placed y.current y.journal.batches) x.pair.first.alive y.pair.first.alive x.pair.second.alive y.pair.second.alive (P.view x.plant) (P.view y.plant) (ap (λ (j : Journal). j.batches) s.journal) (end_none y.placed y.current y.journal.batches w.unplaced w.none) k.keeps c.requires.orders
 
 pub hold_again-requires-clause-level : goal.hold_again-requires-clause-level
 hold_again-requires-clause-level g c =

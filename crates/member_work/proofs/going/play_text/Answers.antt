@@ -66,10 +66,6 @@ pub go_on-requires-clause-untold : goal.go_on-requires-clause-untold
 go_on-requires-clause-untold g c told =
     c.in_ok-outcome.ensures.untold told c.args.step (c.requires.untold told)
 
-pub go_on-requires-clause-orders : goal.go_on-requires-clause-orders
-go_on-requires-clause-orders g c =
-    rw c.read_job.ensures.journal c.requires.orders
-
 pub go_on-requires-clause-level : goal.go_on-requires-clause-level
 go_on-requires-clause-level g c =
     rw c.read_job.ensures.reached c.requires.level

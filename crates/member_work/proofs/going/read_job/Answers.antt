@@ -71,10 +71,6 @@ hold_again-requires-clause-rests2 g c =
     let s = c.look_up.ensures in
     rw (s.pair, s.second) (rests_as P.tells x.pair.second.alive x.second (C.count x.pair.second.copy) m.checkpoint.pages (C.reads (disk_now (P.view x.plant) Ckpt2).bytes) (C.reads (disk_now (P.view z.plant) Ckpt2).bytes) (λ told. ap (λ d. C.reads d.bytes) (s.acts.second told)) c.requires.copy2.rests)
 
-pub hold_again-requires-clause-orders : goal.hold_again-requires-clause-orders
-hold_again-requires-clause-orders g c =
-    rw c.look_up.ensures.journal c.requires.orders
-
 pub hold_again-requires-clause-level : goal.hold_again-requires-clause-level
 hold_again-requires-clause-level g c =
     rw c.look_up.ensures.level c.requires.level

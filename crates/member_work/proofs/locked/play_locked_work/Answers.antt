@@ -166,9 +166,6 @@ take_hold-requires-clause-sound g c told = rw (c.lock.ensures.base, c.lock.ensur
 pub take_hold-requires-clause-config : goal.take_hold-requires-clause-config
 take_hold-requires-clause-config g c = ap (λ (Q : Queue). Q.config) c.lock.ensures.base ∙ c.requires.config
 
-pub take_hold-requires-clause-orders : goal.take_hold-requires-clause-orders
-take_hold-requires-clause-orders g c = subst (λ (j : Journal). orders_after (length j.batches) < too_high) (sym c.lock.ensures.journal) (omega (arith, c.requires.orders))
-
 pub take_hold-requires-clause-level : goal.take_hold-requires-clause-level
 take_hold-requires-clause-level g c = subst (λ (n : ℕ). n < too_high) (sym c.lock.ensures.level) (omega (arith, c.requires.level))
 
@@ -310,9 +307,6 @@ play_work-requires-clause-low g c told =
     let config : m.checkpoint.tables.config ≡ h.base.config = sym (ap (λ (q : Queue). q.config) (t.base ∙ l.base) ∙ c.requires.config) in
     subst (λ (j : Journal). AreLow h.base.config (length j.batches) n.checkpoint.tables) (sym t.journal)
     (subst (λ (k : Config). AreLow k (length y.journal.batches) n.checkpoint.tables) config (c.in_ok-take_hold.ensures.low told))
-
-pub play_work-requires-clause-orders : goal.play_work-requires-clause-orders
-play_work-requires-clause-orders g c = subst (λ (j : Journal). orders_after (length j.batches + levels_in c.args.units) < too_high) (sym (c.take_hold.ensures.journal ∙ c.lock.ensures.journal)) c.requires.orders
 
 pub play_work-requires-clause-level : goal.play_work-requires-clause-level
 play_work-requires-clause-level g c = subst (λ (n : ℕ). n + levels_in c.args.units < too_high) (sym (c.take_hold.ensures.level ∙ c.lock.ensures.level)) c.requires.level

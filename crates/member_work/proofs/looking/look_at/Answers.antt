@@ -21,35 +21,35 @@ read_text-requires-clause-within g c =
     let t = c.args.member.now.checkpoint.tables in
     let its = Deck c.args.job.now.number in
     let list : c.as_slice.result.now ≡ groups_of its t.owners = c.as_slice.ensures ∙ c.in-Ok.ensures ∙ ap (groups_of its) c.as_slice-owners.ensures in
-    let config : c.free.new.self.base.config ≡ t.config = ap (λ (q : Queue). q.config) c.free.ensures.base ∙ c.requires.work.config in
-    subst (λ (l : List GroupNo). All (IsGroupOf c.free.new.self.base.config) l) (sym list)
+    let config : c.leave_lock.new.self.base.config ≡ t.config = ap (λ (q : Queue). q.config) c.leave_lock.ensures.base ∙ c.requires.work.config in
+    subst (λ (l : List GroupNo). All (IsGroupOf c.leave_lock.new.self.base.config) l) (sym list)
     (subst (λ (k : Config). All (IsGroupOf k) (groups_of its t.owners)) (sym config) (groups_within c.law_of_places.ensures.own its t.owners t.config c.requires.work.draws.spelling.shape.owners))
 
-pub try_lock-requires-clause-member : goal.try_lock-requires-clause-member
-try_lock-requires-clause-member g c =
+pub retake_lock-requires-clause-member : goal.retake_lock-requires-clause-member
+retake_lock-requires-clause-member g c =
     let b = c.args.complex.now.book in
     let m = c.args.member.now.id in
-    let freed : c.read_text.new.complex.book ≡ after_free b m true = c.read_text.ensures.book ∙ c.free.ensures.book in
+    let freed : c.read_text.new.complex.book ≡ after_free b m true = c.read_text.ensures.book ∙ c.leave_lock.ensures.book in
     subst (λ (k : Book). IsMember k m) (sym freed) (freed_member b m c.requires.may.holds c.requires.seated)
 
-pub unreachable-requires-in_default-try_lock : goal.unreachable-requires-in_default-try_lock
-unreachable-requires-in_default-try_lock g c =
+pub retake_lock-requires-clause-free : goal.retake_lock-requires-clause-free
+retake_lock-requires-clause-free g c =
     let b = c.args.complex.now.book in
     let m = c.args.member.now.id in
     let some : 0 < m.0 = omega (arith, c.requires.some) in
-    let freed : c.read_text.new.complex.book ≡ after_free b m true = c.read_text.ensures.book ∙ c.free.ensures.book in
+    let freed : c.read_text.new.complex.book ≡ after_free b m true = c.read_text.ensures.book ∙ c.leave_lock.ensures.book in
     let gets : try_refusal c.read_text.new.complex.book m true ≡ None = ap (λ (k : Book). try_refusal k m true) freed ∙ gets_again b m c.requires.may.holds some (c.requires.may.up some) in
-    absurd (cc (gets, c.in_default-try_lock.ensures.err))
+    gets
 
 pub returns-clause-book : goal.returns-clause-book
 returns-clause-book g c =
     let b = c.args.complex.now.book in
     let m = c.args.member.now.id in
     let some : 0 < m.0 = omega (arith, c.requires.some) in
-    c.try_lock.ensures.book ∙ ap (λ (k : Book). after_try k m true) (c.read_text.ensures.book ∙ c.free.ensures.book) ∙ keeps_book b m c.requires.may.holds some (c.requires.may.up some) c.requires.whole
+    c.retake_lock.ensures.book ∙ ap (λ (k : Book). after_try k m true) (c.read_text.ensures.book ∙ c.leave_lock.ensures.book) ∙ keeps_book b m c.requires.may.holds some (c.requires.may.up some) c.requires.whole
 
 pub returns-clause-reads : goal.returns-clause-reads
-returns-clause-reads g c = rw c.try_lock.ensures.plant (rw c.free.ensures.plant at c.read_text.ensures.reads)
+returns-clause-reads g c = rw c.retake_lock.ensures.plant (rw c.leave_lock.ensures.plant at c.read_text.ensures.reads)
 
 pub returns-clause-looked : goal.returns-clause-looked
 returns-clause-looked g c =
@@ -61,9 +61,9 @@ returns-clause-looked g c =
     let list : c.as_slice.result.now ≡ groups_of its t.owners = c.as_slice.ensures ∙ c.in-Ok.ensures ∙ ap (groups_of its) c.as_slice-owners.ensures in
     let o = c.in_ok-read.read in
     let Q = run x.base (kept_all x.journal.batches) in
-    let reads = rw (c.free.ensures.plant, c.free.ensures.base, list) at c.in_ok-read.ensures.read in
-    let failed = rw (c.free.ensures.plant, c.free.ensures.base, list) at c.in_ok-read.ensures.failed in
-    rw c.try_lock.ensures.plant (record {
+    let reads = rw (c.leave_lock.ensures.plant, c.leave_lock.ensures.base, list) at c.in_ok-read.ensures.read in
+    let failed = rw (c.leave_lock.ensures.plant, c.leave_lock.ensures.base, list) at c.in_ok-read.ensures.failed in
+    rw c.retake_lock.ensures.plant (record {
       found = Some o;
       is = λ told j found.
           let done = rw c.requires.nothing at (c.requires.work.done told) in

@@ -135,23 +135,6 @@ play_lines-requires-clause-untold g c told =
     let f = c.in-Some.found in
     untold_then C.reads x.base y.base x.since y.since m.id n.id c.args.step (P.view x.plant) (P.view y.plant) u.base u.since u.id w.begun k.keeps.course.goes (k.keeps.quiet told) (c.requires.untold told)
 
-pub play_lines-requires-clause-orders : goal.play_lines-requires-clause-orders
-play_lines-requires-clause-orders g c =
-    let P = g.P.Plant in
-    let C = g.C.Copying in
-    let x = c.args.complex.now in
-    let m = c.args.member.now in
-    let w = c.requires.work in
-    let Q : Queue = run x.base (kept_all x.journal.batches ++ m.batch) in
-    let y = c.keep_given.new.complex in
-    let n = c.keep_given.new.member in
-    let u = c.keep_given.ensures in
-    let k = c.in_ok-keep_given.ensures in
-    let f = c.in-Some.found in
-    let long : length y.journal.batches ≤ length x.journal.batches + 1 = kept_long P.tells m.id m.batch x.journal.batches y.journal.batches y.placed y.current x.pair.first.alive y.pair.first.alive x.pair.second.alive y.pair.second.alive (P.view x.plant) (P.view y.plant) k.work.unplaced k.work.none k.keeps in
-    let most = c.requires.orders in
-    omega (arith, long, most)
-
 pub play_lines-requires-clause-level : goal.play_lines-requires-clause-level
 play_lines-requires-clause-level g c =
     let le = c.in_ok-keep_given.ensures.reached in omega (arith, le, c.requires.level)

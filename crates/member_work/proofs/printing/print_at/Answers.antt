@@ -32,26 +32,26 @@ read_text-requires-clause-within g c =
     let t = c.args.member.now.checkpoint.tables in
     let its = OutputThing c.args.output.now.job c.args.output.now.index in
     let list : c.as_slice.result.now ≡ groups_of its t.owners = c.as_slice.ensures ∙ c.in-Ok.ensures ∙ ap (groups_of its) c.as_slice-owners.ensures in
-    let config : c.free.new.self.base.config ≡ t.config = ap (λ (q : Queue). q.config) c.free.ensures.base ∙ c.requires.work.config in
-    subst (λ (l : List GroupNo). All (IsGroupOf c.free.new.self.base.config) l) (sym list)
+    let config : c.leave_lock.new.self.base.config ≡ t.config = ap (λ (q : Queue). q.config) c.leave_lock.ensures.base ∙ c.requires.work.config in
+    subst (λ (l : List GroupNo). All (IsGroupOf c.leave_lock.new.self.base.config) l) (sym list)
     (subst (λ (k : Config). All (IsGroupOf k) (groups_of its t.owners)) (sym config) (groups_within c.law_of_places.ensures.own its t.owners t.config c.requires.work.draws.spelling.shape.owners))
 
 pub print_text-requires-clause-member : goal.print_text-requires-clause-member
 print_text-requires-clause-member g c =
     let b = c.args.complex.now.book in
     let m = c.args.member.now.id in
-    subst (λ (k : Book). IsMember k m) (sym (c.read_text.ensures.book ∙ c.free.ensures.book)) (freed_member b m c.requires.may.holds c.requires.seated)
+    subst (λ (k : Book). IsMember k m) (sym (c.read_text.ensures.book ∙ c.leave_lock.ensures.book)) (freed_member b m c.requires.may.holds c.requires.seated)
 
 pub print_text-requires-clause-up : goal.print_text-requires-clause-up
 print_text-requires-clause-up g c =
     let b = c.args.complex.now.book in
     let m = c.args.member.now.id in
     let some : 0 < m.0 = omega (arith, c.requires.some) in
-    subst (λ (k : Book). is_stopped k m ≡ false) (sym (c.read_text.ensures.book ∙ c.free.ensures.book)) (freed_up b m c.requires.may.holds (c.requires.may.up some))
+    subst (λ (k : Book). is_stopped k m ≡ false) (sym (c.read_text.ensures.book ∙ c.leave_lock.ensures.book)) (freed_up b m c.requires.may.holds (c.requires.may.up some))
 
 pub print_text-requires-clause-other : goal.print_text-requires-clause-other
 print_text-requires-clause-other g c =
-    subst (λ (o : Option Batch). IsOfOther o c.args.member.now.id) (sym (c.read_text.ensures.current ∙ c.free.ensures.current ∙ c.requires.work.none)) tt
+    subst (λ (o : Option Batch). IsOfOther o c.args.member.now.id) (sym (c.read_text.ensures.current ∙ c.leave_lock.ensures.current ∙ c.requires.work.none)) tt
 
 pub print_text-requires-clause-may : goal.print_text-requires-clause-may
 print_text-requires-clause-may g c told lines is =
@@ -67,39 +67,39 @@ print_text-requires-clause-may g c told lines is =
     let p = c.requires.printing told in
     let done = rw c.requires.nothing at (c.requires.work.done told) in
     let tell : Tell t Q = done.queue in
-    let reads = rw (c.free.ensures.plant, c.free.ensures.base, list) at c.in_ok-read.ensures.read in
-    let failed = rw (c.free.ensures.plant, c.free.ensures.base, list) at c.in_ok-read.ensures.failed in
+    let reads = rw (c.leave_lock.ensures.plant, c.leave_lock.ensures.base, list) at c.in_ok-read.ensures.read in
+    let failed = rw (c.leave_lock.ensures.plant, c.leave_lock.ensures.base, list) at c.in_ok-read.ensures.failed in
     let seen : IsReadAs P.tells x.base.config.groups p.output.text (groups_of its Q.owners) (Some c.in_ok-read.read) (P.view x.plant) (P.view y.plant) =
     output_seen P.tells x.base.config t Q (P.view x.plant) (P.view y.plant) r p.output c.in_ok-read.read tell c.requires.output p.there told (c.requires.whole_text told p.output p.there) (c.requires.work.roomy told) (c.kept_texts.ensures.kept told) reads failed in
     let as_lines : IsReadAs P.tells x.base.config.groups p.output.text (groups_of its Q.owners) (Some (read.Lines lines)) (P.view x.plant) (P.view y.plant) = rw is at seen in
     let text : p.output.text ≡ Whole lines = lines_whole P.tells x.base.config.groups p.output.text (groups_of its Q.owners) lines (P.view x.plant) (P.view y.plant) told as_lines in
     let may : MayPrintTo x.base x.journal.batches y.current m.id r.job r.index r.mark c.args.last lines =
-    may_print_to x.base x.journal.batches y.current m.id t r c.args.last lines (c.read_text.ensures.current ∙ c.free.ensures.current ∙ c.requires.work.none) tell c.requires.output c.requires.chunk p text in
-    subst (λ (q : Queue). MayPrintTo q y.journal.batches y.current m.id r.job r.index r.mark c.args.last lines) (sym (c.read_text.ensures.base ∙ c.free.ensures.base))
-    (subst (λ (j : Journal). MayPrintTo x.base j.batches y.current m.id r.job r.index r.mark c.args.last lines) (sym (c.read_text.ensures.journal ∙ c.free.ensures.journal)) may)
+    may_print_to x.base x.journal.batches y.current m.id t r c.args.last lines (c.read_text.ensures.current ∙ c.leave_lock.ensures.current ∙ c.requires.work.none) tell c.requires.output c.requires.chunk p text in
+    subst (λ (q : Queue). MayPrintTo q y.journal.batches y.current m.id r.job r.index r.mark c.args.last lines) (sym (c.read_text.ensures.base ∙ c.leave_lock.ensures.base))
+    (subst (λ (j : Journal). MayPrintTo x.base j.batches y.current m.id r.job r.index r.mark c.args.last lines) (sym (c.read_text.ensures.journal ∙ c.leave_lock.ensures.journal)) may)
 
-pub try_lock-requires-clause-member : goal.try_lock-requires-clause-member
-try_lock-requires-clause-member g c =
+pub retake_lock-requires-clause-member : goal.retake_lock-requires-clause-member
+retake_lock-requires-clause-member g c =
     let b = c.args.complex.now.book in
     let m = c.args.member.now.id in
-    let freed : c.print_text.new.complex.book ≡ after_free b m true = c.in_ok-end.ensures.book ∙ c.read_text.ensures.book ∙ c.free.ensures.book in
+    let freed : c.print_text.new.complex.book ≡ after_free b m true = c.in_ok-end.ensures.book ∙ c.read_text.ensures.book ∙ c.leave_lock.ensures.book in
     subst (λ (k : Book). IsMember k m) (sym freed) (freed_member b m c.requires.may.holds c.requires.seated)
 
-pub unreachable-requires-in_default-try_lock : goal.unreachable-requires-in_default-try_lock
-unreachable-requires-in_default-try_lock g c =
+pub retake_lock-requires-clause-free : goal.retake_lock-requires-clause-free
+retake_lock-requires-clause-free g c =
     let b = c.args.complex.now.book in
     let m = c.args.member.now.id in
     let some : 0 < m.0 = omega (arith, c.requires.some) in
-    let freed : c.print_text.new.complex.book ≡ after_free b m true = c.in_ok-end.ensures.book ∙ c.read_text.ensures.book ∙ c.free.ensures.book in
+    let freed : c.print_text.new.complex.book ≡ after_free b m true = c.in_ok-end.ensures.book ∙ c.read_text.ensures.book ∙ c.leave_lock.ensures.book in
     let gets : try_refusal c.print_text.new.complex.book m true ≡ None = ap (λ (k : Book). try_refusal k m true) freed ∙ gets_again b m c.requires.may.holds some (c.requires.may.up some) in
-    absurd (cc (gets, c.in_default-try_lock.ensures.err))
+    gets
 
 pub returns-clause-book : goal.returns-clause-book
 returns-clause-book g c =
     let b = c.args.complex.now.book in
     let m = c.args.member.now.id in
     let some : 0 < m.0 = omega (arith, c.requires.some) in
-    c.try_lock.ensures.book ∙ ap (λ (k : Book). after_try k m true) (c.in_ok-end.ensures.book ∙ c.read_text.ensures.book ∙ c.free.ensures.book) ∙ keeps_book b m c.requires.may.holds some (c.requires.may.up some) c.requires.whole
+    c.retake_lock.ensures.book ∙ ap (λ (k : Book). after_try k m true) (c.in_ok-end.ensures.book ∙ c.read_text.ensures.book ∙ c.leave_lock.ensures.book) ∙ keeps_book b m c.requires.may.holds some (c.requires.may.up some) c.requires.whole
 
 pub returns-clause-acts : goal.returns-clause-acts
 returns-clause-acts g c =
@@ -107,15 +107,15 @@ returns-clause-acts g c =
     let x = c.args.complex.now in
     let y = c.read_text.new.complex in
     let z = c.print_text.new.complex in
-    let one = rw c.free.ensures.plant at c.read_text.ensures.acts in
-    rw c.try_lock.ensures.plant (beside_on P.tells (P.view x.plant) (P.view y.plant) (P.view z.plant) (beside_volumes P.tells c.args.member.now.id.0 (P.view x.plant) (P.view y.plant) one) c.print_text.ensures.acts)
+    let one = rw c.leave_lock.ensures.plant at c.read_text.ensures.acts in
+    rw c.retake_lock.ensures.plant (beside_on P.tells (P.view x.plant) (P.view y.plant) (P.view z.plant) (beside_volumes P.tells c.args.member.now.id.0 (P.view x.plant) (P.view y.plant) one) c.print_text.ensures.acts)
 
 pub returns-in_err-read-clause-acts : goal.returns-in_err-read-clause-acts
 returns-in_err-read-clause-acts g c =
     let P = g.P.Plant in
     let x = c.args.complex.now in
     let y = c.read_text.new.complex in
-    let one = rw c.free.ensures.plant at c.read_text.ensures.acts in
+    let one = rw c.leave_lock.ensures.plant at c.read_text.ensures.acts in
     beside_volumes P.tells c.args.member.now.id.0 (P.view x.plant) (P.view y.plant) one
 
 pub returns-in_err-end-clause-acts : goal.returns-in_err-end-clause-acts
@@ -124,7 +124,7 @@ returns-in_err-end-clause-acts g c =
     let x = c.args.complex.now in
     let y = c.read_text.new.complex in
     let z = c.print_text.new.complex in
-    let one = rw c.free.ensures.plant at c.read_text.ensures.acts in
+    let one = rw c.leave_lock.ensures.plant at c.read_text.ensures.acts in
     beside_on P.tells (P.view x.plant) (P.view y.plant) (P.view z.plant) (beside_volumes P.tells c.args.member.now.id.0 (P.view x.plant) (P.view y.plant) one) c.print_text.ensures.acts
 
 pub returns-clause-printed : goal.returns-clause-printed
@@ -139,10 +139,10 @@ returns-clause-printed g c =
     let y = c.read_text.new.complex in
     let z = c.print_text.new.complex in
     let Q : Queue = run x.base (kept_all x.journal.batches) in
-    let one = rw c.free.ensures.plant at c.read_text.ensures.acts in
-    let reads = rw (c.free.ensures.plant, c.free.ensures.base, list) at c.in_ok-read.ensures.read in
-    let failed = rw (c.free.ensures.plant, c.free.ensures.base, list) at c.in_ok-read.ensures.failed in
-    rw c.try_lock.ensures.plant (printed_as P.tells x.base.config.groups Q m.id r.job r.index (groups_of its t.owners) (P.view x.plant) (P.view y.plant) (P.view z.plant) c.in_ok-read.read c.in_ok-end.end one.goes c.print_text.ensures.acts.goes failed
+    let one = rw c.leave_lock.ensures.plant at c.read_text.ensures.acts in
+    let reads = rw (c.leave_lock.ensures.plant, c.leave_lock.ensures.base, list) at c.in_ok-read.ensures.read in
+    let failed = rw (c.leave_lock.ensures.plant, c.leave_lock.ensures.base, list) at c.in_ok-read.ensures.failed in
+    rw c.retake_lock.ensures.plant (printed_as P.tells x.base.config.groups Q m.id r.job r.index (groups_of its t.owners) (P.view x.plant) (P.view y.plant) (P.view z.plant) c.in_ok-read.read c.in_ok-end.end one.goes c.print_text.ensures.acts.goes failed
     (λ told o found.
     let done = rw c.requires.nothing at (c.requires.work.done told) in
     let tell : Tell t Q = done.queue in
@@ -152,7 +152,7 @@ returns-clause-printed g c =
     c.in_ok-end.ensures.printed)
 
 pub returns-clause-counted : goal.returns-clause-counted
-returns-clause-counted g c = rw c.try_lock.ensures.printed c.in_ok-end.ensures.counted
+returns-clause-counted g c = rw c.retake_lock.ensures.printed c.in_ok-end.ensures.counted
 
 pub returns-clause-named : goal.returns-clause-named
 returns-clause-named g c =

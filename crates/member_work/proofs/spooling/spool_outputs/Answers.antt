@@ -33,14 +33,14 @@ pub write_and_sync-requires-clause-within : goal.write_and_sync-requires-clause-
 write_and_sync-requires-clause-within g c =
     let m = c.args.member.now in
     let list : c.as_slice-2.result.now ≡ held_by m.id m.checkpoint.tables.owners = c.as_slice-2.ensures ∙ c.in-Ok.ensures ∙ ap (held_by m.id) c.as_slice.ensures in
-    let config : c.free.new.self.base.config ≡ m.checkpoint.tables.config = ap (λ (q : Queue). q.config) c.free.ensures.base ∙ c.requires.config in
-    subst (λ (l : List GroupNo). All (IsGroupOf c.free.new.self.base.config) (take c.args.needed l)) (sym list)
+    let config : c.leave_lock.new.self.base.config ≡ m.checkpoint.tables.config = ap (λ (q : Queue). q.config) c.leave_lock.ensures.base ∙ c.requires.config in
+    subst (λ (l : List GroupNo). All (IsGroupOf c.leave_lock.new.self.base.config) (take c.args.needed l)) (sym list)
     (subst (λ (k : Config). All (IsGroupOf k) (take c.args.needed (held_by m.id m.checkpoint.tables.owners))) (sym config) (all_within m.id m.checkpoint.tables.owners c.args.needed m.checkpoint.tables.config c.requires.shape.owners))
 
 pub write_and_sync-requires-clause-held : goal.write_and_sync-requires-clause-held
 write_and_sync-requires-clause-held g c told =
     let m = c.args.member.now in
-    let y = c.free.new.self in
+    let y = c.leave_lock.new.self in
     let list : c.as_slice-2.result.now ≡ held_by m.id m.checkpoint.tables.owners = c.as_slice-2.ensures ∙ c.in-Ok.ensures ∙ ap (held_by m.id) c.as_slice.ensures in
-    let owners : (run y.base (kept_all y.journal.batches)).owners ≡ m.checkpoint.tables.owners = rw (c.free.ensures.base, c.free.ensures.journal) (c.requires.owners told) in
+    let owners : (run y.base (kept_all y.journal.batches)).owners ≡ m.checkpoint.tables.owners = rw (c.leave_lock.ensures.base, c.leave_lock.ensures.journal) (c.requires.owners told) in
     subst (λ (l : List GroupNo). All (λ h. IsHeldBy m.id h (run y.base (kept_all y.journal.batches))) (take c.args.needed l)) (sym list) (all_held m.id m.checkpoint.tables.owners c.args.needed (run y.base (kept_all y.journal.batches)) owners)

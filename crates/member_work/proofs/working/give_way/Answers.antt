@@ -42,8 +42,14 @@ returns-in_err-keep_given-clause-keeps g c =
     let q = err_from_is_err_and c.from_residual.result c.from_residual.ensures.1 in
     rw (q.1, q.2) c.in_err-keep_given.ensures.keeps
 
-pub try_lock-requires-clause-member : goal.try_lock-requires-clause-member
-try_lock-requires-clause-member g c =
+pub leave_lock-requires-clause-may : goal.leave_lock-requires-clause-may
+leave_lock-requires-clause-may g c =
+    let y = c.keep_given.new.complex in
+    let k = c.keep_given.ensures in
+    subst (λ (i : MemberId). MayAct y.book i) (sym k.id) (subst (λ (b : Book). MayAct b c.args.member.now.id) (sym k.book) c.requires.may)
+
+pub retake_lock-requires-clause-member : goal.retake_lock-requires-clause-member
+retake_lock-requires-clause-member g c =
     let P = g.P.Plant in
     let C = g.C.Copying in
     let x = c.args.complex.now in
@@ -53,12 +59,12 @@ try_lock-requires-clause-member g c =
     let n = c.keep_given.new.member in
     let k = c.keep_given.ensures in
     let some : 0 < m.id.0 = c.requires.some in
-    let f = c.free.new.self in
-    let fe = c.free.ensures in
+    let f = c.leave_lock.new.self in
+    let fe = c.leave_lock.ensures in
     subst (λ (i : MemberId). IsMember f.book i) (sym k.id) (subst (λ (b : Book). IsMember b m.id) (sym (subst (λ (i : MemberId). f.book ≡ after_free y.book i true) k.id fe.book ∙ ap (λ (b : Book). after_free b m.id true) k.book)) (freed_member x.book m.id c.requires.may.holds c.requires.seated))
 
-pub unreachable-requires-in_default-try_lock : goal.unreachable-requires-in_default-try_lock
-unreachable-requires-in_default-try_lock g c =
+pub retake_lock-requires-clause-free : goal.retake_lock-requires-clause-free
+retake_lock-requires-clause-free g c =
     let P = g.P.Plant in
     let C = g.C.Copying in
     let x = c.args.complex.now in
@@ -68,12 +74,10 @@ unreachable-requires-in_default-try_lock g c =
     let n = c.keep_given.new.member in
     let k = c.keep_given.ensures in
     let some : 0 < m.id.0 = c.requires.some in
-    let f = c.free.new.self in
-    let fe = c.free.ensures in
-    let l = c.try_lock.new.self in
-    let le = c.try_lock.ensures in
+    let f = c.leave_lock.new.self in
+    let fe = c.leave_lock.ensures in
     let gets : try_refusal f.book m.id true ≡ None = ap (λ (b : Book). try_refusal b m.id true) (subst (λ (i : MemberId). f.book ≡ after_free y.book i true) k.id fe.book ∙ ap (λ (b : Book). after_free b m.id true) k.book) ∙ gets_again x.book m.id c.requires.may.holds some (c.requires.may.up some) in
-    absurd (cc (gets, k.id, c.in_default-try_lock.ensures.err))
+    subst (λ (i : MemberId). try_refusal f.book i true ≡ None) (sym k.id) gets
 
 pub hold_again-requires-clause-may : goal.hold_again-requires-clause-may
 hold_again-requires-clause-may g c =
@@ -86,10 +90,10 @@ hold_again-requires-clause-may g c =
     let n = c.keep_given.new.member in
     let k = c.keep_given.ensures in
     let some : 0 < m.id.0 = c.requires.some in
-    let f = c.free.new.self in
-    let fe = c.free.ensures in
-    let l = c.try_lock.new.self in
-    let le = c.try_lock.ensures in
+    let f = c.leave_lock.new.self in
+    let fe = c.leave_lock.ensures in
+    let l = c.retake_lock.new.self in
+    let le = c.retake_lock.ensures in
     let o = c.in_ok-keep_given.ensures in
     subst (λ (i : MemberId). MayAct l.book i) (sym k.id) (subst (λ (b : Book). MayAct b m.id) (sym (subst (λ (i : MemberId). l.book ≡ after_try f.book i true) k.id le.book ∙ ap (λ (b : Book). after_try b m.id true) (subst (λ (i : MemberId). f.book ≡ after_free y.book i true) k.id fe.book ∙ ap (λ (b : Book). after_free b m.id true) k.book)))
     (acts_again x.book m.id c.requires.may.holds some (c.requires.may.up some) c.requires.seated.1))
@@ -105,10 +109,10 @@ hold_again-requires-clause-nothing g c =
     let n = c.keep_given.new.member in
     let k = c.keep_given.ensures in
     let some : 0 < m.id.0 = c.requires.some in
-    let f = c.free.new.self in
-    let fe = c.free.ensures in
-    let l = c.try_lock.new.self in
-    let le = c.try_lock.ensures in
+    let f = c.leave_lock.new.self in
+    let fe = c.leave_lock.ensures in
+    let l = c.retake_lock.new.self in
+    let le = c.retake_lock.ensures in
     let o = c.in_ok-keep_given.ensures in
     o.nothing
 
@@ -123,13 +127,13 @@ hold_again-requires-clause-work g c =
     let n = c.keep_given.new.member in
     let k = c.keep_given.ensures in
     let some : 0 < m.id.0 = c.requires.some in
-    let f = c.free.new.self in
-    let fe = c.free.ensures in
-    let l = c.try_lock.new.self in
-    let le = c.try_lock.ensures in
+    let f = c.leave_lock.new.self in
+    let fe = c.leave_lock.ensures in
+    let l = c.retake_lock.new.self in
+    let le = c.retake_lock.ensures in
     let o = c.in_ok-keep_given.ensures in
     work_by P.tells (P.view y.plant) (P.view l.plant) y.since l.since y.base l.base y.journal.batches l.journal.batches y.current l.current y.placed l.placed y.level l.level y.reserved l.reserved y.printed l.printed n.id n.id n.batch n.checkpoint n.room n.behind
-    (ap P.view (le.plant ∙ fe.plant)) (le.since ∙ fe.since) (le.base ∙ fe.base) (ap (λ (j : Journal). j.batches) (le.journal ∙ fe.journal)) (le.current ∙ fe.current) (le.placed ∙ fe.placed) (le.level ∙ fe.level) (le.reserved ∙ c.in-Ok.ensures.reserved) (le.printed ∙ fe.printed) refl o.work
+    (ap P.view (le.plant ∙ fe.plant)) (le.since ∙ fe.since) (le.base ∙ fe.base) (ap (λ (j : Journal). j.batches) (le.journal ∙ fe.journal)) (le.current ∙ fe.current) (le.placed ∙ fe.placed) (le.level ∙ fe.level) (le.reserved ∙ fe.reserved) (le.printed ∙ fe.printed) refl o.work
 
 pub hold_again-requires-clause-rests1 : goal.hold_again-requires-clause-rests1
 hold_again-requires-clause-rests1 g c =
@@ -142,10 +146,10 @@ hold_again-requires-clause-rests1 g c =
     let n = c.keep_given.new.member in
     let k = c.keep_given.ensures in
     let some : 0 < m.id.0 = c.requires.some in
-    let f = c.free.new.self in
-    let fe = c.free.ensures in
-    let l = c.try_lock.new.self in
-    let le = c.try_lock.ensures in
+    let f = c.leave_lock.new.self in
+    let fe = c.leave_lock.ensures in
+    let l = c.retake_lock.new.self in
+    let le = c.retake_lock.ensures in
     let o = c.in_ok-keep_given.ensures in
     rw (le.pair ∙ fe.pair, le.first ∙ fe.first, le.plant ∙ fe.plant) o.copy1.rests
 
@@ -160,31 +164,12 @@ hold_again-requires-clause-rests2 g c =
     let n = c.keep_given.new.member in
     let k = c.keep_given.ensures in
     let some : 0 < m.id.0 = c.requires.some in
-    let f = c.free.new.self in
-    let fe = c.free.ensures in
-    let l = c.try_lock.new.self in
-    let le = c.try_lock.ensures in
+    let f = c.leave_lock.new.self in
+    let fe = c.leave_lock.ensures in
+    let l = c.retake_lock.new.self in
+    let le = c.retake_lock.ensures in
     let o = c.in_ok-keep_given.ensures in
     rw (le.pair ∙ fe.pair, le.second ∙ fe.second, le.plant ∙ fe.plant) o.copy2.rests
-
-pub hold_again-requires-clause-orders : goal.hold_again-requires-clause-orders
-hold_again-requires-clause-orders g c =
-    let P = g.P.Plant in
-    let C = g.C.Copying in
-    let x = c.args.complex.now in
-    let m = c.args.member.now in
-    let w = c.requires.work in
-    let y = c.keep_given.new.complex in
-    let n = c.keep_given.new.member in
-    let k = c.keep_given.ensures in
-    let some : 0 < m.id.0 = c.requires.some in
-    let f = c.free.new.self in
-    let fe = c.free.ensures in
-    let l = c.try_lock.new.self in
-    let le = c.try_lock.ensures in
-    let o = c.in_ok-keep_given.ensures in
-    let long = kept_long P.tells m.id m.batch x.journal.batches y.journal.batches y.placed y.current x.pair.first.alive y.pair.first.alive x.pair.second.alive y.pair.second.alive (P.view x.plant) (P.view y.plant) o.work.unplaced o.work.none o.keeps in
-    subst (λ (j : Journal). orders_after (length j.batches) < too_high) (sym (le.journal ∙ fe.journal)) (let most = c.requires.orders in omega (arith, long, most))
 
 pub hold_again-requires-clause-level : goal.hold_again-requires-clause-level
 hold_again-requires-clause-level g c =
@@ -197,10 +182,10 @@ hold_again-requires-clause-level g c =
     let n = c.keep_given.new.member in
     let k = c.keep_given.ensures in
     let some : 0 < m.id.0 = c.requires.some in
-    let f = c.free.new.self in
-    let fe = c.free.ensures in
-    let l = c.try_lock.new.self in
-    let le = c.try_lock.ensures in
+    let f = c.leave_lock.new.self in
+    let fe = c.leave_lock.ensures in
+    let l = c.retake_lock.new.self in
+    let le = c.retake_lock.ensures in
     let o = c.in_ok-keep_given.ensures in
     let lv = le.level ∙ fe.level in let reached = o.reached in let most = c.requires.level in omega (arith, lv, reached, most)
 
@@ -215,10 +200,10 @@ returns-clause-book g c =
     let n = c.keep_given.new.member in
     let k = c.keep_given.ensures in
     let some : 0 < m.id.0 = c.requires.some in
-    let f = c.free.new.self in
-    let fe = c.free.ensures in
-    let l = c.try_lock.new.self in
-    let le = c.try_lock.ensures in
+    let f = c.leave_lock.new.self in
+    let fe = c.leave_lock.ensures in
+    let l = c.retake_lock.new.self in
+    let le = c.retake_lock.ensures in
     let h = c.hold_again.new.complex in
     let u = c.hold_again.new.member in
     let t = c.hold_again.ensures in
@@ -239,10 +224,10 @@ returns-clause-keeps g c =
     let n = c.keep_given.new.member in
     let k = c.keep_given.ensures in
     let some : 0 < m.id.0 = c.requires.some in
-    let f = c.free.new.self in
-    let fe = c.free.ensures in
-    let l = c.try_lock.new.self in
-    let le = c.try_lock.ensures in
+    let f = c.leave_lock.new.self in
+    let fe = c.leave_lock.ensures in
+    let l = c.retake_lock.new.self in
+    let le = c.retake_lock.ensures in
     let h = c.hold_again.new.complex in
     let u = c.hold_again.new.member in
     let t = c.hold_again.ensures in
@@ -268,10 +253,10 @@ returns-clause-reached g c =
     let n = c.keep_given.new.member in
     let k = c.keep_given.ensures in
     let some : 0 < m.id.0 = c.requires.some in
-    let f = c.free.new.self in
-    let fe = c.free.ensures in
-    let l = c.try_lock.new.self in
-    let le = c.try_lock.ensures in
+    let f = c.leave_lock.new.self in
+    let fe = c.leave_lock.ensures in
+    let l = c.retake_lock.new.self in
+    let le = c.retake_lock.ensures in
     let h = c.hold_again.new.complex in
     let u = c.hold_again.new.member in
     let t = c.hold_again.ensures in

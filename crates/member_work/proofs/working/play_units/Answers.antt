@@ -105,13 +105,6 @@ play_unit-requires-clause-high g c =
     let units = c.requires.units.few in
     let high = i.high in omega (arith, less, units, high)
 
-pub play_unit-requires-clause-orders : goal.play_unit-requires-clause-orders
-play_unit-requires-clause-orders g c =
-    let i = c.loop-done.invariant in
-    let less = i.less in
-    let units = c.requires.units.few in
-    let long = i.long in let most = c.requires.orders in omega (arith, less, units, long, most)
-
 pub play_unit-requires-clause-level : goal.play_unit-requires-clause-level
 play_unit-requires-clause-level g c =
     let i = c.loop-done.invariant in
@@ -285,22 +278,6 @@ rest-requires-clause-some g c =
     let i = c.loop-done.invariant in
     let t = c.play_unit.ensures in
     subst (λ (j : MemberId). 1 ≤ j.0) (sym (t.id ∙ i.id)) c.requires.some
-
-pub rest-requires-clause-orders : goal.rest-requires-clause-orders
-rest-requires-clause-orders g c =
-    let P = g.P.Plant in
-    let y = c.loop-done.complex in
-    let k = c.loop-done.member in
-    let i = c.loop-done.invariant in
-    let s : ℕ = c.loop-done.spent in
-    let z = c.play_unit.new.complex in
-    let n = c.play_unit.new.member in
-    let s1 : ℕ = c.play_unit.new.spent in
-    let o = c.in_ok-play_unit.ensures in
-    let less = i.less in
-    let units = c.requires.units.few in
-    let more = unit_long P.tells k.id c.args.step y.base.config.groups (run y.base (kept_all y.journal.batches ++ k.batch)) k.batch n.batch s s1 y.journal.batches z.journal.batches z.placed z.current y.pair.first.alive z.pair.first.alive y.pair.second.alive z.pair.second.alive (P.view y.plant) (P.view z.plant) _ o.work.unplaced o.work.none o.step in
-    let long = i.long in let most = c.requires.orders in omega (arith, less, units, long, most, more)
 
 pub rest-requires-clause-level : goal.rest-requires-clause-level
 rest-requires-clause-level g c =

@@ -272,14 +272,6 @@ play_units-requires-clause-copy2 g c =
     let m = c.args.member.now in
     c.requires.copy2
 
-pub play_units-requires-clause-most : goal.play_units-requires-clause-most
-play_units-requires-clause-most g c =
-    let P = g.P.Plant in
-    let C = g.C.Copying in
-    let x = c.args.complex.now in
-    let m = c.args.member.now in
-    c.requires.most
-
 pub play_units-requires-clause-order : goal.play_units-requires-clause-order
 play_units-requires-clause-order g c =
     let P = g.P.Plant in
@@ -295,14 +287,6 @@ play_units-requires-clause-high g c =
     let x = c.args.complex.now in
     let m = c.args.member.now in
     c.requires.high
-
-pub play_units-requires-clause-orders : goal.play_units-requires-clause-orders
-play_units-requires-clause-orders g c =
-    let P = g.P.Plant in
-    let C = g.C.Copying in
-    let x = c.args.complex.now in
-    let m = c.args.member.now in
-    c.requires.orders
 
 pub play_units-requires-clause-level : goal.play_units-requires-clause-level
 play_units-requires-clause-level g c =
@@ -416,14 +400,6 @@ close_work-requires-clause-named g c =
     let t = c.play_units.ensures in
     let o = c.in_ok-end.ensures in
     o.named
-
-pub close_work-requires-clause-most : goal.close_work-requires-clause-most
-close_work-requires-clause-most g c =
-    let P = g.P.Plant in
-    let C = g.C.Copying in
-    let x = c.args.complex.now in
-    let m = c.args.member.now in
-    c.requires.most
 
 pub returns-clause-base : goal.returns-clause-base
 returns-clause-base g c =

@@ -19,31 +19,31 @@ invariant_of-self-2-clause-kept g c told =
     let second = copy_of (C.rests s.pair.second.copy) (C.holds s.pair.second.copy) s.pair.second.alive s.second in
     let old = g.P.Plant.view s.plant in
     let place = is_place c.empty_place-place.result c.now.result (record { 0 = 0 }) c.empty_place-place.ensures in
-    ∥∥₁_map (s.kept told) (λ k. rw (c.in_ok-push.ensures.ok) (place_keeps S s.journal.batches c.empty_place-place.result s.current s.level first second old place.0 place.1 (subst (λ (n : ℕ). c.empty_place-place.result.last ≤ n) c.now.ensures place.2) k))
+    ∥∥₁_map (s.kept told) (λ k. rw (c.in_ok-push_place.ensures.ok) (place_keeps S s.journal.batches c.empty_place-place.result s.current s.level first second old place.0 place.1 (subst (λ (n : ℕ). c.empty_place-place.result.last ≤ n) c.now.ensures place.2) k))
 
 pub invariant_of-self-2-clause-place : goal.invariant_of-self-2-clause-place
 invariant_of-self-2-clause-place g c =
     let place = is_place c.empty_place-place.result c.now.result (record { 0 = 0 }) c.empty_place-place.ensures in
-    ∣ record { before = c.args.self.now.journal.batches; place = c.empty_place-place.result; is = c.in_ok-push.ensures.ok; free = place.0 } ∣₁
+    ∣ record { before = c.args.self.now.journal.batches; place = c.empty_place-place.result; is = c.in_ok-push_place.ensures.ok; free = place.0 } ∣₁
 
 pub returns-clause-kept : goal.returns-clause-kept
 returns-clause-kept g c =
     let place = is_place c.empty_place-place.result c.now.result (record { 0 = 0 }) c.empty_place-place.ensures in
-    rw (c.in_ok-push.ensures.ok) (placed_all c.empty_place-place.result place.0 c.args.self.now.journal.batches)
+    rw (c.in_ok-push_place.ensures.ok) (placed_all c.empty_place-place.result place.0 c.args.self.now.journal.batches)
 
 pub invariant_of-self-2-clause-replied : goal.invariant_of-self-2-clause-replied
 invariant_of-self-2-clause-replied g c told =
     let s = c.args.self.now in
     let place = is_place c.empty_place-place.result c.now.result (record { 0 = 0 }) c.empty_place-place.ensures in
-    ∥∥₁_map (s.replied told) (λ are. rw (c.in_ok-push.ensures.ok) (placed_replied s.base s.journal.batches (in_flight s.current) c.empty_place-place.result place.0 are))
+    ∥∥₁_map (s.replied told) (λ are. rw (c.in_ok-push_place.ensures.ok) (placed_replied s.base s.journal.batches (in_flight s.current) c.empty_place-place.result place.0 are))
 
 pub returns-clause-grown : goal.returns-clause-grown
 returns-clause-grown g c =
     let place = is_place c.empty_place-place.result c.now.result (record { 0 = 0 }) c.empty_place-place.ensures in
-    (c.empty_place-place.result, c.in_ok-push.ensures.ok, place.0)
+    (c.empty_place-place.result, c.in_ok-push_place.ensures.ok, place.0)
 
 pub invariant_of-self-2-clause-paper : goal.invariant_of-self-2-clause-paper
 invariant_of-self-2-clause-paper g c told sound =
     let s = c.args.self.now in
     let place = is_place c.empty_place-place.result c.now.result (record { 0 = 0 }) c.empty_place-place.ensures in
-    ∥∥₁_map (s.paper told sound) (λ on. rw (c.in_ok-push.ensures.ok) (place_on_paper s.base s.since s.journal.batches c.empty_place-place.result s.current s.printed s.book (g.P.Plant.view s.plant) place.0 on))
+    ∥∥₁_map (s.paper told sound) (λ on. rw (c.in_ok-push_place.ensures.ok) (place_on_paper s.base s.since s.journal.batches c.empty_place-place.result s.current s.printed s.book (g.P.Plant.view s.plant) place.0 on))

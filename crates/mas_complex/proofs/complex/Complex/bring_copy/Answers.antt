@@ -1,4 +1,7 @@
-use Rattle.mas_complex.proofs.Apart.{on_one, on_then}
+use Rattle.std.proofs.Common.{◌∙◌}
+use Rattle.mas_complex.proofs.Apart.{bytes_else, on_one, on_then}
+use Rattle.mas_complex.specs.Parts.{parts_of}
+use Rattle.mas_complex.proofs.Frames.{frame_then}
 use Rattle.mas_complex.proofs.complex.Complex.bring_copy.Goals as goal
 
 pub returns-in_err-put_on-clause-apart : goal.returns-in_err-put_on-clause-apart
@@ -15,3 +18,19 @@ returns-clause-apart g c told =
     on_then old mid new
     (on_one c.args.dev c.requires.ckpt old mid c.put_on.ensures.acted.goes (c.put_on.ensures.elsewhere told))
     (on_one c.args.dev c.requires.ckpt mid new c.open_on.ensures.acted.goes (c.open_on.ensures.elsewhere told))
+
+pub returns-clause-frame : goal.returns-clause-frame
+returns-clause-frame g c = frame_then c.args.dev c.requires.ckpt (parts_of c.args.self.now) (parts_of c.put_on.new.self) (parts_of c.open_on.new.self) c.put_on.ensures.frame c.open_on.ensures.frame
+
+pub returns-in_err-put_on-clause-others : goal.returns-in_err-put_on-clause-others
+returns-in_err-put_on-clause-others g c told d ne =
+    let P = g.P.Plant in
+    bytes_else c.args.dev (P.view c.args.self.now.plant) (P.view c.put_on.new.self.plant) c.put_on.ensures.acted.goes (c.put_on.ensures.elsewhere told) d ne
+
+pub returns-clause-others : goal.returns-clause-others
+returns-clause-others g c told d ne =
+    let P = g.P.Plant in
+    let old = P.view c.args.self.now.plant in
+    let mid = P.view c.put_on.new.self.plant in
+    let new = P.view c.open_on.new.self.plant in
+    bytes_else c.args.dev mid new c.open_on.ensures.acted.goes (c.open_on.ensures.elsewhere told) d ne ∙ bytes_else c.args.dev old mid c.put_on.ensures.acted.goes (c.put_on.ensures.elsewhere told) d ne

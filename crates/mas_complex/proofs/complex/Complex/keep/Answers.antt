@@ -10,6 +10,7 @@ use Rattle.mas_complex.specs.Replies.{AreReplied}
 use Rattle.mas_complex.proofs.Replied.{fated_replied}
 use Rattle.mas_complex.specs.Paper.{KeepsPaper}
 use Rattle.mas_complex.proofs.PaperEnds.{fated_on_paper}
+use Rattle.mas_complex.proofs.BatchEnds.{few_with_last}
 use Rattle.mas_complex.proofs.complex.Complex.keep.Goals as goal
 
 pub invariant_of-self-clause-kept : goal.invariant_of-self-clause-kept
@@ -46,3 +47,6 @@ invariant_of-self-clause-paper g c told sound =
     (fated_on_paper s.base s.since s.printed s.book old s.journal.batches (has_ends s.placed s.journal.batches (s.place_current c.requires.current) has) k.settled
     (record { first = b.first; last = c.now-last.result; by = b.by; fate = Kept; entries = b.entries }) b
     (subst (λ (x : Option Batch). KeepsPaper s.base s.since s.journal.batches x s.printed s.book old) was on) (subst (λ (x : Option Batch). IsBegun x old.now) was k.begun) refl refl c.now-last.ensures (inl refl))))
+
+pub invariant_of-self-clause-few : goal.invariant_of-self-clause-few
+invariant_of-self-clause-few g c = rw c.set_last.ensures (few_with_last _ c.args.self.now.journal.batches c.args.self.now.few)

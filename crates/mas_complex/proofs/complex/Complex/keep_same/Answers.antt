@@ -18,6 +18,7 @@ use Rattle.paper_laws.specs.Counts.{AreAllowed}
 use Rattle.mas_complex.specs.Paper.{KeepsPaper, counts_of}
 use Rattle.mas_complex.proofs.Papers.{counts_fall}
 use Rattle.mas_complex.proofs.PaperEnds.{same_on_paper}
+use Rattle.mas_complex.proofs.BatchEnds.{few_with_last}
 use Rattle.mas_complex.proofs.complex.Complex.keep_same.Goals as goal
 
 pub invariant_of-self-clause-kept : goal.invariant_of-self-clause-kept
@@ -63,3 +64,6 @@ invariant_of-self-clause-paper g c told sound =
     (subst (λ (x : Option Batch). KeepsPaper s.base s.since s.journal.batches x s.printed s.book old) c.requires.none on) k.started refl c.now-now.ensures own
     (subst (λ (l : List Entry). AreAllowed s.base (run s.base (kept_all s.journal.batches)) (counts_of s.printed) l) e allowed) (counts_fall c.args.by es s.printed own)
     refl refl c.now-now.ensures refl))))
+
+pub invariant_of-self-clause-few : goal.invariant_of-self-clause-few
+invariant_of-self-clause-few g c = rw c.set_last.ensures (few_with_last _ c.args.self.now.journal.batches c.args.self.now.few)

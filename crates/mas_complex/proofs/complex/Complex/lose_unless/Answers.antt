@@ -1,5 +1,7 @@
 use Rattle.mas_complex.proofs.Apart.{on_one, on_none}
 use Rattle.mas_complex.proofs.Counted.{counts_none, counts_lost}
+use Rattle.std.proofs.Common.{refl}
+use Rattle.mas_complex.proofs.Frames.{frame_half}
 use Rattle.mas_complex.proofs.complex.Complex.lose_unless.Goals as goal
 
 pub returns-then-not-stays-clause-counts : goal.returns-then-not-stays-clause-counts
@@ -21,3 +23,9 @@ returns-else-not-stays-clause-counts g c by =
 
 pub returns-else-not-stays-clause-apart : goal.returns-else-not-stays-clause-apart
 returns-else-not-stays-clause-apart g c told = on_none (g.P.Plant.view c.args.self.now.plant)
+
+pub returns-else-not-stays-clause-frame : goal.returns-else-not-stays-clause-frame
+returns-else-not-stays-clause-frame g c =
+    let s = c.args.self.now in
+    frame_half (λ h. h.copy) (λ h. h.alive) (λ h. h.found) s.book s.base s.since s.journal.batches s.current s.reserved s.printed s.placed s.level s.plant s.plant s.pair.first s.pair.second s.pair.first s.pair.second s.first s.second
+    c.args.dev c.requires.ckpt refl

@@ -18,7 +18,7 @@ use Rattle.mas_complex.specs.Crash.{Setting, Copy, setting, copy_of}
 use Rattle.mas_complex.proofs.Recovered.{stands_of}
 use Rattle.std.proofs.lemmas.Result.{err_from_is_err_and}
 use Rattle.mas_complex.proofs.Apart.{on_then}
-use Rattle.mas_complex.proofs.Counted.{counts_then, counts_seen, counts_brought}
+use Rattle.mas_complex.proofs.Counted.{counts_then, counts_seen, counts_brought, not_brought}
 use Rattle.mas_complex.proofs.complex.Complex.recover.Goals as goal
 
 pub returns-clause-stands : goal.returns-clause-stands
@@ -30,7 +30,7 @@ returns-clause-stands g c told =
     let second : Copy = copy_of (C.rests s.pair.second.copy) (C.holds s.pair.second.copy) s.pair.second.alive s.second in
     let v = g.P.Plant.view s.plant in
     ∥∥₁_map (s.kept told) (λ k. stands_of S s.journal.batches s.current s.level first second v k (bytes_of c.in-Some.found)
-    (subst (λ p. (p.first.alive || p.second.alive) ≡ true) (sym c.give_fate.ensures.pair) c.in_ok-bring.ensures.ok) c.give_fate.ensures.first c.give_fate.ensures.second
+    (subst (λ p. (p.first_alive || p.second_alive) ≡ true) (sym c.give_fate.ensures.frame) c.in_ok-bring.ensures.ok) c.give_fate.ensures.first c.give_fate.ensures.second
     (λ was d r. g.met.C.Copying.rests_now s.pair.first.copy was d r) (λ was d r. g.met.C.Copying.rests_now s.pair.second.copy was d r) reads_first reads_second) where
       reads_first : c.give_fate.new.self.pair.first.alive ≡ true → g.C.Copying.reads (disk_now (g.P.Plant.view c.give_fate.new.self.plant) Ckpt1).bytes ≡ Some (bytes_of c.in-Some.found)
       reads_first is = search rules
@@ -42,16 +42,16 @@ pub give_fate-requires-clause-second : goal.give_fate-requires-clause-second
 give_fate-requires-clause-second g c alive =
     let same : level (bytes_of c.as_slice.result.now) ≡ c.pages_level.result = ap (λ (pages : List Page). level (bytes_of pages)) (c.as_slice.ensures ∙ sym c.as_slice-2.ensures) ∙ sym c.pages_level.ensures in
     subst (λ (n : ℕ). IsAtLevel n c.bring.new.self.level c.bring.new.self.second) same
-    (subst (λ (n : ℕ). IsAtLevel (level (bytes_of c.as_slice.result.now)) n c.bring.new.self.second) (sym c.bring.ensures.level) (c.in_ok-bring.ensures.second alive).0)
+    (subst (λ (n : ℕ). IsAtLevel (level (bytes_of c.as_slice.result.now)) n c.bring.new.self.second) (ap (λ p. p.level) (sym c.bring.ensures.frame)) (c.in_ok-bring.ensures.second alive).0)
 
 pub returns-in_default-clause-both_failed1 : goal.returns-in_default-clause-both_failed1
 returns-in_default-clause-both_failed1 g c is told alive =
     let P = g.P.Plant in
     let v0 = P.view c.args.self.now.plant in
-    let v1 = P.view c.see_first.new.self.plant in
-    let v2 = P.view c.see_second.new.self.plant in
+    let v1 = P.view c.see_on.new.self.plant in
+    let v2 = P.view c.see_on-2.new.self.plant in
     let v3 = P.view c.choose_any.new.self.plant in
-    let later = c.see_second.ensures.goes.faults (Disk Ckpt1) in
+    let later = c.see_on-2.ensures.goes.faults (Disk Ckpt1) in
     let last = c.choose_any.ensures.goes.faults (Disk Ckpt1) in
     rose_later (v0.faults (Disk Ckpt1)) (v1.faults (Disk Ckpt1)) (v3.faults (Disk Ckpt1)) (c.in_ok-first.ensures.unseen told (c.in_default.ensures.neither (search rules)).0 alive) (omega (arith, later, last))
 
@@ -59,12 +59,12 @@ pub returns-in_default-clause-both_failed2 : goal.returns-in_default-clause-both
 returns-in_default-clause-both_failed2 g c is told alive =
     let P = g.P.Plant in
     let v0 = P.view c.args.self.now.plant in
-    let v1 = P.view c.see_first.new.self.plant in
-    let v2 = P.view c.see_second.new.self.plant in
+    let v1 = P.view c.see_on.new.self.plant in
+    let v2 = P.view c.see_on-2.new.self.plant in
     let v3 = P.view c.choose_any.new.self.plant in
-    let before = c.see_first.ensures.goes.faults (Disk Ckpt2) in
+    let before = c.see_on.ensures.goes.faults (Disk Ckpt2) in
     let last = c.choose_any.ensures.goes.faults (Disk Ckpt2) in
-    let alive1 = ap (λ h. h.alive) c.see_first.ensures.pair_second ∙ alive in
+    let alive1 = ap (λ h. h.alive) c.see_on.ensures.other ∙ alive in
     rose_earlier (v0.faults (Disk Ckpt2)) (v1.faults (Disk Ckpt2)) (v3.faults (Disk Ckpt2)) before
     (rose_later (v1.faults (Disk Ckpt2)) (v2.faults (Disk Ckpt2)) (v3.faults (Disk Ckpt2)) (c.in_ok-second.ensures.unseen told (c.in_default.ensures.neither (search rules)).1 alive1) last)
 
@@ -73,8 +73,8 @@ returns-clause-left1 g c told alive dead =
     let P = g.P.Plant in
     let C = g.C.Copying in
     let s = c.args.self.now in
-    let a = c.see_first.new.self in
-    let b = c.see_second.new.self in
+    let a = c.see_on.new.self in
+    let b = c.see_on-2.new.self in
     let d = c.choose_any.new.self in
     let e = c.bring.new.self in
     let f = c.give_fate.new.self in
@@ -85,28 +85,28 @@ returns-clause-left1 g c told alive dead =
     let v4 = P.view e.plant in
     let v5 = P.view f.plant in
     let queue : Queue = run s.base (kept_all s.journal.batches ++ entries_in s.current) in
-    let f1 = c.see_first.ensures.goes.faults (Disk Ckpt1) in
-    let f2 = c.see_second.ensures.goes.faults (Disk Ckpt1) in
+    let f1 = c.see_on.ensures.goes.faults (Disk Ckpt1) in
+    let f2 = c.see_on-2.ensures.goes.faults (Disk Ckpt1) in
     let f3 = c.choose_any.ensures.goes.faults (Disk Ckpt1) in
     let f4 = c.bring.ensures.goes.faults (Disk Ckpt1) in
-    let f5 : v5.faults (Disk Ckpt1) ≡ v4.faults (Disk Ckpt1) = ap (λ p. (P.view p).faults (Disk Ckpt1)) c.give_fate.ensures.plant in
-    let dead4 : e.pair.first.alive ≡ false = sym (ap (λ p. p.first.alive) c.give_fate.ensures.pair) ∙ dead in
+    let f5 : v5.faults (Disk Ckpt1) ≡ v4.faults (Disk Ckpt1) = ap (λ p. (P.view p).faults (Disk Ckpt1)) (ap (λ p. p.plant) c.give_fate.ensures.frame) in
+    let dead4 : e.pair.first.alive ≡ false = sym (ap (λ p. p.first_alive) c.give_fate.ensures.frame) ∙ dead in
     let one : (pages : List Page) → c.in_ok-first.first ≡ Some pages → OneSeen queue (entries_in s.current) g.P.Plant.tells s.level a.pair.first.alive (C.count a.pair.first.copy) a.first pages = λ pages is. subst (λ (o : Option (List Page)). IsOneSeen queue (entries_in s.current) g.P.Plant.tells s.level a.pair.first.alive (C.count a.pair.first.copy) a.first o) is c.in_ok-first.ensures.seen in
     let unseen : c.in_ok-first.first ≡ None → Rose (v0.faults (Disk Ckpt1)) (v5.faults (Disk Ckpt1)) = λ none. rose_later (v0.faults (Disk Ckpt1)) (v1.faults (Disk Ckpt1)) (v5.faults (Disk Ckpt1)) (c.in_ok-first.ensures.unseen told none alive) (omega (arith, f2, f3, f4, f5)) in
     let failed : d.pair.first.alive ≡ true → Rose (v0.faults (Disk Ckpt1)) (v5.faults (Disk Ckpt1)) = λ is. rose_earlier (v0.faults (Disk Ckpt1)) (v3.faults (Disk Ckpt1)) (v5.faults (Disk Ckpt1)) (omega (arith, f1, f2, f3)) (rose_later (v3.faults (Disk Ckpt1)) (v4.faults (Disk Ckpt1)) (v5.faults (Disk Ckpt1)) (c.bring.ensures.failed1 is dead4) (omega (arith, f5))) in
-    let read : ReadsSeen C.reads (disk_now v0 Ckpt1).bytes c.in_ok-first.first = subst (λ (l : List ℕ). ReadsSeen C.reads l c.in_ok-first.first) (c.see_first.ensures.bytes told Ckpt1) (c.in_ok-first.ensures.reads told) in
-    let at : (pages : List Page) → c.in_ok-first.first ≡ Some pages → IsAtLevel (level (bytes_of pages)) s.level b.first = λ pages is. subst (λ (p : Place). IsAtLevel (level (bytes_of pages)) s.level p) (sym c.see_second.ensures.first) (one pages is).at in
+    let read : ReadsSeen C.reads (disk_now v0 Ckpt1).bytes c.in_ok-first.first = subst (λ (l : List ℕ). ReadsSeen C.reads l c.in_ok-first.first) (c.see_on.ensures.bytes told Ckpt1) (c.in_ok-first.ensures.reads told) in
+    let at : (pages : List Page) → c.in_ok-first.first ≡ Some pages → IsAtLevel (level (bytes_of pages)) s.level b.first = λ pages is. subst (λ (p : Place). IsAtLevel (level (bytes_of pages)) s.level p) (sym (ap (λ p. p.first) c.see_on-2.ensures.frame)) (one pages is).at in
     left_why C.reads (disk_now v0 Ckpt1).bytes s.level (C.room b.pair.first.copy) (C.room f.pair.first.copy) b.first c.in-Some.found (Rose (v0.faults (Disk Ckpt1)) (v5.faults (Disk Ckpt1))) c.in_ok-first.first d.pair.first.alive unseen failed read at
-    (λ pages is not. c.in-Some.ensures.unfit1 (ap (λ h. h.alive) c.see_second.ensures.pair_first ∙ (one pages is).is_alive) not)
-    (λ not. ap (λ p. C.room p.first.copy) c.give_fate.ensures.pair ∙ ap C.room (c.bring.ensures.room1 dead4 not ∙ c.choose_any.ensures.copy1))
+    (λ pages is not. c.in-Some.ensures.unfit1 (ap (λ h. h.alive) c.see_on-2.ensures.other ∙ (one pages is).is_alive) not)
+    (λ not. ap (λ p. C.room p.first_copy) c.give_fate.ensures.frame ∙ ap C.room (c.bring.ensures.room1 dead4 not ∙ c.choose_any.ensures.copy1))
 
 pub returns-clause-left2 : goal.returns-clause-left2
 returns-clause-left2 g c told alive dead =
     let P = g.P.Plant in
     let C = g.C.Copying in
     let s = c.args.self.now in
-    let a = c.see_first.new.self in
-    let b = c.see_second.new.self in
+    let a = c.see_on.new.self in
+    let b = c.see_on-2.new.self in
     let d = c.choose_any.new.self in
     let e = c.bring.new.self in
     let f = c.give_fate.new.self in
@@ -117,21 +117,21 @@ returns-clause-left2 g c told alive dead =
     let v4 = P.view e.plant in
     let v5 = P.view f.plant in
     let queue : Queue = run s.base (kept_all s.journal.batches ++ entries_in s.current) in
-    let f1 = c.see_first.ensures.goes.faults (Disk Ckpt2) in
-    let f2 = c.see_second.ensures.goes.faults (Disk Ckpt2) in
+    let f1 = c.see_on.ensures.goes.faults (Disk Ckpt2) in
+    let f2 = c.see_on-2.ensures.goes.faults (Disk Ckpt2) in
     let f3 = c.choose_any.ensures.goes.faults (Disk Ckpt2) in
     let f4 = c.bring.ensures.goes.faults (Disk Ckpt2) in
-    let f5 : v5.faults (Disk Ckpt2) ≡ v4.faults (Disk Ckpt2) = ap (λ p. (P.view p).faults (Disk Ckpt2)) c.give_fate.ensures.plant in
-    let dead4 : e.pair.second.alive ≡ false = sym (ap (λ p. p.second.alive) c.give_fate.ensures.pair) ∙ dead in
+    let f5 : v5.faults (Disk Ckpt2) ≡ v4.faults (Disk Ckpt2) = ap (λ p. (P.view p).faults (Disk Ckpt2)) (ap (λ p. p.plant) c.give_fate.ensures.frame) in
+    let dead4 : e.pair.second.alive ≡ false = sym (ap (λ p. p.second_alive) c.give_fate.ensures.frame) ∙ dead in
     let one : (pages : List Page) → c.in_ok-second.second ≡ Some pages → OneSeen (run a.base (kept_all a.journal.batches ++ entries_in a.current)) (entries_in a.current) g.P.Plant.tells a.level b.pair.second.alive (C.count b.pair.second.copy) b.second pages = λ pages is. subst (λ (o : Option (List Page)). IsOneSeen (run a.base (kept_all a.journal.batches ++ entries_in a.current)) (entries_in a.current) g.P.Plant.tells a.level b.pair.second.alive (C.count b.pair.second.copy) b.second o) is c.in_ok-second.ensures.seen in
-    let alive1 = ap (λ h. h.alive) c.see_first.ensures.pair_second ∙ alive in
+    let alive1 = ap (λ h. h.alive) c.see_on.ensures.other ∙ alive in
     let unseen : c.in_ok-second.second ≡ None → Rose (v0.faults (Disk Ckpt2)) (v5.faults (Disk Ckpt2)) = λ none. rose_earlier (v0.faults (Disk Ckpt2)) (v1.faults (Disk Ckpt2)) (v5.faults (Disk Ckpt2)) f1 (rose_later (v1.faults (Disk Ckpt2)) (v2.faults (Disk Ckpt2)) (v5.faults (Disk Ckpt2)) (c.in_ok-second.ensures.unseen told none alive1) (omega (arith, f3, f4, f5))) in
     let failed : d.pair.second.alive ≡ true → Rose (v0.faults (Disk Ckpt2)) (v5.faults (Disk Ckpt2)) = λ is. rose_earlier (v0.faults (Disk Ckpt2)) (v3.faults (Disk Ckpt2)) (v5.faults (Disk Ckpt2)) (omega (arith, f1, f2, f3)) (rose_later (v3.faults (Disk Ckpt2)) (v4.faults (Disk Ckpt2)) (v5.faults (Disk Ckpt2)) (c.bring.ensures.failed2 is dead4) (omega (arith, f5))) in
-    let read : ReadsSeen C.reads (disk_now v0 Ckpt2).bytes c.in_ok-second.second = subst (λ (l : List ℕ). ReadsSeen C.reads l c.in_ok-second.second) (c.see_second.ensures.bytes told Ckpt2 ∙ c.see_first.ensures.bytes told Ckpt2) (c.in_ok-second.ensures.reads told) in
-    let at : (pages : List Page) → c.in_ok-second.second ≡ Some pages → IsAtLevel (level (bytes_of pages)) s.level b.second = λ pages is. subst (λ (n : ℕ). IsAtLevel (level (bytes_of pages)) n b.second) c.see_first.ensures.level (one pages is).at in
+    let read : ReadsSeen C.reads (disk_now v0 Ckpt2).bytes c.in_ok-second.second = subst (λ (l : List ℕ). ReadsSeen C.reads l c.in_ok-second.second) (c.see_on-2.ensures.bytes told Ckpt2 ∙ c.see_on.ensures.bytes told Ckpt2) (c.in_ok-second.ensures.reads told) in
+    let at : (pages : List Page) → c.in_ok-second.second ≡ Some pages → IsAtLevel (level (bytes_of pages)) s.level b.second = λ pages is. subst (λ (n : ℕ). IsAtLevel (level (bytes_of pages)) n b.second) (ap (λ p. p.level) c.see_on.ensures.frame) (one pages is).at in
     left_why C.reads (disk_now v0 Ckpt2).bytes s.level (C.room b.pair.second.copy) (C.room f.pair.second.copy) b.second c.in-Some.found (Rose (v0.faults (Disk Ckpt2)) (v5.faults (Disk Ckpt2))) c.in_ok-second.second d.pair.second.alive unseen failed read at
     (λ pages is not. c.in-Some.ensures.unfit2 ((one pages is).is_alive) not)
-    (λ not. ap (λ p. C.room p.second.copy) c.give_fate.ensures.pair ∙ ap C.room (c.bring.ensures.room2 dead4 not ∙ c.choose_any.ensures.copy2))
+    (λ not. ap (λ p. C.room p.second_copy) c.give_fate.ensures.frame ∙ ap C.room (c.bring.ensures.room2 dead4 not ∙ c.choose_any.ensures.copy2))
 
 -- WHAT IS COUNTED
 
@@ -139,7 +139,7 @@ pub returns-in_err-first-clause-counts : goal.returns-in_err-first-clause-counts
 returns-in_err-first-clause-counts g c =
     let P = g.P.Plant in
     let s = c.args.self.now in
-    let a = c.see_first.new.self in
+    let a = c.see_on.new.self in
     let p = err_from_is_err_and c.from_residual.result c.from_residual.ensures.1 in
     counts_seen (Option (List Page)) c.args.by.0 s.pair.first.alive a.pair.first.alive s.pair.second.alive a.pair.second.alive (P.view s.plant) (P.view a.plant) c.from_residual.result p.0 c.in_err-first.field-0.0 p.1 p.2 c.in_err-first.ensures.counts
 
@@ -147,8 +147,8 @@ pub returns-in_err-second-clause-counts : goal.returns-in_err-second-clause-coun
 returns-in_err-second-clause-counts g c =
     let P = g.P.Plant in
     let s = c.args.self.now in
-    let a = c.see_first.new.self in
-    let b = c.see_second.new.self in
+    let a = c.see_on.new.self in
+    let b = c.see_on-2.new.self in
     let r = c.from_residual-in_err-second.result in
     let p = err_from_is_err_and r c.from_residual-in_err-second.ensures.1 in
     counts_then c.args.by.0 s.pair.first.alive a.pair.first.alive b.pair.first.alive s.pair.second.alive a.pair.second.alive b.pair.second.alive (recover_stopped r) (P.view s.plant) (P.view a.plant) (P.view b.plant) c.in_ok-first.ensures.counts
@@ -158,8 +158,8 @@ pub returns-in_default-clause-counts : goal.returns-in_default-clause-counts
 returns-in_default-clause-counts g c =
     let P = g.P.Plant in
     let s = c.args.self.now in
-    let a = c.see_first.new.self in
-    let b = c.see_second.new.self in
+    let a = c.see_on.new.self in
+    let b = c.see_on-2.new.self in
     let d = c.choose_any.new.self in
     counts_then c.args.by.0 s.pair.first.alive b.pair.first.alive d.pair.first.alive s.pair.second.alive b.pair.second.alive d.pair.second.alive false (P.view s.plant) (P.view b.plant) (P.view d.plant)
     (counts_then c.args.by.0 s.pair.first.alive a.pair.first.alive b.pair.first.alive s.pair.second.alive a.pair.second.alive b.pair.second.alive false (P.view s.plant) (P.view a.plant) (P.view b.plant) c.in_ok-first.ensures.counts c.in_ok-second.ensures.counts)
@@ -169,8 +169,8 @@ pub returns-in_err-bring-clause-counts : goal.returns-in_err-bring-clause-counts
 returns-in_err-bring-clause-counts g c =
     let P = g.P.Plant in
     let s = c.args.self.now in
-    let a = c.see_first.new.self in
-    let b = c.see_second.new.self in
+    let a = c.see_on.new.self in
+    let b = c.see_on-2.new.self in
     let d = c.choose_any.new.self in
     let e = c.bring.new.self in
     let r = c.from_residual-in_err-bring.result in
@@ -185,11 +185,11 @@ pub returns-clause-counts : goal.returns-clause-counts
 returns-clause-counts g c =
     let P = g.P.Plant in
     let s = c.args.self.now in
-    let a = c.see_first.new.self in
-    let b = c.see_second.new.self in
+    let a = c.see_on.new.self in
+    let b = c.see_on-2.new.self in
     let d = c.choose_any.new.self in
     let e = c.bring.new.self in
-    rw (c.give_fate.ensures.pair, c.give_fate.ensures.plant)
+    rw (ap (λ p. p.first_alive) c.give_fate.ensures.frame, ap (λ p. p.second_alive) c.give_fate.ensures.frame, ap (λ p. p.plant) c.give_fate.ensures.frame)
     (counts_then c.args.by.0 s.pair.first.alive d.pair.first.alive e.pair.first.alive s.pair.second.alive d.pair.second.alive e.pair.second.alive false (P.view s.plant) (P.view d.plant) (P.view e.plant)
     (counts_then c.args.by.0 s.pair.first.alive b.pair.first.alive d.pair.first.alive s.pair.second.alive b.pair.second.alive d.pair.second.alive false (P.view s.plant) (P.view b.plant) (P.view d.plant)
     (counts_then c.args.by.0 s.pair.first.alive a.pair.first.alive b.pair.first.alive s.pair.second.alive a.pair.second.alive b.pair.second.alive false (P.view s.plant) (P.view a.plant) (P.view b.plant) c.in_ok-first.ensures.counts c.in_ok-second.ensures.counts)
@@ -201,33 +201,45 @@ returns-clause-counts g c =
 pub returns-in_err-second-clause-apart : goal.returns-in_err-second-clause-apart
 returns-in_err-second-clause-apart g c told =
     let P = g.P.Plant in
-    on_then (P.view c.args.self.now.plant) (P.view c.see_first.new.self.plant) (P.view c.see_second.new.self.plant) (c.see_first.ensures.apart told) (c.see_second.ensures.apart told)
+    on_then (P.view c.args.self.now.plant) (P.view c.see_on.new.self.plant) (P.view c.see_on-2.new.self.plant) (c.see_on.ensures.apart told) (c.see_on-2.ensures.apart told)
 
 pub returns-in_default-clause-apart : goal.returns-in_default-clause-apart
 returns-in_default-clause-apart g c told =
     let P = g.P.Plant in
     let old = P.view c.args.self.now.plant in
-    let mid = P.view c.see_second.new.self.plant in
+    let mid = P.view c.see_on-2.new.self.plant in
     on_then old mid (P.view c.choose_any.new.self.plant)
-    (on_then old (P.view c.see_first.new.self.plant) mid (c.see_first.ensures.apart told) (c.see_second.ensures.apart told)) (c.choose_any.ensures.apart told)
+    (on_then old (P.view c.see_on.new.self.plant) mid (c.see_on.ensures.apart told) (c.see_on-2.ensures.apart told)) (c.choose_any.ensures.apart told)
 
 pub returns-in_err-bring-clause-apart : goal.returns-in_err-bring-clause-apart
 returns-in_err-bring-clause-apart g c told =
     let P = g.P.Plant in
     let old = P.view c.args.self.now.plant in
-    let mid = P.view c.see_second.new.self.plant in
+    let mid = P.view c.see_on-2.new.self.plant in
     let chosen = P.view c.choose_any.new.self.plant in
     on_then old chosen (P.view c.bring.new.self.plant)
-    (on_then old mid chosen (on_then old (P.view c.see_first.new.self.plant) mid (c.see_first.ensures.apart told) (c.see_second.ensures.apart told)) (c.choose_any.ensures.apart told))
+    (on_then old mid chosen (on_then old (P.view c.see_on.new.self.plant) mid (c.see_on.ensures.apart told) (c.see_on-2.ensures.apart told)) (c.choose_any.ensures.apart told))
     (c.bring.ensures.apart told)
 
 pub returns-clause-apart : goal.returns-clause-apart
 returns-clause-apart g c told =
     let P = g.P.Plant in
     let old = P.view c.args.self.now.plant in
-    let mid = P.view c.see_second.new.self.plant in
+    let mid = P.view c.see_on-2.new.self.plant in
     let chosen = P.view c.choose_any.new.self.plant in
-    rw c.give_fate.ensures.plant
+    rw (ap (λ p. p.plant) c.give_fate.ensures.frame)
     (on_then old chosen (P.view c.bring.new.self.plant)
-    (on_then old mid chosen (on_then old (P.view c.see_first.new.self.plant) mid (c.see_first.ensures.apart told) (c.see_second.ensures.apart told)) (c.choose_any.ensures.apart told))
+    (on_then old mid chosen (on_then old (P.view c.see_on.new.self.plant) mid (c.see_on.ensures.apart told) (c.see_on-2.ensures.apart told)) (c.choose_any.ensures.apart told))
     (c.bring.ensures.apart told))
+
+pub returns-in_err-bring-clause-both_failed1 : goal.returns-in_err-bring-clause-both_failed1
+returns-in_err-bring-clause-both_failed1 g c is told alive =
+    let r = c.from_residual-in_err-bring.result in
+    let p = err_from_is_err_and r c.from_residual-in_err-bring.ensures.1 in
+    absurd (not_brought r p.0 c.in_err-bring.field-0.0 p.1 p.2 c.in_err-bring.ensures.not_both is)
+
+pub returns-in_err-bring-clause-both_failed2 : goal.returns-in_err-bring-clause-both_failed2
+returns-in_err-bring-clause-both_failed2 g c is told alive =
+    let r = c.from_residual-in_err-bring.result in
+    let p = err_from_is_err_and r c.from_residual-in_err-bring.ensures.1 in
+    absurd (not_brought r p.0 c.in_err-bring.field-0.0 p.1 p.2 c.in_err-bring.ensures.not_both is)

@@ -10,7 +10,7 @@ use Rattle.member_node.specs.declared.checkpoint.Checkpoint.{Checkpoint}
 use Rattle.member_node.specs.declared.member.Member.{Member}
 use Rattle.member_node.specs.Drawn.{AreDrawn}
 use Rattle.member_node.specs.Reads.{HasRead, AreLow, MayGoOn, copies_alive}
-use Rattle.member_node.proofs.ReadLemmas.{fewer_then, in_error, in_lost, in_memory, low_goes, low_of, read_then, same_pages, tell_up_to}
+use Rattle.member_node.proofs.ReadLemmas.{few_orders, fewer_then, in_error, in_lost, in_memory, low_goes, low_of, read_then, same_pages, tell_up_to}
 use Rattle.member_node.proofs.member.Member.read_in.Goals as goal
 
 pub is_caught_up-requires-clause-drawn : goal.is_caught_up-requires-clause-drawn
@@ -36,7 +36,7 @@ lose_read-requires-clause-untold g c told =
     i.acts told i.some c.is_caught_up.ensures.sized i.spelled.1 (λ on. i.rests1.reads told on) (λ on. i.rests2.reads told on) c.requires.low1 c.requires.low2 in
     ∥∥₁_elim (i.stand told) (λ a b. absurd a) (λ st.
     (c.in_ok-is_caught_up.ensures.refused c.if-not-branch.true).1 t i.spelled.1
-    (subst (λ (k : Checkpoint). MayGoOn k.tables.config m.room t) (sym i.checkpoint) (low_goes s.checkpoint.tables.config batches x.level m.room t c.requires.orders c.requires.level (st.at_level ∙ i.level) low)))
+    (subst (λ (k : Checkpoint). MayGoOn k.tables.config m.room t) (sym i.checkpoint) (low_goes s.checkpoint.tables.config batches x.level m.room t (few_orders batches x.few) c.requires.level (st.at_level ∙ i.level) low)))
 
 pub loop-complex-preserved : goal.loop-complex-preserved
 loop-complex-preserved g c =

@@ -1,0 +1,118 @@
+//! A shared value is made, and hands out what it has at its end.
+ghost use Rattle.std.specs.Prelude.{◌≡◌, ◌≤◌, [], None, true, false};
+ghost use Rattle.mas_types.specs.declared.ids.Dev.TheVariants.{Ckpt1, Ckpt2};
+ghost use Rattle.spool_disk.specs.View.{View};
+ghost use Rattle.spool_disk.specs.Acts.{top, Goes};
+ghost use Rattle.spool_disk.specs.declared.plant.Part.TheVariants.{Disk};
+ghost use Rattle.ckpt_copy.specs.Pages.{level};
+ghost use Rattle.mas_complex.specs.declared.places.Place.TheVariants.{Before as AtBefore};
+ghost use Rattle.mas_complex.specs.Journals.{end_of};
+ghost use Rattle.mas_complex.specs.Crash.{setting, copy_of, BeginsWith};
+ghost use Rattle.mas_complex.specs.Headline.{Headline, LeavesQueue};
+ghost use Rattle.mas_complex.specs.Replies.{AreReplied};
+ghost use Rattle.mas_complex.specs.Locking.{book_of};
+ghost use Rattle.mas_complex.specs.Paper.{no_counts};
+
+use crate::complex::{Complex, Ended};
+use crate::counts::COUNTS;
+use crate::journal_end::finished;
+use crate::places::Place;
+use crate::steady::Steady;
+use duplex_pair::Pair;
+use lock_cycle::LockBook;
+use mas_types::{Config, Journal, List, MEMBERS_MOST, Queue};
+use spool_disk::Plant;
+use std::alloc::Global;
+
+impl<P: Plant + Drop, C: Steady + Drop> Complex<P, C> {
+    /// A shared value of a plant and the two copies on it. Each copy that counts as alive is at rest with the same pages, of
+    /// this level, which stand for the base, and the device of one that counts as lost is lost. Nobody holds the lock.
+    pub fn make(alloc: Global, plant: P, pair: Pair<C>, base: Queue, level: u64) -> Complex<P, C>
+        requires ready1 { pair.first.alive ≡ true → C.ready pair.first.copy (P.view plant) }
+        requires ready2 { pair.second.alive ≡ true → C.ready pair.second.copy (P.view plant) }
+        requires lost1 { pair.first.alive ≡ false → (P.view plant).lost (Disk Ckpt1) ≡ true }
+        requires lost2 { pair.second.alive ≡ false → (P.view plant).lost (Disk Ckpt2) ≡ true }
+        requires begins { P.tells → ∥ BeginsWith (setting C.reads base (P.view plant).now) level (copy_of (C.rests pair.first.copy) (C.holds pair.first.copy) pair.first.alive AtBefore) (copy_of (C.rests pair.second.copy) (C.holds pair.second.copy) pair.second.alive AtBefore) (P.view plant) ∥₁ }
+        ensures plant { result.plant ≡ plant }
+        ensures pair { result.pair ≡ pair }
+        ensures base { result.base ≡ base }
+        ensures since { result.since ≡ (P.view plant).now }
+        ensures book { result.book ≡ book_of base.config }
+        ensures journal { result.journal.batches ≡ [] }
+        ensures placed { result.placed ≡ false }
+        ensures current { result.current ≡ None }
+        ensures reserved { result.reserved ≡ None }
+        ensures places { (result.first ≡ AtBefore) × (result.second ≡ AtBefore) }
+        ensures printed { result.printed ≡ no_counts }
+        ensures level { result.level ≡ level }
+        ensures fresh { P.tells → ∥ ((later : View) → Goes (P.view plant) later → LeavesQueue C.reads base (P.view plant).now later) ∥₁ }
+    {
+        let since = moment_of(&plant);
+        let book = new_book_of(&base.config);
+        Complex {
+            plant,
+            pair,
+            book,
+            base,
+            since,
+            journal: Journal {
+                batches: List::new(alloc),
+            },
+            current: None,
+            reserved: None,
+            placed: false,
+            first: Place::Before,
+            second: Place::Before,
+            level,
+            printed: [0; COUNTS],
+        }
+    }
+
+    /// Hands out the plant, the base, the first moment and the journal, of which the headline holds, and whose entries have
+    /// their replies.
+    pub fn end(self) -> Ended<P>
+        ensures plant { result.plant ≡ self.plant }
+        ensures base { result.base ≡ self.base }
+        ensures since { result.since ≡ self.since }
+        ensures journal { result.journal.batches ≡ end_of self.placed self.current self.journal.batches }
+        ensures headline { P.tells → ∥ Headline C.reads result.base result.since result.journal (P.view result.plant) ∥₁ }
+        ensures replied { P.tells → ∥ AreReplied result.base result.journal.batches ∥₁ }
+    {
+        let Complex {
+            plant,
+            base,
+            since,
+            journal,
+            current,
+            placed,
+            ..
+        } = self;
+        let _last = moment_of(&plant);
+        let journal = finished(journal, current, placed);
+        Ended {
+            plant,
+            base,
+            since,
+            journal,
+        }
+    }
+}
+
+// The moment of a plant, which is a count.
+fn moment_of<P: Plant>(plant: &P) -> u64
+    ensures now { result ≡ (P.view plant.now).now }
+    ensures most { (P.view plant.now).now ≤ top }
+{
+    plant.now()
+}
+
+// The book of a complex of this configuration, in which nobody holds.
+fn new_book_of(config: &Config) -> LockBook
+    ensures { result ≡ book_of config.now }
+{
+    LockBook::new(
+        config.members.min(MEMBERS_MOST),
+        config.hold,
+        config.dormancy,
+    )
+}
