@@ -28,14 +28,15 @@ use Rattle.spool_volumes.specs.Volumes.{volume_of}
 use Rattle.track_groups.specs.Places.{groups_of}
 use Rattle.warm_start.specs.declared.choosing.StartNo.{StartNo}
 use Rattle.warm_start.specs.declared.choosing.StartNo.TheVariants as no_start
-use Rattle.warm_start.specs.Starting.{IsCauseOf, Starts, LosesBoth, IsOnce, IsHeld, WhileStarting}
+use Rattle.warm_start.specs.Starting.{HeldBack, IsUnfit, mark_of, IsCauseOf, Starts, LosesBoth, IsOnce, IsHeld, WhileStarting}
 use Rattle.warm_start.specs.Usable.{AreOf, HaveSize}
-use Rattle.member_node.specs.Calls.{Grows}
+use Rattle.member_node.specs.Calls.{Grows, console_now}
 use Rattle.member_node.specs.Drawn.{AreDrawn}
 use Rattle.member_node.proofs.CourseLemmas.{lost_later, lost_more}
 use Rattle.member_node.proofs.DrawnLemmas.{drawn_level}
-use Rattle.mas_run.specs.Runs.{has_begun, Begins, LosesFirst, IsHeldUntil}
-use Rattle.mas_run.specs.Statuses.{IsCaused, IsCausedFrom, is_of_play, is_of_text}
+use Rattle.mas_run.specs.Runs.{has_begun, areas_room, AreSidesKept, Begins, LosesFirst, IsHeldUntil}
+use Rattle.mas_run.specs.Volumes.{AreVolumesKept}
+use Rattle.mas_run.specs.Statuses.{IsCaused, IsCausedFrom, is_of_play, is_of_text, is_unplayed}
 use Rattle.mas_run.specs.Unstarted.{status_of_start, IsNotStarted}
 
 -- WHAT IS FOUND
@@ -81,6 +82,19 @@ play_not_text status.TooLong e = absurd (cc)
 play_not_text (status.NotFormatted first second) e = refl
 play_not_text (status.DeviceSize dev size) e = refl
 
+-- what a run of play answers is no refusal of a script
+pub not_unplayed : (answer : Status) → is_of_text answer ≡ false → (answer ≡ status.SourceFault → ⊥) → is_unplayed answer ≡ true → ⊥
+not_unplayed status.SourceFault text source e = source refl
+not_unplayed status.Done text source e = absurd (cc)
+not_unplayed status.NoMemory text source e = absurd (cc)
+not_unplayed status.BothLost text source e = absurd (cc)
+not_unplayed status.ConsoleFault text source e = absurd (cc)
+not_unplayed status.Words text source e = absurd (cc)
+not_unplayed (status.BadLine line cause) text source e = absurd (cc)
+not_unplayed status.TooLong text source e = absurd (cc)
+not_unplayed (status.NotFormatted first second) text source e = absurd (cc)
+not_unplayed (status.DeviceSize dev size) text source e = absurd (cc)
+
 pub play_not_source : (answer : Status) → is_of_play answer ≡ true → answer ≡ status.SourceFault → ⊥
 play_not_source answer e is = no (sym (ap is_of_play is) ∙ e) where
   no : false ≡ true → ⊥
@@ -110,11 +124,31 @@ why_not_lost no_start.BothLost = inl refl
 why_not_lost (no_start.DeviceSize dev size) = inr (λ e. absurd (cc))
 why_not_lost no_start.NoMemory = inr (λ e. absurd (cc))
 
-pub not_started : (tells : Type 0) (why : StartNo) (old new : View) → ((alive1 alive2 : Bool) × IsCauseOf reads tells areas_size old new alive1 alive2 why) → (why ≡ no_start.BothLost → LosesBoth old new) → IsNotStarted tells (status_of_start why) old new
-not_started tells (no_start.NotFormatted first second) old new cause lost = record { alive1 = cause.0; alive2 = cause.1; cause = cause.2 }
-not_started tells no_start.BothLost old new cause lost = lost refl
-not_started tells (no_start.DeviceSize dev size) old new cause lost = record { alive1 = cause.0; alive2 = cause.1; cause = cause.2 }
-not_started tells no_start.NoMemory old new cause lost = tt
+pub not_started : (tells : Type 0) (why : StartNo) (old new : View) → ((alive1 alive2 : Bool) × IsCauseOf reads tells areas_size old new alive1 alive2 why) → (why ≡ no_start.BothLost → LosesBoth old new) → (tells → HeldBack {C = Unit {0}} reads (λ copy. areas_room) old new) → IsNotStarted tells (status_of_start why) old new
+not_started tells (no_start.NotFormatted first second) old new cause lost held = record { alive1 = cause.0; alive2 = cause.1; cause = cause.2 }
+not_started tells no_start.BothLost old new cause lost held = (lost refl, held)
+not_started tells (no_start.DeviceSize dev size) old new cause lost held = record { alive1 = cause.0; alive2 = cause.1; cause = cause.2 }
+not_started tells no_start.NoMemory old new cause lost held = tt
+
+-- copies that all have the room of areas
+pub held_areas : {C : Type 0} (room : C → ℕ) (old new : View) → ((c : C) → room c ≡ areas_room) → HeldBack reads room old new → HeldBack {C = Unit {0}} reads (λ copy. areas_room) old new
+held_areas room old new same (inl looked) = inl looked
+held_areas room old new same (inr x) = inr (
+  x.0,
+  record {
+    usable = x.1.usable;
+    sized = x.1.sized;
+    found = x.1.found;
+    held = x.1.held;
+    kept1 = ⊎_elim inl (λ y. inr (tt, subst (λ (n : ℕ). IsUnfit reads Ckpt1 old new (mark_of new) n x.0) (same y.0) y.1)) x.1.kept1;
+    kept2 = ⊎_elim inl (λ y. inr (tt, subst (λ (n : ℕ). IsUnfit reads Ckpt2 old new (mark_of new) n x.0) (same y.0) y.1)) x.1.kept2;
+  },
+)
+
+-- nothing is said by a start that gave nothing, no byte of a volume changes, and nothing is printed
+pub held_whole : {C : Type 0} (room : C → ℕ) (old new : View) → HeldBack reads room old new → (console_now new ≡ console_now old) × AreVolumesKept old new × AreSidesKept old new
+held_whole room old new (inl x) = (x.0.console new.now x.0.goes.later (omega arith), x.0.volumes, x.0.sides new.now x.0.goes.later (omega arith))
+held_whole room old new (inr x) = (x.1.held.console new.now x.1.held.goes.later (omega arith), x.1.held.volumes, x.1.held.sides new.now x.1.held.goes.later (omega arith))
 
 pub start_caused : (why : StartNo) (old new : View) → (why ≡ no_start.BothLost → LosesBoth old new) → IsCaused (status_of_start why) old new
 start_caused (no_start.NotFormatted first second) old new lost = record { lost = λ e. absurd (cc); failed1 = λ e. absurd (cc); failed2 = λ e. absurd (cc); console = λ e. absurd (cc) }
@@ -127,18 +161,15 @@ start_caused no_start.NoMemory old new lost = record { lost = λ e. absurd (cc);
 once_grows : (dev : Dev) (is : Bool) (old new : View) → IsOnce dev is old new → Grows (old.loses dev) (new.loses dev)
 once_grows dev is old new once = ⊎_elim inl (λ x. inr (omega (arith, x.1))) once
 
-once_first : (dev : Dev) (is : Bool) (old new : View) → IsOnce dev is old new → LosesFirst false (old.loses dev) (new.loses dev)
-once_first dev is old new once = ⊎_elim inl (λ x. inr x.1) once
-
 pub starts_grow : (a b : Bool) (old new : View) → Starts a b old new → (d : Dev) → Grows (old.loses d) (new.loses d)
 starts_grow a b old new s Ckpt1 = once_grows Ckpt1 a old new s.once1
 starts_grow a b old new s Ckpt2 = once_grows Ckpt2 b old new s.once2
 starts_grow a b old new s (Spool n) = inl (s.else_once (Spool n) (λ e. absurd (cc)) (λ e. absurd (cc)))
 
-pub starts_first : (a b : Bool) (old new : View) → Starts a b old new → (d : Dev) → LosesFirst false (old.loses d) (new.loses d)
-starts_first a b old new s Ckpt1 = once_first Ckpt1 a old new s.once1
-starts_first a b old new s Ckpt2 = once_first Ckpt2 b old new s.once2
-starts_first a b old new s (Spool n) = inl (s.else_once (Spool n) (λ e. absurd (cc)) (λ e. absurd (cc)))
+pub starts_first : (a b : Bool) (old new : View) → Starts a b old new → (d : Dev) → LosesFirst false d (old.loses d) (new.loses d)
+starts_first a b old new s Ckpt1 = ⊎_elim inl (λ x. inr x.1) s.once1
+starts_first a b old new s Ckpt2 = ⊎_elim inl (λ x. inr x.1) s.once2
+starts_first a b old new s (Spool n) = s.else_once (Spool n) (λ e. absurd (cc)) (λ e. absurd (cc))
 
 by_alive : {A : Type 0} (x : Bool) → (x ≡ true → A) → (x ≡ false → A) → A
 by_alive true f g = f refl
@@ -156,9 +187,8 @@ pub no : (base : Queue) → has_begun base ≡ true → has_begun base ≡ false
 no base p q = cc
 
 -- what an image was during the start, it was when the run has ended
-pub held_until : (v0 v1 v2 : View) (found : List ℕ) → Goes v1 v2 → WhileStarting (IsHeld reads (disk_now v0 Ckpt1) found) (IsHeld reads (disk_now v0 Ckpt2) found) v0 v1 → IsHeldUntil v1.now v0 v2
+pub held_until : (v0 v1 v2 : View) (found : List ℕ) → Goes v1 v2 → WhileStarting (IsHeld reads (disk_now v0 Ckpt1) found) (IsHeld reads (disk_now v0 Ckpt2) found) v0 v1 → IsHeldUntil v1.now found v0 v2
 held_until v0 v1 v2 found goes held = record {
-  found = found;
   first = λ t from le. subst (λ (w : World). IsHeld reads (disk_now v0 Ckpt1) found (w.disk Ckpt1)) (sym (goes.past t le)) (held.first t from le);
   second = λ t from le. subst (λ (w : World). IsHeld reads (disk_now v0 Ckpt2) found (w.disk Ckpt2)) (sym (goes.past t le)) (held.second t from le);
 }

@@ -1,7 +1,7 @@
 -- What a run did.
 use Rattle.std.specs.Prelude.{◌≡◌, ◌≢◌, ◌⊎◌, ℕ, ◌+◌, ◌≤◌, ◌<◌, nat_lt, Bool, true, false, List, [], ◌∷◌, ◌++◌, drop, length, take, map, All}
 use Rattle.mas_types.specs.declared.ids.Dev.{Dev}
-use Rattle.mas_types.specs.declared.ids.Dev.TheVariants.{Ckpt1, Ckpt2}
+use Rattle.mas_types.specs.declared.ids.Dev.TheVariants.{Ckpt1, Ckpt2, Spool}
 use Rattle.mas_types.specs.declared.journals.Batch.{Batch}
 use Rattle.mas_types.specs.declared.journals.Entry.{Entry}
 use Rattle.mas_types.specs.declared.journals.Journal.{Journal}
@@ -12,9 +12,10 @@ use Rattle.mas_types.specs.declared.queues.Queue.{Queue}
 use Rattle.mas_types.specs.Starts.{empty_queue, no_queue}
 use Rattle.script_lang.specs.declared.types.Script.{Script}
 use Rattle.spool_disk.specs.declared.plant.Part.TheVariants.{Disk}
-use Rattle.spool_disk.specs.View.{View, Line, disk_at, disk_now, paper_now, Throughout}
+use Rattle.spool_disk.specs.View.{View, Line, disk_at, disk_now, Throughout}
 use Rattle.spool_disk.specs.Acts.{Goes, Rose, top, next}
 use Rattle.ckpt_copy.specs.Areas.{reads}
+use Rattle.ckpt_copy.specs.Meanwhile.{SameSides}
 use Rattle.ckpt_copy.specs.Pages.{bytes_of}
 use Rattle.ckpt_pages.specs.declared.tables.Tables.{Tables}
 use Rattle.mas_types.specs.declared.ids.Page.{Page}
@@ -28,7 +29,7 @@ use Rattle.spool_volumes.specs.Volumes.{IsSteady}
 use Rattle.warm_start.specs.Spooled.{AreGiven}
 use Rattle.warm_start.specs.Usable.{AreOf, HaveSize}
 use Rattle.mas_run.specs.Resets.{restart_entries}
-use Rattle.warm_start.specs.Starting.{IsFound, IsUnfit, IsHeld}
+use Rattle.warm_start.specs.Starting.{Mark, IsFound, IsUnfit, IsHeld}
 use Rattle.member_node.specs.Calls.{console_now}
 use Rattle.member_steps.specs.Saying.{torn}
 use Rattle.member_decks.specs.Batches.{AreAll, AreCut, AreSome, OneFlies}
@@ -56,6 +57,10 @@ pub record IsUnbegun (base : Queue) (journal : Journal) (since now : ℕ) : Type
   pub queue : base ≡ no_queue
   pub batches : journal.batches ≡ []
   pub moment : since ≡ now
+
+-- nothing was printed, nor taken or given on a wire
+abbrev pub AreSidesKept : View → View → Type 0
+AreSidesKept old new = SameSides (old.world old.now) (new.world new.now)
 
 -- THE HISTORY
 
@@ -132,10 +137,24 @@ abbrev pub IsOpened : Bool → Status → ℕ → ℕ → List Batch → ℕ →
 IsOpened true answer since at opening kept rest = (opening ≡ []) × (at ≡ since)
 IsOpened false answer since at opening kept rest = IsReset answer since at opening kept rest
 
+-- up to a warm run's first moment an image of a copy is one of the entry, or reads as the copy did or as the pages found
+pub record IsHeldUntil (since : ℕ) (found : List ℕ) (old new : View) : Type 0 where
+  pub first : Throughout old.now since (λ t. IsHeld reads (disk_now old Ckpt1) found (disk_at new t Ckpt1))
+  pub second : Throughout old.now since (λ t. IsHeld reads (disk_now old Ckpt2) found (disk_at new t Ckpt2))
+
+-- a copy in the form of areas has room for one put
+abbrev pub areas_room : ℕ
+areas_room = 1
+
+-- the first moment of a run, and how often a call had lost each device then
+abbrev pub begins_at : ℕ → (Dev → ℕ) → Mark
+begins_at since first = record { at = since; loses = first }
+
 -- The queue of the pages that a warm run finds: their tables tell it, and its texts stood on the spool volumes at the run's first
 -- moment, all of them synced, but for those with a group on a volume that is lost. Where no volume is lost in the run, each text is
 -- what the volumes gave at the entry: one with a group on a lost volume is gone, and names the first such group. A copy had been
--- lost by a call before the steps only where it may not stay beside these pages.
+-- lost by a call before the steps only where it may not stay beside these pages, and not both had. Up to the first moment a crash
+-- leaves of a copy what was there, or these pages.
 pub record IsFoundQueue (tells : Type 0) (old new : View) (since : ℕ) (first : Dev → ℕ) (base : Queue) : Type 0 where
   pub pages : List Page
   pub tables : Tables
@@ -144,29 +163,23 @@ pub record IsFoundQueue (tells : Type 0) (old new : View) (since : ℕ) (first :
   pub told : Tell tables base
   pub texts : tells → HasTexts (lost_now new) (spools_at new since) base.config.groups base
   pub given : tells → IsSteady old new → AreGiven old base.config.groups base
-  pub found : tells → IsFound reads old new (bytes_of pages)
-  pub kept1 : tells → (first Ckpt1 ≡ old.loses Ckpt1) ⊎ IsUnfit reads Ckpt1 old new pages
-  pub kept2 : tells → (first Ckpt2 ≡ old.loses Ckpt2) ⊎ IsUnfit reads Ckpt2 old new pages
+  pub found : tells → IsFound reads old new (begins_at since first) (bytes_of pages)
+  pub one : (first Ckpt1 ≡ old.loses Ckpt1) ⊎ (first Ckpt2 ≡ old.loses Ckpt2)
+  pub kept1 : tells → (first Ckpt1 ≡ old.loses Ckpt1) ⊎ IsUnfit reads Ckpt1 old new (begins_at since first) areas_room pages
+  pub kept2 : tells → (first Ckpt2 ≡ old.loses Ckpt2) ⊎ IsUnfit reads Ckpt2 old new (begins_at since first) areas_room pages
+  pub held : tells → IsHeldUntil since (bytes_of pages) old new
 
 -- a cold run begins with the empty queue of the script's configuration and routes, a warm one with the queue found
 abbrev pub HasBase : Bool → Type 0 → Script → View → View → ℕ → (Dev → ℕ) → Queue → Type 0
 HasBase true tells script old new since first base = base ≡ empty_queue script.config script.routes
 HasBase false tells script old new since first base = IsFoundQueue tells old new since first base
 
--- before a warm run's first moment an image of a copy is one of the entry, or reads as the copy did or as the pages found
-pub record IsHeldUntil (since : ℕ) (old new : View) : Type 0 where
-  pub found : List ℕ
-  pub first : Throughout old.now since (λ t. IsHeld reads (disk_now old Ckpt1) found (disk_at new t Ckpt1))
-  pub second : Throughout old.now since (λ t. IsHeld reads (disk_now old Ckpt2) found (disk_at new t Ckpt2))
-
-abbrev pub IsKeptUntil : Bool → ℕ → View → View → Type 0
-IsKeptUntil true since old new = Unit {0}
-IsKeptUntil false since old new = IsHeldUntil since old new
-
--- how often a call lost a device before the steps: a warm start may lose it once
-abbrev pub LosesFirst : Bool → ℕ → ℕ → Type 0
-LosesFirst true was is = is ≡ was
-LosesFirst false was is = (is ≡ was) ⊎ (is ≡ next was)
+-- how often a call lost a device before the steps: a warm start may lose a copy once, and no volume
+abbrev pub LosesFirst : Bool → Dev → ℕ → ℕ → Type 0
+LosesFirst true dev was is = is ≡ was
+LosesFirst false Ckpt1 was is = (is ≡ was) ⊎ (is ≡ next was)
+LosesFirst false Ckpt2 was is = (is ≡ was) ⊎ (is ≡ next was)
+LosesFirst false (Spool n) was is = is ≡ was
 
 -- THE STEPS
 
@@ -237,18 +250,17 @@ pub record HasSteps (cold : Bool) (tells : Type 0) (asked : List Turn) (answer :
 -- A run that has begun, cold or warm, of a script with these steps, on a plant that showed `old` before and `new` after it. What it says
 -- of contents is said of a plant that tells.
 pub record IsRun (cold : Bool) (tells : Type 0) (script : Script) (answer : Status) (base : Queue) (journal : Journal) (since : ℕ) (old new : View) : Type 0 where
-  -- before its first moment a device had been lost so often by a call: a warm start may have lost it once
+  -- before its first moment a device had been lost so often by a call: a warm start may have lost a copy once
   pub first : Dev → ℕ
-  pub before : (d : Dev) → LosesFirst cold (old.loses d) (first d)
+  pub before : (d : Dev) → LosesFirst cold d (old.loses d) (first d)
   -- it began with its base, which has the sound parts, and which the copies had then, and nothing was said before
   pub queue : HasBase cold tells script old new since first base
   pub sound : IsSound base
   pub moment : (old.now ≤ since) × (since ≤ new.now)
   pub fresh : tells → ∥ LeavesQueue reads base since new ∥₁
   pub quiet : tells → (new.world since).console ≡ console_now old
-  -- nor printed in a cold run
-  pub dry : tells → cold ≡ true → (m : ℕ) → (new.world since).paper m ≡ paper_now old m
-  pub held : tells → IsKeptUntil cold since old new
+  -- nor printed, nor taken or given on a wire
+  pub dry : tells → SameSides (old.world old.now) (new.world since)
   -- and then its steps were played, each where the book of the lock gives it to the member; to the first ones the volumes gave this
   pub seen : List Sight
   pub steps : HasSteps cold tells (turns_of base.config seen script.steps) answer base journal since first old new

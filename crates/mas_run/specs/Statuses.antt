@@ -46,6 +46,11 @@ is_of_text (status.BadLine line cause) = true
 is_of_text status.TooLong = true
 is_of_text _ = false
 
+-- no script is played: the words or the script are refused, or the script can't be read
+abbrev pub is_unplayed : Status → Bool
+is_unplayed status.SourceFault = true
+is_unplayed answer = is_of_text answer
+
 -- the same over a part of a run, where these copies counted as alive before it
 pub record IsCausedFrom (one two : Bool) (answer : Status) (old new : View) : Type 0 where
   pub lost : answer ≡ status.BothLost → (new.lost (Disk Ckpt1) ≡ true) × (new.lost (Disk Ckpt2) ≡ true)

@@ -22,7 +22,7 @@ ghost use Rattle.queue_effect.specs.Standing.{AreFit};
 ghost use Rattle.queue_tables.specs.Orders.{HaveOrders};
 ghost use Rattle.queue_tables.specs.Telling.{Tell, TellSound};
 ghost use Rattle.mas_run.specs.Turns.{Sight, turns_from};
-ghost use Rattle.mas_run.specs.Runs.{has_begun, Begins, IsUnbegun, HasSteps, IsRun};
+ghost use Rattle.mas_run.specs.Runs.{has_begun, AreSidesKept, Begins, IsUnbegun, HasSteps, IsRun};
 ghost use Rattle.mas_run.specs.Statuses.{IsCaused, IsCausedFrom, is_of_play, is_of_text};
 ghost use Rattle.mas_run.specs.Volumes.{AreVolumesKept};
 ghost use Rattle.mas_run.specs.Unstarted.{status_of_start as status_of_start_lem, IsNotStarted};
@@ -132,10 +132,12 @@ pub(crate) fn play_warm<P: Plant + Drop>(alloc: Global, script: &Script, plant: 
     ensures unbegun { has_begun result.base ≡ false → IsUnbegun result.base result.journal result.since (P.view result.plant).now }
     ensures untouched { has_begun result.base ≡ false → (result.status ≡ Status.BothLost) ⊎ (P.tells → OnlyLookedAtAll (P.view plant) (P.view result.plant)) }
     ensures unsaid { P.tells → has_begun result.base ≡ false → console_now (P.view result.plant) ≡ console_now (P.view plant) }
+    ensures unprinted { P.tells → has_begun result.base ≡ false → AreSidesKept (P.view plant) (P.view result.plant) }
     ensures goes { Goes (P.view plant) (P.view result.plant) }
     ensures loses { has_begun result.base ≡ false → result.status ≢ Status.BothLost → (d : Dev) → (P.view result.plant).loses d ≡ (P.view plant).loses d }
     ensures volumes { P.tells → has_begun result.base ≡ false → AreVolumesKept (P.view plant) (P.view result.plant) }
     ensures room { has_begun result.base ≡ true → (areas_size (page_count result.base.config) ≤ (P.view plant).size Ckpt1) × (areas_size (page_count result.base.config) ≤ (P.view plant).size Ckpt2) }
+    ensures roomy { has_begun result.base ≡ true → AreRoomy (P.view result.plant) result.base.config }
     ensures run { has_begun result.base ≡ true → IsRun false P.tells script.now result.status result.base result.journal result.since (P.view plant) (P.view result.plant) }
 {
     let pair = Pair::new(

@@ -28,7 +28,7 @@ ghost use Rattle.member_node.specs.Reads.{IsCalm, ReadsLow};
 ghost use Rattle.member_steps.specs.Locked.{IsOpenTo};
 ghost use Rattle.member_steps.specs.Steps.{AreAllKept, IsAtLock, IsToldSound};
 ghost use Rattle.mas_run.specs.Turns.{Sight, turns_from};
-ghost use Rattle.mas_run.specs.Runs.{has_begun, Begins, IsUnbegun, IsPlay, IsRun};
+ghost use Rattle.mas_run.specs.Runs.{has_begun, AreSidesKept, Begins, IsUnbegun, IsPlay, IsRun};
 ghost use Rattle.mas_run.specs.Statuses.{IsCaused, IsCausedFrom, status_of as status_of_lem, is_of_play, is_of_text};
 ghost use Rattle.mas_run.specs.Volumes.{AreVolumesKept};
 
@@ -209,10 +209,12 @@ pub(crate) fn play_cold<P: Plant + Drop>(alloc: Global, script: &Script, plant: 
     ensures unbegun { has_begun result.base ≡ false → IsUnbegun result.base result.journal result.since (P.view result.plant).now }
     ensures untouched { has_begun result.base ≡ false → (result.status ≡ Status.BothLost) ⊎ (result.plant ≡ plant) }
     ensures unsaid { P.tells → has_begun result.base ≡ false → console_now (P.view result.plant) ≡ console_now (P.view plant) }
+    ensures unprinted { P.tells → has_begun result.base ≡ false → AreSidesKept (P.view plant) (P.view result.plant) }
     ensures goes { Goes (P.view plant) (P.view result.plant) }
     ensures loses { has_begun result.base ≡ false → (d : Dev) → (P.view result.plant).loses d ≡ (P.view plant).loses d }
     ensures volumes { P.tells → has_begun result.base ≡ false → AreVolumesKept (P.view plant) (P.view result.plant) }
     ensures room { has_begun result.base ≡ true → (bytes_needed script.now.config ≤ (P.view plant).size Ckpt1) × (bytes_needed script.now.config ≤ (P.view plant).size Ckpt2) }
+    ensures roomy { has_begun result.base ≡ true → AreRoomy (P.view result.plant) result.base.config }
     ensures config { has_begun result.base ≡ true → result.base.config ≡ script.now.config }
     ensures run { has_begun result.base ≡ true → IsRun true P.tells script.now result.status result.base result.journal result.since (P.view plant) (P.view result.plant) }
 {

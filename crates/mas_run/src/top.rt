@@ -12,11 +12,12 @@ ghost use Rattle.spool_disk.specs.Acts.{Goes, Rose};
 ghost use Rattle.ckpt_copy.specs.Areas.{areas_size};
 ghost use Rattle.ckpt_pages.specs.Shape.{page_count};
 ghost use Rattle.warm_start.specs.Starting.{OnlyLookedAtAll};
+ghost use Rattle.spool_volumes.specs.Volumes.{AreRoomy};
 ghost use Rattle.member_node.specs.Calls.{console_now};
 ghost use Rattle.mas_run.specs.Unstarted.{IsNotStarted};
 ghost use Rattle.mas_run.specs.Refusals.{refusal_before_play, refused_sizes, Answers, IsPlayedOut, IsSaid, IsTooSmall, is_of_script};
-ghost use Rattle.mas_run.specs.Runs.{has_begun, Begins, IsUnbegun, IsRun};
-ghost use Rattle.mas_run.specs.Statuses.{IsCaused, IsStill, is_of_text};
+ghost use Rattle.mas_run.specs.Runs.{has_begun, AreSidesKept, Begins, IsUnbegun, IsRun};
+ghost use Rattle.mas_run.specs.Statuses.{IsCaused, IsStill, is_of_text, is_unplayed};
 ghost use Rattle.mas_run.specs.Volumes.{AreVolumesKept};
 
 use crate::ended::Ended;
@@ -73,10 +74,12 @@ pub fn play_steps<P: Plant + Drop>(alloc: Global, cold: bool, script: Script, pl
     ensures unbegun { has_begun result.base ≡ false → IsUnbegun result.base result.journal result.since (P.view result.plant).now }
     ensures untouched { has_begun result.base ≡ false → (result.status ≡ Status.BothLost) ⊎ ((result.plant ≡ plant) ⊎ ((cold ≡ false) × (P.tells → OnlyLookedAtAll (P.view plant) (P.view result.plant)))) }
     ensures unsaid { P.tells → has_begun result.base ≡ false → console_now (P.view result.plant) ≡ console_now (P.view plant) }
+    ensures unprinted { P.tells → has_begun result.base ≡ false → AreSidesKept (P.view plant) (P.view result.plant) }
     ensures goes { Goes (P.view plant) (P.view result.plant) }
     ensures loses { has_begun result.base ≡ false → (result.status ≢ Status.BothLost) ⊎ (cold ≡ true) → (d : Dev) → (P.view result.plant).loses d ≡ (P.view plant).loses d }
     ensures volumes { P.tells → has_begun result.base ≡ false → AreVolumesKept (P.view plant) (P.view result.plant) }
     ensures room { has_begun result.base ≡ true → (areas_size (page_count result.base.config) ≤ (P.view plant).size Ckpt1) × (areas_size (page_count result.base.config) ≤ (P.view plant).size Ckpt2) }
+    ensures roomy { has_begun result.base ≡ true → AreRoomy (P.view result.plant) result.base.config }
     ensures run { has_begun result.base ≡ true → IsRun cold P.tells script result.status result.base result.journal result.since (P.view plant) (P.view result.plant) }
     ensures stepless { script.steps ≡ [] → P.tells → AreVolumesKept (P.view plant) (P.view result.plant) }
 {
@@ -129,14 +132,19 @@ pub fn play_script<P: Plant + Drop, S: Source>(
     ensures unbegun { has_begun result.base ≡ false → IsUnbegun result.base result.journal result.since (P.view result.plant).now }
     ensures untouched { has_begun result.base ≡ false → (result.status ≡ Status.BothLost) ⊎ ((result.plant ≡ plant) ⊎ ((cold ≡ false) × (P.tells → OnlyLookedAtAll (P.view plant) (P.view result.plant)))) }
     ensures unsaid { P.tells → has_begun result.base ≡ false → console_now (P.view result.plant) ≡ console_now (P.view plant) }
+    ensures unprinted { P.tells → has_begun result.base ≡ false → AreSidesKept (P.view plant) (P.view result.plant) }
     ensures volumes { P.tells → has_begun result.base ≡ false → AreVolumesKept (P.view plant) (P.view result.plant) }
 
     // No run loses a device by a call but by a step that says so, or a copy that a warm start doesn't take.
     ensures goes { Goes (P.view plant) (P.view result.plant) }
     ensures loses { has_begun result.base ≡ false → (result.status ≢ Status.BothLost) ⊎ (cold ≡ true) → (d : Dev) → (P.view result.plant).loses d ≡ (P.view plant).loses d }
 
+    // Where the script is refused, or can't be read, no act is made.
+    ensures idle { is_unplayed result.status ≡ true → result.plant ≡ plant }
+
     // A run that has begun plays what its script asks for.
     ensures room { has_begun result.base ≡ true → (areas_size (page_count result.base.config) ≤ (P.view plant).size Ckpt1) × (areas_size (page_count result.base.config) ≤ (P.view plant).size Ckpt2) }
+    ensures roomy { has_begun result.base ≡ true → AreRoomy (P.view result.plant) result.base.config }
     ensures read { S.tells → has_begun result.base ≡ true → S.left script.new ≡ [] }
     ensures run { has_begun result.base ≡ true → ((read : ScriptLem) × (S.tells → IsSaid cold only (S.left script.old) read)
         × IsRun cold P.tells read result.status result.base result.journal result.since (P.view plant) (P.view result.plant)) }

@@ -33,7 +33,7 @@ use Rattle.mas_complex.specs.Headline.{AreAlike, AreAlwaysAlike}
 use Rattle.mas_complex.specs.Meaning.{StandFor, run}
 use Rattle.mas_complex.specs.Paper.{AreGivenIn, PaperKept}
 use Rattle.warm_start.specs.declared.choosing.StartNo.TheVariants as no_start
-use Rattle.warm_start.specs.Starting.{IsSmall, IsState, AreNotLost, OnlyLookedAtAll}
+use Rattle.warm_start.specs.Starting.{IsSmall, IsState, AreNotLost, OnlyLookedAtAll, mark_of}
 use Rattle.warm_start.specs.Usable.{AreOf, AreUsable, HaveSize, MayStart}
 use Rattle.mas_run.specs.Runs.{has_begun, Begins}
 use Rattle.mas_run.specs.Statuses.{IsCaused}
@@ -156,7 +156,7 @@ module _ (spells : SpellsOneAtMost) (configs : RunsKeepConfiguration) (sounds : 
       let u : Tables = x.1 in
       let config : u.config ≡ base.config =
       ⊎_elim (λ s. config_of pages u x.2 x.3 (kept_at J t) s) (λ s. config_of pages u x.2 x.3 (kept_at J t ++ flying_at J t) s)
-      (stands reads base J t last old (bytes_of pages) new alike left (x.4 told)) in
+      (stands reads base J t last old (bytes_of pages) new (mark_of new) alike left (x.4 told)) in
       let small : IsSmall (areas_size (page_count u.config)) u.config dev size new = subst (λ (n : ℕ). IsSmall (areas_size n) u.config dev size new) x.2.0.spell.count x.5 in
       never_small base.config old new goes large dev size (subst (λ (c : Config). IsSmall (areas_size (page_count c)) c dev size new) config small)
 
@@ -191,7 +191,7 @@ begins spells configs sounds first_tells next_tells told also cold script answer
     hindered (status.DeviceSize dev size) begun why looked cause none =
         never (StartCauses next_tells (no_start.DeviceSize dev size) old new)
         (λ given alike causes. none_small spells configs sounds base J t last old new left was.sound given low large alike ended.goes next_tells also dev size causes) why
-    hindered status.BothLost begun why looked cause none = (cause.failed1 refl, cause.failed2 refl, why.failed)
+    hindered status.BothLost begun why looked cause none = (cause.failed1 refl, cause.failed2 refl, why.0.failed)
     hindered status.Words begun why looked cause none = tt
     hindered (status.BadLine line cause) begun why looked caused none = tt
     hindered status.TooLong begun why looked cause none = tt

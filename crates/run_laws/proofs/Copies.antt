@@ -20,7 +20,7 @@ use Rattle.mas_complex.specs.Crash.{left_at, lost_if, IsLeft, IsOneOf}
 use Rattle.mas_complex.specs.Headline.{AreAlike}
 use Rattle.mas_complex.specs.Meaning.{StandFor, run}
 use Rattle.warm_start.specs.Usable.{AreOf, HaveSize}
-use Rattle.warm_start.specs.Starting.{IsSeen, IsFound}
+use Rattle.warm_start.specs.Starting.{Mark, IsSeen, IsFound}
 use Rattle.warm_start.proofs.Seeing.{same_pages}
 use Rattle.run_laws.specs.Left.{shown_of, IsLeftBy, CrashesLeave}
 
@@ -61,10 +61,10 @@ module _ (reads : List ℕ → Option (List ℕ)) (was : List ℕ) (coming : Opt
       let same : pages ≡ found = some_is pages found is in
       ⊎_elim (λ e. inl (sym same ∙ e)) (λ e. inr (e ∙ ap Some same)) one
 
-  seen_one : (dev : Dev) (t : ℕ) (last old new : View) → IsLeftBy t last old → LeavesOnly (left_at last t dev) (λ image. IsOneOf was coming (reads image))
-      → (seen : Option (List ℕ)) → IsSeen reads dev old new seen → seen ≡ Some found → (found ≡ was) ⊎ (coming ≡ Some found)
-  seen_one dev t last old new left each None seen is = absurd (cc)
-  seen_one dev t last old new left each (Some bytes) seen is =
+  seen_one : (dev : Dev) (t : ℕ) (last old new : View) (mark : Mark) → IsLeftBy t last old → LeavesOnly (left_at last t dev) (λ image. IsOneOf was coming (reads image))
+      → (seen : Option (List ℕ)) → IsSeen reads dev old new mark seen → seen ≡ Some found → (found ≡ was) ⊎ (coming ≡ Some found)
+  seen_one dev t last old new mark left each None seen is = absurd (cc)
+  seen_one dev t last old new mark left each (Some bytes) seen is =
       one_of (reads (disk_now old dev).bytes) (each (disk_now old dev).bytes (image_of t last old dev left seen.0)) (seen.1 ∙ is)
 
 -- the pages found are the kept ones or those in flight
@@ -80,12 +80,12 @@ module _ (reads : List ℕ → Option (List ℕ)) (base : Queue) (J : Journal) (
       inr next.1)
       which
 
-  pub stands : (new : View) → AreAlike reads base J t (left_at last t Ckpt1) (left_at last t Ckpt2) → IsLeftBy t last old → IsFound reads old new found
+  pub stands : (new : View) (mark : Mark) → AreAlike reads base J t (left_at last t Ckpt1) (left_at last t Ckpt2) → IsLeftBy t last old → IsFound reads old new mark found
       → StandFor (run base (kept_at J t)) found ⊎ StandFor (run base (kept_at J t ++ flying_at J t)) found
-  stands new alike left is =
+  stands new mark alike left is =
       stand_by alike (⊎_elim
-      (λ b. seen_one reads alike.was alike.coming found Ckpt1 t last old new left alike.first is.one is.seen1 b.0)
-      (λ b. seen_one reads alike.was alike.coming found Ckpt2 t last old new left alike.second is.two is.seen2 b.0)
+      (λ b. seen_one reads alike.was alike.coming found Ckpt1 t last old new mark left alike.first is.one is.seen1 b.0)
+      (λ b. seen_one reads alike.was alike.coming found Ckpt2 t last old new mark left alike.second is.two is.seen2 b.0)
       is.best)
 
 -- the tables that pages spell tell the queue for which they stand

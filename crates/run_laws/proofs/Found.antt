@@ -25,7 +25,7 @@ use Rattle.queue_tables.specs.Telling.{Tell}
 use Rattle.mas_complex.specs.Headline.{AreAlwaysAlike, AreTextsLeft}
 use Rattle.mas_complex.specs.Meaning.{run}
 use Rattle.mas_complex.specs.Texts.{Spools, bytes_on, lost_now, spools_at, IsThereUnless, HasTexts, GivesTexts}
-use Rattle.mas_run.specs.Runs.{IsFoundQueue}
+use Rattle.mas_run.specs.Runs.{IsFoundQueue, begins_at}
 use Rattle.mas_run.specs.Volumes.{AreVolumesKeptUntil}
 use Rattle.run_laws.specs.Left.{IsLeftBy}
 use Rattle.run_laws.specs.Again.{IsQueueAgain}
@@ -89,7 +89,7 @@ found_of spells runs tells told base found J since from at t first last old new 
     (told_by spells (run base (kept_at J t)) queue.pages queue.tables queue.are queue.sized s) given.0))
     (λ s. inr (after runs base found queue.tables (lost_now last) (lost_now new) volumes disks same queue.told has (kept_at J t ++ flying_at J t)
     (told_by spells (run base (kept_at J t ++ flying_at J t)) queue.pages queue.tables queue.are queue.sized s) given.1))
-    (stands reads base J t last old _ new (alike t ge le) left (queue.found told))
+    (stands reads base J t last old _ new (begins_at from first) (alike t ge le) left (queue.found told))
 
 pub finds : SpellsOneAtMost → RunsKeepConfiguration → (first_tells next_tells : Type 0) → FindsWhatIsLeft first_tells next_tells
 finds spells runs first_tells next_tells told also cold script next answer ends base found J K since from t first last old new was ge le left goes is =

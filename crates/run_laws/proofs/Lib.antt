@@ -2,3 +2,4 @@ mod Copies
 mod Rows
 mod Found
 mod Beginning
+mod Early

@@ -2,3 +2,4 @@ pub mod Left
 pub mod Again
 pub mod Joins
 pub mod Beginning
+pub mod Early

@@ -2,6 +2,7 @@
 ghost use Rattle.run_laws.specs.Left.{CrashesLeave};
 ghost use Rattle.run_laws.specs.Joins.{FindsWhatIsLeft};
 ghost use Rattle.run_laws.specs.Beginning.{BeginsWithWhatIsLeft};
+ghost use Rattle.run_laws.specs.Early.{FindsWhatWasThere};
 
 use ckpt_pages::law_of_checkpoints;
 use queue_laws::laws::law_of_runs;
@@ -35,4 +36,12 @@ pub fn law_of_beginnings<P: Plant, N: Plant>(left: &P, next: &N)
     let _next = next;
     law_of_checkpoints();
     law_of_runs();
+}
+
+/// A warm run on a plant that shows what a crash in a warm start may leave, before the first moment of its run, finds the pages that the
+/// start found, or pages that one of the copies gave before it.
+pub fn law_of_early_crashes<N: Plant>(next: &N)
+    ensures { FindsWhatWasThere N.tells }
+{
+    let _next = next;
 }

@@ -10,7 +10,7 @@ use Rattle.ckpt_copy.specs.Changes.{NoMore}
 use Rattle.ckpt_copy.specs.Pages.{bytes_of}
 use Rattle.ckpt_pages.specs.Checkpoints.{IsCheckpoint, SpellsOneAtMost}
 use Rattle.warm_start.specs.Usable.{AreUsable}
-use Rattle.warm_start.specs.Starting.{IsSeen, IsBest}
+use Rattle.warm_start.specs.Starting.{IsSeen, IsBest, mark_of}
 use Rattle.warm_start.specs.Inspecting.{AreFoundAgain}
 use Rattle.warm_start.proofs.Seeing.{same_pages}
 use Rattle.warm_start.proofs.Starts.{first_now, second_now}
@@ -19,8 +19,8 @@ some_is : (x y : List ℕ) → Some x ≡ Some y → x ≡ y
 some_is x y e = cc
 
 -- where no act failed, what was seen of a copy is what its bytes read as
-seen_is : (reads : List ℕ → Option (List ℕ)) (dev : Dev) (old new : View) → (Rose (old.faults (DiskPart dev)) (new.faults (DiskPart dev)) → ⊥) → (seen : Option (List ℕ)) → IsSeen reads dev old new seen → seen ≡ reads (disk_now old dev).bytes
-seen_is reads dev old new none None seen = ⊎_elim (λ r. absurd (none r)) (λ e. sym e) seen
+seen_is : (reads : List ℕ → Option (List ℕ)) (dev : Dev) (old new : View) → (Rose (old.faults (DiskPart dev)) (new.faults (DiskPart dev)) → ⊥) → (seen : Option (List ℕ)) → IsSeen reads dev old new (mark_of new) seen → seen ≡ reads (disk_now old dev).bytes
+seen_is reads dev old new none None seen = ⊎_elim (λ r. absurd (none r.failed)) (λ e. sym e) seen
 seen_is reads dev old new none (Some bytes) seen = sym seen.1
 
 -- of two copies that read so, one list of pages counts

@@ -1,25 +1,27 @@
 -- A start that found its pages.
-use Rattle.std.proofs.Common.{◌≡◌, ◌⊎◌, inl, inr, ⊎_elim, ℕ, ◌<◌, Bool, true, false, List, Option, Some, None, refl, ◌∙◌, arith}
+use Rattle.std.proofs.Common.{◌≡◌, ◌⊎◌, inl, inr, ⊎_elim, ℕ, ◌<◌, ◌≤◌, ◌&&◌, not, Bool, true, false, List, Option, Some, None, refl, ◌∙◌, ap, arith}
 use Rattle.mas_types.specs.declared.ids.Dev.{Dev}
-use Rattle.mas_types.specs.declared.ids.Dev.TheVariants.{Ckpt1, Ckpt2}
+use Rattle.mas_types.specs.declared.ids.Dev.TheVariants.{Ckpt1, Ckpt2, Spool}
 use Rattle.mas_types.specs.declared.ids.Page.{Page}
 use Rattle.mas_types.specs.declared.queues.Queue.{Queue}
 use Rattle.spool_disk.specs.declared.plant.Part.TheVariants.{Disk as DiskPart}
-use Rattle.spool_disk.specs.View.{View, Disk}
+use Rattle.spool_disk.specs.View.{View, World, Disk, disk_now}
 use Rattle.spool_disk.specs.Acts.{Goes, top}
 use Rattle.ckpt_copy.specs.Pages.{bytes_of}
 use Rattle.ckpt_pages.specs.declared.tables.Tables.{Tables}
 use Rattle.ckpt_pages.specs.Checkpoints.{IsCheckpoint}
 use Rattle.duplex_pair.specs.declared.errors.PairNo.{PairNo}
 use Rattle.duplex_pair.specs.declared.errors.PairNo.TheVariants.{BothLost, Halted}
-use Rattle.duplex_pair.specs.Halves.{IsBothLost}
+use Rattle.duplex_pair.specs.Halves.{IsBothLost, IsGone}
 use Rattle.mas_complex.specs.declared.places.Place.TheVariants.{Before}
 use Rattle.mas_complex.specs.Crash.{setting, CopyAt, copy_of}
 use Rattle.ckpt_pages.specs.Sound.{AreSound}
 use Rattle.queue_tables.specs.Telling.{Tell}
 use Rattle.queue_tables.proofs.OrderLemmas.{sound_orders}
 use Rattle.mas_complex.specs.Meaning.{StandFor}
-use Rattle.warm_start.specs.Starting.{IsSeen, IsFound, IsUnfit}
+use Rattle.warm_start.specs.declared.choosing.Start.{Start}
+use Rattle.warm_start.specs.Choosing.{are_beside, goes}
+use Rattle.warm_start.specs.Starting.{Mark, mark_of, HasGone, IsSeen, IsFound, IsUnfit, IsOneCalled}
 use Rattle.warm_start.specs.Usable.{HaveSize}
 
 -- the pages stand for a queue that their tables tell, which have no fault
@@ -37,33 +39,66 @@ pub rested_copy : (reads : List ℕ → Option (List ℕ)) (base : Queue) (now :
     → (alive ≡ true → rests pages disk) → (alive ≡ false → now < top → disk.lost ≡ true) → CopyAt (setting reads base now) pages None (copy_of rests holds alive Before) now disk
 rested_copy reads base now rests holds alive disk pages rested gone = record { at = rested; gone = gone }
 
-seen_later : (reads : List ℕ → Option (List ℕ)) (dev : Dev) (old mid new : View) → Goes mid new → (seen : Option (List ℕ)) → IsSeen reads dev old mid seen → IsSeen reads dev old new seen
-seen_later reads dev old mid new goes None seen = ⊎_elim (λ r. inl (omega (arith, r, goes.faults (DiskPart dev)))) inr seen
-seen_later reads dev old mid new goes (Some bytes) seen = seen
+-- what was seen still was, where a copy that had gone has gone
+seen_later : (reads : List ℕ → Option (List ℕ)) (dev : Dev) (old mid new : View) (mark mark' : Mark) → (HasGone dev old mid mark → HasGone dev old new mark') → (seen : Option (List ℕ)) → IsSeen reads dev old mid mark seen → IsSeen reads dev old new mark' seen
+seen_later reads dev old mid new mark mark' gone None seen = ⊎_elim (λ x. inl (gone x)) inr seen
+seen_later reads dev old mid new mark mark' gone (Some bytes) seen = seen
 
 -- what was found still is
-pub found_later : (reads : List ℕ → Option (List ℕ)) (old mid new : View) (found : List ℕ) → Goes mid new → IsFound reads old mid found → IsFound reads old new found
-found_later reads old mid new found goes x = record {
+pub found_later : (reads : List ℕ → Option (List ℕ)) (old mid new : View) (mark mark' : Mark) (found : List ℕ) → (HasGone Ckpt1 old mid mark → HasGone Ckpt1 old new mark') → (HasGone Ckpt2 old mid mark → HasGone Ckpt2 old new mark')
+    → IsFound reads old mid mark found → IsFound reads old new mark' found
+found_later reads old mid new mark mark' found gone1 gone2 x = record {
   one = x.one;
   two = x.two;
-  seen1 = seen_later reads Ckpt1 old mid new goes x.one x.seen1;
-  seen2 = seen_later reads Ckpt2 old mid new goes x.two x.seen2;
+  seen1 = seen_later reads Ckpt1 old mid new mark mark' gone1 x.one x.seen1;
+  seen2 = seen_later reads Ckpt2 old mid new mark mark' gone2 x.two x.seen2;
   usable = x.usable;
   best = x.best;
 }
 
 -- what may not stay still may not
-pub unfit_later : (reads : List ℕ → Option (List ℕ)) (dev : Dev) (old mid new : View) (found : List Page) → Goes mid new → IsUnfit reads dev old mid found → IsUnfit reads dev old new found
-unfit_later reads dev old mid new found goes x = record { seen = x.seen; is = seen_later reads dev old mid new goes x.seen x.is; room = x.room; unfit = x.unfit }
+pub unfit_later : (reads : List ℕ → Option (List ℕ)) (dev : Dev) (old mid new : View) (mark mark' : Mark) (room : ℕ) (found : List Page) → (HasGone dev old mid mark → HasGone dev old new mark') → IsUnfit reads dev old mid mark room found → IsUnfit reads dev old new mark' room found
+unfit_later reads dev old mid new mark mark' room found gone x = record { seen = x.seen; is = seen_later reads dev old mid new mark mark' gone x.seen x.is; unfit = x.unfit }
 
-pub kept_later : (reads : List ℕ → Option (List ℕ)) (dev : Dev) (old mid new : View) (found : List Page) (times : ℕ) → Goes mid new → (times ≡ old.loses dev) ⊎ IsUnfit reads dev old mid found → (times ≡ old.loses dev) ⊎ IsUnfit reads dev old new found
-kept_later reads dev old mid new found times goes kept = ⊎_elim inl (λ x. inr (unfit_later reads dev old mid new found goes x)) kept
+-- a copy had gone when a start ended, and so it had at any later time
+pub gone_later : (dev : Dev) (old mid new : View) (mark : Mark) → mark.at ≤ mid.now → Goes mid new → HasGone dev old mid mark → HasGone dev old new mark
+gone_later dev old mid new mark before goes x = record {
+  failed = omega (arith, x.failed, goes.faults (DiskPart dev));
+  is_lost = goes.lost (DiskPart dev) x.is_lost;
+  uncalled = x.uncalled;
+  gone = λ lt. ap (λ (w : World). (w.disk dev).lost) (goes.past mark.at before) ∙ x.gone lt;
+}
+
+-- and at the end of a call in which no call lost it
+pub gone_on_to : (dev : Dev) (old mid new : View) → Goes mid new → new.loses dev ≡ mid.loses dev → (new.now < top → (disk_now new dev).lost ≡ true) → HasGone dev old mid (mark_of mid) → HasGone dev old new (mark_of new)
+gone_on_to dev old mid new goes same gone x = record {
+  failed = omega (arith, x.failed, goes.faults (DiskPart dev));
+  is_lost = goes.lost (DiskPart dev) x.is_lost;
+  uncalled = same ∙ x.uncalled;
+  gone = gone;
+}
+
+-- a copy that counted as lost isn't lost by a call in a start
+pub gone_brought : (dev : Dev) (old mid new : View) (a a' : Bool) → Goes mid new → (a ≡ true → mid.lost (DiskPart dev) ≡ false) → (a' ≡ true → new.lost (DiskPart dev) ≡ false) → (a ≡ false → new.loses dev ≡ mid.loses dev) → IsGone dev true a' new
+    → HasGone dev old mid (mark_of mid) → HasGone dev old new (mark_of new)
+gone_brought dev old mid new a a' goes there there' same gone x = gone_on_to dev old mid new goes (same (dead a there x.is_lost)) (gone refl (dead a' there' (goes.lost (DiskPart dev) x.is_lost))) x where
+  dead : {l : Bool} (b : Bool) → (b ≡ true → l ≡ false) → l ≡ true → b ≡ false
+  dead true f e = let g = f refl in absurd (cc)
+  dead false f e = refl
 
 -- a copy that doesn't go isn't lost by a call, and one that goes may not stay
-pub kept : (reads : List ℕ → Option (List ℕ)) (dev : Dev) (old mid new : View) (found : List Page) (to_go : Bool) → Goes mid new → mid.loses dev ≡ old.loses dev → (to_go ≡ false → new.loses dev ≡ mid.loses dev)
-    → (to_go ≡ true → IsUnfit reads dev old mid found) → (new.loses dev ≡ old.loses dev) ⊎ IsUnfit reads dev old new found
-kept reads dev old mid new found true goes looked stays unfit = inr (unfit_later reads dev old mid new found goes (unfit refl))
-kept reads dev old mid new found false goes looked stays unfit = inl (stays refl ∙ looked)
+pub kept : {C : Type 0} (reads : List ℕ → Option (List ℕ)) (room : C → ℕ) (copy : C) (dev : Dev) (old mid new : View) (found : List Page) (to_go : Bool) → (HasGone dev old mid (mark_of mid) → HasGone dev old new (mark_of new)) → mid.loses dev ≡ old.loses dev → (to_go ≡ false → new.loses dev ≡ mid.loses dev)
+    → (to_go ≡ true → IsUnfit reads dev old mid (mark_of mid) (room copy) found) → (new.loses dev ≡ old.loses dev) ⊎ ((c : C) × IsUnfit reads dev old new (mark_of new) (room c) found)
+kept reads room copy dev old mid new found true gone looked stays unfit = inr (copy, unfit_later reads dev old mid new (mark_of mid) (mark_of new) (room copy) found gone (unfit refl))
+kept reads room copy dev old mid new found false gone looked stays unfit = inl (stays refl ∙ looked)
+
+-- one of the copies stays, and it isn't lost by a call
+pub one_called : (old mid new : View) (start : Start) → ((d : Dev) → mid.loses d ≡ old.loses d) → (goes Ckpt1 start ≡ false → new.loses Ckpt1 ≡ mid.loses Ckpt1) → (goes Ckpt2 start ≡ false → new.loses Ckpt2 ≡ mid.loses Ckpt2) → IsOneCalled old new
+one_called old mid new start looked kept1 kept2 = by_dev start.dev refl where
+  by_dev : (d : Dev) → start.dev ≡ d → IsOneCalled old new
+  by_dev Ckpt1 e = inl (kept1 (ap (λ (d : Dev). are_beside Ckpt1 d && not start.stays) e) ∙ looked Ckpt1)
+  by_dev Ckpt2 e = inr (kept2 (ap (λ (d : Dev). are_beside Ckpt2 d && not start.stays) e) ∙ looked Ckpt2)
+  by_dev (Spool n) e = inl (kept1 (ap (λ (d : Dev). are_beside Ckpt1 d && not start.stays) e) ∙ looked Ckpt1)
 
 -- both are lost where the operator's call isn't done
 -- what holds where both copies were lost, since nobody is stopped

@@ -26,7 +26,7 @@ use Rattle.warm_start.specs.Usable.{AreOf, HaveSize, AreUsable}
 use Rattle.warm_start.specs.Choosing.{IsFew, HasFew, is_lower, started, neither, chosen}
 use Rattle.warm_start.specs.Judging.{Has}
 use Rattle.warm_start.specs.Inspecting.{HasState, FindsNone}
-use Rattle.warm_start.specs.Starting.{IsFound, Fitting, Chosen, IsCauseOf, IsSmall, IsSmallAt, IsSmallVolumeAt, IsState}
+use Rattle.warm_start.specs.Starting.{IsFound, mark_of, Fitting, Chosen, IsCauseOf, IsSmall, IsSmallAt, IsSmallVolumeAt, IsState}
 use Rattle.warm_start.proofs.Seeing.{Judges, Seeing, state_of, same_pages}
 
 some_is : (x y : List ℕ) → Some x ≡ Some y → x ≡ y
@@ -144,7 +144,7 @@ module _ {C : Type 0} (count room : C → ℕ) (room_most : ℕ) (ready : C → 
           };
           fits1 = λ stays alive. beside1 two.pages one.pages j1.0 (not_false (fits two.pages one.pages (room first)) stays);
           fits2 = λ stays alive. own2 two.pages j2.0;
-          unfit1 = λ told to_go. let x = s1 told in record { seen = x.seen; is = x.is; room = room first; unfit = λ own e sized usable. unfit_of two.pages one.pages own (room first) x.seen x.as_judged j1.0.sized to_go e sized };
+          unfit1 = λ told to_go. let x = s1 told in record { seen = x.seen; is = x.is; unfit = λ own e sized usable. unfit_of two.pages one.pages own (room first) x.seen x.as_judged j1.0.sized to_go e sized };
           unfit2 = λ told to_go. absurd (cc);
           one = inr (refl, j2.0);
         }
@@ -163,7 +163,7 @@ module _ {C : Type 0} (count room : C → ℕ) (room_most : ℕ) (ready : C → 
           fits1 = λ stays alive. own1 one.pages j1.0;
           fits2 = λ stays alive. beside2 one.pages two.pages j2.0 (not_false (fits one.pages two.pages (room second)) stays);
           unfit1 = λ told to_go. absurd (cc);
-          unfit2 = λ told to_go. let y = s2 told in record { seen = y.seen; is = y.is; room = room second; unfit = λ own e sized usable. unfit_of one.pages two.pages own (room second) y.seen y.as_judged j2.0.sized to_go e sized };
+          unfit2 = λ told to_go. let y = s2 told in record { seen = y.seen; is = y.is; unfit = λ own e sized usable. unfit_of one.pages two.pages own (room second) y.seen y.as_judged j2.0.sized to_go e sized };
           one = inl (refl, j1.0);
         }
 
@@ -188,7 +188,7 @@ module _ {C : Type 0} (count room : C → ℕ) (room_most : ℕ) (ready : C → 
       fits1 = λ stays alive. own1 one.pages j1.0;
       fits2 = λ stays alive. absurd (cc);
       unfit1 = λ told to_go. absurd (cc);
-      unfit2 = λ told to_go. let y = s2 told in record { seen = y.seen; is = y.is; room = 0; unfit = λ own e sized usable. absurd (y.as_judged (bytes_of own) e (record { pages = own; sized = sized; joined = refl; usable = usable })) };
+      unfit2 = λ told to_go. let y = s2 told in record { seen = y.seen; is = y.is; unfit = λ own e sized usable. absurd (y.as_judged (bytes_of own) e (record { pages = own; sized = sized; joined = refl; usable = usable })) };
       one = inl (refl, j1.0);
     }
     chosen_found (Bad why) (Good two) j1 j2 s1 s2 = record {
@@ -204,7 +204,7 @@ module _ {C : Type 0} (count room : C → ℕ) (room_most : ℕ) (ready : C → 
       };
       fits1 = λ stays alive. absurd (cc);
       fits2 = λ stays alive. own2 two.pages j2.0;
-      unfit1 = λ told to_go. let x = s1 told in record { seen = x.seen; is = x.is; room = 0; unfit = λ own e sized usable. absurd (x.as_judged (bytes_of own) e (record { pages = own; sized = sized; joined = refl; usable = usable })) };
+      unfit1 = λ told to_go. let x = s1 told in record { seen = x.seen; is = x.is; unfit = λ own e sized usable. absurd (x.as_judged (bytes_of own) e (record { pages = own; sized = sized; joined = refl; usable = usable })) };
       unfit2 = λ told to_go. absurd (cc);
       one = inr (refl, j2.0);
     }
@@ -257,7 +257,7 @@ module _ {C : Type 0} (count room : C → ℕ) (room_most : ℕ) (ready : C → 
       by_states state.Unsound state.Unsound s t = (has_state Ckpt1 alive1 state.Unsound s, has_state Ckpt2 alive2 state.Unsound t, tt)
 
 -- a device that is too small for the pages found, or for the groups of their configuration
-pub small_cause : (reads : List ℕ → Option (List ℕ)) (tells : Type 0) (needs : ℕ → ℕ) (old v : View) (alive1 alive2 : Bool) (pages : List Page) (t : Tables) (needed : ℕ) → needed ≡ needs (length pages) → AreOf pages t → HaveSize pages → (tells → IsFound reads old v (bytes_of pages))
+pub small_cause : (reads : List ℕ → Option (List ℕ)) (tells : Type 0) (needs : ℕ → ℕ) (old v : View) (alive1 alive2 : Bool) (pages : List Page) (t : Tables) (needed : ℕ) → needed ≡ needs (length pages) → AreOf pages t → HaveSize pages → (tells → IsFound reads old v (mark_of v) (bytes_of pages))
     → (why : StartNo) → IsSmallAt needed t.config v why → IsCauseOf reads tells needs old v alive1 alive2 why
 small_cause reads tells needs old v alive1 alive2 pages t needed is are sized found (no_start.DeviceSize dev size) small = (pages, t, are, sized, found, subst (λ (n : ℕ). IsSmall n t.config dev size v) is small)
 small_cause reads tells needs old v alive1 alive2 pages t needed is are sized found (no_start.NotFormatted first second) small = absurd small

@@ -11,6 +11,7 @@ use Rattle.ckpt_pages.specs.QueueOf.{queue_of}
 use Rattle.duplex_pair.specs.declared.errors.Look.{Look}
 use Rattle.duplex_pair.specs.declared.errors.Look.TheVariants.{Lost, Unread, Pages}
 use Rattle.duplex_pair.specs.Both.{PairActed}
+use Rattle.duplex_pair.specs.Halves.{IsGone}
 use Rattle.duplex_pair.proofs.Chosen.{part12, part21}
 use Rattle.warm_start.specs.Bare.{bare_deck, bare_print}
 use Rattle.warm_start.proofs.Bared.{bare_told}
@@ -19,7 +20,7 @@ use Rattle.warm_start.specs.declared.choosing.StartNo.{StartNo}
 use Rattle.warm_start.specs.declared.choosing.StartNo.TheVariants as no_start
 use Rattle.spool_volumes.specs.Volumes.{AreRoomy}
 use Rattle.warm_start.specs.Usable.{HaveSize}
-use Rattle.warm_start.specs.Starting.{IsSeen, Chosen, IsSmall, IsSmallAt, OnlyLooked}
+use Rattle.warm_start.specs.Starting.{IsSeen, HasGone, mark_of, Chosen, IsSmall, IsSmallAt, OnlyLooked}
 use Rattle.warm_start.specs.Inspecting.{HasFailed, Looks, SomeThere, HasFound, FindsNone, HasLooked, SeesNone, greatest}
 use Rattle.warm_start.proofs.Seeing.{Looked, shown}
 
@@ -48,6 +49,13 @@ looks_of tells a b old v acted during = record {
   else_lost = λ p one two. acted.else_lost p (inl one) (inl two);
 }
 
+-- a copy that looks lost
+pub gone_first : (a b : Bool) (old v : View) → PairActed 0 true a true b false old v → IsGone Ckpt1 true a v → a ≡ false → HasGone Ckpt1 old v (mark_of v)
+gone_first a b old v acted gone dead = record { failed = acted.failed1 refl dead; is_lost = acted.is_lost1 refl dead; uncalled = acted.loses Ckpt1; gone = gone refl dead }
+
+pub gone_second : (a b : Bool) (old v : View) → PairActed 0 true a true b false old v → IsGone Ckpt2 true b v → b ≡ false → HasGone Ckpt2 old v (mark_of v)
+gone_second a b old v acted gone dead = record { failed = acted.failed2 refl dead; is_lost = acted.is_lost2 refl dead; uncalled = acted.loses Ckpt2; gone = gone refl dead }
+
 -- THE PAGES OF GREATEST LEVEL
 
 some_if : (b : Bool) (one two : List Page) → (if b then Some (bytes_of two) else Some (bytes_of one)) ≡ Some (bytes_of (if b then two else one))
@@ -66,7 +74,7 @@ module _ {C : Type 0} (count room : C → ℕ) (room_most : ℕ) (ready : C → 
   abbrev L2 : Look → Type 0
   L2 look = Looked count room room_most ready reads rests tells Ckpt2 v second alive2 found2 look
 
-  pub pages_looked : (one two : Look) → L1 one → L2 two → (tells → IsSeen reads Ckpt1 old v (shown one)) → (tells → IsSeen reads Ckpt2 old v (shown two)) → IfOk (greatest one two) (HasLooked reads tells old v)
+  pub pages_looked : (one two : Look) → L1 one → L2 two → (tells → IsSeen reads Ckpt1 old v (mark_of v) (shown one)) → (tells → IsSeen reads Ckpt2 old v (mark_of v) (shown two)) → IfOk (greatest one two) (HasLooked reads tells old v)
   pages_looked (Pages one) (Pages two) l1 l2 s1 s2 =
       let b = nat_lt (level (bytes_of one)) (level (bytes_of two)) in
       record { sized = sized_if b one two l1.sized l2.sized; found = λ told. record { one = Some (bytes_of one); two = Some (bytes_of two); seen1 = s1 told; seen2 = s2 told; is = some_if b one two }; there = inl l1.was.there }

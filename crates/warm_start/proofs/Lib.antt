@@ -6,6 +6,7 @@ pub mod Starts
 pub mod Inspections
 pub mod Again
 pub mod Begun
+mod Brought
 pub mod Prepared
 pub mod Spooling
 pub mod SoundTold

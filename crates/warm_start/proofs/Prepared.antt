@@ -1,6 +1,6 @@
 -- A start that reads the spool volumes once it has looked at the copies.
 use Rattle.std.proofs.lemmas.List.Elements.{All-weaker}
-use Rattle.std.proofs.Common.{◌≡◌, ◌≢◌, inl, inr, ⊎_elim, ℕ, ◌<◌, ◌≤◌, Bool, true, false, List, [], Option, refl, sym, ◌∙◌, ap, subst, arith}
+use Rattle.std.proofs.Common.{◌≡◌, ◌≢◌, inl, inr, ⊎_elim, ℕ, ◌<◌, ◌≤◌, Bool, true, false, List, Option, refl, sym, ◌∙◌, ap, subst, arith}
 use Rattle.mas_types.specs.declared.ids.Dev.TheVariants.{Ckpt1, Ckpt2, Spool}
 use Rattle.mas_types.specs.declared.jobs.Job.{Job}
 use Rattle.mas_types.specs.declared.jobs.Output.{Output as QueueOutput}
@@ -9,7 +9,7 @@ use Rattle.mas_types.specs.declared.queues.Thing.TheVariants.{Deck, Output}
 use Rattle.spool_disk.specs.declared.plant.Part.TheVariants.{Disk as DiskPart}
 use Rattle.spool_disk.specs.View.{View, World, Disk, disk_at, disk_now}
 use Rattle.ckpt_copy.specs.Changes.{NoMore}
-use Rattle.ckpt_copy.specs.Moments.{either_way, goes_on}
+use Rattle.ckpt_copy.specs.Moments.{either_way, goes_on, sides_on}
 use Rattle.ckpt_copy.specs.Pages.{bytes_of}
 use Rattle.track_groups.specs.Places.{groups_of}
 use Rattle.spool_volumes.specs.Volumes.{volumes_now, bytes_unless, IsSteady}
@@ -22,9 +22,9 @@ use Rattle.mas_complex.proofs.Spooled.{texts_fewer, texts_same}
 use Rattle.warm_start.specs.declared.choosing.Start.{Start}
 use Rattle.warm_start.specs.declared.choosing.StartNo.{StartNo}
 use Rattle.warm_start.specs.declared.choosing.StartNo.TheVariants.{BothLost}
-use Rattle.warm_start.specs.Starting.{Chosen, IsCauseOf, IsHeld, OnlyLooked, OnlyLookedAtAll, HeldBack, LosesBoth, WhileStarting}
+use Rattle.warm_start.specs.Starting.{Chosen, HasGone, IsCauseOf, IsHeld, OnlyLooked, OnlyLookedAtAll, LosesBoth, WhileStarting, mark_of}
 use Rattle.warm_start.specs.Spooled.{IsGiven, AreGiven}
-use Rattle.warm_start.proofs.Begun.{found_later, unfit_later}
+use Rattle.warm_start.proofs.Begun.{found_later, gone_on_to, unfit_later}
 use Rattle.warm_start.proofs.Spooling.{given_same}
 use Rattle.warm_start.proofs.Seeing.{has_later}
 use Rattle.warm_start.proofs.Starts.{each_failed, fits_later, held_since, less_held, less_more, no_volume1, no_volume2, starts_looked}
@@ -57,14 +57,18 @@ module _ (tells : Type 0) (mid new : View) (looks : LooksAt tells 0 mid new) whe
     chosen_read old one two a b f g start stays1 stays2 x =
         let lost1 = looks.else_lost (DiskPart Ckpt1) no_volume1 in
         let lost2 = looks.else_lost (DiskPart Ckpt2) no_volume2 in
+        let gone1 : tells → HasGone Ckpt1 old mid (mark_of mid) → HasGone Ckpt1 old new (mark_of new) =
+        (λ told x. gone_on_to Ckpt1 old mid new looks.goes (looks.loses Ckpt1) (λ lt. ap (λ (d : Disk). d.lost) (same1 told) ∙ x.gone (omega (arith, looks.goes.later, lt))) x) in
+        let gone2 : tells → HasGone Ckpt2 old mid (mark_of mid) → HasGone Ckpt2 old new (mark_of new) =
+        (λ told x. gone_on_to Ckpt2 old mid new looks.goes (looks.loses Ckpt2) (λ lt. ap (λ (d : Disk). d.lost) (same2 told) ∙ x.gone (omega (arith, looks.goes.later, lt))) x) in
         record {
           usable = x.usable;
           sized = x.sized;
-          found = λ told. found_later reads old mid new (bytes_of start.found.pages) looks.goes (x.found told);
+          found = λ told. found_later reads old mid new (mark_of mid) (mark_of new) (bytes_of start.found.pages) (gone1 told) (gone2 told) (x.found told);
           fits1 = λ stays alive. fits_later count room room_most ready reads rests tells Ckpt1 mid new one one a a f f start.found.pages refl refl refl lost1 stays1 same1 (x.fits1 stays alive);
           fits2 = λ stays alive. fits_later count room room_most ready reads rests tells Ckpt2 mid new two two b b g g start.found.pages refl refl refl lost2 stays2 same2 (x.fits2 stays alive);
-          unfit1 = λ told to_go. unfit_later reads Ckpt1 old mid new start.found.pages looks.goes (x.unfit1 told to_go);
-          unfit2 = λ told to_go. unfit_later reads Ckpt2 old mid new start.found.pages looks.goes (x.unfit2 told to_go);
+          unfit1 = λ told to_go. unfit_later reads Ckpt1 old mid new (mark_of mid) (mark_of new) (room one) start.found.pages (gone1 told) (x.unfit1 told to_go);
+          unfit2 = λ told to_go. unfit_later reads Ckpt2 old mid new (mark_of mid) (mark_of new) (room two) start.found.pages (gone2 told) (x.unfit2 told to_go);
           one = ⊎_elim
               (λ h. inl (h.0, has_later count room room_most ready reads rests tells Ckpt1 mid new one a f lost1 stays1 same1 start.found.pages h.1))
               (λ h. inr (h.0, has_later count room room_most ready reads rests tells Ckpt2 mid new two b g lost2 stays2 same2 start.found.pages h.1))
@@ -93,6 +97,7 @@ looked_all old mid new x y = record {
       (λ (h : t ≤ mid.now). ap (λ (w : World). w.console) (y.goes.past t h) ∙ x.console t le h)
       (λ (h : mid.now < t). y.console t (omega arith) ge ∙ x.console mid.now x.goes.later (omega arith))
       (either_way t mid.now);
+  sides = sides_on old mid new x.goes y.goes x.sides y.sides;
 } where
   same_more : (n t : ℕ) → disk_at mid t (Spool n) ≡ disk_now old (Spool n) → NoMore (disk_now old (Spool n)) (disk_at mid t (Spool n))
   same_more n t same = subst (NoMore (disk_now old (Spool n))) (sym same) (no_more_start (disk_now old (Spool n)))
@@ -105,30 +110,15 @@ looked_only old new x = record {
   second = x.second;
   volumes = λ t le ge n. subst (NoMore (disk_now old (Spool n))) (sym (x.others t le ge (Spool n) (no_volume n) (no_volume_too n))) (no_more_start (disk_now old (Spool n)));
   console = x.console;
+  sides = x.sides;
 }
-
--- so an image of a copy is one of before
-pub held_looked : (reads : List ℕ → Option (List ℕ)) (old new : View) → OnlyLookedAtAll old new → HeldBack reads old new
-held_looked reads old new x =
-    let d1 = disk_now old Ckpt1 in
-    let d2 = disk_now old Ckpt2 in
-    record {
-      found = [];
-      held = record {
-        goes = x.goes;
-        first = λ t le ge. less_held reads d1 (disk_at new t Ckpt1) [] (less_more d1 (disk_at new t Ckpt1) (x.first t le ge));
-        second = λ t le ge. less_held reads d2 (disk_at new t Ckpt2) [] (less_more d2 (disk_at new t Ckpt2) (x.second t le ge));
-        volumes = x.volumes;
-        console = x.console;
-      };
-    }
 
 -- both copies are lost where looks at them find it so
 pub starts_lost : (reads : List ℕ → Option (List ℕ)) (tells : Type 0) (needs : ℕ → ℕ) (old v : View) (a b : Bool) (why : StartNo) → PairActed 0 true a true b false old v → IsCauseOf reads tells needs old v a b why → why ≡ BothLost → LosesBoth old v
 starts_lost reads tells needs old v a b why acted cause is =
     let both : (a ≡ false) × (b ≡ false) = subst (λ (w : StartNo). IsCauseOf reads tells needs old v a b w) is cause in
     let lost : PairActed 0 true false true false false old v = subst (λ (x : Bool). PairActed 0 true x true false false old v) both.0 (subst (λ (y : Bool). PairActed 0 true a true y false old v) both.1 acted) in
-    record { starts = starts_looked old v false false lost (λ e. absurd (cc)) (λ e. absurd (cc)); failed = each_failed old v (acted.failed1 refl both.0) (acted.failed2 refl both.1) }
+    record { starts = starts_looked old v false false lost (λ e. absurd (cc)) (λ e. absurd (cc)); failed = each_failed old v (acted.failed1 refl both.0) (acted.failed2 refl both.1); one = inl (acted.loses Ckpt1) }
 
 -- images of the copies, from the looks on
 pub held_all : (reads : List ℕ → Option (List ℕ)) (found : List ℕ) (old mid new : View) → OnlyLookedAtAll old mid → BothMeanwhile (IsHeld reads (disk_now mid Ckpt1) found) (IsHeld reads (disk_now mid Ckpt2) found) mid new
@@ -156,10 +146,8 @@ held_all reads found old mid new x y =
           (λ (h : t ≤ mid.now). ap (λ (w : World). w.console) (y.goes.past t h) ∙ x.console t le h)
           (λ (h : mid.now < t). y.console t (omega arith) ge ∙ x.console mid.now x.goes.later (omega arith))
           (either_way t mid.now);
+      sides = sides_on old mid new x.goes y.goes x.sides y.sides;
     }
-
-pub held_back : (reads : List ℕ → Option (List ℕ)) (found : List ℕ) (old mid new : View) → OnlyLookedAtAll old mid → BothMeanwhile (IsHeld reads (disk_now mid Ckpt1) found) (IsHeld reads (disk_now mid Ckpt2) found) mid new → HeldBack reads old new
-held_back reads found old mid new looked held = record { found = found; held = held_all reads found old mid new looked held }
 
 -- texts stay while the copies are written
 pub texts_left : (per : ℕ) (Q : Queue) (P R : Disk → Type 0) (mid new : View) → BothMeanwhile P R mid new → HasTexts (lost_now mid) (spools_at mid mid.now) per Q → HasTexts (lost_now new) (spools_at new new.now) per Q

@@ -9,7 +9,7 @@ use Rattle.mas_types.specs.declared.answers.CopyState.TheVariants as state
 use Rattle.mas_types.specs.Limits.{page_bytes}
 use Rattle.spool_disk.specs.declared.plant.Part.TheVariants.{Disk as DiskPart}
 use Rattle.spool_disk.specs.View.{View, Disk, disk_now}
-use Rattle.spool_disk.specs.Acts.{Goes, Rose}
+use Rattle.spool_disk.specs.Acts.{Goes}
 use Rattle.ckpt_copy.specs.Pages.{bytes_of}
 use Rattle.ckpt_copy.specs.Reading.{IsNone}
 use Rattle.duplex_pair.specs.declared.errors.Look.{Look}
@@ -23,7 +23,7 @@ use Rattle.warm_start.specs.declared.choosing.Judged.TheVariants.{Good, Bad}
 use Rattle.warm_start.specs.Usable.{AreOf, IsUsable, HaveSize, AreUsable}
 use Rattle.warm_start.specs.Choosing.{IsJudged}
 use Rattle.warm_start.specs.Judging.{HasSizes, Has, WasLooked, WasJudged}
-use Rattle.warm_start.specs.Starting.{IsSeen, IsState}
+use Rattle.warm_start.specs.Starting.{HasGone, IsSeen, IsState, mark_of}
 
 -- the operator is never stopped
 pub acted_by_operator : (dev : Dev) (was is stopped : Bool) (old new : View) → Acted 0 dev was is stopped old new → was ≡ true → Acted 0 dev true is false old new
@@ -118,7 +118,7 @@ module _ {C : Type 0} (count room : C → ℕ) (room_most : ℕ) (ready : C → 
 
   pub record Seeing (dev : Dev) (old new : View) (j : Judged) : Type 0 where
     pub seen : Option (List ℕ)
-    pub is : IsSeen reads dev old new seen
+    pub is : IsSeen reads dev old new (mark_of new) seen
     pub as_judged : SeenAs j seen
 
   some_is : (x y : List ℕ) → Some x ≡ Some y → x ≡ y
@@ -129,21 +129,21 @@ module _ {C : Type 0} (count room : C → ℕ) (room_most : ℕ) (ready : C → 
   false_later false b f e = refl
 
   module _ (dev : Dev) (old v : View) (one : C) (alive : Bool) (found : ℕ) (rests_now : (pages : List ℕ) (d : Disk) → rests one pages d → reads d.bytes ≡ Some pages)
-      (rose : alive ≡ false → Rose (old.faults (DiskPart dev)) (v.faults (DiskPart dev))) (goes : Goes old v) (told : tells) (bytes : (disk_now v dev).bytes ≡ (disk_now old dev).bytes) where
-    has_read : (pages : List Page) → Has count room room_most ready rests tells dev v one alive found pages → IsSeen reads dev old v (Some (bytes_of pages))
+      (gone : alive ≡ false → HasGone dev old v (mark_of v)) (goes : Goes old v) (told : tells) (bytes : (disk_now v dev).bytes ≡ (disk_now old dev).bytes) where
+    has_read : (pages : List Page) → Has count room room_most ready rests tells dev v one alive found pages → IsSeen reads dev old v (mark_of v) (Some (bytes_of pages))
     has_read pages has = (
       false_later (old.lost (DiskPart dev)) (v.lost (DiskPart dev)) (goes.lost (DiskPart dev)) has.was.there,
       ap reads (sym bytes) ∙ rests_now (bytes_of pages) (disk_now v dev) (has.was.found told),
     )
 
-    pub is_seen : (look : Look) → Looked dev v one alive found look → IsSeen reads dev old v (shown look)
-    is_seen Lost is = inl (rose is.is_dead)
+    pub is_seen : (look : Look) → Looked dev v one alive found look → IsSeen reads dev old v (mark_of v) (shown look)
+    is_seen Lost is = inl (gone is.is_dead)
     is_seen Unread is = inr (ap reads (sym bytes) ∙ (is.none told).now)
     is_seen (Pages pages) is = has_read pages is
 
     pub seeing : (j : Judged) → Judges dev v one alive found j → Seeing dev old v j
     seeing (Good good) is = record { seen = Some (bytes_of good.pages); is = has_read good.pages is.0; as_judged = refl }
-    seeing (Bad state.Lost) is = record { seen = None; is = inl (rose is.is_dead); as_judged = λ b e usable. absurd (cc) }
+    seeing (Bad state.Lost) is = record { seen = None; is = inl (gone is.is_dead); as_judged = λ b e usable. absurd (cc) }
     seeing (Bad state.Unread) is = record { seen = None; is = inr (ap reads (sym bytes) ∙ (is.none told).now); as_judged = λ b e usable. absurd (cc) }
     seeing (Bad state.Unsound) is = record {
       seen = Some (bytes_of is.pages);

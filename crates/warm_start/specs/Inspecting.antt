@@ -23,7 +23,7 @@ use Rattle.warm_start.specs.declared.choosing.StartNo.{StartNo}
 use Rattle.warm_start.specs.declared.choosing.StartNo.TheVariants as no_start
 use Rattle.spool_volumes.specs.Volumes.{AreRoomy}
 use Rattle.warm_start.specs.Usable.{AreOf, AreUsable, HaveSize}
-use Rattle.warm_start.specs.Starting.{IsSeen, IsFound, IsSmall, AreNotLost, OnlyLooked}
+use Rattle.warm_start.specs.Starting.{IsSeen, IsFound, mark_of, IsSmall, AreNotLost, OnlyLooked}
 
 -- WHAT A LOOK LEAVES
 
@@ -63,7 +63,7 @@ pub record HasFound (reads : List ℕ → Option (List ℕ)) (tells : Type 0) (n
   pub sized : HaveSize pages
   pub is : Q ≡ queue_of tables bare_deck bare_print
   pub tell : Tell tables Q
-  pub found : tells → IsFound reads old new (bytes_of pages)
+  pub found : tells → IsFound reads old new (mark_of new) (bytes_of pages)
   pub there : SomeThere new
   pub large1 : needs (length pages) ≤ new.size Ckpt1
   pub large2 : needs (length pages) ≤ new.size Ckpt2
@@ -75,7 +75,7 @@ pub record IsTooSmall (reads : List ℕ → Option (List ℕ)) (tells : Type 0) 
   pub tables : Tables
   pub usable : AreOf pages tables
   pub sized : HaveSize pages
-  pub found : tells → IsFound reads old new (bytes_of pages)
+  pub found : tells → IsFound reads old new (mark_of new) (bytes_of pages)
   pub there : SomeThere new
   pub small : IsSmall (needs (length pages)) tables.config dev size new
 
@@ -92,8 +92,8 @@ FindsNone reads tells needs old new no_start.NoMemory = Unit {0}
 pub record IsGreatest (reads : List ℕ → Option (List ℕ)) (old new : View) (found : List ℕ) : Type 0 where
   pub one : Option (List ℕ)
   pub two : Option (List ℕ)
-  pub seen1 : IsSeen reads Ckpt1 old new one
-  pub seen2 : IsSeen reads Ckpt2 old new two
+  pub seen1 : IsSeen reads Ckpt1 old new (mark_of new) one
+  pub seen2 : IsSeen reads Ckpt2 old new (mark_of new) two
   pub is : best one two ≡ Some found
 
 -- these pages, of a copy that isn't lost
@@ -137,5 +137,5 @@ NoneFailed old new = (Rose (old.faults (DiskPart Ckpt1)) (new.faults (DiskPart C
 -- copy failed.
 abbrev pub AreFoundAgain : Type 0
 AreFoundAgain = (reads : List ℕ → Option (List ℕ)) (old mid new : View) (pages later : List Page) (t u : Tables)
-    → OnlyLooked old mid → NoneFailed old mid → NoneFailed mid new → IsFound reads old mid (bytes_of pages) → IsFound reads mid new (bytes_of later)
+    → OnlyLooked old mid → NoneFailed old mid → NoneFailed mid new → IsFound reads old mid (mark_of mid) (bytes_of pages) → IsFound reads mid new (mark_of new) (bytes_of later)
     → HaveSize pages → HaveSize later → AreOf pages t → AreOf later u → (later ≡ pages) × (u ≡ t)

@@ -11,7 +11,7 @@ use Rattle.mas_types.specs.Limits.{page_bytes}
 use Rattle.mas_types.specs.Sound.{IsSound}
 use Rattle.spool_disk.specs.declared.plant.Part.TheVariants.{Disk as DiskPart}
 use Rattle.spool_disk.specs.View.{View, Disk, IsImage, LeavesOnly, Throughout, disk_at, disk_now}
-use Rattle.spool_disk.specs.Acts.{Goes, Rose, next}
+use Rattle.spool_disk.specs.Acts.{Goes, Rose, next, top}
 use Rattle.ckpt_copy.specs.Pages.{bytes_of, level}
 use Rattle.ckpt_pages.specs.declared.tables.Tables.{Tables}
 use Rattle.ckpt_pages.specs.Given.{levels_given}
@@ -20,6 +20,7 @@ use Rattle.duplex_pair.specs.Looks.{WasLost}
 use Rattle.spool_volumes.specs.Volumes.{IsSteady, AreRoomy}
 use Rattle.queue_tables.specs.Telling.{Tell}
 use Rattle.ckpt_copy.specs.Changes.{NoMore}
+use Rattle.ckpt_copy.specs.Meanwhile.{SameSides}
 use Rattle.duplex_pair.specs.Both.{BothMeanwhile}
 use Rattle.warm_start.specs.declared.choosing.Start.{Start}
 use Rattle.warm_start.specs.declared.choosing.StartNo.{StartNo}
@@ -33,10 +34,25 @@ use Rattle.warm_start.specs.Judging.{Has, IsUnread}
 
 -- THE RULE: which pages are found
 
--- what a start saw of a copy: what its bytes read as, or nothing where an act on it failed
-abbrev pub IsSeen : (List ℕ → Option (List ℕ)) → Dev → View → View → Option (List ℕ) → Type 0
-IsSeen reads dev old new None = Rose (old.faults (DiskPart dev)) (new.faults (DiskPart dev)) ⊎ (reads (disk_now old dev).bytes ≡ None)
-IsSeen reads dev old new (Some bytes) = (old.lost (DiskPart dev) ≡ false) × (reads (disk_now old dev).bytes ≡ Some bytes)
+-- the moment at which a start ended, and how often a call had lost each device then
+pub record Mark : Type 0 where
+  pub at : ℕ
+  pub loses : Dev → ℕ
+
+abbrev pub mark_of : View → Mark
+mark_of v = record { at = v.now; loses = v.loses }
+
+-- An act on the copy failed before a start ended, and no call of the start lost it: in the world it is lost then.
+pub record HasGone (dev : Dev) (old new : View) (mark : Mark) : Type 0 where
+  pub failed : Rose (old.faults (DiskPart dev)) (new.faults (DiskPart dev))
+  pub is_lost : new.lost (DiskPart dev) ≡ true
+  pub uncalled : mark.loses dev ≡ old.loses dev
+  pub gone : mark.at < top → (disk_at new mark.at dev).lost ≡ true
+
+-- what a start that ended so saw of a copy: what its bytes read as, or nothing where an act on it failed
+abbrev pub IsSeen : (List ℕ → Option (List ℕ)) → Dev → View → View → Mark → Option (List ℕ) → Type 0
+IsSeen reads dev old new mark None = HasGone dev old new mark ⊎ (reads (disk_now old dev).bytes ≡ None)
+IsSeen reads dev old new mark (Some bytes) = (old.lost (DiskPart dev) ≡ false) × (reads (disk_now old dev).bytes ≡ Some bytes)
 
 -- of two copies that read so, these pages are those that count: usable ones of greatest level, the first copy's on a tie
 abbrev pub IsBest : Option (List ℕ) → Option (List ℕ) → List ℕ → Type 0
@@ -44,12 +60,12 @@ IsBest one two found =
     ((one ≡ Some found) × ((bytes : List ℕ) → two ≡ Some bytes → AreUsable bytes → level bytes ≤ level found))
     ⊎ ((two ≡ Some found) × ((bytes : List ℕ) → one ≡ Some bytes → AreUsable bytes → level bytes < level found))
 
--- the pages that a start finds
-pub record IsFound (reads : List ℕ → Option (List ℕ)) (old new : View) (found : List ℕ) : Type 0 where
+-- the pages that a start which ended so finds
+pub record IsFound (reads : List ℕ → Option (List ℕ)) (old new : View) (mark : Mark) (found : List ℕ) : Type 0 where
   pub one : Option (List ℕ)
   pub two : Option (List ℕ)
-  pub seen1 : IsSeen reads Ckpt1 old new one
-  pub seen2 : IsSeen reads Ckpt2 old new two
+  pub seen1 : IsSeen reads Ckpt1 old new mark one
+  pub seen2 : IsSeen reads Ckpt2 old new mark two
   pub usable : AreUsable found
   pub best : IsBest one two found
 
@@ -64,12 +80,10 @@ pub record Fitting {C : Type 0} (count room : C → ℕ) (room_most : ℕ) (read
       ((level (bytes_of own) ≡ level (bytes_of pages)) × (bytes_of own ≡ bytes_of pages))
       ⊎ ((level (bytes_of pages) ≡ level (bytes_of own) + 1) × (1 ≤ room copy))
 
--- A copy that may not stay beside the pages found: an act on it failed, or it reads as none, or as pages that can't be used or
--- that don't fit with so much room.
-pub record IsUnfit (reads : List ℕ → Option (List ℕ)) (dev : Dev) (old new : View) (found : List Page) : Type 0 where
+-- A copy with so much room that may not stay beside the pages found: it reads as none, or as pages that can't be used or that don't fit.
+pub record IsUnfit (reads : List ℕ → Option (List ℕ)) (dev : Dev) (old new : View) (mark : Mark) (room : ℕ) (found : List Page) : Type 0 where
   pub seen : Option (List ℕ)
-  pub is : IsSeen reads dev old new seen
-  pub room : ℕ
+  pub is : IsSeen reads dev old new mark seen
   pub unfit : (own : List Page) → seen ≡ Some (bytes_of own) → HaveSize own → IsUsable own → fits found own room ≡ false
 
 -- What stands once a copy was chosen: its pages can be used and are those that count, and each copy that doesn't go has them or
@@ -78,11 +92,11 @@ pub record Chosen {C : Type 0} (count room : C → ℕ) (room_most : ℕ) (ready
     (old v : View) (first second : C) (alive1 alive2 : Bool) (found1 found2 : ℕ) (start : Start) : Type 0 where
   pub usable : AreOf start.found.pages start.found.tables
   pub sized : HaveSize start.found.pages
-  pub found : tells → IsFound reads old v (bytes_of start.found.pages)
+  pub found : tells → IsFound reads old v (mark_of v) (bytes_of start.found.pages)
   pub fits1 : goes Ckpt1 start ≡ false → alive1 ≡ true → Fitting count room room_most ready rests tells Ckpt1 v first alive1 found1 start.found.pages
   pub fits2 : goes Ckpt2 start ≡ false → alive2 ≡ true → Fitting count room room_most ready rests tells Ckpt2 v second alive2 found2 start.found.pages
-  pub unfit1 : tells → goes Ckpt1 start ≡ true → IsUnfit reads Ckpt1 old v start.found.pages
-  pub unfit2 : tells → goes Ckpt2 start ≡ true → IsUnfit reads Ckpt2 old v start.found.pages
+  pub unfit1 : tells → goes Ckpt1 start ≡ true → IsUnfit reads Ckpt1 old v (mark_of v) (room first) start.found.pages
+  pub unfit2 : tells → goes Ckpt2 start ≡ true → IsUnfit reads Ckpt2 old v (mark_of v) (room second) start.found.pages
   pub one :
       ((goes Ckpt1 start ≡ false) × Has count room room_most ready rests tells Ckpt1 v first alive1 found1 start.found.pages)
       ⊎ ((goes Ckpt2 start ≡ false) × Has count room room_most ready rests tells Ckpt2 v second alive2 found2 start.found.pages)
@@ -133,10 +147,15 @@ OneFailed old new = HasFailed Ckpt1 old new ⊎ HasFailed Ckpt2 old new
 abbrev pub NoneOrFailed : View → View → Type 0
 NoneOrFailed old new = ((old.lost (DiskPart Ckpt1) ≡ true) × (old.lost (DiskPart Ckpt2) ≡ true)) ⊎ OneFailed old new
 
--- a start in which both copies were lost, if they weren't before: an act failed on one of them then
+-- at most one of the copies was lost by a call
+abbrev pub IsOneCalled : View → View → Type 0
+IsOneCalled old new = (new.loses Ckpt1 ≡ old.loses Ckpt1) ⊎ (new.loses Ckpt2 ≡ old.loses Ckpt2)
+
+-- A start in which both copies were lost, if they weren't before: an act failed on one of them then. At most one was lost by a call.
 pub record LosesBoth (old new : View) : Type 0 where
   pub starts : Starts false false old new
   pub failed : NoneOrFailed old new
+  pub one : IsOneCalled old new
 
 -- during a start each image of a copy is one of before, or reads as the copy did or as the pages found
 abbrev pub IsHeld : (List ℕ → Option (List ℕ)) → Disk → List ℕ → Disk → Type 0
@@ -186,7 +205,7 @@ IsCauseOf reads tells needs old new alive1 alive2 (no_start.NotFormatted first s
     IsState reads tells Ckpt1 new alive1 first × IsState reads tells Ckpt2 new alive2 second × AreNotLost first second
 IsCauseOf reads tells needs old new alive1 alive2 no_start.BothLost = (alive1 ≡ false) × (alive2 ≡ false)
 IsCauseOf reads tells needs old new alive1 alive2 (no_start.DeviceSize dev size) =
-    (found : List Page) × (t : Tables) × AreOf found t × HaveSize found × (tells → IsFound reads old new (bytes_of found)) × IsSmall (needs (length found)) t.config dev size new
+    (found : List Page) × (t : Tables) × AreOf found t × HaveSize found × (tells → IsFound reads old new (mark_of new) (bytes_of found)) × IsSmall (needs (length found)) t.config dev size new
 IsCauseOf reads tells needs old new alive1 alive2 no_start.NoMemory = Unit {0}
 
 -- a look at the copies: no byte of them changed
@@ -194,29 +213,39 @@ abbrev pub OnlyLooked : View → View → Type 0
 OnlyLooked old new = BothMeanwhile (NoMore (disk_now old Ckpt1)) (NoMore (disk_now old Ckpt2)) old new
 
 -- At each moment of a start P holds of CKPT1 and Q of CKPT2, no byte of a spool volume has changed and nothing more of it is
--- unsynced, and the console is as it was.
+-- unsynced, and the console, the printers and the wires are as they were.
 pub record WhileStarting (P Q : Disk → Type 0) (old new : View) : Type 0 where
   pub goes : Goes old new
   pub first : Throughout old.now new.now (λ t. P (disk_at new t Ckpt1))
   pub second : Throughout old.now new.now (λ t. Q (disk_at new t Ckpt2))
   pub volumes : Throughout old.now new.now (λ t. (n : ℕ) → NoMore (disk_now old (Spool n)) (disk_at new t (Spool n)))
   pub console : Throughout old.now new.now (λ t. (new.world t).console ≡ (old.world old.now).console)
+  pub sides : Throughout old.now new.now (λ t. SameSides (old.world old.now) (new.world t))
 
 -- a start that only looked: no byte of a device changed
 abbrev pub OnlyLookedAtAll : View → View → Type 0
 OnlyLookedAtAll old new = WhileStarting (NoMore (disk_now old Ckpt1)) (NoMore (disk_now old Ckpt2)) old new
 
--- during a start that gave nothing an image of a copy is one of before, or reads as the copy did or as usable pages of one copy
-pub record HeldBack (reads : List ℕ → Option (List ℕ)) (old new : View) : Type 0 where
-  pub found : List ℕ
-  pub held : WhileStarting (IsHeld reads (disk_now old Ckpt1) found) (IsHeld reads (disk_now old Ckpt2) found) old new
+-- A start of copies with so much room that found these pages: during it an image of a copy is one of before, or reads as the copy did
+-- or as these pages, and a call lost a copy only where it may not stay beside them.
+pub record IsHeldBack {C : Type 0} (reads : List ℕ → Option (List ℕ)) (room : C → ℕ) (old new : View) (pages : List Page) : Type 0 where
+  pub usable : IsUsable pages
+  pub sized : HaveSize pages
+  pub found : IsFound reads old new (mark_of new) (bytes_of pages)
+  pub held : WhileStarting (IsHeld reads (disk_now old Ckpt1) (bytes_of pages)) (IsHeld reads (disk_now old Ckpt2) (bytes_of pages)) old new
+  pub kept1 : (new.loses Ckpt1 ≡ old.loses Ckpt1) ⊎ ((copy : C) × IsUnfit reads Ckpt1 old new (mark_of new) (room copy) pages)
+  pub kept2 : (new.loses Ckpt2 ≡ old.loses Ckpt2) ⊎ ((copy : C) × IsUnfit reads Ckpt2 old new (mark_of new) (room copy) pages)
+
+-- a start that gave nothing: it only looked, and lost no device by a call, or it found pages
+abbrev pub HeldBack : {C : Type 0} → (List ℕ → Option (List ℕ)) → (C → ℕ) → View → View → Type 0
+HeldBack reads room old new = (OnlyLookedAtAll old new × ((d : Dev) → new.loses d ≡ old.loses d)) ⊎ ((pages : List Page) × IsHeldBack reads room old new pages)
 
 -- A START
 
 -- The copies that count as alive have the pages found, which spell these tables; these tell the base, whose texts stand on the spool
 -- volumes, all of them synced, but for those with a group on a volume that is lost. Where no volume was lost in the start these are
 -- gone, and name the first such group.
-pub record HasStarted {C : Type 0} (count : C → ℕ) (needs : ℕ → ℕ) (reads : List ℕ → Option (List ℕ)) (tells : Type 0) (base : Queue) (t : Tables) (pages : List Page) (levels : List ℕ) (at : ℕ) (first : C) (alive1 : Bool) (second : C) (alive2 : Bool) (old new : View) : Type 0 where
+pub record HasStarted {C : Type 0} (count room : C → ℕ) (needs : ℕ → ℕ) (reads : List ℕ → Option (List ℕ)) (tells : Type 0) (base : Queue) (t : Tables) (pages : List Page) (levels : List ℕ) (at : ℕ) (first : C) (alive1 : Bool) (second : C) (alive2 : Bool) (old new : View) : Type 0 where
   pub usable : AreOf pages t
   pub sized : HaveSize pages
   pub leveled : levels ≡ levels_given pages
@@ -225,7 +254,7 @@ pub record HasStarted {C : Type 0} (count : C → ℕ) (needs : ℕ → ℕ) (re
   pub texts : tells → HasTexts (lost_now new) (spools_at new new.now) t.config.groups base
   pub given : tells → IsSteady old new → AreGiven new t.config.groups base
   pub at_level : at ≡ level (bytes_of pages)
-  pub found : tells → IsFound reads old new (bytes_of pages)
+  pub found : tells → IsFound reads old new (mark_of new) (bytes_of pages)
   pub starts : Starts alive1 alive2 old new
   pub some : SomeAlive alive1 alive2
   pub large1 : needs (length pages) ≤ old.size Ckpt1
@@ -236,5 +265,6 @@ pub record HasStarted {C : Type 0} (count : C → ℕ) (needs : ℕ → ℕ) (re
   pub reads1 : tells → alive1 ≡ true → reads (disk_now new Ckpt1).bytes ≡ Some (bytes_of pages)
   pub reads2 : tells → alive2 ≡ true → reads (disk_now new Ckpt2).bytes ≡ Some (bytes_of pages)
   pub held : tells → WhileStarting (IsHeld reads (disk_now old Ckpt1) (bytes_of pages)) (IsHeld reads (disk_now old Ckpt2) (bytes_of pages)) old new
-  pub kept1 : tells → (new.loses Ckpt1 ≡ old.loses Ckpt1) ⊎ IsUnfit reads Ckpt1 old new pages
-  pub kept2 : tells → (new.loses Ckpt2 ≡ old.loses Ckpt2) ⊎ IsUnfit reads Ckpt2 old new pages
+  pub one : IsOneCalled old new
+  pub kept1 : tells → (new.loses Ckpt1 ≡ old.loses Ckpt1) ⊎ ((copy : C) × IsUnfit reads Ckpt1 old new (mark_of new) (room copy) pages)
+  pub kept2 : tells → (new.loses Ckpt2 ≡ old.loses Ckpt2) ⊎ ((copy : C) × IsUnfit reads Ckpt2 old new (mark_of new) (room copy) pages)

@@ -3,7 +3,7 @@ ghost use Rattle.std.specs.Prelude.{◌≡◌, true, false, IfOk, IfSome, IfNone
 ghost use Rattle.ckpt_pages.specs.Shape.{HasShape};
 ghost use Rattle.warm_start.specs.Usable.{IsUsable, AreOf, MayStart};
 
-use ckpt_pages::{PageNo, Tables, decode, sound};
+use ckpt_pages::{PageNo, Tables, decode, first_fault};
 use duplex_pair::pages_level;
 use mas_types::{NoMemory, Page};
 use std::alloc::Global;
@@ -11,16 +11,19 @@ use std::alloc::Global;
 /// From here on a level or an order leaves a run no room: no checkpoint of this program comes so far.
 const TOO_HIGH: u64 = 1 << 62;
 
-// A run may start with these pages and the tables that they spell.
-fn may_start(pages: &[Page], tables: &Tables) -> bool
+// Whether a run may start with these pages and the tables that they spell.
+fn may_start(alloc: Global, pages: &[Page], tables: &Tables) -> Result<bool, NoMemory>
     requires { HasShape tables.now }
-    ensures may { result ≡ true → MayStart pages.now tables.now }
-    ensures not { result ≡ false → MayStart pages.now tables.now → ⊥ }
+    ensures may { IfOk result (λ may. may ≡ true → MayStart pages.now tables.now) }
+    ensures not { IfOk result (λ may. may ≡ false → MayStart pages.now tables.now → ⊥) }
 {
     if pages_level(pages) >= TOO_HIGH || tables.order >= TOO_HIGH {
-        return false;
+        return Ok(false);
     }
-    sound(tables).is_ok()
+    match first_fault(alloc, tables)? {
+        None => Ok(true),
+        Some(_) => Ok(false),
+    }
 }
 
 /// The tables that the pages of a checkpoint spell, where these are sound and a run finds levels and orders enough above
@@ -34,9 +37,6 @@ pub fn usable(alloc: Global, pages: &[Page]) -> Result<Option<Tables>, NoMemory>
         Err(PageNo::BadPage(_)) => return Ok(None),
         Err(PageNo::NoMemory) => return Err(NoMemory),
     };
-    if may_start(pages, &tables) {
-        Ok(Some(tables))
-    } else {
-        Ok(None)
-    }
+    let may = may_start(alloc, pages, &tables)?;
+    if may { Ok(Some(tables)) } else { Ok(None) }
 }

@@ -246,6 +246,8 @@ fn lose_unfit<P: Plant, C: Steady + Drop>(plant: &mut P, pair: &mut Pair<C>, sta
     ensures during { P.tells → BothMeanwhile (SameOrLost (disk_now (P.view plant.old) Ckpt1)) (SameOrLost (disk_now (P.view plant.old) Ckpt2)) (P.view plant.old) (P.view plant.new) }
     ensures fits1 { pair.new.first.alive ≡ true → Fitting C.count C.room C.room_most C.ready C.rests P.tells Ckpt1 (P.view plant.new) pair.new.first.copy pair.new.first.alive pair.new.first.found start.now.found.pages }
     ensures fits2 { pair.new.second.alive ≡ true → Fitting C.count C.room C.room_most C.ready C.rests P.tells Ckpt2 (P.view plant.new) pair.new.second.copy pair.new.second.alive pair.new.second.found start.now.found.pages }
+    ensures dead1 { pair.old.first.alive ≡ false → (P.view plant.new).loses Ckpt1 ≡ (P.view plant.old).loses Ckpt1 }
+    ensures dead2 { pair.old.second.alive ≡ false → (P.view plant.new).loses Ckpt2 ≡ (P.view plant.old).loses Ckpt2 }
     ensures kept1 { goes_lem Ckpt1 start.now ≡ false → (P.view plant.new).loses Ckpt1 ≡ (P.view plant.old).loses Ckpt1 }
     ensures kept2 { goes_lem Ckpt2 start.now ≡ false → (P.view plant.new).loses Ckpt2 ≡ (P.view plant.old).loses Ckpt2 }
     ensures one { ((pair.new.first.alive ≡ true) × (pair.new.first.found ≡ level (bytes_of start.now.found.pages))) ⊎ ((pair.new.second.alive ≡ true) × (pair.new.second.found ≡ level (bytes_of start.now.found.pages))) }
@@ -275,6 +277,8 @@ fn bring<P: Plant, C: Steady + Drop>(
     ensures as_many2 { pair.new.second.alive ≡ true → length start.now.found.pages ≡ C.count pair.new.second.copy }
     ensures rests1 { OnOk result (P.tells → pair.new.first.alive ≡ true → C.rests pair.new.first.copy (bytes_of start.now.found.pages) (disk_now (P.view plant.new) Ckpt1)) }
     ensures rests2 { OnOk result (P.tells → pair.new.second.alive ≡ true → C.rests pair.new.second.copy (bytes_of start.now.found.pages) (disk_now (P.view plant.new) Ckpt2)) }
+    ensures dead1 { pair.old.first.alive ≡ false → (P.view plant.new).loses Ckpt1 ≡ (P.view plant.old).loses Ckpt1 }
+    ensures dead2 { pair.old.second.alive ≡ false → (P.view plant.new).loses Ckpt2 ≡ (P.view plant.old).loses Ckpt2 }
     ensures kept1 { goes_lem Ckpt1 start.now ≡ false → (P.view plant.new).loses Ckpt1 ≡ (P.view plant.old).loses Ckpt1 }
     ensures kept2 { goes_lem Ckpt2 start.now ≡ false → (P.view plant.new).loses Ckpt2 ≡ (P.view plant.old).loses Ckpt2 }
     ensures both { IsErrOf result PairNoBothLost → IsBothLost pair.new.first.alive pair.new.second.alive }
@@ -305,7 +309,7 @@ pub fn warm<P: Plant + Drop, C: Steady + Drop>(
 ) -> Result<Started<P, C>, Unstarted<P>>
     requires alive1 { pair.first.alive ≡ true }
     requires alive2 { pair.second.alive ≡ true }
-    ensures started { IfOk result (λ w. HasStarted C.count C.needs C.reads P.tells w.complex.base w.tables w.pages w.levels w.complex.level w.complex.pair.first.copy w.complex.pair.first.alive w.complex.pair.second.copy w.complex.pair.second.alive (P.view plant) (P.view w.complex.plant)) }
+    ensures started { IfOk result (λ w. HasStarted C.count C.room C.needs C.reads P.tells w.complex.base w.tables w.pages w.levels w.complex.level w.complex.pair.first.copy w.complex.pair.first.alive w.complex.pair.second.copy w.complex.pair.second.alive (P.view plant) (P.view w.complex.plant)) }
     ensures since { IfOk result (λ w. w.complex.since ≡ (P.view w.complex.plant).now) }
     ensures fresh { IfOk result (λ w. P.tells → ∥ ((later : View) → Goes (P.view w.complex.plant) later → LeavesQueue C.reads w.complex.base w.complex.since later) ∥₁) }
     ensures journal { IfOk result (λ w. w.complex.journal.batches ≡ []) }
@@ -317,7 +321,7 @@ pub fn warm<P: Plant + Drop, C: Steady + Drop>(
     ensures looked { IfErr result (λ u. u.why ≢ StartNo.BothLost → (P.tells → OnlyLookedAtAll (P.view plant) (P.view u.plant)) × ((d : DevLem) → (P.view u.plant).loses d ≡ (P.view plant).loses d)) }
     ensures lost { IfErr result (λ u. u.why ≡ StartNo.BothLost → LosesBoth (P.view plant) (P.view u.plant)) }
     ensures goes { IfErr result (λ u. Goes (P.view plant) (P.view u.plant)) }
-    ensures held { IfErr result (λ u. P.tells → HeldBack C.reads (P.view plant) (P.view u.plant)) }
+    ensures held { IfErr result (λ u. P.tells → HeldBack C.reads C.room (P.view plant) (P.view u.plant)) }
 {
     let mut plant = plant;
     let mut pair = pair;

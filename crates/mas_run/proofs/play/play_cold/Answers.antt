@@ -7,6 +7,7 @@ use Rattle.spool_disk.specs.Acts.{Goes}
 use Rattle.ckpt_copy.specs.Areas.{reads}
 use Rattle.ckpt_copy.specs.AreaStates.{Rests, Holds}
 use Rattle.ckpt_copy.specs.Images.{area_rests_now}
+use Rattle.ckpt_copy.specs.Meanwhile.{SameSides}
 use Rattle.ckpt_copy.specs.Moments.{goes_on}
 use Rattle.ckpt_copy.specs.Pages.{bytes_of}
 use Rattle.duplex_pair.specs.Both.{PairActed}
@@ -179,6 +180,18 @@ returns-in_default-form-clause-volumes g c t none =
     let formed : IsOnlyOn (g.P.Plant.view c.args.plant) (g.P.Plant.view c.form.new.plant) = (c.in_default-form.ensures.during t).others in
     rw c.unbegun-in_default-form.ensures.plant (kept_on (g.P.Plant.view c.args.plant) (g.P.Plant.view c.form.new.plant) formed)
 
+pub returns-in_default-form-clause-unprinted : goal.returns-in_default-form-clause-unprinted
+returns-in_default-form-clause-unprinted g c t none =
+    let e = c.in_default-form.ensures in
+    rw c.unbegun-in_default-form.ensures.plant ((e.during t).sides (g.P.Plant.view c.form.new.plant).now e.acted.goes.later (omega arith))
+
+pub returns-clause-roomy : goal.returns-clause-roomy
+returns-clause-roomy g c begun =
+    let P = g.P.Plant in
+    let config = c.args.script.now.config in
+    let goes : Goes (P.view c.args.plant) (P.view c.play_asked.result.plant) = goes_on (P.view c.args.plant) (P.view c.form.new.plant) (P.view c.play_asked.result.plant) c.in-Ok-form.ensures.acted.goes (rw c.make-complex.ensures.plant at c.play_asked.ensures.goes) in
+    rw (c.play_asked.ensures.base, c.make-complex.ensures.base, c.in-Ok.ensures.base) (roomy_later (P.view c.args.plant) (P.view c.play_asked.result.plant) config goes c.in_default.ensures.roomy)
+
 pub returns-clause-cause : goal.returns-clause-cause
 returns-clause-cause g c =
     let P = g.P.Plant in
@@ -227,8 +240,7 @@ returns-clause-run g c begun =
       moment = (omega (arith, since, f.acted.goes.later), omega (arith, since, goes.later));
       fresh = λ t. rw (base, since) (∥∥₁_map (m.fresh t) (λ k. k w goes));
       quiet = λ t. ap (λ (n : ℕ). (w.world n).console) since ∙ ap (λ (u : World). u.console) (goes.past v1.now (omega arith)) ∙ quiet t;
-      dry = λ t is m. ap (λ (n : ℕ). (w.world n).paper m) since ∙ ap (λ (u : World). u.paper m) (goes.past v1.now (omega arith)) ∙ ((f.during t).sides v1.now f.acted.goes.later (omega arith)).paper m;
-      held = λ t. tt;
+      dry = λ t. rw since (subst (λ (u : World). SameSides (v0.world v0.now) u) (sym (goes.past v1.now (omega arith))) ((f.during t).sides v1.now f.acted.goes.later (omega arith)));
       seen = seen;
       steps = steps_since v0 v1 w f.acted.goes goes true P.tells turns r.status r.base r.journal r.since v1.loses quiet (λ t. kept_on v0 v1 (f.during t).others)
           (cold_steps P.tells turns r.status r.base x.journal.batches r.journal r.since v1 w m.journal since goes play);
@@ -254,6 +266,11 @@ returns-clause-untouched g c none =
 
 pub returns-clause-unsaid : goal.returns-clause-unsaid
 returns-clause-unsaid g c told none =
+    let base = c.play_asked.ensures.base ∙ c.make-complex.ensures.base ∙ c.in-Ok.ensures.base in
+    absurd (no c.play_asked.result.base (begun_empty c.args.script.now.config c.args.script.now.routes c.play_asked.result.base base c.requires.fits.config) none)
+
+pub returns-clause-unprinted : goal.returns-clause-unprinted
+returns-clause-unprinted g c told none =
     let base = c.play_asked.ensures.base ∙ c.make-complex.ensures.base ∙ c.in-Ok.ensures.base in
     absurd (no c.play_asked.result.base (begun_empty c.args.script.now.config c.args.script.now.routes c.play_asked.result.base base c.requires.fits.config) none)
 

@@ -3,6 +3,7 @@ use Rattle.mas_types.specs.declared.answers.Status.{Status}
 use Rattle.mas_run.specs.Refusals.{Answers, is_refusal}
 use Rattle.mas_run.proofs.RefusalLemmas.{answers_said, ends}
 use Rattle.mas_run.proofs.VolumeLemmas.{kept_none}
+use Rattle.mas_run.proofs.WarmLemmas.{not_unplayed}
 use Rattle.mas_run.proofs.top.play_script.Goals as goal
 
 pub returns-in-Ok-clause-refused : goal.returns-in-Ok-clause-refused
@@ -32,3 +33,6 @@ returns-in-Ok-clause-formats g c only told = c.play_steps.ensures.stepless (c.in
 
 pub returns-in-Err-clause-formats : goal.returns-in-Err-clause-formats
 returns-in-Err-clause-formats g c only told = rw c.unbegun.ensures.plant (kept_none (g.P.Plant.view c.args.plant))
+
+pub returns-in-Ok-clause-idle : goal.returns-in-Ok-clause-idle
+returns-in-Ok-clause-idle g c unplayed = absurd (not_unplayed c.play_steps.result.status c.play_steps.ensures.no_text c.play_steps.ensures.no_source unplayed)

@@ -3,7 +3,7 @@ use Rattle.ckpt_pages.specs.declared.tables.Tables.{Tables}
 use Rattle.warm_start.specs.Usable.{MayStart}
 use Rattle.warm_start.proofs.sound_pages.usable.Goals as goal
 
-pub returns-else-may_start-clause-none : goal.returns-else-may_start-clause-none
-returns-else-may_start-clause-none c = λ usable.
+pub returns-else-may-clause-none : goal.returns-else-may-clause-none
+returns-else-may-clause-none c = λ usable.
     let same : c.in-Ok.tables ≡ usable.0 = c.in-Ok.ensures.only usable.0 usable.1.0 in
-    c.may_start.ensures.not (c.if-may_start.false) (subst (λ (t : Tables). MayStart c.args.pages.now t) (sym same) usable.1.1)
+    c.in_ok-may.ensures.not (c.if-may.false) (subst (λ (t : Tables). MayStart c.args.pages.now t) (sym same) usable.1.1)

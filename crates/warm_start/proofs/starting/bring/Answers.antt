@@ -126,6 +126,12 @@ returns-clause-kept1 g c = λ stays. c.mend.ensures.acted.loses Ckpt1 ∙ c.lose
 pub returns-clause-kept2 : goal.returns-clause-kept2
 returns-clause-kept2 g c = λ stays. c.mend.ensures.acted.loses Ckpt2 ∙ c.lose_unfit.ensures.kept2 stays
 
+pub returns-clause-dead1 : goal.returns-clause-dead1
+returns-clause-dead1 g c = λ dead. c.mend.ensures.acted.loses Ckpt1 ∙ c.lose_unfit.ensures.dead1 dead
+
+pub returns-clause-dead2 : goal.returns-clause-dead2
+returns-clause-dead2 g c = λ dead. c.mend.ensures.acted.loses Ckpt2 ∙ c.lose_unfit.ensures.dead2 dead
+
 pub returns-clause-failed : goal.returns-clause-failed
 returns-clause-failed g c = λ is old s.
     let view = g.P.Plant.view in

@@ -1,4 +1,4 @@
-use Rattle.std.proofs.Common.{Result, IfOk, IfErr, refl, sym, subst}
+use Rattle.std.proofs.Common.{Result, IfOk, IfErr, sym, subst}
 use Rattle.mas_types.specs.declared.ids.Dev.TheVariants.{Ckpt1, Ckpt2}
 use Rattle.spool_disk.specs.View.{disk_now}
 use Rattle.ckpt_copy.specs.Changes.{NoMore}
@@ -9,7 +9,7 @@ use Rattle.warm_start.specs.Inspecting.{FindsNone}
 use Rattle.warm_start.specs.Starting.{Starts, IsCauseOf}
 use Rattle.warm_start.proofs.Seeing.{seeing, judged_there}
 use Rattle.warm_start.proofs.Finding.{Chose, chosen_found, chosen_none, chosen_nothing, chosen_few}
-use Rattle.warm_start.proofs.Inspections.{on_ok}
+use Rattle.warm_start.proofs.Inspections.{gone_first, gone_second, on_ok}
 use Rattle.warm_start.proofs.Starts.{starts_looked, first_now, second_now}
 use Rattle.warm_start.proofs.starting.choose_copy.Goals as goal
 
@@ -25,9 +25,9 @@ returns-clause-chosen g c =
     (rw (c.room-first_room.ensures, c.room-second_room.ensures)
     (chosen_found C.count C.room C.room_most C.ready C.reads C.rests g.P.Plant.tells old v a.copy b.copy a.alive b.alive a.found b.found
     (λ pages d r. g.met.C.Copying.rests_now a.copy pages d r) (λ pages d r. g.met.C.Copying.rests_now b.copy pages d r) c.in-Ok.first c.in-Ok.second e.first e.second
-    (λ told. seeing C.count C.room C.room_most C.ready C.reads C.rests g.P.Plant.tells Ckpt1 old v a.copy a.alive a.found (λ pages d r. g.met.C.Copying.rests_now a.copy pages d r) (e.acted.failed1 refl) e.acted.goes told
+    (λ told. seeing C.count C.room C.room_most C.ready C.reads C.rests g.P.Plant.tells Ckpt1 old v a.copy a.alive a.found (λ pages d r. g.met.C.Copying.rests_now a.copy pages d r) (gone_first a.alive b.alive old v e.acted (c.judge_both.ensures.gone1 told)) e.acted.goes told
     (first_now (NoMore (disk_now old Ckpt1)) (NoMore (disk_now old Ckpt2)) old v (e.during told)).bytes c.in-Ok.first e.first)
-    (λ told. seeing C.count C.room C.room_most C.ready C.reads C.rests g.P.Plant.tells Ckpt2 old v b.copy b.alive b.found (λ pages d r. g.met.C.Copying.rests_now b.copy pages d r) (e.acted.failed2 refl) e.acted.goes told
+    (λ told. seeing C.count C.room C.room_most C.ready C.reads C.rests g.P.Plant.tells Ckpt2 old v b.copy b.alive b.found (λ pages d r. g.met.C.Copying.rests_now b.copy pages d r) (gone_second a.alive b.alive old v e.acted (c.judge_both.ensures.gone2 told)) e.acted.goes told
     (second_now (NoMore (disk_now old Ckpt1)) (NoMore (disk_now old Ckpt2)) old v (e.during told)).bytes c.in-Ok.second e.second)))
 
 pub returns-clause-few : goal.returns-clause-few

@@ -1,4 +1,4 @@
-use Rattle.std.proofs.Common.{◌≡◌, true, false, inl, inr, ⊎_elim, refl, sym, ap, ◌∙◌}
+use Rattle.std.proofs.Common.{◌≡◌, ◌&&◌, not, Bool, true, false, inl, inr, ⊎_elim, refl, sym, ap, ◌∙◌}
 use Rattle.mas_types.specs.declared.ids.Dev.TheVariants.{Ckpt1, Ckpt2}
 use Rattle.spool_disk.specs.View.{disk_now}
 use Rattle.ckpt_copy.specs.Moments.{goes_on}
@@ -128,4 +128,19 @@ returns-clause-kept2 g c = λ stays.
     let b = c.lose_where.new.pair in
     let d = c.lose_where-2.new.pair in
     let same : d.second.alive ≡ b.second.alive = alive_stays b.second.alive c.is_to_go-2.result d.second.alive c.lose_where-2.ensures.alive (c.is_to_go-2.ensures ∙ stays) in
+    c.lose_where-2.ensures.lost.else_counted Ckpt2 (inr same) ∙ c.lose_where.ensures.lost.else_counted Ckpt2 (inl ne21)
+
+pub returns-clause-dead1 : goal.returns-clause-dead1
+returns-clause-dead1 g c = λ dead.
+    let a = c.args.pair.now in
+    let b = c.lose_where.new.pair in
+    let same : b.first.alive ≡ a.first.alive = c.lose_where.ensures.alive ∙ ap (λ (x : Bool). x && not c.is_to_go.result) dead ∙ sym dead in
+    c.lose_where-2.ensures.lost.else_counted Ckpt1 (inl ne12) ∙ c.lose_where.ensures.lost.else_counted Ckpt1 (inr same)
+
+pub returns-clause-dead2 : goal.returns-clause-dead2
+returns-clause-dead2 g c = λ dead.
+    let b = c.lose_where.new.pair in
+    let d = c.lose_where-2.new.pair in
+    let was : b.second.alive ≡ false = ap (λ h. h.alive) c.lose_where.ensures.other ∙ dead in
+    let same : d.second.alive ≡ b.second.alive = c.lose_where-2.ensures.alive ∙ ap (λ (x : Bool). x && not c.is_to_go-2.result) was ∙ sym was in
     c.lose_where-2.ensures.lost.else_counted Ckpt2 (inr same) ∙ c.lose_where.ensures.lost.else_counted Ckpt2 (inl ne21)

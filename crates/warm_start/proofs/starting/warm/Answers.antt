@@ -1,4 +1,4 @@
-use Rattle.std.proofs.Common.{◌∙◌, ◌≤◌, false, Bool, inr, ℕ, length, Err, refl, sym, ap, subst}
+use Rattle.std.proofs.Common.{◌∙◌, ◌≤◌, false, Bool, inl, inr, ℕ, length, Err, refl, sym, ap, subst}
 use Rattle.mas_types.specs.declared.ids.Dev.TheVariants.{Ckpt1, Ckpt2}
 use Rattle.spool_disk.specs.View.{disk_now}
 use Rattle.ckpt_copy.specs.Pages.{bytes_of, level}
@@ -6,15 +6,14 @@ use Rattle.warm_start.specs.Choosing.{goes}
 use Rattle.mas_types.specs.declared.queues.Config.{Config}
 use Rattle.mas_complex.specs.Texts.{HasTexts, lost_now, spools_at}
 use Rattle.warm_start.specs.Starting.{IsHeld, OneFailed, Starts}
-use Rattle.warm_start.proofs.Begun.{stand_of, rested_copy, found_later, kept, by_loss, lost_both}
-use Rattle.warm_start.proofs.Prepared.{given_kept, held_looked, held_all, held_back, texts_left}
+use Rattle.warm_start.proofs.Begun.{stand_of, rested_copy, one_called, by_loss, lost_both}
+use Rattle.warm_start.proofs.Brought.{brought}
+use Rattle.warm_start.proofs.Prepared.{given_kept, held_all, texts_left}
 use Rattle.warm_start.proofs.Spooling.{roomy_later, steady_first, steady_then}
 use Rattle.warm_start.proofs.starting.warm.Goals as goal
 
 pub returns-in-Err-clause-held : goal.returns-in-Err-clause-held
-returns-in-Err-clause-held g c = λ told.
-    let view = g.P.Plant.view in
-    held_looked g.C.Copying.reads (view c.args.plant) (view c.prepare.new.plant) (c.prepare.ensures.during told)
+returns-in-Err-clause-held g c = λ told. inl (c.prepare.ensures.during told, c.prepare.ensures.loses)
 
 pub returns-in_default-clause-lost : goal.returns-in_default-clause-lost
 returns-in_default-clause-lost g c = λ why.
@@ -24,13 +23,36 @@ returns-in_default-clause-lost g c = λ why.
     let both = lost_both c.in_default.field-0 p.first.alive p.second.alive (λ e. c.in_default.ensures.both (ap Err e)) (λ e. c.in_default.ensures.halts (ap Err e)) in
     record {
       starts = subst (λ (a : Bool). Starts a false old new) both.0 (subst (λ (b : Bool). Starts p.first.alive b old new) both.1 (c.bring.ensures.starts old c.in-Ok.ensures.starts));
+      one = one_called old (g.P.Plant.view c.prepare.new.plant) new c.in-Ok.ready.start c.prepare.ensures.loses c.bring.ensures.kept1 c.bring.ensures.kept2;
       failed = inr (by_loss (OneFailed old new) c.in_default.field-0 (λ e. c.in_default.ensures.failed (ap Err e) old c.in-Ok.ensures.starts) (λ e. c.in_default.ensures.halts (ap Err e)));
     }
 
 pub returns-in_default-clause-held : goal.returns-in_default-clause-held
 returns-in_default-clause-held g c = λ told.
+    let C = g.C.Copying in
     let view = g.P.Plant.view in
-    held_back g.C.Copying.reads (bytes_of c.in-Ok.ready.start.found.pages) (view c.args.plant) (view c.prepare.new.plant) (view c.bring.new.plant) (c.prepare.ensures.during told) (c.bring.ensures.during told)
+    let old = view c.args.plant in
+    let mid = view c.prepare.new.plant in
+    let new = view c.bring.new.plant in
+    let F = c.in-Ok.ready.start.found in
+    let e = c.in-Ok.ensures in
+    let p = c.prepare.new.pair in
+    let n = c.bring.new.pair in
+    let starts : Starts n.first.alive n.second.alive old new = c.bring.ensures.starts old e.starts in
+    let brings = (λ (told : g.P.Plant.tells). brought C.count C.room C.room_most C.ready C.reads C.rests g.P.Plant.tells old mid new p.first.copy p.second.copy p.first.alive n.first.alive p.second.alive n.second.alive p.first.found p.second.found c.in-Ok.ready.start
+    e.chosen e.starts starts c.bring.ensures.goes c.prepare.ensures.loses c.bring.ensures.dead1 c.bring.ensures.dead2 c.bring.ensures.kept1 c.bring.ensures.kept2 told
+    (c.bring.ensures.gone1 told (c.prepare.ensures.gone1 told)) (c.bring.ensures.gone2 told (c.prepare.ensures.gone2 told))) in
+    inr (
+      F.pages,
+      record {
+        usable = (F.tables, e.chosen.usable);
+        sized = e.chosen.sized;
+        found = (brings told).found;
+        held = held_all C.reads (bytes_of F.pages) old mid new (c.prepare.ensures.during told) (c.bring.ensures.during told);
+        kept1 = (brings told).kept1;
+        kept2 = (brings told).kept2;
+      },
+    )
 
 pub make-complex-requires-clause-begins : goal.make-complex-requires-clause-begins
 make-complex-requires-clause-begins g c told =
@@ -63,10 +85,15 @@ returns-clause-started g c =
     let old = view c.args.plant in
     let mid = view c.prepare.new.plant in
     let new = view c.bring.new.plant in
-    let n = c.bring.new.pair in
     let F = c.in-Ok.ready.start.found in
     let e = c.in-Ok.ensures in
     let k = c.in-Ok-bring.ensures in
+    let p = c.prepare.new.pair in
+    let n = c.bring.new.pair in
+    let starts : Starts n.first.alive n.second.alive old new = c.bring.ensures.starts old e.starts in
+    let brings = (λ (told : g.P.Plant.tells). brought C.count C.room C.room_most C.ready C.reads C.rests g.P.Plant.tells old mid new p.first.copy p.second.copy p.first.alive n.first.alive p.second.alive n.second.alive p.first.found p.second.found c.in-Ok.ready.start
+    e.chosen e.starts starts c.bring.ensures.goes c.prepare.ensures.loses c.bring.ensures.dead1 c.bring.ensures.dead2 c.bring.ensures.kept1 c.bring.ensures.kept2 told
+    (c.bring.ensures.gone1 told (c.prepare.ensures.gone1 told)) (c.bring.ensures.gone2 told (c.prepare.ensures.gone2 told))) in
     let m = c.make-complex.ensures in
     let size = c.prepare.ensures.goes.size in
     rw (m.plant, m.pair, m.base, m.level) (record {
@@ -80,8 +107,9 @@ returns-clause-started g c =
           (steady_then old mid new c.prepare.ensures.goes c.bring.ensures.goes steady) (e.given told (steady_first old mid new c.prepare.ensures.goes c.bring.ensures.goes steady));
       roomy = roomy_later mid new F.tables.config c.bring.ensures.goes e.roomy;
       at_level = c.pages_level-level.ensures ∙ ap (λ ps. level (bytes_of ps)) c.as_slice.ensures;
-      found = λ told. found_later C.reads old mid new (bytes_of F.pages) (c.bring.ensures.during told).goes (e.chosen.found told);
-      starts = c.bring.ensures.starts old e.starts;
+      found = λ told. (brings told).found;
+      starts = starts;
+      one = one_called old mid new c.in-Ok.ready.start c.prepare.ensures.loses c.bring.ensures.kept1 c.bring.ensures.kept2;
       some = k.ok;
       large1 = subst (λ (s : ℕ). C.needs (length F.pages) ≤ s) (size Ckpt1) e.large.0;
       large2 = subst (λ (s : ℕ). C.needs (length F.pages) ≤ s) (size Ckpt2) e.large.1;
@@ -89,7 +117,7 @@ returns-clause-started g c =
       as_many2 = c.bring.ensures.as_many2;
       reads1 = λ told is. g.met.C.Copying.rests_now n.first.copy (bytes_of F.pages) (disk_now new Ckpt1) (k.rests1 told is);
       reads2 = λ told is. g.met.C.Copying.rests_now n.second.copy (bytes_of F.pages) (disk_now new Ckpt2) (k.rests2 told is);
-      kept1 = λ told. kept C.reads Ckpt1 old mid new F.pages (goes Ckpt1 c.in-Ok.ready.start) (c.bring.ensures.during told).goes (c.prepare.ensures.loses Ckpt1) c.bring.ensures.kept1 (e.chosen.unfit1 told);
-      kept2 = λ told. kept C.reads Ckpt2 old mid new F.pages (goes Ckpt2 c.in-Ok.ready.start) (c.bring.ensures.during told).goes (c.prepare.ensures.loses Ckpt2) c.bring.ensures.kept2 (e.chosen.unfit2 told);
+      kept1 = λ told. (brings told).kept1;
+      kept2 = λ told. (brings told).kept2;
       held = λ told. held_all C.reads (bytes_of F.pages) old mid new (c.prepare.ensures.during told) (c.bring.ensures.during told);
     })
