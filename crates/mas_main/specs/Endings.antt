@@ -32,9 +32,10 @@ folder_text folder.NotLocked = codes "MAS FOLDER NOT LOCKED"
 folder_text folder.OneFile = codes "MAS FOLDER DEVICES ARE ONE FILE"
 folder_text folder.NoMemory = codes "MAS NO MEMORY"
 
--- only a run that formats makes its folder, and a report makes nothing
+-- only a run that formats makes its folder, and a report and a check make nothing
 abbrev pub opening_for : Task → Opening
 opening_for (task.Play true) = opening.Make
 opening_for (task.Play false) = opening.GoOn
 opening_for task.Report = opening.Look
 opening_for task.Format = opening.Make
+opening_for task.Check = opening.Look

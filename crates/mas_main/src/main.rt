@@ -51,7 +51,7 @@ fn opening_of(task: Task) -> Opening
     match task {
         Task::Play(true) | Task::Format => Opening::Make,
         Task::Play(false) => Opening::GoOn,
-        Task::Report => Opening::Look,
+        Task::Report | Task::Check => Opening::Look,
     }
 }
 

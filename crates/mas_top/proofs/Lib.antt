@@ -2,3 +2,4 @@ pub mod TaskLemmas
 pub mod SayLemmas
 pub mod ReportLemmas
 pub mod PlayLemmas
+pub mod CheckLemmas

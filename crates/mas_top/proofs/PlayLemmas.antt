@@ -7,8 +7,9 @@ use Rattle.mas_types.specs.declared.answers.Status.TheVariants as status
 use Rattle.mas_types.specs.Starts.{no_queue}
 use Rattle.spool_disk.specs.View.{View}
 use Rattle.spool_disk.specs.Acts.{Rose}
+use Rattle.ckpt_copy.specs.Moments.{sides_none}
 use Rattle.mas_run.specs.Refusals.{Answers, is_of_script, is_refusal, refusal_before_play}
-use Rattle.mas_run.specs.Runs.{has_begun}
+use Rattle.mas_run.specs.Runs.{has_begun, AreSidesKept}
 use Rattle.mas_run.specs.Statuses.{IsCaused}
 use Rattle.mas_run.specs.Unstarted.{IsNotStarted}
 use Rattle.mas_run.specs.Volumes.{AreVolumesKept}
@@ -56,10 +57,13 @@ not_played cold only source tells same answer base journal since old new none st
   unstarted = λ c not. not_started tells answer old new is;
   faulted = faulted;
   untouched = λ not. inr (inl stays);
+  idle = λ not. stays;
+  unprinted = λ told not. subst (λ (v : View). AreSidesKept old v) (sym view) (sides_none (old.world old.now));
   loses = λ not lost d. ap (λ (v : View). v.loses d) view;
   volumes = λ told not. subst (AreVolumesKept old) (sym view) (kept_none old);
   formats = λ o told. subst (AreVolumesKept old) (sym view) (kept_none old);
   room = λ begun. absurd (not_begun base none begun);
+  roomy = λ begun. absurd (not_begun base none begun);
   read = λ told begun. absurd (not_begun base none begun);
   run = λ begun. absurd (not_begun base none begun);
   complete = λ told no still.

@@ -18,10 +18,12 @@ use Rattle.ckpt_copy.specs.Areas.{reads, areas_size}
 use Rattle.ckpt_copy.specs.Changes.{NoMore}
 use Rattle.ckpt_copy.specs.Meanwhile.{SameSides}
 use Rattle.ckpt_copy.specs.Moments.{either_way, goes_on, goes_none, sides_none}
+use Rattle.ckpt_copy.specs.Pages.{bytes_of}
 use Rattle.warm_start.specs.declared.choosing.StartNo.{StartNo}
 use Rattle.warm_start.specs.declared.choosing.StartNo.TheVariants as no_start
 use Rattle.warm_start.specs.Inspecting.{Looks, HasFailed, HasFound, FindsNone, SomeThere}
-use Rattle.warm_start.proofs.Begun.{found_later}
+use Rattle.warm_start.specs.Starting.{HasGone, mark_of}
+use Rattle.warm_start.proofs.Begun.{found_later, gone_on_to}
 use Rattle.queue_report.specs.Reports.{report_lines}
 use Rattle.member_node.specs.Calls.{IsOnlyOn}
 use Rattle.mas_run.specs.Runs.{has_begun, Begins}
@@ -87,12 +89,14 @@ found_on tells lines v0 v1 v2 Q adds f = record {
   sized = f.sized;
   is = f.is;
   tell = f.tell;
-  found = λ told. found_later reads v0 v1 v2 _ adds.goes (f.found told);
+  found = λ told. found_later reads v0 v1 v2 (mark_of v1) (mark_of v2) (bytes_of f.pages) (gone Ckpt1 told) (gone Ckpt2 told) (f.found told);
   there = there_on tells lines v1 v2 adds f.there;
   large1 = omega (arith, adds.goes.size Ckpt1, f.large1);
   large2 = omega (arith, adds.goes.size Ckpt2, f.large2);
   roomy = λ n some few there. subst (λ (size : ℕ). page_bytes * f.tables.config.groups ≤ size) (sym (adds.goes.size (Spool n))) (f.roomy n some few (sym (adds.lost (DiskPart (Spool n)) (disk_not_console (Spool n))) ∙ there));
-}
+} where
+  gone : (d : Dev) → tells → HasGone d v0 v1 (mark_of v1) → HasGone d v0 v2 (mark_of v2)
+  gone d told x = gone_on_to d v0 v1 v2 adds.goes (adds.loses d) (λ lt. ap (λ (disk : Disk). disk.lost) (adds.disks told v2.now adds.goes.later (omega arith) d) ∙ x.gone (omega (arith, adds.goes.later, lt))) x
 
 -- the queue that is found has members
 pub found_begun : (tells : Type 0) (v0 v1 : View) (Q : Queue) → HasFound reads tells areas_size v0 v1 Q → has_begun Q ≡ true
@@ -218,7 +222,7 @@ no_more disk = record { bytes = refl; unsynced = λ s avoids. avoids; there = λ
 at_now : (v : View) (t : ℕ) → v.now ≤ t → t ≤ v.now → t ≡ v.now
 at_now v t from le = omega arith
 
-looks_none : (tells : Type 0) (v : View) → Looks tells v v
+pub looks_none : (tells : Type 0) (v : View) → Looks tells v v
 looks_none tells v = record {
   goes = goes_none v;
   during = λ told. record {

@@ -31,6 +31,15 @@ play_not_format asked a one two = absurd (cc)
 pub report_not_format : (asked : Option Task) → asked ≡ Some task.Report → asked ≡ Some task.Format → ⊥
 report_not_format asked one two = absurd (cc)
 
+pub play_not_check : (asked : Option Task) (a : Bool) → asked ≡ Some (task.Play a) → asked ≡ Some task.Check → ⊥
+play_not_check asked a one two = absurd (cc)
+
+pub report_not_check : (asked : Option Task) → asked ≡ Some task.Report → asked ≡ Some task.Check → ⊥
+report_not_check asked one two = absurd (cc)
+
+pub format_not_check : (asked : Option Task) → asked ≡ Some task.Format → asked ≡ Some task.Check → ⊥
+format_not_check asked one two = absurd (cc)
+
 -- WORDS THAT AREN'T READ
 
 pub none_words : (asked : Option Task) (why : WordsNo) → Reads asked (Err why) → status_of_no why ≡ status.Words → asked ≡ None

@@ -1,4 +1,5 @@
 pub mod Tasks
 pub mod Saying
 pub mod Reports
+pub mod Checks
 pub mod Plays

@@ -12,10 +12,11 @@ use Rattle.spool_disk.specs.View.{View}
 use Rattle.spool_disk.specs.Acts.{Rose}
 use Rattle.ckpt_copy.specs.Areas.{areas_size}
 use Rattle.ckpt_pages.specs.Shape.{page_count}
+use Rattle.spool_volumes.specs.Volumes.{AreRoomy}
 use Rattle.warm_start.specs.Starting.{OnlyLookedAtAll}
 use Rattle.mas_run.specs.Refusals.{refusal_before_play, Answers, IsPlayedOut, IsSaid, IsTooSmall}
-use Rattle.mas_run.specs.Runs.{has_begun, IsRun}
-use Rattle.mas_run.specs.Statuses.{IsStill}
+use Rattle.mas_run.specs.Runs.{has_begun, AreSidesKept, IsRun}
+use Rattle.mas_run.specs.Statuses.{IsStill, is_unplayed}
 use Rattle.mas_run.specs.Unstarted.{IsNotStarted}
 use Rattle.mas_run.specs.Volumes.{AreVolumesKept}
 
@@ -40,14 +41,17 @@ pub record IsPlayed (cold only : Bool) (source : Sourced) (tells same : Type 0) 
   pub formatted : cold ≡ true → (first second : CopyState) → answer ≡ status.NotFormatted first second → ⊥
   pub unstarted : cold ≡ false → has_begun base ≡ false → IsNotStarted tells answer old new
   pub faulted : answer ≡ status.SourceFault → Rose source.before source.after
-  -- one that has not begun leaves all as it was, but where both copies were lost in the formatting or the start; a warm one looked
+  -- where the script is refused, or can't be read, no act is made; one that has not begun leaves all as it was, but where both copies were lost in the formatting or the start; a warm one looked
   -- at the copies; and one that only formats changes no byte of a volume
   pub untouched : has_begun base ≡ false → (answer ≡ status.BothLost) ⊎ (same ⊎ ((cold ≡ false) × (tells → OnlyLookedAtAll old new)))
+  pub idle : is_unplayed answer ≡ true → same
+  pub unprinted : tells → has_begun base ≡ false → AreSidesKept old new
   pub volumes : tells → has_begun base ≡ false → AreVolumesKept old new
   pub formats : only ≡ true → tells → AreVolumesKept old new
   pub loses : has_begun base ≡ false → (answer ≢ status.BothLost) ⊎ (cold ≡ true) → (d : Dev) → new.loses d ≡ old.loses d
   -- one that has begun plays what its script asks for
   pub room : has_begun base ≡ true → (areas_size (page_count base.config) ≤ old.size Ckpt1) × (areas_size (page_count base.config) ≤ old.size Ckpt2)
+  pub roomy : has_begun base ≡ true → AreRoomy new base.config
   pub read : source.tells → has_begun base ≡ true → source.rest ≡ []
   pub run : has_begun base ≡ true → ((script : Script) × (source.tells → IsSaid cold only source.left script) × IsRun cold tells script answer base journal since old new)
   -- what nothing hinders is played to its end, where a warm run finds a queue and its devices are large enough for it

@@ -16,6 +16,8 @@ pub enum Task {
     Report,
     /// Formats the checkpoint.
     Format,
+    /// Checks the pages and the texts that are found.
+    Check,
 }
 
 /// What the words ask for. None where that isn't built yet.
@@ -26,7 +28,8 @@ pub fn task_of(words: &Words) -> Option<Task>
         Verb::Play => Some(Task::Play(words.cold)),
         Verb::Report => Some(Task::Report),
         Verb::Format => Some(Task::Format),
-        Verb::Race | Verb::Check | Verb::Generate(_) => None,
+        Verb::Check => Some(Task::Check),
+        Verb::Race | Verb::Generate(_) => None,
     }
 }
 

@@ -1,14 +1,16 @@
 //! The top call.
-ghost use Rattle.std.specs.Prelude.{◌≡◌, ◌⊎◌, Bool, true, false, map, string_bytes, None, Some};
+ghost use Rattle.std.specs.Prelude.{◌≡◌, ◌≢◌, ◌⊎◌, Bool, true, false, map, string_bytes, None, Some};
 ghost use Rattle.spool_disk.specs.Acts.{Goes};
 ghost use Rattle.mas_run.specs.Volumes.{AreVolumesKept};
 ghost use Rattle.mas_run.specs.Runs.{has_begun, Begins, IsUnbegun};
 ghost use Rattle.mas_run.specs.Statuses.{IsCaused};
 ghost use Rattle.member_node.specs.Calls.{console_now};
+ghost use Rattle.mas_top.specs.Checks.{IsCheckRun};
 ghost use Rattle.mas_top.specs.Plays.{IsPlayed, source_of};
 ghost use Rattle.mas_top.specs.Reports.{IsReport};
 ghost use Rattle.mas_top.specs.Tasks.{task_asked};
 
+use crate::inspecting::check_found;
 use crate::reporting::report_queue;
 use crate::tasks::{Task, read_task, status_of_no};
 use mas_run::{Ended, play_script, unbegun};
@@ -21,8 +23,9 @@ use std::alloc::Global;
 /// `play` plays a script, with `--cold` from an empty queue and else from the queue that is found, as `play_script` does.
 /// `report` says the queue that a start would find, a line for each job, output, volume and member and then `END`; it reads no
 /// script, and changes and loses no device. `format` reads a script that has no steps, and formats CKPT1 and CKPT2 with the
-/// empty queue of its configuration and routes, as a cold run does. Where the words are none of the program's, or ask for what isn't
-/// built yet, the status is Words, and nothing is touched.
+/// empty queue of its configuration and routes, as a cold run does. `check` says one line: what is wrong with the pages of greatest
+/// level that a copy reads as and with the texts of their queue, if anything; it reads no script, and changes and loses no device.
+/// Where the words are none of the program's, or ask for what isn't built yet, the status is Words, and nothing is touched.
 pub fn calm_top<P: Plant + Drop, S: Source>(
     alloc: Global,
     words: &[String],
@@ -41,12 +44,15 @@ pub fn calm_top<P: Plant + Drop, S: Source>(
         → (script.new ≡ script.old) × IsReport P.tells result.status result.base result.journal result.since (P.view plant) (P.view result.plant) }
     ensures format { task_asked (map string_bytes words.now) ≡ Some Task.Format
         → IsPlayed true true (source_of S.tells (S.faults script.old) (S.faults script.new) (S.left script.old) (S.left script.new)) P.tells (result.plant ≡ plant) result.status result.base result.journal result.since (P.view plant) (P.view result.plant) }
+    ensures check { task_asked (map string_bytes words.now) ≡ Some Task.Check
+        → (script.new ≡ script.old) × (has_begun result.base ≡ false) × IsCheckRun P.tells result.status (P.view plant) (P.view result.plant) }
 
-    // In every run: why it ends, and whether it has begun. Unless it has begun it says nothing, and changes no byte of a volume.
+    // In every run: why it ends, and whether it has begun, which a check never does. Unless it has begun it changes no byte of a
+    // volume, and says nothing but the line of a check.
     ensures cause { IsCaused result.status (P.view plant) (P.view result.plant) }
-    ensures begun { Begins result.status result.base }
+    ensures begun { task_asked (map string_bytes words.now) ≢ Some Task.Check → Begins result.status result.base }
     ensures unbegun { has_begun result.base ≡ false → IsUnbegun result.base result.journal result.since (P.view result.plant).now }
-    ensures unsaid { P.tells → has_begun result.base ≡ false → console_now (P.view result.plant) ≡ console_now (P.view plant) }
+    ensures unsaid { P.tells → task_asked (map string_bytes words.now) ≢ Some Task.Check → has_begun result.base ≡ false → console_now (P.view result.plant) ≡ console_now (P.view plant) }
     ensures goes { Goes (P.view plant) (P.view result.plant) }
     ensures volumes { P.tells → has_begun result.base ≡ false → AreVolumesKept (P.view plant) (P.view result.plant) }
 {
@@ -58,5 +64,6 @@ pub fn calm_top<P: Plant + Drop, S: Source>(
         Task::Play(cold) => play_script(alloc, cold, false, script, plant),
         Task::Report => report_queue(alloc, plant),
         Task::Format => play_script(alloc, true, true, script, plant),
+        Task::Check => check_found(alloc, plant),
     }
 }

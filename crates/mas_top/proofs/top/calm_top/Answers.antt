@@ -8,8 +8,9 @@ use Rattle.mas_top.specs.Tasks.{task_asked}
 use Rattle.mas_run.proofs.RefusalLemmas.{free_answer}
 use Rattle.mas_run.proofs.VolumeLemmas.{kept_none, kept_on}
 use Rattle.mas_top.proofs.PlayLemmas.{not_played}
+use Rattle.mas_top.proofs.CheckLemmas.{check_caused, check_not_words, not_checked, volumes_kept}
 use Rattle.mas_top.proofs.ReportLemmas.{not_reported}
-use Rattle.mas_top.proofs.TaskLemmas.{none_some, play_same, play_not_report, play_not_format, report_not_format, none_words, words_or_memory, some_memory, memory_not_source, words_caused, words_begins}
+use Rattle.mas_top.proofs.TaskLemmas.{none_some, play_same, play_not_report, play_not_format, report_not_format, play_not_check, report_not_check, format_not_check, none_words, words_or_memory, some_memory, memory_not_source, words_caused, words_begins}
 use Rattle.mas_top.proofs.top.calm_top.Goals as goal
 
 -- A SCRIPT IS PLAYED
@@ -33,13 +34,16 @@ returns-in-Play-clause-play g c cold is =
     let e = c.play_script.ensures in
     let same : c.in-Play.cold ≡ cold = play_same (task_asked (map string_bytes c.args.words.now)) c.in-Play.cold cold (c.in-Ok.ensures ∙ ap Some c.in-Play.is) is in
     subst (λ (x : Bool). IsPlayed x false (source_of S.tells (S.faults c.args.script.now) (S.faults c.play_script.new.script) left (S.left c.play_script.new.script)) P.tells (r.plant ≡ c.args.plant) r.status r.base r.journal r.since old (P.view r.plant)) same
-    (record { refused = e.refused; words = e.words; device = e.device; formatted = e.formatted; unstarted = e.unstarted; faulted = e.source; untouched = e.untouched; volumes = e.volumes; formats = e.formats; loses = e.loses; room = e.room; read = e.read; run = e.run; complete = e.complete })
+    (record { refused = e.refused; words = e.words; device = e.device; formatted = e.formatted; unstarted = e.unstarted; faulted = e.source; untouched = e.untouched; idle = e.idle; unprinted = e.unprinted; volumes = e.volumes; formats = e.formats; loses = e.loses; room = e.room; roomy = e.roomy; read = e.read; run = e.run; complete = e.complete })
 
 pub returns-in-Play-clause-report : goal.returns-in-Play-clause-report
 returns-in-Play-clause-report g c is = absurd (play_not_report (task_asked (map string_bytes c.args.words.now)) c.in-Play.cold (c.in-Ok.ensures ∙ ap Some c.in-Play.is) is)
 
 pub returns-in-Play-clause-format : goal.returns-in-Play-clause-format
 returns-in-Play-clause-format g c is = absurd (play_not_format (task_asked (map string_bytes c.args.words.now)) c.in-Play.cold (c.in-Ok.ensures ∙ ap Some c.in-Play.is) is)
+
+pub returns-in-Play-clause-check : goal.returns-in-Play-clause-check
+returns-in-Play-clause-check g c is = absurd (play_not_check (task_asked (map string_bytes c.args.words.now)) c.in-Play.cold (c.in-Ok.ensures ∙ ap Some c.in-Play.is) is)
 
 -- A REPORT
 
@@ -61,6 +65,9 @@ returns-in-Report-clause-report g c is = (refl, c.report_queue.ensures.report)
 pub returns-in-Report-clause-format : goal.returns-in-Report-clause-format
 returns-in-Report-clause-format g c is = absurd (report_not_format (task_asked (map string_bytes c.args.words.now)) (c.in-Ok.ensures ∙ ap Some c.in-Report.is) is)
 
+pub returns-in-Report-clause-check : goal.returns-in-Report-clause-check
+returns-in-Report-clause-check g c is = absurd (report_not_check (task_asked (map string_bytes c.args.words.now)) (c.in-Ok.ensures ∙ ap Some c.in-Report.is) is)
+
 -- A FORMAT
 
 pub returns-in-Format-clause-words : goal.returns-in-Format-clause-words
@@ -81,7 +88,57 @@ returns-in-Format-clause-report g c is = absurd (report_not_format (task_asked (
 pub returns-in-Format-clause-format : goal.returns-in-Format-clause-format
 returns-in-Format-clause-format g c is =
     let e = c.play_script-in-Format.ensures in
-    record { refused = e.refused; words = e.words; device = e.device; formatted = e.formatted; unstarted = e.unstarted; faulted = e.source; untouched = e.untouched; volumes = e.volumes; formats = e.formats; loses = e.loses; room = e.room; read = e.read; run = e.run; complete = e.complete }
+    record { refused = e.refused; words = e.words; device = e.device; formatted = e.formatted; unstarted = e.unstarted; faulted = e.source; untouched = e.untouched; idle = e.idle; unprinted = e.unprinted; volumes = e.volumes; formats = e.formats; loses = e.loses; room = e.room; roomy = e.roomy; read = e.read; run = e.run; complete = e.complete }
+
+pub returns-in-Format-clause-check : goal.returns-in-Format-clause-check
+returns-in-Format-clause-check g c is = absurd (format_not_check (task_asked (map string_bytes c.args.words.now)) (c.in-Ok.ensures ∙ ap Some c.in-Format.is) is)
+
+-- A CHECK
+
+pub returns-in-Check-clause-words : goal.returns-in-Check-clause-words
+returns-in-Check-clause-words g c e =
+    let P = g.P.Plant in
+    let r = c.check_found.result in
+    absurd (check_not_words P.tells r.status (P.view c.args.plant) (P.view r.plant) c.check_found.ensures.check e)
+
+pub returns-in-Check-clause-refused : goal.returns-in-Check-clause-refused
+returns-in-Check-clause-refused g c none = absurd (none_some (task_asked (map string_bytes c.args.words.now)) task.Check none (c.in-Ok.ensures ∙ ap Some c.in-Check.is))
+
+pub returns-in-Check-clause-unread : goal.returns-in-Check-clause-unread
+returns-in-Check-clause-unread g c none = absurd (none_some (task_asked (map string_bytes c.args.words.now)) task.Check none (c.in-Ok.ensures ∙ ap Some c.in-Check.is))
+
+pub returns-in-Check-clause-play : goal.returns-in-Check-clause-play
+returns-in-Check-clause-play g c cold is = absurd (play_not_check (task_asked (map string_bytes c.args.words.now)) cold is (c.in-Ok.ensures ∙ ap Some c.in-Check.is))
+
+pub returns-in-Check-clause-report : goal.returns-in-Check-clause-report
+returns-in-Check-clause-report g c is = absurd (report_not_check (task_asked (map string_bytes c.args.words.now)) is (c.in-Ok.ensures ∙ ap Some c.in-Check.is))
+
+pub returns-in-Check-clause-format : goal.returns-in-Check-clause-format
+returns-in-Check-clause-format g c is = absurd (format_not_check (task_asked (map string_bytes c.args.words.now)) is (c.in-Ok.ensures ∙ ap Some c.in-Check.is))
+
+pub returns-in-Check-clause-check : goal.returns-in-Check-clause-check
+returns-in-Check-clause-check g c is = (refl, ap has_begun c.check_found.ensures.unbegun.queue, c.check_found.ensures.check)
+
+pub returns-in-Check-clause-cause : goal.returns-in-Check-clause-cause
+returns-in-Check-clause-cause g c =
+    let P = g.P.Plant in
+    let r = c.check_found.result in
+    check_caused P.tells r.status (P.view c.args.plant) (P.view r.plant) c.check_found.ensures.check
+
+pub returns-in-Check-clause-begun : goal.returns-in-Check-clause-begun
+returns-in-Check-clause-begun g c other = absurd (other (c.in-Ok.ensures ∙ ap Some c.in-Check.is))
+
+pub returns-in-Check-clause-unsaid : goal.returns-in-Check-clause-unsaid
+returns-in-Check-clause-unsaid g c told other = absurd (other (c.in-Ok.ensures ∙ ap Some c.in-Check.is))
+
+pub returns-in-Check-clause-goes : goal.returns-in-Check-clause-goes
+returns-in-Check-clause-goes g c = c.check_found.ensures.check.devices.goes
+
+pub returns-in-Check-clause-volumes : goal.returns-in-Check-clause-volumes
+returns-in-Check-clause-volumes g c told none =
+    let P = g.P.Plant in
+    let r = c.check_found.result in
+    volumes_kept P.tells (P.view c.args.plant) (P.view r.plant) c.check_found.ensures.check.devices told
 
 -- WORDS THAT AREN'T READ
 
@@ -126,11 +183,18 @@ returns-in-Err-clause-format g c is =
     not_played true true (source_of S.tells (S.faults c.args.script.now) (S.faults c.args.script.now) left left) P.tells (u.plant ≡ c.args.plant) u.status u.base u.journal u.since old (P.view u.plant) e.unbegun.queue e.plant (ap P.view e.plant)
     (λ told. free_answer true (refusal_before_play true true left old) u.status (inr memory)) (ap is_of_script memory) (λ f. absurd (memory_not_source u.status memory f))
 
+pub returns-in-Err-clause-check : goal.returns-in-Err-clause-check
+returns-in-Err-clause-check g c is =
+    let P = g.P.Plant in
+    let e = c.unbegun.ensures in
+    let memory = e.status ∙ c.status_of_no.ensures ∙ some_memory (task_asked (map string_bytes c.args.words.now)) task.Check c.in-Err.why c.in-Err.ensures is in
+    (refl, ap has_begun e.unbegun.queue, rw (memory, e.plant) (not_checked P.tells (P.view c.args.plant)))
+
 pub returns-in-Err-clause-cause : goal.returns-in-Err-clause-cause
 returns-in-Err-clause-cause g c = rw (c.unbegun.ensures.status, c.status_of_no.ensures) (words_caused c.in-Err.why (g.P.Plant.view c.args.plant) (g.P.Plant.view c.unbegun.result.plant))
 
 pub returns-in-Err-clause-begun : goal.returns-in-Err-clause-begun
-returns-in-Err-clause-begun g c = rw (c.unbegun.ensures.status, c.status_of_no.ensures) (words_begins c.in-Err.why c.unbegun.result.base c.unbegun.ensures.unbegun.queue)
+returns-in-Err-clause-begun g c other = rw (c.unbegun.ensures.status, c.status_of_no.ensures) (words_begins c.in-Err.why c.unbegun.result.base c.unbegun.ensures.unbegun.queue)
 
 -- THE SPOOL VOLUMES
 
