@@ -1,7 +1,7 @@
 -- The bytes of a directory: written number by number, and read back.
 use Rattle.std.proofs.Common.{◌≡◌, ℕ, zero, suc, ◌+◌, ◌*◌, ◌-◌, ◌/◌, ◌%◌, ◌≤◌, ◌<◌, nat_le, true, List, [], ◌∷◌, ◌++◌, length, take, drop, set, get_or, replicate, append_assoc, length-append, refl, sym, ◌∙◌, ap, subst, arith, All}
 use Rattle.std.proofs.lemmas.Bool.{and_from, lt-ltb, le-leb, eq-eqb}
-use Rattle.std.proofs.lemmas.List.{take_at, drop_at, take_more, take_more_set, get_or-drop, drop-drop}
+use Rattle.std.proofs.lemmas.List.{take_at, drop_at, take_more, take_more_set, get_or-drop, drop-drop, length-replicate}
 use Rattle.std.proofs.lemmas.List.Elements.{All-head, All-tail}
 use Rattle.std.specs.List.Sorted.{IsStrictlyIncreasing}
 use Rattle.std.specs.Int.{w16, to_be_bytes}
@@ -173,6 +173,14 @@ module _ (n : ℕ) (level numbers : List ℕ) (few : n ≤ pages_most) (size : l
       ap (λ (m : ℕ). are_zeros (drop (16 + 2 * m) (directory level numbers))) count_back
       ∙ ap are_zeros (drop_at (to_be_bytes w16 (length numbers) ++ replicate 6 0 ++ level ++ word_bytes numbers) (replicate (page_bytes - (16 + 2 * length numbers)) 0) (16 + 2 * length numbers) front_length)
       ∙ zeros_are (page_bytes - (16 + 2 * length numbers))
+
+  pub directory_length : length (directory level numbers) ≡ page_bytes
+  directory_length =
+      let front = front_length in
+      let most = pages_few n numbers are in
+      let zeros = length-replicate {A = ℕ} (page_bytes - (16 + 2 * length numbers)) 0 in
+      let sum = length-append (to_be_bytes w16 (length numbers) ++ replicate 6 0 ++ level ++ word_bytes numbers) (replicate (page_bytes - (16 + 2 * length numbers)) 0) in
+      omega (arith, front, most, few, zeros, sum)
 
   pub spelled_back : is_directory n (directory level numbers) ≡ true
   spelled_back =

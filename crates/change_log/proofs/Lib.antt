@@ -1,3 +1,11 @@
 pub mod Directing
 pub mod Spelling
 pub mod Placed
+pub mod Filling
+pub mod Gating
+pub mod LogForming
+pub mod LogFinds
+pub mod Paging
+pub mod Homing
+pub mod Gates
+pub mod Putting

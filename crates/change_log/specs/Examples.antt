@@ -1,7 +1,7 @@
 -- Logs written out.
 use Rattle.std.specs.Prelude.{◌≡◌, ℕ, ◌*◌, zero, suc, true, false, List, [], ◌∷◌, replicate, refl}
-use Rattle.change_log.specs.Directories.{numbers_in, is_directory}
-use Rattle.change_log.specs.Logs.{log_size, directory_block, block_head, place, free_after}
+use Rattle.change_log.specs.Directories.{numbers_in, is_directory, directory_front}
+use Rattle.change_log.specs.Logs.{log_size, directory_block, block_head, place, free_after, is_valid, room_in}
 
 -- pages 0, 3 and 259 at a level that may be any
 pub three_numbers : numbers_in (0 ∷ 3 ∷ 0 ∷ 0 ∷ 0 ∷ 0 ∷ 0 ∷ 0 ∷ 0 ∷ 0 ∷ 0 ∷ 0 ∷ 0 ∷ 0 ∷ 1 ∷ 7 ∷ 0 ∷ 0 ∷ 0 ∷ 3 ∷ 1 ∷ 3 ∷ 0 ∷ []) ≡ 0 ∷ 3 ∷ 259 ∷ []
@@ -30,6 +30,31 @@ one_behind = refl
 -- block 0 after VALID, of 36 pages
 pub head_of_36 : block_head 36 ≡ 2 ∷ 0 ∷ 36 ∷ 0 ∷ 0 ∷ 0 ∷ 0 ∷ 0 ∷ 0 ∷ 0 ∷ 0 ∷ []
 head_of_36 = refl
+
+-- a valid block 0 of 36 pages, slots 0 and 1 open: on a device with room for a log of them, and on one with a byte less
+abbrev head : List ℕ
+head = 165 ∷ 2 ∷ 0 ∷ 36 ∷ 0 ∷ 0 ∷ 0 ∷ 0 ∷ 165 ∷ 165 ∷ 0 ∷ 0 ∷ []
+
+pub valid_head : is_valid head 757760 ≡ true
+valid_head = refl
+
+pub small_device : is_valid head 757759 ≡ false
+small_device = refl
+
+pub room_of_head : room_in head ≡ 2
+room_of_head = refl
+
+-- with VALID closed, and of the areas form
+pub shut_head : is_valid (0 ∷ 2 ∷ 0 ∷ 36 ∷ []) 757760 ≡ false
+shut_head = refl
+
+pub areas_head : is_valid (165 ∷ 1 ∷ 0 ∷ 36 ∷ []) 757760 ≡ false
+areas_head = refl
+
+-- the directory of pages 0, 3 and 259 at level 9, up to its last number
+pub front_of_three : directory_front (0 ∷ 0 ∷ 0 ∷ 0 ∷ 0 ∷ 0 ∷ 0 ∷ 9 ∷ []) (0 ∷ 3 ∷ 259 ∷ [])
+    ≡ 0 ∷ 3 ∷ 0 ∷ 0 ∷ 0 ∷ 0 ∷ 0 ∷ 0 ∷ 0 ∷ 0 ∷ 0 ∷ 0 ∷ 0 ∷ 0 ∷ 0 ∷ 9 ∷ 0 ∷ 0 ∷ 0 ∷ 3 ∷ 1 ∷ 3 ∷ []
+front_of_three = refl
 
 -- the places of six pages: slot 0 lists pages 0 and 3, slot 1 pages 0 and 5, slots 2 and 3 are closed
 abbrev two_slots : ℕ → List ℕ

@@ -6,3 +6,6 @@ pub mod Placing
 pub mod LogImages
 pub mod Laws
 pub mod Examples
+pub mod LogRests
+pub mod LogStaying
+pub mod LogFound

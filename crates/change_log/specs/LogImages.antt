@@ -71,7 +71,7 @@ pub has_as_disk : (disk : Disk) (image : List ℕ) → Fits disk image → (at l
 has_as_disk disk image fits at len bytes has = record { there = has_image at len bytes disk image has fits; sure = tt }
 
 -- one byte of a list
-byte_at : (at v : ℕ) (l : List ℕ) → slice at 1 l ≡ v ∷ [] → slice_index l at ≡ v
+pub byte_at : (at v : ℕ) (l : List ℕ) → slice at 1 l ≡ v ∷ [] → slice_index l at ≡ v
 byte_at at v l is = let e : at ≡ at + 0 = omega arith in ap (λ (m : ℕ). slice_index l m) e ∙ byte_in at 1 0 (v ∷ []) l is (omega arith)
 
 pub one_byte : (at : ℕ) (l : List ℕ) → at < length l → slice at 1 l ≡ slice_index l at ∷ []

@@ -1,7 +1,7 @@
 // Where the parts of a copy in the log form stand. Blocks are counted from 0.
 ghost use Rattle.std.specs.Prelude.{◌≡◌, ◌+◌, ◌*◌, ◌≤◌, ◌<◌, length};
 ghost use Rattle.mas_types.specs.Limits.{page_bytes, pages_most};
-ghost use Rattle.change_log.specs.Logs.{slots, log_size, gate_of, directory_block, block_head, free_after};
+ghost use Rattle.change_log.specs.Logs.{slots, log_size, gate_of, directory_block, image_block, block_head, free_after};
 
 use mas_types::limits::PAGE_BYTES;
 
@@ -40,6 +40,15 @@ pub fn directory_place(pages: u16, slot: u8) -> u64
     1 + pages as u64 + slot as u64 * (pages as u64 + 1)
 }
 
+// The block of a slot's first image, for a copy of so many pages.
+pub(crate) fn image_place(pages: u16, slot: u8) -> u16
+    requires slot { slot < slots }
+    requires pages { pages ≤ pages_most }
+    ensures { result ≡ image_block pages slot 0 }
+{
+    directory_place(pages, slot) as u16 + 1
+}
+
 /// Block 0 of a copy of so many pages from byte 1 on, from the form to the gates, each of them closed.
 pub fn log_head(pages: u16) -> [u8; 11]
     ensures { result ≡ block_head pages }
@@ -50,7 +59,8 @@ pub fn log_head(pages: u16) -> [u8; 11]
 
 /// The puts possible before the slots are closed again: the slots after the last whose gate is open, 4 where none is.
 pub fn free_slots(gates: &[bool; SLOTS as usize]) -> u8
-    ensures { result ≡ free_after 0 gates.now }
+    ensures free { result ≡ free_after 0 gates.now }
+    ensures few { result ≤ slots }
 {
     let mut free = 0;
     for is_open in gates {

@@ -16,11 +16,15 @@
 #![tactic(auto)]
 
 mod directory;
+mod finding;
 mod laws;
 mod layout;
+mod log_copy;
 mod places;
+mod writing;
 
 pub use directory::{Listed, read_directory, write_directory};
 pub use laws::{law_of_closed_slots, law_of_directories, law_of_logs_at_rest, law_of_opened_slots};
 pub use layout::{FORM_LOG, SLOTS, directory_place, free_slots, gate_at, log_head, size_of_log};
+pub use log_copy::LogCopy;
 pub use places::{PLACES, home_places, lay_images};
