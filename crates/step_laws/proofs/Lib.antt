@@ -1,0 +1,5 @@
+mod Alike
+mod Courses
+mod Work
+mod Looks
+mod Joins

@@ -1,0 +1,132 @@
+-- A member takes its groups by two Takes at most, since one that gets fewer than it wants leaves none to be taken.
+use Rattle.std.proofs.Common.{◌≡◌, ℕ, zero, suc, ◌+◌, ◌-◌, ◌≤◌, ◌<◌, ◌==◌, nat_lt, min, Bool, true, false, if◌then◌else◌, List, [], ◌∷◌, ◌++◌, length, refl, ap, ◌∙◌, eq-eqb, arith}
+use Rattle.std.proofs.lemmas.Bool.Decides.{nat_tests}
+use Rattle.std.proofs.lemmas.List.{length-append}
+use Rattle.std.proofs.lemmas.List.Sums.{sum_by-cons}
+use Rattle.std.specs.Prelude.{count_by}
+use Rattle.mas_types.specs.declared.ids.MemberId.{MemberId}
+use Rattle.mas_types.specs.declared.ids.JobNo.{JobNo}
+use Rattle.mas_types.specs.declared.commands.Command.{Command}
+use Rattle.mas_types.specs.declared.commands.Command.TheVariants as command
+use Rattle.mas_types.specs.declared.commands.Reply.{Reply}
+use Rattle.mas_types.specs.declared.commands.Reply.TheVariants as reply
+use Rattle.mas_types.specs.declared.jobs.JobFields.{JobFields}
+use Rattle.mas_types.specs.declared.jobs.OutSpec.{OutSpec}
+use Rattle.mas_types.specs.declared.queues.Owner.{Owner}
+use Rattle.mas_types.specs.declared.queues.Owner.TheVariants as owner
+use Rattle.mas_types.specs.declared.queues.Queue.{Queue}
+use Rattle.mas_types.specs.Owners.{free_count, is_free, taken}
+use Rattle.mas_types.specs.Step.{step}
+use Rattle.queue_laws.specs.Laws.{is_refusal}
+use Rattle.queue_laws.proofs.Finds.{test_cases}
+use Rattle.step_turns.specs.Decks.{after_begin, are_refused, opening, takes}
+use Rattle.step_turns.specs.Entries.{reply_to}
+use Rattle.step_turns.specs.JobEnds.{drop_groups, ending, taking}
+
+-- WHAT IS FREE AFTER A TAKE
+
+module _ (p : Owner → Bool) (o : Owner) (gs : List Owner) where
+  count_by-cons_yes : p o ≡ true → count_by p (o ∷ gs) ≡ 1 + count_by p gs
+  count_by-cons_yes h = rw (sum_by-cons (λ y. if p y then 1 else 0) o gs, h) refl
+
+  count_by-cons_no : p o ≡ false → count_by p (o ∷ gs) ≡ count_by p gs
+  count_by-cons_no h = rw (sum_by-cons (λ y. if p y then 1 else 0) o gs, h) (omega arith)
+
+module _ (m : MemberId) where
+  not_free : (want : ℕ) (o : Owner) (gs : List Owner) → is_free o ≡ false → free_count (taken m want gs) ≡ free_count gs - want → free_count (taken m want (o ∷ gs)) ≡ free_count (o ∷ gs) - want
+  not_free want o gs e more =
+      let same : taken m want (o ∷ gs) ≡ o ∷ taken m want gs = rw e refl in
+      let here : free_count (taken m want (o ∷ gs)) ≡ free_count (taken m want gs) = ap free_count same ∙ count_by-cons_no is_free o (taken m want gs) e in
+      let free : free_count (o ∷ gs) ≡ free_count gs = count_by-cons_no is_free o gs e in
+      omega (arith, here, free, more)
+
+  free_then : (want : ℕ) (gs : List Owner) → free_count (taken m want gs) ≡ free_count gs - want
+  free_then want [] = omega arith
+  free_then want (owner.Free ∷ gs) =
+      let free : free_count (owner.Free ∷ gs) ≡ 1 + free_count gs = count_by-cons_yes is_free owner.Free gs refl in
+      test_cases (nat_lt 0 want) (free_count (taken m want (owner.Free ∷ gs)) ≡ free_count (owner.Free ∷ gs) - want)
+      (λ e. let some : 0 < want = grind (arith, nat_tests) in
+      let same : taken m want (owner.Free ∷ gs) ≡ owner.Member m ∷ taken m (want - 1) gs = rw e refl in
+      let here : free_count (taken m want (owner.Free ∷ gs)) ≡ free_count (taken m (want - 1) gs) = ap free_count same ∙ count_by-cons_no is_free (owner.Member m) (taken m (want - 1) gs) refl in
+      let more = free_then (want - 1) gs in
+      omega (arith, here, free, more, some))
+      (λ e. let none : want ≡ 0 = grind (arith, nat_tests) in
+      let same : taken m want (owner.Free ∷ gs) ≡ owner.Free ∷ taken m want gs = rw e refl in
+      let here : free_count (taken m want (owner.Free ∷ gs)) ≡ 1 + free_count (taken m want gs) = ap free_count same ∙ count_by-cons_yes is_free owner.Free (taken m want gs) refl in
+      let more = free_then want gs in
+      omega (arith, here, free, more, none))
+  free_then want (owner.Member h ∷ gs) = not_free want (owner.Member h) gs refl (free_then want gs)
+  free_then want (owner.Deck n p ∷ gs) = not_free want (owner.Deck n p) gs refl (free_then want gs)
+  free_then want (owner.Output n i p ∷ gs) = not_free want (owner.Output n i p) gs refl (free_then want gs)
+
+-- HOW MANY TAKES
+
+-- where nothing is free the first one is refused
+takes_dry : (times : ℕ) (Q : Queue) (by : MemberId) (missing : ℕ) → free_count Q.owners ≡ 0 → length (takes times Q by missing) ≤ 1
+takes_dry zero Q by missing none = omega arith
+takes_dry (suc times) Q by zero none = omega arith
+takes_dry (suc times) Q by (suc missing) none = let e : (free_count Q.owners == 0) ≡ true = eq-eqb (free_count Q.owners) 0 none in rw e (omega arith)
+
+-- after a Take of so many groups where so many were free
+takes_then : (times : ℕ) (Q : Queue) (by : MemberId) (left want free : ℕ) → left ≡ want - min want free → free_count Q.owners ≡ free - want → length (takes times Q by left) ≤ 1
+takes_then zero Q by left want free is count = omega arith
+takes_then (suc times) Q by zero want free is count = omega arith
+takes_then (suc times) Q by (suc left) want free is count = takes_dry (suc times) Q by (suc left) (omega (arith, is, count))
+
+one_more : (n : ℕ) → n ≤ 1 → suc n ≤ 2
+one_more n le = omega (arith, le)
+
+pub takes_few : (times : ℕ) (Q : Queue) (by : MemberId) (missing : ℕ) → length (takes times Q by missing) ≤ 2
+takes_few zero Q by missing = omega arith
+takes_few (suc times) Q by zero = omega arith
+takes_few (suc times) Q by (suc missing) =
+    test_cases (free_count Q.owners == 0) (length (takes (suc times) Q by (suc missing)) ≤ 2)
+    (λ e. rw e (omega arith))
+    (λ e. let free = free_count Q.owners in
+    let want = suc missing in
+    let now = (step Q by (command.Take want)).0 in
+    let is : (step Q by (command.Take want)).1 ≡ reply.Count (min want free) = rw e refl in
+    let counted : free_count now.owners ≡ free - want = rw e (free_then by want Q.owners) in
+    let few : length (takes times now by (want - min want free)) ≤ 1 = takes_then times now by (want - min want free) want free refl counted in
+    rw is (one_more (length (takes times now by (want - min want free))) few))
+
+pub takes_some : (times : ℕ) (Q : Queue) (by : MemberId) (missing : ℕ) → 1 ≤ length (takes (suc times) Q by (suc missing))
+takes_some times Q by missing = omega arith
+
+-- WHAT A PART HAS
+
+one_if : (b : Bool) (c : Command) → length (if b then c ∷ [] else []) ≤ 1
+one_if true c = omega arith
+one_if false c = omega arith
+
+few_with : (b : Bool) (cs : List Command) (c : Command) → length cs ≤ 2 → length (cs ++ (if b then c ∷ [] else [])) ≤ 3
+few_with b cs c few = let both = length-append cs (if b then c ∷ [] else []) in let one = one_if b c in omega (arith, both, one, few)
+
+some_with : (cs ds : List Command) → 1 ≤ length cs → 1 ≤ length (cs ++ ds)
+some_with cs ds some = let both = length-append cs ds in omega (arith, both, some)
+
+few_after_begin : (Q : Queue) (by : MemberId) (groups : ℕ) (r : Reply) → length (after_begin Q by groups r) ≤ 3
+few_after_begin Q by groups reply.Plain = omega arith
+few_after_begin Q by groups (reply.Job n) = few_with (are_refused groups Q by groups) (takes groups Q by groups) (command.Drop n) (takes_few groups Q by groups)
+few_after_begin Q by groups (reply.Output n i) = omega arith
+few_after_begin Q by groups (reply.Count n) = omega arith
+few_after_begin Q by groups (reply.Shown lines) = omega arith
+few_after_begin Q by groups (reply.No why) = omega arith
+
+pub few_opening : (Q : Queue) (by : MemberId) (fields : JobFields) (groups : ℕ) → length (opening Q by fields groups) ≤ 4
+few_opening Q by fields groups = let few = few_after_begin (step Q by (command.Begin fields)).0 by groups (step Q by (command.Begin fields)).1 in omega (arith, few)
+
+pub some_opening : (Q : Queue) (by : MemberId) (fields : JobFields) (groups : ℕ) → 1 ≤ length (opening Q by fields groups)
+some_opening Q by fields groups = omega arith
+
+pub few_taking : (Q : Queue) (by : MemberId) (needed : ℕ) → length (taking Q by needed) ≤ 3
+few_taking Q by needed = few_with (are_refused needed Q by needed) (takes needed Q by needed) drop_groups (takes_few needed Q by needed)
+
+pub some_taking : (Q : Queue) (by : MemberId) (needed : ℕ) → 1 ≤ length (taking Q by (suc needed))
+some_taking Q by needed = some_with (takes (suc needed) Q by (suc needed)) (if are_refused (suc needed) Q by (suc needed) then drop_groups ∷ [] else []) (takes_some needed Q by needed)
+
+pub few_ending : (Q : Queue) (by : MemberId) (n : JobNo) (specs : List OutSpec) → length (ending Q by n specs) ≤ 2
+few_ending Q by n specs = let one = one_if (is_refusal (reply_to Q by (command.Ended n specs))) drop_groups in omega (arith, one)
+
+pub some_ending : (Q : Queue) (by : MemberId) (n : JobNo) (specs : List OutSpec) → 1 ≤ length (ending Q by n specs)
+some_ending Q by n specs = omega arith

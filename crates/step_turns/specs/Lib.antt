@@ -1,0 +1,10 @@
+pub mod Entries
+pub mod States
+pub mod Decks
+pub mod JobEnds
+pub mod Batches
+pub mod Turns
+pub mod Sittings
+pub mod Courses
+pub mod Laws
+pub mod Examples
