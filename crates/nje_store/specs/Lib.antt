@@ -1,0 +1,4 @@
+pub mod Custody
+pub mod Wire
+pub mod Laws
+pub mod Examples
