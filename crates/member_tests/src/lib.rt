@@ -1,14 +1,6 @@
-//! Members at work: the lock, commands on a checkpoint, batches that a stopped member left in flight, runs of events, and threads.
+//! Members at work: batches that a stopped member left in flight, and threads.
 #![tactic(auto)]
 
-#[cfg(test)]
-mod commands;
-#[cfg(test)]
-mod events;
-#[cfg(test)]
-mod held;
-#[cfg(test)]
-mod locks;
 #[cfg(test)]
 mod quiet;
 #[cfg(test)]
@@ -17,9 +9,5 @@ mod recovered;
 mod shared;
 #[cfg(test)]
 mod threads;
-#[cfg(test)]
-mod turns;
-#[cfg(test)]
-mod worlds;
 #[cfg(test)]
 mod writing;

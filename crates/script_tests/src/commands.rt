@@ -1,114 +1,99 @@
-use mas_types::{Class, Command, JobNo, List, MemberId, Name8, OutNo, Prio, What};
-use operator_cmds::{CommandNo, WriteNo, read_command, write_command};
-use std::test::Fail;
+// The program's words and the operator's commands, as they are read.
+use crate::reading::add_refusal;
+use mas_types::{Class, Command, JobNo, List, MemberId, Name8, NoMemory, OutNo, Prio, What};
+use mas_words::{Verb, Words, WordsNo, read_words};
+use operator_cmds::{read_command, write_command};
+use std::alloc::{AllocError, Global};
+use std::str;
+use tests_lines::{add_flag, add_number};
 
-#[test]
-fn reads_each_spelling(rt: HostRuntime) -> Result<(), Fail> {
-    for (text, want) in [
-        (b"$HJ1".as_slice(), b"$HJ1".as_slice()),
-        (b"$HJ99999".as_slice(), b"$HJ99999".as_slice()),
-        (b"$AJ00012".as_slice(), b"$AJ12".as_slice()),
-        (b"$CJ7".as_slice(), b"$CJ7".as_slice()),
-        (b"$TJ7,P=15".as_slice(), b"$TJ7,P=15".as_slice()),
-        (b"$TJ7,P=0000000000".as_slice(), b"$TJ7,P=0".as_slice()),
-        (b"$TJ7,C=9".as_slice(), b"$TJ7,C=9".as_slice()),
-        (b"$OJ7".as_slice(), b"$OJ7".as_slice()),
-        (b"$COJ7.01".as_slice(), b"$COJ7.1".as_slice()),
-        (b"$TOJ7.32,Q=B".as_slice(), b"$TOJ7.32,Q=B".as_slice()),
-        (b"$DJ7".as_slice(), b"$DJ7".as_slice()),
-        (b"$DQ".as_slice(), b"$DQ".as_slice()),
-        (b"$DO".as_slice(), b"$DO".as_slice()),
-        (b"$DSPL".as_slice(), b"$DSPL".as_slice()),
-        (b"$DMEMBER".as_slice(), b"$DMEMBER".as_slice()),
-        (b"$TINIT,C=BA9".as_slice(), b"$TINIT,C=BA9".as_slice()),
-        (
-            b"$TPRT,Q=AB,F=STD,L=0020".as_slice(),
-            b"$TPRT,Q=AB,F=STD,L=20".as_slice(),
-        ),
-        (b"$BPRT,9999999".as_slice(), b"$BPRT,9999999".as_slice()),
-        (b"$FPRT,1".as_slice(), b"$FPRT,1".as_slice()),
-        (b"$EMEMBER(SYSH)".as_slice(), b"$EMEMBER(SYSH)".as_slice()),
-    ] {
-        let command = read_command(rt.alloc(), text)?;
-        let line = write_command(rt.alloc(), &command)?;
-        assert!(rt; line.as_slice() == want);
+fn words_in(alloc: Global, line: &str) -> Result<Vec<String>, AllocError> {
+    let mut words = Vec::new(alloc);
+    if line == "none" {
+        return Ok(words);
+    }
+    for word in line.split(' ') {
+        words.push(String::from_str(alloc, word)?)?;
+    }
+    Ok(words)
+}
+
+fn words_of(alloc: Global, text: &[u8]) -> Result<Words, WordsNo> {
+    let Ok(line) = str::from_utf8(text) else {
+        return Err(WordsNo::Words);
+    };
+    match words_in(alloc, line) {
+        Ok(words) => read_words(alloc, &words),
+        Err(_) => Err(WordsNo::NoMemory),
+    }
+}
+
+fn add_verb(out: &mut Vec<u8>, verb: Verb) -> Result<(), NoMemory> {
+    match verb {
+        Verb::Play => out.extend_from_slice(b"PLAY")?,
+        Verb::Race => out.extend_from_slice(b"RACE")?,
+        Verb::Format => out.extend_from_slice(b"FORMAT")?,
+        Verb::Report => out.extend_from_slice(b"REPORT")?,
+        Verb::Check => out.extend_from_slice(b"CHECK")?,
+        Verb::Generate(decks) => add_number(out, b"GENERATE ", decks as u64)?,
     }
     Ok(())
 }
 
-#[test]
-fn reads_what_is_typed(rt: HostRuntime) -> Result<(), Fail> {
-    let command = read_command(rt.alloc(), b"$TOJ7.32,Q=B")?;
-    let is = matches!(
-        command,
-        Command::SetOut {
-            job: JobNo(7),
-            index: OutNo(32),
-            class: Class(b'B')
+/// The words of a line, between blanks.
+pub fn add_words(alloc: Global, out: &mut Vec<u8>, text: &[u8]) -> Result<(), NoMemory> {
+    match words_of(alloc, text) {
+        Ok(words) => {
+            add_verb(out, words.verb)?;
+            add_flag(out, b" COLD", words.cold)?;
+            out.extend_from_slice(b" [")?;
+            out.extend_from_slice(words.dir.as_slice())?;
+            out.extend_from_slice(b"]")?;
+            Ok(())
         }
-    );
-    assert!(rt; is);
-    let command = read_command(rt.alloc(), b"$TJ12,P=3")?;
-    let is = matches!(
-        command,
-        Command::SetPrio {
-            job: JobNo(12),
-            prio: Prio(3)
+        Err(refusal) => add_refusal(alloc, out, &refusal),
+    }
+}
+
+/// A command, the first word of what it does and its numbers.
+pub fn add_meaning(out: &mut Vec<u8>, command: &Command) -> Result<(), NoMemory> {
+    match command {
+        Command::Hold { job } => add_number(out, b" HOLD ", job.0 as u64),
+        Command::SetPrio { job, prio } => {
+            add_number(out, b" PRIORITY ", job.0 as u64)?;
+            add_number(out, b" ", prio.0 as u64)
         }
-    );
-    assert!(rt; is);
-    let command = read_command(rt.alloc(), b"$EMEMBER(SYSB)")?;
-    let is = matches!(command, Command::Reset { of: MemberId(2) });
-    assert!(rt; is);
-    let command = read_command(rt.alloc(), b"$DO")?;
-    let is = matches!(
-        command,
+        Command::SetOut { job, index, class } => {
+            add_number(out, b" OUTPUT ", job.0 as u64)?;
+            add_number(out, b" ", index.0 as u64)?;
+            Ok(out.extend_from_slice(&[b' ', class.0])?)
+        }
+        Command::Reset { of } => add_number(out, b" RESET ", of.0 as u64),
+        Command::Show { what: What::Queue } => Ok(out.extend_from_slice(b" QUEUE")?),
         Command::Show {
-            what: What::Outputs
-        }
-    );
-    assert!(rt; is);
-    Ok(())
-}
-
-#[test]
-fn tells_where_a_text_stops_being_a_command(rt: HostRuntime) {
-    for (text, want) in [
-        (b"".as_slice(), 0),
-        (b"X".as_slice(), 0),
-        (b"$".as_slice(), 1),
-        (b"$hj1".as_slice(), 1),
-        (b"$DX".as_slice(), 2),
-        (b"$DSPLX".as_slice(), 5),
-        (b"$HJ".as_slice(), 3),
-        (b"$HJ0".as_slice(), 4),
-        (b"$HJ00000".as_slice(), 7),
-        (b"$HJ123456".as_slice(), 8),
-        (b"$HJ1 ".as_slice(), 4),
-        (b"$COJ1.0".as_slice(), 7),
-        (b"$COJ1.00".as_slice(), 7),
-        (b"$COJ1.33".as_slice(), 7),
-        (b"$TJ1,P=16".as_slice(), 8),
-        (b"$TJ1,P=000000000015".as_slice(), 17),
-        (b"$TJ1,Q=A".as_slice(), 5),
-        (b"$TJ1,C=a".as_slice(), 7),
-        (b"$TINIT,C=AA".as_slice(), 10),
-        (b"$TPRT,Q=A,F=STD".as_slice(), 15),
-        (b"$TPRT,Q=A,F=ABCDEFGHI,L=1".as_slice(), 20),
-        (b"$BPRT,0".as_slice(), 7),
-        (b"$BPRT,10000000".as_slice(), 13),
-        (b"$EMEMBER(SYSI)".as_slice(), 12),
-        (b"$EMEMBER(SYSA".as_slice(), 13),
-    ] {
-        let stops =
-            matches!(read_command(rt.alloc(), text), Err(CommandNo::BadCommand(n)) if n == want);
-        assert!(rt; stops);
+            what: What::Outputs,
+        } => Ok(out.extend_from_slice(b" OUTPUTS")?),
+        _ => Ok(()),
     }
 }
 
-#[test]
-fn writes_only_what_is_typed(rt: HostRuntime) {
-    let commands = [
+/// A command as it is written again.
+pub fn add_command(alloc: Global, out: &mut Vec<u8>, text: &[u8]) -> Result<(), NoMemory> {
+    let command = match read_command(alloc, text) {
+        Ok(command) => command,
+        Err(refusal) => return add_refusal(alloc, out, &refusal),
+    };
+    match write_command(alloc, &command) {
+        Ok(written) => out.extend_from_slice(written.as_slice())?,
+        Err(refusal) => return add_refusal(alloc, out, &refusal),
+    }
+    add_meaning(out, &command)
+}
+
+// Commands that no operator types, by what they do or by a number out of its range.
+fn untyped(alloc: Global) -> [Command; 14] {
+    let (job, index) = (JobNo(1), OutNo(33));
+    [
         Command::Restart,
         Command::Gather,
         Command::Take { want: 1 },
@@ -116,23 +101,20 @@ fn writes_only_what_is_typed(rt: HostRuntime) {
         Command::Hold {
             job: JobNo(100_000),
         },
-        Command::CancelOut {
-            job: JobNo(1),
-            index: OutNo(33),
-        },
+        Command::CancelOut { job, index },
         Command::SetPrio {
-            job: JobNo(1),
+            job,
             prio: Prio(16),
         },
         Command::SetClass {
-            job: JobNo(1),
+            job,
             class: Class(b'a'),
         },
         Command::SetInit {
-            classes: List::new(rt.alloc()),
+            classes: List::new(alloc),
         },
         Command::SetPrt {
-            classes: List::new(rt.alloc()),
+            classes: List::new(alloc),
             forms: Name8(*b"STD     "),
             lines: 20,
         },
@@ -140,9 +122,17 @@ fn writes_only_what_is_typed(rt: HostRuntime) {
         Command::Forward { lines: 10_000_000 },
         Command::Reset { of: MemberId(0) },
         Command::Reset { of: MemberId(9) },
-    ];
-    for command in &commands {
-        let untyped = matches!(write_command(rt.alloc(), command), Err(WriteNo::NotTyped));
-        assert!(rt; untyped);
+    ]
+}
+
+/// What the writer of commands answers to each of those.
+pub fn add_untyped(alloc: Global, out: &mut Vec<u8>) -> Result<(), NoMemory> {
+    for command in &untyped(alloc) {
+        match write_command(alloc, command) {
+            Ok(text) => out.extend_from_slice(text.as_slice())?,
+            Err(refusal) => add_refusal(alloc, out, &refusal)?,
+        }
+        out.extend_from_slice(b" ")?;
     }
+    Ok(())
 }

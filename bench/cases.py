@@ -1,0 +1,142 @@
+"""Cases that a queue must bear: many outputs that wait, a class that no printer takes, a queue that stays empty, and a
+start with all groups taken."""
+import os
+import subprocess
+import time
+
+from players import PAGE, SIZES, Taken, deck, in_folder
+
+# Where files are in memory: these cases are of the processor.
+MEMORY = "/dev/shm"
+
+
+def place(folder):
+    return MEMORY if folder is None and os.path.isdir(MEMORY) else folder
+
+
+def play(command, folder, lines, words=("--cold",)):
+    """Plays a script in a folder. For each of its lines is known what the run had taken."""
+    return Taken([*command, "play", *words], b"".join(lines), folder, None)
+
+
+def between(took, first, last):
+    """Seconds on the processor from one line of the console to another, counted from 1."""
+    return took.seen[last - 1][0] - took.seen[first - 1][0]
+
+
+PRINTED = 10
+
+
+def backlog(command, where, count):
+    """Outputs that wait for their class, and are printed by lines of WORK once the printer takes it: points of how many
+    wait and the milliseconds of each output, and how many of them are the program's own."""
+    front, _ = SIZES[102]
+    lines = [front, b"SYSA $TPRT,Q=B,F=STD,L=20\n", *(deck(number, b"A") for number in range(count))]
+    lines += [b"SYSA $TPRT,Q=A,F=STD,L=20\n", *[b"SYSA WORK %d\n" % (5 * PRINTED)] * (count // PRINTED)]
+    took = in_folder(where, lambda folder: play(command, folder, lines))
+    begin = 2 * count + 2
+    assert all(line.endswith(b" OK DONE %d\n" % (5 * PRINTED)) for line in took.told[begin:]), took.told[-1]
+    points = [
+        (count - PRINTED * (number + 1), 1000 * between(took, begin + number, begin + number + 1) / PRINTED)
+        for number in range(count // PRINTED)
+    ]
+    return points, 1000 * (took.seen[-1][2] - took.seen[begin - 1][2]) / count
+
+
+CLASSES = b"ABCDEFGHIJKLMNOPQRSTUVWXYZ0123456789"
+
+
+def waiting(command, where, count, cause, classes):
+    """Milliseconds of a deck with its work, and of an idle line of WORK, at so many outputs of class A that wait for
+    their class or for their forms, where the printer takes these classes."""
+    output = b"A" if cause == "class" else b"(A,,PAY)"
+    lines = [SIZES[102][0], b"SYSA $TPRT,Q=%s,F=STD,L=20\n" % classes]
+    lines += [*(deck(number, output) for number in range(count)), *[b"SYSA WORK 1\n"] * 100]
+    took = in_folder(where, lambda folder: play(command, folder, lines))
+    last = 2 * count + 1
+    return 1000 * between(took, last - 100, last) / 50, 1000 * between(took, last, last + 100) / 100
+
+
+def small_deck(number):
+    cards = [b"//PAY%05d JOB (1),CLASS=A,MSGCLASS=A" % number, b"//COPY EXEC PGM=IEBGENER", b"//SYSPRINT DD DUMMY"]
+    cards += [b"//SYSIN DD DUMMY", b"//SYSUT1 DD *", b"ONE LINE", b"/*", b"//SYSUT2 DD SYSOUT=A", b"//"]
+    return b"".join(line + b"\n" for line in [b"SYSA DECK", *cards, b"++END", b"SYSA WORK 20"])
+
+
+def empty(command, where, count):
+    """A queue from which each deck is printed and purged before the next: milliseconds a deck of each tenth, and the
+    KiB that each deck of the last nine tenths adds."""
+    lines = [SIZES[36][0], *map(small_deck, range(count))]
+    took = in_folder(where, lambda folder: play(command, folder, lines))
+    size = count // 10
+    tenths = [1000 * between(took, 2 * size * k or 1, 2 * size * (k + 1)) / size for k in range(10)]
+    return tenths, (took.seen[-1][1] - took.seen[2 * size][1]) / (count - size)
+
+
+CARD = b"%-80d"
+LONG = 9_999
+
+
+def long_deck(number):
+    cards = [b"//BIG%05d JOB (1),CLASS=A,MSGCLASS=A,TYPRUN=HOLD" % number, b"//COPY EXEC PGM=IEBGENER"]
+    cards += [b"//SYSUT1 DD *", *[CARD % card for card in range(LONG - 5)], b"/*", b"//"]
+    return b"".join(line + b"\n" for line in [b"SYSA DECK", *cards, b"++END"])
+
+
+def fill(command, folder):
+    """Fills all groups of the greatest configuration with decks."""
+    front, words, number = SIZES[323][0], ("--cold",), 0
+    while True:
+        took = play(command, folder, [front, *(long_deck(number + k) for k in range(15))], words)
+        front, words, number = b"", (), number + 15
+        if b"SPOOL FULL" in took.told[-1]:
+            break
+    # The last groups, by decks of a few cards.
+    held = [small_deck(number + k).replace(b"JOB (1)", b"JOB (1),TYPRUN=HOLD") for k in range(300)]
+    play(command, folder, held, ())
+
+
+def read_bare(folder):
+    """Seconds of a bare read, page by page, of the copies and of the volumes."""
+    begin = time.process_time()
+    for name in ["CKPT1", "CKPT2", *(f"SPOOL{number}" for number in range(1, 9))]:
+        file = os.open(os.path.join(folder, name), os.O_RDONLY)
+        for at in range(0, os.fstat(file).st_size, PAGE):
+            os.pread(file, PAGE, at)
+        os.close(file)
+    return time.process_time() - begin
+
+
+def start(command, folder, words=(), given=b""):
+    """Seconds on the processor of a start that plays nothing: the least of three."""
+    runs = []
+    for _ in range(3):
+        child = subprocess.Popen([*command, "play", *words], stdin=subprocess.PIPE, cwd=folder)
+        child.stdin.write(given)
+        child.stdin.close()
+        _, status, usage = os.wait4(child.pid, 0)
+        child.returncode = os.waitstatus_to_exitcode(status)
+        assert child.returncode == 0, child.returncode
+        runs.append(usage.ru_utime + usage.ru_stime)
+    return min(runs)
+
+
+def full_start(command, where):
+    """Of a start with all groups taken: how many are free, its seconds, and those of a bare read."""
+
+    def run(folder):
+        fill(command, folder)
+        told = play(command, folder, [b"SYSA $DSPL\n"], ()).told
+        free = sum(int(line.split()[5]) for line in told[:-1])
+        return free, start(command, folder), min(read_bare(folder) for _ in range(3))
+
+    return in_folder(where, run)
+
+
+def starts(command, where, pages):
+    """Seconds on the processor of a cold start at a size, and of a warm one."""
+
+    def run(folder):
+        return start(command, folder, ("--cold",), SIZES[pages][0]), start(command, folder)
+
+    return in_folder(where, run)

@@ -1,0 +1,18 @@
+use Rattle.member_tests.proofs.recovered.recovered_at.Goals as goal
+
+pub invariant_of-complex : goal.invariant_of-complex
+invariant_of-complex c =
+    let x = c.recovered_on.new.complex in record {
+      kept = x.kept;
+      replied = x.replied;
+      paper = x.paper;
+      first_ready = x.first_ready;
+      second_ready = x.second_ready;
+      first_lost = x.first_lost;
+      second_lost = x.second_lost;
+      one = x.one;
+      place_reserved = x.place_reserved;
+      place_current = x.place_current;
+      place = x.place;
+      few = x.few;
+    }
