@@ -60,12 +60,15 @@ pub(crate) fn read_head<P: Plant>(
 ) -> Result<Option<Head>, CopyNo>
     ensures cause { Caused by.0 dev (P.view plant.old) (P.view plant.new) (answer_of result) }
     ensures out { P.tells → IsOut dev (P.view plant.new) (answer_of result) }
-    ensures there { (P.view plant.old).lost (DiskPart dev) ≡ false → OnOk result ((P.view plant.new).lost (DiskPart dev) ≡ false) }
-    ensures during { P.tells → Meanwhile dev (NoMore (disk_now (P.view plant.old) dev)) (P.view plant.old) (P.view plant.new) }
+    ensures there { (P.view plant.old).lost (DiskPart dev) ≡ false
+        → OnOk result ((P.view plant.new).lost (DiskPart dev) ≡ false) }
+    ensures during { P.tells → Meanwhile dev (NoMore (disk_now (P.view plant.old) dev))
+        (P.view plant.old) (P.view plant.new) }
     ensures same { OnOk result (P.tells → disk_now (P.view plant.new) dev ≡ disk_now (P.view plant.old) dev) }
     ensures ready { IfOk result (λ found. IfSome found (λ head. IsReady head.pages ((P.view plant.old).size dev))) }
     ensures four { IfOk result (λ found. IfSome found (λ head. length head.gates ≡ slots)) }
-    ensures head { IfOk result (λ found. P.tells → IsHeadIn found (disk_now (P.view plant.old) dev).bytes ((P.view plant.old).size dev)) }
+    ensures head { IfOk result (λ found. P.tells → IsHeadIn found (disk_now
+        (P.view plant.old) dev).bytes ((P.view plant.old).size dev)) }
 {
     let size = plant.size(dev);
     if size < size_of_log(PAGES_LEAST) {
@@ -86,8 +89,10 @@ pub(crate) fn read_slots<P: Plant>(
     requires ready { IsReady head.now.pages ((P.view plant.old).size dev) }
     ensures cause { Caused by.0 dev (P.view plant.old) (P.view plant.new) (answer_of result) }
     ensures out { P.tells → IsOut dev (P.view plant.new) (answer_of result) }
-    ensures there { (P.view plant.old).lost (DiskPart dev) ≡ false → OnOk result ((P.view plant.new).lost (DiskPart dev) ≡ false) }
-    ensures during { P.tells → Meanwhile dev (NoMore (disk_now (P.view plant.old) dev)) (P.view plant.old) (P.view plant.new) }
+    ensures there { (P.view plant.old).lost (DiskPart dev) ≡ false
+        → OnOk result ((P.view plant.new).lost (DiskPart dev) ≡ false) }
+    ensures during { P.tells → Meanwhile dev (NoMore (disk_now (P.view plant.old) dev))
+        (P.view plant.old) (P.view plant.new) }
     ensures same { OnOk result (P.tells → disk_now (P.view plant.new) dev ≡ disk_now (P.view plant.old) dev) }
     ensures inside { IfOk result (λ found. IfSome found (λ places. AreInside head.now.pages places)) }
     ensures placed { IfOk result (λ found. P.tells → head.now.gates ≡ gates_in (disk_now (P.view plant.old) dev).bytes
@@ -126,8 +131,10 @@ pub(crate) fn read_pages<P: Plant>(
     requires inside { AreInside count places.now }
     ensures cause { Caused by.0 dev (P.view plant.old) (P.view plant.new) (answer_found result) }
     ensures out { P.tells → IsOut dev (P.view plant.new) (answer_found result) }
-    ensures there { (P.view plant.old).lost (DiskPart dev) ≡ false → OnOk result ((P.view plant.new).lost (DiskPart dev) ≡ false) }
-    ensures during { P.tells → Meanwhile dev (NoMore (disk_now (P.view plant.old) dev)) (P.view plant.old) (P.view plant.new) }
+    ensures there { (P.view plant.old).lost (DiskPart dev) ≡ false
+        → OnOk result ((P.view plant.new).lost (DiskPart dev) ≡ false) }
+    ensures during { P.tells → Meanwhile dev (NoMore (disk_now (P.view plant.old) dev))
+        (P.view plant.old) (P.view plant.new) }
     ensures same { OnOk result (P.tells → disk_now (P.view plant.new) dev ≡ disk_now (P.view plant.old) dev) }
     ensures valid { IsErrOf result FindNo.NotValid → ⊥ }
     ensures count { IfOk result (λ pages. length pages ≡ count) }

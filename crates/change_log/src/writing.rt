@@ -52,9 +52,12 @@ fn write_images<P: Plant>(
     requires size { page_bytes * (first + length changed.now) ≤ (P.view plant.old).size dev }
     ensures cause { Caused by.0 dev (P.view plant.old) (P.view plant.new) (answer_of result) }
     ensures out { P.tells → IsOut dev (P.view plant.new) (answer_of result) }
-    ensures during { P.tells → Meanwhile dev (Spreads (page_bytes * first) (page_bytes * length changed.now) (disk_now (P.view plant.old) dev)) (P.view plant.old) (P.view plant.new) }
+    ensures during { P.tells
+        → Meanwhile dev (Spreads (page_bytes * first) (page_bytes * length changed.now)
+        (disk_now (P.view plant.old) dev)) (P.view plant.old) (P.view plant.new) }
     ensures sized { OnOk result (length (bytes_of pages.now) ≡ page_bytes * length pages.now) }
-    ensures put { OnOk result (P.tells → AreImages first changed.now (bytes_of pages.now) (disk_now (P.view plant.new) dev).bytes) }
+    ensures put { OnOk result (P.tells → AreImages first changed.now (bytes_of pages.now)
+        (disk_now (P.view plant.new) dev).bytes) }
 {
     let mut count = 0;
     for (i, page) in pages.iter().enumerate() {
@@ -85,9 +88,13 @@ pub(crate) fn write_slot<P: Plant>(
     ensures cause { Caused by.0 dev (P.view plant.old) (P.view plant.new) (answer_of result) }
     ensures out { P.tells → IsOut dev (P.view plant.new) (answer_of result) }
     ensures there { OnOk result ((P.view plant.new).lost (DiskPart dev) ≡ false) }
-    ensures during { P.tells → Meanwhile dev (Spreads (page_bytes * directory_block (length pages.now) slot) (page_bytes * (length pages.now + 1)) (disk_now (P.view plant.old) dev)) (P.view plant.old) (P.view plant.new) }
+    ensures during { P.tells
+        → Meanwhile dev (Spreads (page_bytes * directory_block (length pages.now) slot)
+        (page_bytes * (length pages.now + 1)) (disk_now (P.view plant.old) dev))
+        (P.view plant.old) (P.view plant.new) }
     ensures sized { OnOk result (length (bytes_of pages.now) ≡ page_bytes * length pages.now) }
-    ensures written { OnOk result (P.tells → SlotWritten (length pages.now) slot changed.now (bytes_of pages.now) (disk_now (P.view plant.new) dev)) }
+    ensures written { OnOk result (P.tells → SlotWritten (length pages.now) slot changed.now
+        (bytes_of pages.now) (disk_now (P.view plant.new) dev)) }
 {
     let first = directory_place(pages.len() as u16, slot);
     let directory = write_directory(&level_in(&pages[0]), changed);
@@ -109,9 +116,12 @@ fn write_homes<P: Plant>(
     requires size { log_size (length pages.now) ≤ (P.view plant.old).size dev }
     ensures cause { Caused by.0 dev (P.view plant.old) (P.view plant.new) (answer_of result) }
     ensures out { P.tells → IsOut dev (P.view plant.new) (answer_of result) }
-    ensures during { P.tells → (gates : List Bool) → Rests (length pages.now) gates places.now (bytes_of pages.now) (disk_now (P.view plant.old) dev)
-        → Meanwhile dev (Rests (length pages.now) gates places.now (bytes_of pages.now)) (P.view plant.old) (P.view plant.new) }
-    ensures written { OnOk result (P.tells → (gates : List Bool) → Rests (length pages.now) gates places.now (bytes_of pages.now) (disk_now (P.view plant.old) dev)
+    ensures during { P.tells → (gates : List Bool) → Rests (length pages.now) gates places.now
+        (bytes_of pages.now) (disk_now (P.view plant.old) dev)
+        → Meanwhile dev (Rests (length pages.now) gates places.now (bytes_of pages.now))
+        (P.view plant.old) (P.view plant.new) }
+    ensures written { OnOk result (P.tells → (gates : List Bool)
+        → Rests (length pages.now) gates places.now (bytes_of pages.now) (disk_now (P.view plant.old) dev)
         → AreWritten (length pages.now) (bytes_of pages.now) (disk_now (P.view plant.new) dev).bytes) }
 {
     for (i, page) in pages.iter().enumerate() {
@@ -134,9 +144,12 @@ fn close_slots<P: Plant>(
     requires size { page_bytes ≤ (P.view plant.old).size dev }
     ensures cause { Caused by.0 dev (P.view plant.old) (P.view plant.new) (answer_of result) }
     ensures out { P.tells → IsOut dev (P.view plant.new) (answer_of result) }
-    ensures during { P.tells → (n : ℕ) → (places pages : List ℕ) → Rests n gates.now places pages (disk_now (P.view plant.old) dev) → AreHome n pages (disk_now (P.view plant.old) dev)
+    ensures during { P.tells → (n : ℕ) → (places pages : List ℕ) → Rests n gates.now places pages
+        (disk_now (P.view plant.old) dev) → AreHome n pages (disk_now (P.view plant.old) dev)
         → Meanwhile dev (AllRead reads pages) (P.view plant.old) (P.view plant.new) }
-    ensures closed { OnOk result (P.tells → (n : ℕ) → (places pages : List ℕ) → Rests n gates.now places pages (disk_now (P.view plant.old) dev) → AreHome n pages (disk_now (P.view plant.old) dev)
+    ensures closed { OnOk result (P.tells → (n : ℕ) → (places pages : List ℕ)
+        → Rests n gates.now places pages (disk_now (P.view plant.old) dev) → AreHome n pages
+        (disk_now (P.view plant.old) dev)
         → Stands n (λ s. []) pages (disk_now (P.view plant.new) dev)) }
 {
     for slot in 0..SLOTS {
@@ -161,9 +174,11 @@ pub(crate) fn settle_slots<P: Plant>(
     requires size { log_size (length pages.now) ≤ (P.view plant.old).size dev }
     ensures cause { Caused by.0 dev (P.view plant.old) (P.view plant.new) (answer_of result) }
     ensures out { P.tells → IsOut dev (P.view plant.new) (answer_of result) }
-    ensures during { P.tells → Rests (length pages.now) gates.now places.now (bytes_of pages.now) (disk_now (P.view plant.old) dev)
+    ensures during { P.tells → Rests (length pages.now) gates.now places.now (bytes_of pages.now)
+        (disk_now (P.view plant.old) dev)
         → Meanwhile dev (AllRead reads (bytes_of pages.now)) (P.view plant.old) (P.view plant.new) }
-    ensures settled { OnOk result (P.tells → Rests (length pages.now) gates.now places.now (bytes_of pages.now) (disk_now (P.view plant.old) dev)
+    ensures settled { OnOk result (P.tells → Rests (length pages.now) gates.now places.now
+        (bytes_of pages.now) (disk_now (P.view plant.old) dev)
         → Stands (length pages.now) (λ s. []) (bytes_of pages.now) (disk_now (P.view plant.new) dev)) }
 {
     write_homes(plant, by, dev, places, pages)?;
@@ -183,8 +198,11 @@ pub(crate) fn write_formed<P: Plant>(
     requires size { log_size (length pages.now) ≤ (P.view plant.old).size dev }
     ensures cause { Caused by.0 dev (P.view plant.old) (P.view plant.new) (answer_of result) }
     ensures out { P.tells → IsOut dev (P.view plant.new) (answer_of result) }
-    ensures during { P.tells → Meanwhile dev (Spreads 1 (page_bytes - 1 + page_bytes * length pages.now) (disk_now (P.view plant.old) dev)) (P.view plant.old) (P.view plant.new) }
-    ensures written { OnOk result (P.tells → pages_least ≤ length pages.now → Formed (length pages.now) (bytes_of pages.now) (disk_now (P.view plant.new) dev)) }
+    ensures during { P.tells
+        → Meanwhile dev (Spreads 1 (page_bytes - 1 + page_bytes * length pages.now) (disk_now
+        (P.view plant.old) dev)) (P.view plant.old) (P.view plant.new) }
+    ensures written { OnOk result (P.tells → pages_least ≤ length pages.now
+        → Formed (length pages.now) (bytes_of pages.now) (disk_now (P.view plant.new) dev)) }
 {
     write_act(plant, by, dev, HEAD_AT, &log_head(pages.len() as u16))?;
     write_pages(plant, by, dev, BLOCK, pages)?;
