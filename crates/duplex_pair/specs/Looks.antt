@@ -35,3 +35,8 @@ abbrev pub WasSeen : {C : Type 0} → (C → ℕ) → (C → ℕ) → ℕ → (C
 WasSeen count room room_most ready reads rests tells dev v was is alive Lost = WasLost dev v alive
 WasSeen count room room_most ready reads rests tells dev v was is alive Unread = WasUnread reads tells dev v was is alive
 WasSeen count room room_most ready reads rests tells dev v was is alive (Pages pages) = WasFound count room room_most ready rests tells dev v is alive pages
+
+-- the room of a copy that was found is that of its bytes
+abbrev pub HasRoom : {C : Type 0} → (C → ℕ) → (List ℕ → ℕ) → C → Look → List ℕ → Type 0
+HasRoom room room_in copy (Pages pages) bytes = room copy ≡ room_in bytes
+HasRoom room room_in copy _ bytes = Unit {0}

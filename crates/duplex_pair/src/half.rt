@@ -9,7 +9,7 @@ ghost use Rattle.ckpt_copy.specs.Meanwhile.{Meanwhile};
 ghost use Rattle.ckpt_copy.specs.Pages.{bytes_of, level, page_in, ArePages, Covers};
 ghost use Rattle.ckpt_copy.specs.Reading.{AllRead, EachReads, EachForms};
 ghost use Rattle.duplex_pair.specs.Halves.{Acted, IsGone, SameOrLost};
-ghost use Rattle.duplex_pair.specs.Looks.{WasSeen};
+ghost use Rattle.duplex_pair.specs.Looks.{HasRoom, WasSeen};
 ghost use Rattle.duplex_pair.specs.Outcomes.{half_stopped, look_stopped};
 ghost use Rattle.duplex_pair.specs.Both.{Touched};
 ghost use Rattle.duplex_pair.specs.Lagging.{IsLevelFound};
@@ -231,6 +231,7 @@ impl<C: Copying + Drop> Half<C> {
         ensures during { P.tells → Meanwhile (C.dev self.old.copy) (NoMore (disk_now (P.view plant.old) (C.dev self.old.copy))) (P.view plant.old) (P.view plant.new) }
         ensures seen { IfOk result (λ look. WasSeen C.count C.room C.room_most C.ready C.reads C.rests P.tells (C.dev self.old.copy) (P.view plant.new) self.old.copy self.new.copy self.new.alive look) }
         ensures level { IfOk result (λ look. IsLevelFound look self.new.found) }
+        ensures room { IfOk result (λ look. P.tells → HasRoom C.room C.room_in self.new.copy look (disk_now (P.view plant.new) (C.dev self.old.copy)).bytes) }
     {
         if !self.alive {
             return Ok(Look::Lost);

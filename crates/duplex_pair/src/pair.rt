@@ -13,7 +13,7 @@ ghost use Rattle.ckpt_copy.specs.Reading.{AllRead, EachReads, EachForms};
 ghost use Rattle.duplex_pair.specs.declared.errors.PairNo.TheVariants.{BothLost as PairNoBothLost, Halted as PairNoHalted};
 ghost use Rattle.duplex_pair.specs.Halves.{IsCkpt, pick, other, Acted, IsGone, SameOrLost, SomeAlive, IsBothLost, AreReady};
 ghost use Rattle.duplex_pair.specs.Lagging.{IsLevelFound};
-ghost use Rattle.duplex_pair.specs.Looks.{WasSeen};
+ghost use Rattle.duplex_pair.specs.Looks.{HasRoom, WasSeen};
 ghost use Rattle.duplex_pair.specs.Both.{PairActed, Touched, BothMeanwhile};
 ghost use Rattle.duplex_pair.specs.Outcomes.{half_stopped, pair_stopped, look_stopped, least_room};
 
@@ -263,6 +263,7 @@ impl<C: Copying + Drop> Pair<C> {
         ensures during { P.tells → Meanwhile dev (NoMore (disk_now (P.view plant.old) dev)) (P.view plant.old) (P.view plant.new) }
         ensures seen { IfOk result (λ look. WasSeen C.count C.room C.room_most C.ready C.reads C.rests P.tells dev (P.view plant.new) (pick dev self.old.first self.old.second).copy (pick dev self.new.first self.new.second).copy (pick dev self.new.first self.new.second).alive look) }
         ensures level { IfOk result (λ look. IsLevelFound look (pick dev self.new.first self.new.second).found) }
+        ensures room { IfOk result (λ look. P.tells → HasRoom C.room C.room_in (pick dev self.new.first self.new.second).copy look (disk_now (P.view plant.new) dev).bytes) }
     {
         match dev {
             Dev::Ckpt1 => self.first.look(alloc, plant, by),

@@ -1,5 +1,5 @@
 -- The pages that are found on two copies.
-use Rattle.std.proofs.Common.{◌≡◌, inl, inr, ⊎_elim, ℕ, ◌+◌, Bool, true, false, List, length, Option, Some, refl, ◌∙◌, ap, subst}
+use Rattle.std.proofs.Common.{◌≡◌, inl, inr, ⊎_elim, ℕ, ◌+◌, Bool, true, false, List, length, Option, Some, refl, sym, ◌∙◌, ap, subst}
 use Rattle.mas_types.specs.declared.ids.Page.{Page}
 use Rattle.mas_types.specs.declared.queues.Queue.{Queue}
 use Rattle.mas_types.specs.declared.journals.Entry.{Entry}
@@ -7,7 +7,10 @@ use Rattle.ckpt_copy.specs.Pages.{bytes_of, level}
 use Rattle.mas_complex.specs.declared.places.Place.{Place}
 use Rattle.mas_complex.specs.declared.places.Place.TheVariants.{Before, Opened}
 use Rattle.mas_complex.specs.Places.{IsAtLevel}
-use Rattle.mas_complex.specs.Seen.{OneSeen, Stays, Agrees, IsNextOr}
+use Rattle.mas_complex.specs.Seen.{OneSeen, Stays, Agrees, IsNextOr, DiffersAtFound}
+
+same_some : (xs ys : List ℕ) → Some xs ≡ Some ys → xs ≡ ys
+same_some xs ys e = cc
 
 clash : (p : Place) → p ≡ Before → p ≡ Opened → ⊥
 clash p a b = cc
@@ -29,7 +32,7 @@ module _ (reads : List ℕ → Option (List ℕ)) (tells : Type 0) (queue : Queu
     as_many = stays.0 ∙ as_many;
     has = ⊎_elim
         (λ s. inl (subst (λ (l : ℕ). IsAtLevel l reached place) s.0 at, λ told. read told ∙ ap Some s.1))
-        (λ s. inr (s.0, s.1 ∙ ap (λ (l : ℕ). l + 1) (at_before (level (bytes_of other)) place at s.0), s.2))
+        (λ s. inr (s.0, s.1 ∙ ap (λ (l : ℕ). l + 1) (at_before (level (bytes_of other)) place at s.0), s.2, λ told was is. subst (λ (w : List ℕ). DiffersAtFound w found) (same_some (bytes_of other) was (sym (read told) ∙ is)) s.3))
         stays.1;
   }
 

@@ -1,12 +1,17 @@
 -- Pages that are compared one by one.
-use Rattle.std.proofs.Common.{◌≡◌, ℕ, ◌+◌, ◌==◌, ◌&&◌, ◌||◌, Bool, true, false, List, [], ◌∷◌, ◌++◌, length, nat_le, if◌then◌else◌, refl, sym, ◌∙◌, ap, arith}
-use Rattle.std.proofs.lemmas.Bool.{and_right, and_parts, cond-true, eq-eqb}
+use Rattle.std.proofs.Common.{◌≡◌, inr, All, ℕ, ◌+◌, ◌==◌, ◌&&◌, ◌||◌, Bool, true, false, List, [], ◌∷◌, ◌++◌, length, nat_le, if◌then◌else◌, refl, sym, ◌∙◌, ap, subst, arith}
+use Rattle.std.proofs.lemmas.Bool.{and_right, and_parts, cond-true, eq-eqb, eqb-true, ne_eqb, leb-true}
 use Rattle.std.proofs.lemmas.Slice.Eq.{bytes_eq-Decides}
 use Rattle.std.specs.Str.{bytes_eq}
 use Rattle.mas_types.specs.declared.ids.Page.{Page}
 use Rattle.ckpt_copy.specs.Pages.{bytes_of, level}
 use Rattle.ckpt_pages.specs.Shape.{level_in}
+use Rattle.mas_complex.specs.declared.places.Place.{Place}
+use Rattle.mas_complex.specs.declared.places.Place.TheVariants.{Before}
 use Rattle.mas_complex.specs.Fits.{are_same, differ_at, first_page, fits}
+use Rattle.mas_complex.specs.Seen.{Stays}
+use Rattle.mas_types.specs.Limits.{page_bytes}
+use Rattle.mas_complex.proofs.Numbered.{found_covers}
 
 pub same_only : (xs ys : List Page) → (length xs ≡ length ys → ⊥) → false ≡ are_same xs ys
 same_only [] [] ne = absurd (ne refl)
@@ -55,3 +60,15 @@ fits_many found other room is = by_level (level (bytes_of other) == level (bytes
   by_level false is =
       let rest = (and_parts (level (bytes_of other) + 1 == level (bytes_of found)) (nat_le 1 room && differ_at (first_page found) (level (bytes_of found)) 0 found other) is).1 in
       differ_many (first_page found) (level (bytes_of found)) 0 found other (and_parts (nat_le 1 room) (differ_at (first_page found) (level (bytes_of found)) 0 found other) rest).1
+
+-- pages of a lower level that fit lag one level behind, and differ at the found level alone
+pub fits_below : (place : Place) (room : ℕ) (found other : List Page) → All (λ page. length page.0 ≡ page_bytes) found → All (λ page. length page.0 ≡ page_bytes) other → place ≡ Before
+    → (level (bytes_of other) ≡ level (bytes_of found) → ⊥) → fits found other room ≡ true → Stays place room found other
+fits_below place room found other sized sized' before differ fit =
+    let same : (level (bytes_of other) == level (bytes_of found)) ≡ false = ne_eqb (level (bytes_of other)) (level (bytes_of found)) differ in
+    let lag : ((level (bytes_of other) + 1 == level (bytes_of found)) && (nat_le 1 room && differ_at (first_page found) (level (bytes_of found)) 0 found other)) ≡ true =
+    subst (λ (b : Bool). (if b then are_same found other else (level (bytes_of other) + 1 == level (bytes_of found)) && (nat_le 1 room && differ_at (first_page found) (level (bytes_of found)) 0 found other)) ≡ true) same fit in
+    let next = and_parts (level (bytes_of other) + 1 == level (bytes_of found)) (nat_le 1 room && differ_at (first_page found) (level (bytes_of found)) 0 found other) lag in
+    let rest = and_parts (nat_le 1 room) (differ_at (first_page found) (level (bytes_of found)) 0 found other) next.1 in
+    let many = fits_many found other room fit in
+    (many, inr (before, sym (eqb-true (level (bytes_of other) + 1) (level (bytes_of found)) next.0), leb-true 1 room rest.0, found_covers found other many sized sized' rest.1))

@@ -15,6 +15,7 @@ pub mod Shows
 pub mod Apart
 pub mod Looking
 pub mod Fitted
+pub mod Numbered
 pub mod Choosing
 pub mod Recovered
 pub mod First

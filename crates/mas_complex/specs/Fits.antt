@@ -1,5 +1,5 @@
 -- Whether a copy's pages fit those that were found.
-use Rattle.std.specs.Prelude.{ℕ, ◌+◌, ◌==◌, ◌&&◌, ◌||◌, nat_le, if◌then◌else◌, Bool, true, false, List, [], ◌∷◌}
+use Rattle.std.specs.Prelude.{ℕ, ◌+◌, ◌==◌, ◌&&◌, ◌||◌, nat_le, if◌then◌else◌, Bool, true, false, List, [], ◌∷◌, ◌++◌}
 use Rattle.std.specs.Str.{bytes_eq}
 use Rattle.mas_types.specs.declared.ids.Page.{Page}
 use Rattle.mas_complex.specs.declared.places.Place.{Place}
@@ -38,3 +38,16 @@ is_before _ = false
 abbrev pub can_stay : Place → ℕ → List Page → List Page → Bool
 can_stay place room found other =
     if level (bytes_of other) == level (bytes_of found) then fits found other room else is_before place && fits found other room
+
+-- page p is the first, or has this level, as page 0 gives it
+abbrev pub is_found_at : List ℕ → ℕ → ℕ → Bool
+is_found_at page0 reached p = (p == 0) || (level_in page0 p == reached)
+
+-- the numbers of such pages, from page p on
+abbrev pub numbers_from : List ℕ → ℕ → ℕ → List Page → List ℕ
+numbers_from page0 reached p [] = []
+numbers_from page0 reached p (x ∷ xs) = (if is_found_at page0 reached p then p ∷ [] else []) ++ numbers_from page0 reached (p + 1) xs
+
+-- the numbers of page 0 and of the pages that have the level of these pages
+abbrev pub found_numbers : List Page → List ℕ
+found_numbers found = numbers_from (first_page found) (level (bytes_of found)) 0 found

@@ -6,7 +6,6 @@ pub mod Texts
 pub mod TextExamples
 pub mod Crash
 pub mod Headline
-pub mod Steady
 pub mod Elsewhere
 pub mod Seen
 pub mod Fits

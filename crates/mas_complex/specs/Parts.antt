@@ -16,7 +16,7 @@ use Rattle.mas_complex.specs.Journals.{begun, fated, with_last, entries_reserved
 use Rattle.mas_complex.specs.Paper.{printed_after}
 use Rattle.mas_complex.specs.declared.places.Place.{Place}
 use Rattle.mas_complex.specs.declared.places.Place.TheVariants.{Before}
-use Rattle.mas_complex.specs.declared.steady.Steady.{Ghosts as SteadyGhosts}
+use Rattle.ckpt_form.specs.declared.steady.Steady.{Ghosts as SteadyGhosts}
 use Rattle.mas_complex.specs.declared.complex.Complex.{Complex}
 
 -- all of them: the plant; each copy, whether it counts as alive, and the level that was found on it last; the rest as it stands

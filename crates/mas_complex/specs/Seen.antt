@@ -1,12 +1,12 @@
 -- How far the batch in flight has come on a copy that was looked at.
-use Rattle.std.specs.Prelude.{◌≡◌, ◌≢◌, ◌⊎◌, ℕ, ◌+◌, ◌≤◌, ◌==◌, if◌then◌else◌, Bool, true, false, List, length, Option, Some, None, Result, Ok, Err}
+use Rattle.std.specs.Prelude.{◌≡◌, ◌≢◌, ◌⊎◌, ℕ, ◌+◌, ◌≤◌, ◌==◌, nat_lt, if◌then◌else◌, Bool, true, false, List, length, Option, Some, None, Result, Ok, Err}
 use Rattle.mas_types.specs.declared.ids.Page.{Page}
 use Rattle.mas_types.specs.declared.journals.Batch.{Batch}
 use Rattle.mas_types.specs.declared.journals.Entry.{Entry}
 use Rattle.mas_types.specs.declared.journals.Fate.TheVariants.{Kept, Dropped}
 use Rattle.mas_types.specs.declared.queues.Queue.{Queue}
 use Rattle.mas_types.specs.Limits.{pages_most}
-use Rattle.ckpt_copy.specs.Pages.{bytes_of, level}
+use Rattle.ckpt_copy.specs.Pages.{bytes_of, level, Covers}
 use Rattle.duplex_pair.specs.declared.errors.Look.{Look}
 use Rattle.duplex_pair.specs.declared.errors.Look.TheVariants.{Lost, Unread, Pages}
 use Rattle.duplex_pair.specs.declared.errors.LookNo.{LookNo}
@@ -14,7 +14,7 @@ use Rattle.mas_complex.specs.Meaning.{StandFor}
 use Rattle.mas_complex.specs.declared.places.Place.{Place}
 use Rattle.mas_complex.specs.declared.places.Place.TheVariants.{Before, Opened, Unsure}
 use Rattle.mas_complex.specs.Journals.{with_last, fated}
-use Rattle.mas_complex.specs.Fits.{fits, can_stay}
+use Rattle.mas_complex.specs.Fits.{fits, can_stay, found_numbers}
 use Rattle.mas_complex.specs.Places.{IsAtLevel}
 
 -- pages of the level reached don't have the batch, others do; without pages it isn't known
@@ -50,22 +50,27 @@ abbrev pub ReadsSeen : (List ℕ → Option (List ℕ)) → List ℕ → Option 
 ReadsSeen reads bytes None = Unit {0}
 ReadsSeen reads bytes (Some pages) = reads bytes ≡ Some (bytes_of pages)
 
--- A copy that was looked at stays: it has the pages found, or it is as before the batch that they have, and has room.
+-- other pages differ from those found in page 0 and in pages of the found level alone
+abbrev pub DiffersAtFound : List ℕ → List Page → Type 0
+DiffersAtFound was found = Covers (length found) (found_numbers found) was (bytes_of found)
+
+-- A copy that was looked at stays: it has the pages found, or it is as before the batch that they have, differs from them at the
+-- found level alone, and has room.
 abbrev pub Stays : Place → ℕ → List Page → List Page → Type 0
-Stays place room found other = (length found ≡ length other) × (((level (bytes_of other) ≡ level (bytes_of found)) × (bytes_of other ≡ bytes_of found)) ⊎ ((place ≡ Before) × (level (bytes_of found) ≡ level (bytes_of other) + 1) × (1 ≤ room)))
+Stays place room found other = (length found ≡ length other) × (((level (bytes_of other) ≡ level (bytes_of found)) × (bytes_of other ≡ bytes_of found)) ⊎ ((place ≡ Before) × (level (bytes_of found) ≡ level (bytes_of other) + 1) × (1 ≤ room) × DiffersAtFound (bytes_of other) found))
 
 -- it has the pages found
 abbrev pub HasFound : (List ℕ → Option (List ℕ)) → Type 0 → ℕ → Place → List ℕ → List Page → Type 0
 HasFound reads tells reached place bytes found = IsAtLevel (level (bytes_of found)) reached place × (tells → reads bytes ≡ Some (bytes_of found))
 
 -- or lags one batch behind them
-abbrev pub IsBehind : ℕ → ℕ → Place → List Page → Type 0
-IsBehind reached room place found = (place ≡ Before) × (level (bytes_of found) ≡ reached + 1) × (1 ≤ room)
+abbrev pub IsBehind : (List ℕ → Option (List ℕ)) → Type 0 → ℕ → ℕ → Place → List ℕ → List Page → Type 0
+IsBehind reads tells reached room place bytes found = (place ≡ Before) × (level (bytes_of found) ≡ reached + 1) × (1 ≤ room) × (tells → (was : List ℕ) → reads bytes ≡ Some was → DiffersAtFound was found)
 
 -- a copy of so many pages, once pages were found
 pub record Agrees (reads : List ℕ → Option (List ℕ)) (tells : Type 0) (reached count room : ℕ) (place : Place) (bytes : List ℕ) (found : List Page) : Type 0 where
   pub as_many : length found ≡ count
-  pub has : HasFound reads tells reached place bytes found ⊎ IsBehind reached room place found
+  pub has : HasFound reads tells reached place bytes found ⊎ IsBehind reads tells reached room place bytes found
 
 -- the pages with the batch in flight, which has an entry, have the next level, and stand for the queue with it
 abbrev pub IsNextOr : Queue → List Entry → ℕ → List Page → Type 0
@@ -96,3 +101,21 @@ pub record WasUnfit (reads : List ℕ → Option (List ℕ)) (bytes : List ℕ) 
 abbrev pub IsFatedBy : ℕ → ℕ → ℕ → Option Batch → List Batch → List Batch → Type 0
 IsFatedBy found reached now None was is = is ≡ was
 IsFatedBy found reached now (Some b) was is = is ≡ with_last (fated (if found == reached then Dropped else Kept) now b) was
+
+-- of the pages that two copies gave those of greater level, the first copy's on a tie
+abbrev pub IsGreater : Option (List Page) → Option (List Page) → List Page → Type 0
+IsGreater None None found = ⊥
+IsGreater (Some one) None found = found ≡ one
+IsGreater None (Some two) found = found ≡ two
+IsGreater (Some one) (Some two) found = found ≡ (if nat_lt (level (bytes_of one)) (level (bytes_of two)) then two else one)
+
+-- What a call found that looked at both copies: of the pages that they read as those of greater level, CKPT1's on a tie. A copy
+-- that counted as lost gave none, and neither did one on which an act failed.
+pub record IsPicked (reads : List ℕ → Option (List ℕ)) (bytes1 bytes2 : List ℕ) (gone1 gone2 : Type 0) (found : List Page) : Type 0 where
+  pub one : Option (List Page)
+  pub two : Option (List Page)
+  pub read1 : ReadsSeen reads bytes1 one
+  pub read2 : ReadsSeen reads bytes2 two
+  pub none1 : one ≡ None → gone1
+  pub none2 : two ≡ None → gone2
+  pub greater : IsGreater one two found

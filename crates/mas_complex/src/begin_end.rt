@@ -17,7 +17,7 @@ use crate::complex::{Complex, Ended};
 use crate::counts::COUNTS;
 use crate::journal_end::finished;
 use crate::places::Place;
-use crate::steady::Steady;
+use ckpt_form::Steady;
 use duplex_pair::Pair;
 use lock_cycle::LockBook;
 use mas_types::{Config, Journal, List, MEMBERS_MOST, Queue};

@@ -11,7 +11,7 @@ ghost use Rattle.mas_types.specs.Sound.{IsSound};
 
 use crate::counts::COUNTS;
 use crate::places::Place;
-use crate::steady::Steady;
+use ckpt_form::Steady;
 use duplex_pair::Pair;
 use lock_cycle::LockBook;
 use mas_types::{Batch, Entry, Journal, List, Queue};

@@ -22,7 +22,7 @@ ghost use Rattle.mas_complex.specs.Parts.{parts_of, with_copies, with_half, with
 
 use crate::complex::Complex;
 use crate::places::{Place, place_after};
-use crate::steady::Steady;
+use ckpt_form::Steady;
 use duplex_pair::PairNo;
 use mas_types::{Dev, MemberId, Page};
 use spool_disk::Plant;

@@ -1,12 +1,16 @@
 //! Whether the pages of two copies fit each other.
-ghost use Rattle.std.specs.Prelude.{◌≡◌, ◌≤◌, length, get_or};
+ghost use Rattle.std.specs.Prelude.{◌≡◌, ◌+◌, ◌≤◌, ◌<◌, ◌++◌, [], ◌∷◌, if◌then◌else◌, length, take, get_or};
 ghost use Rattle.mas_types.specs.Limits.{pages_most};
-ghost use Rattle.mas_complex.specs.Fits.{are_same, differ_at, first_page, fits as fits_spec};
+ghost use Rattle.mas_complex.specs.Fits.{are_same, differ_at, first_page, found_numbers, fits as fits_spec};
 
 use ckpt_pages::level_of;
 use duplex_pair::pages_level;
 use lay_bytes::is_same_page;
 use mas_types::Page;
+use mas_types::limits::PAGES_MOST;
+
+// The numbers that a checkpoint can have.
+pub(crate) const NUMBERS: usize = PAGES_MOST as usize;
 
 /// Whether two lists of pages are the same, byte for byte.
 pub fn same_pages(found: &[Page], other: &[Page]) -> bool
@@ -54,4 +58,32 @@ pub fn fits(found: &[Page], other: &[Page], room: u8) -> bool
         return same_pages(found, other);
     }
     reached > 0 && lower == reached - 1 && room >= 1 && differ_only_at(found, other, reached)
+}
+
+// Adds a number behind the first of them, where it is asked for. Answers how many there are then.
+fn note(numbers: &mut [u16; NUMBERS], count: usize, number: u16, asked: bool) -> usize
+    requires { count < pages_most }
+    ensures few { result ≤ count + 1 }
+    ensures noted { take result numbers.new ≡ take count numbers.old ++ (if asked then number ∷ [] else []) }
+{
+    if asked {
+        numbers[count] = number;
+        return count + 1;
+    }
+    count
+}
+
+/// Lays down the numbers of page 0 and of the pages that have the level found, as page 0 gives it. Answers how many they are.
+pub(crate) fn list_found(found: &[Page], numbers: &mut [u16; NUMBERS]) -> usize
+    requires few { length found.now ≤ pages_most }
+    ensures few { result ≤ length found.now }
+    ensures listed { take result numbers.new ≡ found_numbers found.now }
+{
+    let reached = pages_level(found);
+    let mut count = 0;
+    for page in 0..found.len() {
+        let is_found = level_of(&found[0], page as u16) == reached;
+        count = note(numbers, count, page as u16, (page == 0) | is_found);
+    }
+    count
 }

@@ -18,13 +18,12 @@ mod reserving;
 mod saying;
 mod seeing;
 mod spool;
-mod steady;
 mod writing;
 
+pub use ckpt_form::Steady;
 pub use complex::{Complex, Ended};
 pub use counts::COUNTS;
 pub use fitting::{fits, same_pages};
 pub use places::Place;
 pub use recover::RecoverNo;
 pub use spool::examples_of_texts;
-pub use steady::Steady;

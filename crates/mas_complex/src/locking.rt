@@ -7,7 +7,7 @@ ghost use Rattle.mas_complex.specs.Locking.{IsOperatorAway, MayAct, reserved_aft
 ghost use Rattle.mas_complex.specs.Parts.{parts_of};
 
 use crate::complex::Complex;
-use crate::steady::Steady;
+use ckpt_form::Steady;
 use lock_cycle::{LockBook, LockNo, NotHolder, SeizeNo};
 use mas_types::{Batch, Entry, Fate, List, MemberId};
 use spool_disk::Plant;

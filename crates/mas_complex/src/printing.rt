@@ -16,7 +16,7 @@ ghost use Rattle.mas_complex.specs.Parts.{parts_of};
 use crate::complex::Complex;
 use crate::counts::COUNTS;
 use crate::locking::give_up_after_stop;
-use crate::steady::Steady;
+use ckpt_form::Steady;
 use lock_cycle::LockBook;
 use mas_types::{Entry, List, MemberId};
 use spool_disk::{Act, Plant};

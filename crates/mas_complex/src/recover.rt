@@ -19,16 +19,17 @@ ghost use Rattle.mas_complex.specs.Journals.{kept_all, entries_in};
 ghost use Rattle.mas_complex.specs.Meaning.{StandFor, run};
 ghost use Rattle.mas_complex.specs.Parts.{parts_of, with_copies, with_copy, with_half, with_pair};
 ghost use Rattle.mas_complex.specs.Places.{IsAtLevel};
-ghost use Rattle.mas_complex.specs.Seen.{IsOneSeen, ReadsSeen, Stays, HasFound, Chosen, IsNextOr, IsFatedBy, IsUnfit, WasUnfit};
+ghost use Rattle.mas_complex.specs.Seen.{IsOneSeen, ReadsSeen, Stays, HasFound, Chosen, DiffersAtFound, IsGreater, IsPicked, IsNextOr, IsFatedBy, IsUnfit, WasUnfit};
 ghost use Rattle.mas_complex.specs.Recovers.{recover_no, recover_no_seen, recover_stopped};
 ghost use Rattle.mas_complex.specs.Fits.{can_stay};
 ghost use Rattle.mas_complex.specs.Locking.{MayAct, IsOfOther};
 
 use crate::complex::Complex;
-use crate::fitting::fits;
+use crate::fitting::{NUMBERS, fits, list_found};
 use crate::places::Place;
-use crate::steady::Steady;
-use duplex_pair::{LookNo, PairNo, first_numbers, page_numbers, pages_level};
+use ckpt_form::Steady;
+use ckpt_pages::law_of_page_sizes;
+use duplex_pair::{LookNo, PairNo, pages_level};
 use mas_types::{Dev, List, MemberId, Page};
 use spool_disk::Plant;
 use std::alloc::Global;
@@ -77,6 +78,8 @@ fn may_stay(place: Place, room: u8, found: &[Page], other: &[Page]) -> bool
     ensures stays { result ≡ true → Stays place room found.now other.now }
     ensures fits { result ≡ can_stay place room found.now other.now }
 {
+    law_of_page_sizes(found);
+    law_of_page_sizes(other);
     if pages_level(other) == pages_level(found) {
         return fits(found, other, room);
     }
@@ -116,6 +119,7 @@ impl<P: Plant + Drop, C: Steady + Drop> Complex<P, C> {
         ensures chosen { Chosen C.reads P.tells (run self.old.base (kept_all self.old.journal.batches ++ entries_in self.old.current)) (entries_in self.old.current) self.old.level self.new.pair.first.alive (C.count self.new.pair.first.copy) (C.room self.new.pair.first.copy) self.new.first (disk_now (P.view self.new.plant) Ckpt1).bytes self.new.pair.second.alive (C.count self.new.pair.second.copy) (C.room self.new.pair.second.copy) self.new.second (disk_now (P.view self.new.plant) Ckpt2).bytes result }
         ensures copy1 { self.new.pair.first.copy ≡ self.old.pair.first.copy }
         ensures copy2 { self.new.pair.second.copy ≡ self.old.pair.second.copy }
+        ensures greater { IsGreater (Some first) (Some second) result }
         ensures unfit1 { self.new.pair.first.alive ≡ false → can_stay self.old.first (C.room self.old.pair.first.copy) result first ≡ false }
         ensures unfit2 { self.new.pair.second.alive ≡ false → can_stay self.old.second (C.room self.old.pair.second.copy) result second ≡ false }
     {
@@ -148,6 +152,7 @@ impl<P: Plant + Drop, C: Steady + Drop> Complex<P, C> {
         ensures counts { (by : ℕ) → KeepsCounts by self.old.pair.first.alive self.new.pair.first.alive self.old.pair.second.alive self.new.pair.second.alive false (P.view self.old.plant) (P.view self.new.plant) }
         ensures none { result ≡ None → IsBothLost self.new.pair.first.alive self.new.pair.second.alive }
         ensures neither { result ≡ None → (first ≡ None) × (second ≡ None) }
+        ensures greater { IfSome result (IsGreater first second) }
         ensures chosen { IfSome result (λ found. Chosen C.reads P.tells (run self.old.base (kept_all self.old.journal.batches ++ entries_in self.old.current)) (entries_in self.old.current) self.old.level self.new.pair.first.alive (C.count self.new.pair.first.copy) (C.room self.new.pair.first.copy) self.new.first (disk_now (P.view self.new.plant) Ckpt1).bytes self.new.pair.second.alive (C.count self.new.pair.second.copy) (C.room self.new.pair.second.copy) self.new.second (disk_now (P.view self.new.plant) Ckpt2).bytes found) }
         ensures copy1 { self.new.pair.first.copy ≡ self.old.pair.first.copy }
         ensures copy2 { self.new.pair.second.copy ≡ self.old.pair.second.copy }
@@ -163,7 +168,7 @@ impl<P: Plant + Drop, C: Steady + Drop> Complex<P, C> {
         }
     }
 
-    // One copy, which is one batch behind these pages, gets them.
+    // One copy, which is one batch behind these pages, gets those of them that have the level found.
     fn bring_copy(&mut self, by: MemberId, dev: Dev, found: &[Page]) -> Result<(), PairNo>
         requires ckpt { IsCkpt dev }
         requires alive { (pick dev self.old.pair.first self.old.pair.second).alive ≡ true }
@@ -174,6 +179,7 @@ impl<P: Plant + Drop, C: Steady + Drop> Complex<P, C> {
         requires few { length found.now ≤ pages_most }
         requires next { P.tells → IsNextOr (run self.old.base (kept_all self.old.journal.batches ++ entries_in self.old.current)) (entries_in self.old.current) self.old.level found.now }
         requires level { level (bytes_of found.now) ≡ self.old.level + 1 }
+        requires differs { P.tells → (was : List ℕ) → C.reads (disk_now (P.view self.old.plant) dev).bytes ≡ Some was → DiffersAtFound was found.now }
         requires same { P.tells → (other dev self.old.pair.first self.old.pair.second).alive ≡ true → (other dev self.old.first self.old.second ≡ AtOpened) × (C.reads (disk_now (P.view self.old.plant) (other dev Ckpt1 Ckpt2)).bytes ≡ Some (bytes_of found.now)) }
         ensures frame { parts_of self.new ≡ with_copy dev (parts_of self.new) (parts_of self.old) }
         ensures acted { Acted by.0 dev (pick dev self.old.pair.first self.old.pair.second).alive (pick dev self.new.pair.first self.new.pair.second).alive (pair_stopped result) (P.view self.old.plant) (P.view self.new.plant) }
@@ -187,9 +193,9 @@ impl<P: Plant + Drop, C: Steady + Drop> Complex<P, C> {
         ensures both { IsErrOf result PairNoBothLost → IsBothLost self.new.pair.first.alive self.new.pair.second.alive }
         ensures ok { OnOk result (SomeAlive self.new.pair.first.alive self.new.pair.second.alive) }
     {
-        let numbers = page_numbers();
-        let all = first_numbers(&numbers, found.len() as u16);
-        self.put_on(by, dev, found, all)?;
+        let mut numbers = [0; NUMBERS];
+        let count = list_found(found, &mut numbers);
+        self.put_on(by, dev, found, &numbers[..count])?;
         self.open_on(by, dev)
     }
 
@@ -304,6 +310,9 @@ impl<P: Plant + Drop, C: Steady + Drop> Complex<P, C> {
         ensures reads1 { IfOk result (λ found. P.tells → self.new.pair.first.alive ≡ true → C.reads (disk_now (P.view self.new.plant) Ckpt1).bytes ≡ Some (bytes_of found)) }
         ensures reads2 { IfOk result (λ found. P.tells → self.new.pair.second.alive ≡ true → C.reads (disk_now (P.view self.new.plant) Ckpt2).bytes ≡ Some (bytes_of found)) }
         ensures stands { IfOk result (λ found. P.tells → ∥ StandFor (run self.new.base (kept_all self.new.journal.batches)) (bytes_of found) ∥₁) }
+        ensures picked { IfOk result (λ found. P.tells → IsPicked C.reads (disk_now (P.view self.old.plant) Ckpt1).bytes (disk_now (P.view self.old.plant) Ckpt2).bytes
+            (self.old.pair.first.alive ≡ true → Rose ((P.view self.old.plant).faults (Disk Ckpt1)) ((P.view self.new.plant).faults (Disk Ckpt1)))
+            (self.old.pair.second.alive ≡ true → Rose ((P.view self.old.plant).faults (Disk Ckpt2)) ((P.view self.new.plant).faults (Disk Ckpt2))) found) }
         ensures left1 { IfOk result (λ found. P.tells → self.old.pair.first.alive ≡ true → self.new.pair.first.alive ≡ false
             → Rose ((P.view self.old.plant).faults (Disk Ckpt1)) ((P.view self.new.plant).faults (Disk Ckpt1)) ⊎ WasUnfit C.reads (disk_now (P.view self.old.plant) Ckpt1).bytes self.old.level (C.room self.new.pair.first.copy) found) }
         ensures left2 { IfOk result (λ found. P.tells → self.old.pair.second.alive ≡ true → self.new.pair.second.alive ≡ false

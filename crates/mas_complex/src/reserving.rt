@@ -17,7 +17,7 @@ ghost use Rattle.mas_complex.specs.Parts.{begun_in, kept_same_in, parts_of, plac
 use crate::complex::Complex;
 use crate::counts::count_anew;
 use crate::journal_end::{empty_place, push_place, set_last};
-use crate::steady::Steady;
+use ckpt_form::Steady;
 use mas_types::{Batch, Entry, Fate, List, MemberId, NoMemory};
 use spool_disk::Plant;
 use std::alloc::Global;

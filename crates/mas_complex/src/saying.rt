@@ -11,7 +11,7 @@ ghost use Rattle.mas_complex.specs.Locking.{IsUp};
 ghost use Rattle.mas_complex.specs.Parts.{parts_of};
 
 use crate::complex::Complex;
-use crate::steady::Steady;
+use ckpt_form::Steady;
 use mas_types::MemberId;
 use spool_disk::{Act, Plant};
 

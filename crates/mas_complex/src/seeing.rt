@@ -17,7 +17,7 @@ ghost use Rattle.mas_complex.specs.Seen.{IsPlaceSeen, HasNext, IsOneSeen, ReadsS
 
 use crate::complex::Complex;
 use crate::places::{place_seen, set_place};
-use crate::steady::Steady;
+use ckpt_form::Steady;
 use duplex_pair::{Look, LookNo};
 use mas_types::{Dev, List, MemberId, Page};
 use spool_disk::Plant;

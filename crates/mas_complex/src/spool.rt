@@ -15,7 +15,7 @@ ghost use Rattle.spool_volumes.specs.Volumes.{volume_of, start_of};
 ghost use Rattle.mas_complex.specs.Parts.{parts_of};
 
 use crate::complex::Complex;
-use crate::steady::Steady;
+use ckpt_form::Steady;
 use mas_types::limits::PAGE_BYTES;
 use mas_types::{Dev, GroupNo, MemberId, Page};
 use spool_disk::{Act, Plant};

@@ -25,7 +25,7 @@ ghost use Rattle.mas_complex.specs.Parts.{begun_in, dropped_in, kept_in, parts_o
 use crate::complex::Complex;
 use crate::journal_end::set_last;
 use crate::places::{Place, place_after, set_place};
-use crate::steady::Steady;
+use ckpt_form::Steady;
 use duplex_pair::PairNo;
 use mas_types::{Batch, Dev, Fate, MemberId, Page};
 use spool_disk::Plant;

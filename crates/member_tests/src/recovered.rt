@@ -1,5 +1,5 @@
 // What a recovery makes of a batch whose member is stopped at an act.
-ghost use Rattle.std.specs.Prelude.{◌≡◌, ◌<◌, length, true, None};
+ghost use Rattle.std.specs.Prelude.{◌≡◌, ◌≤◌, ◌<◌, length, true, None};
 ghost use Rattle.spool_disk.specs.Acts.{top};
 ghost use Rattle.mas_complex.specs.declared.places.Place.TheVariants.{Before as AtBefore};
 ghost use Rattle.mas_complex.specs.Locking.{IsOfOther};
@@ -7,7 +7,8 @@ ghost use Rattle.mas_complex.specs.Locking.{IsOfOther};
 use crate::quiet::Quiet;
 use crate::shared::{FIRST, SECOND, batch, halting, may_act, pages};
 use crate::writing::{formed, write};
-use ckpt_copy::{AreaCopy, Copying};
+use ckpt_copy::Copying;
+use ckpt_form::CopyForm;
 use duplex_pair::pages_level;
 use mas_complex::{Complex, RecoverNo};
 use mas_types::{Batch, Dev, MemberId, Page};
@@ -20,13 +21,13 @@ use std::test::Fail;
 const FORMED: u64 = 24;
 
 // The act that opens the gate of CKPT1.
-const OPENS_FIRST: u64 = 38;
+const OPENS_FIRST: u64 = 30;
 
 // The act that opens the gate of CKPT2.
-const OPENS_SECOND: u64 = 40;
+const OPENS_SECOND: u64 = 32;
 
 // So many acts have written the batch.
-const WRITTEN: u64 = 42;
+const WRITTEN: u64 = 34;
 
 // The batch in flight is of another member, or there is none.
 fn is_of_other(current: &Option<Batch>, by: MemberId) -> bool
@@ -38,7 +39,7 @@ fn is_of_other(current: &Option<Batch>, by: MemberId) -> bool
     }
 }
 
-fn lose_copy(complex: &mut Complex<Quiet, AreaCopy>, lost: Option<Dev>)
+fn lose_copy(complex: &mut Complex<Quiet, CopyForm>, lost: Option<Dev>)
     ensures { complex.new.book ≡ complex.old.book }
 {
     match lost {
@@ -52,7 +53,7 @@ fn lose_copy(complex: &mut Complex<Quiet, AreaCopy>, lost: Option<Dev>)
 // the second is stopped too.
 fn taken_over(
     alloc: Global,
-    complex: &mut Complex<Quiet, AreaCopy>,
+    complex: &mut Complex<Quiet, CopyForm>,
 ) -> Result<Option<u64>, RecoverNo>
     requires members { length complex.old.book.members ≡ 2 }
 {
@@ -77,7 +78,7 @@ fn taken_over(
 // the pages found, and the number of kept entries.
 fn recovered_on(
     alloc: Global,
-    complex: &mut Complex<Quiet, AreaCopy>,
+    complex: &mut Complex<Quiet, CopyForm>,
     pages: &[Page],
     lost: Option<Dev>,
 ) -> Result<Option<(u64, u64)>, Fail>
@@ -87,8 +88,10 @@ fn recovered_on(
     requires second { complex.old.second ≡ AtBefore }
     requires level { complex.old.level < top }
     requires six { length pages.now ≡ 6 }
-    requires count1 { complex.old.pair.first.alive ≡ true → ⟦<AreaCopy as Copying>⟧.count complex.old.pair.first.copy ≡ 6 }
-    requires count2 { complex.old.pair.second.alive ≡ true → ⟦<AreaCopy as Copying>⟧.count complex.old.pair.second.copy ≡ 6 }
+    requires count1 { complex.old.pair.first.alive ≡ true → ⟦<CopyForm as Copying>⟧.count complex.old.pair.first.copy ≡ 6 }
+    requires count2 { complex.old.pair.second.alive ≡ true → ⟦<CopyForm as Copying>⟧.count complex.old.pair.second.copy ≡ 6 }
+    requires room1 { complex.old.pair.first.alive ≡ true → 1 ≤ ⟦<CopyForm as Copying>⟧.room complex.old.pair.first.copy }
+    requires room2 { complex.old.pair.second.alive ≡ true → 1 ≤ ⟦<CopyForm as Copying>⟧.room complex.old.pair.second.copy }
     requires members { length complex.old.book.members ≡ 2 }
 {
     let Ok(()) = complex.try_lock(FIRST, false) else {
@@ -109,7 +112,7 @@ fn recovered_on(
 // The same over two new copies, where the first member is stopped at an act.
 fn recovered_at(alloc: Global, act: u64, lost: Option<Dev>) -> Result<Option<(u64, u64)>, Fail> {
     let plant = halting(alloc, act)?;
-    if plant.size(Dev::Ckpt1) < 4096 * 13 || plant.size(Dev::Ckpt2) < 4096 * 13 {
+    if plant.size(Dev::Ckpt1) < 4096 * 35 || plant.size(Dev::Ckpt2) < 4096 * 35 {
         return Ok(None);
     }
     let first = pages(alloc, 2)?;

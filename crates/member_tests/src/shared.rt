@@ -4,7 +4,7 @@ ghost use Rattle.lock_cycle.specs.Books.{IsMember};
 ghost use Rattle.mas_complex.specs.Locking.{MayAct};
 
 use crate::quiet::Quiet;
-use ckpt_copy::AreaCopy;
+use ckpt_form::CopyForm;
 use mas_complex::Complex;
 use mas_types::{Command, Entry, List, MemberId, NoMemory, Page, Reply};
 use spool_disk::{MemPlant, Sizes};
@@ -19,10 +19,10 @@ pub(crate) const FIRST: MemberId = MemberId(1);
 // The member that takes over.
 pub(crate) const SECOND: MemberId = MemberId(2);
 
-// Room for two areas of six pages on each device.
+// Room for a copy of six pages on each device.
 fn sizes() -> Sizes {
     Sizes {
-        ckpt: 4096 * 13,
+        ckpt: 4096 * 35,
         volumes: 0,
         volume: 0,
     }
@@ -65,7 +65,7 @@ pub(crate) fn batch(alloc: Global, by: MemberId) -> Result<List<Entry>, NoMemory
 }
 
 // Whether the member holds and isn't stopped.
-pub(crate) fn may_act(complex: &Complex<Quiet, AreaCopy>, by: MemberId) -> bool
+pub(crate) fn may_act(complex: &Complex<Quiet, CopyForm>, by: MemberId) -> bool
     requires { IsMember complex.now.book by }
     ensures { result ≡ true → MayAct complex.now.book by }
 {

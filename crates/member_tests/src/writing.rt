@@ -2,14 +2,15 @@
 ghost use Rattle.std.specs.Prelude.{◌≡◌, ◌+◌, ◌≤◌, ◌<◌, length, IfOk, IfSome, OnOk, true, false, None, IsSome, All};
 ghost use Rattle.mas_types.specs.declared.ids.Dev.TheVariants.{Ckpt1, Ckpt2};
 ghost use Rattle.spool_disk.specs.Acts.{top};
-ghost use Rattle.ckpt_copy.specs.Areas.{areas_size};
+ghost use Rattle.ckpt_form.specs.Form.{form_needs};
 ghost use Rattle.mas_complex.specs.declared.places.Place.TheVariants.{Before as AtBefore, Put as AtPut};
 ghost use Rattle.mas_complex.specs.Journals.{entries_reserved};
 ghost use Rattle.mas_complex.specs.Locking.{MayAct, IsOwn};
 
 use crate::quiet::Quiet;
 use crate::shared::OPERATOR;
-use ckpt_copy::{AreaCopy, Copying};
+use ckpt_copy::Copying;
+use ckpt_form::CopyForm;
 use duplex_pair::{Pair, PairNo};
 use mas_complex::Complex;
 use mas_types::{Dev, List, MemberId, NoMemory, Page, default_config, empty_queue};
@@ -21,22 +22,24 @@ pub(crate) fn formed(
     alloc: Global,
     plant: Quiet,
     pages: &[Page],
-) -> Result<Option<Complex<Quiet, AreaCopy>>, NoMemory>
+) -> Result<Option<Complex<Quiet, CopyForm>>, NoMemory>
     requires six { length pages.now ≡ 6 }
-    requires size1 { areas_size 6 ≤ (⟦<Quiet as Plant>⟧.view plant).size Ckpt1 }
-    requires size2 { areas_size 6 ≤ (⟦<Quiet as Plant>⟧.view plant).size Ckpt2 }
+    requires size1 { form_needs 6 ≤ (⟦<Quiet as Plant>⟧.view plant).size Ckpt1 }
+    requires size2 { form_needs 6 ≤ (⟦<Quiet as Plant>⟧.view plant).size Ckpt2 }
     ensures none { IfOk result (λ some. IfSome some (λ c. c.current ≡ None)) }
     ensures unreserved { IfOk result (λ some. IfSome some (λ c. c.reserved ≡ None)) }
     ensures first { IfOk result (λ some. IfSome some (λ c. c.first ≡ AtBefore)) }
     ensures second { IfOk result (λ some. IfSome some (λ c. c.second ≡ AtBefore)) }
     ensures level { IfOk result (λ some. IfSome some (λ c. c.level ≡ 2)) }
-    ensures count1 { IfOk result (λ some. IfSome some (λ c. c.pair.first.alive ≡ true → ⟦<AreaCopy as Copying>⟧.count c.pair.first.copy ≡ 6)) }
-    ensures count2 { IfOk result (λ some. IfSome some (λ c. c.pair.second.alive ≡ true → ⟦<AreaCopy as Copying>⟧.count c.pair.second.copy ≡ 6)) }
+    ensures count1 { IfOk result (λ some. IfSome some (λ c. c.pair.first.alive ≡ true → ⟦<CopyForm as Copying>⟧.count c.pair.first.copy ≡ 6)) }
+    ensures count2 { IfOk result (λ some. IfSome some (λ c. c.pair.second.alive ≡ true → ⟦<CopyForm as Copying>⟧.count c.pair.second.copy ≡ 6)) }
+    ensures room1 { IfOk result (λ some. IfSome some (λ c. c.pair.first.alive ≡ true → 1 ≤ ⟦<CopyForm as Copying>⟧.room c.pair.first.copy)) }
+    ensures room2 { IfOk result (λ some. IfSome some (λ c. c.pair.second.alive ≡ true → 1 ≤ ⟦<CopyForm as Copying>⟧.room c.pair.second.copy)) }
     ensures members { IfOk result (λ some. IfSome some (λ c. length c.book.members ≡ 2)) }
 {
     let base = empty_queue(alloc, &default_config(), &List::new(alloc))?;
     let mut plant = plant;
-    let mut pair = Pair::new(AreaCopy::new(Dev::Ckpt1, 6), AreaCopy::new(Dev::Ckpt2, 6));
+    let mut pair = Pair::new(CopyForm::new(Dev::Ckpt1, 6), CopyForm::new(Dev::Ckpt2, 6));
     let Ok(()) = pair.form(&mut plant, OPERATOR, pages) else {
         return Ok(None);
     };
@@ -45,7 +48,7 @@ pub(crate) fn formed(
 
 // The reserved batch is put on both copies.
 fn log_both(
-    complex: &mut Complex<Quiet, AreaCopy>,
+    complex: &mut Complex<Quiet, CopyForm>,
     by: MemberId,
     pages: &[Page],
 ) -> Result<(), PairNo>
@@ -57,11 +60,15 @@ fn log_both(
     requires first { complex.old.first ≡ AtBefore }
     requires second { complex.old.second ≡ AtBefore }
     requires six { length pages.now ≡ 6 }
-    requires count1 { complex.old.pair.first.alive ≡ true → ⟦<AreaCopy as Copying>⟧.count complex.old.pair.first.copy ≡ 6 }
-    requires count2 { complex.old.pair.second.alive ≡ true → ⟦<AreaCopy as Copying>⟧.count complex.old.pair.second.copy ≡ 6 }
+    requires count1 { complex.old.pair.first.alive ≡ true → ⟦<CopyForm as Copying>⟧.count complex.old.pair.first.copy ≡ 6 }
+    requires count2 { complex.old.pair.second.alive ≡ true → ⟦<CopyForm as Copying>⟧.count complex.old.pair.second.copy ≡ 6 }
+    requires room1 { complex.old.pair.first.alive ≡ true → 1 ≤ ⟦<CopyForm as Copying>⟧.room complex.old.pair.first.copy }
+    requires room2 { complex.old.pair.second.alive ≡ true → 1 ≤ ⟦<CopyForm as Copying>⟧.room complex.old.pair.second.copy }
     ensures book { complex.new.book ≡ complex.old.book }
-    ensures count1 { ⟦<AreaCopy as Copying>⟧.count complex.new.pair.first.copy ≡ ⟦<AreaCopy as Copying>⟧.count complex.old.pair.first.copy }
-    ensures count2 { ⟦<AreaCopy as Copying>⟧.count complex.new.pair.second.copy ≡ ⟦<AreaCopy as Copying>⟧.count complex.old.pair.second.copy }
+    ensures count1 { ⟦<CopyForm as Copying>⟧.count complex.new.pair.first.copy ≡ ⟦<CopyForm as Copying>⟧.count complex.old.pair.first.copy }
+    ensures count2 { ⟦<CopyForm as Copying>⟧.count complex.new.pair.second.copy ≡ ⟦<CopyForm as Copying>⟧.count complex.old.pair.second.copy }
+    ensures room1 { complex.new.pair.first.alive ≡ true → 1 ≤ ⟦<CopyForm as Copying>⟧.room complex.new.pair.first.copy }
+    ensures room2 { complex.new.pair.second.alive ≡ true → 1 ≤ ⟦<CopyForm as Copying>⟧.room complex.new.pair.second.copy }
     ensures alive1 { complex.new.pair.first.alive ≡ true → complex.old.pair.first.alive ≡ true }
     ensures alive2 { complex.new.pair.second.alive ≡ true → complex.old.pair.second.alive ≡ true }
     ensures level { complex.new.level ≡ complex.old.level }
@@ -75,16 +82,18 @@ fn log_both(
 }
 
 // The gates of both copies are opened, as far as they can be.
-fn open_both(complex: &mut Complex<Quiet, AreaCopy>, by: MemberId) -> Result<(), PairNo>
+fn open_both(complex: &mut Complex<Quiet, CopyForm>, by: MemberId) -> Result<(), PairNo>
     requires may { MayAct complex.old.book by }
     requires own { IsOwn complex.old.current by }
     requires current { IsSome complex.old.current }
     requires first { complex.old.first ≡ AtPut }
     requires second { complex.old.second ≡ AtPut }
     requires level { complex.old.level < top }
+    requires room1 { complex.old.pair.first.alive ≡ true → 1 ≤ ⟦<CopyForm as Copying>⟧.room complex.old.pair.first.copy }
+    requires room2 { complex.old.pair.second.alive ≡ true → 1 ≤ ⟦<CopyForm as Copying>⟧.room complex.old.pair.second.copy }
     ensures book { complex.new.book ≡ complex.old.book }
-    ensures count1 { ⟦<AreaCopy as Copying>⟧.count complex.new.pair.first.copy ≡ ⟦<AreaCopy as Copying>⟧.count complex.old.pair.first.copy }
-    ensures count2 { ⟦<AreaCopy as Copying>⟧.count complex.new.pair.second.copy ≡ ⟦<AreaCopy as Copying>⟧.count complex.old.pair.second.copy }
+    ensures count1 { ⟦<CopyForm as Copying>⟧.count complex.new.pair.first.copy ≡ ⟦<CopyForm as Copying>⟧.count complex.old.pair.first.copy }
+    ensures count2 { ⟦<CopyForm as Copying>⟧.count complex.new.pair.second.copy ≡ ⟦<CopyForm as Copying>⟧.count complex.old.pair.second.copy }
     ensures alive1 { complex.new.pair.first.alive ≡ true → complex.old.pair.first.alive ≡ true }
     ensures alive2 { complex.new.pair.second.alive ≡ true → complex.old.pair.second.alive ≡ true }
     ensures none { OnOk result (complex.new.current ≡ None) }
@@ -99,7 +108,7 @@ fn open_both(complex: &mut Complex<Quiet, AreaCopy>, by: MemberId) -> Result<(),
 
 // The batch of a member is written, as far as the plant lets it.
 pub(crate) fn write(
-    complex: &mut Complex<Quiet, AreaCopy>,
+    complex: &mut Complex<Quiet, CopyForm>,
     by: MemberId,
     pages: &[Page],
 ) -> Result<(), PairNo>
@@ -112,11 +121,13 @@ pub(crate) fn write(
     requires second { complex.old.second ≡ AtBefore }
     requires level { complex.old.level < top }
     requires six { length pages.now ≡ 6 }
-    requires count1 { complex.old.pair.first.alive ≡ true → ⟦<AreaCopy as Copying>⟧.count complex.old.pair.first.copy ≡ 6 }
-    requires count2 { complex.old.pair.second.alive ≡ true → ⟦<AreaCopy as Copying>⟧.count complex.old.pair.second.copy ≡ 6 }
+    requires count1 { complex.old.pair.first.alive ≡ true → ⟦<CopyForm as Copying>⟧.count complex.old.pair.first.copy ≡ 6 }
+    requires count2 { complex.old.pair.second.alive ≡ true → ⟦<CopyForm as Copying>⟧.count complex.old.pair.second.copy ≡ 6 }
+    requires room1 { complex.old.pair.first.alive ≡ true → 1 ≤ ⟦<CopyForm as Copying>⟧.room complex.old.pair.first.copy }
+    requires room2 { complex.old.pair.second.alive ≡ true → 1 ≤ ⟦<CopyForm as Copying>⟧.room complex.old.pair.second.copy }
     ensures book { complex.new.book ≡ complex.old.book }
-    ensures count1 { ⟦<AreaCopy as Copying>⟧.count complex.new.pair.first.copy ≡ ⟦<AreaCopy as Copying>⟧.count complex.old.pair.first.copy }
-    ensures count2 { ⟦<AreaCopy as Copying>⟧.count complex.new.pair.second.copy ≡ ⟦<AreaCopy as Copying>⟧.count complex.old.pair.second.copy }
+    ensures count1 { ⟦<CopyForm as Copying>⟧.count complex.new.pair.first.copy ≡ ⟦<CopyForm as Copying>⟧.count complex.old.pair.first.copy }
+    ensures count2 { ⟦<CopyForm as Copying>⟧.count complex.new.pair.second.copy ≡ ⟦<CopyForm as Copying>⟧.count complex.old.pair.second.copy }
     ensures alive1 { complex.new.pair.first.alive ≡ true → complex.old.pair.first.alive ≡ true }
     ensures alive2 { complex.new.pair.second.alive ≡ true → complex.old.pair.second.alive ≡ true }
     ensures none { OnOk result (complex.new.current ≡ None) }

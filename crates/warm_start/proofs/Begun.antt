@@ -87,10 +87,10 @@ gone_brought dev old mid new a a' goes there there' same gone x = gone_on_to dev
   dead false f e = refl
 
 -- a copy that doesn't go isn't lost by a call, and one that goes may not stay
-pub kept : {C : Type 0} (reads : List ℕ → Option (List ℕ)) (room : C → ℕ) (copy : C) (dev : Dev) (old mid new : View) (found : List Page) (to_go : Bool) → (HasGone dev old mid (mark_of mid) → HasGone dev old new (mark_of new)) → mid.loses dev ≡ old.loses dev → (to_go ≡ false → new.loses dev ≡ mid.loses dev)
-    → (to_go ≡ true → IsUnfit reads dev old mid (mark_of mid) (room copy) found) → (new.loses dev ≡ old.loses dev) ⊎ ((c : C) × IsUnfit reads dev old new (mark_of new) (room c) found)
-kept reads room copy dev old mid new found true gone looked stays unfit = inr (copy, unfit_later reads dev old mid new (mark_of mid) (mark_of new) (room copy) found gone (unfit refl))
-kept reads room copy dev old mid new found false gone looked stays unfit = inl (stays refl ∙ looked)
+pub kept : (reads : List ℕ → Option (List ℕ)) (room : ℕ) (dev : Dev) (old mid new : View) (found : List Page) (to_go : Bool) → (HasGone dev old mid (mark_of mid) → HasGone dev old new (mark_of new)) → mid.loses dev ≡ old.loses dev → (to_go ≡ false → new.loses dev ≡ mid.loses dev)
+    → (to_go ≡ true → IsUnfit reads dev old mid (mark_of mid) room found) → (new.loses dev ≡ old.loses dev) ⊎ IsUnfit reads dev old new (mark_of new) room found
+kept reads room dev old mid new found true gone looked stays unfit = inr (unfit_later reads dev old mid new (mark_of mid) (mark_of new) room found gone (unfit refl))
+kept reads room dev old mid new found false gone looked stays unfit = inl (stays refl ∙ looked)
 
 -- one of the copies stays, and it isn't lost by a call
 pub one_called : (old mid new : View) (start : Start) → ((d : Dev) → mid.loses d ≡ old.loses d) → (goes Ckpt1 start ≡ false → new.loses Ckpt1 ≡ mid.loses Ckpt1) → (goes Ckpt2 start ≡ false → new.loses Ckpt2 ≡ mid.loses Ckpt2) → IsOneCalled old new

@@ -11,7 +11,7 @@ use Rattle.ckpt_pages.specs.declared.tables.Tables.{Tables}
 use Rattle.mas_types.specs.declared.ids.Page.{Page}
 use Rattle.mas_types.specs.declared.answers.CopyState.{CopyState}
 use Rattle.mas_types.specs.declared.answers.CopyState.TheVariants as state
-use Rattle.spool_disk.specs.View.{View, Disk}
+use Rattle.spool_disk.specs.View.{View, Disk, disk_now}
 use Rattle.ckpt_copy.specs.Pages.{bytes_of, level}
 use Rattle.duplex_pair.specs.Both.{PairActed}
 use Rattle.mas_complex.specs.Fits.{fits, differ_at, first_page}
@@ -24,7 +24,7 @@ use Rattle.warm_start.specs.declared.choosing.StartNo.{StartNo}
 use Rattle.warm_start.specs.declared.choosing.StartNo.TheVariants as no_start
 use Rattle.warm_start.specs.Usable.{AreOf, HaveSize, AreUsable}
 use Rattle.warm_start.specs.Choosing.{IsFew, HasFew, is_lower, started, neither, chosen}
-use Rattle.warm_start.specs.Judging.{Has}
+use Rattle.warm_start.specs.Judging.{Has, HasRoomBy}
 use Rattle.warm_start.specs.Inspecting.{HasState, FindsNone}
 use Rattle.warm_start.specs.Starting.{IsFound, mark_of, Fitting, Chosen, IsCauseOf, IsSmall, IsSmallAt, IsSmallVolumeAt, IsState}
 use Rattle.warm_start.proofs.Seeing.{Judges, Seeing, state_of, same_pages}
@@ -77,7 +77,7 @@ chosen_few (Good one) (Bad why) x y few1 few2 = few1
 chosen_few (Bad why) (Good two) x y few1 few2 = few2
 chosen_few (Bad first) (Bad second) x y few1 few2 = tt
 
-module _ {C : Type 0} (count room : C → ℕ) (room_most : ℕ) (ready : C → View → Type 0) (reads : List ℕ → Option (List ℕ)) (rests : C → List ℕ → Disk → Type 0) (tells : Type 0)
+module _ {C : Type 0} (count room : C → ℕ) (room_most : ℕ) (room_in : List ℕ → ℕ) (ready : C → View → Type 0) (reads : List ℕ → Option (List ℕ)) (rests : C → List ℕ → Disk → Type 0) (tells : Type 0)
     (old v : View) (first second : C) (alive1 alive2 : Bool) (found1 found2 : ℕ) where
   abbrev Has1 : List Page → Type 0
   Has1 pages = Has count room room_most ready rests tells Ckpt1 v first alive1 found1 pages
@@ -103,8 +103,14 @@ module _ {C : Type 0} (count room : C → ℕ) (room_most : ℕ) (ready : C → 
   abbrev S2 : Judged → Type 0
   S2 j = Seeing count room room_most ready reads rests tells Ckpt2 old v j
 
+  abbrev R1 : Judged → Type 0
+  R1 j = HasRoomBy room room_in first j (disk_now old Ckpt1).bytes
+
+  abbrev R2 : Judged → Type 0
+  R2 j = HasRoomBy room room_in second j (disk_now old Ckpt2).bytes
+
   abbrev pub Chose : Start → Type 0
-  Chose start = Chosen count room room_most ready reads rests tells old v first second alive1 alive2 found1 found2 start
+  Chose start = Chosen count room room_most room_in ready reads rests tells old v first second alive1 alive2 found1 found2 start
 
   own1 : (pages : List Page) → Has1 pages → Fits1 pages
   own1 pages has = record { own = pages; has = has; as_many = refl; either = inl (refl, refl) }
@@ -128,9 +134,9 @@ module _ {C : Type 0} (count room : C → ℕ) (room_most : ℕ) (ready : C → 
   has_state dev alive state.Unsound s = (s.1, s.2)
 
   module _ (rests_now1 : (pages : List ℕ) (d : Disk) → rests first pages d → reads d.bytes ≡ Some pages) (rests_now2 : (pages : List ℕ) (d : Disk) → rests second pages d → reads d.bytes ≡ Some pages) where
-    found_both : (one two : GoodPages) → J1 (Good one) → J2 (Good two) → (tells → S1 (Good one)) → (tells → S2 (Good two)) → (b : Bool) → is_lower one two ≡ b
+    found_both : (one two : GoodPages) → J1 (Good one) → J2 (Good two) → (tells → S1 (Good one)) → (tells → S2 (Good two)) → (tells → R1 (Good one)) → (tells → R2 (Good two)) → (b : Bool) → is_lower one two ≡ b
         → Chose (if b then started Ckpt2 two one (room first) else started Ckpt1 one two (room second))
-    found_both one two j1 j2 s1 s2 true e =
+    found_both one two j1 j2 s1 s2 r1 r2 true e =
         let lt : level (bytes_of one.pages) < level (bytes_of two.pages) = grind (arith, nat_tests) in record {
           usable = j2.1;
           sized = j2.0.sized;
@@ -144,11 +150,11 @@ module _ {C : Type 0} (count room : C → ℕ) (room_most : ℕ) (ready : C → 
           };
           fits1 = λ stays alive. beside1 two.pages one.pages j1.0 (not_false (fits two.pages one.pages (room first)) stays);
           fits2 = λ stays alive. own2 two.pages j2.0;
-          unfit1 = λ told to_go. let x = s1 told in record { seen = x.seen; is = x.is; unfit = λ own e sized usable. unfit_of two.pages one.pages own (room first) x.seen x.as_judged j1.0.sized to_go e sized };
+          unfit1 = λ told to_go. let x = s1 told in record { seen = x.seen; is = x.is; unfit = λ own e sized usable. subst (λ (n : ℕ). fits two.pages own n ≡ false) (r1 told) (unfit_of two.pages one.pages own (room first) x.seen x.as_judged j1.0.sized to_go e sized) };
           unfit2 = λ told to_go. absurd (cc);
           one = inr (refl, j2.0);
         }
-    found_both one two j1 j2 s1 s2 false e =
+    found_both one two j1 j2 s1 s2 r1 r2 false e =
         let le : level (bytes_of two.pages) ≤ level (bytes_of one.pages) = grind (arith, nat_tests) in record {
           usable = j1.1;
           sized = j1.0.sized;
@@ -163,18 +169,18 @@ module _ {C : Type 0} (count room : C → ℕ) (room_most : ℕ) (ready : C → 
           fits1 = λ stays alive. own1 one.pages j1.0;
           fits2 = λ stays alive. beside2 one.pages two.pages j2.0 (not_false (fits one.pages two.pages (room second)) stays);
           unfit1 = λ told to_go. absurd (cc);
-          unfit2 = λ told to_go. let y = s2 told in record { seen = y.seen; is = y.is; unfit = λ own e sized usable. unfit_of one.pages two.pages own (room second) y.seen y.as_judged j2.0.sized to_go e sized };
+          unfit2 = λ told to_go. let y = s2 told in record { seen = y.seen; is = y.is; unfit = λ own e sized usable. subst (λ (n : ℕ). fits one.pages own n ≡ false) (r2 told) (unfit_of one.pages two.pages own (room second) y.seen y.as_judged j2.0.sized to_go e sized) };
           one = inl (refl, j1.0);
         }
 
     -- a choice that names a copy
-    pub chosen_found : (one two : Judged) → J1 one → J2 two → (tells → S1 one) → (tells → S2 two) → IfOk (chosen one (room first) two (room second)) Chose
-    chosen_found (Good one) (Good two) j1 j2 s1 s2 = by_level (is_lower one two) (found_both one two j1 j2 s1 s2 (is_lower one two) refl) where
+    pub chosen_found : (one two : Judged) → J1 one → J2 two → (tells → S1 one) → (tells → S2 two) → (tells → R1 one) → (tells → R2 two) → IfOk (chosen one (room first) two (room second)) Chose
+    chosen_found (Good one) (Good two) j1 j2 s1 s2 r1 r2 = by_level (is_lower one two) (found_both one two j1 j2 s1 s2 r1 r2 (is_lower one two) refl) where
       by_level : (b : Bool) → Chose (if b then started Ckpt2 two one (room first) else started Ckpt1 one two (room second))
           → IfOk {E = StartNo} (if b then Ok (started Ckpt2 two one (room first)) else Ok (started Ckpt1 one two (room second))) Chose
       by_level true is = is
       by_level false is = is
-    chosen_found (Good one) (Bad why) j1 j2 s1 s2 = record {
+    chosen_found (Good one) (Bad why) j1 j2 s1 s2 r1 r2 = record {
       usable = j1.1;
       sized = j1.0.sized;
       found = λ told. let x = s1 told in let y = s2 told in record {
@@ -191,7 +197,7 @@ module _ {C : Type 0} (count room : C → ℕ) (room_most : ℕ) (ready : C → 
       unfit2 = λ told to_go. let y = s2 told in record { seen = y.seen; is = y.is; unfit = λ own e sized usable. absurd (y.as_judged (bytes_of own) e (record { pages = own; sized = sized; joined = refl; usable = usable })) };
       one = inl (refl, j1.0);
     }
-    chosen_found (Bad why) (Good two) j1 j2 s1 s2 = record {
+    chosen_found (Bad why) (Good two) j1 j2 s1 s2 r1 r2 = record {
       usable = j2.1;
       sized = j2.0.sized;
       found = λ told. let x = s1 told in let y = s2 told in record {
@@ -208,7 +214,7 @@ module _ {C : Type 0} (count room : C → ℕ) (room_most : ℕ) (ready : C → 
       unfit2 = λ told to_go. absurd (cc);
       one = inr (refl, j2.0);
     }
-    chosen_found (Bad first) (Bad second) j1 j2 s1 s2 = tt
+    chosen_found (Bad first) (Bad second) j1 j2 s1 s2 r1 r2 = tt
 
     -- a choice that names none
     pub chosen_none : (needs : ℕ → ℕ) (one two : Judged) → J1 one → J2 two → IfErr (chosen one (room first) two (room second)) (IsCauseOf reads tells needs old v alive1 alive2)

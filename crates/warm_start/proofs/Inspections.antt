@@ -104,15 +104,15 @@ module _ {C : Type 0} (count room : C → ℕ) (room_most : ℕ) (ready : C → 
 
   -- THE QUEUE
 
-  abbrev Chose : Start → Type 0
-  Chose start = Chosen count room room_most ready reads rests tells old v first second alive1 alive2 found1 found2 start
+  abbrev Chose : (List ℕ → ℕ) → Start → Type 0
+  Chose room_in start = Chosen count room room_most room_in ready reads rests tells old v first second alive1 alive2 found1 found2 start
 
-  there_of : (start : Start) → Chose start → SomeThere v
-  there_of start chosen = ⊎_elim (λ x. inl x.1.was.there) (λ y. inr y.1.was.there) chosen.one
+  there_of : (room_in : List ℕ → ℕ) (start : Start) → Chose room_in start → SomeThere v
+  there_of room_in start chosen = ⊎_elim (λ x. inl x.1.was.there) (λ y. inr y.1.was.there) chosen.one
 
-  pub queue_found : (needs : ℕ → ℕ) (start : Start) (Q : Queue) → Chose start → Q ≡ queue_of start.found.tables bare_deck bare_print → needs (length start.found.pages) ≤ v.size Ckpt1 → needs (length start.found.pages) ≤ v.size Ckpt2
+  pub queue_found : (room_in : List ℕ → ℕ) (needs : ℕ → ℕ) (start : Start) (Q : Queue) → Chose room_in start → Q ≡ queue_of start.found.tables bare_deck bare_print → needs (length start.found.pages) ≤ v.size Ckpt1 → needs (length start.found.pages) ≤ v.size Ckpt2
       → AreRoomy v start.found.tables.config → HasFound reads tells needs old v Q
-  queue_found needs start Q chosen is large1 large2 roomy = record {
+  queue_found room_in needs start Q chosen is large1 large2 roomy = record {
     pages = start.found.pages;
     tables = start.found.tables;
     usable = chosen.usable;
@@ -120,22 +120,22 @@ module _ {C : Type 0} (count room : C → ℕ) (room_most : ℕ) (ready : C → 
     is = is;
     tell = subst (Tell start.found.tables) (sym is) (bare_told start.found.tables);
     found = chosen.found;
-    there = there_of start chosen;
+    there = there_of room_in start chosen;
     large1 = large1;
     large2 = large2;
     roomy = roomy;
   }
 
-  pub too_small : (needs : ℕ → ℕ) (start : Start) (needed : ℕ) → Chose start → needed ≡ needs (length start.found.pages) → (why : StartNo) → IsSmallAt needed start.found.tables.config v why → FindsNone reads tells needs old v why
-  too_small needs start needed chosen is (no_start.DeviceSize dev size) small = record {
+  pub too_small : (room_in : List ℕ → ℕ) (needs : ℕ → ℕ) (start : Start) (needed : ℕ) → Chose room_in start → needed ≡ needs (length start.found.pages) → (why : StartNo) → IsSmallAt needed start.found.tables.config v why → FindsNone reads tells needs old v why
+  too_small room_in needs start needed chosen is (no_start.DeviceSize dev size) small = record {
     pages = start.found.pages;
     tables = start.found.tables;
     usable = chosen.usable;
     sized = chosen.sized;
     found = chosen.found;
-    there = there_of start chosen;
+    there = there_of room_in start chosen;
     small = subst (λ (n : ℕ). IsSmall n start.found.tables.config dev size v) is small;
   }
-  too_small needs start needed chosen is (no_start.NotFormatted one two) small = absurd small
-  too_small needs start needed chosen is no_start.BothLost small = absurd small
-  too_small needs start needed chosen is no_start.NoMemory small = absurd small
+  too_small room_in needs start needed chosen is (no_start.NotFormatted one two) small = absurd small
+  too_small room_in needs start needed chosen is no_start.BothLost small = absurd small
+  too_small room_in needs start needed chosen is no_start.NoMemory small = absurd small

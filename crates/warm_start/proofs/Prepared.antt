@@ -51,9 +51,9 @@ module _ (tells : Type 0) (mid new : View) (looks : LooksAt tells 0 mid new) whe
   gone_read2 alive told gone was dead lt = ap (λ (d : Disk). d.lost) (same2 told) ∙ gone was dead (omega (arith, looks.goes.later, lt))
 
   -- what was chosen still is
-  module _ {C : Type 0} (count room : C → ℕ) (room_most : ℕ) (ready : C → View → Type 0) (reads : List ℕ → Option (List ℕ)) (rests : C → List ℕ → Disk → Type 0) where
+  module _ {C : Type 0} (count room : C → ℕ) (room_most : ℕ) (room_in : List ℕ → ℕ) (ready : C → View → Type 0) (reads : List ℕ → Option (List ℕ)) (rests : C → List ℕ → Disk → Type 0) where
     pub chosen_read : (old : View) (one two : C) (a b : Bool) (f g : ℕ) (start : Start) → (ready one mid → ready one new) → (ready two mid → ready two new)
-        → Chosen count room room_most ready reads rests tells old mid one two a b f g start → Chosen count room room_most ready reads rests tells old new one two a b f g start
+        → Chosen count room room_most room_in ready reads rests tells old mid one two a b f g start → Chosen count room room_most room_in ready reads rests tells old new one two a b f g start
     chosen_read old one two a b f g start stays1 stays2 x =
         let lost1 = looks.else_lost (DiskPart Ckpt1) no_volume1 in
         let lost2 = looks.else_lost (DiskPart Ckpt2) no_volume2 in
@@ -67,8 +67,8 @@ module _ (tells : Type 0) (mid new : View) (looks : LooksAt tells 0 mid new) whe
           found = λ told. found_later reads old mid new (mark_of mid) (mark_of new) (bytes_of start.found.pages) (gone1 told) (gone2 told) (x.found told);
           fits1 = λ stays alive. fits_later count room room_most ready reads rests tells Ckpt1 mid new one one a a f f start.found.pages refl refl refl lost1 stays1 same1 (x.fits1 stays alive);
           fits2 = λ stays alive. fits_later count room room_most ready reads rests tells Ckpt2 mid new two two b b g g start.found.pages refl refl refl lost2 stays2 same2 (x.fits2 stays alive);
-          unfit1 = λ told to_go. unfit_later reads Ckpt1 old mid new (mark_of mid) (mark_of new) (room one) start.found.pages (gone1 told) (x.unfit1 told to_go);
-          unfit2 = λ told to_go. unfit_later reads Ckpt2 old mid new (mark_of mid) (mark_of new) (room two) start.found.pages (gone2 told) (x.unfit2 told to_go);
+          unfit1 = λ told to_go. unfit_later reads Ckpt1 old mid new (mark_of mid) (mark_of new) (room_in (disk_now old Ckpt1).bytes) start.found.pages (gone1 told) (x.unfit1 told to_go);
+          unfit2 = λ told to_go. unfit_later reads Ckpt2 old mid new (mark_of mid) (mark_of new) (room_in (disk_now old Ckpt2).bytes) start.found.pages (gone2 told) (x.unfit2 told to_go);
           one = ⊎_elim
               (λ h. inl (h.0, has_later count room room_most ready reads rests tells Ckpt1 mid new one a f lost1 stays1 same1 start.found.pages h.1))
               (λ h. inr (h.0, has_later count room room_most ready reads rests tells Ckpt2 mid new two b g lost2 stays2 same2 start.found.pages h.1))

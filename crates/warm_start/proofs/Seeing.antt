@@ -16,13 +16,13 @@ use Rattle.duplex_pair.specs.declared.errors.Look.{Look}
 use Rattle.duplex_pair.specs.declared.errors.Look.TheVariants.{Lost, Unread, Pages}
 use Rattle.duplex_pair.specs.Halves.{Acted}
 use Rattle.duplex_pair.specs.Lagging.{IsLevelFound}
-use Rattle.duplex_pair.specs.Looks.{WasSeen}
+use Rattle.duplex_pair.specs.Looks.{HasRoom, WasSeen}
 use Rattle.duplex_pair.proofs.Composing.{no}
 use Rattle.warm_start.specs.declared.choosing.Judged.{Judged}
 use Rattle.warm_start.specs.declared.choosing.Judged.TheVariants.{Good, Bad}
 use Rattle.warm_start.specs.Usable.{AreOf, IsUsable, HaveSize, AreUsable}
 use Rattle.warm_start.specs.Choosing.{IsJudged}
-use Rattle.warm_start.specs.Judging.{HasSizes, Has, WasLooked, WasJudged}
+use Rattle.warm_start.specs.Judging.{HasSizes, Has, WasLooked, WasJudged, HasRoomBy}
 use Rattle.warm_start.specs.Starting.{HasGone, IsSeen, IsState, mark_of}
 
 -- the operator is never stopped
@@ -88,6 +88,12 @@ module _ {C : Type 0} (count room : C → ℕ) (room_most : ℕ) (ready : C → 
   )
   judged_looked dev v copy alive found (Pages pages) (Bad why) looked is =
       subst (λ (w : CopyState). Judges dev v copy alive found (Bad w)) (sym is.0) (record { pages = pages; has = looked; unusable = is.1 })
+
+  pub judged_room : (room_in : List ℕ → ℕ) (copy : C) (look : Look) (j : Judged) (bytes : List ℕ) → HasRoom room room_in copy look bytes → IsJudged look j → HasRoomBy room room_in copy j bytes
+  judged_room room_in copy Lost j bytes has is = subst (λ (k : Judged). HasRoomBy room room_in copy k bytes) (sym is) has
+  judged_room room_in copy Unread j bytes has is = subst (λ (k : Judged). HasRoomBy room room_in copy k bytes) (sym is) has
+  judged_room room_in copy (Pages pages) (Good good) bytes has is = has
+  judged_room room_in copy (Pages pages) (Bad why) bytes has is = tt
 
   module _ (dev : Dev) (v w : View) (one : C) (alive : Bool) (found : ℕ) (lost : w.lost (DiskPart dev) ≡ v.lost (DiskPart dev)) (stays : ready one v → ready one w) (disk : tells → disk_now w dev ≡ disk_now v dev) where
     pub has_later : (pages : List Page) → Has count room room_most ready rests tells dev v one alive found pages → Has count room room_most ready rests tells dev w one alive found pages

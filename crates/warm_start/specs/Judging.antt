@@ -51,3 +51,8 @@ WasJudged count room room_most ready reads rests tells dev v copy alive found (G
 WasJudged count room room_most ready reads rests tells dev v copy alive found (Bad state.Lost) = WasLost dev v alive
 WasJudged count room room_most ready reads rests tells dev v copy alive found (Bad state.Unread) = IsUnread reads tells dev v alive
 WasJudged count room room_most ready reads rests tells dev v copy alive found (Bad state.Unsound) = IsUnsound count room room_most ready rests tells dev v copy alive found
+
+-- a copy whose pages can be used has the room of its bytes
+abbrev pub HasRoomBy : {C : Type 0} → (C → ℕ) → (List ℕ → ℕ) → C → Judged → List ℕ → Type 0
+HasRoomBy room room_in copy (Good good) bytes = room copy ≡ room_in bytes
+HasRoomBy room room_in copy (Bad why) bytes = Unit {0}

@@ -88,15 +88,15 @@ pub record IsUnfit (reads : List ℕ → Option (List ℕ)) (dev : Dev) (old new
 
 -- What stands once a copy was chosen: its pages can be used and are those that count, and each copy that doesn't go has them or
 -- lags behind them.
-pub record Chosen {C : Type 0} (count room : C → ℕ) (room_most : ℕ) (ready : C → View → Type 0) (reads : List ℕ → Option (List ℕ)) (rests : C → List ℕ → Disk → Type 0) (tells : Type 0)
+pub record Chosen {C : Type 0} (count room : C → ℕ) (room_most : ℕ) (room_in : List ℕ → ℕ) (ready : C → View → Type 0) (reads : List ℕ → Option (List ℕ)) (rests : C → List ℕ → Disk → Type 0) (tells : Type 0)
     (old v : View) (first second : C) (alive1 alive2 : Bool) (found1 found2 : ℕ) (start : Start) : Type 0 where
   pub usable : AreOf start.found.pages start.found.tables
   pub sized : HaveSize start.found.pages
   pub found : tells → IsFound reads old v (mark_of v) (bytes_of start.found.pages)
   pub fits1 : goes Ckpt1 start ≡ false → alive1 ≡ true → Fitting count room room_most ready rests tells Ckpt1 v first alive1 found1 start.found.pages
   pub fits2 : goes Ckpt2 start ≡ false → alive2 ≡ true → Fitting count room room_most ready rests tells Ckpt2 v second alive2 found2 start.found.pages
-  pub unfit1 : tells → goes Ckpt1 start ≡ true → IsUnfit reads Ckpt1 old v (mark_of v) (room first) start.found.pages
-  pub unfit2 : tells → goes Ckpt2 start ≡ true → IsUnfit reads Ckpt2 old v (mark_of v) (room second) start.found.pages
+  pub unfit1 : tells → goes Ckpt1 start ≡ true → IsUnfit reads Ckpt1 old v (mark_of v) (room_in (disk_now old Ckpt1).bytes) start.found.pages
+  pub unfit2 : tells → goes Ckpt2 start ≡ true → IsUnfit reads Ckpt2 old v (mark_of v) (room_in (disk_now old Ckpt2).bytes) start.found.pages
   pub one :
       ((goes Ckpt1 start ≡ false) × Has count room room_most ready rests tells Ckpt1 v first alive1 found1 start.found.pages)
       ⊎ ((goes Ckpt2 start ≡ false) × Has count room room_most ready rests tells Ckpt2 v second alive2 found2 start.found.pages)
@@ -226,26 +226,26 @@ pub record WhileStarting (P Q : Disk → Type 0) (old new : View) : Type 0 where
 abbrev pub OnlyLookedAtAll : View → View → Type 0
 OnlyLookedAtAll old new = WhileStarting (NoMore (disk_now old Ckpt1)) (NoMore (disk_now old Ckpt2)) old new
 
--- A start of copies with so much room that found these pages: during it an image of a copy is one of before, or reads as the copy did
--- or as these pages, and a call lost a copy only where it may not stay beside them.
-pub record IsHeldBack {C : Type 0} (reads : List ℕ → Option (List ℕ)) (room : C → ℕ) (old new : View) (pages : List Page) : Type 0 where
+-- A start that found these pages: during it an image of a copy is one of before, or reads as the copy did or as these pages, and a
+-- call lost a copy only where it may not stay beside them.
+pub record IsHeldBack (reads : List ℕ → Option (List ℕ)) (room_in : List ℕ → ℕ) (old new : View) (pages : List Page) : Type 0 where
   pub usable : IsUsable pages
   pub sized : HaveSize pages
   pub found : IsFound reads old new (mark_of new) (bytes_of pages)
   pub held : WhileStarting (IsHeld reads (disk_now old Ckpt1) (bytes_of pages)) (IsHeld reads (disk_now old Ckpt2) (bytes_of pages)) old new
-  pub kept1 : (new.loses Ckpt1 ≡ old.loses Ckpt1) ⊎ ((copy : C) × IsUnfit reads Ckpt1 old new (mark_of new) (room copy) pages)
-  pub kept2 : (new.loses Ckpt2 ≡ old.loses Ckpt2) ⊎ ((copy : C) × IsUnfit reads Ckpt2 old new (mark_of new) (room copy) pages)
+  pub kept1 : (new.loses Ckpt1 ≡ old.loses Ckpt1) ⊎ IsUnfit reads Ckpt1 old new (mark_of new) (room_in (disk_now old Ckpt1).bytes) pages
+  pub kept2 : (new.loses Ckpt2 ≡ old.loses Ckpt2) ⊎ IsUnfit reads Ckpt2 old new (mark_of new) (room_in (disk_now old Ckpt2).bytes) pages
 
 -- a start that gave nothing: it only looked, and lost no device by a call, or it found pages
-abbrev pub HeldBack : {C : Type 0} → (List ℕ → Option (List ℕ)) → (C → ℕ) → View → View → Type 0
-HeldBack reads room old new = (OnlyLookedAtAll old new × ((d : Dev) → new.loses d ≡ old.loses d)) ⊎ ((pages : List Page) × IsHeldBack reads room old new pages)
+abbrev pub HeldBack : (List ℕ → Option (List ℕ)) → (List ℕ → ℕ) → View → View → Type 0
+HeldBack reads room_in old new = (OnlyLookedAtAll old new × ((d : Dev) → new.loses d ≡ old.loses d)) ⊎ ((pages : List Page) × IsHeldBack reads room_in old new pages)
 
 -- A START
 
 -- The copies that count as alive have the pages found, which spell these tables; these tell the base, whose texts stand on the spool
 -- volumes, all of them synced, but for those with a group on a volume that is lost. Where no volume was lost in the start these are
 -- gone, and name the first such group.
-pub record HasStarted {C : Type 0} (count room : C → ℕ) (needs : ℕ → ℕ) (reads : List ℕ → Option (List ℕ)) (tells : Type 0) (base : Queue) (t : Tables) (pages : List Page) (levels : List ℕ) (at : ℕ) (first : C) (alive1 : Bool) (second : C) (alive2 : Bool) (old new : View) : Type 0 where
+pub record HasStarted {C : Type 0} (count : C → ℕ) (room_in : List ℕ → ℕ) (needs : ℕ → ℕ) (reads : List ℕ → Option (List ℕ)) (tells : Type 0) (base : Queue) (t : Tables) (pages : List Page) (levels : List ℕ) (at : ℕ) (first : C) (alive1 : Bool) (second : C) (alive2 : Bool) (old new : View) : Type 0 where
   pub usable : AreOf pages t
   pub sized : HaveSize pages
   pub leveled : levels ≡ levels_given pages
@@ -266,5 +266,5 @@ pub record HasStarted {C : Type 0} (count room : C → ℕ) (needs : ℕ → ℕ
   pub reads2 : tells → alive2 ≡ true → reads (disk_now new Ckpt2).bytes ≡ Some (bytes_of pages)
   pub held : tells → WhileStarting (IsHeld reads (disk_now old Ckpt1) (bytes_of pages)) (IsHeld reads (disk_now old Ckpt2) (bytes_of pages)) old new
   pub one : IsOneCalled old new
-  pub kept1 : tells → (new.loses Ckpt1 ≡ old.loses Ckpt1) ⊎ ((copy : C) × IsUnfit reads Ckpt1 old new (mark_of new) (room copy) pages)
-  pub kept2 : tells → (new.loses Ckpt2 ≡ old.loses Ckpt2) ⊎ ((copy : C) × IsUnfit reads Ckpt2 old new (mark_of new) (room copy) pages)
+  pub kept1 : tells → (new.loses Ckpt1 ≡ old.loses Ckpt1) ⊎ IsUnfit reads Ckpt1 old new (mark_of new) (room_in (disk_now old Ckpt1).bytes) pages
+  pub kept2 : tells → (new.loses Ckpt2 ≡ old.loses Ckpt2) ⊎ IsUnfit reads Ckpt2 old new (mark_of new) (room_in (disk_now old Ckpt2).bytes) pages

@@ -1,13 +1,14 @@
 //! A look at both copies of the checkpoint, which changes neither.
 ghost use Rattle.std.specs.Prelude.{◌≡◌, IfOk, IfErr, true};
-ghost use Rattle.ckpt_copy.specs.Areas.{reads, areas_size};
+ghost use Rattle.ckpt_form.specs.Form.{form_reads, form_needs};
 ghost use Rattle.warm_start.specs.Inspecting.{Looks, HasFound, FindsNone, HasLooked, SeesNone, AreFoundAgain, greatest as greatest_lem};
 
 use crate::choosing::StartNo;
 use crate::looking::look_at_both;
 use crate::queues::queue_of;
 use crate::starting::{choose_copy, refuse_small};
-use ckpt_copy::{AreaCopy, Copying};
+use ckpt_copy::Copying;
+use ckpt_form::CopyForm;
 use ckpt_pages::law_of_checkpoints;
 use duplex_pair::{Look, Pair, better_of};
 use mas_complex::Steady;
@@ -45,13 +46,13 @@ fn greatest(first: Look, second: Look) -> Result<List<Page>, StartNo>
 }
 
 // The two copies, of which nothing is known yet.
-fn copies() -> Pair<AreaCopy>
+fn copies() -> Pair<CopyForm>
     ensures alive1 { result.first.alive ≡ true }
     ensures alive2 { result.second.alive ≡ true }
 {
     Pair::new(
-        AreaCopy::new(Dev::Ckpt1, PAGES),
-        AreaCopy::new(Dev::Ckpt2, PAGES),
+        CopyForm::new(Dev::Ckpt1, PAGES),
+        CopyForm::new(Dev::Ckpt2, PAGES),
     )
 }
 
@@ -103,8 +104,8 @@ fn find_pages<P: Plant, C: Steady + Drop>(
 /// copy failed; DeviceSize where a device is too small for the pages found, or a volume that isn't lost for the groups of their
 /// configuration, the first such; NoMemory for want of memory.
 pub fn found<P: Plant>(alloc: Global, plant: &mut P) -> Result<Queue, StartNo>
-    ensures queue { IfOk result (HasFound reads P.tells areas_size (P.view plant.old) (P.view plant.new)) }
-    ensures none { IfErr result (FindsNone reads P.tells areas_size (P.view plant.old) (P.view plant.new)) }
+    ensures queue { IfOk result (HasFound form_reads P.tells form_needs (P.view plant.old) (P.view plant.new)) }
+    ensures none { IfErr result (FindsNone form_reads P.tells form_needs (P.view plant.old) (P.view plant.new)) }
     ensures looks { Looks P.tells (P.view plant.old) (P.view plant.new) }
 {
     let mut pair = copies();
@@ -119,8 +120,8 @@ pub fn found<P: Plant>(alloc: Global, plant: &mut P) -> Result<Queue, StartNo>
 /// NotFormatted comes where no copy reads while one isn't lost, with the state of each; BothLost where an act on each copy
 /// failed; NoMemory for want of memory. DeviceSize never comes.
 pub fn looked<P: Plant>(alloc: Global, plant: &mut P) -> Result<List<Page>, StartNo>
-    ensures pages { IfOk result (HasLooked reads P.tells (P.view plant.old) (P.view plant.new)) }
-    ensures none { IfErr result (SeesNone reads P.tells (P.view plant.old) (P.view plant.new)) }
+    ensures pages { IfOk result (HasLooked form_reads P.tells (P.view plant.old) (P.view plant.new)) }
+    ensures none { IfErr result (SeesNone form_reads P.tells (P.view plant.old) (P.view plant.new)) }
     ensures looks { Looks P.tells (P.view plant.old) (P.view plant.new) }
 {
     let mut pair = copies();

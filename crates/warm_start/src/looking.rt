@@ -8,7 +8,8 @@ ghost use Rattle.ckpt_copy.specs.Meanwhile.{Meanwhile};
 ghost use Rattle.duplex_pair.specs.Halves.{IsCkpt, pick, other, Acted, IsGone};
 ghost use Rattle.duplex_pair.specs.Both.{PairActed, BothMeanwhile};
 ghost use Rattle.warm_start.specs.Choosing.{HasFew};
-ghost use Rattle.warm_start.specs.Judging.{WasLooked, WasJudged, HasSizes};
+ghost use Rattle.duplex_pair.specs.Looks.{HasRoom};
+ghost use Rattle.warm_start.specs.Judging.{WasLooked, WasJudged, HasSizes, HasRoomBy};
 
 use crate::choosing::{Judged, judge};
 use ckpt_pages::law_of_page_sizes;
@@ -43,6 +44,7 @@ fn look_at<P: Plant, C: Steady + Drop>(
     ensures gone { P.tells → IsGone dev true (pick dev pair.new.first pair.new.second).alive (P.view plant.new) }
     ensures during { P.tells → Meanwhile dev (NoMore (disk_now (P.view plant.old) dev)) (P.view plant.old) (P.view plant.new) }
     ensures seen { IfOk result (WasLooked C.count C.room C.room_most C.ready C.reads C.rests P.tells dev (P.view plant.new) (pick dev pair.new.first pair.new.second).copy (pick dev pair.new.first pair.new.second).alive (pick dev pair.new.first pair.new.second).found) }
+    ensures room { IfOk result (λ look. P.tells → HasRoom C.room C.room_in (pick dev pair.new.first pair.new.second).copy look (disk_now (P.view plant.new) dev).bytes) }
 {
     let Ok(look) = pair.look(alloc, plant, OPERATOR, dev) else {
         return Err(NoMemory);
@@ -65,6 +67,8 @@ pub(crate) fn look_at_both<P: Plant, C: Steady + Drop>(
     ensures during { P.tells → BothMeanwhile (NoMore (disk_now (P.view plant.old) Ckpt1)) (NoMore (disk_now (P.view plant.old) Ckpt2)) (P.view plant.old) (P.view plant.new) }
     ensures first { IfOk result (λ both. WasLooked C.count C.room C.room_most C.ready C.reads C.rests P.tells Ckpt1 (P.view plant.new) pair.new.first.copy pair.new.first.alive pair.new.first.found both.0) }
     ensures second { IfOk result (λ both. WasLooked C.count C.room C.room_most C.ready C.reads C.rests P.tells Ckpt2 (P.view plant.new) pair.new.second.copy pair.new.second.alive pair.new.second.found both.1) }
+    ensures room1 { IfOk result (λ both. P.tells → HasRoom C.room C.room_in pair.new.first.copy both.0 (disk_now (P.view plant.new) Ckpt1).bytes) }
+    ensures room2 { IfOk result (λ both. P.tells → HasRoom C.room C.room_in pair.new.second.copy both.1 (disk_now (P.view plant.new) Ckpt2).bytes) }
 {
     let first = look_at(alloc, plant, pair, Dev::Ckpt1)?;
     let second = look_at(alloc, plant, pair, Dev::Ckpt2)?;
@@ -85,6 +89,8 @@ pub(crate) fn judge_both<P: Plant, C: Steady + Drop>(
     ensures during { P.tells → BothMeanwhile (NoMore (disk_now (P.view plant.old) Ckpt1)) (NoMore (disk_now (P.view plant.old) Ckpt2)) (P.view plant.old) (P.view plant.new) }
     ensures first { IfOk result (λ both. WasJudged C.count C.room C.room_most C.ready C.reads C.rests P.tells Ckpt1 (P.view plant.new) pair.new.first.copy pair.new.first.alive pair.new.first.found both.0) }
     ensures second { IfOk result (λ both. WasJudged C.count C.room C.room_most C.ready C.reads C.rests P.tells Ckpt2 (P.view plant.new) pair.new.second.copy pair.new.second.alive pair.new.second.found both.1) }
+    ensures room1 { IfOk result (λ both. P.tells → HasRoomBy C.room C.room_in pair.new.first.copy both.0 (disk_now (P.view plant.new) Ckpt1).bytes) }
+    ensures room2 { IfOk result (λ both. P.tells → HasRoomBy C.room C.room_in pair.new.second.copy both.1 (disk_now (P.view plant.new) Ckpt2).bytes) }
     ensures few1 { IfOk result (λ both. HasFew both.0) }
     ensures few2 { IfOk result (λ both. HasFew both.1) }
 {

@@ -136,7 +136,7 @@ pub(crate) fn choose_copy<P: Plant, C: Steady + Drop>(
     ensures cause { IfErr result (IsCauseOf C.reads P.tells C.needs (P.view plant.old) (P.view plant.new) pair.new.first.alive pair.new.second.alive) }
     ensures none { IfErr result (FindsNone C.reads P.tells C.needs (P.view plant.old) (P.view plant.new)) }
     ensures few { IfOk result (λ start. IsFew start.found) }
-    ensures chosen { IfOk result (Chosen C.count C.room C.room_most C.ready C.reads C.rests P.tells (P.view plant.old) (P.view plant.new) pair.new.first.copy pair.new.second.copy pair.new.first.alive pair.new.second.alive pair.new.first.found pair.new.second.found) }
+    ensures chosen { IfOk result (Chosen C.count C.room C.room_most C.room_in C.ready C.reads C.rests P.tells (P.view plant.old) (P.view plant.new) pair.new.first.copy pair.new.second.copy pair.new.first.alive pair.new.second.alive pair.new.first.found pair.new.second.found) }
 {
     let Ok((first, second)) = judge_both(alloc, plant, pair) else {
         return Err(StartNo::NoMemory);
@@ -163,7 +163,7 @@ fn find<P: Plant, C: Steady + Drop>(
     ensures large { IfOk result (λ found. (C.needs (length found.start.found.pages) ≤ (P.view plant.new).size Ckpt1) × (C.needs (length found.start.found.pages) ≤ (P.view plant.new).size Ckpt2)) }
     ensures roomy { IfOk result (λ found. AreRoomy (P.view plant.new) found.start.found.tables.config) }
     ensures levels { IfOk result (λ found. found.levels ≡ levels_given found.start.found.pages) }
-    ensures chosen { IfOk result (λ found. Chosen C.count C.room C.room_most C.ready C.reads C.rests P.tells (P.view plant.old) (P.view plant.new) pair.new.first.copy pair.new.second.copy pair.new.first.alive pair.new.second.alive pair.new.first.found pair.new.second.found found.start) }
+    ensures chosen { IfOk result (λ found. Chosen C.count C.room C.room_most C.room_in C.ready C.reads C.rests P.tells (P.view plant.old) (P.view plant.new) pair.new.first.copy pair.new.second.copy pair.new.first.alive pair.new.second.alive pair.new.first.found pair.new.second.found found.start) }
 {
     let start = choose_copy(alloc, plant, pair)?;
     let needed = C::size_for(start.found.pages.len() as u16);
@@ -198,7 +198,7 @@ fn prepare<P: Plant, C: Steady + Drop>(
     ensures sound { IfOk result (λ ready. IsSound ready.base) }
     ensures texts { IfOk result (λ ready. P.tells → HasTexts (lost_now (P.view plant.new)) (spools_at (P.view plant.new) (P.view plant.new).now) ready.start.found.tables.config.groups ready.base) }
     ensures given { IfOk result (λ ready. P.tells → IsSteady (P.view plant.old) (P.view plant.new) → AreGiven (P.view plant.new) ready.start.found.tables.config.groups ready.base) }
-    ensures chosen { IfOk result (λ ready. Chosen C.count C.room C.room_most C.ready C.reads C.rests P.tells (P.view plant.old) (P.view plant.new) pair.new.first.copy pair.new.second.copy pair.new.first.alive pair.new.second.alive pair.new.first.found pair.new.second.found ready.start) }
+    ensures chosen { IfOk result (λ ready. Chosen C.count C.room C.room_most C.room_in C.ready C.reads C.rests P.tells (P.view plant.old) (P.view plant.new) pair.new.first.copy pair.new.second.copy pair.new.first.alive pair.new.second.alive pair.new.first.found pair.new.second.found ready.start) }
 {
     let found = find(alloc, plant, pair)?;
     let Ok(base) = spooled_queue(alloc, plant, &found.start.found.tables) else {
@@ -309,7 +309,7 @@ pub fn warm<P: Plant + Drop, C: Steady + Drop>(
 ) -> Result<Started<P, C>, Unstarted<P>>
     requires alive1 { pair.first.alive ≡ true }
     requires alive2 { pair.second.alive ≡ true }
-    ensures started { IfOk result (λ w. HasStarted C.count C.room C.needs C.reads P.tells w.complex.base w.tables w.pages w.levels w.complex.level w.complex.pair.first.copy w.complex.pair.first.alive w.complex.pair.second.copy w.complex.pair.second.alive (P.view plant) (P.view w.complex.plant)) }
+    ensures started { IfOk result (λ w. HasStarted C.count C.room_in C.needs C.reads P.tells w.complex.base w.tables w.pages w.levels w.complex.level w.complex.pair.first.copy w.complex.pair.first.alive w.complex.pair.second.copy w.complex.pair.second.alive (P.view plant) (P.view w.complex.plant)) }
     ensures since { IfOk result (λ w. w.complex.since ≡ (P.view w.complex.plant).now) }
     ensures fresh { IfOk result (λ w. P.tells → ∥ ((later : View) → Goes (P.view w.complex.plant) later → LeavesQueue C.reads w.complex.base w.complex.since later) ∥₁) }
     ensures journal { IfOk result (λ w. w.complex.journal.batches ≡ []) }
@@ -321,7 +321,7 @@ pub fn warm<P: Plant + Drop, C: Steady + Drop>(
     ensures looked { IfErr result (λ u. u.why ≢ StartNo.BothLost → (P.tells → OnlyLookedAtAll (P.view plant) (P.view u.plant)) × ((d : DevLem) → (P.view u.plant).loses d ≡ (P.view plant).loses d)) }
     ensures lost { IfErr result (λ u. u.why ≡ StartNo.BothLost → LosesBoth (P.view plant) (P.view u.plant)) }
     ensures goes { IfErr result (λ u. Goes (P.view plant) (P.view u.plant)) }
-    ensures held { IfErr result (λ u. P.tells → HeldBack C.reads C.room (P.view plant) (P.view u.plant)) }
+    ensures held { IfErr result (λ u. P.tells → HeldBack C.reads C.room_in (P.view plant) (P.view u.plant)) }
 {
     let mut plant = plant;
     let mut pair = pair;

@@ -24,7 +24,7 @@ returns-in_err-refuse_small-clause-none g c =
     let is : c.size_for-needed.result ≡ C.needs (length start.found.pages) = search rules in
     let p = err_from_is_err_and c.from_residual-in_err-refuse_small.result c.from_residual-in_err-refuse_small.ensures.1 in
     rw (p.1, p.2)
-    (too_small C.count C.room C.room_most C.ready C.reads C.rests g.P.Plant.tells old v a.copy b.copy a.alive b.alive a.found b.found C.needs start c.size_for-needed.result c.in_ok-start.ensures.chosen is _ c.in_err-refuse_small.ensures.small)
+    (too_small C.count C.room C.room_most C.ready C.reads C.rests g.P.Plant.tells old v a.copy b.copy a.alive b.alive a.found b.found C.room_in C.needs start c.size_for-needed.result c.in_ok-start.ensures.chosen is _ c.in_err-refuse_small.ensures.small)
 
 pub returns-in_err-refuse_small-clause-looks : goal.returns-in_err-refuse_small-clause-looks
 returns-in_err-refuse_small-clause-looks g c =
@@ -44,7 +44,7 @@ returns-clause-queue g c =
     let start = c.in_ok-start.start in
     let is : c.size_for-needed.result ≡ C.needs (length start.found.pages) = search rules in
     let large = c.in_ok-refuse_small.ensures.large in
-    queue_found C.count C.room C.room_most C.ready C.reads C.rests g.P.Plant.tells old v a.copy b.copy a.alive b.alive a.found b.found C.needs start c.in-Ok.queue c.in_ok-start.ensures.chosen c.in-Ok.ensures
+    queue_found C.count C.room C.room_most C.ready C.reads C.rests g.P.Plant.tells old v a.copy b.copy a.alive b.alive a.found b.found C.room_in C.needs start c.in-Ok.queue c.in_ok-start.ensures.chosen c.in-Ok.ensures
     (subst (λ (n : ℕ). n ≤ v.size Ckpt1) is large.0) (subst (λ (n : ℕ). n ≤ v.size Ckpt2) is large.1) c.in_ok-refuse_small.ensures.roomy
 
 pub returns-clause-looks : goal.returns-clause-looks

@@ -1,7 +1,8 @@
-use Rattle.std.proofs.Common.{true, false, refl, inl}
+use Rattle.std.proofs.Common.{true, false, refl, inl, sym, subst}
 use Rattle.mas_types.specs.declared.ids.Dev.TheVariants.{Ckpt1, Ckpt2}
 use Rattle.spool_disk.specs.declared.plant.Part.TheVariants.{Disk as DiskPart}
-use Rattle.spool_disk.specs.View.{disk_now}
+use Rattle.spool_disk.specs.View.{Disk, disk_now}
+use Rattle.duplex_pair.specs.Looks.{HasRoom}
 use Rattle.ckpt_copy.specs.Changes.{NoMore}
 use Rattle.duplex_pair.proofs.Composing.{both_calls, acted_first, acted_second, acted_then, gone_stays, other_disk, ne12}
 use Rattle.duplex_pair.proofs.Chosen.{part12}
@@ -49,3 +50,13 @@ returns-in_err-second-clause-during g c told =
     let view = g.P.Plant.view in
     let old = view c.args.plant.now in
     both_calls (NoMore (disk_now old Ckpt1)) NoMore Ckpt1 Ckpt2 old (view c.look_at.new.plant) (view c.look_at-2.new.plant) refl refl (c.look_at.ensures.during told) (c.look_at-2.ensures.during told)
+
+pub returns-clause-room1 : goal.returns-clause-room1
+returns-clause-room1 g c told =
+    let C = g.C.Copying in
+    let view = g.P.Plant.view in
+    let one = view c.look_at.new.plant in
+    let two = view c.look_at-2.new.plant in
+    let a = c.look_at.new.pair.first in
+    rw c.look_at-2.ensures.other
+    (subst (λ (d : Disk). HasRoom C.room C.room_in a.copy c.in_ok-first.first d.bytes) (sym (other_disk Ckpt2 Ckpt1 (NoMore (disk_now one Ckpt2)) one two ne12 (c.look_at-2.ensures.during told))) (c.in_ok-first.ensures.room told))

@@ -122,7 +122,7 @@ returns-clause-chosen g c =
     let mid = P.view c.find.new.plant in
     let new = P.view c.spooled_queue.new.plant in
     let looks = c.spooled_queue.ensures.looks in
-    chosen_read P.tells mid new looks C.count C.room C.room_most C.ready C.reads C.rests (P.view c.args.plant.now) n.first.copy n.second.copy n.first.alive n.second.alive n.first.found n.second.found c.in_ok-found.found.start
+    chosen_read P.tells mid new looks C.count C.room C.room_most C.room_in C.ready C.reads C.rests (P.view c.args.plant.now) n.first.copy n.second.copy n.first.alive n.second.alive n.first.found n.second.found c.in_ok-found.found.start
     (λ ready. g.met.C.Copying.stays_ready n.first.copy mid new looks.goes ready) (λ ready. g.met.C.Copying.stays_ready n.second.copy mid new looks.goes ready) c.in_ok-found.ensures.chosen
 
 pub returns-clause-given : goal.returns-clause-given

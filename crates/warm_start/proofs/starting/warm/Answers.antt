@@ -39,7 +39,7 @@ returns-in_default-clause-held g c = λ told.
     let p = c.prepare.new.pair in
     let n = c.bring.new.pair in
     let starts : Starts n.first.alive n.second.alive old new = c.bring.ensures.starts old e.starts in
-    let brings = (λ (told : g.P.Plant.tells). brought C.count C.room C.room_most C.ready C.reads C.rests g.P.Plant.tells old mid new p.first.copy p.second.copy p.first.alive n.first.alive p.second.alive n.second.alive p.first.found p.second.found c.in-Ok.ready.start
+    let brings = (λ (told : g.P.Plant.tells). brought C.count C.room C.room_most C.room_in C.ready C.reads C.rests g.P.Plant.tells old mid new p.first.copy p.second.copy p.first.alive n.first.alive p.second.alive n.second.alive p.first.found p.second.found c.in-Ok.ready.start
     e.chosen e.starts starts c.bring.ensures.goes c.prepare.ensures.loses c.bring.ensures.dead1 c.bring.ensures.dead2 c.bring.ensures.kept1 c.bring.ensures.kept2 told
     (c.bring.ensures.gone1 told (c.prepare.ensures.gone1 told)) (c.bring.ensures.gone2 told (c.prepare.ensures.gone2 told))) in
     inr (
@@ -91,7 +91,7 @@ returns-clause-started g c =
     let p = c.prepare.new.pair in
     let n = c.bring.new.pair in
     let starts : Starts n.first.alive n.second.alive old new = c.bring.ensures.starts old e.starts in
-    let brings = (λ (told : g.P.Plant.tells). brought C.count C.room C.room_most C.ready C.reads C.rests g.P.Plant.tells old mid new p.first.copy p.second.copy p.first.alive n.first.alive p.second.alive n.second.alive p.first.found p.second.found c.in-Ok.ready.start
+    let brings = (λ (told : g.P.Plant.tells). brought C.count C.room C.room_most C.room_in C.ready C.reads C.rests g.P.Plant.tells old mid new p.first.copy p.second.copy p.first.alive n.first.alive p.second.alive n.second.alive p.first.found p.second.found c.in-Ok.ready.start
     e.chosen e.starts starts c.bring.ensures.goes c.prepare.ensures.loses c.bring.ensures.dead1 c.bring.ensures.dead2 c.bring.ensures.kept1 c.bring.ensures.kept2 told
     (c.bring.ensures.gone1 told (c.prepare.ensures.gone1 told)) (c.bring.ensures.gone2 told (c.prepare.ensures.gone2 told))) in
     let m = c.make-complex.ensures in

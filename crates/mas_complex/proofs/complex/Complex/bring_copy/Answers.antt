@@ -2,6 +2,7 @@ use Rattle.std.proofs.Common.{◌∙◌}
 use Rattle.mas_complex.proofs.Apart.{bytes_else, on_one, on_then}
 use Rattle.mas_complex.specs.Parts.{parts_of}
 use Rattle.mas_complex.proofs.Frames.{frame_then}
+use Rattle.mas_complex.proofs.Numbered.{are_pages_of}
 use Rattle.mas_complex.proofs.complex.Complex.bring_copy.Goals as goal
 
 pub returns-in_err-put_on-clause-apart : goal.returns-in_err-put_on-clause-apart
@@ -34,3 +35,6 @@ returns-clause-others g c told d ne =
     let mid = P.view c.put_on.new.self.plant in
     let new = P.view c.open_on.new.self.plant in
     bytes_else c.args.dev mid new c.open_on.ensures.acted.goes (c.open_on.ensures.elsewhere told) d ne ∙ bytes_else c.args.dev old mid c.put_on.ensures.acted.goes (c.put_on.ensures.elsewhere told) d ne
+
+pub put_on-requires-clause-changed : goal.put_on-requires-clause-changed
+put_on-requires-clause-changed g c alive = are_pages_of c.args.found.now _ _ c.requires.as_many c.requires.some c.list_found-count.ensures.listed

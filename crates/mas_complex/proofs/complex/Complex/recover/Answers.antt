@@ -1,5 +1,6 @@
 use Rattle.std.proofs.Common.{◌≡◌, ◌||◌, ◌++◌, ◌∙◌, ℕ, List, Option, true, false, Some, None, sym, subst, ap, arith, rules}
 use Rattle.std.proofs.Math.Logic.{∥∥₁_map}
+use Rattle.mas_types.specs.declared.ids.Dev.{Dev}
 use Rattle.mas_types.specs.declared.ids.Dev.TheVariants.{Ckpt1, Ckpt2}
 use Rattle.spool_disk.specs.View.{disk_now}
 use Rattle.spool_disk.specs.Acts.{Rose}
@@ -132,6 +133,32 @@ returns-clause-left2 g c told alive dead =
     left_why C.reads (disk_now v0 Ckpt2).bytes s.level (C.room b.pair.second.copy) (C.room f.pair.second.copy) b.second c.in-Some.found (Rose (v0.faults (Disk Ckpt2)) (v5.faults (Disk Ckpt2))) c.in_ok-second.second d.pair.second.alive unseen failed read at
     (λ pages is not. c.in-Some.ensures.unfit2 ((one pages is).is_alive) not)
     (λ not. ap (λ p. C.room p.second_copy) c.give_fate.ensures.frame ∙ ap C.room (c.bring.ensures.room2 dead4 not ∙ c.choose_any.ensures.copy2))
+
+pub returns-clause-picked : goal.returns-clause-picked
+returns-clause-picked g c told =
+    let P = g.P.Plant in
+    let C = g.C.Copying in
+    let s = c.args.self.now in
+    let a = c.see_on.new.self in
+    let v0 = P.view s.plant in
+    let v1 = P.view a.plant in
+    let v2 = P.view c.see_on-2.new.self.plant in
+    let v5 = P.view c.give_fate.new.self.plant in
+    let e1 = c.see_on.ensures.goes in
+    let e2 = c.see_on-2.ensures.goes in
+    let e3 = c.choose_any.ensures.goes in
+    let e4 = c.bring.ensures.goes in
+    let still : (dev : Dev) → v5.faults (Disk dev) ≡ (P.view c.bring.new.self.plant).faults (Disk dev) = λ dev. ap (λ p. (P.view p).faults (Disk dev)) (ap (λ p. p.plant) c.give_fate.ensures.frame) in
+    record {
+      one = c.in_ok-first.first;
+      two = c.in_ok-second.second;
+      read1 = subst (λ (l : List ℕ). ReadsSeen C.reads l c.in_ok-first.first) (c.see_on.ensures.bytes told Ckpt1) (c.in_ok-first.ensures.reads told);
+      read2 = subst (λ (l : List ℕ). ReadsSeen C.reads l c.in_ok-second.second) (c.see_on-2.ensures.bytes told Ckpt2 ∙ c.see_on.ensures.bytes told Ckpt2) (c.in_ok-second.ensures.reads told);
+      none1 = λ none alive. rose_later (v0.faults (Disk Ckpt1)) (v1.faults (Disk Ckpt1)) (v5.faults (Disk Ckpt1)) (c.in_ok-first.ensures.unseen told none alive) (omega (arith, e2.faults (Disk Ckpt1), e3.faults (Disk Ckpt1), e4.faults (Disk Ckpt1), still Ckpt1));
+      none2 = λ none alive. rose_earlier (v0.faults (Disk Ckpt2)) (v1.faults (Disk Ckpt2)) (v5.faults (Disk Ckpt2)) (e1.faults (Disk Ckpt2))
+          (rose_later (v1.faults (Disk Ckpt2)) (v2.faults (Disk Ckpt2)) (v5.faults (Disk Ckpt2)) (c.in_ok-second.ensures.unseen told none (ap (λ h. h.alive) c.see_on.ensures.other ∙ alive)) (omega (arith, e3.faults (Disk Ckpt2), e4.faults (Disk Ckpt2), still Ckpt2)));
+      greater = c.in-Some.ensures.greater;
+    }
 
 -- WHAT IS COUNTED
 

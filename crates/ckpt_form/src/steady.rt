@@ -1,10 +1,11 @@
-//! Copies that a shared value may have.
+// Copies that a shared value may have.
 ghost use Rattle.std.specs.Prelude.{◌≡◌, ◌≤◌, ℕ, Bool, true};
 ghost use Rattle.spool_disk.specs.View.{View};
 ghost use Rattle.spool_disk.specs.Acts.{Goes};
-ghost use Rattle.mas_complex.specs.Steady.{is_fit, ready_where, fit_where, stays_fit_lem, some_room};
+ghost use Rattle.ckpt_form.specs.Fits.{is_fit, fit_kept, kept_fit, fit_stays, some_room};
 
-use ckpt_copy::{AreaCopy, Copying};
+use crate::form::CopyForm;
+use ckpt_copy::Copying;
 
 /// A copy of which a test says that it is ready, so that a type can keep that it is.
 pub trait Steady: Copying {
@@ -24,14 +25,14 @@ pub trait Steady: Copying {
     ghost has_room: { 1 ≤ Self.room_most };
 }
 
-impl Steady for AreaCopy {
-    ghost fits = { λ c v. is_fit c.pages (v.size c.dev) };
+impl Steady for CopyForm {
+    ghost fits = { λ c v. is_fit c.pages (v.size c.dev) c.gates c.places c.next_places };
 
-    ghost fit_ready = { λ c v fit. ready_where c.pages (v.size c.dev) fit };
+    ghost fit_ready = { λ c v fit. fit_kept c.pages (v.size c.dev) c.gates c.places c.next_places fit };
 
-    ghost ready_fit = { λ c v ready. fit_where c.pages (v.size c.dev) ready };
+    ghost ready_fit = { λ c v ready. kept_fit c.pages (v.size c.dev) c.gates c.places c.next_places ready };
 
-    ghost stays_fit = { λ c old new goes fit. stays_fit_lem c.pages (old.size c.dev) (new.size c.dev) (goes.size c.dev) fit };
+    ghost stays_fit = { λ c old new goes fit. fit_stays c.pages (old.size c.dev) (new.size c.dev) c.gates c.places c.next_places (goes.size c.dev) fit };
 
     ghost has_room = { some_room };
 }

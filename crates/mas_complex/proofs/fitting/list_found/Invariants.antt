@@ -1,0 +1,10 @@
+use Rattle.std.proofs.Common.{◌≡◌, ◌≤◌, ◌++◌, take, drop}
+use Rattle.ckpt_copy.specs.Pages.{bytes_of, level}
+use Rattle.mas_complex.specs.Fits.{first_page, found_numbers, numbers_from}
+use Rattle.mas_complex.proofs.fitting.list_found.Given as goal
+
+abbrev pub invariant-loop-page : goal.invariant-loop-page
+invariant-loop-page l = record {
+  few : l.count ≤ l.page;
+  listed : take l.count l.numbers ++ numbers_from (first_page l.found) (level (bytes_of l.found)) l.page (drop l.page l.found) ≡ found_numbers l.found;
+}
