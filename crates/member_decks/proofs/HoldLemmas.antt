@@ -1,5 +1,5 @@
 -- The lock, given up in the middle of a step and taken again: the book is as it was.
-use Rattle.std.proofs.Common.{◌≡◌, ◌-◌, ◌<◌, ◌≤◌, ◌==◌, ℕ, true, false, ◌||◌, if◌then◌else◌, is_some, length, List, Option, None, refl, sym, ◌∙◌, ap, subst, arith}
+use Rattle.std.proofs.Common.{◌≡◌, ◌-◌, ◌<◌, ◌≤◌, ◌==◌, inl, inr, ℕ, true, false, ◌||◌, if◌then◌else◌, is_some, length, IfErr, List, Option, None, Result, Ok, Err, refl, sym, ◌∙◌, ap, subst, arith}
 use Rattle.std.specs.Prelude.{slice_set}
 use Rattle.std.proofs.lemmas.Bool.{eq-eqb}
 use Rattle.std.proofs.lemmas.Bool.Decides.{nat_tests}
@@ -9,6 +9,9 @@ use Rattle.mas_types.specs.Ids.{nobody}
 use Rattle.lock_cycle.specs.declared.standings.Standing.{Standing}
 use Rattle.lock_cycle.specs.declared.answers.LockNo.{LockNo}
 use Rattle.mas_complex.specs.Locking.{MayAct}
+use Rattle.member_node.specs.declared.member.NodeNo.{NodeNo}
+use Rattle.member_node.specs.declared.member.NodeNo.TheVariants.{BothLost, Halted, ConsoleFault, NoMemory}
+use Rattle.member_decks.specs.Steps.{HoldsStill, LeavesLock}
 use Rattle.lock_cycle.specs.Books.{Book, IsMember, after_free, after_try, beginner, free_refusal, granted, is_holder, is_stopped, left_of, standing, ticked, try_refusal, with_holder}
 
 -- WHO HOLDS GIVES UP
@@ -84,3 +87,35 @@ module _ (b : Book) (m : MemberId) (member : IsMember b m) (free : b.holder ≡ 
 -- the same book and the same member have the same left
 pub book_by : (b c : Book) (m i : MemberId) → c ≡ b → i ≡ m → left_of b m ≡ b.hold → left_of c i ≡ c.hold
 book_by b c m i one two whole = subst (λ (k : MemberId). left_of c k ≡ c.hold) (sym two) (subst (λ (d : Book). left_of d m ≡ d.hold) (sym one) whole)
+
+-- AFTER AN ERROR
+
+-- the member holds the lock
+pub holds_all : (e : NodeNo) (by : MemberId) (held is : Book) → is ≡ held → HoldsStill e by held is
+holds_all BothLost by held is same = same
+holds_all ConsoleFault by held is same = same
+holds_all NoMemory by held is same = same
+holds_all Halted by held is same = inl same
+
+pub holds_if : {T : Type 0} (r : Result T NodeNo) (by : MemberId) (held is : Book) → is ≡ held → IfErr r (λ e. HoldsStill e by held is)
+holds_if (Ok done) by held is same = tt
+holds_if (Err e) by held is same = holds_all e by held is same
+
+-- by the names that a call's caller has
+pub holds_as : (e : NodeNo) (by by' : MemberId) (held held' is : Book) → by' ≡ by → held' ≡ held → HoldsStill e by' held' is → HoldsStill e by held is
+holds_as e by by' held held' is one two still = subst (λ (m : MemberId). HoldsStill e m held is) one (subst (λ (b : Book). HoldsStill e by' b is) two still)
+
+pub holds_named : {T : Type 0} (r : Result T NodeNo) (by by' : MemberId) (held held' is : Book) → by' ≡ by → held' ≡ held → IfErr r (λ e. HoldsStill e by' held' is) → IfErr r (λ e. HoldsStill e by held is)
+holds_named (Ok done) by by' held held' is one two still = tt
+holds_named (Err e) by by' held held' is one two still = holds_as e by by' held held' is one two still
+
+-- and of a step that tried the lock
+pub leaves_all : (e : NodeNo) (by : MemberId) (was is : Book) → HoldsStill e by (after_try was by false) is → LeavesLock e by was is
+leaves_all BothLost by was is still = still
+leaves_all ConsoleFault by was is still = still
+leaves_all NoMemory by was is still = inr still
+leaves_all Halted by was is still = still
+
+pub leaves_if : {T : Type 0} (r : Result T NodeNo) (by : MemberId) (was is : Book) → IfErr r (λ e. HoldsStill e by (after_try was by false) is) → IfErr r (λ e. LeavesLock e by was is)
+leaves_if (Ok done) by was is still = tt
+leaves_if (Err e) by was is still = leaves_all e by was is still

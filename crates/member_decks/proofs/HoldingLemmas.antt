@@ -1,5 +1,5 @@
 -- A member that got the lock, and took in what the copies have.
-use Rattle.std.proofs.Common.{OnOk, ◌≡◌, inl, ℕ, ◌+◌, ◌*◌, ◌≤◌, Bool, List, Option, length, Result, Ok, Err, ◌∙◌, ap, subst, arith, sym}
+use Rattle.std.proofs.Common.{OnOk, ◌≡◌, inl, ℕ, ◌+◌, ◌*◌, ◌≤◌, Bool, false, List, Option, length, Result, Ok, Err, ◌∙◌, ap, subst, arith, sym}
 use Rattle.mas_types.specs.declared.journals.Batch.{Batch}
 use Rattle.mas_types.specs.declared.journals.Entry.{Entry}
 use Rattle.mas_types.specs.declared.queues.Config.{Config}
@@ -12,13 +12,14 @@ use Rattle.member_node.specs.declared.checkpoint.Checkpoint.{Checkpoint}
 use Rattle.member_node.specs.declared.member.NodeNo.{NodeNo}
 use Rattle.member_node.specs.declared.member.NodeNo.TheVariants.{BothLost, Halted, ConsoleFault, NoMemory}
 use Rattle.member_node.specs.Reads.{AreLow, IsSettle, ReadInCauses, orders_after}
+use Rattle.member_node.specs.Spares.{is_stop, stopped_in}
 use Rattle.member_steps.specs.Steps.{IsBetween, StepLeaves}
 use Rattle.member_steps.proofs.ReadLemmas.{HasBegun, cause_settle, low_more, one_batch}
 use Rattle.member_decks.specs.Keeping.{CopyCauses, IsOnCopies}
 
 -- it couldn't
-pub held_not : (told : Type 0) (by : ℕ) (a a' b b' : Bool) (v w : View) (e : NodeNo) → HasBegun told a a' b b' v w → ReadInCauses {T = Unit {0}} (Err e) by a' b' v w → IsOnCopies {T = Unit {0}} told by a a' b b' v w (Err e)
-held_not told by a a' b b' v w e acts cause = record { course = acts.course; loses = acts.loses; cause = causes e cause; apart = acts.apart } where
+pub held_not : (told : Type 0) (by : ℕ) (a a' b b' : Bool) (v w : View) (e : NodeNo) → HasBegun told by (is_stop e) a a' b b' v w → ReadInCauses {T = Unit {0}} (Err e) by a' b' v w → IsOnCopies {T = Unit {0}} told by a a' b b' v w (Err e)
+held_not told by a a' b b' v w e acts cause = record { course = acts.course; loses = acts.loses; cause = causes e cause; spares = acts.spares; apart = acts.apart } where
   causes : (e : NodeNo) → ReadInCauses {T = Unit {0}} (Err e) by a' b' v w → CopyCauses {T = Unit {0}} (Err e) by a a' b b' v w
   causes BothLost c = c
   causes Halted c = (inl c.0, c.1)
@@ -26,8 +27,8 @@ held_not told by a a' b b' v w e acts cause = record { course = acts.course; los
   causes ConsoleFault c = absurd c
 
 -- both parts by the settle's answer
-pub held_by_settle : (told : Type 0) (by : ℕ) (a a' b b' : Bool) (v0 v1 v2 : View) (r : Result (Unit {0}) NodeNo) (m1 m2 : Bool) → HasBegun told a a' b b' v0 v2 → HasBegun told a m1 b m2 v0 v1 → IsSettle told by m1 a' m2 b' v1 v2 r → IsOnCopies told by a a' b b' v0 v2 r
-held_by_settle told by a a' b b' v0 v1 v2 (Ok done) m1 m2 acts read settle = record { course = acts.course; loses = acts.loses; cause = inl settle.cause; apart = acts.apart }
+pub held_by_settle : (told : Type 0) (by : ℕ) (a a' b b' : Bool) (v0 v1 v2 : View) (r : Result (Unit {0}) NodeNo) (m1 m2 : Bool) → HasBegun told by (stopped_in r) a a' b b' v0 v2 → HasBegun told by false a m1 b m2 v0 v1 → IsSettle told by m1 a' m2 b' v1 v2 r → IsOnCopies told by a a' b b' v0 v2 r
+held_by_settle told by a a' b b' v0 v1 v2 (Ok done) m1 m2 acts read settle = record { course = acts.course; loses = acts.loses; cause = inl settle.cause; spares = acts.spares; apart = acts.apart }
 held_by_settle told by a a' b b' v0 v1 v2 (Err e) m1 m2 acts read settle = held_not told by a a' b b' v0 v2 e acts (cause_settle by a' b' v0 v1 v2 e read.course.goes settle.cause)
 
 -- tables are low after a deck's first batch

@@ -12,6 +12,7 @@ use Rattle.member_node.specs.declared.member.NodeNo.{NodeNo}
 use Rattle.member_node.specs.declared.member.NodeNo.TheVariants.{BothLost, Halted, ConsoleFault, NoMemory}
 use Rattle.member_node.specs.Writes.{IsWrite}
 use Rattle.member_node.proofs.CourseLemmas.{course_none, only_none, papers_none}
+use Rattle.member_node.proofs.SpareLemmas.{spares_none}
 use Rattle.member_decks.specs.Keeping.{CopyCauses, GivesUpLeaves, IsOnCopies, KeepLeaves}
 
 -- nothing was done
@@ -20,12 +21,13 @@ copies_none told by a b v = record {
   course = course_none a b v;
   loses = λ t d. refl;
   cause = inr (refl, refl);
+  spares = spares_none by v;
   apart = λ t. record { others = only_none v; console = refl; papers = papers_none v };
 }
 
 module _ (told : Type 0) (by : ℕ) (b : Batch) (front batches : List Batch) (was1 is1 was2 is2 : Bool) (v0 v1 : View) where
   pub copies_kept : IsWrite {T = Unit {0}} told by b front batches was1 is1 was2 is2 v0 v1 (Ok tt) → IsOnCopies {T = Unit {0}} told by was1 is1 was2 is2 v0 v1 (Ok tt)
-  copies_kept write = record { course = write.course; loses = λ t d. write.loses d; cause = write.cause; apart = write.apart }
+  copies_kept write = record { course = write.course; loses = λ t d. write.loses d; cause = write.cause; spares = write.spares; apart = write.apart }
 
   causes : (e : NodeNo) → IsWrite {T = Unit {0}} told by b front batches was1 is1 was2 is2 v0 v1 (Err e) → CopyCauses {T = Unit {0}} (Err e) by was1 is1 was2 is2 v0 v1
   causes BothLost write = write.cause
@@ -34,7 +36,7 @@ module _ (told : Type 0) (by : ℕ) (b : Batch) (front batches : List Batch) (wa
   causes NoMemory write = absurd write.cause
 
   pub copies_unwritten : (e : NodeNo) → IsWrite {T = Unit {0}} told by b front batches was1 is1 was2 is2 v0 v1 (Err e) → IsOnCopies {T = Unit {0}} told by was1 is1 was2 is2 v0 v1 (Err e)
-  copies_unwritten e write = record { course = write.course; loses = λ t d. write.loses d; cause = causes e write; apart = write.apart }
+  copies_unwritten e write = record { course = write.course; loses = λ t d. write.loses d; cause = causes e write; spares = write.spares; apart = write.apart }
 
   pub keep_unwritten : (e : NodeNo) → IsWrite {T = Unit {0}} told by b front batches was1 is1 was2 is2 v0 v1 (Err e) → KeepLeaves {T = Unit {0}} (Err e) front batches b v1.now
   keep_unwritten BothLost write = write.journal
@@ -56,7 +58,7 @@ module _ (front batches : List Batch) (b : Batch) (now : ℕ) (some : 1 ≤ leng
 
 -- the answer of such a step is that memory wanted
 pub up_copies : (told : Type 0) (by : ℕ) (a a' b b' : Bool) (v w : View) → IsOnCopies {T = Unit {0}} told by a a' b b' v w (Ok tt) → IsOnCopies {T = Unit {0}} told by a a' b b' v w (Err NoMemory)
-up_copies told by a a' b b' v w acts = record { course = acts.course; loses = acts.loses; cause = acts.cause; apart = acts.apart }
+up_copies told by a a' b b' v w acts = record { course = acts.course; loses = acts.loses; cause = acts.cause; spares = acts.spares; apart = acts.apart }
 
 -- THE REPLY WITH WHICH A STEP CLOSES
 

@@ -1,5 +1,5 @@
 -- A deck's step, by how it ended.
-use Rattle.std.proofs.Common.{◌≡◌, inl, inr, ⊎_elim, ℕ, ◌≤◌, Bool, List, [], ◌∷◌, ◌++◌, length, map, take, All, Option, None, Some, Result, Ok, Err, append_assoc, append-nil, refl, sym, ◌∙◌, ap, subst, arith}
+use Rattle.std.proofs.Common.{◌≡◌, inl, inr, ⊎_elim, ℕ, ◌≤◌, Bool, false, List, [], ◌∷◌, ◌++◌, length, map, take, All, Option, None, Some, Result, Ok, Err, append_assoc, append-nil, refl, sym, ◌∙◌, ap, subst, arith}
 use Rattle.std.specs.List.{find}
 use Rattle.std.proofs.lemmas.List.{reverse-append}
 use Rattle.std.proofs.lemmas.List.Elements.{All-nil, All-cons, All-tail, All-append}
@@ -27,7 +27,9 @@ use Rattle.member_node.specs.declared.member.NodeNo.{NodeNo}
 use Rattle.member_node.specs.declared.member.NodeNo.TheVariants.{BothLost, Halted, ConsoleFault, NoMemory}
 use Rattle.member_node.specs.Calls.{Course, IsLeft, console_now}
 use Rattle.member_node.specs.Writes.{HasKept}
+use Rattle.member_node.specs.Spares.{Spares, is_stop, stopped_in}
 use Rattle.member_node.proofs.CourseLemmas.{course_then, no, papers_on, rose_later, rose_more}
+use Rattle.member_node.proofs.SpareLemmas.{spares_then}
 use Rattle.member_steps.specs.Saying.{Breaks}
 use Rattle.member_steps.specs.Steps.{IsStep, StepTells, entry_with, reply_to, StepCauses}
 use Rattle.member_decks.specs.declared.opening.Opened.{Opened}
@@ -42,6 +44,14 @@ use Rattle.member_decks.proofs.BatchLemmas.{all_sooner, leaves_next, leaves_soon
 use Rattle.member_decks.proofs.DeckLemmas.{given_of}
 
 -- PARTS
+
+-- what acts beside the copies don't do, by their answer
+pub spares_spool : {T : Type 0} (by : ℕ) (v w : View) (r : Result T NodeNo) → SpoolStops r by v w → Spares by (stopped_in r) v w
+spares_spool by v w (Ok done) stops = stops
+spares_spool by v w (Err NoMemory) stops = stops
+spares_spool by v w (Err Halted) stops = stops.0
+spares_spool by v w (Err BothLost) stops = absurd stops
+spares_spool by v w (Err ConsoleFault) stops = absurd stops
 
 -- acts on spool volumes lose no copy
 pub course_spool : (told : Type 0) (by : ℕ) (is1 is2 : Bool) (v w : View) → OnVolumes told by v w → Course is1 is1 is2 is2 v w
@@ -180,7 +190,7 @@ module _ (told : Type 0) (by : MemberId) (at per : ℕ) (n : JobNo) (text : List
   -- the text wasn't spooled
   spool_causes : (e : NodeNo) (a b : Bool) (v0 v1 : View) → SpoolStops {T = Unit {0}} (Err e) by.0 v0 v1 → StepCauses {T = Unit {0}} (Err e) by.0 a a b b v0 v1
   spool_causes NoMemory a b v0 v1 stops = inr (refl, refl)
-  spool_causes Halted a b v0 v1 stops = (inr (refl, refl), stops)
+  spool_causes Halted a b v0 v1 stops = (inr (refl, refl), stops.1)
   spool_causes BothLost a b v0 v1 stops = absurd stops
   spool_causes ConsoleFault a b v0 v1 stops = absurd stops
 
@@ -200,6 +210,7 @@ module _ (told : Type 0) (by : MemberId) (at per : ℕ) (n : JobNo) (text : List
     loses = λ t d. acts.loses d;
     papers = acts.papers;
     cause = spool_causes e a b v0 v1 stops;
+    spares = spares_spool {T = Unit {0}} by.0 v0 v1 (Err e) stops;
     rest = [];
     batches_are = none ∙ sym (append-nil front);
     journal = leaves_some e by v0.now v1.now (last_of None (reply_at None)) [] (spool_never e v0 v1 stops);
@@ -207,7 +218,7 @@ module _ (told : Type 0) (by : MemberId) (at per : ℕ) (n : JobNo) (text : List
   }
 
   -- it was, or a volume was found lost
-  module _ (lost : Option ℕ) (a b : Bool) (v0 v1 : View) (acts : OnVolumes told by.0 v0 v1) (found : IsFoundLost lost v0 v1) (lies : told → LiesOn (opened.Ready n) per Q by text lost) where
+  module _ (lost : Option ℕ) (a b : Bool) (v0 v1 : View) (acts : OnVolumes told by.0 v0 v1) (free : Spares by.0 false v0 v1) (found : IsFoundLost lost v0 v1) (lies : told → LiesOn (opened.Ready n) per Q by text lost) where
     -- but the copies weren't taken in
     pub rest_unheld : (batches : List Batch) (a' b' : Bool) (v2 : View) (e : NodeNo) → batches ≡ front → IsOnCopies {T = Unit {0}} told by.0 a a' b b' v1 v2 (Err e) → RestOf batches a a' b b' v0 v2 (Err e)
     rest_unheld batches a' b' v2 e none hold = record {
@@ -219,6 +230,7 @@ module _ (told : Type 0) (by : MemberId) (at per : ℕ) (n : JobNo) (text : List
       loses = λ t d. hold.loses t d ∙ acts.loses d;
       papers = λ t. papers_on v0 v1 v2 acts.goes.later hold.course.goes (acts.papers t) (hold.apart t).papers;
       cause = causes_then (Err e) by.0 a a a' b b b' v0 v1 v2 (inr (refl, refl)) acts.goes (copy_causes (Err e) by.0 a a' b b' v1 v2 hold.cause);
+      spares = spares_then by.0 (is_stop e) v0 v1 v2 free hold.spares;
       rest = [];
       batches_are = none ∙ sym (append-nil front);
       journal = leaves_some e by v0.now v2.now (last_of lost (reply_at lost)) [] (never_console e by.0 a a' b b' v1 v2 hold.cause);
@@ -243,6 +255,7 @@ module _ (told : Type 0) (by : MemberId) (at per : ℕ) (n : JobNo) (text : List
           papers = λ t. papers_on v0 v2 v3 le f.step.course.goes (papers_on v0 v1 v2 acts.goes.later hold.course.goes (acts.papers t) (hold.apart t).papers) (f.step.papers t);
           cause = causes_then r by.0 a a' a'' b b' b'' v0 v2 v3 hold.cause goes
               (one_causes told by lines (last_of lost f.reply) (omega arith) front batches a' a'' b' b'' v0.now v2 v3 le r f.step);
+          spares = spares_then by.0 (stopped_in r) v0 v2 v3 (spares_then by.0 false v0 v1 v2 free hold.spares) f.step.spares;
           rest = leaves.rest;
           batches_are = leaves.are;
           journal = leaves.journal;
@@ -344,6 +357,7 @@ module _ (told : Type 0) (by : MemberId) (at per : ℕ) (Q : Queue) (fields : Jo
     loses = acts.loses;
     papers = λ t. (acts.apart t).papers;
     cause = copy_causes (Err e) by.0 a a' b b' v w acts.cause;
+    spares = acts.spares;
     rest = [];
     batches_are = none ∙ sym (append-nil front);
     journal = leaves_some e by v.now w.now First Behind (never_console e by.0 a a' b b' v w acts.cause);
@@ -369,6 +383,7 @@ module _ (told : Type 0) (by : MemberId) (at per : ℕ) (Q : Queue) (fields : Jo
         loses = λ t d. s.loses t d ∙ acts.loses t d;
         papers = λ t. papers_on v w x acts.course.goes.later s.course.goes (acts.apart t).papers (s.papers t);
         cause = causes_then r by.0 a a' a'' b b' b'' v w x acts.cause acts.course.goes s.cause;
+        spares = spares_then by.0 (stopped_in r) v w x acts.spares s.spares;
         rest = s.rest;
         batches_are = s.batches_are;
         journal = leaves_sooner by r v.now w.now x.now s.gave s.rest le s.journal;
@@ -443,6 +458,7 @@ module _ (told : Type 0) (by : MemberId) (at per : ℕ) (Q : Queue) (fields : Jo
             loses = acts.loses;
             papers = λ t. (acts.apart t).papers;
             cause = copy_causes (Err e) by.0 a a' b b' v w acts.cause;
+            spares = acts.spares;
             rest = leaves.rest;
             batches_are = leaves.are;
             journal = leaves.journal;
@@ -481,6 +497,7 @@ module _ (told : Type 0) (by : MemberId) (at per : ℕ) (Q : Queue) (fields : Jo
           loses = step.loses;
           papers = step.papers;
           cause = one_causes told by closing es some front batches a a' b b' v.now v w same r step;
+          spares = step.spares;
           rest = leaves.rest;
           batches_are = leaves.are;
           journal = leaves.journal;
@@ -540,6 +557,7 @@ module _ (told : Type 0) (by : MemberId) (at per : ℕ) (Q : Queue) (fields : Jo
             loses = acts.loses;
             papers = λ t. (acts.apart t).papers;
             cause = copy_causes (Err e) by.0 a a' b b' v w acts.cause;
+            spares = acts.spares;
             rest = leaves.0;
             batches_are = leaves.1;
             journal = leaves.2;
@@ -571,6 +589,7 @@ module _ (told : Type 0) (by : MemberId) (at per : ℕ) (Q : Queue) (fields : Jo
             loses = λ t d. s.loses t d ∙ acts.loses t d;
             papers = λ t. papers_on v w x acts.course.goes.later s.course.goes (acts.apart t).papers (s.papers t);
             cause = causes_then r by.0 a a' a'' b b' b'' v w x acts.cause acts.course.goes s.cause;
+            spares = spares_then by.0 (stopped_in r) v w x acts.spares s.spares;
             rest = b1 ∷ s.rest;
             batches_are = behind s.rest s.batches_are;
             journal = leaves_next by r v.now x.now w.now es (Second s.lost s.reply ∷ []) b1 s.rest one k.2 s.journal;

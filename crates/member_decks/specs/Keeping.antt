@@ -14,6 +14,7 @@ use Rattle.mas_complex.specs.Paper.{SamePapers}
 use Rattle.member_node.specs.declared.member.NodeNo.{NodeNo}
 use Rattle.member_node.specs.declared.member.NodeNo.TheVariants.{BothLost, Halted, ConsoleFault, NoMemory}
 use Rattle.member_node.specs.Calls.{Apart, Course, IsLeft, console_now}
+use Rattle.member_node.specs.Spares.{Spares, stopped_in}
 use Rattle.member_node.specs.Writes.{HasKept, HasFlying}
 use Rattle.member_steps.specs.Steps.{IsStep, StepTells, entry_with, reply_to, StepCauses}
 use Rattle.member_decks.specs.declared.opening.Opened.TheVariants.{Ready}
@@ -34,6 +35,7 @@ pub record IsOnCopies {T : Type 0} (told : Type 0) (by : ℕ) (was1 is1 was2 is2
   pub course : Course was1 is1 was2 is2 old new
   pub loses : told → (d : Dev) → new.loses d ≡ old.loses d
   pub cause : CopyCauses result by was1 is1 was2 is2 old new
+  pub spares : Spares by (stopped_in result) old new
   pub apart : told → Apart old new
 
 -- the batch is kept, or in flight where both copies were lost or the member was stopped, or where memory wanted it isn't begun
@@ -68,6 +70,7 @@ pub record IsRest {T : Type 0} (told : Type 0) (by : MemberId) (at per : ℕ) (n
   pub loses : told → (d : Dev) → new.loses d ≡ old.loses d
   pub papers : told → SamePapers old new
   pub cause : StepCauses result by.0 was1 is1 was2 is2 old new
+  pub spares : Spares by.0 (stopped_in result) old new
   pub rest : List Batch
   pub batches_are : batches ≡ front ++ rest
   pub journal : BatchesLeave result by old.now new.now ((entry_with by at (finishing lost n text) reply ∷ []) ∷ []) rest

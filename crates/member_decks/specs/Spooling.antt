@@ -1,5 +1,5 @@
 -- A text that goes into groups on the spool volumes.
-use Rattle.std.specs.Prelude.{◌≡◌, ◌≢◌, ◌⊎◌, ℕ, ◌<◌, ◌==◌, Bool, true, List, Some, slice_get, Result, Ok, Err}
+use Rattle.std.specs.Prelude.{◌≡◌, ◌≢◌, ◌⊎◌, ℕ, ◌<◌, ◌==◌, Bool, true, false, List, Some, slice_get, Result, Ok, Err}
 use Rattle.std.specs.List.{list_any}
 use Rattle.mas_types.specs.declared.ids.GroupNo.{GroupNo}
 use Rattle.mas_types.specs.declared.ids.Dev.{Dev}
@@ -14,6 +14,7 @@ use Rattle.spool_disk.specs.Acts.{Goes, Rose}
 use Rattle.spool_volumes.specs.Volumes.{volume_of, start_of}
 use Rattle.mas_complex.specs.Paper.{SamePapers}
 use Rattle.mas_complex.specs.Texts.{Spools}
+use Rattle.member_node.specs.Spares.{Spares}
 use Rattle.member_decks.specs.declared.spooling.SpoolError.{SpoolError}
 use Rattle.member_decks.specs.declared.spooling.SpoolError.TheVariants.{Lost, Halted}
 
@@ -54,11 +55,11 @@ pub record OnVolumes (told : Type 0) (by : ℕ) (old new : View) : Type 0 where
   pub console : told → (new.world new.now).console ≡ (old.world old.now).console
   pub papers : told → SamePapers old new
 
--- why it stopped: a volume on which a group lies failed and is lost, or the member was stopped
+-- why it stopped: a volume on which a group lies failed and is lost, or the member was stopped. Else nobody was.
 abbrev pub SpoolCauses : {T : Type 0} → Result T SpoolError → ℕ → ℕ → List GroupNo → View → View → Type 0
-SpoolCauses (Ok done) by per groups old new = Unit {0}
-SpoolCauses (Err (Lost v)) by per groups old new = (lies_there per v groups ≡ true) × (new.lost (DiskPart (Spool v)) ≡ true) × Rose (old.faults (DiskPart (Spool v))) (new.faults (DiskPart (Spool v)))
-SpoolCauses (Err Halted) by per groups old new = (0 < by) × Rose (old.stops by) (new.stops by)
+SpoolCauses (Ok done) by per groups old new = Spares by false old new
+SpoolCauses (Err (Lost v)) by per groups old new = (lies_there per v groups ≡ true) × (new.lost (DiskPart (Spool v)) ≡ true) × Rose (old.faults (DiskPart (Spool v))) (new.faults (DiskPart (Spool v))) × Spares by false old new
+SpoolCauses (Err Halted) by per groups old new = (0 < by) × Rose (old.stops by) (new.stops by) × Spares by true old new
 
 -- the answer of an act on a volume
 abbrev pub answer_of : Act → ℕ → Result (Unit {0}) SpoolError

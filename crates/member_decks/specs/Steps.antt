@@ -1,5 +1,5 @@
 -- A member's deck step, by its answer.
-use Rattle.std.specs.Prelude.{◌≡◌, ℕ, ◌^◌, ◌≤◌, Bool, true, List, ◌++◌, length, take, All, Option, Some, None, Result, Ok, Err}
+use Rattle.std.specs.Prelude.{◌≡◌, ◌⊎◌, ℕ, ◌^◌, ◌≤◌, Bool, true, false, List, ◌++◌, length, take, All, Option, Some, None, Result, Ok, Err}
 use Rattle.mas_types.specs.declared.ids.Dev.{Dev}
 use Rattle.mas_types.specs.declared.ids.Dev.TheVariants.{Spool}
 use Rattle.mas_types.specs.declared.ids.MemberId.{MemberId}
@@ -13,11 +13,13 @@ use Rattle.spool_disk.specs.declared.plant.Part.TheVariants.{Disk as DiskPart}
 use Rattle.spool_disk.specs.View.{View}
 use Rattle.spool_disk.specs.Acts.{Rose}
 use Rattle.track_groups.specs.Groups.{held_by}
+use Rattle.lock_cycle.specs.Books.{Book, after_free, after_try}
 use Rattle.mas_complex.specs.Meaning.{run}
 use Rattle.mas_complex.specs.Paper.{SamePapers}
 use Rattle.member_node.specs.declared.member.NodeNo.{NodeNo}
 use Rattle.member_node.specs.declared.member.NodeNo.TheVariants.{BothLost, Halted, ConsoleFault, NoMemory}
 use Rattle.member_node.specs.Calls.{Course, console_now}
+use Rattle.member_node.specs.Spares.{Spares, stopped_in}
 use Rattle.member_steps.specs.Steps.{StepCauses, StepTells}
 use Rattle.member_decks.specs.declared.opening.Opened.{Opened}
 use Rattle.member_decks.specs.declared.opening.Opened.TheVariants as opened
@@ -66,19 +68,35 @@ pub record IsDeckStep {T : Type 0} (told : Type 0) (by : MemberId) (at per : ℕ
   pub loses : told → (d : Dev) → new.loses d ≡ old.loses d
   pub papers : told → SamePapers old new
   pub cause : StepCauses result by.0 was1 is1 was2 is2 old new
+  pub spares : Spares by.0 (stopped_in result) old new
   pub rest : List Batch
   pub batches_are : batches ≡ front ++ rest
   pub journal : BatchesLeave result by old.now new.now gave rest
   pub console : told → StepTells result lines (HasAll by old.now new.now gave front batches) (console_now old) (console_now new)
 
+-- Who holds the lock after an error, in a step that held it with this book: the member still, unless it was stopped amid acts on the
+-- volumes, for which it had given the lock up.
+abbrev pub HoldsStill : NodeNo → MemberId → Book → Book → Type 0
+HoldsStill Halted by held is = (is ≡ held) ⊎ (is ≡ after_free held by true)
+HoldsStill BothLost by held is = is ≡ held
+HoldsStill ConsoleFault by held is = is ≡ held
+HoldsStill NoMemory by held is = is ≡ held
+
+-- the same of a step that tries the lock itself, with this book before the try; memory may have wanted before
+abbrev pub LeavesLock : NodeNo → MemberId → Book → Book → Type 0
+LeavesLock NoMemory by was is = (is ≡ was) ⊎ (is ≡ after_try was by false)
+LeavesLock BothLost by was is = is ≡ after_try was by false
+LeavesLock ConsoleFault by was is = is ≡ after_try was by false
+LeavesLock Halted by was is = HoldsStill Halted by (after_try was by false) is
+
 -- a deck's step uses at most so many orders
 abbrev pub orders_most : ℕ
 orders_most = 2 ^ 19
 
--- why spooling a deck's text ended a step: memory wanted, or the member was stopped
+-- why acts beside the copies ended a step: memory wanted, or the member was stopped. Else nobody was.
 abbrev pub SpoolStops : {T : Type 0} → Result T NodeNo → ℕ → View → View → Type 0
-SpoolStops (Ok done) by old new = Unit {0}
-SpoolStops (Err NoMemory) by old new = Unit {0}
-SpoolStops (Err Halted) by old new = Rose (old.stops by) (new.stops by)
+SpoolStops (Ok done) by old new = Spares by false old new
+SpoolStops (Err NoMemory) by old new = Spares by false old new
+SpoolStops (Err Halted) by old new = Spares by true old new × Rose (old.stops by) (new.stops by)
 SpoolStops (Err BothLost) by old new = ⊥
 SpoolStops (Err ConsoleFault) by old new = ⊥

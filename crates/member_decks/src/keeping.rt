@@ -54,8 +54,8 @@ fn lost_line(alloc: Global, by: MemberId, step: u32, volume: u8) -> Result<Lines
     Ok(lines)
 }
 
-// The lines with which a step closes whose last batch this is.
-pub(crate) fn last_lines(
+/// The lines with which a step closes whose last batch this is.
+pub fn last_lines(
     member: &Member,
     alloc: Global,
     step: u32,
@@ -77,8 +77,8 @@ pub(crate) fn last_lines(
     lost_line(alloc, member.id, step, volume)
 }
 
-// The command that follows once the text was spooled, or a volume was found lost.
-pub(crate) fn finishing(job: JobNo, text: Lines, lost: Option<u8>) -> Command
+/// The command that follows once the text was spooled, or a volume was found lost.
+pub fn finishing(job: JobNo, text: Lines, lost: Option<u8>) -> Command
     ensures { result ≡ finishing_lem lost job text }
 {
     match lost {
@@ -145,7 +145,7 @@ pub fn keep_batch<P: Plant + Drop, C: Steady + Drop>(
 }
 
 /// Ends a step in which memory wanted: what was done before is kept, where there is memory for that. Answers how the step ends.
-pub(crate) fn give_up<P: Plant + Drop, C: Steady + Drop>(
+pub fn give_up<P: Plant + Drop, C: Steady + Drop>(
     member: &mut Member,
     alloc: Global,
     complex: &mut Complex<P, C>,
@@ -172,6 +172,7 @@ pub(crate) fn give_up<P: Plant + Drop, C: Steady + Drop>(
     requires room2 { complex.old.pair.second.alive ≡ true → 1 ≤ C.room complex.old.pair.second.copy }
     ensures base { complex.new.base ≡ complex.old.base }
     ensures since { complex.new.since ≡ complex.old.since }
+    ensures book { complex.new.book ≡ complex.old.book }
     ensures id { member.new.id ≡ member.old.id }
     ensures acts { IsOnCopies {T = Unit {0}} P.tells member.old.id.0 complex.old.pair.first.alive complex.new.pair.first.alive complex.old.pair.second.alive complex.new.pair.second.alive
         (P.view complex.old.plant) (P.view complex.new.plant) (Err result) }

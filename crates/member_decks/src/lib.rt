@@ -12,9 +12,9 @@ mod spooling;
 
 pub use examples::examples_of_deck_steps;
 pub use holding::take_hold;
-pub use keeping::keep_batch;
+pub use keeping::{finishing, give_up, keep_batch, last_lines};
 pub use locked::play_locked_deck;
-pub use opening::{Opened, take_groups};
+pub use opening::{Opened, open_deck, take_groups};
 pub use playing::play_deck;
 pub use refusing::refuse;
 pub use spooling::{SpoolError, spool_text, sync_volumes, write_pages};

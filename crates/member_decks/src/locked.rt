@@ -1,5 +1,5 @@
 //! A deck's step of a member that takes the lock.
-ghost use Rattle.std.specs.Prelude.{◌≡◌, ◌+◌, ◌≤◌, ◌<◌, ◌∷◌, [], ℕ, List, None, Some, length, true, false, OnOk, Ok, Err};
+ghost use Rattle.std.specs.Prelude.{◌≡◌, ◌+◌, ◌≤◌, ◌<◌, ◌∷◌, [], ℕ, List, None, Some, length, true, false, IfErr, OnOk, Ok, Err};
 ghost use Rattle.mas_types.specs.declared.answers.CardCause.{CardCause};
 ghost use Rattle.mas_types.specs.declared.answers.Closing.TheVariants.{BadCard};
 ghost use Rattle.mas_types.specs.declared.ids.Dev.TheVariants.{Ckpt1, Ckpt2};
@@ -16,11 +16,11 @@ ghost use Rattle.spool_disk.specs.View.{disk_now};
 ghost use Rattle.mas_complex.specs.Crash.{IsUntold, setting};
 ghost use Rattle.mas_complex.specs.Journals.{end_of, kept_all};
 ghost use Rattle.mas_complex.specs.Meaning.{run};
-ghost use Rattle.member_node.specs.Reads.{IsCalm, ReadsLow, orders_after, too_high};
+ghost use Rattle.member_node.specs.Reads.{IsCalm, ReadsLow, too_high};
 ghost use Rattle.member_steps.specs.Locked.{IsDenial, IsOpenTo, denied_lines};
 ghost use Rattle.member_steps.specs.Steps.{AreAllKept, IsAtLock, IsToldSound};
 ghost use Rattle.spool_volumes.specs.Volumes.{AreRoomy};
-ghost use Rattle.member_decks.specs.Steps.{AreOf, IsDeckStep};
+ghost use Rattle.member_decks.specs.Steps.{AreOf, IsDeckStep, LeavesLock};
 
 use crate::holding::take_hold;
 use crate::playing::play_deck;
@@ -38,7 +38,8 @@ use std::alloc::Global;
 /// A deck with a wrong card closes with that before any try; where the member doesn't get the lock the step closes with why. In both
 /// nothing else is done.
 ///
-/// After an error the member may hold the lock still, and can't go on.
+/// After an error the member can't go on. If it got the lock it holds it still, unless it was stopped at a volume: for these acts it had
+/// given the lock up.
 pub fn play_locked_deck<P: Plant + Drop, C: Steady + Drop>(
     member: &mut Member,
     alloc: Global,
@@ -63,7 +64,6 @@ pub fn play_locked_deck<P: Plant + Drop, C: Steady + Drop>(
     requires untold { P.tells → (es : List Entry) → AreOf member.old.id step es → IsUntold (setting C.reads complex.old.base complex.old.since) (P.view complex.old.plant) es }
     requires since { complex.old.since ≤ (P.view complex.old.plant).now }
     requires roomy { P.tells → AreRoomy (P.view complex.old.plant) complex.old.base.config }
-    requires orders { orders_after (length complex.old.journal.batches + 1) < too_high }
     requires level { complex.old.level + 1 < too_high }
     ensures base { complex.new.base ≡ complex.old.base }
     ensures since { complex.new.since ≡ complex.old.since }
@@ -71,6 +71,7 @@ pub fn play_locked_deck<P: Plant + Drop, C: Steady + Drop>(
     ensures lock { OnOk result (IsOpenTo complex.new.book complex.new.reserved member.old.id) }
     ensures unread { (card : ℕ) (why : CardCause) → read_as own cards.now ≡ Err (bad card why) → complex.new.book ≡ complex.old.book }
     ensures book { OnOk result ((fields : JobFields) → read_as own cards.now ≡ Ok fields → complex.new.book ≡ after_free (after_try complex.old.book member.old.id false) member.old.id false) }
+    ensures held { (fields : JobFields) → read_as own cards.now ≡ Ok fields → IfErr result (λ e. LeavesLock e member.old.id complex.old.book complex.new.book) }
     ensures granted { (fields : JobFields) → read_as own cards.now ≡ Ok fields → try_refusal complex.old.book member.old.id false ≡ None
         → IsDeckStep P.tells member.old.id step complex.old.base.config.groups (run complex.old.base (kept_all complex.old.journal.batches)) fields (text_of cards.now)
         complex.old.journal.batches (end_of complex.new.placed complex.new.current complex.new.journal.batches)

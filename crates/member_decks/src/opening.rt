@@ -78,7 +78,7 @@ pub fn take_groups(
 /// tables and has its entry in the batch, which was empty.
 ///
 /// After NoMemory the tables and the batch have the commands that were done before.
-pub(crate) fn open_deck(
+pub fn open_deck(
     member: &mut Member,
     alloc: Global,
     step: u32,

@@ -1,5 +1,5 @@
 //! A deck's step of a member that holds the lock.
-ghost use Rattle.std.specs.Prelude.{◌≡◌, ◌+◌, ◌≤◌, ◌<◌, ◌^◌, [], List, None, Some, Option, length, take, true, false, IfOk, OnOk, Ok};
+ghost use Rattle.std.specs.Prelude.{◌≡◌, ◌+◌, ◌≤◌, ◌<◌, ◌^◌, [], List, None, Some, Option, length, take, true, false, IfErr, IfOk, OnOk, Ok};
 ghost use Rattle.mas_types.specs.declared.ids.Dev.TheVariants.{Ckpt1, Ckpt2};
 ghost use Rattle.mas_types.specs.Fit.{AreLines, IsJobFields};
 ghost use Rattle.mas_types.specs.Limits.{members_most};
@@ -24,7 +24,7 @@ ghost use Rattle.member_decks.specs.declared.opening.Opened.TheVariants.{Ready};
 ghost use Rattle.member_decks.specs.Keeping.{IsFinish, IsRest};
 ghost use Rattle.member_decks.specs.Spooling.{OnVolumes};
 ghost use Rattle.spool_volumes.specs.Volumes.{AreRoomy};
-ghost use Rattle.member_decks.specs.Steps.{AreOf, IsDeckStep, IsFoundLost, LiesOn, SpoolStops};
+ghost use Rattle.member_decks.specs.Steps.{AreOf, HoldsStill, IsDeckStep, IsFoundLost, LiesOn, SpoolStops};
 
 use crate::holding::take_hold;
 use crate::keeping::{close_deck, finishing, give_up, keep_batch};
@@ -67,6 +67,7 @@ fn spool_deck<P: Plant + Drop, C: Steady + Drop>(
     ensures second { complex.new.second ≡ complex.old.second }
     ensures level { complex.new.level ≡ complex.old.level }
     ensures book { OnOk result (complex.new.book ≡ after_try (after_free complex.old.book member.now.id true) member.now.id true) }
+    ensures held { IfErr result (λ e. HoldsStill e member.now.id complex.old.book complex.new.book) }
     ensures unreserved { OnOk result (complex.new.reserved ≡ None) }
     ensures acts { OnVolumes P.tells member.now.id.0 (P.view complex.old.plant) (P.view complex.new.plant) }
     ensures lost { IfOk result (λ lost. IsFoundLost lost (P.view complex.old.plant) (P.view complex.new.plant)) }
@@ -179,6 +180,7 @@ fn enter_deck<P: Plant + Drop, C: Steady + Drop>(
     ensures since { complex.new.since ≡ complex.old.since }
     ensures id { member.new.id ≡ member.old.id }
     ensures book { OnOk result (left_of complex.old.book member.old.id ≡ complex.old.book.hold → complex.new.book ≡ complex.old.book) }
+    ensures held { left_of complex.old.book member.old.id ≡ complex.old.book.hold → IfErr result (λ e. HoldsStill e member.old.id complex.old.book complex.new.book) }
     ensures rest { IsRest P.tells member.old.id step complex.old.base.config.groups job text (run complex.old.base (kept_all complex.old.journal.batches))
         complex.old.journal.batches (end_of complex.new.placed complex.new.current complex.new.journal.batches)
         complex.old.pair.first.alive complex.new.pair.first.alive complex.old.pair.second.alive complex.new.pair.second.alive
@@ -242,6 +244,7 @@ pub fn play_deck<P: Plant + Drop, C: Steady + Drop>(
     ensures since { complex.new.since ≡ complex.old.since }
     ensures id { member.new.id ≡ member.old.id }
     ensures book { OnOk result (left_of complex.old.book member.old.id ≡ complex.old.book.hold → complex.new.book ≡ complex.old.book) }
+    ensures held { left_of complex.old.book member.old.id ≡ complex.old.book.hold → IfErr result (λ e. HoldsStill e member.old.id complex.old.book complex.new.book) }
     ensures step { IsDeckStep P.tells member.old.id step complex.old.base.config.groups (run complex.old.base (kept_all complex.old.journal.batches)) fields text
         complex.old.journal.batches (end_of complex.new.placed complex.new.current complex.new.journal.batches)
         complex.old.pair.first.alive complex.new.pair.first.alive complex.old.pair.second.alive complex.new.pair.second.alive

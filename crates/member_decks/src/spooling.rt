@@ -9,6 +9,7 @@ ghost use Rattle.spool_volumes.specs.Volumes.{volume_of as volume_of_lem, AreRoo
 ghost use Rattle.mas_complex.specs.Journals.{kept_all};
 ghost use Rattle.mas_complex.specs.Locking.{IsUp};
 ghost use Rattle.mas_complex.specs.Meaning.{run};
+ghost use Rattle.mas_complex.specs.Parts.{parts_of};
 ghost use Rattle.mas_complex.specs.Spool.{IsGroupOf, IsHeldBy, IsVolumeOf};
 ghost use Rattle.mas_complex.specs.Texts.{IsSynced, IsThere, spools_at};
 ghost use Rattle.member_decks.specs.Spooling.{AreQuiet, OnVolumes, Rise, SpoolCauses, StandBelow, answer_of, lies_there as lies_there_lem, page_in};
@@ -79,16 +80,7 @@ fn write_page<P: Plant + Drop, C: Steady + Drop>(
     requires group { IsGroupOf complex.old.base.config group }
     requires held { P.tells → IsHeldBy by group (run complex.old.base (kept_all complex.old.journal.batches)) }
     ensures pair { complex.new.pair ≡ complex.old.pair }
-    ensures base { complex.new.base ≡ complex.old.base }
-    ensures since { complex.new.since ≡ complex.old.since }
-    ensures book { complex.new.book ≡ complex.old.book }
-    ensures journal { complex.new.journal ≡ complex.old.journal }
-    ensures current { complex.new.current ≡ complex.old.current }
-    ensures reserved { complex.new.reserved ≡ complex.old.reserved }
-    ensures placed { complex.new.placed ≡ complex.old.placed }
-    ensures first { complex.new.first ≡ complex.old.first }
-    ensures second { complex.new.second ≡ complex.old.second }
-    ensures level { complex.new.level ≡ complex.old.level }
+    ensures frame { parts_of complex.new ≡ record (parts_of complex.old) { plant = complex.new.plant } }
     ensures acts { OnVolumes P.tells by.0 (P.view complex.old.plant) (P.view complex.new.plant) }
     ensures cause { SpoolCauses result by.0 complex.old.base.config.groups (group ∷ []) (P.view complex.old.plant) (P.view complex.new.plant) }
     ensures stands { OnOk result (P.tells → AreRoomy (P.view complex.old.plant) complex.old.base.config → slice_get (packed text.now) place ≡ Some (page_in (spools_at (P.view complex.new.plant) (P.view complex.new.plant).now) complex.old.base.config.groups group)) }
@@ -119,16 +111,7 @@ pub fn write_pages<P: Plant + Drop, C: Steady + Drop>(
     requires within { All (IsGroupOf complex.old.base.config) groups.now }
     requires held { P.tells → All (λ g. IsHeldBy by g (run complex.old.base (kept_all complex.old.journal.batches))) groups.now }
     ensures pair { complex.new.pair ≡ complex.old.pair }
-    ensures base { complex.new.base ≡ complex.old.base }
-    ensures since { complex.new.since ≡ complex.old.since }
-    ensures book { complex.new.book ≡ complex.old.book }
-    ensures journal { complex.new.journal ≡ complex.old.journal }
-    ensures current { complex.new.current ≡ complex.old.current }
-    ensures reserved { complex.new.reserved ≡ complex.old.reserved }
-    ensures placed { complex.new.placed ≡ complex.old.placed }
-    ensures first { complex.new.first ≡ complex.old.first }
-    ensures second { complex.new.second ≡ complex.old.second }
-    ensures level { complex.new.level ≡ complex.old.level }
+    ensures frame { parts_of complex.new ≡ record (parts_of complex.old) { plant = complex.new.plant } }
     ensures acts { OnVolumes P.tells by.0 (P.view complex.old.plant) (P.view complex.new.plant) }
     ensures cause { SpoolCauses result by.0 complex.old.base.config.groups groups.now (P.view complex.old.plant) (P.view complex.new.plant) }
     ensures stand { OnOk result (P.tells → AreRoomy (P.view complex.old.plant) complex.old.base.config → StandBelow (length groups.now) (spools_at (P.view complex.new.plant) (P.view complex.new.plant).now) complex.old.base.config.groups (packed text.now) groups.now) }
@@ -151,16 +134,7 @@ fn sync_volume<P: Plant + Drop, C: Steady + Drop>(
     requires some { 1 ≤ complex.old.base.config.groups }
     requires volume { IsVolumeOf complex.old.base.config volume }
     ensures pair { complex.new.pair ≡ complex.old.pair }
-    ensures base { complex.new.base ≡ complex.old.base }
-    ensures since { complex.new.since ≡ complex.old.since }
-    ensures book { complex.new.book ≡ complex.old.book }
-    ensures journal { complex.new.journal ≡ complex.old.journal }
-    ensures current { complex.new.current ≡ complex.old.current }
-    ensures reserved { complex.new.reserved ≡ complex.old.reserved }
-    ensures placed { complex.new.placed ≡ complex.old.placed }
-    ensures first { complex.new.first ≡ complex.old.first }
-    ensures second { complex.new.second ≡ complex.old.second }
-    ensures level { complex.new.level ≡ complex.old.level }
+    ensures frame { parts_of complex.new ≡ record (parts_of complex.old) { plant = complex.new.plant } }
     ensures acts { OnVolumes P.tells by.0 (P.view complex.old.plant) (P.view complex.new.plant) }
     ensures cause { SpoolCauses result by.0 complex.old.base.config.groups groups.now (P.view complex.old.plant) (P.view complex.new.plant) }
     ensures synced { OnOk result (P.tells → (k : ℕ) (g : GroupNo) → slice_get groups.now k ≡ Some g → volume_of_lem complex.old.base.config.groups g ≡ volume → IsSynced (spools_at (P.view complex.new.plant) (P.view complex.new.plant).now) complex.old.base.config.groups g) }
@@ -182,16 +156,7 @@ pub fn sync_volumes<P: Plant + Drop, C: Steady + Drop>(
     requires some { 1 ≤ complex.old.base.config.groups }
     requires within { All (IsGroupOf complex.old.base.config) groups.now }
     ensures pair { complex.new.pair ≡ complex.old.pair }
-    ensures base { complex.new.base ≡ complex.old.base }
-    ensures since { complex.new.since ≡ complex.old.since }
-    ensures book { complex.new.book ≡ complex.old.book }
-    ensures journal { complex.new.journal ≡ complex.old.journal }
-    ensures current { complex.new.current ≡ complex.old.current }
-    ensures reserved { complex.new.reserved ≡ complex.old.reserved }
-    ensures placed { complex.new.placed ≡ complex.old.placed }
-    ensures first { complex.new.first ≡ complex.old.first }
-    ensures second { complex.new.second ≡ complex.old.second }
-    ensures level { complex.new.level ≡ complex.old.level }
+    ensures frame { parts_of complex.new ≡ record (parts_of complex.old) { plant = complex.new.plant } }
     ensures acts { OnVolumes P.tells by.0 (P.view complex.old.plant) (P.view complex.new.plant) }
     ensures cause { SpoolCauses result by.0 complex.old.base.config.groups groups.now (P.view complex.old.plant) (P.view complex.new.plant) }
     ensures synced { OnOk result (P.tells → All (IsSynced (spools_at (P.view complex.new.plant) (P.view complex.new.plant).now) complex.old.base.config.groups) groups.now) }
@@ -224,16 +189,7 @@ pub fn spool_text<P: Plant + Drop, C: Steady + Drop>(
     requires within { All (IsGroupOf complex.old.base.config) groups.now }
     requires held { P.tells → All (λ g. IsHeldBy by g (run complex.old.base (kept_all complex.old.journal.batches))) groups.now }
     ensures pair { complex.new.pair ≡ complex.old.pair }
-    ensures base { complex.new.base ≡ complex.old.base }
-    ensures since { complex.new.since ≡ complex.old.since }
-    ensures book { complex.new.book ≡ complex.old.book }
-    ensures journal { complex.new.journal ≡ complex.old.journal }
-    ensures current { complex.new.current ≡ complex.old.current }
-    ensures reserved { complex.new.reserved ≡ complex.old.reserved }
-    ensures placed { complex.new.placed ≡ complex.old.placed }
-    ensures first { complex.new.first ≡ complex.old.first }
-    ensures second { complex.new.second ≡ complex.old.second }
-    ensures level { complex.new.level ≡ complex.old.level }
+    ensures frame { parts_of complex.new ≡ record (parts_of complex.old) { plant = complex.new.plant } }
     ensures acts { OnVolumes P.tells by.0 (P.view complex.old.plant) (P.view complex.new.plant) }
     ensures cause { SpoolCauses result by.0 complex.old.base.config.groups groups.now (P.view complex.old.plant) (P.view complex.new.plant) }
     ensures there { OnOk result (P.tells → AreRoomy (P.view complex.old.plant) complex.old.base.config → IsThere (spools_at (P.view complex.new.plant) (P.view complex.new.plant).now) complex.old.base.config.groups (Whole text.now) groups.now) }

@@ -11,3 +11,5 @@ pub mod WriteLemmas
 pub mod ReadLemmas
 pub mod FitLemmas
 pub mod AlikeLemmas
+pub mod SpareLemmas
+pub mod SpellLemmas

@@ -28,6 +28,7 @@ use Rattle.spool_disk.specs.View.{View, disk_now}
 use Rattle.duplex_pair.specs.Halves.{SomeAlive}
 use Rattle.member_node.specs.Reads.{AreLow, ArePagesOf, HasRead, IsCalm, IsRead, IsReadIn, IsReadWhole, IsUpTo, MayGoOn, ReadCauses, ReadInCauses, ReadsAs, ReadsLow, StandAt, copies_alive, orders_after, too_high}
 use Rattle.member_node.specs.Copies.{RestsAt}
+use Rattle.member_node.specs.Spares.{Spares, is_stop}
 use Rattle.duplex_pair.specs.Both.{PairActed}
 use Rattle.mas_complex.specs.declared.places.Place.{Place}
 use Rattle.mas_complex.specs.Elsewhere.{OnCopies}
@@ -37,6 +38,7 @@ use Rattle.mas_complex.specs.Paper.{SamePapers}
 use Rattle.member_node.specs.Calls.{Course}
 use Rattle.member_node.proofs.CourseLemmas.{no as not_both, rose_later, apart_then, course_none, course_of, course_then, only_none, papers_none}
 use Rattle.member_node.proofs.DrawnLemmas.{drawn_level, page_joined}
+use Rattle.member_node.proofs.SpareLemmas.{spares_for, spares_none, spares_then}
 
 -- THE SAME PAGES
 
@@ -223,8 +225,9 @@ first_page_of room slice into was same some is =
     subst (ArePagesOf 0 1 was) (sym (room_after room slice (slice_set slice 0 into) same long)) one
 
 -- what a loop over pages keeps: it began with the room as it was, at the first page
-pub record IsReadTo (told : Type 0) (was1 is1 was2 is2 : Bool) (old new : View) (reads : List ℕ → Option (List ℕ)) (first page : ℕ) (room now : List Page) : Type 0 where
+pub record IsReadTo (told : Type 0) (by : ℕ) (was1 is1 was2 is2 : Bool) (old new : View) (reads : List ℕ → Option (List ℕ)) (first page : ℕ) (room now : List Page) : Type 0 where
   pub acts : HasRead told was1 is1 was2 is2 old new
+  pub spares : Spares by false old new
   pub loses : (d : Dev) → new.loses d ≡ old.loses d
   pub many : length now ≡ length room
   pub front : (was : List ℕ) → ArePagesOf 0 first was room → ArePagesOf 0 first was now
@@ -270,9 +273,10 @@ reads_kept told a a' b b' old new reads was acts = (
 )
 
 -- no page was read yet
-pub read_start : (told : Type 0) (a b : Bool) (v : View) (reads : List ℕ → Option (List ℕ)) (first : ℕ) (room : List Page) → IsReadTo told a a b b v v reads first first room room
-read_start told a b v reads first room = record {
+pub read_start : (told : Type 0) (by : ℕ) (a b : Bool) (v : View) (reads : List ℕ → Option (List ℕ)) (first : ℕ) (room : List Page) → IsReadTo told by a a b b v v reads first first room room
+read_start told by a b v reads first room = record {
   acts = read_none told a b v;
+  spares = spares_none by v;
   loses = λ d. refl;
   many = refl;
   front = λ was are. are;
@@ -281,14 +285,15 @@ read_start told a b v reads first room = record {
 }
 
 -- one page more was read
-pub read_more : (told : Type 0) (a a' a'' b b' b'' : Bool) (v0 v1 v2 : View) (reads : List ℕ → Option (List ℕ)) (first page : ℕ) (room now : List Page) (into : Page)
-    → IsReadTo told a a' b b' v0 v1 reads first page room now → first ≤ page → page < length now → HasRead told a' a'' b' b'' v1 v2 → ((d : Dev) → v2.loses d ≡ v1.loses d) → SomeAlive a'' b''
+pub read_more : (told : Type 0) (by : ℕ) (a a' a'' b b' b'' : Bool) (v0 v1 v2 : View) (reads : List ℕ → Option (List ℕ)) (first page : ℕ) (room now : List Page) (into : Page)
+    → IsReadTo told by a a' b b' v0 v1 reads first page room now → first ≤ page → page < length now → HasRead told a' a'' b' b'' v1 v2 → Spares by false v1 v2 → ((d : Dev) → v2.loses d ≡ v1.loses d) → SomeAlive a'' b''
     → (told → (was : List ℕ) → ReadsAs told a'' (reads (disk_now v2 Ckpt1).bytes) was → ReadsAs told b'' (reads (disk_now v2 Ckpt2).bytes) was → into.0 ≡ page_of_bytes page was)
-    → IsReadTo told a a'' b b'' v0 v2 reads first (page + 1) room (slice_set now page into)
-read_more told a a' a'' b b' b'' v0 v1 v2 reads first page room now into x le lt acts loses some is =
+    → IsReadTo told by a a'' b b'' v0 v2 reads first (page + 1) room (slice_set now page into)
+read_more told by a a' a'' b b' b'' v0 v1 v2 reads first page room now into x le lt acts spares loses some is =
     let all : HasRead told a a'' b b'' v0 v2 = read_then told a a' a'' b b' b'' v0 v1 v2 x.acts acts in
     record {
       acts = all;
+      spares = spares_then by false v0 v1 v2 x.spares spares;
       loses = λ d. loses d ∙ x.loses d;
       many = length-set now page into ∙ x.many;
       front = λ was are. front_set first page was now into le lt (x.front was are);
@@ -353,32 +358,33 @@ cause_in T U node.ConsoleFault by is1 is2 v0 v1 cause = cause
 cause_in T U node.NoMemory by is1 is2 v0 v1 cause = absurd cause
 
 -- an error behind other reads
-pub error_later : (T U : Type 0) (told : Type 0) (by : ℕ) (a a' a'' b b' b'' : Bool) (v0 v1 v2 : View) (e : NodeNo) → HasRead told a a' b b' v0 v1 → IsRead {T = T} told by a' a'' b' b'' v1 v2 (Err e) → IsRead {T = U} told by a a'' b b'' v0 v2 (Err e)
-error_later T U told by a a' a'' b b' b'' v0 v1 v2 e x y = record {
+pub error_later : (T U : Type 0) (told : Type 0) (by : ℕ) (a a' a'' b b' b'' : Bool) (v0 v1 v2 : View) (e : NodeNo) → HasRead told a a' b b' v0 v1 → Spares by false v0 v1 → IsRead {T = T} told by a' a'' b' b'' v1 v2 (Err e) → IsRead {T = U} told by a a'' b b'' v0 v2 (Err e)
+error_later T U told by a a' a'' b b' b'' v0 v1 v2 e x spares y = record {
   acts = read_then told a a' a'' b b' b'' v0 v1 v2 x y.acts;
   cause = cause_as T U e by a'' b'' v0 v2 (cause_later {T = T} (Err e) by a'' b'' v0 v1 v2 (x.course.goes.stops by) y.cause);
+  spares = spares_then by (is_stop e) v0 v1 v2 spares y.spares;
 }
 
 -- and a copy that was lost then, as the last one
-pub lost_later_read : (U : Type 0) (told : Type 0) (by : ℕ) (a a' a'' b b' b'' : Bool) (v0 v1 v2 : View) (e : NodeNo) → HasRead told a a' b b' v0 v1 → e ≡ node.BothLost → IsRead {T = Unit {0}} told 0 a' a'' b' b'' v1 v2 (Err e) → IsRead {T = U} told by a a'' b b'' v0 v2 (Err e)
-lost_later_read U told by a a' a'' b b' b'' v0 v1 v2 node.BothLost x is y = record { acts = read_then told a a' a'' b b' b'' v0 v1 v2 x y.acts; cause = y.cause }
-lost_later_read U told by a a' a'' b b' b'' v0 v1 v2 node.Halted x is y = absurd (cc)
-lost_later_read U told by a a' a'' b b' b'' v0 v1 v2 node.ConsoleFault x is y = absurd (cc)
-lost_later_read U told by a a' a'' b b' b'' v0 v1 v2 node.NoMemory x is y = absurd (cc)
+pub lost_later_read : (U : Type 0) (told : Type 0) (by : ℕ) (a a' a'' b b' b'' : Bool) (v0 v1 v2 : View) (e : NodeNo) → HasRead told a a' b b' v0 v1 → Spares by false v0 v1 → e ≡ node.BothLost → IsRead {T = Unit {0}} told 0 a' a'' b' b'' v1 v2 (Err e) → IsRead {T = U} told by a a'' b b'' v0 v2 (Err e)
+lost_later_read U told by a a' a'' b b' b'' v0 v1 v2 node.BothLost x spares is y = record { acts = read_then told a a' a'' b b' b'' v0 v1 v2 x y.acts; cause = y.cause; spares = spares_then by false v0 v1 v2 spares (spares_for by 0 v1 v2 y.spares) }
+lost_later_read U told by a a' a'' b b' b'' v0 v1 v2 node.Halted x spares is y = absurd (cc)
+lost_later_read U told by a a' a'' b b' b'' v0 v1 v2 node.ConsoleFault x spares is y = absurd (cc)
+lost_later_read U told by a a' a'' b b' b'' v0 v1 v2 node.NoMemory x spares is y = absurd (cc)
 
 -- the same where the tables are brought up too
-pub in_error : (T U : Type 0) (told : Type 0) (by : ℕ) (a a' a'' b b' b'' : Bool) (v0 v1 v2 : View) (e : NodeNo) → HasRead told a a' b b' v0 v1 → IsRead {T = T} told by a' a'' b' b'' v1 v2 (Err e) → IsReadIn {T = U} told by a a'' b b'' v0 v2 (Err e)
-in_error T U told by a a' a'' b b' b'' v0 v1 v2 e x y =
-    let z : IsRead {T = U} told by a a'' b b'' v0 v2 (Err e) = error_later T U told by a a' a'' b b' b'' v0 v1 v2 e x y in
-    record { acts = z.acts; cause = cause_in U U e by a'' b'' v0 v2 z.cause }
+pub in_error : (T U : Type 0) (told : Type 0) (by : ℕ) (a a' a'' b b' b'' : Bool) (v0 v1 v2 : View) (e : NodeNo) → HasRead told a a' b b' v0 v1 → Spares by false v0 v1 → IsRead {T = T} told by a' a'' b' b'' v1 v2 (Err e) → IsReadIn {T = U} told by a a'' b b'' v0 v2 (Err e)
+in_error T U told by a a' a'' b b' b'' v0 v1 v2 e x spares y =
+    let z : IsRead {T = U} told by a a'' b b'' v0 v2 (Err e) = error_later T U told by a a' a'' b b' b'' v0 v1 v2 e x spares y in
+    record { acts = z.acts; cause = cause_in U U e by a'' b'' v0 v2 z.cause; spares = z.spares }
 
-pub in_lost : (U : Type 0) (told : Type 0) (by : ℕ) (a a' a'' b b' b'' : Bool) (v0 v1 v2 : View) (e : NodeNo) → HasRead told a a' b b' v0 v1 → e ≡ node.BothLost → IsRead {T = Unit {0}} told 0 a' a'' b' b'' v1 v2 (Err e) → IsReadIn {T = U} told by a a'' b b'' v0 v2 (Err e)
-in_lost U told by a a' a'' b b' b'' v0 v1 v2 e x is y =
-    let z : IsRead {T = U} told by a a'' b b'' v0 v2 (Err e) = lost_later_read U told by a a' a'' b b' b'' v0 v1 v2 e x is y in
-    record { acts = z.acts; cause = cause_in U U e by a'' b'' v0 v2 z.cause }
+pub in_lost : (U : Type 0) (told : Type 0) (by : ℕ) (a a' a'' b b' b'' : Bool) (v0 v1 v2 : View) (e : NodeNo) → HasRead told a a' b b' v0 v1 → Spares by false v0 v1 → e ≡ node.BothLost → IsRead {T = Unit {0}} told 0 a' a'' b' b'' v1 v2 (Err e) → IsReadIn {T = U} told by a a'' b b'' v0 v2 (Err e)
+in_lost U told by a a' a'' b b' b'' v0 v1 v2 e x spares is y =
+    let z : IsRead {T = U} told by a a'' b b'' v0 v2 (Err e) = lost_later_read U told by a a' a'' b b' b'' v0 v1 v2 e x spares is y in
+    record { acts = z.acts; cause = cause_in U U e by a'' b'' v0 v2 z.cause; spares = z.spares }
 
-pub in_memory : (U : Type 0) (told : Type 0) (by : ℕ) (a a' b b' : Bool) (v0 v1 : View) (e : NodeNo) → e ≡ node.NoMemory → HasRead told a a' b b' v0 v1 → SomeAlive a' b' → IsReadIn {T = U} told by a a' b b' v0 v1 (Err e)
-in_memory U told by a a' b b' v0 v1 e is x some = subst (λ (n : NodeNo). IsReadIn {T = U} told by a a' b b' v0 v1 (Err n)) (sym is) (record { acts = x; cause = some })
+pub in_memory : (U : Type 0) (told : Type 0) (by : ℕ) (a a' b b' : Bool) (v0 v1 : View) (e : NodeNo) → e ≡ node.NoMemory → HasRead told a a' b b' v0 v1 → Spares by false v0 v1 → SomeAlive a' b' → IsReadIn {T = U} told by a a' b b' v0 v1 (Err e)
+in_memory U told by a a' b b' v0 v1 e is x spares some = subst (λ (n : NodeNo). IsReadIn {T = U} told by a a' b b' v0 v1 (Err n)) (sym is) (record { acts = x; cause = some; spares = spares })
 
 -- A COPY IS LOST BY A MEMBER
 

@@ -17,7 +17,7 @@ use Rattle.member_node.specs.declared.checkpoint.Draft.TheVariants as draft
 use Rattle.member_node.specs.Batches.{CanDraw, HasDone, IsDraftOf, level_with}
 use Rattle.member_node.specs.Copies.{IsDraftFor, RestsAt}
 use Rattle.member_node.specs.Drawn.{AreDrawn}
-use Rattle.member_node.specs.Redrawn.{IsRedrawn}
+use Rattle.member_node.specs.Redrawn.{IsRedrawn, IsSameWhere}
 use Rattle.member_node.proofs.DrawnLemmas.{drawn_level, drawn_stand, drawn_tell}
 use Rattle.member_node.proofs.WriteLemmas.{covers_read, names_read}
 
@@ -50,12 +50,12 @@ pub ready_count : (k n : Checkpoint) → CanDraw k → n.tables ≡ k.tables →
 ready_count k n draws same drawn = drawn.spelled.count ∙ ap (λ (t : Tables). page_count t.config) same ∙ sym draws.as_many
 
 -- a copy that rests at the old pages may be given the new ones
-pub ready_copy : (d : Draft) (told : Type 0) (alive : Bool) (place : Place) (count room was is : ℕ) (old new : List Page) (read : Option (List ℕ)) → RestsAt told alive place count old read → (alive ≡ true → 1 ≤ room) → length new ≡ length old
-    → IsRedrawn d was old is new → IsDraftFor d told alive count room new read
-ready_copy draft.Same told alive place count room was is old new read rests some many drawn =
+pub ready_copy : (d : Draft) (X told : Type 0) (alive : Bool) (place : Place) (count room was is : ℕ) (old new : List Page) (read : Option (List ℕ)) → RestsAt told alive place count old read → (alive ≡ true → (X → ⊥) → 1 ≤ room) → length new ≡ length old
+    → IsSameWhere d X → IsRedrawn d was old is new → IsDraftFor d told alive count room new read
+ready_copy draft.Same X told alive place count room was is old new read rests some many same drawn =
     ((λ on. many ∙ rests.as_many on), (λ t on. rests.reads t on ∙ ap (λ (ps : List Page). Some (bytes_of ps)) (sym drawn.1)))
-ready_copy (draft.Changed numbers) told alive place count room was is old new read rests some many drawn = record {
-  room = some;
+ready_copy (draft.Changed numbers) X told alive place count room was is old new read rests some many anew drawn = record {
+  room = λ on. some on anew;
   as_many = λ on. many ∙ rests.as_many on;
   numbers = λ on. subst (λ (n : ℕ). ArePages n numbers) (many ∙ rests.as_many on) drawn.numbers;
   covered = λ t on before reads. covers_read count (length new) numbers before (bytes_of old) (bytes_of new) read (sym (many ∙ rests.as_many on)) drawn.covered (rests.reads t on) reads;

@@ -12,6 +12,7 @@ use Rattle.member_node.specs.declared.member.NodeNo.TheVariants.{BothLost, Halte
 use Rattle.member_node.specs.Calls.{Apart}
 use Rattle.member_node.specs.Writes.{IsWrite}
 use Rattle.member_node.proofs.CourseLemmas.{course_of, course_none, only_none, papers_none}
+use Rattle.member_node.proofs.SpareLemmas.{spares_none, spares_pair}
 use Rattle.member_node.proofs.WriteLemmas.{kept_out, flying_out}
 
 -- the entries that are reserved
@@ -27,6 +28,7 @@ module _ (T : Type 0) (told : Type 0) (by : MemberId) (es : List Entry) (front w
     course = course_none a b v0;
     loses = λ d. refl;
     cause = inr (refl, refl);
+    spares = spares_none by.0 v0;
     journal = (v0.now, omega arith, omega arith, kept_out front was batches place (fated Kept v0.now (begun v0.now by es)) placed current one is unplaced none);
     apart = λ t. record { others = only_none v0; console = refl; papers = papers_none v0 };
   }
@@ -38,6 +40,7 @@ module _ (T : Type 0) (told : Type 0) (by : MemberId) (es : List Entry) (front w
       course = course_of by.0 a a' b b' false v0 v1 acted;
       loses = acted.loses;
       cause = inl some;
+      spares = spares_pair by.0 a a' b b' false v0 v1 acted;
       journal = (v1.now, acted.goes.later, omega arith, kept_out front was batches place (fated Kept v1.now (begun v0.now by es)) placed current one is unplaced none);
       apart = apart;
     }
@@ -48,6 +51,7 @@ module _ (T : Type 0) (told : Type 0) (by : MemberId) (es : List Entry) (front w
       course = course_of by.0 a a' b b' false v0 v1 acted;
       loses = acted.loses;
       cause = both;
+      spares = spares_pair by.0 a a' b b' false v0 v1 acted;
       journal = flying_out front was batches place (begun v0.now by es) placed current one is flies;
       apart = apart;
     }
@@ -58,6 +62,7 @@ module _ (T : Type 0) (told : Type 0) (by : MemberId) (es : List Entry) (front w
       course = course_of by.0 a a' b b' true v0 v1 acted;
       loses = acted.loses;
       cause = (inl (acted.stands refl), acted.halted refl);
+      spares = spares_pair by.0 a a' b b' true v0 v1 acted;
       journal = flying_out front was batches place (begun v0.now by es) placed current one is flies;
       apart = apart;
     }

@@ -8,6 +8,7 @@ use Rattle.mas_types.specs.declared.queues.Queue.{Queue}
 use Rattle.mas_types.specs.Limits.{page_bytes}
 use Rattle.spool_disk.specs.Acts.{top}
 use Rattle.ckpt_copy.specs.Pages.{bytes_of, level}
+use Rattle.ckpt_pages.specs.Pages.{Spell}
 use Rattle.ckpt_pages.specs.Shape.{HasSpelling, AreLevels, page_count}
 use Rattle.queue_tables.specs.Orders.{HaveOrders}
 use Rattle.queue_tables.specs.Telling.{Tell, PagesTell, AreToldAlike}
@@ -30,6 +31,10 @@ pub record CanDraw (k : Checkpoint) : Type 0 where
   pub as_many : length k.pages ≡ page_count k.tables.config
   pub sized : All (λ page. length page.0 ≡ page_bytes) k.pages
   pub spelling : HasSpelling k.tables
+
+-- its pages aren't those that its tables are drawn as
+abbrev pub DrawsAnew : Checkpoint → Type 0
+DrawsAnew k = Spell k.tables k.levels k.pages → ⊥
 
 -- The pages of a checkpoint stand for the queue, and its tables tell the queue after the entries, which have the replies that the
 -- commands give at their places. The tables can be spelled and given commands, and have no order twice.

@@ -6,3 +6,4 @@ pub mod Writes
 pub mod Batches
 pub mod Lines
 pub mod Reads
+pub mod Spares

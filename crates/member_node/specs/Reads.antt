@@ -23,6 +23,7 @@ use Rattle.member_node.specs.declared.member.NodeNo.{NodeNo}
 use Rattle.member_node.specs.declared.member.NodeNo.TheVariants.{BothLost, Halted, ConsoleFault, NoMemory}
 use Rattle.member_node.specs.Calls.{Apart, Course}
 use Rattle.member_node.specs.Drawn.{AreDrawn}
+use Rattle.member_node.specs.Spares.{Spares, stopped_in}
 
 -- THE COPIES
 
@@ -79,6 +80,7 @@ pub record HasRead (told : Type 0) (was1 is1 was2 is2 : Bool) (old new : View) :
 pub record IsRead {T : Type 0} (told : Type 0) (by : ℕ) (was1 is1 was2 is2 : Bool) (old new : View) (result : Result T NodeNo) : Type 0 where
   pub acts : HasRead told was1 is1 was2 is2 old new
   pub cause : ReadCauses result by is1 is2 old new
+  pub spares : Spares by (stopped_in result) old new
 
 -- The cause of an answer where the tables are brought up too, which wants memory.
 abbrev pub ReadInCauses : {T : Type 0} → Result T NodeNo → ℕ → Bool → Bool → View → View → Type 0
@@ -91,11 +93,13 @@ ReadInCauses (Err ConsoleFault) by is1 is2 old new = ⊥
 pub record IsReadIn {T : Type 0} (told : Type 0) (by : ℕ) (was1 is1 was2 is2 : Bool) (old new : View) (result : Result T NodeNo) : Type 0 where
   pub acts : HasRead told was1 is1 was2 is2 old new
   pub cause : ReadInCauses result by is1 is2 old new
+  pub spares : Spares by (stopped_in result) old new
 
 -- A settle, or nothing: the volumes and the console are as they were.
 pub record IsSettle {T : Type 0} (told : Type 0) (by : ℕ) (was1 is1 was2 is2 : Bool) (old new : View) (result : Result T NodeNo) : Type 0 where
   pub course : Course was1 is1 was2 is2 old new
   pub cause : ReadCauses result by is1 is2 old new
+  pub spares : Spares by (stopped_in result) old new
   pub loses : (d : Dev) → new.loses d ≡ old.loses d
   pub apart : told → Apart old new
 

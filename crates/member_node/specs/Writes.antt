@@ -10,6 +10,7 @@ use Rattle.mas_complex.specs.Journals.{fated}
 use Rattle.member_node.specs.declared.member.NodeNo.{NodeNo}
 use Rattle.member_node.specs.declared.member.NodeNo.TheVariants.{BothLost, Halted, ConsoleFault, NoMemory}
 use Rattle.member_node.specs.Calls.{Apart, Course, IsLeft}
+use Rattle.member_node.specs.Spares.{Spares, stopped_in}
 
 -- behind these batches the journal has one more, kept since it began and by now
 abbrev pub HasKept : List Batch → List Batch → Batch → ℕ → Type 0
@@ -40,5 +41,6 @@ pub record IsWrite {T : Type 0} (told : Type 0) (by : ℕ) (b : Batch) (front ba
   pub course : Course was1 is1 was2 is2 old new
   pub loses : (d : Dev) → new.loses d ≡ old.loses d
   pub cause : WriteCauses result by was1 is1 was2 is2 old new
+  pub spares : Spares by (stopped_in result) old new
   pub journal : WriteLeaves result front batches b new.now
   pub apart : told → Apart old new

@@ -1,5 +1,5 @@
 //! The checkpoint of a member: its tables, and the pages that were drawn from them.
-ghost use Rattle.std.specs.Prelude.{◌≡◌, ◌+◌, ◌≤◌, ◌<◌, ◌^◌, [], ◌∷◌, ◌++◌, if◌then◌else◌, IfOk, OnOk, OnErr, All, length};
+ghost use Rattle.std.specs.Prelude.{◌≡◌, ◌+◌, ◌≤◌, ◌<◌, ◌^◌, [], ◌∷◌, ◌++◌, if◌then◌else◌, true, false, IfOk, OnOk, OnErr, All, length};
 ghost use Rattle.mas_types.specs.declared.ids.Page.{Page};
 ghost use Rattle.mas_types.specs.Fit.{IsConfig};
 ghost use Rattle.mas_types.specs.Limits.{page_bytes, routes_most};
@@ -113,6 +113,24 @@ fn draft_of(
     } else {
         Ok(Draft::Changed(numbers))
     }
+}
+
+/// Whether these pages are those that the tables are drawn as with these levels.
+pub(crate) fn is_spelling(tables: &Tables, levels: &List<Level>, pages: &[Page]) -> bool
+    requires shape { HasShape tables.now }
+    requires levels { length levels.now ≡ page_count_lem tables.now.config }
+    requires pages { length pages.now ≡ page_count_lem tables.now.config }
+    ensures yes { result ≡ true → Spell tables.now levels.now pages.now }
+    ensures no { result ≡ false → Spell tables.now levels.now pages.now → ⊥ }
+{
+    let mut page = Page([0; PAGE_BYTES]);
+    for number in 0..page_count(&tables.config) {
+        encode_page(tables, number, levels, &mut page);
+        if !is_same_page(&pages[number as usize], &page) {
+            return false;
+        }
+    }
+    true
 }
 
 // Draws these pages again.

@@ -1,5 +1,5 @@
 //! How a member reads the copies, and goes on from what it read.
-ghost use Rattle.std.specs.Prelude.{◌≡◌, ◌⊎◌, ◌+◌, ◌≤◌, ◌<◌, ℕ, List, Some, None, All, [], length, true, false, IfOk, IfErr, OnOk, OnErr};
+ghost use Rattle.std.specs.Prelude.{◌≡◌, ◌⊎◌, ◌+◌, ◌≤◌, ◌<◌, ℕ, List, Some, None, All, [], length, true, false, IfOk, IfErr, IsErrOf, OnOk, OnErr};
 ghost use Rattle.std.specs.List.{list_all};
 ghost use Rattle.mas_types.specs.declared.ids.Dev.{Dev};
 ghost use Rattle.mas_types.specs.declared.ids.Dev.TheVariants.{Ckpt1, Ckpt2};
@@ -21,6 +21,7 @@ ghost use Rattle.queue_tables.specs.Orders.{HaveOrders};
 ghost use Rattle.queue_tables.specs.Telling.{Tell};
 ghost use Rattle.mas_complex.specs.declared.places.Place.TheVariants.{Before};
 ghost use Rattle.member_node.specs.Calls.{Course};
+ghost use Rattle.member_node.specs.Spares.{Spares};
 ghost use Rattle.member_node.specs.Reads.{ArePagesOf, IsCalm, IsRead, IsReadWhole, MayGoOn, ReadsAs, StandAt, copies_alive, is_job_below, is_output_below};
 
 use crate::member::{Member, NodeNo};
@@ -133,6 +134,7 @@ fn lose_source<P: Plant + Drop, C: Steady + Drop>(complex: &mut Complex<P, C>)
     ensures copy2 { complex.new.pair.second.copy ≡ complex.old.pair.second.copy }
     ensures lost { copies_alive complex.new.pair.first.alive complex.new.pair.second.alive < copies_alive complex.old.pair.first.alive complex.old.pair.second.alive }
     ensures course { Course complex.old.pair.first.alive complex.new.pair.first.alive complex.old.pair.second.alive complex.new.pair.second.alive (P.view complex.old.plant) (P.view complex.new.plant) }
+    ensures spares { Spares 0 false (P.view complex.old.plant) (P.view complex.new.plant) }
 {
     if complex.pair.first.alive {
         complex.lose(Dev::Ckpt1);
@@ -442,6 +444,7 @@ impl Member {
         ensures room1 { OnOk result (complex.new.pair.first.alive ≡ true → 1 ≤ C.room complex.new.pair.first.copy) }
         ensures room2 { OnOk result (complex.new.pair.second.alive ≡ true → 1 ≤ C.room complex.new.pair.second.copy) }
         ensures settle { IsSettle P.tells self.now.id.0 complex.old.pair.first.alive complex.new.pair.first.alive complex.old.pair.second.alive complex.new.pair.second.alive (P.view complex.old.plant) (P.view complex.new.plant) result }
+        ensures operator { IsErrOf result no_node.Halted → 0 < self.now.id.0 }
     {
         if complex.pair.room() > 0 {
             return Ok(());

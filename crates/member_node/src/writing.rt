@@ -14,13 +14,14 @@ ghost use Rattle.mas_complex.specs.Crash.{IsUntold, setting};
 ghost use Rattle.mas_complex.specs.Journals.{begun, end_of, entries_reserved, fated, in_flight, kept_all, with_last, StepIsKept};
 ghost use Rattle.mas_complex.specs.Locking.{MayAct, IsUp};
 ghost use Rattle.mas_complex.specs.Meaning.{Closes, run};
+ghost use Rattle.mas_complex.specs.Parts.{parts_of};
 ghost use Rattle.mas_complex.specs.Texts.{HasTexts, lost_now, spools_at};
 ghost use Rattle.mas_complex.specs.Replies.{HaveReplies};
 ghost use Rattle.member_node.specs.declared.member.NodeNo.TheVariants.{Halted};
 ghost use Rattle.mas_complex.specs.Paper.{MayBegin, printed_after};
 
 use crate::batch::commit;
-use crate::checkpoint::{Draft, redraw};
+use crate::checkpoint::{Draft, is_spelling, redraw};
 use crate::member::{Member, NodeNo};
 use duplex_pair::PairNo;
 use mas_complex::{Complex, Steady};
@@ -29,14 +30,25 @@ use spool_disk::{Act, Plant};
 use std::alloc::Global;
 
 impl Member {
-    ghost use Rattle.member_node.specs.Batches.{CanDraw, HasDone, IsDraftOf, level_with};
+    ghost use Rattle.member_node.specs.Batches.{CanDraw, DrawsAnew, HasDone, IsDraftOf, level_with};
     ghost use Rattle.member_node.specs.Copies.{IsDraftFor, RestsAt, room_with};
     ghost use Rattle.member_node.specs.Drawn.{AreDrawn};
     ghost use Rattle.member_node.specs.Lines.{said_as, IsAnswerOfSay};
     ghost use Rattle.member_node.specs.Writes.{IsWrite};
 
+    /// Whether the write of its batch changes a page.
+    pub fn draws_anew(&self) -> bool
+        requires draws { CanDraw self.now.checkpoint }
+        ensures anew { result ≡ true → DrawsAnew self.now.checkpoint }
+        ensures same { result ≡ false → DrawsAnew self.now.checkpoint → ⊥ }
+    {
+        let own = &self.checkpoint;
+        !is_spelling(&own.tables, &own.levels, own.pages.as_slice())
+    }
+
     /// Takes all memory that the write of its batch needs: the pages are drawn a level higher where one changes, and the batch has
-    /// its place in the journal. Answers what is to be written. The member holds the lock, or is the operator while nobody does.
+    /// its place in the journal. Answers what is to be written. The member holds the lock, or is the operator while nobody does. Where
+    /// a page changes each copy that counts as alive has room for a put.
     ///
     /// NoMemory leaves the shared value as it was, and the member too, or its batch is given up: then its tables are ahead of the
     /// copies, and it has to read them again.
@@ -55,8 +67,8 @@ impl Member {
         requires done { P.tells → ∥ HasDone (run complex.old.base (kept_all complex.old.journal.batches)) self.old.batch self.old.checkpoint ∥₁ }
         requires rests1 { RestsAt P.tells complex.old.pair.first.alive complex.old.first (C.count complex.old.pair.first.copy) self.old.checkpoint.pages (C.reads (disk_now (P.view complex.old.plant) Ckpt1).bytes) }
         requires rests2 { RestsAt P.tells complex.old.pair.second.alive complex.old.second (C.count complex.old.pair.second.copy) self.old.checkpoint.pages (C.reads (disk_now (P.view complex.old.plant) Ckpt2).bytes) }
-        requires room1 { complex.old.pair.first.alive ≡ true → 1 ≤ C.room complex.old.pair.first.copy }
-        requires room2 { complex.old.pair.second.alive ≡ true → 1 ≤ C.room complex.old.pair.second.copy }
+        requires room1 { complex.old.pair.first.alive ≡ true → DrawsAnew self.old.checkpoint → 1 ≤ C.room complex.old.pair.first.copy }
+        requires room2 { complex.old.pair.second.alive ≡ true → DrawsAnew self.old.checkpoint → 1 ≤ C.room complex.old.pair.second.copy }
         requires small { self.old.checkpoint.level + 1 < 2 ^ 63 }
         ensures plant { complex.new.plant ≡ complex.old.plant }
         ensures pair { complex.new.pair ≡ complex.old.pair }
@@ -173,6 +185,7 @@ impl Member {
         ensures first { complex.new.first ≡ complex.old.first }
         ensures second { complex.new.second ≡ complex.old.second }
         ensures level { complex.new.level ≡ complex.old.level }
+        ensures frame { parts_of complex.new ≡ record (parts_of complex.old) { plant = complex.new.plant } }
         ensures acts { Acts self.now.id.0 Console (P.view complex.old.plant) (P.view complex.new.plant) (said_as result) }
         ensures disks { P.tells → (d : Dev) → disk_now (P.view complex.new.plant) d ≡ disk_now (P.view complex.old.plant) d }
         ensures content { P.tells → Says line.now (P.view complex.old.plant) (P.view complex.new.plant) (said_as result) }

@@ -18,6 +18,7 @@ use Rattle.mas_complex.specs.Locking.{MayAct, IsUp}
 use Rattle.member_node.specs.declared.member.NodeNo.{NodeNo}
 use Rattle.member_node.specs.declared.member.NodeNo.TheVariants.{BothLost, Halted, ConsoleFault, NoMemory}
 use Rattle.member_node.proofs.CourseLemmas.{course_none, only_none, papers_none}
+use Rattle.member_node.proofs.SpareLemmas.{spares_none}
 use Rattle.member_steps.specs.Saying.{HaveSaid}
 use Rattle.member_steps.specs.Locked.{IsOpenTo, IsDenial, closing_of}
 use Rattle.member_steps.proofs.SayLemmas.{console_course}
@@ -128,6 +129,7 @@ module _ (told : Type 0) (by : ℕ) (lines : List (List ℕ)) (front batches : L
     course = course_none is1 is2 v0;
     loses = λ d. refl;
     cause = inr (refl, refl);
+    spares = spares_none by v0;
     same = same;
     others = λ t. only_none v0;
     papers = λ t. papers_none v0;
@@ -142,6 +144,7 @@ module _ (told : Type 0) (by : ℕ) (lines : List (List ℕ)) (front batches : L
     course = console_course told is1 is2 v0 v1 said.acts;
     loses = said.acts.loses;
     cause = inr (refl, refl);
+    spares = said.spares;
     same = same;
     others = said.acts.others;
     papers = said.acts.papers;
@@ -152,6 +155,7 @@ module _ (told : Type 0) (by : ℕ) (lines : List (List ℕ)) (front batches : L
     course = console_course told is1 is2 v0 v1 said.acts;
     loses = said.acts.loses;
     cause = (inr (refl, refl), said.cause);
+    spares = said.spares;
     same = same;
     others = said.acts.others;
     papers = said.acts.papers;
@@ -162,6 +166,7 @@ module _ (told : Type 0) (by : ℕ) (lines : List (List ℕ)) (front batches : L
     course = console_course told is1 is2 v0 v1 said.acts;
     loses = said.acts.loses;
     cause = (inr (refl, refl), said.cause);
+    spares = said.spares;
     same = same;
     others = said.acts.others;
     papers = said.acts.papers;

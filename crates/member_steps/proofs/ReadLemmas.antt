@@ -36,10 +36,12 @@ use Rattle.member_node.specs.Copies.{RestsAt}
 use Rattle.member_node.specs.Drawn.{AreDrawn}
 use Rattle.mas_types.specs.Closings.{reply_lines}
 use Rattle.member_node.specs.Reads.{AreLow, HasRead, IsCalm, IsSettle, IsUpTo, ReadCauses, ReadInCauses, ReadsLow, orders_after, too_high}
+use Rattle.member_node.specs.Spares.{Spares, is_stop, stopped_in}
 use Rattle.member_node.specs.Writes.{HasKept}
 use Rattle.member_node.proofs.CourseLemmas.{apart_then, course_then, only_on, papers_on, rose_later}
 use Rattle.member_node.proofs.DrawnLemmas.{drawn_level}
 use Rattle.member_node.proofs.ReadLemmas.{low_again, same_pages}
+use Rattle.member_node.proofs.SpareLemmas.{spares_then}
 use Rattle.member_node.proofs.WriteLemmas.{none_out}
 use Rattle.member_steps.specs.Steps.{GivesStep, IsAtLock, IsBetween, IsStep, IsToldSound, StepCauses, StepTells, entry_with, reply_to}
 use Rattle.member_steps.proofs.Codes.{tell_is}
@@ -47,17 +49,19 @@ use Rattle.member_steps.proofs.Codes.{tell_is}
 -- BEFORE THE FIRST COMMAND
 
 -- reads and a settle: nothing but the copies changed, and where content is told none was lost by a call
-pub record HasBegun (told : Type 0) (was1 is1 was2 is2 : Bool) (old new : View) : Type 0 where
+pub record HasBegun (told : Type 0) (by : ℕ) (stopped was1 is1 was2 is2 : Bool) (old new : View) : Type 0 where
   pub course : Course was1 is1 was2 is2 old new
+  pub spares : Spares by stopped old new
   pub loses : told → (d : Dev) → new.loses d ≡ old.loses d
   pub apart : told → Apart old new
 
-pub begun_read : (told : Type 0) (was1 is1 was2 is2 : Bool) (old new : View) → HasRead told was1 is1 was2 is2 old new → HasBegun told was1 is1 was2 is2 old new
-begun_read told was1 is1 was2 is2 old new read = record { course = read.course; loses = read.loses; apart = read.apart }
+pub begun_read : (told : Type 0) (by : ℕ) (stopped was1 is1 was2 is2 : Bool) (old new : View) → HasRead told was1 is1 was2 is2 old new → Spares by stopped old new → HasBegun told by stopped was1 is1 was2 is2 old new
+begun_read told by stopped was1 is1 was2 is2 old new read spares = record { course = read.course; spares = spares; loses = read.loses; apart = read.apart }
 
-pub begun_settle : {T : Type 0} (told : Type 0) (by : ℕ) (was1 mid1 is1 was2 mid2 is2 : Bool) (v0 v1 v2 : View) (r : Result T NodeNo) → HasRead told was1 mid1 was2 mid2 v0 v1 → IsSettle told by mid1 is1 mid2 is2 v1 v2 r → HasBegun told was1 is1 was2 is2 v0 v2
-begun_settle told by was1 mid1 is1 was2 mid2 is2 v0 v1 v2 r read settle = record {
+pub begun_settle : {T : Type 0} (told : Type 0) (by : ℕ) (was1 mid1 is1 was2 mid2 is2 : Bool) (v0 v1 v2 : View) (r : Result T NodeNo) → HasRead told was1 mid1 was2 mid2 v0 v1 → Spares by false v0 v1 → IsSettle told by mid1 is1 mid2 is2 v1 v2 r → HasBegun told by (stopped_in r) was1 is1 was2 is2 v0 v2
+begun_settle told by was1 mid1 is1 was2 mid2 is2 v0 v1 v2 r read spares settle = record {
   course = course_then was1 mid1 is1 was2 mid2 is2 v0 v1 v2 read.course settle.course;
+  spares = spares_then by (stopped_in r) v0 v1 v2 spares settle.spares;
   loses = λ t d. settle.loses d ∙ read.loses t d;
   apart = λ t. apart_then v0 v1 v2 read.course.goes.later settle.course.goes (read.apart t) (settle.apart t);
 }
@@ -71,37 +75,40 @@ cause_settle by is1 is2 v0 v1 v2 NoMemory goes cause = absurd cause
 
 -- A STEP THAT ENDS THERE
 
-module _ (told : Type 0) (by : ℕ) (was1 is1 was2 is2 : Bool) (v0 v1 : View) (acts : HasBegun told was1 is1 was2 is2 v0 v1) where
+module _ (told : Type 0) (by : ℕ) (was1 is1 was2 is2 : Bool) (v0 v1 : View) where
   -- it gives no command
-  pub step_unbegun : (lines : List (List ℕ)) (b : Batch) (front batches : List Batch) (e : NodeNo) → batches ≡ front → ReadInCauses {T = Unit {0}} (Err e) by is1 is2 v0 v1 → IsStep {T = Unit {0}} told by lines b front batches was1 is1 was2 is2 v0 v1 (Err e)
-  step_unbegun lines b front batches BothLost same cause = record {
+  pub step_unbegun : (lines : List (List ℕ)) (b : Batch) (front batches : List Batch) (e : NodeNo) → HasBegun told by (is_stop e) was1 is1 was2 is2 v0 v1 → batches ≡ front → ReadInCauses {T = Unit {0}} (Err e) by is1 is2 v0 v1 → IsStep {T = Unit {0}} told by lines b front batches was1 is1 was2 is2 v0 v1 (Err e)
+  step_unbegun lines b front batches BothLost acts same cause = record {
     course = acts.course;
     loses = acts.loses;
     cause = cause;
+    spares = acts.spares;
     journal = inl same;
     others = λ t. (acts.apart t).others;
     papers = λ t. (acts.apart t).papers;
     console = λ t. (acts.apart t).console;
   }
-  step_unbegun lines b front batches Halted same cause = record {
+  step_unbegun lines b front batches Halted acts same cause = record {
     course = acts.course;
     loses = acts.loses;
     cause = (inl cause.0, cause.1);
+    spares = acts.spares;
     journal = inl same;
     others = λ t. (acts.apart t).others;
     papers = λ t. (acts.apart t).papers;
     console = λ t. inl (acts.apart t).console;
   }
-  step_unbegun lines b front batches NoMemory same cause = record {
+  step_unbegun lines b front batches NoMemory acts same cause = record {
     course = acts.course;
     loses = acts.loses;
     cause = inl cause;
+    spares = acts.spares;
     journal = same;
     others = λ t. (acts.apart t).others;
     papers = λ t. (acts.apart t).papers;
     console = λ t. (acts.apart t).console;
   }
-  step_unbegun lines b front batches ConsoleFault same cause = absurd cause
+  step_unbegun lines b front batches ConsoleFault acts same cause = absurd cause
 
 -- AND ONE THAT GOES ON
 
@@ -111,7 +118,7 @@ left_behind was1 mid1 is1 was2 mid2 is2 some left = ⊎_elim
     (λ same. inl (subst (λ (a : Bool). SomeAlive a is2) (sym same.0) (subst (λ (b : Bool). SomeAlive mid1 b) (sym same.1) some)))
     left
 
-module _ (told : Type 0) (by : ℕ) (was1 mid1 is1 was2 mid2 is2 : Bool) (v0 v1 v2 : View) (acts : HasBegun told was1 mid1 was2 mid2 v0 v1) (some : SomeAlive mid1 mid2) where
+module _ (told : Type 0) (by : ℕ) (was1 mid1 is1 was2 mid2 is2 : Bool) (v0 v1 v2 : View) (acts : HasBegun told by false was1 mid1 was2 mid2 v0 v1) (some : SomeAlive mid1 mid2) where
   causes_behind : (r : Result (Unit {0}) NodeNo) → StepCauses r by mid1 is1 mid2 is2 v1 v2 → StepCauses r by was1 is1 was2 is2 v0 v2
   causes_behind (Ok done) cause = left_behind was1 mid1 is1 was2 mid2 is2 some cause
   causes_behind (Err NoMemory) cause = left_behind was1 mid1 is1 was2 mid2 is2 some cause
@@ -124,6 +131,7 @@ module _ (told : Type 0) (by : ℕ) (was1 mid1 is1 was2 mid2 is2 : Bool) (v0 v1 
     course = course_then was1 mid1 is1 was2 mid2 is2 v0 v1 v2 acts.course step.course;
     loses = λ t d. step.loses t d ∙ acts.loses t d;
     cause = causes_behind r step.cause;
+    spares = spares_then by (stopped_in r) v0 v1 v2 acts.spares step.spares;
     journal = step.journal;
     others = λ t. only_on v0 v1 v2 acts.course.goes.later step.course.goes (acts.apart t).others (step.others t);
     papers = λ t. papers_on v0 v1 v2 acts.course.goes.later step.course.goes (acts.apart t).papers (step.papers t);
@@ -131,17 +139,17 @@ module _ (told : Type 0) (by : ℕ) (was1 mid1 is1 was2 mid2 is2 : Bool) (v0 v1 
   }
 
 module _ (told : Type 0) (by : MemberId) (at : ℕ) (c : Command) (Q : Queue) (front batches : List Batch) where
-  pub gives_unbegun : (was1 is1 was2 is2 : Bool) (v0 v1 : View) → HasBegun told was1 is1 was2 is2 v0 v1 → (e : NodeNo) → batches ≡ front → ReadInCauses {T = Unit {0}} (Err e) by.0 is1 is2 v0 v1
+  pub gives_unbegun : (was1 is1 was2 is2 : Bool) (v0 v1 : View) (e : NodeNo) → HasBegun told by.0 (is_stop e) was1 is1 was2 is2 v0 v1 → batches ≡ front → ReadInCauses {T = Unit {0}} (Err e) by.0 is1 is2 v0 v1
       → GivesStep {T = Unit {0}} told by at c Q front batches was1 is1 was2 is2 v0 v1 (Err e)
-  gives_unbegun was1 is1 was2 is2 v0 v1 acts e same cause = record {
+  gives_unbegun was1 is1 was2 is2 v0 v1 e acts same cause = record {
     reply = reply_to Q by c;
     is = λ t. refl;
     first = v0.now;
     later = (omega arith, acts.course.goes.later);
-    step = step_unbegun told by.0 was1 is1 was2 is2 v0 v1 acts (reply_lines by at (reply_to Q by c)) (begun v0.now by (entry_with by at c (reply_to Q by c) ∷ [])) front batches e same cause;
+    step = step_unbegun told by.0 was1 is1 was2 is2 v0 v1 (reply_lines by at (reply_to Q by c)) (begun v0.now by (entry_with by at c (reply_to Q by c) ∷ [])) front batches e acts same cause;
   }
 
-  pub gives_behind : (was1 mid1 is1 was2 mid2 is2 : Bool) (v0 v1 v2 : View) → HasBegun told was1 mid1 was2 mid2 v0 v1 → SomeAlive mid1 mid2 → (r : Result (Unit {0}) NodeNo) → GivesStep told by at c Q front batches mid1 is1 mid2 is2 v1 v2 r
+  pub gives_behind : (was1 mid1 is1 was2 mid2 is2 : Bool) (v0 v1 v2 : View) → HasBegun told by.0 false was1 mid1 was2 mid2 v0 v1 → SomeAlive mid1 mid2 → (r : Result (Unit {0}) NodeNo) → GivesStep told by at c Q front batches mid1 is1 mid2 is2 v1 v2 r
       → GivesStep told by at c Q front batches was1 is1 was2 is2 v0 v2 r
   gives_behind was1 mid1 is1 was2 mid2 is2 v0 v1 v2 acts some r g = record {
     reply = g.reply;

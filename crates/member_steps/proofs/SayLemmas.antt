@@ -1,5 +1,5 @@
 -- Lines that are said one after another.
-use Rattle.std.proofs.Common.{◌≡◌, ◌≢◌, inl, inr, ⊎_elim, ℕ, suc, zero, ◌≤◌, ◌<◌, Bool, List, [], ◌∷◌, ◌++◌, length, map, take, slice_get, Some, Ok, Err, append_assoc, refl, sym, ◌∙◌, ap, arith}
+use Rattle.std.proofs.Common.{◌≡◌, ◌≢◌, inl, inr, ⊎_elim, ℕ, suc, zero, ◌≤◌, ◌<◌, Bool, true, false, List, [], ◌∷◌, ◌++◌, length, map, take, slice_get, Some, Ok, Err, append_assoc, refl, sym, ◌∙◌, ap, arith}
 use Rattle.std.proofs.lemmas.List.{map-append, take_all}
 use Rattle.mas_types.specs.declared.ids.Dev.{Dev}
 use Rattle.mas_types.specs.declared.ids.Dev.TheVariants.{Ckpt1, Ckpt2}
@@ -10,12 +10,19 @@ use Rattle.spool_disk.specs.View.{View, Line}
 use Rattle.spool_disk.specs.Acts.{Acts, Says, Said}
 use Rattle.ckpt_copy.specs.Moments.{goes_on, goes_none}
 use Rattle.mas_complex.specs.Headline.{whole}
+use Rattle.mas_complex.specs.Parts.{Parts}
 use Rattle.member_node.specs.declared.member.NodeNo.{NodeNo}
 use Rattle.member_node.specs.declared.member.NodeNo.TheVariants.{BothLost, Halted, ConsoleFault, NoMemory}
 use Rattle.member_node.specs.Calls.{Course, console_now}
 use Rattle.member_node.specs.Lines.{said_as, IsAnswerOfSay}
+use Rattle.member_node.specs.Spares.{Spares}
 use Rattle.member_node.proofs.CourseLemmas.{no, only_none, only_on, only_said, papers_act, papers_none, papers_on, rose_later}
+use Rattle.member_node.proofs.SpareLemmas.{spares_failed, spares_halted, spares_then}
 use Rattle.member_steps.specs.Saying.{torn, Breaks, HaveSaid, OnConsole}
+
+-- two calls one after the other in which the plant alone changes
+pub frame_then : {P C : Type 0} (x y z : Parts P C) (one two : P) → y ≡ record x { plant = one } → z ≡ record y { plant = two } → z ≡ record x { plant = two }
+frame_then {P} {C} x y z one two first then = then ∙ ap (λ (w : Parts P C). record w { plant = two }) first
 
 -- ACTS ON THE CONSOLE
 
@@ -63,12 +70,13 @@ said_next lines n k line was mid now lt here is before said =
     ∙ ap (λ (l : List Line). was ++ l) (sym (map-append whole (take n lines) (line ∷ [])))
     ∙ ap (λ (l : List (List ℕ)). was ++ map whole l) (sym (take_next lines n line lt here)) ∙ ap (λ (m : ℕ). was ++ map whole (take m lines)) (sym is)
 
-module _ (told : Type 0) (by : ℕ) (lines : List (List ℕ)) (n : ℕ) (v0 v1 : View) (acts : OnConsole told v0 v1) (front : told → console_now v1 ≡ console_now v0 ++ map whole (take n lines)) where
+module _ (told : Type 0) (by : ℕ) (lines : List (List ℕ)) (n : ℕ) (v0 v1 : View) (acts : OnConsole told v0 v1) (spares : Spares by false v0 v1) (front : told → console_now v1 ≡ console_now v0 ++ map whole (take n lines)) where
   -- all are said
   pub said_all : length lines ≤ n → HaveSaid {T = Unit {0}} told by lines v0 v1 (Ok tt)
   said_all all = record {
     acts = acts;
     cause = tt;
+    spares = spares;
     console = λ t. front t ∙ ap (λ (l : List (List ℕ)). console_now v0 ++ map whole l) (take_all n lines all);
   }
 
@@ -80,11 +88,13 @@ module _ (told : Type 0) (by : ℕ) (lines : List (List ℕ)) (n : ℕ) (v0 v1 :
   said_out line v2 ConsoleFault lt here is act says = record {
     acts = console_on told by line v0 v1 v2 Failed acts act says;
     cause = rose_later (v0.faults Console) (v1.faults Console) (v2.faults Console) (acts.goes.faults Console) (act.failed refl);
+    spares = spares_then by false v0 v1 v2 spares (spares_failed by Console v1 v2 act);
     console = λ t. (n, lt, (says t).console ∙ front t);
   }
   said_out line v2 Halted lt here is act says = record {
     acts = console_on told by line v0 v1 v2 ActHalted acts act says;
     cause = rose_later (v0.stops by) (v1.stops by) (v2.stops by) (acts.goes.stops by) (act.halted refl);
+    spares = spares_then by true v0 v1 v2 spares (spares_halted by Console v1 v2 act);
     console = λ t. (n, lt, breaks (front t) (says t).console);
   } where
     breaks : console_now v1 ≡ console_now v0 ++ map whole (take n lines) → Said line (console_now v1) (console_now v2) ActHalted → Breaks n lines (console_now v0) (console_now v2)

@@ -1,5 +1,5 @@
 -- A step that gives a command, by how it ended.
-use Rattle.std.proofs.Common.{OnOk, IfOk, ◌≡◌, inl, inr, ℕ, ◌+◌, ◌≤◌, ◌++◌, Bool, true, false, List, [], ◌∷◌, length, map, take, Option, None, Result, Ok, Err, All, append-nil, refl, sym, ◌∙◌, ap, subst, arith}
+use Rattle.std.proofs.Common.{OnErr, OnOk, IfOk, ◌≡◌, inl, inr, ℕ, ◌+◌, ◌≤◌, ◌++◌, Bool, true, false, List, [], ◌∷◌, length, map, take, Option, None, Result, Ok, Err, All, append-nil, refl, sym, ◌∙◌, ap, subst, arith}
 use Rattle.std.proofs.lemmas.List.Elements.{All-nil, All-cons, All-head, All-tail}
 use Rattle.mas_types.specs.declared.commands.Command.{Command}
 use Rattle.mas_types.specs.declared.journals.Batch.{Batch}
@@ -39,6 +39,7 @@ use Rattle.member_node.specs.Drawn.{AreDrawn}
 use Rattle.member_node.specs.Writes.{HasKept, IsWrite}
 use Rattle.member_node.proofs.CourseLemmas.{course_none, course_then, only_none, only_on, papers_none, papers_on, rose_later}
 use Rattle.member_node.proofs.EntryLemmas.{nothing_done}
+use Rattle.member_node.proofs.SpareLemmas.{spares_none, spares_then}
 use Rattle.member_node.proofs.TextLemmas.{plain_brings, texts_after}
 use Rattle.member_node.proofs.WriteLemmas.{run_append}
 use Rattle.member_steps.specs.Saying.{Breaks, HaveSaid}
@@ -54,6 +55,7 @@ module _ (told : Type 0) (by : ℕ) (lines : List (List ℕ)) (b : Batch) (front
     course = course_none is1 is2 v;
     loses = λ t d. refl;
     cause = inr (refl, refl);
+    spares = spares_none by v;
     journal = none;
     others = λ t. only_none v;
     papers = λ t. papers_none v;
@@ -69,6 +71,7 @@ module _ (told : Type 0) (by : ℕ) (lines : List (List ℕ)) (b : Batch) (front
       course = write.course;
       loses = λ t d. write.loses d;
       cause = write.cause;
+      spares = write.spares;
       journal = inr write.journal;
       others = λ t. (write.apart t).others;
       papers = λ t. (write.apart t).papers;
@@ -78,6 +81,7 @@ module _ (told : Type 0) (by : ℕ) (lines : List (List ℕ)) (b : Batch) (front
       course = write.course;
       loses = λ t d. write.loses d;
       cause = write.cause;
+      spares = write.spares;
       journal = inr (inl write.journal);
       others = λ t. (write.apart t).others;
       papers = λ t. (write.apart t).papers;
@@ -99,6 +103,7 @@ module _ (told : Type 0) (by : ℕ) (lines : List (List ℕ)) (b : Batch) (front
         course = course_then was1 is1 is1 was2 is2 is2 v0 v1 v2 write.course (console_course told is1 is2 v1 v2 said.acts);
         loses = λ t d. said.acts.loses d ∙ write.loses d;
         cause = write.cause;
+        spares = spares_then by false v0 v1 v2 write.spares said.spares;
         journal = kept_then said.acts.goes.later;
         others = λ t. only_on v0 v1 v2 write.course.goes.later said.acts.goes (write.apart t).others (said.acts.others t);
         papers = λ t. papers_on v0 v1 v2 write.course.goes.later said.acts.goes (write.apart t).papers (said.acts.papers t);
@@ -108,6 +113,7 @@ module _ (told : Type 0) (by : ℕ) (lines : List (List ℕ)) (b : Batch) (front
         course = course_then was1 is1 is1 was2 is2 is2 v0 v1 v2 write.course (console_course told is1 is2 v1 v2 said.acts);
         loses = λ t d. said.acts.loses d ∙ write.loses d;
         cause = (write.cause, rose_later (v0.faults Console) (v1.faults Console) (v2.faults Console) (write.course.goes.faults Console) said.cause);
+        spares = spares_then by false v0 v1 v2 write.spares said.spares;
         journal = kept_then said.acts.goes.later;
         others = λ t. only_on v0 v1 v2 write.course.goes.later said.acts.goes (write.apart t).others (said.acts.others t);
         papers = λ t. papers_on v0 v1 v2 write.course.goes.later said.acts.goes (write.apart t).papers (said.acts.papers t);
@@ -117,6 +123,7 @@ module _ (told : Type 0) (by : ℕ) (lines : List (List ℕ)) (b : Batch) (front
         course = course_then was1 is1 is1 was2 is2 is2 v0 v1 v2 write.course (console_course told is1 is2 v1 v2 said.acts);
         loses = λ t d. said.acts.loses d ∙ write.loses d;
         cause = (write.cause, rose_later (v0.stops by) (v1.stops by) (v2.stops by) (write.course.goes.stops by) said.cause);
+        spares = spares_then by true v0 v1 v2 write.spares said.spares;
         journal = inr (inr (kept_then said.acts.goes.later));
         others = λ t. only_on v0 v1 v2 write.course.goes.later said.acts.goes (write.apart t).others (said.acts.others t);
         papers = λ t. papers_on v0 v1 v2 write.course.goes.later said.acts.goes (write.apart t).papers (said.acts.papers t);
@@ -224,6 +231,10 @@ can_draw k n drawn pages level levels config spelling = record {
 pub ok_of : {T E A : Type 0} (r : Result T E) → A → OnOk r A
 ok_of (Ok done) a = a
 ok_of (Err why) a = tt
+
+pub err_of : {T E A : Type 0} (r : Result T E) → A → OnErr r A
+err_of (Ok done) a = tt
+err_of (Err why) a = a
 
 pub if_ok : {T E : Type 0} (P R : T → Type 0) (r : Result T E) → ((x : T) → P x → R x) → IfOk r P → IfOk r R
 if_ok P R (Ok x) to p = to x p

@@ -16,6 +16,7 @@ use Rattle.mas_complex.specs.Paper.{SamePapers}
 use Rattle.member_node.specs.declared.member.NodeNo.{NodeNo}
 use Rattle.member_node.specs.declared.member.NodeNo.TheVariants.{BothLost}
 use Rattle.member_node.specs.Calls.{Course, IsOnlyOn, console_now}
+use Rattle.member_node.specs.Spares.{Spares, stopped_in}
 use Rattle.member_steps.specs.Steps.{StepCauses, StepTells}
 
 -- nobody holds, nothing is reserved, and the member isn't stopped
@@ -40,6 +41,7 @@ pub record IsDenial {T : Type 0} (told : Type 0) (by : ℕ) (lines : List (List 
   pub course : Course was1 is1 was2 is2 old new
   pub loses : (d : Dev) → new.loses d ≡ old.loses d
   pub cause : StepCauses result by was1 is1 was2 is2 old new
+  pub spares : Spares by (stopped_in result) old new
   pub same : batches ≡ front
   pub others : told → IsOnlyOn old new
   pub papers : told → SamePapers old new

@@ -9,6 +9,7 @@ use Rattle.mas_complex.specs.Paper.{SamePapers}
 use Rattle.member_node.specs.declared.member.NodeNo.{NodeNo}
 use Rattle.member_node.specs.declared.member.NodeNo.TheVariants.{BothLost, Halted, ConsoleFault, NoMemory}
 use Rattle.member_node.specs.Calls.{IsOnlyOn, console_now}
+use Rattle.member_node.specs.Spares.{Spares, stopped_in}
 
 abbrev pub torn : List ℕ → Line
 torn text = record { text = text; whole = false }
@@ -50,4 +51,5 @@ pub record OnConsole (told : Type 0) (old new : View) : Type 0 where
 pub record HaveSaid {T : Type 0} (told : Type 0) (by : ℕ) (lines : List (List ℕ)) (old new : View) (result : Result T NodeNo) : Type 0 where
   pub acts : OnConsole told old new
   pub cause : SayCauses result by old new
+  pub spares : Spares by (stopped_in result) old new
   pub console : told → Adds result lines (console_now old) (console_now new)

@@ -26,6 +26,7 @@ use Rattle.member_node.specs.declared.member.NodeNo.{NodeNo}
 use Rattle.member_node.specs.declared.member.NodeNo.TheVariants.{BothLost, Halted, ConsoleFault, NoMemory}
 use Rattle.member_node.specs.Calls.{Course, IsLeft, IsOnlyOn, console_now}
 use Rattle.member_node.specs.Drawn.{AreDrawn}
+use Rattle.member_node.specs.Spares.{Spares, stopped_in}
 use Rattle.mas_types.specs.Closings.{reply_lines}
 use Rattle.member_node.specs.Writes.{HasKept, HasFlying}
 use Rattle.member_steps.specs.Saying.{Breaks}
@@ -118,6 +119,7 @@ pub record IsStep {T : Type 0} (told : Type 0) (by : ℕ) (lines : List (List �
   pub course : Course was1 is1 was2 is2 old new
   pub loses : told → (d : Dev) → new.loses d ≡ old.loses d
   pub cause : StepCauses result by was1 is1 was2 is2 old new
+  pub spares : Spares by (stopped_in result) old new
   pub journal : StepLeaves result front batches b new.now
   pub others : told → IsOnlyOn old new
   pub papers : told → SamePapers old new

@@ -10,5 +10,5 @@ mod telling;
 pub use batches::play_batch;
 pub use laws::law_of_told_steps;
 pub use locked::{deny, play_locked};
-pub use playing::play_command;
+pub use playing::{give, play_command};
 pub use telling::tell_lines;

@@ -1,5 +1,5 @@
 //! A step of a member that takes the lock.
-ghost use Rattle.std.specs.Prelude.{◌≡◌, ◌+◌, ◌≤◌, ◌<◌, [], ◌∷◌, length, Some, None, true, false, IfOk, OnOk};
+ghost use Rattle.std.specs.Prelude.{◌≡◌, ◌+◌, ◌≤◌, ◌<◌, [], ◌∷◌, length, Some, None, true, false, IfOk, OnErr, OnOk};
 ghost use Rattle.mas_types.specs.declared.ids.Dev.{Dev};
 ghost use Rattle.mas_types.specs.declared.ids.Dev.TheVariants.{Ckpt1, Ckpt2};
 ghost use Rattle.mas_types.specs.Closings.{AreMembersNamed};
@@ -14,7 +14,7 @@ ghost use Rattle.mas_complex.specs.Journals.{end_of, kept_all};
 ghost use Rattle.mas_complex.specs.Locking.{IsUp};
 ghost use Rattle.mas_complex.specs.Meaning.{run};
 ghost use Rattle.queue_commands.specs.Given.{IsGiver, is_plain};
-ghost use Rattle.member_node.specs.Reads.{IsCalm, ReadsLow, orders_after, too_high};
+ghost use Rattle.member_node.specs.Reads.{IsCalm, ReadsLow, too_high};
 ghost use Rattle.member_steps.specs.Locked.{IsDenial, IsOpenTo, closing_of as closing_of_lem, denied_lines as denied_lines_lem};
 ghost use Rattle.member_steps.specs.Steps.{AreAllKept, GivesStep, IsAtLock, IsToldSound, entry_of};
 ghost use Rattle.paper_laws.specs.Counts.{is_mark};
@@ -94,7 +94,7 @@ pub fn deny<P: Plant + Drop, C: Steady + Drop>(
 /// tells it, and gives the lock up. Its checkpoint may be of any time: another member may have written since. Where it doesn't get the lock
 /// the step closes with why, and nothing else is done.
 ///
-/// After BothLost, ConsoleFault or Halted in a step that got the lock, or want of memory, the member holds it still, and can't go on.
+/// After an error the lock is as after the try: a member that got it holds it still, and can't go on.
 pub fn play_locked<P: Plant + Drop, C: Steady + Drop>(
     member: &mut Member,
     alloc: Global,
@@ -119,13 +119,13 @@ pub fn play_locked<P: Plant + Drop, C: Steady + Drop>(
     requires kept { AreAllKept complex.old.journal.batches (P.view complex.old.plant).now }
     requires untold { P.tells → IsUntold (setting C.reads complex.old.base complex.old.since) (P.view complex.old.plant) (entry_of (run complex.old.base (kept_all complex.old.journal.batches)) member.old.id step command ∷ []) }
     requires since { complex.old.since ≤ (P.view complex.old.plant).now }
-    requires orders { orders_after (length complex.old.journal.batches) < too_high }
     requires level { complex.old.level < too_high }
     ensures base { complex.new.base ≡ complex.old.base }
     ensures since { complex.new.since ≡ complex.old.since }
     ensures id { member.new.id ≡ member.old.id }
     ensures lock { OnOk result (IsOpenTo complex.new.book complex.new.reserved member.old.id) }
     ensures book { OnOk result (complex.new.book ≡ after_free (after_try complex.old.book member.old.id false) member.old.id false) }
+    ensures held { OnErr result (complex.new.book ≡ after_try complex.old.book member.old.id false) }
     ensures granted { try_refusal complex.old.book member.old.id false ≡ None → GivesStep P.tells member.old.id step command (run complex.old.base (kept_all complex.old.journal.batches))
         complex.old.journal.batches (end_of complex.new.placed complex.new.current complex.new.journal.batches)
         complex.old.pair.first.alive complex.new.pair.first.alive complex.old.pair.second.alive complex.new.pair.second.alive

@@ -28,8 +28,15 @@ use queue_texts::law_of_texts;
 use spool_disk::Plant;
 use std::alloc::Global;
 
-// Does the command on the member's tables, and answers the lines of its reply.
-fn give(member: &mut Member, alloc: Global, step: u32, command: Command) -> Result<Lines, NoMemory>
+/// Does the command on the member's tables, and answers the lines of its reply.
+///
+/// After NoMemory the command may be done.
+pub fn give(
+    member: &mut Member,
+    alloc: Global,
+    step: u32,
+    command: Command,
+) -> Result<Lines, NoMemory>
     requires by { member.old.id.0 ≤ members_most }
     requires plain { is_plain command ≡ true }
     requires command { IsFit command }

@@ -1,6 +1,7 @@
 //! Lines that a member says.
 ghost use Rattle.std.specs.Prelude.{◌≡◌, None};
 ghost use Rattle.mas_complex.specs.Locking.{IsUp};
+ghost use Rattle.mas_complex.specs.Parts.{parts_of};
 ghost use Rattle.member_steps.specs.Saying.{HaveSaid};
 ghost use Rattle.member_steps.specs.Steps.{AreAllKept};
 
@@ -31,6 +32,7 @@ pub fn tell_lines<P: Plant + Drop, C: Steady + Drop>(
     ensures first { complex.new.first ≡ complex.old.first }
     ensures second { complex.new.second ≡ complex.old.second }
     ensures level { complex.new.level ≡ complex.old.level }
+    ensures frame { parts_of complex.new ≡ record (parts_of complex.old) { plant = complex.new.plant } }
     ensures said { HaveSaid P.tells member.now.id.0 lines.now (P.view complex.old.plant) (P.view complex.new.plant) result }
 {
     for at in 0..lines.len() {

@@ -9,6 +9,8 @@ use Rattle.member_node.specs.declared.member.NodeNo.{NodeNo}
 use Rattle.member_node.specs.declared.member.NodeNo.TheVariants.{BothLost, Halted, ConsoleFault, NoMemory}
 use Rattle.member_node.proofs.CourseLemmas.{course_then}
 use Rattle.member_decks.specs.Batches.{AreAll, HasAll, IsKeptBatch}
+use Rattle.member_node.specs.Spares.{stopped_in}
+use Rattle.member_node.proofs.SpareLemmas.{spares_then}
 use Rattle.member_decks.specs.Keeping.{CopyCauses}
 use Rattle.member_decks.proofs.BatchLemmas.{all_sooner}
 use Rattle.member_decks.proofs.OutcomeLemmas.{causes_then, copy_causes, tells_none, tells_then}
@@ -37,6 +39,7 @@ module _ (told : Type 0) (by : MemberId) where
         course = course_then a a' a'' b b' b'' v0 v1 v2 one.course two.course;
         loses = λ t d. two.loses t d ∙ one.loses t d;
         cause = causes_then r by.0 a a' a'' b b' b'' v0 v1 v2 one.cause one.course.goes two.cause;
+        spares = spares_then by.0 (stopped_in r) v0 v1 v2 one.spares two.spares;
         rest = one.rest ++ two.rest;
         batches_are = joined two.rest two.batches_are;
         journal = work_then by r v0.now v1.now v2.now ess one.rest more two.rest first then one.journal two.journal;
@@ -51,6 +54,7 @@ module _ (told : Type 0) (by : MemberId) where
     course = k.course;
     loses = k.loses;
     cause = copy_causes (Err e) by.0 a a' b b' v w (same_causes e k.cause);
+    spares = k.spares;
     rest = k.rest;
     batches_are = k.batches_are;
     journal = same_leaves e k.journal;

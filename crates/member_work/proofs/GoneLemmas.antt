@@ -1,5 +1,5 @@
 -- A text is gone only where it was when the run began.
-use Rattle.std.proofs.Common.{◌≡◌, ℕ, ◌+◌, ◌<◌, ◌≤◌, ◌==◌, nat_le, not, ◌&&◌, ◌||◌, if◌then◌else◌, Bool, true, false, List, [], ◌∷◌, ◌++◌, map, length, Option, Some, None, All, refl, sym, ◌∙◌, ap, subst, arith}
+use Rattle.std.proofs.Common.{is_some, ◌≡◌, ℕ, ◌+◌, ◌<◌, ◌≤◌, ◌==◌, nat_le, not, ◌&&◌, ◌||◌, if◌then◌else◌, Bool, true, false, List, [], ◌∷◌, ◌++◌, map, length, Option, Some, None, All, refl, sym, ◌∙◌, ap, subst, arith}
 use Rattle.std.specs.List.{list_any, find}
 use Rattle.std.specs.Option.{option_map_or}
 use Rattle.std.specs.Coded.{Coded, Coded-set, coded_ℕ, coded_option, code_by}
@@ -317,6 +317,14 @@ pub gone_deck_is : (n : JobNo) (Q : Queue) (bs : List Batch) (current : Option B
     → (j : Job) → job_at (run Q (kept_all bs)) n ≡ Some j → gone_since Q (kept_all bs) n ≡ gone_with j.text
 gone_deck_is n Q bs current some config distinct j found =
     ∥∥₁_elim some (Coded-set (coded_option coded_group) _ _) (λ are. gone_as n Q (kept_all bs) (kept_have Q bs (replied_front Q bs (in_flight current) are)) config distinct j found)
+
+-- a text that was whole is so whatever was brought
+pub none_either : {A : Type 0} (b : Bool) (o : Option A) (none : Bool) → is_some o ≡ not none → none ≡ true → None ≡ (if b then None else o)
+none_either true o none is on = refl
+none_either false None none is on = refl
+none_either false (Some x) none is on = absurd (clash (is ∙ ap not on)) where
+  clash : true ≡ false → ⊥
+  clash e = cc
 
 pub since_when : (n : JobNo) (Q : Queue) (bs slice : List Batch) (b : Bool) → slice ≡ bs → b ≡ list_any (λ b. is_kept b.fate && is_brought n b.entries) slice → gone_since Q (kept_all bs) n ≡ (if b then None else gone_in Q n)
 since_when n Q bs slice b at is = ap (λ (x : Bool). if x then None else gone_in Q n) (sym (is ∙ ap (λ (l : List Batch). list_any (λ b. is_kept b.fate && is_brought n b.entries) l) at ∙ brought_in n bs))

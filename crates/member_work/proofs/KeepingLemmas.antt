@@ -1,5 +1,5 @@
 -- Calls within a work step that keep batches, one after another.
-use Rattle.std.proofs.Common.{◌≡◌, ◌⊎◌, inl, inr, ⊎_elim, ℕ, ◌≤◌, Bool, List, [], ◌∷◌, ◌++◌, length, Option, None, Result, Ok, Err, append_assoc, append-nil, refl, sym, ◌∙◌, ap, subst, arith}
+use Rattle.std.proofs.Common.{◌≡◌, ◌⊎◌, inl, inr, ⊎_elim, ℕ, ◌≤◌, Bool, false, List, [], ◌∷◌, ◌++◌, length, Option, None, Result, Ok, Err, append_assoc, append-nil, refl, sym, ◌∙◌, ap, subst, arith}
 use Rattle.mas_types.specs.declared.ids.MemberId.{MemberId}
 use Rattle.mas_types.specs.declared.journals.Batch.{Batch}
 use Rattle.mas_types.specs.declared.journals.Entry.{Entry}
@@ -10,11 +10,13 @@ use Rattle.mas_complex.specs.Journals.{begun, fated}
 use Rattle.member_node.specs.declared.member.NodeNo.{NodeNo}
 use Rattle.member_node.specs.declared.member.NodeNo.TheVariants.{BothLost, Halted, ConsoleFault, NoMemory}
 use Rattle.member_node.specs.Reads.{IsSettle, ReadCauses}
+use Rattle.member_node.specs.Spares.{Spares, stopped_in}
+use Rattle.member_node.proofs.SpareLemmas.{spares_none, spares_then}
 use Rattle.member_node.proofs.CourseLemmas.{course_none, course_then, rose_later}
 use Rattle.member_decks.specs.Keeping.{CopyCauses, IsOnCopies, KeepLeaves}
 use Rattle.member_decks.specs.Spooling.{OnVolumes}
 use Rattle.member_decks.specs.Steps.{SpoolStops}
-use Rattle.member_decks.proofs.OutcomeLemmas.{course_spool, kept_batch, left_then, one_flies}
+use Rattle.member_decks.proofs.OutcomeLemmas.{course_spool, kept_batch, left_then, one_flies, spares_spool}
 use Rattle.member_work.specs.Steps.{IsKeeping, WorkLeaves}
 use Rattle.member_work.specs.Work.{batches_in}
 use Rattle.member_work.proofs.LeavesLemmas.{StartsAs, work_none, work_starts, work_then}
@@ -43,6 +45,7 @@ module _ {T : Type 0} (told : Type 0) (by : MemberId) where
     course = course_then a a' a'' b b' b'' v0 v1 v2 one.course two.course;
     loses = λ t d. two.loses t d ∙ one.loses t d;
     cause = copy_then r a a' a'' b b' b'' v0 v1 v2 one.cause (one.course.goes.stops by.0) two.cause;
+    spares = spares_then by.0 (stopped_in r) v0 v1 v2 one.spares two.spares;
     rest = one.rest ++ two.rest;
     batches_are = two.batches_are ∙ ap (λ (l : List Batch). l ++ two.rest) one.batches_are ∙ append_assoc front one.rest two.rest;
     journal = work_then by r v0.now v1.now v2.now ess one.rest more two.rest one.course.goes.later two.course.goes.later one.journal two.journal;
@@ -55,6 +58,7 @@ module _ {T : Type 0} (told : Type 0) (by : MemberId) where
     course = k.course;
     loses = k.loses;
     cause = k.cause;
+    spares = k.spares;
     rest = k.rest;
     batches_are = k.batches_are;
     journal = work_starts by w.now T e v.now xs ess k.rest (never_console T by e a a' b b' v w k.cause) starts k.journal;
@@ -63,7 +67,7 @@ module _ {T : Type 0} (told : Type 0) (by : MemberId) where
 
 -- by the answer of another type
 pub keeping_error : {S T : Type 0} (told : Type 0) (by : MemberId) (e : NodeNo) (ess : List (List Entry)) (front batches : List Batch) (a a' b b' : Bool) (v w : View) → IsKeeping {T = S} told by ess front batches a a' b b' v w (Err e) → IsKeeping {T = T} told by ess front batches a a' b b' v w (Err e)
-keeping_error {S} {T} told by e ess front batches a a' b b' v w k = record { course = k.course; loses = k.loses; cause = causes e k.cause; rest = k.rest; batches_are = k.batches_are; journal = leaves e k.journal; quiet = k.quiet } where
+keeping_error {S} {T} told by e ess front batches a a' b b' v w k = record { course = k.course; loses = k.loses; cause = causes e k.cause; spares = k.spares; rest = k.rest; batches_are = k.batches_are; journal = leaves e k.journal; quiet = k.quiet } where
   causes : (e : NodeNo) → CopyCauses {T = S} (Err e) by.0 a a' b b' v w → CopyCauses {T = T} (Err e) by.0 a a' b b' v w
   causes BothLost c = c
   causes Halted c = c
@@ -77,28 +81,29 @@ keeping_error {S} {T} told by e ess front batches a a' b b' v w k = record { cou
   leaves ConsoleFault l = l
 
 pub keeping_ok : {S T : Type 0} (told : Type 0) (by : MemberId) (s : S) (t : T) (ess : List (List Entry)) (front batches : List Batch) (a a' b b' : Bool) (v w : View) → IsKeeping {T = S} told by ess front batches a a' b b' v w (Ok s) → IsKeeping {T = T} told by ess front batches a a' b b' v w (Ok t)
-keeping_ok told by s t ess front batches a a' b b' v w k = record { course = k.course; loses = k.loses; cause = k.cause; rest = k.rest; batches_are = k.batches_are; journal = k.journal; quiet = k.quiet }
+keeping_ok told by s t ess front batches a a' b b' v w k = record { course = k.course; loses = k.loses; cause = k.cause; spares = k.spares; rest = k.rest; batches_are = k.batches_are; journal = k.journal; quiet = k.quiet }
 
 -- SINGLE CALLS
 
 module _ {T : Type 0} (told : Type 0) (by : MemberId) (front batches : List Batch) (same : batches ≡ front) where
   -- none
   pub keeping_none : (t : T) (a b : Bool) (v : View) → IsKeeping {T = T} told by [] front batches a a b b v v (Ok t)
-  keeping_none t a b v = record { course = course_none a b v; loses = λ t d. refl; cause = inr (refl, refl); rest = []; batches_are = same ∙ sym (append-nil front); journal = tt; quiet = λ t. refl }
+  keeping_none t a b v = record { course = course_none a b v; loses = λ t d. refl; cause = inr (refl, refl); spares = spares_none by.0 v; rest = []; batches_are = same ∙ sym (append-nil front); journal = tt; quiet = λ t. refl }
 
   -- memory wanted
   pub keeping_wanted : (ess : List (List Entry)) (a b : Bool) (v : View) → IsKeeping {T = T} told by ess front batches a a b b v v (Err NoMemory)
-  keeping_wanted ess a b v = record { course = course_none a b v; loses = λ t d. refl; cause = inr (refl, refl); rest = []; batches_are = same ∙ sym (append-nil front); journal = work_none by T NoMemory v.now v.now ess (λ e. absurd (cc)); quiet = λ t. refl }
+  keeping_wanted ess a b v = record { course = course_none a b v; loses = λ t d. refl; cause = inr (refl, refl); spares = spares_none by.0 v; rest = []; batches_are = same ∙ sym (append-nil front); journal = work_none by T NoMemory v.now v.now ess (λ e. absurd (cc)); quiet = λ t. refl }
 
   -- acts on the copies
   pub held_ok : (t : T) (a a' b b' : Bool) (v w : View) → IsOnCopies {T = T} told by.0 a a' b b' v w (Ok t) → IsKeeping {T = T} told by [] front batches a a' b b' v w (Ok t)
-  held_ok t a a' b b' v w acts = record { course = acts.course; loses = acts.loses; cause = acts.cause; rest = []; batches_are = same ∙ sym (append-nil front); journal = tt; quiet = λ t. (acts.apart t).console }
+  held_ok t a a' b b' v w acts = record { course = acts.course; loses = acts.loses; cause = acts.cause; spares = acts.spares; rest = []; batches_are = same ∙ sym (append-nil front); journal = tt; quiet = λ t. (acts.apart t).console }
 
   pub held_not : (e : NodeNo) (ess : List (List Entry)) (a a' b b' : Bool) (v w : View) → IsOnCopies {T = T} told by.0 a a' b b' v w (Err e) → IsKeeping {T = T} told by ess front batches a a' b b' v w (Err e)
   held_not e ess a a' b b' v w acts = record {
     course = acts.course;
     loses = acts.loses;
     cause = acts.cause;
+    spares = acts.spares;
     rest = [];
     batches_are = same ∙ sym (append-nil front);
     journal = work_none by T e v.now w.now ess (never_console T by e a a' b b' v w acts.cause);
@@ -106,14 +111,15 @@ module _ {T : Type 0} (told : Type 0) (by : MemberId) (front batches : List Batc
   }
 
   -- acts on the volumes
-  pub spooled_ok : (t : T) (a b : Bool) (v w : View) → OnVolumes told by.0 v w → IsKeeping {T = T} told by [] front batches a a b b v w (Ok t)
-  spooled_ok t a b v w acts = record { course = course_spool told by.0 a b v w acts; loses = λ t d. acts.loses d; cause = inr (refl, refl); rest = []; batches_are = same ∙ sym (append-nil front); journal = tt; quiet = acts.console }
+  pub spooled_ok : (t : T) (a b : Bool) (v w : View) → OnVolumes told by.0 v w → Spares by.0 false v w → IsKeeping {T = T} told by [] front batches a a b b v w (Ok t)
+  spooled_ok t a b v w acts spares = record { course = course_spool told by.0 a b v w acts; loses = λ t d. acts.loses d; cause = inr (refl, refl); spares = spares; rest = []; batches_are = same ∙ sym (append-nil front); journal = tt; quiet = acts.console }
 
   pub spooled_not : (e : NodeNo) (ess : List (List Entry)) (a b : Bool) (v w : View) → OnVolumes told by.0 v w → SpoolStops {T = T} (Err e) by.0 v w → IsKeeping {T = T} told by ess front batches a a b b v w (Err e)
   spooled_not e ess a b v w acts stops = record {
     course = course_spool told by.0 a b v w acts;
     loses = λ t d. acts.loses d;
     cause = causes e stops;
+    spares = spares_spool {T = T} by.0 v w (Err e) stops;
     rest = [];
     batches_are = same ∙ sym (append-nil front);
     journal = work_none by T e v.now w.now ess (never e stops);
@@ -121,7 +127,7 @@ module _ {T : Type 0} (told : Type 0) (by : MemberId) (front batches : List Batc
   } where
     causes : (e : NodeNo) → SpoolStops {T = T} (Err e) by.0 v w → CopyCauses {T = T} (Err e) by.0 a a b b v w
     causes NoMemory stops = inr (refl, refl)
-    causes Halted stops = (inr (refl, refl), stops)
+    causes Halted stops = (inr (refl, refl), stops.1)
     causes BothLost stops = absurd stops
     causes ConsoleFault stops = absurd stops
 
@@ -138,6 +144,7 @@ module _ (told : Type 0) (by : MemberId) (es : List Entry) (some : 1 ≤ length 
     course = acts.course;
     loses = acts.loses;
     cause = acts.cause;
+    spares = acts.spares;
     rest = fated_of k.0 ∷ [];
     batches_are = k.3;
     journal = (kept_batch by v.now v.now k.0 w.now es (omega arith) k.1 k.2, tt);
@@ -152,6 +159,7 @@ module _ (told : Type 0) (by : MemberId) (es : List Entry) (some : 1 ≤ length 
     course = acts.course;
     loses = acts.loses;
     cause = acts.cause;
+    spares = acts.spares;
     rest = begun v.now by es ∷ [];
     batches_are = flies;
     quiet = λ t. (acts.apart t).console;
@@ -161,6 +169,7 @@ module _ (told : Type 0) (by : MemberId) (es : List Entry) (some : 1 ≤ length 
     course = acts.course;
     loses = acts.loses;
     cause = acts.cause;
+    spares = acts.spares;
     rest = begun v.now by es ∷ [];
     batches_are = flies;
     quiet = λ t. (acts.apart t).console;
@@ -170,12 +179,12 @@ module _ (told : Type 0) (by : MemberId) (es : List Entry) (some : 1 ≤ length 
 
 -- where memory wanted before a batch that is kept
 pub keeping_error_of : {S T : Type 0} (told : Type 0) (by : MemberId) (ess : List (List Entry)) (front batches : List Batch) (a a' b b' : Bool) (v w : View) (s : S) → IsKeeping {T = S} told by ess front batches a a' b b' v w (Ok s) → IsKeeping {T = T} told by ess front batches a a' b b' v w (Err NoMemory)
-keeping_error_of told by ess front batches a a' b b' v w s k = record { course = k.course; loses = k.loses; cause = k.cause; rest = k.rest; batches_are = k.batches_are; journal = inr k.journal; quiet = k.quiet }
+keeping_error_of told by ess front batches a a' b b' v w s k = record { course = k.course; loses = k.loses; cause = k.cause; spares = k.spares; rest = k.rest; batches_are = k.batches_are; journal = inr k.journal; quiet = k.quiet }
 
 -- room is made
 pub settled : (told : Type 0) (by : MemberId) (front batches : List Batch) → batches ≡ front → (a a' b b' : Bool) (v w : View) (r : Result (Unit {0}) NodeNo) → IsSettle told by.0 a a' b b' v w r → IsKeeping {T = Unit {0}} told by [] front batches a a' b b' v w r
-settled told by front batches same a a' b b' v w (Ok done) s = held_ok {T = Unit {0}} told by front batches same tt a a' b b' v w (record { course = s.course; loses = λ t d. s.loses d; cause = inl s.cause; apart = s.apart })
-settled told by front batches same a a' b b' v w (Err e) s = held_not {T = Unit {0}} told by front batches same e [] a a' b b' v w (record { course = s.course; loses = λ t d. s.loses d; cause = causes e s.cause; apart = s.apart }) where
+settled told by front batches same a a' b b' v w (Ok done) s = held_ok {T = Unit {0}} told by front batches same tt a a' b b' v w (record { course = s.course; loses = λ t d. s.loses d; cause = inl s.cause; spares = s.spares; apart = s.apart })
+settled told by front batches same a a' b b' v w (Err e) s = held_not {T = Unit {0}} told by front batches same e [] a a' b b' v w (record { course = s.course; loses = λ t d. s.loses d; cause = causes e s.cause; spares = s.spares; apart = s.apart }) where
   causes : (e : NodeNo) → ReadCauses {T = Unit {0}} (Err e) by.0 a' b' v w → CopyCauses {T = Unit {0}} (Err e) by.0 a a' b b' v w
   causes BothLost c = c
   causes Halted c = (inl c.0, c.1)

@@ -27,3 +27,4 @@ pub mod PrintedLemmas
 pub mod PrintLemmas
 pub mod UnitStepLemmas
 pub mod UnitsLemmas
+pub mod BookLemmas

@@ -326,7 +326,7 @@ copies_cause S T BothLost by a a' b b' v w cause = cause
 copies_cause S T ConsoleFault by a a' b b' v w cause = absurd cause
 
 pub copies_as : {S T : Type 0} (told : Type 0) (e : NodeNo) (by : ℕ) (a a' b b' : Bool) (v w : View) → IsOnCopies {T = S} told by a a' b b' v w (Err e) → IsOnCopies {T = T} told by a a' b b' v w (Err e)
-copies_as {S} {T} told e by a a' b b' v w acts = record { course = acts.course; loses = acts.loses; cause = copies_cause S T e by a a' b b' v w acts.cause; apart = acts.apart }
+copies_as {S} {T} told e by a a' b b' v w acts = record { course = acts.course; loses = acts.loses; cause = copies_cause S T e by a a' b b' v w acts.cause; spares = acts.spares; apart = acts.apart }
 
 -- the journal and the queue once what was given is kept
 module _ (told : Type 0) (by : MemberId) (batch : List Entry) where

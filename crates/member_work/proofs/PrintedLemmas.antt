@@ -56,6 +56,8 @@ use Rattle.member_decks.specs.Keeping.{CopyCauses}
 use Rattle.member_decks.specs.Spooling.{OnVolumes}
 use Rattle.spool_volumes.specs.Volumes.{AreRoomy}
 use Rattle.member_decks.specs.Steps.{SpoolStops}
+use Rattle.member_decks.proofs.OutcomeLemmas.{spares_spool}
+use Rattle.member_node.specs.Spares.{Spares}
 use Rattle.member_decks.proofs.OpenLemmas.{tells_some}
 use Rattle.member_decks.proofs.PageLemmas.{all_at}
 use Rattle.job_outcome.specs.declared.outcomes.Read.{Read}
@@ -128,14 +130,15 @@ course_beside told is1 is2 v w acts = record {
 }
 
 module _ {T : Type 0} (told : Type 0) (by : MemberId) (front batches : List Batch) (same : batches ≡ front) where
-  pub beside_ok : (t : T) (a b : Bool) (v w : View) → IsBeside told v w → IsKeeping {T = T} told by [] front batches a a b b v w (Ok t)
-  beside_ok t a b v w acts = record { course = course_beside told a b v w acts; loses = λ t d. acts.loses d; cause = inr (refl, refl); rest = []; batches_are = same ∙ sym (append-nil front); journal = tt; quiet = acts.console }
+  pub beside_ok : (t : T) (a b : Bool) (v w : View) → IsBeside told v w → Spares by.0 false v w → IsKeeping {T = T} told by [] front batches a a b b v w (Ok t)
+  beside_ok t a b v w acts spares = record { course = course_beside told a b v w acts; loses = λ t d. acts.loses d; cause = inr (refl, refl); spares = spares; rest = []; batches_are = same ∙ sym (append-nil front); journal = tt; quiet = acts.console }
 
   pub beside_not : (e : NodeNo) (ess : List (List Entry)) (a b : Bool) (v w : View) → IsBeside told v w → SpoolStops {T = T} (Err e) by.0 v w → IsKeeping {T = T} told by ess front batches a a b b v w (Err e)
   beside_not e ess a b v w acts stops = record {
     course = course_beside told a b v w acts;
     loses = λ t d. acts.loses d;
     cause = causes e stops;
+    spares = spares_spool {T = T} by.0 v w (Err e) stops;
     rest = [];
     batches_are = same ∙ sym (append-nil front);
     journal = work_none by T e v.now w.now ess (never e stops);
@@ -143,7 +146,7 @@ module _ {T : Type 0} (told : Type 0) (by : MemberId) (front batches : List Batc
   } where
     causes : (e : NodeNo) → SpoolStops {T = T} (Err e) by.0 v w → CopyCauses {T = T} (Err e) by.0 a a b b v w
     causes NoMemory stops = inr (refl, refl)
-    causes HaltedNo stops = (inr (refl, refl), stops)
+    causes HaltedNo stops = (inr (refl, refl), stops.1)
     causes BothLost stops = absurd stops
     causes ConsoleFault stops = absurd stops
 
@@ -154,13 +157,6 @@ module _ {T : Type 0} (told : Type 0) (by : MemberId) (front batches : List Batc
     never HaltedNo stops is = absurd (cc)
 
 -- over a wider stretch
-pub stops_wider : {T : Type 0} (r : Result T NodeNo) (by : ℕ) (old from till new : View) → Goes old from → Goes till new → SpoolStops r by from till → SpoolStops r by old new
-stops_wider (Ok t) by old from till new before after stops = tt
-stops_wider (Err NoMemory) by old from till new before after stops = tt
-stops_wider (Err HaltedNo) by old from till new before after stops = omega (arith, stops, before.stops by, after.stops by)
-stops_wider (Err BothLost) by old from till new before after stops = absurd stops
-stops_wider (Err ConsoleFault) by old from till new before after stops = absurd stops
-
 pub failed_wider : (by : MemberId) (old from till new : View) → Goes old from → Goes till new → HasPrinterFailed by from till → HasPrinterFailed by old new
 failed_wider by old from till new before after f = record { lost = after.lost (Printer by) f.lost; rose = omega (arith, f.rose, before.faults (Printer by), after.faults (Printer by)) }
 

@@ -34,6 +34,8 @@ use Rattle.member_decks.specs.Spooling.{AreQuiet, OnVolumes, lies_there}
 use Rattle.member_node.specs.declared.member.NodeNo.{NodeNo}
 use Rattle.member_node.specs.declared.member.NodeNo.TheVariants as no
 use Rattle.member_decks.specs.Steps.{SpoolStops}
+use Rattle.member_node.specs.Spares.{Spares}
+use Rattle.member_node.proofs.SpareLemmas.{spares_none, spares_then}
 use Rattle.member_decks.proofs.PageLemmas.{acts_none, acts_on, lies_alone, quiet_none, quiet_on, still_roomy, there_by}
 use Rattle.job_outcome.specs.declared.outcomes.Read.{Read}
 use Rattle.job_outcome.specs.declared.outcomes.Read.TheVariants as read
@@ -164,6 +166,7 @@ there_before v old mid goes e = there_by (old.lost (DiskPart (Spool v))) (λ los
 -- the groups so far were read: none of them lies on a lost volume, and where content is told these are their records
 pub record HaveRead (told : Type 0) (by : ℕ) (config : Config) (old now : View) (groups : List GroupNo) (lines : List (List ℕ)) (gone : Option GroupNo) : Type 0 where
   pub acts : OnVolumes told by old now
+  pub spares : Spares by false old now
   pub reads : OnlyReads told old now
   pub fits : AreRecords lines
   pub there : All (λ g. lost_now old (volume_of config.groups g) ≡ false) groups
@@ -173,6 +176,7 @@ pub record HaveRead (told : Type 0) (by : ℕ) (config : Config) (old now : View
 pub read_none : (told : Type 0) (by : ℕ) (config : Config) (v : View) (lines : List (List ℕ)) → lines ≡ [] → HaveRead told by config v v [] lines None
 read_none told by config v lines none = record {
   acts = acts_none told by v;
+  spares = spares_none by v;
   reads = λ t. quiet_none (spools_at v v.now);
   fits = subst AreRecords (sym none) none_fit;
   there = All-nil (λ g. lost_now v (volume_of config.groups g) ≡ false);
@@ -181,15 +185,16 @@ read_none told by config v lines none = record {
 }
 
 pub read_more : (told : Type 0) (by : ℕ) (config : Config) (old mid new : View) (groups : List GroupNo) (g : GroupNo) (before lines : List (List ℕ)) (gone_before is_gone : Option GroupNo)
-    → HaveRead told by config old mid groups before gone_before → OnVolumes told by mid new → OnlyReads told mid new → AddsGroup told config g mid before lines gone_before is_gone
+    → HaveRead told by config old mid groups before gone_before → OnVolumes told by mid new → Spares by false mid new → OnlyReads told mid new → AddsGroup told config g mid before lines gone_before is_gone
     → HaveRead told by config old new (groups ++ g ∷ []) lines is_gone
-read_more told by config old mid new groups g before lines gone_before is_gone have acts reads adds =
+read_more told by config old mid new groups g before lines gone_before is_gone have acts spares reads adds =
     let P = λ (h : GroupNo). lost_now old (volume_of config.groups h) ≡ false in
     let R = records_on (bytes_on (spools_at old old.now)) config.groups in
     let here : told → AreRoomy old config → R g ≡ adds.records
     = λ t roomy. sym (same_records config.groups g (spools_at old old.now) (spools_at mid mid.now) (have.reads t)) ∙ adds.are_held t (still_roomy config old mid have.acts.goes roomy) in
     record {
       acts = acts_on told by old mid new have.acts acts;
+      spares = spares_then by false old mid new have.spares spares;
       reads = λ t. quiet_on (spools_at old old.now) (spools_at mid mid.now) (spools_at new new.now) (have.reads t) (reads t);
       fits = subst AreRecords (sym adds.added) (both_fit before (unwrap_or adds.records []) have.fits adds.fits);
       there = All-append P groups (g ∷ []) have.there (All-cons P g [] (there_before (volume_of config.groups g) old mid have.acts.goes adds.there) (All-nil P));
@@ -240,9 +245,9 @@ failed_later per volume groups k g old mid new here goes failed = record {
 }
 
 -- a stop after other acts
-pub stops_later : {T : Type 0} (by : ℕ) (old mid new : View) (r : Result T NodeNo) → Goes old mid → SpoolStops r by mid new → SpoolStops r by old new
-stops_later by old mid new (Ok done) goes stops = tt
-stops_later by old mid new (Err no.NoMemory) goes stops = tt
-stops_later by old mid new (Err no.Halted) goes stops = omega (arith, stops, goes.stops by)
-stops_later by old mid new (Err no.BothLost) goes stops = stops
-stops_later by old mid new (Err no.ConsoleFault) goes stops = stops
+pub stops_later : {T : Type 0} (by : ℕ) (old mid new : View) (r : Result T NodeNo) → Goes old mid → Spares by false old mid → SpoolStops r by mid new → SpoolStops r by old new
+stops_later by old mid new (Ok done) goes spares stops = spares_then by false old mid new spares stops
+stops_later by old mid new (Err no.NoMemory) goes spares stops = spares_then by false old mid new spares stops
+stops_later by old mid new (Err no.Halted) goes spares stops = (spares_then by true old mid new spares stops.0, omega (arith, stops.1, goes.stops by))
+stops_later by old mid new (Err no.BothLost) goes spares stops = stops
+stops_later by old mid new (Err no.ConsoleFault) goes spares stops = stops

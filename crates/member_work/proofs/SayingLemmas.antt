@@ -37,6 +37,7 @@ closing_said told by lines front batches same a b v w r said =
       course = d.course;
       loses = λ t k. d.loses k;
       cause = d.cause;
+      spares = d.spares;
       rest = [];
       batches_are = same ∙ sym (append-nil front);
       journal = leaves r;
@@ -65,6 +66,7 @@ closing_batch told by lines es some front batches a a' b b' v w r step =
     record {
       course = step.course;
       loses = step.loses;
+      spares = step.spares;
       cause = one_causes told by lines es some front batches a a' b b' v.now v w (omega arith) r step;
       rest = leaves.rest;
       batches_are = leaves.are;

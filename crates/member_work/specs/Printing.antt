@@ -1,5 +1,5 @@
 -- A unit that prints the next lines of an output, part by part.
-use Rattle.std.specs.Prelude.{◌≡◌, ℕ, ◌+◌, ◌*◌, ◌≤◌, ◌<◌, Bool, true, List, [], ◌++◌, length, Option, Some, None, Result, IfSome, OnOk}
+use Rattle.std.specs.Prelude.{◌≡◌, ℕ, ◌+◌, ◌*◌, ◌≤◌, ◌<◌, Bool, true, List, [], ◌++◌, length, Option, Some, None, Result, Ok, Err, IfSome, OnOk}
 use Rattle.mas_types.specs.declared.answers.Closing.{Closing}
 use Rattle.mas_types.specs.declared.ids.Dev.{Dev}
 use Rattle.mas_types.specs.declared.ids.Dev.TheVariants.{Ckpt1, Ckpt2}
@@ -27,6 +27,8 @@ use Rattle.paper_laws.specs.Paper.{busy_in}
 use Rattle.mas_complex.specs.Journals.{entries_in, kept_all}
 use Rattle.mas_complex.specs.Meaning.{run}
 use Rattle.member_node.specs.declared.member.NodeNo.{NodeNo}
+use Rattle.member_node.specs.declared.member.NodeNo.TheVariants.{BothLost, Halted, ConsoleFault, NoMemory}
+use Rattle.lock_cycle.specs.Books.{Book, after_stop}
 use Rattle.member_node.specs.Calls.{console_now}
 use Rattle.job_outcome.specs.declared.outcomes.Read.{Read}
 use Rattle.job_outcome.specs.declared.units.UnitEnd.{UnitEnd}
@@ -48,6 +50,14 @@ pub record IsBeside (told : Type 0) (old new : View) : Type 0 where
   pub first : told → disk_now new Ckpt1 ≡ disk_now old Ckpt1
   pub second : told → disk_now new Ckpt2 ≡ disk_now old Ckpt2
   pub console : told → console_now new ≡ console_now old
+
+-- the book after lines were printed: a member that was stopped in it is stopped there
+abbrev pub IsBookAfterLines : {T : Type 0} → Result T NodeNo → MemberId → Book → Book → Type 0
+IsBookAfterLines (Ok done) by was is = is ≡ was
+IsBookAfterLines (Err Halted) by was is = is ≡ after_stop was by
+IsBookAfterLines (Err NoMemory) by was is = is ≡ was
+IsBookAfterLines (Err BothLost) by was is = is ≡ was
+IsBookAfterLines (Err ConsoleFault) by was is = is ≡ was
 
 -- THE OUTPUT
 

@@ -20,6 +20,7 @@ use Rattle.mas_types.specs.Limits.{text_lines_most}
 use Rattle.mas_types.specs.Queue.{has_output, job_at, line_count}
 use Rattle.spool_disk.specs.View.{View}
 use Rattle.lay_bytes.specs.declared.records.JobRec.{JobRec}
+use Rattle.lock_cycle.specs.Books.{Book, after_free, after_stop}
 use Rattle.ckpt_pages.specs.declared.tables.Tables.{Tables}
 use Rattle.queue_tables.specs.Telling.{Tell, TellSound}
 use Rattle.track_groups.specs.Groups.{held_by}
@@ -39,6 +40,7 @@ use Rattle.member_node.specs.Calls.{Course, console_now}
 use Rattle.member_node.specs.Copies.{RestsAt}
 use Rattle.member_node.specs.Drawn.{AreDrawn}
 use Rattle.member_node.specs.Reads.{orders_after}
+use Rattle.member_node.specs.Spares.{Spares, stopped_in}
 use Rattle.member_steps.specs.Steps.{AreAllKept, StepTells, entry_with, reply_to, StepCauses}
 use Rattle.member_decks.specs.Batches.{AreAll, AreCut, HasAll, OneFlies}
 use Rattle.member_decks.specs.Keeping.{CopyCauses}
@@ -75,6 +77,7 @@ pub record IsClosing {T : Type 0} (told : Type 0) (by : MemberId) (lines : List 
   pub course : Course was1 is1 was2 is2 old new
   pub loses : told → (d : Dev) → new.loses d ≡ old.loses d
   pub cause : StepCauses result by.0 was1 is1 was2 is2 old new
+  pub spares : Spares by.0 (stopped_in result) old new
   pub rest : List Batch
   pub batches_are : batches ≡ front ++ rest
   pub journal : WorkLeaves result by old.now new.now ess rest
@@ -102,6 +105,19 @@ pub record IsWorkStep {T : Type 0} (told : Type 0) (by : MemberId) (at per n : �
   pub few : length gave ≤ levels_in n
   pub caused : MayClose n by end old new
   pub closes : IsClosing told by (closing_line by at end ∷ []) gave front batches was1 is1 was2 is2 old new result
+
+-- Who holds the lock after an error, in a step that held it with this book: the member still, or nobody, where the error came amid acts beside
+-- the copies, for which it had given the lock up. A member that was stopped while it printed is stopped in the book.
+abbrev pub EndsWith : NodeNo → MemberId → Book → Book → Type 0
+EndsWith BothLost by held is = is ≡ held
+EndsWith ConsoleFault by held is = is ≡ held
+EndsWith NoMemory by held is = (is ≡ held) ⊎ (is ≡ after_free held by true)
+EndsWith Halted by held is = (is ≡ held) ⊎ (is ≡ after_free held by true) ⊎ (is ≡ after_stop (after_free held by true) by)
+
+-- and whatever the answer
+abbrev pub LeavesBook : {T : Type 0} → Result T NodeNo → MemberId → Book → Book → Type 0
+LeavesBook (Ok done) by held is = is ≡ held
+LeavesBook (Err e) by held is = EndsWith e by held is
 
 -- how many units a step may ask for
 pub record IsCount (n : ℕ) : Type 0 where
@@ -151,6 +167,7 @@ pub record IsKeeping {T : Type 0} (told : Type 0) (by : MemberId) (ess : List (L
   pub course : Course was1 is1 was2 is2 old new
   pub loses : told → (d : Dev) → new.loses d ≡ old.loses d
   pub cause : CopyCauses result by.0 was1 is1 was2 is2 old new
+  pub spares : Spares by.0 (stopped_in result) old new
   pub rest : List Batch
   pub batches_are : batches ≡ front ++ rest
   pub journal : WorkLeaves result by old.now new.now ess rest

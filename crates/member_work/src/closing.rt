@@ -7,6 +7,8 @@ ghost use Rattle.spool_disk.specs.View.{disk_now};
 ghost use Rattle.mas_complex.specs.Crash.{IsUntold, setting};
 ghost use Rattle.mas_complex.specs.Journals.{end_of};
 ghost use Rattle.mas_complex.specs.Locking.{MayAct};
+ghost use Rattle.mas_complex.specs.Paper.{SamePapers};
+ghost use Rattle.member_node.specs.Calls.{Apart, IsOnlyOn};
 ghost use Rattle.member_node.specs.Copies.{RestsAt};
 ghost use Rattle.member_node.specs.Reads.{AreLow, orders_after, too_high};
 ghost use Rattle.member_steps.specs.Steps.{AreAllKept, IsBetween};
@@ -24,7 +26,7 @@ use spool_disk::Plant;
 use std::alloc::Global;
 
 /// Keeps what the member gave since the last batch, if anything, as a batch, and makes room for the next one; nothing is said.
-pub(crate) fn keep_given<P: Plant + Drop, C: Steady + Drop>(
+pub fn keep_given<P: Plant + Drop, C: Steady + Drop>(
     member: &mut Member,
     alloc: Global,
     complex: &mut Complex<P, C>,
@@ -40,6 +42,7 @@ pub(crate) fn keep_given<P: Plant + Drop, C: Steady + Drop>(
     ensures since { complex.new.since ≡ complex.old.since }
     ensures book { complex.new.book ≡ complex.old.book }
     ensures id { member.new.id ≡ member.old.id }
+    ensures apart { P.tells → Apart (P.view complex.old.plant) (P.view complex.new.plant) }
     ensures tables { member.new.checkpoint.tables ≡ member.old.checkpoint.tables }
     ensures nothing { OnOk result (member.new.batch ≡ []) }
     ensures keeps { IsKeeping P.tells member.old.id (batches_in (member.old.batch ∷ []))
@@ -61,7 +64,7 @@ pub(crate) fn keep_given<P: Plant + Drop, C: Steady + Drop>(
 
 /// Ends a step in which memory wanted: what was given since the last batch is kept, where there is memory for that. Answers how the step
 /// ends.
-pub(crate) fn give_up<P: Plant + Drop, C: Steady + Drop>(
+pub fn give_up<P: Plant + Drop, C: Steady + Drop>(
     member: &mut Member,
     alloc: Global,
     complex: &mut Complex<P, C>,
@@ -75,7 +78,9 @@ pub(crate) fn give_up<P: Plant + Drop, C: Steady + Drop>(
     requires level { complex.old.level + 1 < 2 ^ 63 }
     ensures base { complex.new.base ≡ complex.old.base }
     ensures since { complex.new.since ≡ complex.old.since }
+    ensures book { complex.new.book ≡ complex.old.book }
     ensures id { member.new.id ≡ member.old.id }
+    ensures apart { P.tells → Apart (P.view complex.old.plant) (P.view complex.new.plant) }
     ensures keeps { IsKeeping {T = Unit {0}} P.tells member.old.id (batches_in (member.old.batch ∷ []))
         complex.old.journal.batches (end_of complex.new.placed complex.new.current complex.new.journal.batches)
         complex.old.pair.first.alive complex.new.pair.first.alive complex.old.pair.second.alive complex.new.pair.second.alive
@@ -122,7 +127,7 @@ pub(crate) fn hold_again<P: Plant + Drop, C: Steady + Drop>(
 }
 
 /// Keeps what the member gave since the last batch, if anything, and says the line with which the step closes.
-pub(crate) fn close_work<P: Plant + Drop, C: Steady + Drop>(
+pub fn close_work<P: Plant + Drop, C: Steady + Drop>(
     member: &mut Member,
     alloc: Global,
     complex: &mut Complex<P, C>,
@@ -141,8 +146,10 @@ pub(crate) fn close_work<P: Plant + Drop, C: Steady + Drop>(
     requires level { complex.old.level + 1 < 2 ^ 63 }
     ensures base { complex.new.base ≡ complex.old.base }
     ensures since { complex.new.since ≡ complex.old.since }
-    ensures book { OnOk result (complex.new.book ≡ complex.old.book) }
+    ensures book { complex.new.book ≡ complex.old.book }
     ensures id { member.new.id ≡ member.old.id }
+    ensures others { P.tells → IsOnlyOn (P.view complex.old.plant) (P.view complex.new.plant) }
+    ensures papers { P.tells → SamePapers (P.view complex.old.plant) (P.view complex.new.plant) }
     ensures tables { OnOk result (member.new.checkpoint.tables ≡ member.old.checkpoint.tables) }
     ensures room { OnOk result (member.new.room ≡ member.old.room) }
     ensures closes { IsClosing P.tells member.old.id (closing_line member.old.id step end.now ∷ []) (batches_in (member.old.batch ∷ []))

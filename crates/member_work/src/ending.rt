@@ -14,6 +14,7 @@ ghost use Rattle.mas_complex.specs.Journals.{end_of, kept_all};
 ghost use Rattle.mas_complex.specs.Locking.{MayAct};
 ghost use Rattle.mas_complex.specs.Meaning.{run};
 ghost use Rattle.mas_complex.specs.Texts.{spools_at};
+ghost use Rattle.member_node.specs.Calls.{Apart};
 ghost use Rattle.member_node.specs.Reads.{orders_after, too_high};
 ghost use Rattle.member_decks.specs.Decks.{closing_reply, given_in};
 ghost use Rattle.member_decks.specs.Steps.{AreOf, IsFoundLost};
@@ -23,7 +24,7 @@ ghost use Rattle.job_outcome.specs.Next.{IsNamedEnd, end_by};
 ghost use Rattle.member_work.specs.Ending.{IsLastPart};
 ghost use Rattle.member_work.specs.Rounds.{IsSpoolLost};
 ghost use Rattle.member_work.specs.Spooled.{AreSpooled};
-ghost use Rattle.member_work.specs.Steps.{HasCopy, IsAtWork, IsEndStep, IsKeeping, IsSpoolStep, IsStepUntold, IsUnderWay};
+ghost use Rattle.member_work.specs.Steps.{HasCopy, IsAtWork, IsEndStep, IsKeeping, IsSpoolStep, IsStepUntold, IsUnderWay, LeavesBook};
 ghost use Rattle.member_work.specs.Work.{batches_in};
 ghost use Rattle.member_work.specs.Units.{drop_groups, ending, groups_for_end as groups_for_end_lem, taken_end, taking};
 
@@ -39,9 +40,9 @@ use spool_text::law_of_groups;
 use spool_volumes::law_of_read_texts;
 use std::alloc::Global;
 
-// Gives Ended with these outputs, whose texts stand in the member's groups unless the job was cancelled; after a refused one the member's
-// groups become free.
-fn end_given<P: Plant + Drop, C: Steady + Drop>(
+/// Gives Ended with these outputs, whose texts stand in the member's groups unless the job was cancelled; after a refused one the member's
+/// groups become free.
+pub fn end_given<P: Plant + Drop, C: Steady + Drop>(
     member: &mut Member,
     alloc: Global,
     complex: &mut Complex<P, C>,
@@ -68,7 +69,8 @@ fn end_given<P: Plant + Drop, C: Steady + Drop>(
     ensures base { complex.new.base ≡ complex.old.base }
     ensures since { complex.new.since ≡ complex.old.since }
     ensures id { member.new.id ≡ member.old.id }
-    ensures book { OnOk result (complex.new.book ≡ complex.old.book) }
+    ensures apart { P.tells → Apart (P.view complex.old.plant) (P.view complex.new.plant) }
+    ensures book { complex.new.book ≡ complex.old.book }
     ensures last { IsLastPart P.tells member.old.id step (given_in (run complex.old.base (kept_all complex.old.journal.batches)) member.old.id step (ending (run complex.old.base (kept_all complex.old.journal.batches)) member.old.id job specs)) (end_by (closing_reply (given_in (run complex.old.base (kept_all complex.old.journal.batches)) member.old.id step (ending (run complex.old.base (kept_all complex.old.journal.batches)) member.old.id job specs)))) member.new.batch
         complex.old.journal.batches (end_of complex.new.placed complex.new.current complex.new.journal.batches)
         complex.old.pair.first.alive complex.new.pair.first.alive complex.old.pair.second.alive complex.new.pair.second.alive
@@ -90,8 +92,8 @@ fn end_given<P: Plant + Drop, C: Steady + Drop>(
     Ok(end)
 }
 
-// Takes so many groups; after a refused Take the member's groups become free.
-fn take_given<P: Plant + Drop, C: Steady + Drop>(
+/// Takes so many groups; after a refused Take the member's groups become free.
+pub fn take_given<P: Plant + Drop, C: Steady + Drop>(
     member: &mut Member,
     alloc: Global,
     complex: &mut Complex<P, C>,
@@ -115,7 +117,8 @@ fn take_given<P: Plant + Drop, C: Steady + Drop>(
     ensures base { complex.new.base ≡ complex.old.base }
     ensures since { complex.new.since ≡ complex.old.since }
     ensures id { member.new.id ≡ member.old.id }
-    ensures book { OnOk result (complex.new.book ≡ complex.old.book) }
+    ensures apart { P.tells → Apart (P.view complex.old.plant) (P.view complex.new.plant) }
+    ensures book { complex.new.book ≡ complex.old.book }
     ensures last { IsLastPart P.tells member.old.id step (given_in (run complex.old.base (kept_all complex.old.journal.batches)) member.old.id step (taking (run complex.old.base (kept_all complex.old.journal.batches)) member.old.id needed)) (taken_end (run complex.old.base (kept_all complex.old.journal.batches)) member.old.id step needed) member.new.batch
         complex.old.journal.batches (end_of complex.new.placed complex.new.current complex.new.journal.batches)
         complex.old.pair.first.alive complex.new.pair.first.alive complex.old.pair.second.alive complex.new.pair.second.alive
@@ -138,8 +141,8 @@ fn take_given<P: Plant + Drop, C: Steady + Drop>(
     Ok(end)
 }
 
-// The member's groups become free, since this volume is lost.
-fn drop_given<P: Plant + Drop, C: Steady + Drop>(
+/// The member's groups become free, since this volume is lost.
+pub fn drop_given<P: Plant + Drop, C: Steady + Drop>(
     member: &mut Member,
     alloc: Global,
     complex: &mut Complex<P, C>,
@@ -162,7 +165,8 @@ fn drop_given<P: Plant + Drop, C: Steady + Drop>(
     ensures base { complex.new.base ≡ complex.old.base }
     ensures since { complex.new.since ≡ complex.old.since }
     ensures id { member.new.id ≡ member.old.id }
-    ensures book { OnOk result (complex.new.book ≡ complex.old.book) }
+    ensures apart { P.tells → Apart (P.view complex.old.plant) (P.view complex.new.plant) }
+    ensures book { complex.new.book ≡ complex.old.book }
     ensures last { IsLastPart P.tells member.old.id step (given_in (run complex.old.base (kept_all complex.old.journal.batches)) member.old.id step (drop_groups ∷ [])) (Refused (SpoolLost volume)) member.new.batch
         complex.old.journal.batches (end_of complex.new.placed complex.new.current complex.new.journal.batches)
         complex.old.pair.first.alive complex.new.pair.first.alive complex.old.pair.second.alive complex.new.pair.second.alive
@@ -211,7 +215,7 @@ fn spool_taken<P: Plant + Drop, C: Steady + Drop>(
     ensures base { complex.new.base ≡ complex.old.base }
     ensures since { complex.new.since ≡ complex.old.since }
     ensures id { member.new.id ≡ member.old.id }
-    ensures book { OnOk result (complex.new.book ≡ complex.old.book) }
+    ensures book { LeavesBook result member.old.id complex.old.book complex.new.book }
     ensures keeps { IsKeeping P.tells member.old.id (batches_in (member.old.batch ∷ []))
         complex.old.journal.batches (end_of complex.new.placed complex.new.current complex.new.journal.batches)
         complex.old.pair.first.alive complex.new.pair.first.alive complex.old.pair.second.alive complex.new.pair.second.alive
@@ -269,7 +273,7 @@ fn spool_and_end<P: Plant + Drop, C: Steady + Drop>(
     ensures base { complex.new.base ≡ complex.old.base }
     ensures since { complex.new.since ≡ complex.old.since }
     ensures id { member.new.id ≡ member.old.id }
-    ensures book { OnOk result (complex.new.book ≡ complex.old.book) }
+    ensures book { LeavesBook result member.old.id complex.old.book complex.new.book }
     ensures step { IsSpoolStep P.tells member.old.id step complex.old.base.config.groups (run complex.old.base (kept_all complex.old.journal.batches ++ member.old.batch)) job specs member.old.batch member.new.batch
         complex.old.journal.batches (end_of complex.new.placed complex.new.current complex.new.journal.batches)
         complex.old.pair.first.alive complex.new.pair.first.alive complex.old.pair.second.alive complex.new.pair.second.alive
@@ -322,7 +326,7 @@ pub(crate) fn end_job<P: Plant + Drop, C: Steady + Drop>(
     ensures base { complex.new.base ≡ complex.old.base }
     ensures since { complex.new.since ≡ complex.old.since }
     ensures id { member.new.id ≡ member.old.id }
-    ensures book { OnOk result (complex.new.book ≡ complex.old.book) }
+    ensures book { LeavesBook result member.old.id complex.old.book complex.new.book }
     ensures step { IsEndStep P.tells member.old.id step complex.old.base.config.groups (run complex.old.base (kept_all complex.old.journal.batches)) job specs member.new.batch
         complex.old.journal.batches (end_of complex.new.placed complex.new.current complex.new.journal.batches)
         complex.old.pair.first.alive complex.new.pair.first.alive complex.old.pair.second.alive complex.new.pair.second.alive

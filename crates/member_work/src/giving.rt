@@ -42,7 +42,7 @@ fn is_cancelled(tables: &Tables, job: JobNo) -> bool
 }
 
 /// The groups that Ended with these outputs needs of the member: none for a cancelled job.
-pub(crate) fn groups_for_end(tables: &Tables, job: JobNo, specs: &[OutSpec]) -> u32
+pub fn groups_for_end(tables: &Tables, job: JobNo, specs: &[OutSpec]) -> u32
     requires { AreOutputs specs.now }
     ensures groups { (Q : Queue) → Tell tables.now Q → result ≡ groups_for_end_lem Q job specs.now }
     ensures all { 1 ≤ result → result ≡ groups_of_outputs_lem specs.now }

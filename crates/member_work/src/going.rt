@@ -17,7 +17,7 @@ ghost use Rattle.member_decks.specs.Steps.{AreOf, SpoolStops};
 ghost use Rattle.job_outcome.specs.Next.{IsNamedEnd};
 ghost use Rattle.job_outcome.specs.Outcomes.{AreFitOutputs, IsNamedOutcome};
 ghost use Rattle.member_work.specs.JobSteps.{IsOutcomeStep, IsTextStep};
-ghost use Rattle.member_work.specs.Steps.{HasCopy, IsAtWork, IsKeeping, IsLookedAt, IsStepUntold, IsTold, IsUnderWay};
+ghost use Rattle.member_work.specs.Steps.{HasCopy, IsAtWork, IsKeeping, IsLookedAt, IsStepUntold, IsTold, IsUnderWay, LeavesBook};
 
 use crate::closing::hold_again;
 use crate::ending::end_job;
@@ -59,7 +59,7 @@ fn look_up<P: Plant + Drop, C: Steady + Drop>(
     ensures first { complex.new.first ≡ complex.old.first }
     ensures second { complex.new.second ≡ complex.old.second }
     ensures level { complex.new.level ≡ complex.old.level }
-    ensures book { OnOk result (complex.new.book ≡ complex.old.book) }
+    ensures book { LeavesBook result member.now.id complex.old.book complex.new.book }
     ensures unreserved { OnOk result (complex.new.reserved ≡ None) }
     ensures acts { OnVolumes P.tells member.now.id.0 (P.view complex.old.plant) (P.view complex.new.plant) }
     ensures looked { IfOk result (IsLookedAt P.tells runs complex.old.base.config.groups member.now.id (run complex.old.base (kept_all complex.old.journal.batches)) job.now.number (P.view complex.old.plant) (P.view complex.new.plant)) }
@@ -97,7 +97,7 @@ fn read_job<P: Plant + Drop, C: Steady + Drop>(
     ensures since { complex.new.since ≡ complex.old.since }
     ensures journal { complex.new.journal ≡ complex.old.journal }
     ensures id { member.new.id ≡ member.old.id }
-    ensures book { OnOk result (complex.new.book ≡ complex.old.book) }
+    ensures book { LeavesBook result member.old.id complex.old.book complex.new.book }
     ensures keeps { IsKeeping P.tells member.old.id [] complex.old.journal.batches (end_of complex.new.placed complex.new.current complex.new.journal.batches)
         complex.old.pair.first.alive complex.new.pair.first.alive complex.old.pair.second.alive complex.new.pair.second.alive
         (P.view complex.old.plant) (P.view complex.new.plant) result }
@@ -149,7 +149,7 @@ fn go_on<P: Plant + Drop, C: Steady + Drop>(
     ensures base { complex.new.base ≡ complex.old.base }
     ensures since { complex.new.since ≡ complex.old.since }
     ensures id { member.new.id ≡ member.old.id }
-    ensures book { OnOk result (complex.new.book ≡ complex.old.book) }
+    ensures book { LeavesBook result member.old.id complex.old.book complex.new.book }
     ensures step { IsOutcomeStep P.tells member.old.id step complex.old.base.config.groups (run complex.old.base (kept_all complex.old.journal.batches)) job outcome member.new.batch
         complex.old.journal.batches (end_of complex.new.placed complex.new.current complex.new.journal.batches)
         complex.old.pair.first.alive complex.new.pair.first.alive complex.old.pair.second.alive complex.new.pair.second.alive
@@ -202,7 +202,7 @@ pub(crate) fn play_text<P: Plant + Drop, C: Steady + Drop>(
     ensures base { complex.new.base ≡ complex.old.base }
     ensures since { complex.new.since ≡ complex.old.since }
     ensures id { member.new.id ≡ member.old.id }
-    ensures book { OnOk result (complex.new.book ≡ complex.old.book) }
+    ensures book { LeavesBook result member.old.id complex.old.book complex.new.book }
     ensures step { IsTextStep P.tells runs member.old.id step complex.old.base.config.groups (run complex.old.base (kept_all complex.old.journal.batches)) job.now.number member.new.batch
         complex.old.journal.batches (end_of complex.new.placed complex.new.current complex.new.journal.batches)
         complex.old.pair.first.alive complex.new.pair.first.alive complex.old.pair.second.alive complex.new.pair.second.alive

@@ -1,5 +1,5 @@
 //! Whether the text of a job, or of an output, is gone.
-ghost use Rattle.std.specs.Prelude.{◌≡◌, ◌&&◌, Some};
+ghost use Rattle.std.specs.Prelude.{◌≡◌, ◌&&◌, None, Some, if◌then◌else◌};
 ghost use Rattle.std.specs.List.{list_any};
 ghost use Rattle.std.specs.Option.{option_copied};
 ghost use Rattle.mas_types.specs.declared.jobs.Job.{Job as JobLem};
@@ -87,6 +87,19 @@ fn is_brought_in(job: JobNo, batches: &[Batch]) -> bool
     batches.iter().any(|batch| is_brought_by(job, batch))
 }
 
+// The group with which the text was gone, unless one of these batches brought a job of this number. They aren't looked at where it was whole.
+fn unless_brought(job: JobNo, gone: Option<GroupNo>, batches: &[Batch]) -> Option<GroupNo>
+    ensures { result ≡ (if list_any (λ b. is_kept_lem b.fate && is_brought_lem job b.entries) batches.now then None else gone) }
+{
+    if gone.is_none() {
+        return None;
+    }
+    if is_brought_in(job, batches) {
+        return None;
+    }
+    gone
+}
+
 /// The group with which a job's text is gone, None where it is whole; where content is told, exactly. A text is gone only where it was when
 /// the run began: so this is the base's, unless a job of this number was begun or entered since.
 pub fn gone_deck<P: Plant + Drop, C: Steady + Drop>(
@@ -99,10 +112,8 @@ pub fn gone_deck<P: Plant + Drop, C: Steady + Drop>(
     ensures gone { P.tells → (j : JobLem) → job_at_lem (run complex.now.base (kept_all complex.now.journal.batches)) job ≡ Some j → result ≡ gone_with_lem j.text }
 {
     kept_replies(complex);
-    if is_brought_in(job, complex.journal.batches.as_slice()) {
-        return None;
-    }
-    gone_in(&complex.base, job)
+    let batches = complex.journal.batches.as_slice();
+    unless_brought(job, gone_in(&complex.base, job), batches)
 }
 
 fn output_at(queue: &Queue, job: JobNo, index: OutNo) -> Option<&Output>
@@ -158,9 +169,22 @@ fn gone_output_in(queue: &Queue, job: JobNo, index: OutNo) -> Option<GroupNo>
     }
 }
 
+// The same of an output's text, unless one of the batches brought outputs of its job.
+fn unless_outputs_brought(job: JobNo, gone: Option<GroupNo>, batches: &[Batch]) -> Option<GroupNo>
+    ensures { result ≡ (if list_any (λ b. is_kept_lem b.fate && are_outputs_brought_lem job b.entries) batches.now then None else gone) }
+{
+    if gone.is_none() {
+        return None;
+    }
+    if are_outputs_brought_in(job, batches) {
+        return None;
+    }
+    gone
+}
+
 /// The group with which an output's text is gone, None where it is whole; where content is told, exactly. A text is gone only where it was
 /// when the run began: so this is the base's, unless outputs of its job were brought since.
-pub(crate) fn gone_output<P: Plant + Drop, C: Steady + Drop>(
+pub fn gone_output<P: Plant + Drop, C: Steady + Drop>(
     complex: &Complex<P, C>,
     job: JobNo,
     index: OutNo,
@@ -171,8 +195,6 @@ pub(crate) fn gone_output<P: Plant + Drop, C: Steady + Drop>(
 {
     kept_replies(complex);
     complex.kept_given();
-    if are_outputs_brought_in(job, complex.journal.batches.as_slice()) {
-        return None;
-    }
-    gone_output_in(&complex.base, job, index)
+    let batches = complex.journal.batches.as_slice();
+    unless_outputs_brought(job, gone_output_in(&complex.base, job, index), batches)
 }

@@ -16,9 +16,15 @@ mod reading;
 mod spooling;
 mod working;
 
+pub use closing::{close_work, give_up, keep_given};
+pub use ending::{drop_given, end_given, take_given};
 pub use examples::examples_of_work_steps;
-pub use gone::gone_deck;
+pub use giving::groups_for_end;
+pub use gone::{gone_deck, gone_output};
 pub use laws::{kept_replies, law_of_calm_work};
 pub use locked::play_locked_work;
+pub use playing::command_of;
+pub use printing::{chunk_end, print_text};
 pub use reading::read_text;
-pub use working::play_work;
+pub use spooling::{groups_of_outputs, write_and_sync};
+pub use working::{play_command as give_command, play_work};

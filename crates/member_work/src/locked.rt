@@ -1,5 +1,5 @@
 //! A work step of a member that takes the lock.
-ghost use Rattle.std.specs.Prelude.{◌≡◌, ◌+◌, ◌≤◌, ◌<◌, length, true, false, None, Some, OnOk};
+ghost use Rattle.std.specs.Prelude.{◌≡◌, ◌+◌, ◌≤◌, ◌<◌, length, true, false, None, Some, IfErr, OnOk};
 ghost use Rattle.mas_types.specs.declared.ids.Dev.TheVariants.{Ckpt1, Ckpt2};
 ghost use Rattle.mas_types.specs.Limits.{members_most};
 ghost use Rattle.mas_types.specs.Queue.{is_member};
@@ -10,11 +10,11 @@ ghost use Rattle.spool_disk.specs.View.{disk_now};
 ghost use Rattle.mas_complex.specs.Crash.{setting};
 ghost use Rattle.mas_complex.specs.Journals.{end_of, kept_all};
 ghost use Rattle.mas_complex.specs.Meaning.{run};
-ghost use Rattle.member_node.specs.Reads.{IsCalm, ReadsLow, orders_after, too_high};
+ghost use Rattle.member_node.specs.Reads.{IsCalm, ReadsLow, too_high};
 ghost use Rattle.member_steps.specs.Locked.{IsDenial, IsOpenTo, denied_lines};
 ghost use Rattle.member_steps.specs.Steps.{AreAllKept, IsAtLock, IsToldSound};
 ghost use Rattle.spool_volumes.specs.Volumes.{AreRoomy};
-ghost use Rattle.member_work.specs.Steps.{IsCount, IsStepUntold, IsWorkStep, levels_in};
+ghost use Rattle.member_work.specs.Steps.{EndsWith, IsCount, IsStepUntold, IsWorkStep, levels_in};
 
 use crate::working::play_work;
 use mas_complex::{Complex, Steady};
@@ -28,7 +28,8 @@ use std::alloc::Global;
 /// units of work, 1 to 9999, and gives the lock up. Its checkpoint may be of any time: another member may have written since. Where the
 /// member doesn't get the lock the step closes with why, and nothing else is done.
 ///
-/// The errors are those of `play_work`. After one the member may hold the lock still, and can't go on.
+/// The errors are those of `play_work`. After one the member can't go on. If it got the lock it holds it still, unless memory wanted or it was
+/// stopped amid acts on the volumes and its printer: for these it had given the lock up.
 pub fn play_locked_work<P: Plant + Drop, C: Steady + Drop>(
     member: &mut Member,
     alloc: Global,
@@ -53,13 +54,13 @@ pub fn play_locked_work<P: Plant + Drop, C: Steady + Drop>(
     requires untold { P.tells → IsStepUntold (setting C.reads complex.old.base complex.old.since) member.old.id step (P.view complex.old.plant) }
     requires since { complex.old.since ≤ (P.view complex.old.plant).now }
     requires roomy { P.tells → AreRoomy (P.view complex.old.plant) complex.old.base.config }
-    requires orders { orders_after (length complex.old.journal.batches + levels_in units) < too_high }
     requires level { complex.old.level + levels_in units < too_high }
     ensures base { complex.new.base ≡ complex.old.base }
     ensures since { complex.new.since ≡ complex.old.since }
     ensures id { member.new.id ≡ member.old.id }
     ensures lock { OnOk result (IsOpenTo complex.new.book complex.new.reserved member.old.id) }
     ensures book { OnOk result (complex.new.book ≡ after_free (after_try complex.old.book member.old.id false) member.old.id false) }
+    ensures held { IfErr result (λ e. EndsWith e member.old.id (after_try complex.old.book member.old.id false) complex.new.book) }
     ensures granted { try_refusal complex.old.book member.old.id false ≡ None
         → IsWorkStep P.tells member.old.id step complex.old.base.config.groups units (run complex.old.base (kept_all complex.old.journal.batches))
         complex.old.journal.batches (end_of complex.new.placed complex.new.current complex.new.journal.batches)

@@ -11,7 +11,7 @@ ghost use Rattle.member_decks.specs.Steps.{SpoolStops};
 ghost use Rattle.job_outcome.specs.Outcomes.{AreFitOutputs, IsNamedOutcome};
 ghost use Rattle.member_work.specs.Reading.{OnlyReads};
 ghost use Rattle.member_work.specs.Rounds.{IsWhole};
-ghost use Rattle.member_work.specs.Steps.{IsAtWork, IsLookedAt, IsTold};
+ghost use Rattle.member_work.specs.Steps.{IsAtWork, IsLookedAt, IsTold, LeavesBook};
 
 use crate::reading::read_text;
 use job_outcome::{Outcome, outcome_of};
@@ -48,7 +48,7 @@ pub(crate) fn look_at<P: Plant + Drop, C: Steady + Drop>(
     ensures first { complex.new.first ≡ complex.old.first }
     ensures second { complex.new.second ≡ complex.old.second }
     ensures level { complex.new.level ≡ complex.old.level }
-    ensures book { OnOk result (complex.new.book ≡ complex.old.book) }
+    ensures book { LeavesBook result member.now.id complex.old.book complex.new.book }
     ensures unreserved { OnOk result (complex.new.reserved ≡ None) }
     ensures acts { OnVolumes P.tells member.now.id.0 (P.view complex.old.plant) (P.view complex.new.plant) }
     ensures reads { OnlyReads P.tells (P.view complex.old.plant) (P.view complex.new.plant) }

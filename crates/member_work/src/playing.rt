@@ -15,7 +15,7 @@ ghost use Rattle.mas_complex.specs.Meaning.{run};
 ghost use Rattle.member_node.specs.Reads.{orders_after, too_high};
 ghost use Rattle.member_decks.specs.Steps.{AreOf};
 ghost use Rattle.job_outcome.specs.Next.{IsNamedEnd};
-ghost use Rattle.member_work.specs.Steps.{HasCopy, IsAtWork, IsJobStep, IsStepUntold, IsUnderWay, IsUnitStep};
+ghost use Rattle.member_work.specs.Steps.{HasCopy, IsAtWork, IsJobStep, IsStepUntold, IsUnderWay, IsUnitStep, LeavesBook};
 ghost use Rattle.member_work.specs.Units.{command_of as command_of_lem};
 
 use crate::closing::keep_given;
@@ -32,8 +32,8 @@ use queue_texts::law_of_texts;
 use spool_disk::Plant;
 use std::alloc::Global;
 
-// The one command of a unit; none of one that reads a text, or that doesn't apply.
-fn command_of(unit: Unit) -> Option<Command>
+/// The one command of a unit; none of one that reads a text, or that doesn't apply.
+pub fn command_of(unit: Unit) -> Option<Command>
     ensures { result ≡ command_of_lem unit }
 {
     match unit {
@@ -77,7 +77,7 @@ fn play_job<P: Plant + Drop, C: Steady + Drop>(
     ensures base { complex.new.base ≡ complex.old.base }
     ensures since { complex.new.since ≡ complex.old.since }
     ensures id { member.new.id ≡ member.old.id }
-    ensures book { OnOk result (complex.new.book ≡ complex.old.book) }
+    ensures book { LeavesBook result member.old.id complex.old.book complex.new.book }
     ensures step { IsJobStep P.tells runs member.old.id step complex.old.base.config.groups (run complex.old.base (kept_all complex.old.journal.batches ++ member.old.batch)) number member.old.batch member.new.batch spent.old spent.new
         complex.old.journal.batches (end_of complex.new.placed complex.new.current complex.new.journal.batches)
         complex.old.pair.first.alive complex.new.pair.first.alive complex.old.pair.second.alive complex.new.pair.second.alive
@@ -130,7 +130,7 @@ pub(crate) fn play_unit<P: Plant + Drop, C: Steady + Drop>(
     ensures base { complex.new.base ≡ complex.old.base }
     ensures since { complex.new.since ≡ complex.old.since }
     ensures id { member.new.id ≡ member.old.id }
-    ensures book { OnOk result (complex.new.book ≡ complex.old.book) }
+    ensures book { LeavesBook result member.old.id complex.old.book complex.new.book }
     ensures step { IsUnitStep P.tells member.old.id step complex.old.base.config.groups (run complex.old.base (kept_all complex.old.journal.batches ++ member.old.batch)) member.old.batch member.new.batch spent.old spent.new
         complex.old.journal.batches (end_of complex.new.placed complex.new.current complex.new.journal.batches)
         complex.old.pair.first.alive complex.new.pair.first.alive complex.old.pair.second.alive complex.new.pair.second.alive

@@ -22,10 +22,10 @@ ghost use Rattle.member_node.specs.Reads.{orders_after, too_high};
 ghost use Rattle.member_decks.specs.Steps.{AreOf, SpoolStops};
 ghost use Rattle.job_outcome.specs.declared.outcomes.Read.TheVariants.{Lines as LinesRead};
 ghost use Rattle.job_outcome.specs.Next.{IsNamedEnd};
-ghost use Rattle.member_work.specs.Printing.{IsBeside, IsChunkOf, IsLinesPrinted, IsLinesStep, IsMarkStep, IsPrinted, IsPrinting, IsPrintStep, IsToldOutput, MayPrintTo};
+ghost use Rattle.member_work.specs.Printing.{IsBeside, IsBookAfterLines, IsChunkOf, IsLinesPrinted, IsLinesStep, IsMarkStep, IsPrinted, IsPrinting, IsPrintStep, IsToldOutput, MayPrintTo};
 ghost use Rattle.member_work.specs.Reading.{IsCounted};
 ghost use Rattle.member_work.specs.Rounds.{IsWhole};
-ghost use Rattle.member_work.specs.Steps.{HasCopy, IsAtWork, IsKeeping, IsStepUntold};
+ghost use Rattle.member_work.specs.Steps.{HasCopy, IsAtWork, IsKeeping, IsStepUntold, LeavesBook};
 
 use crate::closing::{hold_again, keep_given};
 use crate::gone::gone_output;
@@ -56,9 +56,9 @@ fn limit_at(tables: &Tables, by: MemberId) -> u16
     }
 }
 
-// The last line of an output that is printed next: as many behind its mark as the member's printer prints at a time, but none above its
-// total.
-fn chunk_end(tables: &Tables, by: MemberId, output: &OutRec) -> u32
+/// The last line of an output that is printed next: as many behind its mark as the member's printer prints at a time, but none above its
+/// total.
+pub fn chunk_end(tables: &Tables, by: MemberId, output: &OutRec) -> u32
     requires spelled { HasSpelling tables.now }
     ensures limit { result ≤ output.now.mark + printer_lines_most }
     ensures total { result ≤ output.now.lines * output.now.copies }
@@ -95,7 +95,7 @@ fn print_lines<P: Plant + Drop, C: Steady + Drop>(
     ensures first { complex.new.first ≡ complex.old.first }
     ensures second { complex.new.second ≡ complex.old.second }
     ensures level { complex.new.level ≡ complex.old.level }
-    ensures book { OnOk result (complex.new.book ≡ complex.old.book) }
+    ensures book { IsBookAfterLines result by complex.old.book complex.new.book }
     ensures reserved { OnOk result (complex.new.reserved ≡ complex.old.reserved) }
     ensures acts { IsBeside P.tells (P.view complex.old.plant) (P.view complex.new.plant) }
     ensures printed { IfOk result (IsLinesPrinted by (LinesRead text.now) (P.view complex.old.plant) (P.view complex.new.plant)) }
@@ -116,8 +116,8 @@ fn print_lines<P: Plant + Drop, C: Steady + Drop>(
     Ok(None)
 }
 
-// Prints the lines of an output with this text up to this one, and answers None where they stand on paper, else how the unit is refused.
-fn print_text<P: Plant + Drop, C: Steady + Drop>(
+/// Prints the lines of an output with this text up to this one, and answers None where they stand on paper, else how the unit is refused.
+pub fn print_text<P: Plant + Drop, C: Steady + Drop>(
     complex: &mut Complex<P, C>,
     alloc: Global,
     by: MemberId,
@@ -142,7 +142,7 @@ fn print_text<P: Plant + Drop, C: Steady + Drop>(
     ensures first { complex.new.first ≡ complex.old.first }
     ensures second { complex.new.second ≡ complex.old.second }
     ensures level { complex.new.level ≡ complex.old.level }
-    ensures book { OnOk result (complex.new.book ≡ complex.old.book) }
+    ensures book { IsBookAfterLines result by complex.old.book complex.new.book }
     ensures reserved { OnOk result (complex.new.reserved ≡ complex.old.reserved) }
     ensures acts { IsBeside P.tells (P.view complex.old.plant) (P.view complex.new.plant) }
     ensures printed { IfOk result (IsLinesPrinted by read.now (P.view complex.old.plant) (P.view complex.new.plant)) }
@@ -185,7 +185,7 @@ fn print_at<P: Plant + Drop, C: Steady + Drop>(
     ensures first { complex.new.first ≡ complex.old.first }
     ensures second { complex.new.second ≡ complex.old.second }
     ensures level { complex.new.level ≡ complex.old.level }
-    ensures book { OnOk result (complex.new.book ≡ complex.old.book) }
+    ensures book { LeavesBook result member.now.id complex.old.book complex.new.book }
     ensures unreserved { OnOk result (complex.new.reserved ≡ None) }
     ensures acts { IsBeside P.tells (P.view complex.old.plant) (P.view complex.new.plant) }
     ensures printed { IfOk result (IsPrinted P.tells complex.old.base.config.groups (run complex.old.base (kept_all complex.old.journal.batches)) member.now.id output.now.job output.now.index (P.view complex.old.plant) (P.view complex.new.plant)) }
@@ -236,7 +236,7 @@ fn print_up_to<P: Plant + Drop, C: Steady + Drop>(
     ensures first { complex.new.first ≡ complex.old.first }
     ensures second { complex.new.second ≡ complex.old.second }
     ensures level { complex.new.level ≡ complex.old.level }
-    ensures book { OnOk result (complex.new.book ≡ complex.old.book) }
+    ensures book { LeavesBook result member.now.id complex.old.book complex.new.book }
     ensures unreserved { OnOk result (complex.new.reserved ≡ None) }
     ensures acts { IsBeside P.tells (P.view complex.old.plant) (P.view complex.new.plant) }
     ensures printed { IfOk result (IsPrinted P.tells complex.old.base.config.groups (run complex.old.base (kept_all complex.old.journal.batches)) member.now.id output.now.job output.now.index (P.view complex.old.plant) (P.view complex.new.plant)) }
@@ -276,7 +276,7 @@ fn print_and_hold<P: Plant + Drop, C: Steady + Drop>(
     ensures since { complex.new.since ≡ complex.old.since }
     ensures journal { complex.new.journal ≡ complex.old.journal }
     ensures id { member.new.id ≡ member.old.id }
-    ensures book { OnOk result (complex.new.book ≡ complex.old.book) }
+    ensures book { LeavesBook result member.old.id complex.old.book complex.new.book }
     ensures keeps { IsKeeping P.tells member.old.id []
         complex.old.journal.batches (end_of complex.new.placed complex.new.current complex.new.journal.batches)
         complex.old.pair.first.alive complex.new.pair.first.alive complex.old.pair.second.alive complex.new.pair.second.alive
@@ -329,7 +329,7 @@ fn mark_printed<P: Plant + Drop, C: Steady + Drop>(
     ensures base { complex.new.base ≡ complex.old.base }
     ensures since { complex.new.since ≡ complex.old.since }
     ensures id { member.new.id ≡ member.old.id }
-    ensures book { OnOk result (complex.new.book ≡ complex.old.book) }
+    ensures book { complex.new.book ≡ complex.old.book }
     ensures step { IsMarkStep P.tells member.old.id step (run complex.old.base (kept_all complex.old.journal.batches)) output.now.job output.now.index last end member.new.batch
         complex.old.journal.batches (end_of complex.new.placed complex.new.current complex.new.journal.batches)
         complex.old.pair.first.alive complex.new.pair.first.alive complex.old.pair.second.alive complex.new.pair.second.alive
@@ -387,7 +387,7 @@ fn play_lines<P: Plant + Drop, C: Steady + Drop>(
     ensures base { complex.new.base ≡ complex.old.base }
     ensures since { complex.new.since ≡ complex.old.since }
     ensures id { member.new.id ≡ member.old.id }
-    ensures book { OnOk result (complex.new.book ≡ complex.old.book) }
+    ensures book { LeavesBook result member.old.id complex.old.book complex.new.book }
     ensures step { IsLinesStep P.tells member.old.id step complex.old.base.config.groups (run complex.old.base (kept_all complex.old.journal.batches)) output.now.job output.now.index last member.new.batch
         complex.old.journal.batches (end_of complex.new.placed complex.new.current complex.new.journal.batches)
         complex.old.pair.first.alive complex.new.pair.first.alive complex.old.pair.second.alive complex.new.pair.second.alive
@@ -435,7 +435,7 @@ pub(crate) fn play_print<P: Plant + Drop, C: Steady + Drop>(
     ensures base { complex.new.base ≡ complex.old.base }
     ensures since { complex.new.since ≡ complex.old.since }
     ensures id { member.new.id ≡ member.old.id }
-    ensures book { OnOk result (complex.new.book ≡ complex.old.book) }
+    ensures book { LeavesBook result member.old.id complex.old.book complex.new.book }
     ensures step { IsPrintStep P.tells member.old.id step complex.old.base.config.groups (run complex.old.base (kept_all complex.old.journal.batches ++ member.old.batch)) job index member.old.batch member.new.batch spent.old spent.new
         complex.old.journal.batches (end_of complex.new.placed complex.new.current complex.new.journal.batches)
         complex.old.pair.first.alive complex.new.pair.first.alive complex.old.pair.second.alive complex.new.pair.second.alive

@@ -1,5 +1,5 @@
 //! The outputs of a job into a member's groups on the spool volumes.
-ghost use Rattle.std.specs.Prelude.{◌≡◌, ◌≢◌, ◌≤◌, All, None, drop, length, take, true, IfOk, OnOk, Ok};
+ghost use Rattle.std.specs.Prelude.{◌≡◌, ◌≢◌, ◌≤◌, All, None, drop, length, take, true, IfOk, IfErr, OnOk, Ok};
 ghost use Rattle.mas_types.specs.declared.ids.GroupNo.{GroupNo as GroupNoLem};
 ghost use Rattle.mas_types.specs.Fit.{IsOutSpec};
 ghost use Rattle.mas_types.specs.Commands.Life.{groups_of_outputs as groups_of_outputs_lem};
@@ -11,6 +11,7 @@ ghost use Rattle.lock_cycle.specs.Books.{IsMember, after_free, after_try};
 ghost use Rattle.mas_complex.specs.Journals.{kept_all};
 ghost use Rattle.mas_complex.specs.Locking.{IsUp, MayAct};
 ghost use Rattle.mas_complex.specs.Meaning.{run};
+ghost use Rattle.mas_complex.specs.Parts.{parts_of};
 ghost use Rattle.mas_complex.specs.Spool.{IsGroupOf, IsHeldBy};
 ghost use Rattle.mas_complex.specs.Texts.{spools_at};
 ghost use Rattle.member_decks.specs.Spooling.{OnVolumes, Rise, SpoolCauses, page_in};
@@ -18,6 +19,7 @@ ghost use Rattle.spool_volumes.specs.Volumes.{AreRoomy};
 ghost use Rattle.member_decks.specs.Steps.{SpoolStops};
 ghost use Rattle.member_work.specs.Rounds.{IsSpoolLost};
 ghost use Rattle.member_work.specs.Spooled.{AreSpooled, AreWritten};
+ghost use Rattle.member_work.specs.Steps.{EndsWith};
 
 use mas_complex::{Complex, Steady};
 use mas_types::{GroupNo, MemberId, OutSpec};
@@ -29,8 +31,8 @@ use spool_volumes::law_of_read_texts;
 use std::alloc::Global;
 use track_groups::held_by;
 
-// The groups that outputs need, one after another.
-pub(crate) fn groups_of_outputs(specs: &[OutSpec]) -> u32
+/// The groups that outputs need, one after another.
+pub fn groups_of_outputs(specs: &[OutSpec]) -> u32
     requires { AreOutputs specs.now }
     ensures groups { result ≡ groups_of_outputs_lem specs.now }
     ensures few { result ≤ 320000 }
@@ -73,16 +75,7 @@ fn write_outputs<P: Plant + Drop, C: Steady + Drop>(
     requires within { All (IsGroupOf complex.old.base.config) groups.now }
     requires held { P.tells → All (λ g. IsHeldBy by g (run complex.old.base (kept_all complex.old.journal.batches))) groups.now }
     ensures pair { complex.new.pair ≡ complex.old.pair }
-    ensures base { complex.new.base ≡ complex.old.base }
-    ensures since { complex.new.since ≡ complex.old.since }
-    ensures book { complex.new.book ≡ complex.old.book }
-    ensures journal { complex.new.journal ≡ complex.old.journal }
-    ensures current { complex.new.current ≡ complex.old.current }
-    ensures reserved { complex.new.reserved ≡ complex.old.reserved }
-    ensures placed { complex.new.placed ≡ complex.old.placed }
-    ensures first { complex.new.first ≡ complex.old.first }
-    ensures second { complex.new.second ≡ complex.old.second }
-    ensures level { complex.new.level ≡ complex.old.level }
+    ensures frame { parts_of complex.new ≡ record (parts_of complex.old) { plant = complex.new.plant } }
     ensures acts { OnVolumes P.tells by.0 (P.view complex.old.plant) (P.view complex.new.plant) }
     ensures cause { SpoolCauses result by.0 complex.old.base.config.groups groups.now (P.view complex.old.plant) (P.view complex.new.plant) }
     ensures stand { OnOk result (P.tells → AreRoomy (P.view complex.old.plant) complex.old.base.config → AreWritten (spools_at (P.view complex.new.plant) (P.view complex.new.plant).now) complex.old.base.config.groups specs.now groups.now) }
@@ -96,8 +89,8 @@ fn write_outputs<P: Plant + Drop, C: Steady + Drop>(
     write_outputs(complex, by, other_groups(groups, count), rest)
 }
 
-// Writes them, and syncs the volumes on which the groups lie.
-fn write_and_sync<P: Plant + Drop, C: Steady + Drop>(
+/// Writes them, and syncs the volumes on which the groups lie.
+pub fn write_and_sync<P: Plant + Drop, C: Steady + Drop>(
     complex: &mut Complex<P, C>,
     by: MemberId,
     groups: &[GroupNo],
@@ -112,16 +105,7 @@ fn write_and_sync<P: Plant + Drop, C: Steady + Drop>(
     requires within { All (IsGroupOf complex.old.base.config) groups.now }
     requires held { P.tells → All (λ g. IsHeldBy by g (run complex.old.base (kept_all complex.old.journal.batches))) groups.now }
     ensures pair { complex.new.pair ≡ complex.old.pair }
-    ensures base { complex.new.base ≡ complex.old.base }
-    ensures since { complex.new.since ≡ complex.old.since }
-    ensures book { complex.new.book ≡ complex.old.book }
-    ensures journal { complex.new.journal ≡ complex.old.journal }
-    ensures current { complex.new.current ≡ complex.old.current }
-    ensures reserved { complex.new.reserved ≡ complex.old.reserved }
-    ensures placed { complex.new.placed ≡ complex.old.placed }
-    ensures first { complex.new.first ≡ complex.old.first }
-    ensures second { complex.new.second ≡ complex.old.second }
-    ensures level { complex.new.level ≡ complex.old.level }
+    ensures frame { parts_of complex.new ≡ record (parts_of complex.old) { plant = complex.new.plant } }
     ensures acts { OnVolumes P.tells by.0 (P.view complex.old.plant) (P.view complex.new.plant) }
     ensures cause { SpoolCauses result by.0 complex.old.base.config.groups groups.now (P.view complex.old.plant) (P.view complex.new.plant) }
     ensures there { OnOk result (P.tells → AreRoomy (P.view complex.old.plant) complex.old.base.config → AreSpooled (spools_at (P.view complex.new.plant) (P.view complex.new.plant).now) complex.old.base.config.groups specs.now groups.now) }
@@ -161,6 +145,7 @@ pub(crate) fn spool_outputs<P: Plant + Drop, C: Steady + Drop>(
     ensures second { complex.new.second ≡ complex.old.second }
     ensures level { complex.new.level ≡ complex.old.level }
     ensures book { OnOk result (complex.new.book ≡ after_try (after_free complex.old.book member.now.id true) member.now.id true) }
+    ensures held { IfErr result (λ e. EndsWith e member.now.id complex.old.book complex.new.book) }
     ensures unreserved { OnOk result (complex.new.reserved ≡ None) }
     ensures acts { OnVolumes P.tells member.now.id.0 (P.view complex.old.plant) (P.view complex.new.plant) }
     ensures lost { IfOk result (λ lost. IsSpoolLost complex.old.base.config.groups (take needed (held_by_lem member.now.id member.now.checkpoint.tables.owners)) lost (P.view complex.old.plant) (P.view complex.new.plant)) }

@@ -16,13 +16,14 @@ ghost use Rattle.mas_complex.specs.Journals.{end_of, kept_all};
 ghost use Rattle.mas_complex.specs.Locking.{MayAct};
 ghost use Rattle.mas_complex.specs.Meaning.{run};
 ghost use Rattle.mas_complex.specs.Paper.{counts_of};
+ghost use Rattle.member_node.specs.Calls.{Apart};
 ghost use Rattle.member_node.specs.Copies.{RestsAt};
 ghost use Rattle.member_node.specs.Reads.{AreLow, orders_after, too_high};
 ghost use Rattle.member_steps.specs.Steps.{AreAllKept, IsBetween};
 ghost use Rattle.spool_volumes.specs.Volumes.{AreRoomy};
 ghost use Rattle.member_decks.specs.Steps.{AreOf};
 ghost use Rattle.job_outcome.specs.Next.{IsNamedEnd};
-ghost use Rattle.member_work.specs.Steps.{HasCopy, IsAtWork, IsCommanded, IsCount, IsKeeping, IsRest, IsStepUntold, IsWorkStep, IsWorking, levels_in};
+ghost use Rattle.member_work.specs.Steps.{HasCopy, IsAtWork, IsCommanded, IsCount, IsKeeping, IsRest, IsStepUntold, IsWorkStep, IsWorking, LeavesBook, levels_in};
 ghost use Rattle.member_work.specs.Work.{batches_in};
 
 use crate::closing::{close_work, give_up, hold_again, keep_given};
@@ -40,7 +41,7 @@ const BATCH_MOST: usize = 64;
 
 /// Plays a unit of one command, which brings no text; a Mark is one of lines that the member has printed. Where memory wants what was
 /// given before is kept.
-pub(crate) fn play_command<P: Plant + Drop, C: Steady + Drop>(
+pub fn play_command<P: Plant + Drop, C: Steady + Drop>(
     member: &mut Member,
     alloc: Global,
     complex: &mut Complex<P, C>,
@@ -68,7 +69,8 @@ pub(crate) fn play_command<P: Plant + Drop, C: Steady + Drop>(
     ensures base { complex.new.base ≡ complex.old.base }
     ensures since { complex.new.since ≡ complex.old.since }
     ensures id { member.new.id ≡ member.old.id }
-    ensures book { OnOk result (complex.new.book ≡ complex.old.book) }
+    ensures apart { P.tells → Apart (P.view complex.old.plant) (P.view complex.new.plant) }
+    ensures book { complex.new.book ≡ complex.old.book }
     ensures played { IsCommanded P.tells member.old.id step command (run complex.old.base (kept_all complex.old.journal.batches ++ member.old.batch)) member.old.batch member.new.batch
         complex.old.journal.batches (end_of complex.new.placed complex.new.current complex.new.journal.batches)
         complex.old.pair.first.alive complex.new.pair.first.alive complex.old.pair.second.alive complex.new.pair.second.alive
@@ -111,7 +113,7 @@ fn give_way<P: Plant + Drop, C: Steady + Drop>(
     ensures base { complex.new.base ≡ complex.old.base }
     ensures since { complex.new.since ≡ complex.old.since }
     ensures id { member.new.id ≡ member.old.id }
-    ensures book { OnOk result (complex.new.book ≡ complex.old.book) }
+    ensures book { complex.new.book ≡ complex.old.book }
     ensures nothing { OnOk result (member.new.batch ≡ []) }
     ensures keeps { IsKeeping P.tells member.old.id (batches_in (member.old.batch ∷ []))
         complex.old.journal.batches (end_of complex.new.placed complex.new.current complex.new.journal.batches)
@@ -152,7 +154,7 @@ fn rest<P: Plant + Drop, C: Steady + Drop>(
     ensures base { complex.new.base ≡ complex.old.base }
     ensures since { complex.new.since ≡ complex.old.since }
     ensures id { member.new.id ≡ member.old.id }
-    ensures book { OnOk result (complex.new.book ≡ complex.old.book) }
+    ensures book { complex.new.book ≡ complex.old.book }
     ensures rest { IsRest P.tells member.old.id complex.old.base.config.hold member.old.batch member.new.batch spent.old spent.new
         complex.old.journal.batches (end_of complex.new.placed complex.new.current complex.new.journal.batches)
         complex.old.pair.first.alive complex.new.pair.first.alive complex.old.pair.second.alive complex.new.pair.second.alive
@@ -204,7 +206,7 @@ fn play_units<P: Plant + Drop, C: Steady + Drop>(
     ensures base { complex.new.base ≡ complex.old.base }
     ensures since { complex.new.since ≡ complex.old.since }
     ensures id { member.new.id ≡ member.old.id }
-    ensures book { OnOk result (complex.new.book ≡ complex.old.book) }
+    ensures book { LeavesBook result member.old.id complex.old.book complex.new.book }
     ensures step { IsWorking P.tells member.old.id step complex.old.base.config.groups units (run complex.old.base (kept_all complex.old.journal.batches)) member.new.batch
         complex.old.journal.batches (end_of complex.new.placed complex.new.current complex.new.journal.batches)
         complex.old.pair.first.alive complex.new.pair.first.alive complex.old.pair.second.alive complex.new.pair.second.alive
@@ -278,7 +280,7 @@ pub fn play_work<P: Plant + Drop, C: Steady + Drop>(
     ensures base { complex.new.base ≡ complex.old.base }
     ensures since { complex.new.since ≡ complex.old.since }
     ensures id { member.new.id ≡ member.old.id }
-    ensures book { OnOk result (complex.new.book ≡ complex.old.book) }
+    ensures book { LeavesBook result member.old.id complex.old.book complex.new.book }
     ensures step { IsWorkStep P.tells member.old.id step complex.old.base.config.groups units (run complex.old.base (kept_all complex.old.journal.batches))
         complex.old.journal.batches (end_of complex.new.placed complex.new.current complex.new.journal.batches)
         complex.old.pair.first.alive complex.new.pair.first.alive complex.old.pair.second.alive complex.new.pair.second.alive

@@ -1,4 +1,4 @@
-use Rattle.std.proofs.Common.{◌∙◌, ◌≤◌, ℕ, length, ap, subst, sym, arith, ⊎_elim}
+use Rattle.std.proofs.Common.{◌∙◌, ◌≤◌, ℕ, false, length, ap, subst, sym, arith, ⊎_elim}
 use Rattle.std.proofs.lemmas.Result.{err_from_is_err_and}
 use Rattle.mas_types.specs.declared.ids.Dev.TheVariants.{Ckpt1, Ckpt2}
 use Rattle.spool_disk.specs.View.{disk_now}
@@ -39,7 +39,7 @@ returns-in_err-read_in-clause-acts g c =
     let read = c.in_err-read_in.ensures.read in
     let p = err_from_is_err_and c.from_residual.result c.from_residual.ensures.1 in
     rw (p.1, p.2) (held_not P.tells c.args.member.now.id.0 x.pair.first.alive y.pair.first.alive x.pair.second.alive y.pair.second.alive (P.view x.plant) (P.view y.plant) _
-    (begun_read P.tells x.pair.first.alive y.pair.first.alive x.pair.second.alive y.pair.second.alive (P.view x.plant) (P.view y.plant) read.acts) read.cause)
+    (begun_read P.tells c.args.member.now.id.0 _ x.pair.first.alive y.pair.first.alive x.pair.second.alive y.pair.second.alive (P.view x.plant) (P.view y.plant) read.acts read.spares) read.cause)
 
 -- AND ROOM
 
@@ -65,8 +65,8 @@ returns-clause-acts g c =
     let read = c.in_ok-read_in.ensures.read in
     let settle = rw c.read_in.ensures.id at c.primary.ensures.settle in
     held_by_settle P.tells by.0 x.pair.first.alive z.pair.first.alive x.pair.second.alive z.pair.second.alive (P.view x.plant) (P.view y.plant) (P.view z.plant) c.primary.result y.pair.first.alive y.pair.second.alive
-    (begun_settle P.tells by.0 x.pair.first.alive y.pair.first.alive z.pair.first.alive x.pair.second.alive y.pair.second.alive z.pair.second.alive (P.view x.plant) (P.view y.plant) (P.view z.plant) c.primary.result read.acts settle)
-    (begun_read P.tells x.pair.first.alive y.pair.first.alive x.pair.second.alive y.pair.second.alive (P.view x.plant) (P.view y.plant) read.acts) settle
+    (begun_settle P.tells by.0 x.pair.first.alive y.pair.first.alive z.pair.first.alive x.pair.second.alive y.pair.second.alive z.pair.second.alive (P.view x.plant) (P.view y.plant) (P.view z.plant) c.primary.result read.acts read.spares settle)
+    (begun_read P.tells by.0 false x.pair.first.alive y.pair.first.alive x.pair.second.alive y.pair.second.alive (P.view x.plant) (P.view y.plant) read.acts read.spares) settle
 
 pub returns-clause-here : goal.returns-clause-here
 returns-clause-here g c = ok_of c.primary.result c.in_ok-read_in.ensures.here

@@ -1,4 +1,4 @@
-use Rattle.std.proofs.Common.{◌≡◌, ◌∙◌, ◌+◌, ◌≤◌, ◌<◌, ℕ, true, false, List, [], ◌∷◌, length, None, ap, refl, subst, sym, arith}
+use Rattle.std.proofs.Common.{inl, ◌≡◌, ◌∙◌, ◌+◌, ◌≤◌, ◌<◌, ℕ, true, false, List, [], ◌∷◌, length, None, ap, refl, subst, sym, arith}
 use Rattle.std.proofs.lemmas.Result.{err_from_is_err_and}
 use Rattle.mas_types.specs.declared.answers.Closing.TheVariants.{BadCard}
 use Rattle.mas_types.specs.declared.ids.Dev.TheVariants.{Ckpt1, Ckpt2}
@@ -23,7 +23,7 @@ use Rattle.member_steps.proofs.LockLemmas.{denied_unsaid, is_free, many, may_act
 use Rattle.member_steps.proofs.ReadLemmas.{at_lock, calm_rest, low_later, low_written, told_sound, untold_later}
 use Rattle.member_steps.proofs.StepLemmas.{kept_later, ok_of, untold_by}
 use Rattle.member_decks.specs.Steps.{AreOf}
-use Rattle.member_decks.proofs.HoldLemmas.{book_by, whole_after}
+use Rattle.member_decks.proofs.HoldLemmas.{book_by, holds_as, holds_if, leaves_all, leaves_if, whole_after}
 use Rattle.member_decks.proofs.KeepLemmas.{copies_none}
 use Rattle.member_decks.proofs.LockedLemmas.{card_line, deck_as, one_fault, one_reading}
 use Rattle.member_decks.proofs.OutcomeLemmas.{deck_behind, deck_unbegun}
@@ -659,3 +659,35 @@ returns-clause-calm2 g c =
 
 pub returns-clause-level : goal.returns-clause-level
 returns-clause-level g c = omega (arith, c.free.ensures.level, c.in_ok-play_deck.ensures.reached, c.take_hold.ensures.level, c.lock.ensures.level)
+
+-- WHO HOLDS THE LOCK AFTER AN ERROR
+
+pub returns-in-Err-NoMemory-clause-held : goal.returns-in-Err-NoMemory-clause-held
+returns-in-Err-NoMemory-clause-held g c fields is = inl refl
+
+pub returns-in-Err-clause-held : goal.returns-in-Err-clause-held
+returns-in-Err-clause-held g c fields is =
+    let x = c.args.complex.now in
+    let m = c.args.member.now in
+    leaves_if c.deny.result m.id x.book c.deny.new.complex.book (holds_if c.deny.result m.id (after_try x.book m.id false) c.deny.new.complex.book (c.deny.ensures.book ∙ c.lock.ensures.book))
+
+pub returns-in_err-take_hold-clause-held : goal.returns-in_err-take_hold-clause-held
+returns-in_err-take_hold-clause-held g c fields is =
+    let x = c.args.complex.now in
+    let m = c.args.member.now in
+    let h = c.take_hold.new.complex in
+    leaves_if c.from_residual.result m.id x.book h.book (holds_if c.from_residual.result m.id (after_try x.book m.id false) h.book (c.take_hold.ensures.book ∙ c.lock.ensures.book))
+
+pub returns-in_err-play_deck-clause-held : goal.returns-in_err-play_deck-clause-held
+returns-in_err-play_deck-clause-held g c fields is =
+    let x = c.args.complex.now in
+    let m = c.args.member.now in
+    let h = c.take_hold.new.complex in
+    let n = c.take_hold.new.member in
+    let z = c.play_deck.new.complex in
+    let t = c.take_hold.ensures in
+    let book : h.book ≡ after_try x.book m.id false = t.book ∙ c.lock.ensures.book in
+    let lock = c.requires.lock in
+    let whole : left_of h.book n.id ≡ h.book.hold = book_by (after_try x.book m.id false) h.book m.id n.id book t.id (whole_after x.book m.id lock.member lock.holder lock.up c.in_default.ensures.ok) in
+    let p = err_from_is_err_and c.from_residual-in_err-play_deck.result c.from_residual-in_err-play_deck.ensures.1 in
+    rw (p.1, p.2) (leaves_all c.in_err-play_deck.field-0.0 m.id x.book z.book (holds_as c.in_err-play_deck.field-0.0 m.id n.id (after_try x.book m.id false) h.book z.book t.id book (c.in_err-play_deck.ensures.held whole)))

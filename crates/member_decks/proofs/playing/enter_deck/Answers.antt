@@ -22,7 +22,7 @@ use Rattle.member_steps.specs.Steps.{AreAllKept}
 use Rattle.member_steps.proofs.ReadLemmas.{at_lock, calm_rest, low_later, low_written, same_many, told_sound, untold_later}
 use Rattle.member_steps.proofs.StepLemmas.{kept_later, ok_of, untold_by}
 use Rattle.member_decks.proofs.FinishLemmas.{finish_named, spools_apart}
-use Rattle.member_decks.proofs.HoldLemmas.{acts_again, keeps_book}
+use Rattle.member_decks.proofs.HoldLemmas.{holds_if, acts_again, keeps_book}
 use Rattle.member_decks.proofs.HoldingLemmas.{low_finished}
 use Rattle.member_decks.proofs.OpenLemmas.{on_ok}
 use Rattle.member_decks.proofs.OutcomeLemmas.{rest_finished, rest_unheld, rest_unspooled}
@@ -151,7 +151,7 @@ returns-in_err-take_hold-clause-rest g c =
     let t = c.take_hold.ensures in
     let hold = rw s.pair at c.in_err-take_hold.ensures.acts in
     let p = err_from_is_err_and c.from_residual-in_err-take_hold.result c.from_residual-in_err-take_hold.ensures.1 in
-    rw (p.1, p.2) (rest_unheld P.tells m.id c.args.step x.base.config.groups c.args.job c.args.text (run x.base (kept_all x.journal.batches)) x.journal.batches c.in_ok-lost.lost x.pair.first.alive x.pair.second.alive (P.view x.plant) (P.view z.plant) s.acts c.in_ok-lost.ensures.lost (λ told. c.in_ok-lost.ensures.lies told c.args.job)
+    rw (p.1, p.2) (rest_unheld P.tells m.id c.args.step x.base.config.groups c.args.job c.args.text (run x.base (kept_all x.journal.batches)) x.journal.batches c.in_ok-lost.lost x.pair.first.alive x.pair.second.alive (P.view x.plant) (P.view z.plant) s.acts c.in_ok-lost.ensures.cause c.in_ok-lost.ensures.lost (λ told. c.in_ok-lost.ensures.lies told c.args.job)
     (end_of h.placed h.current h.journal.batches) h.pair.first.alive h.pair.second.alive (P.view h.plant) _ (none_out x.journal.batches h.journal.batches h.placed h.current (ap (λ (j : Journal). j.batches) (t.journal ∙ s.journal)) (t.placed ∙ s.placed ∙ c.requires.between.unplaced) (t.current ∙ s.current ∙ c.requires.between.none)) hold)
 
 -- THE LAST COMMAND
@@ -277,7 +277,7 @@ returns-clause-rest g c =
     let hold = rw s.pair at c.in_ok-take_hold.ensures.acts in
     let finish = finish_named P.tells c.args.step c.args.job c.args.text c.in_ok-lost.lost (end_of w.placed w.current w.journal.batches) h.pair.first.alive w.pair.first.alive h.pair.second.alive w.pair.second.alive (P.view h.plant) (P.view w.plant) c.finish_deck.result
     m.id n.id x.base h.base x.journal.batches h.journal.batches t.id (t.base ∙ s.base) (ap (λ (j : Journal). j.batches) (t.journal ∙ s.journal)) c.finish_deck.ensures.finish in
-    rest_finished P.tells m.id c.args.step x.base.config.groups c.args.job c.args.text (run x.base (kept_all x.journal.batches)) x.journal.batches c.in_ok-lost.lost x.pair.first.alive x.pair.second.alive (P.view x.plant) (P.view z.plant) s.acts c.in_ok-lost.ensures.lost (λ told. c.in_ok-lost.ensures.lies told c.args.job)
+    rest_finished P.tells m.id c.args.step x.base.config.groups c.args.job c.args.text (run x.base (kept_all x.journal.batches)) x.journal.batches c.in_ok-lost.lost x.pair.first.alive x.pair.second.alive (P.view x.plant) (P.view z.plant) s.acts c.in_ok-lost.ensures.cause c.in_ok-lost.ensures.lost (λ told. c.in_ok-lost.ensures.lies told c.args.job)
     (end_of w.placed w.current w.journal.batches) h.pair.first.alive w.pair.first.alive h.pair.second.alive w.pair.second.alive (P.view h.plant) (P.view w.plant) c.finish_deck.result hold finish
 
 pub returns-clause-many : goal.returns-clause-many
@@ -312,3 +312,24 @@ returns-clause-reached g c =
     let level = c.take_hold.ensures.level in
     let first = c.spool_deck.ensures.level in
     on_ok c.finish_deck.result (λ le. omega (arith, level, first, le)) c.finish_deck.ensures.reached
+
+-- WHO HOLDS THE LOCK AFTER AN ERROR
+
+pub returns-in_err-lost-clause-held : goal.returns-in_err-lost-clause-held
+returns-in_err-lost-clause-held g c whole =
+    let p = err_from_is_err_and c.from_residual.result c.from_residual.ensures.1 in
+    rw (p.1, p.2) c.in_err-lost.ensures.held
+
+pub returns-in_err-take_hold-clause-held : goal.returns-in_err-take_hold-clause-held
+returns-in_err-take_hold-clause-held g c whole =
+    let x = c.args.complex.now in
+    let m = c.args.member.now in
+    holds_if c.from_residual-in_err-take_hold.result m.id x.book c.take_hold.new.complex.book
+    (c.take_hold.ensures.book ∙ c.in_ok-lost.ensures.book ∙ keeps_book x.book m.id c.requires.may.holds c.requires.some (c.requires.may.up c.requires.some) whole)
+
+pub returns-clause-held : goal.returns-clause-held
+returns-clause-held g c whole =
+    let x = c.args.complex.now in
+    let m = c.args.member.now in
+    holds_if c.finish_deck.result m.id x.book c.finish_deck.new.complex.book
+    (c.finish_deck.ensures.book ∙ c.take_hold.ensures.book ∙ c.in_ok-lost.ensures.book ∙ keeps_book x.book m.id c.requires.may.holds c.requires.some (c.requires.may.up c.requires.some) whole)

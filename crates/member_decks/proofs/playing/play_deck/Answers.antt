@@ -25,7 +25,7 @@ use Rattle.member_decks.specs.Keeping.{GivesUpLeaves, IsOnCopies, KeepLeaves}
 use Rattle.member_decks.specs.Steps.{AreOf}
 use Rattle.member_decks.specs.Taking.{LeaveOut}
 use Rattle.member_decks.proofs.DeckLemmas.{opened_enough}
-use Rattle.member_decks.proofs.HoldLemmas.{book_by}
+use Rattle.member_decks.proofs.HoldLemmas.{holds_all, holds_if, holds_named, book_by}
 use Rattle.member_decks.proofs.HoldingLemmas.{low_deck, low_opened}
 use Rattle.member_decks.proofs.OpenLemmas.{on_ok, tells_some}
 use Rattle.member_decks.proofs.MayLemmas.{front_begins, opening_begins}
@@ -714,3 +714,23 @@ pub returns-clause-reached : goal.returns-clause-reached
 returns-clause-reached g c =
     let one = c.in_ok-keep_batch.ensures.reached in
     on_ok c.enter_deck.result (λ le. omega (arith, one, le)) c.enter_deck.ensures.reached
+
+-- WHO HOLDS THE LOCK AFTER AN ERROR
+
+pub returns-in_default-clause-held : goal.returns-in_default-clause-held
+returns-in_default-clause-held g c whole = holds_all c.give_up.result c.args.member.now.id c.args.complex.now.book c.give_up.new.complex.book c.give_up.ensures.book
+
+pub returns-in_default-opened-clause-held : goal.returns-in_default-opened-clause-held
+returns-in_default-opened-clause-held g c whole = holds_if c.close_deck.result c.args.member.now.id c.args.complex.now.book c.close_deck.new.complex.book c.close_deck.ensures.book
+
+pub returns-in_err-keep_batch-clause-held : goal.returns-in_err-keep_batch-clause-held
+returns-in_err-keep_batch-clause-held g c whole = holds_if c.from_residual.result c.args.member.now.id c.args.complex.now.book c.keep_batch.new.complex.book c.keep_batch.ensures.book
+
+pub returns-clause-held : goal.returns-clause-held
+returns-clause-held g c whole =
+    let x = c.args.complex.now in
+    let m = c.args.member.now in
+    let y = c.keep_batch.new.complex in
+    let l = c.keep_batch.new.member in
+    let id2 : l.id ≡ m.id = c.keep_batch.ensures.id ∙ c.open_deck.ensures.id in
+    holds_named c.enter_deck.result m.id l.id x.book y.book c.enter_deck.new.complex.book id2 c.keep_batch.ensures.book (c.enter_deck.ensures.held (book_by x.book y.book m.id l.id c.keep_batch.ensures.book id2 whole))

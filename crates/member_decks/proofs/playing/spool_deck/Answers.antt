@@ -1,4 +1,4 @@
-use Rattle.std.proofs.Common.{◌≡◌, ◌∙◌, List, All, Ok, length, take, refl, ap, subst, sym}
+use Rattle.std.proofs.Common.{◌≡◌, ◌∙◌, inr, List, All, Ok, length, take, refl, ap, subst, sym}
 use Rattle.mas_types.specs.declared.ids.GroupNo.{GroupNo}
 use Rattle.mas_types.specs.declared.queues.Config.{Config}
 use Rattle.mas_types.specs.declared.queues.Queue.{Queue}
@@ -59,3 +59,6 @@ returns-clause-there g c is told roomy =
           rw c.retake_lock.ensures.plant (there told roomy)
       | in-Err-Lost w ↦ absurd (not_lost c.match-spool_text.lost w.in-Err-Lost.volume (Ok c.match-spool_text.lost) w.lost-is refl is)
     ]
+
+pub returns-in-Err-Halted-clause-held : goal.returns-in-Err-Halted-clause-held
+returns-in-Err-Halted-clause-held g c = inr (ap (λ p. p.book) c.spool_text.ensures.frame ∙ c.leave_lock.ensures.book)

@@ -1,7 +1,9 @@
-use Rattle.std.proofs.Common.{◌≡◌, ◌≤◌, ℕ, Some, slice_get}
+use Rattle.std.proofs.Common.{◌≡◌, false, ◌≤◌, ℕ, Some, slice_get}
 use Rattle.mas_types.specs.declared.ids.GroupNo.{GroupNo}
 use Rattle.spool_volumes.specs.Volumes.{volume_of}
+use Rattle.mas_complex.specs.Parts.{parts_of}
 use Rattle.mas_complex.specs.Texts.{IsSynced, spools_at}
+use Rattle.member_node.specs.Spares.{Spares}
 use Rattle.member_decks.specs.Spooling.{AreQuiet, OnVolumes}
 use Rattle.member_decks.proofs.spooling.sync_volumes.Given as goal
 
@@ -13,17 +15,9 @@ invariant-loop-before g l =
     let y = l.complex in
     record {
       pair : y.pair ≡ x.pair;
-      base : y.base ≡ x.base;
-      since : y.since ≡ x.since;
-      book : y.book ≡ x.book;
-      journal : y.journal ≡ x.journal;
-      current : y.current ≡ x.current;
-      reserved : y.reserved ≡ x.reserved;
-      placed : y.placed ≡ x.placed;
-      first : y.first ≡ x.first;
-      second : y.second ≡ x.second;
-      level : y.level ≡ x.level;
+      frame : parts_of y ≡ record (parts_of x) { plant = y.plant };
       acts : OnVolumes P.tells l.by.0 (P.view x.plant) (P.view y.plant);
+      cause : Spares l.by.0 false (P.view x.plant) (P.view y.plant);
       synced : P.tells → (k : ℕ) (h : GroupNo) → slice_get l.groups k ≡ Some h → volume_of x.base.config.groups h ≤ l.before → IsSynced (spools_at (P.view y.plant) (P.view y.plant).now) x.base.config.groups h;
       quiet : P.tells → AreQuiet (spools_at (P.view x.plant) (P.view x.plant).now) (spools_at (P.view y.plant) (P.view y.plant).now);
     }

@@ -21,7 +21,7 @@ loop-page-init g c =
       level = refl;
       copy1 = refl;
       copy2 = refl;
-      read = read_start P.tells x.pair.first.alive x.pair.second.alive (P.view x.plant) g.C.Copying.reads c.args.first c.args.room.now;
+      read = read_start P.tells c.args.by.0 x.pair.first.alive x.pair.second.alive (P.view x.plant) g.C.Copying.reads c.args.first c.args.room.now;
     }
 
 pub loop-page-preserved : goal.loop-page-preserved
@@ -46,8 +46,8 @@ loop-page-preserved g c =
       level = e.level ∙ i.level;
       copy1 = e.copy1 ∙ i.copy1;
       copy2 = e.copy2 ∙ i.copy2;
-      read = read_more P.tells x.pair.first.alive z.pair.first.alive w.pair.first.alive x.pair.second.alive z.pair.second.alive w.pair.second.alive (P.view x.plant) (P.view z.plant) (P.view w.plant) g.C.Copying.reads
-          c.args.first c.loop-page.page c.args.room.now c.loop-page.room c.read_one.new.into i.read (omega arith) (omega arith) e.read.acts e.loses e.read.cause e.page;
+      read = read_more P.tells c.args.by.0 x.pair.first.alive z.pair.first.alive w.pair.first.alive x.pair.second.alive z.pair.second.alive w.pair.second.alive (P.view x.plant) (P.view z.plant) (P.view w.plant) g.C.Copying.reads
+          c.args.first c.loop-page.page c.args.room.now c.loop-page.room c.read_one.new.into i.read (omega arith) (omega arith) e.read.acts e.read.spares e.loses e.read.cause e.page;
     }
 
 pub returns-in_err-read_one-clause-read : goal.returns-in_err-read_one-clause-read
@@ -58,7 +58,7 @@ returns-in_err-read_one-clause-read g c =
     let w = c.read_one.new.complex in
     let p = err_from_is_err_and c.from_residual.result c.from_residual.ensures.1 in
     rw (p.1, p.2) (error_later (Unit {0}) (Unit {0}) P.tells c.args.by.0 x.pair.first.alive z.pair.first.alive w.pair.first.alive x.pair.second.alive z.pair.second.alive w.pair.second.alive (P.view x.plant) (P.view z.plant) (P.view w.plant)
-    c.in_err-read_one.field-0.0 c.loop-page.invariant.read.acts c.in_err-read_one.ensures.read)
+    c.in_err-read_one.field-0.0 c.loop-page.invariant.read.acts c.loop-page.invariant.read.spares c.in_err-read_one.ensures.read)
 
 pub returns-in_err-read_one-clause-before : goal.returns-in_err-read_one-clause-before
 returns-in_err-read_one-clause-before g c was are =

@@ -22,5 +22,5 @@ invariant-loop-page g l =
       level : z.level ≡ x.level;
       copy1 : z.pair.first.copy ≡ x.pair.first.copy;
       copy2 : z.pair.second.copy ≡ x.pair.second.copy;
-      read : IsReadTo P.tells x.pair.first.alive z.pair.first.alive x.pair.second.alive z.pair.second.alive (P.view x.plant) (P.view z.plant) C.reads l.first l.page l.fn.room l.room;
+      read : IsReadTo P.tells l.by.0 x.pair.first.alive z.pair.first.alive x.pair.second.alive z.pair.second.alive (P.view x.plant) (P.view z.plant) C.reads l.first l.page l.fn.room l.room;
     }

@@ -15,7 +15,7 @@ use Rattle.member_steps.specs.Steps.{AreAllKept, entry_of, entry_with}
 use Rattle.member_steps.proofs.LockLemmas.{is_free, many, may_act, may_free, no_answer, one_answer, opens_again, refused_again, refused_frees, refused_named, refused_up}
 use Rattle.member_steps.proofs.PageLemmas.{few_pages}
 use Rattle.member_steps.proofs.ReadLemmas.{at_lock, begun_read, begun_settle, between_read, calm_rest, cause_settle, gives_behind, gives_unbegun, level_low, low_later, low_more, low_read, low_written, one_batch, pages_of_run, same_many, told_sound, untold_later}
-use Rattle.member_steps.proofs.StepLemmas.{gives_as, kept_later, ok_of, untold_by}
+use Rattle.member_steps.proofs.StepLemmas.{err_of, gives_as, kept_later, ok_of, untold_by}
 use Rattle.member_node.proofs.WriteLemmas.{none_out}
 use Rattle.member_steps.proofs.locked.play_locked.Goals as goal
 
@@ -48,6 +48,9 @@ returns-in-Err-clause-book g c =
     let x = c.args.complex.now in
     ok_of c.deny.result
     (c.deny.ensures.book ∙ c.lock.ensures.book ∙ sym (refused_frees x.book x.reserved c.args.member.now.id c.requires.lock c.in-Err.why c.in-Err.ensures.err))
+
+pub returns-in-Err-clause-held : goal.returns-in-Err-clause-held
+returns-in-Err-clause-held g c = err_of c.deny.result (c.deny.ensures.book ∙ c.lock.ensures.book)
 
 pub returns-in-Err-clause-granted : goal.returns-in-Err-clause-granted
 returns-in-Err-clause-granted g c got = no_answer _ c.in-Err.why got c.in-Err.ensures.err
@@ -184,8 +187,11 @@ returns-in_err-read_in-clause-granted g c got =
     let p = err_from_is_err_and c.from_residual.result c.from_residual.ensures.1 in
     rw (p.1, p.2) (gives_unbegun P.tells c.args.member.now.id c.args.step c.args.command (run x.base (kept_all x.journal.batches)) x.journal.batches (end_of y.placed y.current y.journal.batches)
     x.pair.first.alive y.pair.first.alive x.pair.second.alive y.pair.second.alive (P.view x.plant) (P.view y.plant)
-    (begun_read P.tells x.pair.first.alive y.pair.first.alive x.pair.second.alive y.pair.second.alive (P.view x.plant) (P.view y.plant) read.acts) _
+    _ (begun_read P.tells c.args.member.now.id.0 _ x.pair.first.alive y.pair.first.alive x.pair.second.alive y.pair.second.alive (P.view x.plant) (P.view y.plant) read.acts read.spares)
     (none_out x.journal.batches y.journal.batches y.placed y.current (ap (λ (j : Journal). j.batches) (r.journal ∙ l.journal)) (r.placed ∙ l.placed ∙ a.unplaced) (r.current ∙ l.current ∙ a.none)) read.cause)
+
+pub returns-in_err-read_in-clause-held : goal.returns-in_err-read_in-clause-held
+returns-in_err-read_in-clause-held g c = err_of c.from_residual.result (c.read_in.ensures.book ∙ c.lock.ensures.book)
 
 pub returns-in_err-read_in-clause-denied : goal.returns-in_err-read_in-clause-denied
 returns-in_err-read_in-clause-denied g c why refused = no_answer _ why c.in_default.ensures.ok refused
@@ -222,9 +228,12 @@ returns-in_err-primary-clause-granted g c got =
     let p = err_from_is_err_and c.from_residual-in_err-primary.result c.from_residual-in_err-primary.ensures.1 in
     rw (p.1, p.2) (gives_unbegun P.tells by c.args.step c.args.command (run x.base (kept_all x.journal.batches)) x.journal.batches (end_of z.placed z.current z.journal.batches)
     x.pair.first.alive z.pair.first.alive x.pair.second.alive z.pair.second.alive (P.view x.plant) (P.view z.plant)
-    (begun_settle P.tells by.0 x.pair.first.alive y.pair.first.alive z.pair.first.alive x.pair.second.alive y.pair.second.alive z.pair.second.alive (P.view x.plant) (P.view y.plant) (P.view z.plant) _ read.acts settle) _
+    _ (begun_settle P.tells by.0 x.pair.first.alive y.pair.first.alive z.pair.first.alive x.pair.second.alive y.pair.second.alive z.pair.second.alive (P.view x.plant) (P.view y.plant) (P.view z.plant) _ read.acts read.spares settle)
     (none_out x.journal.batches z.journal.batches z.placed z.current (ap (λ (j : Journal). j.batches) (s.journal ∙ r.journal ∙ l.journal)) (s.placed ∙ r.placed ∙ l.placed ∙ a.unplaced) (s.current ∙ r.current ∙ l.current ∙ a.none))
     (cause_settle by.0 z.pair.first.alive z.pair.second.alive (P.view x.plant) (P.view y.plant) (P.view z.plant) _ read.acts.course.goes settle.cause))
+
+pub returns-in_err-primary-clause-held : goal.returns-in_err-primary-clause-held
+returns-in_err-primary-clause-held g c = err_of c.from_residual-in_err-primary.result (c.primary.ensures.book ∙ c.read_in.ensures.book ∙ c.lock.ensures.book)
 
 pub returns-in_err-primary-clause-denied : goal.returns-in_err-primary-clause-denied
 returns-in_err-primary-clause-denied g c why refused = no_answer _ why c.in_default.ensures.ok refused
@@ -293,7 +302,7 @@ play_command-requires-clause-untold g c told =
     let by = c.args.member.now.id in
     let read = rw (l.pair, l.plant) at c.in_ok-read_in.ensures.read in
     let settle = rw r.id at c.in_ok-primary.ensures.settle in
-    let acts = begun_settle P.tells by.0 x.pair.first.alive y.pair.first.alive z.pair.first.alive x.pair.second.alive y.pair.second.alive z.pair.second.alive (P.view x.plant) (P.view y.plant) (P.view z.plant) _ read.acts settle in
+    let acts = begun_settle P.tells by.0 x.pair.first.alive y.pair.first.alive z.pair.first.alive x.pair.second.alive y.pair.second.alive z.pair.second.alive (P.view x.plant) (P.view y.plant) (P.view z.plant) _ read.acts read.spares settle in
     let Q : Queue = run x.base (kept_all x.journal.batches) in
     let base : z.base ≡ x.base = s.base ∙ r.base ∙ l.base in
     let queue : run z.base (kept_all z.journal.batches) ≡ Q = ap (λ (q : Queue). run q (kept_all z.journal.batches)) base ∙ ap (λ (j : Journal). run x.base (kept_all j.batches)) (s.journal ∙ r.journal ∙ l.journal) in
@@ -333,13 +342,17 @@ returns-in_err-play_command-clause-granted g c got =
     let Q : Queue = run x.base (kept_all x.journal.batches) in
     let read = rw (l.pair, l.plant) at c.in_ok-read_in.ensures.read in
     let settle = rw r.id at c.in_ok-primary.ensures.settle in
-    let acts = begun_settle P.tells by.0 x.pair.first.alive y.pair.first.alive z.pair.first.alive x.pair.second.alive y.pair.second.alive z.pair.second.alive (P.view x.plant) (P.view y.plant) (P.view z.plant) _ read.acts settle in
+    let acts = begun_settle P.tells by.0 x.pair.first.alive y.pair.first.alive z.pair.first.alive x.pair.second.alive y.pair.second.alive z.pair.second.alive (P.view x.plant) (P.view y.plant) (P.view z.plant) _ read.acts read.spares settle in
     let p = err_from_is_err_and c.from_residual-in_err-play_command.result c.from_residual-in_err-play_command.ensures.1 in
     rw (p.1, p.2) (gives_behind P.tells by c.args.step c.args.command Q x.journal.batches (end_of w.placed w.current w.journal.batches)
     x.pair.first.alive z.pair.first.alive w.pair.first.alive x.pair.second.alive z.pair.second.alive w.pair.second.alive (P.view x.plant) (P.view z.plant) (P.view w.plant) acts settle.cause _
     (gives_as P.tells by c.read_in.new.self.id c.args.step c.args.command _ x.base z.base x.journal.batches z.journal.batches (end_of w.placed w.current w.journal.batches)
     z.pair.first.alive z.pair.first.alive w.pair.first.alive z.pair.second.alive z.pair.second.alive w.pair.second.alive (P.view z.plant) (P.view z.plant) (P.view w.plant)
     r.id (s.base ∙ r.base ∙ l.base) (ap (λ (j : Journal). j.batches) (s.journal ∙ r.journal ∙ l.journal)) refl refl refl c.in_err-play_command.ensures.step))
+
+pub returns-in_err-play_command-clause-held : goal.returns-in_err-play_command-clause-held
+returns-in_err-play_command-clause-held g c =
+    err_of c.from_residual-in_err-play_command.result (c.play_command.ensures.book ∙ c.primary.ensures.book ∙ c.read_in.ensures.book ∙ c.lock.ensures.book)
 
 pub returns-in_err-play_command-clause-denied : goal.returns-in_err-play_command-clause-denied
 returns-in_err-play_command-clause-denied g c why refused = no_answer _ why c.in_default.ensures.ok refused
@@ -396,7 +409,7 @@ returns-clause-granted g c got =
     let Q : Queue = run x.base (kept_all x.journal.batches) in
     let read = rw (l.pair, l.plant) at c.in_ok-read_in.ensures.read in
     let settle = rw r.id at c.in_ok-primary.ensures.settle in
-    let acts = begun_settle P.tells by.0 x.pair.first.alive y.pair.first.alive z.pair.first.alive x.pair.second.alive y.pair.second.alive z.pair.second.alive (P.view x.plant) (P.view y.plant) (P.view z.plant) _ read.acts settle in
+    let acts = begun_settle P.tells by.0 x.pair.first.alive y.pair.first.alive z.pair.first.alive x.pair.second.alive y.pair.second.alive z.pair.second.alive (P.view x.plant) (P.view y.plant) (P.view z.plant) _ read.acts read.spares settle in
     rw (f.placed, f.current, f.journal, f.pair, f.plant) (gives_behind P.tells by c.args.step c.args.command Q x.journal.batches (end_of w.placed w.current w.journal.batches)
     x.pair.first.alive z.pair.first.alive w.pair.first.alive x.pair.second.alive z.pair.second.alive w.pair.second.alive (P.view x.plant) (P.view z.plant) (P.view w.plant) acts settle.cause _
     (gives_as P.tells by c.read_in.new.self.id c.args.step c.args.command _ x.base z.base x.journal.batches z.journal.batches (end_of w.placed w.current w.journal.batches)

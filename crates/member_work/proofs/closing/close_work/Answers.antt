@@ -347,3 +347,23 @@ returns-clause-low g c =
 
 pub play_batch-requires-clause-allowed : goal.play_batch-requires-clause-allowed
 play_batch-requires-clause-allowed g c = c.requires.work.allowed
+
+-- NOTHING ELSE CHANGES
+
+pub returns-in_default-clause-others : goal.returns-in_default-clause-others
+returns-in_default-clause-others g c told = (c.give_up.ensures.apart told).others
+
+pub returns-in_default-clause-papers : goal.returns-in_default-clause-papers
+returns-in_default-clause-papers g c told = (c.give_up.ensures.apart told).papers
+
+pub returns-then-len-eq0-clause-others : goal.returns-then-len-eq0-clause-others
+returns-then-len-eq0-clause-others g c told = c.tell_lines.ensures.said.acts.others told
+
+pub returns-then-len-eq0-clause-papers : goal.returns-then-len-eq0-clause-papers
+returns-then-len-eq0-clause-papers g c told = c.tell_lines.ensures.said.acts.papers told
+
+pub returns-clause-others : goal.returns-clause-others
+returns-clause-others g c told = c.play_batch.ensures.step.others told
+
+pub returns-clause-papers : goal.returns-clause-papers
+returns-clause-papers g c told = c.play_batch.ensures.step.papers told

@@ -26,6 +26,7 @@ use Rattle.member_steps.proofs.ReadLemmas.{one_batch}
 use Rattle.member_work.specs.Steps.{IsKeeping}
 use Rattle.member_work.proofs.KeepingLemmas.{keeping_none, keeping_then, kept_not_in, kept_ok, settled}
 use Rattle.member_work.proofs.StateLemmas.{between_by, none_batch, on_two, one_batch_in, same_room, some_batch, work_between, work_order}
+use Rattle.member_node.proofs.CourseLemmas.{apart_then, only_none, papers_none}
 use Rattle.member_work.proofs.closing.keep_given.Goals as goal
 
 pub returns-then-len-eq0-clause-nothing : goal.returns-then-len-eq0-clause-nothing
@@ -400,3 +401,20 @@ returns-clause-reached g c =
 
 pub keep_batch-requires-clause-allowed : goal.keep_batch-requires-clause-allowed
 keep_batch-requires-clause-allowed g c = c.requires.work.allowed
+
+-- NOTHING ELSE CHANGES
+
+pub returns-then-len-eq0-clause-apart : goal.returns-then-len-eq0-clause-apart
+returns-then-len-eq0-clause-apart g c told =
+    let v = g.P.Plant.view c.args.complex.now.plant in
+    record { others = only_none v; console = refl; papers = papers_none v }
+
+pub returns-in_err-keep_batch-clause-apart : goal.returns-in_err-keep_batch-clause-apart
+returns-in_err-keep_batch-clause-apart g c told = c.keep_batch.ensures.acts.apart told
+
+pub returns-clause-apart : goal.returns-clause-apart
+returns-clause-apart g c told =
+    let P = g.P.Plant in
+    let acts = c.keep_batch.ensures.acts in
+    let settle = c.primary.ensures.settle in
+    apart_then (P.view c.args.complex.now.plant) (P.view c.keep_batch.new.complex.plant) (P.view c.primary.new.complex.plant) acts.course.goes.later settle.course.goes (acts.apart told) (settle.apart told)

@@ -25,6 +25,7 @@ use Rattle.member_work.proofs.CauseLemmas.{reply_caused, taken_caused}
 use Rattle.member_work.proofs.EndingLemmas.{end_none, reply_end}
 use Rattle.member_work.proofs.PartLemmas.{end_first, end_one, end_two, ended_none, ended_refused, ended_taken, groups_taken, not_refused, queue_is, queue_taken, same_journal, spooled_in, spooled_nowhere, taken_done, under_way_taken}
 use Rattle.member_work.proofs.StateLemmas.{work_queue}
+use Rattle.member_work.proofs.BookLemmas.{book_named, book_same}
 use Rattle.member_work.proofs.ending.end_job.Goals as goal
 
 -- NO GROUPS ARE NEEDED
@@ -385,3 +386,13 @@ returns-in-Done-clause-step g c =
 pub returns-in-Done-clause-reached : goal.returns-in-Done-clause-reached
 returns-in-Done-clause-reached g c =
     on_ok c.spool_and_end.result (λ le. let same = c.in_ok-end.ensures.reached in omega (arith, same, le)) c.spool_and_end.ensures.reached
+
+pub returns-then-needed-eq0-clause-book : goal.returns-then-needed-eq0-clause-book
+returns-then-needed-eq0-clause-book g c = book_same c.end_given.result c.args.member.now.id c.args.complex.now.book c.end_given.new.complex.book c.end_given.ensures.book
+
+pub returns-in_err-end-clause-book : goal.returns-in_err-end-clause-book
+returns-in_err-end-clause-book g c = book_same c.from_residual.result c.args.member.now.id c.args.complex.now.book c.take_given.new.complex.book c.take_given.ensures.book
+
+pub returns-in-Done-clause-book : goal.returns-in-Done-clause-book
+returns-in-Done-clause-book g c =
+    book_named c.spool_and_end.result c.args.member.now.id c.take_given.new.member.id c.args.complex.now.book c.take_given.new.complex.book c.spool_and_end.new.complex.book c.take_given.ensures.id c.take_given.ensures.book c.spool_and_end.ensures.book

@@ -30,6 +30,7 @@ use Rattle.member_work.proofs.CauseLemmas.{reply_caused, wider_found}
 use Rattle.member_work.proofs.EndingLemmas.{end_none}
 use Rattle.member_work.proofs.KeepingLemmas.{keeping_error}
 use Rattle.member_work.proofs.PartLemmas.{spool_ended, spool_unkept, whole_specs, wider_lost}
+use Rattle.member_work.proofs.BookLemmas.{book_same}
 use Rattle.member_work.proofs.ending.spool_and_end.Goals as goal
 
 pub spool_taken-requires-clause-untold : goal.spool_taken-requires-clause-untold
@@ -299,3 +300,15 @@ returns-in-None-clause-reached g c =
     let k = c.in_ok-lost.ensures in
     let R : Queue = run y.base (kept_all y.journal.batches) in
     on_ok c.end_given.result (λ same. let le = k.reached in omega (arith, same, le)) c.end_given.ensures.reached
+
+pub returns-in_err-lost-clause-book : goal.returns-in_err-lost-clause-book
+returns-in_err-lost-clause-book g c =
+    let x = c.args.complex.now in
+    let p = err_from_is_err_and c.from_residual.result c.from_residual.ensures.1 in
+    rw (p.1, p.2) (c.in_err-lost.ensures.book)
+
+pub returns-in-Some-clause-book : goal.returns-in-Some-clause-book
+returns-in-Some-clause-book g c = book_same c.drop_given.result c.args.member.now.id c.args.complex.now.book c.drop_given.new.complex.book (c.drop_given.ensures.book ∙ c.in_ok-lost.ensures.book)
+
+pub returns-in-None-clause-book : goal.returns-in-None-clause-book
+returns-in-None-clause-book g c = book_same c.end_given.result c.args.member.now.id c.args.complex.now.book c.end_given.new.complex.book (c.end_given.ensures.book ∙ c.in_ok-lost.ensures.book)

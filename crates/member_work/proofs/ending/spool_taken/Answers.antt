@@ -1,4 +1,4 @@
-use Rattle.std.proofs.Common.{◌≡◌, ◌∙◌, ◌+◌, ℕ, [], ◌∷◌, ◌++◌, List, Option, Result, Ok, Err, true, take, ap, subst, sym, arith}
+use Rattle.std.proofs.Common.{false, ◌≡◌, ◌∙◌, ◌+◌, ℕ, [], ◌∷◌, ◌++◌, List, Option, Result, Ok, Err, true, take, ap, subst, sym, arith}
 use Rattle.std.proofs.lemmas.Result.{err_from_is_err_and}
 use Rattle.mas_types.specs.declared.ids.Dev.TheVariants.{Ckpt1, Ckpt2}
 use Rattle.mas_types.specs.declared.ids.GroupNo.{GroupNo}
@@ -18,6 +18,7 @@ use Rattle.member_node.specs.declared.member.NodeNo.{NodeNo}
 use Rattle.member_decks.specs.Keeping.{IsOnCopies}
 use Rattle.member_decks.specs.Spooling.{OnVolumes}
 use Rattle.member_decks.specs.Steps.{SpoolStops}
+use Rattle.member_node.specs.Spares.{Spares}
 use Rattle.member_decks.proofs.FinishLemmas.{spools_apart}
 use Rattle.member_decks.proofs.HoldLemmas.{acts_again, keeps_book}
 use Rattle.member_work.specs.Rounds.{IsSpoolLost}
@@ -30,6 +31,7 @@ use Rattle.member_work.proofs.KeepingLemmas.{held_not, held_ok, keeping_error, k
 use Rattle.member_work.proofs.PartLemmas.{copies_as, keeping_quiet, queue_kept, wider_lost}
 use Rattle.member_work.proofs.SayingLemmas.{rests_as}
 use Rattle.member_work.proofs.StateLemmas.{untold_then, work_later, work_queue}
+use Rattle.member_work.proofs.BookLemmas.{book_same, ends_named}
 use Rattle.member_work.proofs.ending.spool_taken.Goals as goal
 
 -- WHAT WAS GIVEN ISN'T KEPT
@@ -199,7 +201,7 @@ returns-in_err-hold_again-clause-keeps g c =
     let same : z.journal.batches ≡ y.journal.batches = ap (λ (j : Journal). j.batches) s.journal in
     let keeps2 : IsKeeping P.tells m.id (batches_in (m.batch ∷ [])) x.journal.batches z.journal.batches x.pair.first.alive y.pair.first.alive x.pair.second.alive y.pair.second.alive (P.view x.plant) (P.view z.plant) (let r : Result (Unit {0}) NodeNo = Ok tt in r) =
     keeping_quiet P.tells m.id 0 {S = Unit {0}} {T = Unit {0}} tt (Ok tt) (batches_in (m.batch ∷ [])) x.journal.batches y.journal.batches z.journal.batches x.pair.first.alive y.pair.first.alive y.pair.first.alive x.pair.second.alive y.pair.second.alive y.pair.second.alive (P.view x.plant) (P.view y.plant) (P.view z.plant) keeps1
-    (spooled_ok {T = Unit {0}} P.tells m.id y.journal.batches z.journal.batches same tt y.pair.first.alive y.pair.second.alive (P.view y.plant) (P.view z.plant) acts) in
+    (spooled_ok {T = Unit {0}} P.tells m.id y.journal.batches z.journal.batches same tt y.pair.first.alive y.pair.second.alive (P.view y.plant) (P.view z.plant) acts (subst (λ (i : MemberId). Spares i.0 false (P.view y.plant) (P.view z.plant)) u.id c.in_ok-lost.ensures.cause)) in
     let p = err_from_is_err_and c.from_residual-in_err-hold_again.result c.from_residual-in_err-hold_again.ensures.1 in
     let none : end_of q.placed q.current q.journal.batches ≡ z.journal.batches = end_none q.placed q.current q.journal.batches (h.placed ∙ s.placed ∙ w.unplaced) (h.current ∙ s.current ∙ w.none) ∙ ap (λ (j : Journal). j.batches) h.journal in
     let held : IsOnCopies {T = Unit {0}} P.tells m.id.0 y.pair.first.alive q.pair.first.alive y.pair.second.alive q.pair.second.alive (P.view z.plant) (P.view q.plant) (Err c.in_err-hold_again.field-0.0) =
@@ -251,7 +253,7 @@ returns-clause-keeps g c =
     let same : z.journal.batches ≡ y.journal.batches = ap (λ (j : Journal). j.batches) s.journal in
     let keeps2 : IsKeeping P.tells m.id (batches_in (m.batch ∷ [])) x.journal.batches z.journal.batches x.pair.first.alive y.pair.first.alive x.pair.second.alive y.pair.second.alive (P.view x.plant) (P.view z.plant) (let r : Result (Unit {0}) NodeNo = Ok tt in r) =
     keeping_quiet P.tells m.id 0 {S = Unit {0}} {T = Unit {0}} tt (Ok tt) (batches_in (m.batch ∷ [])) x.journal.batches y.journal.batches z.journal.batches x.pair.first.alive y.pair.first.alive y.pair.first.alive x.pair.second.alive y.pair.second.alive y.pair.second.alive (P.view x.plant) (P.view y.plant) (P.view z.plant) keeps1
-    (spooled_ok {T = Unit {0}} P.tells m.id y.journal.batches z.journal.batches same tt y.pair.first.alive y.pair.second.alive (P.view y.plant) (P.view z.plant) acts) in
+    (spooled_ok {T = Unit {0}} P.tells m.id y.journal.batches z.journal.batches same tt y.pair.first.alive y.pair.second.alive (P.view y.plant) (P.view z.plant) acts (subst (λ (i : MemberId). Spares i.0 false (P.view y.plant) (P.view z.plant)) u.id c.in_ok-lost.ensures.cause)) in
     let none : end_of q.placed q.current q.journal.batches ≡ z.journal.batches = end_none q.placed q.current q.journal.batches (h.placed ∙ s.placed ∙ w.unplaced) (h.current ∙ s.current ∙ w.none) ∙ ap (λ (j : Journal). j.batches) h.journal in
     let held : IsOnCopies {T = Unit {0}} P.tells m.id.0 y.pair.first.alive q.pair.first.alive y.pair.second.alive q.pair.second.alive (P.view z.plant) (P.view q.plant) (Ok tt) =
     rw s.pair at (subst (λ (i : MemberId). IsOnCopies {T = Unit {0}} P.tells i.0 z.pair.first.alive q.pair.first.alive z.pair.second.alive q.pair.second.alive (P.view z.plant) (P.view q.plant) (Ok tt)) u.id c.in_ok-hold_again.ensures.acts) in
@@ -369,7 +371,7 @@ returns-clause-untold g c told at was =
     let same : z.journal.batches ≡ y.journal.batches = ap (λ (j : Journal). j.batches) s.journal in
     let keeps2 : IsKeeping P.tells m.id (batches_in (m.batch ∷ [])) x.journal.batches z.journal.batches x.pair.first.alive y.pair.first.alive x.pair.second.alive y.pair.second.alive (P.view x.plant) (P.view z.plant) (let r : Result (Unit {0}) NodeNo = Ok tt in r) =
     keeping_quiet P.tells m.id 0 {S = Unit {0}} {T = Unit {0}} tt (Ok tt) (batches_in (m.batch ∷ [])) x.journal.batches y.journal.batches z.journal.batches x.pair.first.alive y.pair.first.alive y.pair.first.alive x.pair.second.alive y.pair.second.alive y.pair.second.alive (P.view x.plant) (P.view y.plant) (P.view z.plant) keeps1
-    (spooled_ok {T = Unit {0}} P.tells m.id y.journal.batches z.journal.batches same tt y.pair.first.alive y.pair.second.alive (P.view y.plant) (P.view z.plant) acts) in
+    (spooled_ok {T = Unit {0}} P.tells m.id y.journal.batches z.journal.batches same tt y.pair.first.alive y.pair.second.alive (P.view y.plant) (P.view z.plant) acts (subst (λ (i : MemberId). Spares i.0 false (P.view y.plant) (P.view z.plant)) u.id c.in_ok-lost.ensures.cause)) in
     let none : end_of q.placed q.current q.journal.batches ≡ z.journal.batches = end_none q.placed q.current q.journal.batches (h.placed ∙ s.placed ∙ w.unplaced) (h.current ∙ s.current ∙ w.none) ∙ ap (λ (j : Journal). j.batches) h.journal in
     let held : IsOnCopies {T = Unit {0}} P.tells m.id.0 y.pair.first.alive q.pair.first.alive y.pair.second.alive q.pair.second.alive (P.view z.plant) (P.view q.plant) (Ok tt) =
     rw s.pair at (subst (λ (i : MemberId). IsOnCopies {T = Unit {0}} P.tells i.0 z.pair.first.alive q.pair.first.alive z.pair.second.alive q.pair.second.alive (P.view z.plant) (P.view q.plant) (Ok tt)) u.id c.in_ok-hold_again.ensures.acts) in
@@ -395,3 +397,22 @@ returns-clause-reached g c =
     let o = c.hold_again.new.member in
     let h = c.hold_again.ensures in
     let a = h.reached in let b = s.level in let le = k.reached in omega (arith, a, b, le)
+
+pub returns-in_err-keep_given-clause-book : goal.returns-in_err-keep_given-clause-book
+returns-in_err-keep_given-clause-book g c = book_same c.from_residual.result c.args.member.now.id c.args.complex.now.book c.keep_given.new.complex.book c.keep_given.ensures.book
+
+pub returns-in_err-lost-clause-book : goal.returns-in_err-lost-clause-book
+returns-in_err-lost-clause-book g c =
+    let x = c.args.complex.now in
+    let p = err_from_is_err_and c.from_residual-in_err-lost.result c.from_residual-in_err-lost.ensures.1 in
+    rw (p.1, p.2) (ends_named c.in_err-lost.field-0.0 c.args.member.now.id c.keep_given.new.member.id x.book c.keep_given.new.complex.book c.spool_outputs.new.complex.book c.keep_given.ensures.id c.keep_given.ensures.book c.in_err-lost.ensures.held)
+
+pub returns-in_err-hold_again-clause-book : goal.returns-in_err-hold_again-clause-book
+returns-in_err-hold_again-clause-book g c =
+    let x = c.args.complex.now in
+    let m = c.args.member.now in
+    let n = c.keep_given.new.member in
+    let u = c.keep_given.ensures in
+    let z = c.spool_outputs.new.complex in
+    let book : z.book ≡ after_try (after_free x.book m.id true) m.id true = subst (λ (i : MemberId). z.book ≡ after_try (after_free x.book i true) i true) u.id (subst (λ (b : Book). z.book ≡ after_try (after_free b n.id true) n.id true) u.book c.in_ok-lost.ensures.book) in
+    book_same c.from_residual-in_err-hold_again.result m.id x.book c.hold_again.new.complex.book (c.hold_again.ensures.book ∙ book ∙ keeps_book x.book m.id c.requires.may.holds c.requires.some (c.requires.may.up c.requires.some) c.requires.whole)

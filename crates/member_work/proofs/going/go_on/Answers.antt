@@ -8,6 +8,7 @@ use Rattle.member_decks.proofs.OpenLemmas.{on_ok}
 use Rattle.member_work.specs.Steps.{IsCommanded}
 use Rattle.member_work.proofs.EndingLemmas.{end_none}
 use Rattle.member_work.proofs.JobLemmas.{converted_step, ended_step, stopped_step}
+use Rattle.member_work.proofs.BookLemmas.{book_same}
 use Rattle.member_work.proofs.going.go_on.Goals as goal
 
 pub play_command-requires-clause-few : goal.play_command-requires-clause-few
@@ -71,3 +72,6 @@ returns-in-End-clause-step g c =
 
 pub play_command-requires-clause-right : goal.play_command-requires-clause-right
 play_command-requires-clause-right g c told sound = tt
+
+pub returns-in-Convert-clause-book : goal.returns-in-Convert-clause-book
+returns-in-Convert-clause-book g c = book_same c.play_command.result c.args.member.now.id c.args.complex.now.book c.play_command.new.complex.book c.play_command.ensures.book

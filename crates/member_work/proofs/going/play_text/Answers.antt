@@ -15,6 +15,7 @@ use Rattle.member_work.specs.JobSteps.{IsOutcomeStep}
 use Rattle.member_work.specs.Steps.{IsKeeping}
 use Rattle.member_work.proofs.EndingLemmas.{end_none}
 use Rattle.member_work.proofs.JobLemmas.{text_then, text_unread}
+use Rattle.member_work.proofs.BookLemmas.{book_named}
 use Rattle.member_work.proofs.going.play_text.Goals as goal
 
 pub returns-in_err-outcome-clause-step : goal.returns-in_err-outcome-clause-step
@@ -99,3 +100,12 @@ returns-clause-step g c =
 pub returns-clause-reached : goal.returns-clause-reached
 returns-clause-reached g c =
     let same = c.read_job.ensures.reached in on_ok c.go_on.result (λ le. omega (arith, same, le)) c.go_on.ensures.reached
+
+pub returns-in_err-outcome-clause-book : goal.returns-in_err-outcome-clause-book
+returns-in_err-outcome-clause-book g c =
+    let x = c.args.complex.now in
+    let p = err_from_is_err_and c.from_residual.result c.from_residual.ensures.1 in
+    rw (p.1, p.2) (c.in_err-outcome.ensures.book)
+
+pub returns-clause-book : goal.returns-clause-book
+returns-clause-book g c = book_named c.go_on.result c.args.member.now.id c.read_job.new.member.id c.args.complex.now.book c.read_job.new.complex.book c.go_on.new.complex.book c.read_job.ensures.id c.in_ok-outcome.ensures.book c.go_on.ensures.book

@@ -17,6 +17,7 @@ use Rattle.member_work.proofs.KeepingLemmas.{held_not, held_ok, keeping_ok, spoo
 use Rattle.member_work.proofs.PartLemmas.{copies_as, keeping_quiet}
 use Rattle.member_work.proofs.SayingLemmas.{rests_as}
 use Rattle.member_work.proofs.StateLemmas.{untold_then, work_later}
+use Rattle.member_work.proofs.BookLemmas.{book_same}
 use Rattle.member_work.proofs.going.read_job.Goals as goal
 
 pub returns-in_err-outcome-clause-keeps : goal.returns-in_err-outcome-clause-keeps
@@ -89,7 +90,7 @@ returns-in_err-hold_again-clause-keeps g c =
     let h = c.hold_again.ensures in
     let p = err_from_is_err_and c.from_residual-in_err-hold_again.result c.from_residual-in_err-hold_again.ensures.1 in
     let same : z.journal.batches ≡ x.journal.batches = ap (λ (j : Journal). j.batches) s.journal in
-    let keeps1 : IsKeeping {T = Unit {0}} P.tells m.id [] x.journal.batches z.journal.batches x.pair.first.alive x.pair.first.alive x.pair.second.alive x.pair.second.alive (P.view x.plant) (P.view z.plant) (Ok tt) = spooled_ok {T = Unit {0}} P.tells m.id x.journal.batches z.journal.batches same tt x.pair.first.alive x.pair.second.alive (P.view x.plant) (P.view z.plant) s.acts in
+    let keeps1 : IsKeeping {T = Unit {0}} P.tells m.id [] x.journal.batches z.journal.batches x.pair.first.alive x.pair.first.alive x.pair.second.alive x.pair.second.alive (P.view x.plant) (P.view z.plant) (Ok tt) = spooled_ok {T = Unit {0}} P.tells m.id x.journal.batches z.journal.batches same tt x.pair.first.alive x.pair.second.alive (P.view x.plant) (P.view z.plant) s.acts c.in_ok-outcome.ensures.cause in
     let none : end_of q.placed q.current q.journal.batches ≡ z.journal.batches = end_none q.placed q.current q.journal.batches (h.placed ∙ s.placed ∙ w.unplaced) (h.current ∙ s.current ∙ w.none) ∙ ap (λ (j : Journal). j.batches) h.journal in
     let held : IsOnCopies {T = Unit {0}} P.tells m.id.0 x.pair.first.alive q.pair.first.alive x.pair.second.alive q.pair.second.alive (P.view z.plant) (P.view q.plant) (Err c.in_err-hold_again.field-0.0) = rw s.pair at c.in_err-hold_again.ensures.acts in
     rw (p.1, p.2) (keeping_quiet P.tells m.id 0 {S = Unit {0}} {T = Outcome} tt (Err c.in_err-hold_again.field-0.0) [] x.journal.batches z.journal.batches (end_of q.placed q.current q.journal.batches) x.pair.first.alive x.pair.first.alive q.pair.first.alive x.pair.second.alive x.pair.second.alive q.pair.second.alive (P.view x.plant) (P.view z.plant) (P.view q.plant) keeps1
@@ -113,7 +114,7 @@ returns-clause-keeps g c =
     let o = c.hold_again.new.member in
     let h = c.hold_again.ensures in
     let same : z.journal.batches ≡ x.journal.batches = ap (λ (j : Journal). j.batches) s.journal in
-    let keeps1 : IsKeeping {T = Unit {0}} P.tells m.id [] x.journal.batches z.journal.batches x.pair.first.alive x.pair.first.alive x.pair.second.alive x.pair.second.alive (P.view x.plant) (P.view z.plant) (Ok tt) = spooled_ok {T = Unit {0}} P.tells m.id x.journal.batches z.journal.batches same tt x.pair.first.alive x.pair.second.alive (P.view x.plant) (P.view z.plant) s.acts in
+    let keeps1 : IsKeeping {T = Unit {0}} P.tells m.id [] x.journal.batches z.journal.batches x.pair.first.alive x.pair.first.alive x.pair.second.alive x.pair.second.alive (P.view x.plant) (P.view z.plant) (Ok tt) = spooled_ok {T = Unit {0}} P.tells m.id x.journal.batches z.journal.batches same tt x.pair.first.alive x.pair.second.alive (P.view x.plant) (P.view z.plant) s.acts c.in_ok-outcome.ensures.cause in
     let none : end_of q.placed q.current q.journal.batches ≡ z.journal.batches = end_none q.placed q.current q.journal.batches (h.placed ∙ s.placed ∙ w.unplaced) (h.current ∙ s.current ∙ w.none) ∙ ap (λ (j : Journal). j.batches) h.journal in
     let held : IsOnCopies {T = Unit {0}} P.tells m.id.0 x.pair.first.alive q.pair.first.alive x.pair.second.alive q.pair.second.alive (P.view z.plant) (P.view q.plant) (Ok tt) = rw s.pair at c.in_ok-hold_again.ensures.acts in
     let keeps3 : IsKeeping {T = Unit {0}} P.tells m.id [] x.journal.batches (end_of q.placed q.current q.journal.batches) x.pair.first.alive q.pair.first.alive x.pair.second.alive q.pair.second.alive (P.view x.plant) (P.view q.plant) (Ok tt) = keeping_quiet P.tells m.id 0 {S = Unit {0}} {T = Unit {0}} tt (Ok tt) [] x.journal.batches z.journal.batches (end_of q.placed q.current q.journal.batches) x.pair.first.alive x.pair.first.alive q.pair.first.alive x.pair.second.alive x.pair.second.alive q.pair.second.alive (P.view x.plant) (P.view z.plant) (P.view q.plant) keeps1 (held_ok {T = Unit {0}} P.tells m.id z.journal.batches (end_of q.placed q.current q.journal.batches) none tt x.pair.first.alive q.pair.first.alive x.pair.second.alive q.pair.second.alive (P.view z.plant) (P.view q.plant) held) in
@@ -147,8 +148,17 @@ returns-clause-untold g c told at was =
     let o = c.hold_again.new.member in
     let h = c.hold_again.ensures in
     let same : z.journal.batches ≡ x.journal.batches = ap (λ (j : Journal). j.batches) s.journal in
-    let keeps1 : IsKeeping {T = Unit {0}} P.tells m.id [] x.journal.batches z.journal.batches x.pair.first.alive x.pair.first.alive x.pair.second.alive x.pair.second.alive (P.view x.plant) (P.view z.plant) (Ok tt) = spooled_ok {T = Unit {0}} P.tells m.id x.journal.batches z.journal.batches same tt x.pair.first.alive x.pair.second.alive (P.view x.plant) (P.view z.plant) s.acts in
+    let keeps1 : IsKeeping {T = Unit {0}} P.tells m.id [] x.journal.batches z.journal.batches x.pair.first.alive x.pair.first.alive x.pair.second.alive x.pair.second.alive (P.view x.plant) (P.view z.plant) (Ok tt) = spooled_ok {T = Unit {0}} P.tells m.id x.journal.batches z.journal.batches same tt x.pair.first.alive x.pair.second.alive (P.view x.plant) (P.view z.plant) s.acts c.in_ok-outcome.ensures.cause in
     let none : end_of q.placed q.current q.journal.batches ≡ z.journal.batches = end_none q.placed q.current q.journal.batches (h.placed ∙ s.placed ∙ w.unplaced) (h.current ∙ s.current ∙ w.none) ∙ ap (λ (j : Journal). j.batches) h.journal in
     let held : IsOnCopies {T = Unit {0}} P.tells m.id.0 x.pair.first.alive q.pair.first.alive x.pair.second.alive q.pair.second.alive (P.view z.plant) (P.view q.plant) (Ok tt) = rw s.pair at c.in_ok-hold_again.ensures.acts in
     let keeps3 : IsKeeping {T = Unit {0}} P.tells m.id [] x.journal.batches (end_of q.placed q.current q.journal.batches) x.pair.first.alive q.pair.first.alive x.pair.second.alive q.pair.second.alive (P.view x.plant) (P.view q.plant) (Ok tt) = keeping_quiet P.tells m.id 0 {S = Unit {0}} {T = Unit {0}} tt (Ok tt) [] x.journal.batches z.journal.batches (end_of q.placed q.current q.journal.batches) x.pair.first.alive x.pair.first.alive q.pair.first.alive x.pair.second.alive x.pair.second.alive q.pair.second.alive (P.view x.plant) (P.view z.plant) (P.view q.plant) keeps1 (held_ok {T = Unit {0}} P.tells m.id z.journal.batches (end_of q.placed q.current q.journal.batches) none tt x.pair.first.alive q.pair.first.alive x.pair.second.alive q.pair.second.alive (P.view z.plant) (P.view q.plant) held) in
     untold_then C.reads x.base q.base x.since q.since m.id o.id at (P.view x.plant) (P.view q.plant) (h.base ∙ s.base) (h.since ∙ s.since) h.id w.begun keeps3.course.goes (keeps3.quiet told) was
+
+pub returns-in_err-outcome-clause-book : goal.returns-in_err-outcome-clause-book
+returns-in_err-outcome-clause-book g c =
+    let x = c.args.complex.now in
+    let p = err_from_is_err_and c.from_residual.result c.from_residual.ensures.1 in
+    rw (p.1, p.2) (c.in_err-outcome.ensures.book)
+
+pub returns-in_err-hold_again-clause-book : goal.returns-in_err-hold_again-clause-book
+returns-in_err-hold_again-clause-book g c = book_same c.from_residual-in_err-hold_again.result c.args.member.now.id c.args.complex.now.book c.hold_again.new.complex.book (c.hold_again.ensures.book ∙ c.in_ok-outcome.ensures.book)

@@ -1,26 +1,20 @@
-use Rattle.std.proofs.Common.{◌∙◌, Bool, None, if◌then◌else◌, ap, sym}
-use Rattle.member_work.specs.Gone.{gone_output_in}
+use Rattle.std.proofs.Common.{◌≡◌, ◌∙◌, ◌&&◌, None, Option, if◌then◌else◌, ap, refl, sym}
+use Rattle.std.specs.List.{list_any}
+use Rattle.mas_types.specs.declared.ids.GroupNo.{GroupNo}
+use Rattle.mas_types.specs.Journal.{is_kept}
+use Rattle.mas_complex.specs.Journals.{kept_all}
+use Rattle.member_work.specs.Gone.{are_outputs_brought, gone_output_since}
 use Rattle.member_work.proofs.GoneOutputLemmas.{gone_output_is, output_since_when}
 use Rattle.member_work.proofs.gone.gone_output.Goals as goal
-
-pub returns-then-are_outputs_brought_in-clause-since : goal.returns-then-are_outputs_brought_in-clause-since
-returns-then-are_outputs_brought_in-clause-since g c =
-    let y = c.args.complex.now in
-    sym (output_since_when c.args.job c.args.index y.base y.journal.batches c.as_slice.result.now c.are_outputs_brought_in.result c.as_slice.ensures c.are_outputs_brought_in.ensures ∙ ap (λ (b : Bool). if b then None else gone_output_in y.base c.args.job c.args.index) c.if-are_outputs_brought_in.true)
-
-pub returns-then-are_outputs_brought_in-clause-gone : goal.returns-then-are_outputs_brought_in-clause-gone
-returns-then-are_outputs_brought_in-clause-gone g c told o found =
-    let y = c.args.complex.now in
-    sym (output_since_when c.args.job c.args.index y.base y.journal.batches c.as_slice.result.now c.are_outputs_brought_in.result c.as_slice.ensures c.are_outputs_brought_in.ensures ∙ ap (λ (b : Bool). if b then None else gone_output_in y.base c.args.job c.args.index) c.if-are_outputs_brought_in.true)
-    ∙ gone_output_is c.args.job c.args.index y.base y.journal.batches y.current (c.kept_replies.ensures told) (c.requires.base_sound told) (c.kept_given.ensures.given told (c.requires.base_sound told)) o found
 
 pub returns-clause-since : goal.returns-clause-since
 returns-clause-since g c =
     let y = c.args.complex.now in
-    sym (output_since_when c.args.job c.args.index y.base y.journal.batches c.as_slice.result.now c.are_outputs_brought_in.result c.as_slice.ensures c.are_outputs_brought_in.ensures ∙ ap (λ (b : Bool). if b then None else gone_output_in y.base c.args.job c.args.index) c.if-are_outputs_brought_in.false ∙ sym c.gone_output_in.ensures)
+    c.unless_outputs_brought.ensures ∙ ap (λ (o : Option GroupNo). if list_any (λ b. is_kept b.fate && are_outputs_brought c.args.job b.entries) c.as_slice-batches.result.now then None else o) c.gone_output_in.ensures
+    ∙ sym (output_since_when c.args.job c.args.index y.base y.journal.batches c.as_slice-batches.result.now _ c.as_slice-batches.ensures refl)
 
 pub returns-clause-gone : goal.returns-clause-gone
 returns-clause-gone g c told o found =
     let y = c.args.complex.now in
-    sym (output_since_when c.args.job c.args.index y.base y.journal.batches c.as_slice.result.now c.are_outputs_brought_in.result c.as_slice.ensures c.are_outputs_brought_in.ensures ∙ ap (λ (b : Bool). if b then None else gone_output_in y.base c.args.job c.args.index) c.if-are_outputs_brought_in.false ∙ sym c.gone_output_in.ensures)
-    ∙ gone_output_is c.args.job c.args.index y.base y.journal.batches y.current (c.kept_replies.ensures told) (c.requires.base_sound told) (c.kept_given.ensures.given told (c.requires.base_sound told)) o found
+    let since : c.unless_outputs_brought.result ≡ gone_output_since y.base (kept_all y.journal.batches) c.args.job c.args.index = returns-clause-since g c in
+    since ∙ gone_output_is c.args.job c.args.index y.base y.journal.batches y.current (c.kept_replies.ensures told) (c.requires.base_sound told) (c.kept_given.ensures.given told (c.requires.base_sound told)) o found

@@ -26,6 +26,7 @@ use Rattle.member_decks.proofs.HoldLemmas.{book_by, whole_after}
 use Rattle.member_decks.proofs.PageLemmas.{still_roomy}
 use Rattle.member_work.specs.Steps.{levels_in}
 use Rattle.member_work.proofs.WorkedLemmas.{work_as, work_behind, work_unbegun}
+use Rattle.member_work.proofs.BookLemmas.{ends_named, held_same}
 use Rattle.member_work.proofs.locked.play_locked_work.Goals as goal
 
 pub lock-requires-clause-away : goal.lock-requires-clause-away
@@ -595,3 +596,24 @@ play_work-requires-clause-copy2 g c =
     let l = c.lock.ensures in
     let t = c.take_hold.ensures in
     record { rests = c.in_ok-take_hold.ensures.rests2; room = c.in_ok-take_hold.ensures.room2 }
+
+-- WHO HOLDS THE LOCK AFTER AN ERROR
+
+pub returns-in-Err-clause-held : goal.returns-in-Err-clause-held
+returns-in-Err-clause-held g c =
+    let x = c.args.complex.now in
+    let m = c.args.member.now in
+    held_same c.deny.result m.id (after_try x.book m.id false) c.deny.new.complex.book (c.deny.ensures.book ∙ c.lock.ensures.book)
+
+pub returns-in_err-take_hold-clause-held : goal.returns-in_err-take_hold-clause-held
+returns-in_err-take_hold-clause-held g c =
+    let x = c.args.complex.now in
+    let m = c.args.member.now in
+    held_same c.from_residual.result m.id (after_try x.book m.id false) c.take_hold.new.complex.book (c.take_hold.ensures.book ∙ c.lock.ensures.book)
+
+pub returns-in_err-play_work-clause-held : goal.returns-in_err-play_work-clause-held
+returns-in_err-play_work-clause-held g c =
+    let x = c.args.complex.now in
+    let m = c.args.member.now in
+    let p = err_from_is_err_and c.from_residual-in_err-play_work.result c.from_residual-in_err-play_work.ensures.1 in
+    rw (p.1, p.2) (ends_named c.in_err-play_work.field-0.0 m.id c.take_hold.new.member.id (after_try x.book m.id false) c.take_hold.new.complex.book c.play_work.new.complex.book c.take_hold.ensures.id (c.take_hold.ensures.book ∙ c.lock.ensures.book) c.in_err-play_work.ensures.book)

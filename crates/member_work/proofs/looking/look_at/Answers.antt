@@ -1,4 +1,5 @@
 use Rattle.std.proofs.Common.{◌≡◌, ◌<◌, ◌∙◌, true, List, All, None, Some, ap, subst, sym, arith}
+use Rattle.std.proofs.lemmas.Result.{err_from_is_err_and}
 use Rattle.mas_types.specs.declared.ids.GroupNo.{GroupNo}
 use Rattle.mas_types.specs.declared.jobs.JobFields.{JobFields}
 use Rattle.mas_types.specs.declared.queues.Config.{Config}
@@ -14,6 +15,8 @@ use Rattle.member_decks.proofs.HoldLemmas.{gets_again, keeps_book}
 use Rattle.job_outcome.specs.Outcomes.{outcome_of}
 use Rattle.member_work.proofs.CauseLemmas.{stops_as}
 use Rattle.member_work.proofs.LookingLemmas.{freed_member, groups_within, seen_as}
+use Rattle.job_outcome.specs.declared.outcomes.Read.{Read}
+use Rattle.member_work.proofs.BookLemmas.{ends_freed}
 use Rattle.member_work.proofs.looking.look_at.Goals as goal
 
 pub read_text-requires-clause-within : goal.read_text-requires-clause-within
@@ -74,3 +77,11 @@ returns-clause-looked g c =
           );
       caused = stops_as c.args.member.now.id (P.view x.plant) (P.view c.read_text.new.complex.plant) c.args.runs r.fields o x.base.config.groups (groups_of its t.owners) _ c.in-Ok-outcome_of.ensures.outcome failed;
     })
+
+-- WHO HOLDS THE LOCK AFTER AN ERROR
+
+pub returns-in_err-read-clause-book : goal.returns-in_err-read-clause-book
+returns-in_err-read-clause-book g c =
+    let x = c.args.complex.now in
+    let p = err_from_is_err_and c.from_residual.result c.from_residual.ensures.1 in
+    rw (p.1, p.2) (ends_freed Read c.in_err-read.field-0.0 c.args.member.now.id x.book c.read_text.new.complex.book (g.P.Plant.view c.leave_lock.new.self.plant) (g.P.Plant.view c.read_text.new.complex.plant) c.in_err-read.ensures.cause (c.read_text.ensures.book ∙ c.leave_lock.ensures.book))

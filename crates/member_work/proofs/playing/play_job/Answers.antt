@@ -22,6 +22,7 @@ use Rattle.member_work.proofs.LookingLemmas.{told_job}
 use Rattle.member_work.proofs.PartLemmas.{queue_kept}
 use Rattle.member_work.proofs.StateLemmas.{untold_then}
 use Rattle.member_work.proofs.WrittenLemmas.{kept_long}
+use Rattle.member_work.proofs.BookLemmas.{book_same, ends_named}
 use Rattle.member_work.proofs.playing.play_job.Goals as goal
 
 pub returns-in_default-clause-step : goal.returns-in_default-clause-step
@@ -202,3 +203,12 @@ returns-clause-high g c most high le =
 pub returns-clause-reached : goal.returns-clause-reached
 returns-clause-reached g c =
     let one = c.in_ok-keep_given.ensures.reached in let two = c.in_ok-end.ensures.reached in omega (arith, one, two)
+
+pub returns-in_err-keep_given-clause-book : goal.returns-in_err-keep_given-clause-book
+returns-in_err-keep_given-clause-book g c = book_same c.from_residual.result c.args.member.now.id c.args.complex.now.book c.keep_given.new.complex.book c.keep_given.ensures.book
+
+pub returns-in_err-end-clause-book : goal.returns-in_err-end-clause-book
+returns-in_err-end-clause-book g c =
+    let x = c.args.complex.now in
+    let p = err_from_is_err_and c.from_residual-in_err-end.result c.from_residual-in_err-end.ensures.1 in
+    rw (p.1, p.2) (ends_named c.in_err-end.field-0.0 c.args.member.now.id c.keep_given.new.member.id x.book c.keep_given.new.complex.book c.play_text.new.complex.book c.keep_given.ensures.id c.keep_given.ensures.book c.in_err-end.ensures.book)

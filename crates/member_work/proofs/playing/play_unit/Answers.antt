@@ -10,6 +10,7 @@ use Rattle.member_work.proofs.GivenLemmas.{work_tells}
 use Rattle.member_work.proofs.UnderWayLemmas.{convert_under_way, finish_indexed, print_under_way, run_under_way}
 use Rattle.member_work.proofs.UnitStepLemmas.{command_fits, command_step, convert_step, each_command, idle_step, print_step, run_step}
 use Rattle.member_node.proofs.WriteLemmas.{none_out}
+use Rattle.member_work.proofs.BookLemmas.{book_same}
 use Rattle.member_work.proofs.playing.play_unit.Goals as goal
 
 pub returns-in_err-end-clause-step : goal.returns-in_err-end-clause-step
@@ -152,3 +153,6 @@ play_command-requires-clause-command g c =
     let m = c.args.member.now in
     let s = tells_some m.checkpoint.tables in
     command_fits c.unit-next.result c.in-Some.command (sym c.command_of.ensures ∙ c.in-Some.is) (λ n i is. finish_indexed m.checkpoint.tables s.0 m.id n i c.requires.work.draws.spelling s.1 (sym is ∙ c.unit-next.ensures s.0 s.1))
+
+pub returns-in_err-end-clause-book : goal.returns-in_err-end-clause-book
+returns-in_err-end-clause-book g c = book_same c.from_residual.result c.args.member.now.id c.args.complex.now.book c.play_command.new.complex.book c.play_command.ensures.book

@@ -16,6 +16,7 @@ use Rattle.member_work.specs.Steps.{IsKeeping}
 use Rattle.member_work.proofs.EndingLemmas.{end_none}
 use Rattle.member_work.proofs.StateLemmas.{work_queue}
 use Rattle.member_work.proofs.PrintLemmas.{lines_then, lines_unprinted}
+use Rattle.member_work.proofs.BookLemmas.{book_same}
 use Rattle.member_work.proofs.printing.play_lines.Goals as goal
 
 pub returns-in_err-end-clause-step : goal.returns-in_err-end-clause-step
@@ -103,3 +104,12 @@ returns-clause-step g c =
 pub returns-clause-reached : goal.returns-clause-reached
 returns-clause-reached g c =
     let same = c.print_and_hold.ensures.reached in on_ok c.mark_printed.result (λ le. omega (arith, same, le)) c.mark_printed.ensures.reached
+
+pub returns-in_err-end-clause-book : goal.returns-in_err-end-clause-book
+returns-in_err-end-clause-book g c =
+    let x = c.args.complex.now in
+    let p = err_from_is_err_and c.from_residual.result c.from_residual.ensures.1 in
+    rw (p.1, p.2) (c.in_err-end.ensures.book)
+
+pub returns-clause-book : goal.returns-clause-book
+returns-clause-book g c = book_same c.mark_printed.result c.args.member.now.id c.args.complex.now.book c.mark_printed.new.complex.book (c.mark_printed.ensures.book ∙ c.in_ok-end.ensures.book)

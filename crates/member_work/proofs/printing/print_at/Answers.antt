@@ -1,4 +1,7 @@
-use Rattle.std.proofs.Common.{◌≡◌, ◌<◌, ◌∙◌, true, false, List, All, Option, None, Some, ap, subst, sym, arith}
+use Rattle.std.proofs.Common.{◌≡◌, ◌<◌, ◌∙◌, true, false, List, All, Option, None, Some, Err, ap, subst, sym, arith}
+use Rattle.std.proofs.lemmas.Result.{err_from_is_err_and}
+use Rattle.mas_types.specs.declared.answers.Closing.{Closing}
+use Rattle.member_node.proofs.SpareLemmas.{spares_then}
 use Rattle.mas_types.specs.declared.ids.GroupNo.{GroupNo}
 use Rattle.mas_types.specs.declared.jobs.Output.{Output}
 use Rattle.mas_types.specs.declared.jobs.Text.TheVariants.{Whole}
@@ -23,8 +26,11 @@ use Rattle.member_work.specs.Printing.{IsBeside, IsPrinting, MayPrintTo}
 use Rattle.member_work.specs.Rounds.{IsReadAs}
 use Rattle.job_outcome.specs.declared.outcomes.Read.TheVariants as read
 use Rattle.member_work.proofs.LookingLemmas.{freed_member, groups_within}
-use Rattle.member_work.proofs.PrintedLemmas.{beside_on, beside_volumes, freed_up, lines_whole, may_print_to, output_seen, printed_as, printed_named, stops_wider}
+use Rattle.member_work.proofs.PrintedLemmas.{beside_on, beside_volumes, freed_up, lines_whole, may_print_to, output_seen, printed_as, printed_named}
+use Rattle.member_work.proofs.ReadLemmas.{stops_later}
 use Rattle.member_work.proofs.RoundLemmas.{wider_read}
+use Rattle.job_outcome.specs.declared.outcomes.Read.{Read}
+use Rattle.member_work.proofs.BookLemmas.{ends_freed, ends_lines}
 use Rattle.member_work.proofs.printing.print_at.Goals as goal
 
 pub read_text-requires-clause-within : goal.read_text-requires-clause-within
@@ -158,3 +164,35 @@ pub returns-clause-named : goal.returns-clause-named
 returns-clause-named g c =
     let P = g.P.Plant in
     printed_named c.args.member.now.id c.in_ok-read.read (P.view c.read_text.new.complex.plant) (P.view c.print_text.new.complex.plant) c.in_ok-end.end c.in_ok-end.ensures.printed
+
+pub returns-clause-cause : goal.returns-clause-cause
+returns-clause-cause g c =
+    let P = g.P.Plant in
+    let x = c.args.complex.now in
+    let y = c.read_text.new.complex in
+    let z = c.print_text.new.complex in
+    rw c.retake_lock.ensures.plant (spares_then c.args.member.now.id.0 false (P.view x.plant) (P.view y.plant) (P.view z.plant) (rw c.leave_lock.ensures.plant at c.in_ok-read.ensures.cause) c.in_ok-end.ensures.cause)
+
+pub returns-in_err-end-clause-cause : goal.returns-in_err-end-clause-cause
+returns-in_err-end-clause-cause g c =
+    let P = g.P.Plant in
+    let x = c.args.complex.now in
+    let y = c.read_text.new.complex in
+    let z = c.print_text.new.complex in
+    let one = rw c.leave_lock.ensures.plant at c.read_text.ensures.acts in
+    let p = err_from_is_err_and c.from_residual-in_err-end.result c.from_residual-in_err-end.ensures.1 in
+    rw (p.1, p.2) (stops_later {T = Option Closing} c.args.member.now.id.0 (P.view x.plant) (P.view y.plant) (P.view z.plant) (Err c.in_err-end.field-0.0) one.goes (rw c.leave_lock.ensures.plant at c.in_ok-read.ensures.cause) c.in_err-end.ensures.cause)
+
+-- WHO HOLDS THE LOCK AFTER AN ERROR
+
+pub returns-in_err-read-clause-book : goal.returns-in_err-read-clause-book
+returns-in_err-read-clause-book g c =
+    let x = c.args.complex.now in
+    let p = err_from_is_err_and c.from_residual.result c.from_residual.ensures.1 in
+    rw (p.1, p.2) (ends_freed Read c.in_err-read.field-0.0 c.args.member.now.id x.book c.read_text.new.complex.book (g.P.Plant.view c.leave_lock.new.self.plant) (g.P.Plant.view c.read_text.new.complex.plant) c.in_err-read.ensures.cause (c.read_text.ensures.book ∙ c.leave_lock.ensures.book))
+
+pub returns-in_err-end-clause-book : goal.returns-in_err-end-clause-book
+returns-in_err-end-clause-book g c =
+    let x = c.args.complex.now in
+    let p = err_from_is_err_and c.from_residual-in_err-end.result c.from_residual-in_err-end.ensures.1 in
+    rw (p.1, p.2) (ends_lines (Option Closing) c.in_err-end.field-0.0 c.args.member.now.id x.book c.read_text.new.complex.book c.print_text.new.complex.book (g.P.Plant.view c.read_text.new.complex.plant) (g.P.Plant.view c.print_text.new.complex.plant) c.in_err-end.ensures.cause (c.read_text.ensures.book ∙ c.leave_lock.ensures.book) c.in_err-end.ensures.book)

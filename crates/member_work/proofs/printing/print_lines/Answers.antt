@@ -7,7 +7,9 @@ use Rattle.mas_complex.specs.Locking.{IsOfOther}
 use Rattle.mas_complex.specs.Paper.{counts_of}
 use Rattle.paper_laws.specs.Next.{MayPrint}
 use Rattle.ckpt_copy.specs.Moments.{goes_none}
-use Rattle.member_work.proofs.PrintedLemmas.{beside_none, beside_on, beside_print, failed_wider, lines_lost, lines_printed, may_print, print_failed, stops_wider}
+use Rattle.spool_disk.specs.declared.plant.Part.TheVariants.{Printer}
+use Rattle.member_node.proofs.SpareLemmas.{spares_done, spares_failed, spares_halted, spares_none, spares_then}
+use Rattle.member_work.proofs.PrintedLemmas.{beside_none, beside_on, beside_print, failed_wider, lines_lost, lines_printed, may_print, print_failed}
 use Rattle.member_work.proofs.printing.print_lines.Goals as goal
 
 pub loop-before-init : goal.loop-before-init
@@ -29,6 +31,7 @@ loop-before-init g c =
       second = refl;
       level = refl;
       acts = beside_none P.tells (P.view x.plant);
+      spares = spares_none c.args.by.0 (P.view x.plant);
       upto = omega (arith, sum, count);
       next = λ small. omega (arith, sum, count, small);
     }
@@ -88,6 +91,7 @@ loop-before-preserved g c =
       second = e.second ∙ i.second;
       level = e.level ∙ i.level;
       acts = beside_on P.tells (P.view x.plant) (P.view y.plant) (P.view z.plant) i.acts (beside_print P.tells c.args.by line (P.view y.plant) (P.view z.plant) c.print.result e.acts e.content);
+      spares = spares_then c.args.by.0 false (P.view x.plant) (P.view y.plant) (P.view z.plant) i.spares (spares_done c.args.by.0 (Printer c.args.by) (P.view y.plant) (P.view z.plant) (rw done at e.acts));
       upto = omega (arith, same, one);
       next = λ less. omega (arith, same, one);
     }
@@ -129,8 +133,18 @@ returns-in-Halted-clause-cause g c =
     let y = c.loop-before.complex in
     let z = c.print.new.self in
     let rose = c.print.ensures.acts.halted c.in-Halted.is in
-    let before = c.loop-before.invariant.acts.goes.stops c.args.by.0 in
-    omega (arith, rose, before)
+    let before = c.loop-before.invariant.acts.goes.stops c.args.by.0 in (
+      spares_then c.args.by.0 true (P.view x.plant) (P.view y.plant) (P.view z.plant) c.loop-before.invariant.spares (spares_halted c.args.by.0 (Printer c.args.by) (P.view y.plant) (P.view z.plant) (rw c.in-Halted.is at c.print.ensures.acts)),
+      omega (arith, rose, before),
+    )
+
+pub returns-in-Failed-clause-cause : goal.returns-in-Failed-clause-cause
+returns-in-Failed-clause-cause g c =
+    let P = g.P.Plant in
+    let x = c.args.complex.now in
+    let y = c.loop-before.complex in
+    let z = c.print.new.self in
+    spares_then c.args.by.0 false (P.view x.plant) (P.view y.plant) (P.view z.plant) c.loop-before.invariant.spares (spares_failed c.args.by.0 (Printer c.args.by) (P.view y.plant) (P.view z.plant) (rw c.in-Failed.is at c.print.ensures.acts))
 
 pub returns-clause-printed : goal.returns-clause-printed
 returns-clause-printed g c = lines_printed c.args.by c.args.text.now (g.P.Plant.view c.args.complex.now.plant) (g.P.Plant.view c.loop-before.complex.plant)

@@ -1,5 +1,6 @@
-use Rattle.std.proofs.Common.{◌≡◌, ◌≤◌, ◌<◌, ◌+◌}
+use Rattle.std.proofs.Common.{◌≡◌, ◌≤◌, ◌<◌, ◌+◌, false}
 use Rattle.mas_complex.specs.Paper.{counts_of}
+use Rattle.member_node.specs.Spares.{Spares}
 use Rattle.member_work.specs.Printing.{IsBeside}
 use Rattle.member_work.proofs.printing.print_lines.Given as goal
 
@@ -22,6 +23,7 @@ invariant-loop-before g l =
       second : y.second ≡ x.second;
       level : y.level ≡ x.level;
       acts : IsBeside P.tells (P.view x.plant) (P.view y.plant);
+      spares : Spares l.by.0 false (P.view x.plant) (P.view y.plant);
       upto : l.before ≤ l.output.mark + counts_of y.printed l.by;
       next : l.before < l.last → l.output.mark + counts_of y.printed l.by ≡ l.before;
     }

@@ -1,6 +1,7 @@
 use Rattle.std.proofs.Common.{◌≡◌, false, None, ap, sym, arith}
 use Rattle.mas_types.specs.declared.answers.Closing.TheVariants as closing
 use Rattle.member_work.specs.Units.{printed_end}
+use Rattle.member_node.proofs.SpareLemmas.{spares_none}
 use Rattle.member_work.proofs.PrintedLemmas.{beside_none, unprinted}
 use Rattle.member_work.proofs.printing.print_text.Goals as goal
 
@@ -30,3 +31,9 @@ print_lines-requires-clause-may g c told = c.requires.may told c.in-Lines.text c
 
 pub returns-in-Lines-clause-printed : goal.returns-in-Lines-clause-printed
 returns-in-Lines-clause-printed g c = rw c.in-Lines.is c.print_lines.ensures.printed
+
+pub returns-in-Gone-clause-cause : goal.returns-in-Gone-clause-cause
+returns-in-Gone-clause-cause g c = spares_none c.args.by.0 (g.P.Plant.view c.args.complex.now.plant)
+
+pub returns-in-Lost-clause-cause : goal.returns-in-Lost-clause-cause
+returns-in-Lost-clause-cause g c = spares_none c.args.by.0 (g.P.Plant.view c.args.complex.now.plant)

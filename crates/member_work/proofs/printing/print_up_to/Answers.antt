@@ -2,6 +2,7 @@ use Rattle.std.proofs.Common.{◌∙◌, sym}
 use Rattle.mas_types.specs.declared.queues.Queue.{Queue}
 use Rattle.mas_complex.specs.Journals.{kept_all}
 use Rattle.mas_complex.specs.Meaning.{run}
+use Rattle.member_node.proofs.SpareLemmas.{spares_none}
 use Rattle.member_work.proofs.PrintedLemmas.{beside_none, printed_gone, whole_output}
 use Rattle.member_work.proofs.printing.print_up_to.Goals as goal
 
@@ -22,3 +23,6 @@ returns-in-Some-clause-printed g c =
 
 pub returns-in-Some-clause-counted : goal.returns-in-Some-clause-counted
 returns-in-Some-clause-counted g c is = absurd (cc)
+
+pub returns-in-Some-clause-cause : goal.returns-in-Some-clause-cause
+returns-in-Some-clause-cause g c = spares_none c.args.member.now.id.0 (g.P.Plant.view c.args.complex.now.plant)

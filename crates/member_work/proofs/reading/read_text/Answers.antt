@@ -38,7 +38,7 @@ loop-group-preserved g c =
       second = e.second ∙ i.second;
       level = e.level ∙ i.level;
       have = rw (take_more groups k none c.loop-group-test.true)
-          (read_more P.tells c.args.by.0 x.base.config (P.view x.plant) (P.view y.plant) (P.view z.plant) (take k groups) group c.loop-group.lines c.add_group.new.lines c.loop-group.gone c.add_group.new.gone i.have e.acts e.reads adds);
+          (read_more P.tells c.args.by.0 x.base.config (P.view x.plant) (P.view y.plant) (P.view z.plant) (take k groups) group c.loop-group.lines c.add_group.new.lines c.loop-group.gone c.add_group.new.gone i.have e.acts c.in_ok-volume.ensures.cause e.reads adds);
     }
 
 pub returns-clause-read : goal.returns-clause-read

@@ -20,6 +20,7 @@ use Rattle.spool_volumes.specs.Volumes.{AreRoomy}
 use Rattle.member_decks.proofs.OpenLemmas.{on_ok}
 use Rattle.member_decks.proofs.PageLemmas.{acts_none, acts_on, still_roomy}
 use Rattle.member_work.specs.Spooled.{AreWritten}
+use Rattle.member_node.proofs.SpareLemmas.{spares_none}
 use Rattle.member_work.proofs.SpoolLemmas.{behind_long, cause_wider, first_fits, front_long, lies_behind, lies_front, rise_behind, rise_front, still_stand, written_none}
 use Rattle.member_work.proofs.spooling.+write_outputs.Goals as goal
 
@@ -171,7 +172,7 @@ returns-in_err-write_pages-clause-cause g t c =
     let e = c.write_pages.ensures in
     let p = err_from_is_err_and c.from_residual.result c.from_residual.ensures.1 in
     let cause = rw front at c.in_err-write_pages.ensures.cause in
-    rw (p.1, p.2) (cause_wider {T = Unit {0}} c.args.by.0 x.base.config.groups (take k gs) gs (P.view x.plant) (P.view x.plant) (P.view y.plant) (Err c.in_err-write_pages.field-0.0) (λ v there. lies_front x.base.config.groups v k gs there) (acts_none P.tells c.args.by.0 (P.view x.plant)).goes cause)
+    rw (p.1, p.2) (cause_wider {T = Unit {0}} c.args.by.0 x.base.config.groups (take k gs) gs (P.view x.plant) (P.view x.plant) (P.view y.plant) (Err c.in_err-write_pages.field-0.0) (λ v there. lies_front x.base.config.groups v k gs there) (acts_none P.tells c.args.by.0 (P.view x.plant)).goes (spares_none c.args.by.0 (P.view x.plant)) cause)
 
 pub returns-in_err-write_pages-clause-spares : goal.returns-in_err-write_pages-clause-spares
 returns-in_err-write_pages-clause-spares g t c told h none =
@@ -224,6 +225,10 @@ write_outputs-requires g t c κs lives =
     let behind : c.other_groups.result.now ≡ drop k gs = c.other_groups.ensures in
     let y = c.write_pages.new.complex in
     let e = c.write_pages.ensures in
+    let base : y.base ≡ x.base = ap (λ p. p.base) e.frame in
+    let book : y.book ≡ x.book = ap (λ p. p.book) e.frame in
+    let current : y.current ≡ x.current = ap (λ p. p.current) e.frame in
+    let batches : y.journal.batches ≡ x.journal.batches = ap (λ p. p.batches) e.frame in
     let Q : Queue = run x.base (kept_all x.journal.batches) in
     let one = c.in-Some.ensures.cases.1 in (
       omega (arith, one),
@@ -232,9 +237,9 @@ write_outputs-requires g t c κs lives =
         (
           lives.1,
           (
-            rw e.book c.requires.up,
+            rw book c.requires.up,
             (
-              e.current ∙ c.requires.none,
+              current ∙ c.requires.none,
               (
                 All-tail IsOutSpec s rest fit,
                 (
@@ -242,8 +247,8 @@ write_outputs-requires g t c κs lives =
                   (
                     subst Rise (sym behind) (rise_behind k gs c.requires.rise),
                     (
-                      subst (λ (b : Queue). All (IsGroupOf b.config) c.other_groups.result.now) (sym e.base) (subst (All (IsGroupOf x.base.config)) (sym behind) (All-drop (IsGroupOf x.base.config) k gs c.requires.within)),
-                      λ told. rw (e.base, e.journal) (subst (All (λ (h : GroupNo). IsHeldBy c.args.by h Q)) (sym behind) (All-drop (λ (h : GroupNo). IsHeldBy c.args.by h Q) k gs (c.requires.held told))),
+                      subst (λ (b : Queue). All (IsGroupOf b.config) c.other_groups.result.now) (sym base) (subst (All (IsGroupOf x.base.config)) (sym behind) (All-drop (IsGroupOf x.base.config) k gs c.requires.within)),
+                      λ told. rw (base, batches) (subst (All (λ (h : GroupNo). IsHeldBy c.args.by h Q)) (sym behind) (All-drop (λ (h : GroupNo). IsHeldBy c.args.by h Q) k gs (c.requires.held told))),
                     ),
                   ),
                 ),
@@ -275,9 +280,10 @@ returns-clause-cause g t c =
     let behind : c.other_groups.result.now ≡ drop k gs = c.other_groups.ensures in
     let y = c.write_pages.new.complex in
     let e = c.write_pages.ensures in
+    let base : y.base ≡ x.base = ap (λ p. p.base) e.frame in
     let z = c.write_outputs.new.complex in
     let w = c.write_outputs.ensures in
-    cause_wider c.args.by.0 x.base.config.groups (drop k gs) gs (P.view x.plant) (P.view y.plant) (P.view z.plant) c.write_outputs.result (λ v there. lies_behind x.base.config.groups v k gs there) e.acts.goes (rw (e.base, behind) at w.cause)
+    cause_wider c.args.by.0 x.base.config.groups (drop k gs) gs (P.view x.plant) (P.view y.plant) (P.view z.plant) c.write_outputs.result (λ v there. lies_behind x.base.config.groups v k gs there) e.acts.goes c.in_ok-write_pages.ensures.cause (rw (base, behind) at w.cause)
 
 pub returns-clause-stand : goal.returns-clause-stand
 returns-clause-stand g t c =
@@ -296,6 +302,7 @@ returns-clause-stand g t c =
     let behind : c.other_groups.result.now ≡ drop k gs = c.other_groups.ensures in
     let y = c.write_pages.new.complex in
     let e = c.write_pages.ensures in
+    let base : y.base ≡ x.base = ap (λ p. p.base) e.frame in
     let z = c.write_outputs.new.complex in
     let w = c.write_outputs.ensures in
     let per = x.base.config.groups in
@@ -304,9 +311,9 @@ returns-clause-stand g t c =
     on_ok c.write_outputs.result (λ others told roomy.
     let here : StandBelow (length (take k gs)) mid per (packed s.text) (take k gs) = subst (λ (l : List GroupNo). StandBelow (length l) mid per (packed s.text) l) front (c.in_ok-write_pages.ensures.stand told roomy) in
     let at_k : StandBelow k mid per (packed s.text) (take k gs) = subst (λ (i : ℕ). StandBelow i mid per (packed s.text) (take k gs)) (front_long k gs le) here in
-    let spares = λ (h : GroupNo) (none : All (λ (j : GroupNo). h.0 ≢ j.0) (drop k gs)). rw e.base at (w.spares told h (subst (All (λ (j : GroupNo). h.0 ≢ j.0)) (sym behind) none)) in
+    let spares = λ (h : GroupNo) (none : All (λ (j : GroupNo). h.0 ≢ j.0) (drop k gs)). rw base at (w.spares told h (subst (All (λ (j : GroupNo). h.0 ≢ j.0)) (sym behind) none)) in
     let first : StandBelow k new per (packed s.text) (take k gs) = still_stand k per (packed s.text) gs mid new c.requires.rise spares at_k in
-    let behind_written : AreWritten new per rest (drop k gs) = rw (e.base, behind) at (others told (rw e.base (still_roomy x.base.config (P.view x.plant) (P.view y.plant) e.acts.goes roomy))) in
+    let behind_written : AreWritten new per rest (drop k gs) = rw (base, behind) at (others told (rw base (still_roomy x.base.config (P.view x.plant) (P.view y.plant) e.acts.goes roomy))) in
     subst (λ (ss : List OutSpec). AreWritten new per ss gs) (sym c.in-Some.ensures.cases.0)
     (subst (λ (i : ℕ). StandBelow i new per (packed s.text) (take i gs)) n first, subst (λ (i : ℕ). AreWritten new per rest (drop i gs)) n behind_written))
     w.stand
@@ -328,8 +335,9 @@ returns-clause-spares g t c told h none =
     let behind : c.other_groups.result.now ≡ drop k gs = c.other_groups.ensures in
     let y = c.write_pages.new.complex in
     let e = c.write_pages.ensures in
+    let base : y.base ≡ x.base = ap (λ p. p.base) e.frame in
     let z = c.write_outputs.new.complex in
     let w = c.write_outputs.ensures in
     let first = e.spares told h (subst (All (λ (j : GroupNo). h.0 ≢ j.0)) (sym front) (All-take (λ (j : GroupNo). h.0 ≢ j.0) k gs none)) in
-    let others = rw e.base at (w.spares told h (subst (All (λ (j : GroupNo). h.0 ≢ j.0)) (sym behind) (All-drop (λ (j : GroupNo). h.0 ≢ j.0) k gs none))) in
+    let others = rw base at (w.spares told h (subst (All (λ (j : GroupNo). h.0 ≢ j.0)) (sym behind) (All-drop (λ (j : GroupNo). h.0 ≢ j.0) k gs none))) in
     others ∙ first

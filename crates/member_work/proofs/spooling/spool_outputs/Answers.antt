@@ -1,4 +1,4 @@
-use Rattle.std.proofs.Common.{◌≡◌, ◌∙◌, List, All, length, take, ap, subst, sym}
+use Rattle.std.proofs.Common.{inl, inr, ◌≡◌, ◌∙◌, List, All, length, take, ap, subst, sym}
 use Rattle.mas_types.specs.declared.ids.GroupNo.{GroupNo}
 use Rattle.mas_types.specs.declared.queues.Config.{Config}
 use Rattle.mas_types.specs.declared.queues.Queue.{Queue}
@@ -44,3 +44,6 @@ write_and_sync-requires-clause-held g c told =
     let list : c.as_slice-2.result.now ≡ held_by m.id m.checkpoint.tables.owners = c.as_slice-2.ensures ∙ c.in-Ok.ensures ∙ ap (held_by m.id) c.as_slice.ensures in
     let owners : (run y.base (kept_all y.journal.batches)).owners ≡ m.checkpoint.tables.owners = rw (c.leave_lock.ensures.base, c.leave_lock.ensures.journal) (c.requires.owners told) in
     subst (λ (l : List GroupNo). All (λ h. IsHeldBy m.id h (run y.base (kept_all y.journal.batches))) (take c.args.needed l)) (sym list) (all_held m.id m.checkpoint.tables.owners c.args.needed (run y.base (kept_all y.journal.batches)) owners)
+
+pub returns-in-Err-Halted-clause-held : goal.returns-in-Err-Halted-clause-held
+returns-in-Err-Halted-clause-held g c = inr (inl (ap (λ p. p.book) c.write_and_sync.ensures.frame ∙ c.leave_lock.ensures.book))

@@ -211,7 +211,7 @@ returns-clause-book g c =
     let o = c.in_ok-keep_given.ensures in
     let out : end_of h.placed h.current h.journal.batches ≡ end_of y.placed y.current y.journal.batches =
     ap (λ (j : Journal). end_of h.placed h.current j.batches) (t.journal ∙ le.journal ∙ fe.journal) ∙ ap (λ b. end_of b h.current y.journal.batches) (t.placed ∙ le.placed ∙ fe.placed) ∙ ap (λ o. end_of y.placed o y.journal.batches) (t.current ∙ le.current ∙ fe.current) in
-    ok_of r (t.book ∙ subst (λ (i : MemberId). l.book ≡ after_try f.book i true) k.id le.book ∙ ap (λ (b : Book). after_try b m.id true) (subst (λ (i : MemberId). f.book ≡ after_free y.book i true) k.id fe.book ∙ ap (λ (b : Book). after_free b m.id true) k.book) ∙ keeps_book x.book m.id c.requires.may.holds some (c.requires.may.up some) c.requires.whole)
+    t.book ∙ subst (λ (i : MemberId). l.book ≡ after_try f.book i true) k.id le.book ∙ ap (λ (b : Book). after_try b m.id true) (subst (λ (i : MemberId). f.book ≡ after_free y.book i true) k.id fe.book ∙ ap (λ (b : Book). after_free b m.id true) k.book) ∙ keeps_book x.book m.id c.requires.may.holds some (c.requires.may.up some) c.requires.whole
 
 pub returns-clause-keeps : goal.returns-clause-keeps
 returns-clause-keeps g c =

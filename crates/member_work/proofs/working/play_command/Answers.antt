@@ -27,6 +27,7 @@ use Rattle.member_decks.proofs.OpenLemmas.{reply_done}
 use Rattle.job_outcome.specs.Next.{IsNamedEnd, end_by}
 use Rattle.member_work.specs.Steps.{HasCopy, IsAtWork, IsKeeping, IsStepUntold}
 use Rattle.member_work.proofs.GivenLemmas.{commanded, more_by_one, named_end, not_commanded, of_more, one_reply, texts_behind, work_given, work_tells}
+use Rattle.member_node.proofs.CourseLemmas.{only_none, papers_none}
 use Rattle.member_work.proofs.working.play_command.Goals as goal
 
 pub do_command-requires-clause-here : goal.do_command-requires-clause-here
@@ -278,3 +279,13 @@ returns-clause-added g c =
     let Q : Queue = run x.base (kept_all x.journal.batches ++ m.batch) in
     let end : c.end_by.result ≡ end_by p.0 = c.end_by.ensures ∙ ap end_by (c.last_reply.ensures ∙ sym (reply_done m.batch n.batch (entry_with m.id at c.args.command p.0) (last_reply n.batch) p.1 refl)) in
     more_by_one P.tells (P.view x.plant) x.since x.base x.journal.batches x.current x.placed x.level x.reserved x.printed m.id m.batch m.checkpoint m.room m.behind w at c.args.command p.0 n.id n.batch n.checkpoint n.room n.behind p.1
+
+-- NOTHING ELSE CHANGES
+
+pub returns-in_default-clause-apart : goal.returns-in_default-clause-apart
+returns-in_default-clause-apart g c told = c.give_up.ensures.apart told
+
+pub returns-clause-apart : goal.returns-clause-apart
+returns-clause-apart g c told =
+    let v = g.P.Plant.view c.args.complex.now.plant in
+    record { others = only_none v; console = refl; papers = papers_none v }

@@ -18,6 +18,7 @@ use Rattle.member_decks.specs.Steps.{AreOf}
 use Rattle.member_work.proofs.StateLemmas.{untold_then}
 use Rattle.member_work.proofs.UnitsLemmas.{of_rested, unit_long, units_long, units_next, units_start, units_unrested}
 use Rattle.member_work.proofs.WorkingLemmas.{IsWorkingFrom, working_idle, working_last, working_refused, working_wanted}
+use Rattle.member_work.proofs.BookLemmas.{book_same, ends_named}
 use Rattle.member_work.proofs.working.play_units.Goals as goal
 
 pub loop-done-init : goal.loop-done-init
@@ -361,3 +362,13 @@ loop-done-preserved g c =
       long = let one = i.long in let three = units_long P.tells k.id c.args.step y.base 0 done k.batch s i.of y.journal.batches y.pair.first.alive y.pair.second.alive (P.view y.plant) n.batch s1 z.journal.batches z.placed z.current o.work.unplaced o.work.none z.pair.first.alive z.pair.second.alive (P.view z.plant) _ c.in-Done.is o.step n.id z.base t.id t.base n2.batch s2 z2.pair.first.alive z2.pair.second.alive (P.view z2.plant) z2.journal.batches z2.placed z2.current q.work.unplaced q.work.none q.rest in omega (arith, one, three);
       then = λ rem same last batches a b v r f. i.then (suc rem) (omega (arith, same)) last batches a b v r (units_next P.tells k.id c.args.step y.base rem done k.batch s i.of y.journal.batches y.pair.first.alive y.pair.second.alive (P.view y.plant) n.batch s1 z.journal.batches z.placed z.current o.work.unplaced o.work.none z.pair.first.alive z.pair.second.alive (P.view z.plant) _ c.in-Done.is o.step n.id z.base t.id t.base n2.batch s2 z2.pair.first.alive z2.pair.second.alive (P.view z2.plant) z2.journal.batches z2.placed z2.current q.work.unplaced q.work.none q.rest n2.id z2.base u.id u.base last batches a b v r f);
     }
+
+pub returns-in_err-play_unit-clause-book : goal.returns-in_err-play_unit-clause-book
+returns-in_err-play_unit-clause-book g c =
+    let x = c.args.complex.now in
+    let p = err_from_is_err_and c.from_residual.result c.from_residual.ensures.1 in
+    rw (p.1, p.2) (ends_named c.in_err-play_unit.field-0.0 c.args.member.now.id c.loop-done.member.id x.book c.loop-done.complex.book c.play_unit.new.complex.book c.loop-done.invariant.id c.loop-done.invariant.book c.in_err-play_unit.ensures.book)
+
+pub returns-in_err-rest-clause-book : goal.returns-in_err-rest-clause-book
+returns-in_err-rest-clause-book g c =
+    book_same c.from_residual-in_err-rest.result c.args.member.now.id c.args.complex.now.book c.rest.new.complex.book (c.rest.ensures.book ∙ c.in_ok-play_unit.ensures.book ∙ c.loop-done.invariant.book)

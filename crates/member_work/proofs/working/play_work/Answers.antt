@@ -14,6 +14,7 @@ use Rattle.mas_types.specs.Limits.{members_most}
 use Rattle.member_node.specs.Reads.{AreLow}
 use Rattle.member_work.proofs.StateLemmas.{on_three, same_room, work_between}
 use Rattle.member_work.proofs.WorkedLemmas.{worked, worked_not}
+use Rattle.member_work.proofs.BookLemmas.{book_same}
 use Rattle.member_work.proofs.working.play_work.Goals as goal
 
 pub play_units-requires-clause-nothing : goal.play_units-requires-clause-nothing
@@ -91,22 +92,6 @@ close_work-requires-clause-level g c =
     let t = c.play_units.ensures in
     let o = c.in_ok-end.ensures in
     let reached = o.reached in let most = c.requires.level in omega (arith, reached, most)
-
-pub returns-clause-book : goal.returns-clause-book
-returns-clause-book g c =
-    let P = g.P.Plant in
-    let C = g.C.Copying in
-    let x = c.args.complex.now in
-    let m = c.args.member.now in
-    let z = c.play_units.new.complex in
-    let n = c.play_units.new.member in
-    let t = c.play_units.ensures in
-    let o = c.in_ok-end.ensures in
-    let y = c.close_work.new.complex in
-    let u = c.close_work.new.member in
-    let s = c.close_work.ensures in
-    let r = c.close_work.result in
-    on_ok r (λ book. book ∙ o.book) s.book
 
 pub returns-clause-step : goal.returns-clause-step
 returns-clause-step g c =
@@ -528,3 +513,12 @@ returns-clause-kept g c =
     let s = c.close_work.ensures in
     let r = c.close_work.result in
     s.kept
+
+pub returns-in_err-end-clause-book : goal.returns-in_err-end-clause-book
+returns-in_err-end-clause-book g c =
+    let x = c.args.complex.now in
+    let p = err_from_is_err_and c.from_residual.result c.from_residual.ensures.1 in
+    rw (p.1, p.2) (c.in_err-end.ensures.book)
+
+pub returns-clause-book : goal.returns-clause-book
+returns-clause-book g c = book_same c.close_work.result c.args.member.now.id c.args.complex.now.book c.close_work.new.complex.book (c.close_work.ensures.book ∙ c.in_ok-end.ensures.book)

@@ -1,4 +1,8 @@
-use Rattle.std.proofs.Common.{◌≤◌, ℕ, subst, sym}
+use Rattle.std.proofs.Common.{◌≡◌, ◌≤◌, ℕ, true, refl, subst, sym, rules}
+use Rattle.duplex_pair.specs.Both.{PairActed}
+use Rattle.member_node.specs.Calls.{Apart}
+use Rattle.member_node.proofs.CourseLemmas.{course_of}
+use Rattle.member_node.proofs.SpareLemmas.{spares_pair}
 use Rattle.member_node.proofs.member.Member.primary.Goals as goal
 
 pub returns-in-Ok-clause-room1 : goal.returns-in-Ok-clause-room1
@@ -6,3 +10,22 @@ returns-in-Ok-clause-room1 g c on = subst (λ (n : ℕ). 1 ≤ n) (sym (c.in-Ok.
 
 pub returns-in-Ok-clause-room2 : goal.returns-in-Ok-clause-room2
 returns-in-Ok-clause-room2 g c on = subst (λ (n : ℕ). 1 ≤ n) (sym (c.in-Ok.ensures.room2 on)) g.met.C.Steady.has_room
+
+pub returns-in-Err-Halted-clause-operator : goal.returns-in-Err-Halted-clause-operator
+returns-in-Err-Halted-clause-operator g c halts = (rw c.in-Err-Halted.field-0-is at c.in-Err-Halted.ensures.acted).not_operator refl
+
+pub returns-in-Err-Halted-clause-settle : goal.returns-in-Err-Halted-clause-settle
+returns-in-Err-Halted-clause-settle g c =
+    let P = g.P.Plant in
+    let x = c.args.complex.now in
+    let z = c.settle.new.self in
+    let acted : PairActed c.args.self.now.id.0 x.pair.first.alive z.pair.first.alive x.pair.second.alive z.pair.second.alive true (P.view x.plant) (P.view z.plant) = rw c.in-Err-Halted.field-0-is at c.in-Err-Halted.ensures.acted in
+    record {
+      course = course_of c.args.self.now.id.0 x.pair.first.alive z.pair.first.alive x.pair.second.alive z.pair.second.alive true (P.view x.plant) (P.view z.plant) acted;
+      cause = (acted.stands refl, acted.halted refl);
+      spares = spares_pair c.args.self.now.id.0 x.pair.first.alive z.pair.first.alive x.pair.second.alive z.pair.second.alive true (P.view x.plant) (P.view z.plant) acted;
+      loses = acted.loses;
+      apart = λ told. apart_here told;
+    } where
+      apart_here : g.P.Plant.tells → Apart (g.P.Plant.view c.args.complex.now.plant) (g.P.Plant.view c.settle.new.self.plant)
+      apart_here told = search rules

@@ -1,8 +1,9 @@
-use Rattle.std.proofs.Common.{ℕ, sym, subst}
+use Rattle.std.proofs.Common.{ℕ, false, sym, subst}
 use Rattle.std.proofs.lemmas.Result.{err_from_is_err_and}
 use Rattle.member_node.specs.declared.checkpoint.Checkpoint.{Checkpoint}
 use Rattle.member_node.specs.Drawn.{AreDrawn}
 use Rattle.member_node.proofs.ReadLemmas.{error_later, read_then}
+use Rattle.member_node.proofs.SpareLemmas.{spares_then}
 use Rattle.member_node.proofs.member.Member.read_all.Goals as goal
 
 pub second_read-requires-clause-drawn : goal.second_read-requires-clause-drawn
@@ -16,7 +17,7 @@ returns-in_err-second_read-clause-read g c =
     let w = c.second_read.new.complex in
     let p = err_from_is_err_and c.from_residual-in_err-second_read.result c.from_residual-in_err-second_read.ensures.1 in
     rw (p.1, p.2) (error_later ℕ (Unit {0}) P.tells c.args.self.now.id.0 x.pair.first.alive z.pair.first.alive w.pair.first.alive x.pair.second.alive z.pair.second.alive w.pair.second.alive (P.view x.plant) (P.view z.plant) (P.view w.plant)
-    c.in_err-second_read.field-0.0 c.in_ok-first_read.ensures.read.acts (rw c.first_read.ensures.id at c.in_err-second_read.ensures.read))
+    c.in_err-second_read.field-0.0 c.in_ok-first_read.ensures.read.acts c.in_ok-first_read.ensures.read.spares (rw c.first_read.ensures.id at c.in_err-second_read.ensures.read))
 
 pub returns-clause-read : goal.returns-clause-read
 returns-clause-read g c =
@@ -27,4 +28,5 @@ returns-clause-read g c =
     record {
       acts = read_then P.tells x.pair.first.alive z.pair.first.alive w.pair.first.alive x.pair.second.alive z.pair.second.alive w.pair.second.alive (P.view x.plant) (P.view z.plant) (P.view w.plant) c.in_ok-first_read.ensures.read.acts c.in_ok-second_read.ensures.read.acts;
       cause = c.in_ok-second_read.ensures.read.cause;
+      spares = spares_then c.args.self.now.id.0 false (P.view x.plant) (P.view z.plant) (P.view w.plant) c.in_ok-first_read.ensures.read.spares (rw c.first_read.ensures.id at c.in_ok-second_read.ensures.read.spares);
     }

@@ -1,4 +1,4 @@
-use Rattle.std.proofs.Common.{◌≡◌, ◌∙◌, length, sym, ap, subst}
+use Rattle.std.proofs.Common.{◌≡◌, ◌∙◌, false, length, sym, ap, subst}
 use Rattle.std.proofs.Math.Logic.{∥∥₁_elim, ∥∥₁_map}
 use Rattle.std.proofs.lemmas.Result.{err_from_is_err_and}
 use Rattle.std.specs.Coded.{Coded-set, coded_ℕ}
@@ -9,8 +9,10 @@ use Rattle.ckpt_pages.proofs.DecodingLemmas.{one_value}
 use Rattle.member_node.specs.declared.checkpoint.Checkpoint.{Checkpoint}
 use Rattle.member_node.specs.declared.member.Member.{Member}
 use Rattle.member_node.specs.Drawn.{AreDrawn}
+use Rattle.member_node.specs.Spares.{Spares}
 use Rattle.member_node.specs.Reads.{HasRead, AreLow, MayGoOn, copies_alive}
 use Rattle.member_node.proofs.ReadLemmas.{few_orders, fewer_then, in_error, in_lost, in_memory, low_goes, low_of, read_then, same_pages, tell_up_to}
+use Rattle.member_node.proofs.SpareLemmas.{spares_for, spares_then}
 use Rattle.member_node.proofs.member.Member.read_in.Goals as goal
 
 pub is_caught_up-requires-clause-drawn : goal.is_caught_up-requires-clause-drawn
@@ -51,6 +53,8 @@ loop-complex-preserved g c =
     let same : c.is_caught_up.new.self ≡ c.loop-complex.self = (c.in_ok-is_caught_up.ensures.refused c.if-not-branch.true).0 in
     let lost : HasRead P.tells x.pair.first.alive y.pair.first.alive x.pair.second.alive y.pair.second.alive (P.view x.plant) (P.view y.plant)
     = read_then P.tells x.pair.first.alive z.pair.first.alive y.pair.first.alive x.pair.second.alive z.pair.second.alive y.pair.second.alive (P.view x.plant) (P.view z.plant) (P.view y.plant) i.acts l.read.acts in
+    let spared : Spares c.args.self.now.id.0 false (P.view x.plant) (P.view y.plant)
+    = spares_then c.args.self.now.id.0 false (P.view x.plant) (P.view z.plant) (P.view y.plant) i.spares (spares_for c.args.self.now.id.0 0 (P.view z.plant) (P.view y.plant) l.read.spares) in
     record {
       base = e.base ∙ l.base ∙ i.base;
       printed = e.printed ∙ l.printed ∙ i.printed;
@@ -72,6 +76,7 @@ loop-complex-preserved g c =
       as_many = e.as_many ∙ ap (λ (m : Member). length m.room) same ∙ i.as_many;
       some = e.read.cause;
       acts = read_then P.tells x.pair.first.alive y.pair.first.alive w.pair.first.alive x.pair.second.alive y.pair.second.alive w.pair.second.alive (P.view x.plant) (P.view y.plant) (P.view w.plant) lost e.read.acts;
+      spares = spares_then c.args.self.now.id.0 false (P.view x.plant) (P.view y.plant) (P.view w.plant) spared (rw (c.is_caught_up.ensures.id, i.id) at e.read.spares);
       spelled = e.spelled;
       rests1 = e.rests1;
       rests2 = e.rests2;
@@ -85,7 +90,7 @@ returns-in_err-is_caught_up-clause-read g c =
     let z = c.loop-complex.complex in
     let i = c.loop-complex.invariant in
     let p = err_from_is_err_and c.from_residual-in_err-is_caught_up.result c.from_residual-in_err-is_caught_up.ensures.1 in
-    rw (p.1, p.2) (in_memory (Unit {0}) P.tells c.args.self.now.id.0 x.pair.first.alive z.pair.first.alive x.pair.second.alive z.pair.second.alive (P.view x.plant) (P.view z.plant) c.in_err-is_caught_up.field-0.0 c.in_err-is_caught_up.ensures.only i.acts i.some)
+    rw (p.1, p.2) (in_memory (Unit {0}) P.tells c.args.self.now.id.0 x.pair.first.alive z.pair.first.alive x.pair.second.alive z.pair.second.alive (P.view x.plant) (P.view z.plant) c.in_err-is_caught_up.field-0.0 c.in_err-is_caught_up.ensures.only i.acts i.spares i.some)
 
 pub returns-in_err-lose_read-clause-read : goal.returns-in_err-lose_read-clause-read
 returns-in_err-lose_read-clause-read g c =
@@ -95,7 +100,7 @@ returns-in_err-lose_read-clause-read g c =
     let y = c.lose_read.new.complex in
     let p = err_from_is_err_and c.from_residual-in_err-lose_read.result c.from_residual-in_err-lose_read.ensures.1 in
     rw (p.1, p.2) (in_lost (Unit {0}) P.tells c.args.self.now.id.0 x.pair.first.alive z.pair.first.alive y.pair.first.alive x.pair.second.alive z.pair.second.alive y.pair.second.alive (P.view x.plant) (P.view z.plant) (P.view y.plant)
-    c.in_err-lose_read.field-0.0 c.loop-complex.invariant.acts c.in_err-lose_read.ensures.only c.in_err-lose_read.ensures.read)
+    c.in_err-lose_read.field-0.0 c.loop-complex.invariant.acts c.loop-complex.invariant.spares c.in_err-lose_read.ensures.only c.in_err-lose_read.ensures.read)
 
 pub returns-in_err-read_all-2-clause-read : goal.returns-in_err-read_all-2-clause-read
 returns-in_err-read_all-2-clause-read g c =
@@ -109,9 +114,11 @@ returns-in_err-read_all-2-clause-read g c =
     let e = c.in_err-read_all-2.ensures in
     let lost : HasRead P.tells x.pair.first.alive y.pair.first.alive x.pair.second.alive y.pair.second.alive (P.view x.plant) (P.view y.plant)
     = read_then P.tells x.pair.first.alive z.pair.first.alive y.pair.first.alive x.pair.second.alive z.pair.second.alive y.pair.second.alive (P.view x.plant) (P.view z.plant) (P.view y.plant) i.acts l.read.acts in
+    let spared : Spares c.args.self.now.id.0 false (P.view x.plant) (P.view y.plant)
+    = spares_then c.args.self.now.id.0 false (P.view x.plant) (P.view z.plant) (P.view y.plant) i.spares (spares_for c.args.self.now.id.0 0 (P.view z.plant) (P.view y.plant) l.read.spares) in
     let p = err_from_is_err_and c.from_residual-in_err-read_all-2.result c.from_residual-in_err-read_all-2.ensures.1 in
     rw (p.1, p.2) (in_error (Unit {0}) (Unit {0}) P.tells c.args.self.now.id.0 x.pair.first.alive y.pair.first.alive w.pair.first.alive x.pair.second.alive y.pair.second.alive w.pair.second.alive (P.view x.plant) (P.view y.plant) (P.view w.plant)
-    c.in_err-read_all-2.field-0.0 lost (rw (c.is_caught_up.ensures.id, i.id) at e.read))
+    c.in_err-read_all-2.field-0.0 lost spared (rw (c.is_caught_up.ensures.id, i.id) at e.read))
 
 pub returns-clause-many : goal.returns-clause-many
 returns-clause-many g c =

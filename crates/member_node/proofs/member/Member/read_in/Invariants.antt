@@ -1,4 +1,4 @@
-use Rattle.std.proofs.Common.{◌≡◌, true, length}
+use Rattle.std.proofs.Common.{◌≡◌, true, false, length}
 use Rattle.mas_types.specs.declared.ids.Dev.TheVariants.{Ckpt1, Ckpt2}
 use Rattle.spool_disk.specs.View.{disk_now}
 use Rattle.ckpt_pages.specs.Checkpoints.{SpellSome}
@@ -7,6 +7,7 @@ use Rattle.mas_complex.specs.Journals.{kept_all}
 use Rattle.mas_complex.specs.Meaning.{run}
 use Rattle.member_node.specs.Copies.{RestsAt}
 use Rattle.member_node.specs.Reads.{HasRead, StandAt, copies_alive}
+use Rattle.member_node.specs.Spares.{Spares}
 use Rattle.member_node.proofs.member.Member.read_in.Given as goal
 
 abbrev pub decreases-loop-complex : goal.decreases-loop-complex
@@ -40,6 +41,7 @@ invariant-loop-complex g l =
       as_many : length l.self.room ≡ length l.fn.self.room;
       some : SomeAlive z.pair.first.alive z.pair.second.alive;
       acts : HasRead P.tells x.pair.first.alive z.pair.first.alive x.pair.second.alive z.pair.second.alive (P.view x.plant) (P.view z.plant);
+      spares : Spares l.fn.self.id.0 false (P.view x.plant) (P.view z.plant);
       spelled : SpellSome l.self.room;
       rests1 : RestsAt P.tells z.pair.first.alive z.first (C.count z.pair.first.copy) l.self.room (C.reads (disk_now (P.view z.plant) Ckpt1).bytes);
       rests2 : RestsAt P.tells z.pair.second.alive z.second (C.count z.pair.second.copy) l.self.room (C.reads (disk_now (P.view z.plant) Ckpt2).bytes);

@@ -1,4 +1,4 @@
-use Rattle.std.proofs.Common.{◌∙◌, ℕ, length, refl, sym, ap, subst}
+use Rattle.std.proofs.Common.{◌∙◌, ℕ, false, length, refl, sym, ap, subst}
 use Rattle.std.proofs.Math.Logic.{∥∥₁_map}
 use Rattle.std.proofs.lemmas.Result.{err_from_is_err_and}
 use Rattle.mas_types.specs.declared.ids.Dev.TheVariants.{Ckpt1, Ckpt2}
@@ -8,9 +8,11 @@ use Rattle.spool_disk.specs.View.{disk_now}
 use Rattle.mas_complex.specs.Journals.{kept_all}
 use Rattle.mas_complex.specs.Meaning.{run}
 use Rattle.member_node.specs.Reads.{ArePagesOf, HasRead, copies_alive}
+use Rattle.member_node.specs.Spares.{Spares}
 use Rattle.member_node.specs.declared.checkpoint.Checkpoint.{Checkpoint}
 use Rattle.member_node.proofs.AlikeLemmas.{own_spell}
 use Rattle.member_node.proofs.ReadLemmas.{error_later, fewer_then, lost_later_read, read_then, read_whole, room_after}
+use Rattle.member_node.proofs.SpareLemmas.{spares_for, spares_then}
 use Rattle.member_node.proofs.member.Member.second_read.Goals as goal
 
 pub are_spelled-requires-clause-own : goal.are_spelled-requires-clause-own
@@ -86,6 +88,7 @@ loop-by-init g c =
       as_many = ap (length {A = Page}) after ∙ e.as_many ∙ ap (length {A = Page}) v;
       some = e.read.cause;
       acts = e.read.acts;
+      spares = e.read.spares;
       whole = λ told. ∥∥₁_map (c.kept_pages.ensures told) (λ k. rw (after, e.base, e.journal, e.level)
           (read_whole P.tells (run x.base (kept_all x.journal.batches)) x.level x.pair.first.alive z.pair.first.alive x.pair.second.alive z.pair.second.alive (P.view x.plant) (P.view z.plant) C.reads s.room room e.read.acts told
           k.was k.at_level k.queue (λ on. g.met.C.Copying.rests_now x.pair.first.copy k.was one (k.at_first on c.requires.calm1.before)) (λ on. g.met.C.Copying.rests_now x.pair.second.copy k.was two (k.at_second on c.requires.calm2.before))
@@ -107,6 +110,8 @@ loop-by-preserved g c =
     let after = room_after c.loop-by.self.room c.as_mut_slice-in-loop-by.result.now room v e.as_many in
     let lost : HasRead P.tells x.pair.first.alive y.pair.first.alive x.pair.second.alive y.pair.second.alive (P.view x.plant) (P.view y.plant)
     = read_then P.tells x.pair.first.alive z.pair.first.alive y.pair.first.alive x.pair.second.alive z.pair.second.alive y.pair.second.alive (P.view x.plant) (P.view z.plant) (P.view y.plant) i.acts l.read.acts in
+    let spared : Spares c.args.self.now.id.0 false (P.view x.plant) (P.view y.plant)
+    = spares_then c.args.self.now.id.0 false (P.view x.plant) (P.view z.plant) (P.view y.plant) i.spares (spares_for c.args.self.now.id.0 0 (P.view z.plant) (P.view y.plant) l.read.spares) in
     record {
       base = e.base ∙ l.base ∙ i.base;
       printed = e.printed ∙ l.printed ∙ i.printed;
@@ -128,6 +133,7 @@ loop-by-preserved g c =
       as_many = ap (length {A = Page}) after ∙ e.as_many ∙ ap (length {A = Page}) v ∙ i.as_many;
       some = e.read.cause;
       acts = read_then P.tells x.pair.first.alive y.pair.first.alive w.pair.first.alive x.pair.second.alive y.pair.second.alive w.pair.second.alive (P.view x.plant) (P.view y.plant) (P.view w.plant) lost e.read.acts;
+      spares = spares_then c.args.self.now.id.0 false (P.view x.plant) (P.view y.plant) (P.view w.plant) spared e.read.spares;
       whole = λ told. absurd (c.are_spelled.ensures.bad c.loop-by-test.true told);
     }
 
@@ -139,7 +145,7 @@ returns-in_err-lose_read-clause-read g c =
     let y = c.lose_read.new.complex in
     let p = err_from_is_err_and c.from_residual-in_err-lose_read.result c.from_residual-in_err-lose_read.ensures.1 in
     rw (p.1, p.2) (lost_later_read ℕ P.tells c.args.self.now.id.0 x.pair.first.alive z.pair.first.alive y.pair.first.alive x.pair.second.alive z.pair.second.alive y.pair.second.alive (P.view x.plant) (P.view z.plant) (P.view y.plant)
-    c.in_err-lose_read.field-0.0 c.loop-by.invariant.acts c.in_err-lose_read.ensures.only c.in_err-lose_read.ensures.read)
+    c.in_err-lose_read.field-0.0 c.loop-by.invariant.acts c.loop-by.invariant.spares c.in_err-lose_read.ensures.only c.in_err-lose_read.ensures.read)
 
 pub returns-in_err-read_from-2-clause-read : goal.returns-in_err-read_from-2-clause-read
 returns-in_err-read_from-2-clause-read g c =
@@ -153,9 +159,11 @@ returns-in_err-read_from-2-clause-read g c =
     let e = c.in_err-read_from-2.ensures in
     let lost : HasRead P.tells x.pair.first.alive y.pair.first.alive x.pair.second.alive y.pair.second.alive (P.view x.plant) (P.view y.plant)
     = read_then P.tells x.pair.first.alive z.pair.first.alive y.pair.first.alive x.pair.second.alive z.pair.second.alive y.pair.second.alive (P.view x.plant) (P.view z.plant) (P.view y.plant) i.acts l.read.acts in
+    let spared : Spares c.args.self.now.id.0 false (P.view x.plant) (P.view y.plant)
+    = spares_then c.args.self.now.id.0 false (P.view x.plant) (P.view z.plant) (P.view y.plant) i.spares (spares_for c.args.self.now.id.0 0 (P.view z.plant) (P.view y.plant) l.read.spares) in
     let p = err_from_is_err_and c.from_residual-in_err-read_from-2.result c.from_residual-in_err-read_from-2.ensures.1 in
     rw (p.1, p.2) (error_later (Unit {0}) ℕ P.tells c.args.self.now.id.0 x.pair.first.alive y.pair.first.alive w.pair.first.alive x.pair.second.alive y.pair.second.alive w.pair.second.alive (P.view x.plant) (P.view y.plant) (P.view w.plant)
-    c.in_err-read_from-2.field-0.0 lost e.read)
+    c.in_err-read_from-2.field-0.0 lost spared e.read)
 
 pub returns-clause-spelled : goal.returns-clause-spelled
 returns-clause-spelled g c = rw c.as_slice.ensures at (c.are_spelled.ensures.good c.loop-by-test.false)

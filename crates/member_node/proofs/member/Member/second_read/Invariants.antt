@@ -5,6 +5,7 @@ use Rattle.duplex_pair.specs.Halves.{SomeAlive}
 use Rattle.mas_complex.specs.Journals.{kept_all}
 use Rattle.mas_complex.specs.Meaning.{run}
 use Rattle.member_node.specs.Reads.{HasRead, IsReadWhole, copies_alive}
+use Rattle.member_node.specs.Spares.{Spares}
 use Rattle.member_node.proofs.member.Member.second_read.Given as goal
 
 -- a copy is lost at each turn
@@ -38,5 +39,6 @@ invariant-loop-by g l =
       as_many : length l.self.room ≡ length l.fn.self.room;
       some : SomeAlive z.pair.first.alive z.pair.second.alive;
       acts : HasRead P.tells x.pair.first.alive z.pair.first.alive x.pair.second.alive z.pair.second.alive (P.view x.plant) (P.view z.plant);
+      spares : Spares l.fn.self.id.0 false (P.view x.plant) (P.view z.plant);
       whole : P.tells → ∥ IsReadWhole (run z.base (kept_all z.journal.batches)) z.level z.pair.first.alive z.pair.second.alive (C.reads (disk_now (P.view z.plant) Ckpt1).bytes) (C.reads (disk_now (P.view z.plant) Ckpt2).bytes) l.self.room ∥₁;
     }
