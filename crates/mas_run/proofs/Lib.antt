@@ -1,5 +1,6 @@
 pub mod CourseLemmas
 pub mod VolumeLemmas
+pub mod PaperLemmas
 pub mod BatchLemmas
 pub mod WorkLemmas
 pub mod StepLemmas
@@ -11,6 +12,7 @@ pub mod PlayLemmas
 pub mod ScriptLemmas
 pub mod RunLemmas
 pub mod OnlyLemmas
+pub mod AloneLemmas
 pub mod RefusalLemmas
 pub mod ResetLemmas
 pub mod WarmLemmas

@@ -19,6 +19,7 @@ use Rattle.spool_disk.specs.declared.plant.Part.TheVariants.{Console}
 use Rattle.mas_complex.specs.Headline.{whole}
 use Rattle.mas_complex.specs.Journals.{kept_all}
 use Rattle.mas_complex.specs.Meaning.{run, step}
+use Rattle.mas_complex.specs.Paper.{SamePapers}
 use Rattle.mas_complex.proofs.Batches.{kept_all_append}
 use Rattle.member_decks.specs.declared.opening.Opened.{Opened}
 use Rattle.member_decks.specs.declared.opening.Opened.TheVariants as opened
@@ -36,7 +37,7 @@ use Rattle.member_steps.specs.Saying.{torn, Breaks}
 use Rattle.member_steps.specs.Steps.{AreAllKept, reply_to}
 use Rattle.mas_run.specs.Plays.{HavePlayed, ArePlayed}
 use Rattle.mas_run.specs.Runs.{IsHistory, IsSettled, IsUnclosed, IsUncut, Adds, HasLost, IsStopped}
-use Rattle.mas_run.specs.Steps.{AreOutcomes, BeginsWork, ClosesAs, FindsLost, FindLost, IsCounted, IsOutcome, IsWork, LeavesVolumes, Outcome, after_step, batches_in, batches_most, first_in, lines_in, loses_after, loses_after_step, next_in, outcome_of, outcomes_from, outcomes_of, queue_after, step_batches}
+use Rattle.mas_run.specs.Steps.{AreOutcomes, ArePassed, BeginsWork, ClosesAs, FindsLost, IsCounted, IsOutcome, IsPassed, IsWork, LeavesVolumes, Outcome, PrintsNone, after_step, batches_in, batches_most, first_in, lines_in, loses_after, loses_after_step, next_in, outcome_of, outcomes_from, outcomes_of, queue_after, step_batches}
 use Rattle.mas_run.specs.Stops.{IsLeftOrLost, IsStepOf}
 use Rattle.mas_run.specs.Turns.{Reads, Gives, Works, Turn, Granted, Denied, Closed, Loss, Unplayed}
 use Rattle.mas_run.specs.Volumes.{AreVolumesKept}
@@ -125,16 +126,30 @@ pub shapes_of : (Q : Queue) (at : ℕ) (steps : List Turn) → AreOutcomes at st
 shapes_of Q at [] = tt
 shapes_of Q at (s ∷ steps) = (shape_of Q at s, shapes_of (after_step Q at s) (at + 1) steps)
 
--- VOLUMES THAT WERE FOUND LOST
+-- WHAT IS KNOWN OF EACH STEP
 
--- those of steps, and of others behind them
-find_join : (told : Type 0) (per : ℕ) (v v' : View) (Q : Queue) (at : ℕ) (v0 : View) (xs ys : List Turn) (os ps : List Outcome) → FindLost told v0 v per Q at xs os → FindLost told v v' per (queue_after Q at xs) (at + length xs) ys ps → FindLost told v0 v' per Q at (xs ++ ys) (os ++ ps)
-find_join told per v v' Q at v0 [] ys [] ps one two = let e : at + 0 ≡ at = omega arith in subst (λ (w : View). FindLost told w v' per Q at ys ps) one (subst (λ (n : ℕ). FindLost told v v' per Q n ys ps) e two)
-find_join told per v v' Q at v0 [] ys (o ∷ os) ps one two = absurd one
-find_join told per v v' Q at v0 (x ∷ xs) ys [] ps one two = absurd one
-find_join told per v v' Q at v0 (x ∷ xs) ys (o ∷ os) ps one two =
-    let e : at + length (x ∷ xs) ≡ at + 1 + length xs = omega arith in
-    (one.0, one.1, one.2, find_join told per v v' (after_step Q at x) (at + 1) one.0 xs ys os ps one.3 (subst (λ (n : ℕ). FindLost told v v' per (queue_after (after_step Q at x) (at + 1) xs) n ys ps) e two))
+-- of more steps, each of the first ones among those that are closed
+module _ (told : Type 0) (per j k : ℕ) (v v' : View) (later : List Batch) (ys : List Turn) (ps : List Outcome) where
+  pass_join : (Q : Queue) (at : ℕ) (v0 : View) (xs : List Turn) (os : List Outcome) (bs : List Batch) → at + length xs ≤ j + 1 → ArePassed told v0 v per Q at j bs xs os
+      → ArePassed told v v' per (queue_after Q at xs) (at + length xs) k later ys ps → ArePassed told v0 v' per Q at k (bs ++ later) (xs ++ ys) (os ++ ps)
+  pass_join Q at v0 [] [] bs few one two =
+      let e : at + 0 ≡ at = omega arith in
+      subst (λ (l : List Batch). ArePassed told v0 v' per Q at k (l ++ later) ys ps) (sym one.1)
+      (subst (λ (w : View). ArePassed told w v' per Q at k later ys ps) one.0 (subst (λ (n : ℕ). ArePassed told v v' per Q n k later ys ps) e two))
+  pass_join Q at v0 [] (o ∷ os) bs few one two = absurd one
+  pass_join Q at v0 (x ∷ xs) [] bs few one two = absurd one
+  pass_join Q at v0 (x ∷ xs) (o ∷ os) bs few one two =
+      let e : at + length (x ∷ xs) ≡ at + 1 + length xs = omega arith in
+      let here : at ≤ j = omega (arith, few, e) in
+      let more : at + 1 + length xs ≤ j + 1 = omega (arith, few, e) in
+      let p = one.4 in (
+        one.0,
+        one.1,
+        one.2 ++ later,
+        ap (λ (l : List Batch). l ++ later) one.3 ∙ append_assoc one.1 one.2 later,
+        record { goes = p.goes; found = p.found; papers = p.papers; kept = λ le. p.kept here; said = λ t le. p.said t here; loses = λ t le. p.loses t here },
+        pass_join (after_step Q at x) (at + 1) one.0 xs os one.2 more one.5 (subst (λ (n : ℕ). ArePassed told v v' per (queue_after (after_step Q at x) (at + 1) xs) n k later ys ps) e two),
+      )
 
 -- a step at a queue, where content is told, and of a number
 finds_at : (told : Type 0) (old new : View) (per : ℕ) (Q R : Queue) (at n : ℕ) (s : Turn) (o : Outcome) → (told → Q ≡ R) → at ≡ n → FindsLost told old new per Q at s o → FindsLost told old new per R n s o
@@ -236,11 +251,37 @@ module _ (told : Type 0) (base : Queue) (per : ℕ) (steps : List Turn) (s : Tur
   loses_now : told → (d : Dev) → v'.loses d ≡ loses_after_step d s (v.loses d) → v'.loses d ≡ loses_after d (steps ++ s ∷ []) (v0.loses d)
   loses_now t d step = step ∙ ap (loses_after_step d s) (played.loses t d) ∙ sym (loses_more s d steps (v0.loses d))
 
-  -- the steps behind it, of which none found a volume lost
+  -- the step itself, where it is closed, and where it isn't
+  abbrev Passes : ℕ → Outcome → List Batch → Type 0
+  Passes closed o more = IsPassed told v v' per (queue_after base 1 steps) (1 + length steps) closed s o more
+
+  passes_closed : (o : Outcome) (more : List Batch) → Goes v v' → FindsLost told v v' per Q at s o → (told → PrintsNone s → SamePapers v v') → AreAll sysa v.now v'.now o.batches more
+      → (told → console_now v' ≡ console_now v ++ map whole o.lines) → (told → (d : Dev) → v'.loses d ≡ loses_after_step d s (v.loses d)) → Passes (length (steps ++ s ∷ [])) o more
+  passes_closed o more goes found papers kept said loses = record {
+    goes = goes;
+    found = finds_at told v v' per Q (queue_after base 1 steps) at (1 + length steps) s o here numbered found;
+    papers = papers;
+    kept = λ le. kept;
+    said = λ t le. said t;
+    loses = λ t le. loses t;
+  }
+
+  passes_open : (o : Outcome) (more : List Batch) → Goes v v' → FindsLost told v v' per Q at s o → (told → PrintsNone s → SamePapers v v') → Passes (length steps) o more
+  passes_open o more goes found papers = record {
+    goes = goes;
+    found = finds_at told v v' per Q (queue_after base 1 steps) at (1 + length steps) s o here numbered found;
+    papers = papers;
+    kept = λ le. absurd (omega (arith, le));
+    said = λ t le. absurd (omega (arith, le));
+    loses = λ t le. absurd (omega (arith, le));
+  }
+
+  -- the steps behind it, which aren't played
   module _ (goes : Goes v v') (later : List Turn) where
-    found_now : (os : List Outcome) → ((R : Queue) (n : ℕ) → at + 1 ≡ n → FindLost told v' v' per R n later os) → (o : Outcome) → FindsLost told v v' per Q at s o → FindLost told v0 v' per base 1 (steps ++ s ∷ later) (played.did ++ o ∷ os)
-    found_now os clean o found = find_join told per v v' base 1 v0 steps (s ∷ later) played.did (o ∷ os) played.found
-        (v', goes, finds_at told v v' per Q (queue_after base 1 steps) at (1 + length steps) s o here numbered found, clean _ _ (omega (arith, numbered)))
+    passed_now : (closed : ℕ) (os : List Outcome) → ((R : Queue) (n : ℕ) → at + 1 ≡ n → ArePassed told v' v' per R n closed [] later os) → (o : Outcome) (more : List Batch) → Passes closed o more
+        → ArePassed told v0 v' per base 1 closed (rest ++ more) (steps ++ s ∷ later) (played.did ++ o ∷ os)
+    passed_now closed os clean o more passes = pass_join told per (length steps) closed v v' more (s ∷ later) (o ∷ os) base 1 v0 steps played.did rest (omega arith) played.passed
+        (v', more, [], sym (append-nil more), passes, clean _ _ (omega (arith, numbered)))
 
     volumes_now : (LeavesVolumes s → AreVolumesKept v v') → (All LeavesVolumes steps → AreVolumesKept v0 v) → All LeavesVolumes (steps ++ s ∷ later) → AreVolumesKept v0 v'
     volumes_now step before all = kept_then v'.now v0 v v' played.course.goes.later goes
@@ -258,19 +299,20 @@ module _ (told : Type 0) (base : Queue) (per : ℕ) (steps : List Turn) (s : Tur
       left = left_then a a' b b' v0 v v' played.left step.course played.course.grow step.cause;
       kept = all_now step.did step.more step.course.goes.later step.leaves;
       loses = λ t d. loses_now t d (step.loses t d);
-      found = found_now step.course.goes [] [] (λ R n e. refl) step.did step.found;
+      passed = passed_now step.course.goes [] (length (steps ++ s ∷ [])) [] (λ R n e. (refl, refl)) step.did step.more
+          (passes_closed step.did step.more step.course.goes step.found step.papers step.leaves step.console step.loses);
       volumes = λ t. volumes_now step.course.goes [] (step.volumes t) (played.volumes t);
       said = λ t. said_more step.did (played.said t) (step.console t);
     }
 
   -- THE STEP THAT ENDS THE RUN
 
-  module _ (later : List Turn) (clean : (R : Queue) (n : ℕ) → at + 1 ≡ n → FindLost told v' v' per R n later (outcomes_from (after_step Q at s) (at + 1) later)) where
+  module _ (later : List Turn) (clean : (R : Queue) (n : ℕ) → at + 1 ≡ n → ArePassed told v' v' per R n (length steps) [] later (outcomes_from (after_step Q at s) (at + 1) later)) where
     abbrev all_did : Outcome → List Outcome
     all_did o = played.did ++ o ∷ outcomes_from (after_step Q at s) (at + 1) later
 
-    found_all : Goes v v' → (o : Outcome) → FindsLost told v v' per Q at s o → FindLost told v0 v' per base 1 (steps ++ s ∷ later) (all_did o)
-    found_all goes o found = found_now goes later (outcomes_from (after_step Q at s) (at + 1) later) clean o found
+    passed_all : Goes v v' → (o : Outcome) (more : List Batch) → FindsLost told v v' per Q at s o → (told → PrintsNone s → SamePapers v v') → ArePassed told v0 v' per base 1 (length steps) (rest ++ more) (steps ++ s ∷ later) (all_did o)
+    passed_all goes o more found papers = passed_now goes later (length steps) (outcomes_from (after_step Q at s) (at + 1) later) clean o more (passes_open o more goes found papers)
 
     many : length (steps ++ s ∷ later) ≡ length steps + suc (length later)
     many = length-append steps (s ∷ later)
@@ -370,7 +412,7 @@ module _ (told : Type 0) (base : Queue) (per : ℕ) (steps : List Turn) (s : Tur
           history = unkept_history step.did step.more step.course.goes (inl settled);
           ends = (unclosed step.more, settled_next step.did step.more settled);
           loses = λ t d. unkept_loses t d (step.loses t d).0;
-          found = found_all step.course.goes step.did step.found;
+          passed = passed_all step.course.goes step.did step.more step.found step.papers;
           volumes = λ t. volumes_now step.course.goes later (step.volumes t) (played.volumes t);
           said = λ t. inl (step.console t ∙ said_before step.did (played.said t));
         }
@@ -388,7 +430,7 @@ module _ (told : Type 0) (base : Queue) (per : ℕ) (steps : List Turn) (s : Tur
           history = kept_history step.did step.more step.course.goes all;
           ends = (unclosed_work (length steps + 1) work, inl refl);
           loses = λ t d. kept_loses t d (step.loses t d);
-          found = found_all step.course.goes step.did step.found;
+          passed = passed_all step.course.goes step.did step.more step.found step.papers;
           volumes = λ t. volumes_now step.course.goes later (step.volumes t) (played.volumes t);
           said = λ t. inl (step.console t ∙ said_before step.did (played.said t));
         }
@@ -412,7 +454,7 @@ module _ (told : Type 0) (base : Queue) (per : ℕ) (steps : List Turn) (s : Tur
               history = unkept_history step.did step.more step.course.goes next;
               ends = (unclosed step.more, step.cause, uncut_next step.did step.more uncut);
               loses = λ t d. unkept_loses t d (step.loses t d).0;
-              found = found_all step.course.goes step.did step.found;
+              passed = passed_all step.course.goes step.did step.more step.found step.papers;
               volumes = λ t. volumes_now step.course.goes later (step.volumes t) (played.volumes t);
               said = λ t. inl (step.console t ∙ said_before step.did (played.said t));
             }
@@ -430,7 +472,7 @@ module _ (told : Type 0) (base : Queue) (per : ℕ) (steps : List Turn) (s : Tur
               history = kept_history step.did step.more step.course.goes all;
               ends = (unclosed_work (length steps + 1) work, step.cause, uncut_with_it step.did);
               loses = λ t d. kept_loses t d (step.loses t d);
-              found = found_all step.course.goes step.did step.found;
+              passed = passed_all step.course.goes step.did step.more step.found step.papers;
               volumes = λ t. volumes_now step.course.goes later (step.volumes t) (played.volumes t);
               said = λ t. inl (step.console t ∙ said_before step.did (played.said t));
             }
@@ -449,7 +491,7 @@ module _ (told : Type 0) (base : Queue) (per : ℕ) (steps : List Turn) (s : Tur
         history = kept_history step.did step.more step.course.goes step.leaves;
         ends = (refl, refl, rose_later (v0.faults Console) (v.faults Console) (v'.faults Console) (played.course.goes.faults Console) step.cause.1);
         loses = λ t d. kept_loses t d (step.loses t d);
-        found = found_all step.course.goes step.did step.found;
+        passed = passed_all step.course.goes step.did step.more step.found step.papers;
         volumes = λ t. volumes_now step.course.goes later (step.volumes t) (played.volumes t);
         said = λ t. adds_failed (lines_in (take (length steps) (all_did step.did))) step.did.lines (lines_in (take (length steps + 1) (all_did step.did))) (lines_are step.did)
             (console_now v0) (console_now v) (console_now v') (said_before step.did (played.said t)) (status.ConsoleFault ≡ status.ConsoleFault) (IsStopped v0 v') refl (step.console t);
@@ -481,7 +523,7 @@ module _ (told : Type 0) (base : Queue) (per : ℕ) (steps : List Turn) (s : Tur
             history = unkept_history step.did step.more step.course.goes (⊎_elim (λ cut. inl (inr cut)) (λ flies. inr flies) next);
             ends = (was_stopped, uncut_next step.did step.more uncut);
             loses = λ t d. unkept_loses t d (step.loses t d).0;
-            found = found_all step.course.goes step.did step.found;
+            passed = passed_all step.course.goes step.did step.more step.found step.papers;
             volumes = λ t. volumes_now step.course.goes later (step.volumes t) (played.volumes t);
             said = λ t. ⊎_elim (λ none. inl (none ∙ said_before step.did (played.said t))) (λ more. absurd (not_all next more.0)) (step.console t);
           }
@@ -499,7 +541,7 @@ module _ (told : Type 0) (base : Queue) (per : ℕ) (steps : List Turn) (s : Tur
             history = kept_history step.did step.more step.course.goes all;
             ends = (was_stopped, uncut_with_it step.did);
             loses = λ t d. kept_loses t d (step.loses t d);
-            found = found_all step.course.goes step.did step.found;
+            passed = passed_all step.course.goes step.did step.more step.found step.papers;
             volumes = λ t. volumes_now step.course.goes later (step.volumes t) (played.volumes t);
             said = λ t. ⊎_elim (λ none. inl (none ∙ said_before step.did (played.said t)))
                 (λ more. adds_stopped (lines_in (take (length steps) (all_did step.did))) step.did.lines (lines_in (take (length steps + 1) (all_did step.did))) (lines_are step.did)
@@ -542,7 +584,7 @@ played_all done told base per asked rest a0 a b0 b v0 v played =
       };
       ends = (refl, refl, refl);
       loses = λ t d. played.loses t d ∙ ap (λ (xs : List Turn). loses_after d xs (v0.loses d)) (sym whole_list);
-      found = played.found;
+      passed = played.passed;
       volumes = played.volumes;
       said = λ t. inl (played.said t ∙ ap (λ (os : List Outcome). console_now v0 ++ map whole (lines_in os)) (sym all_did));
     }
@@ -557,7 +599,7 @@ played_none told base per batches a b v none some = record {
   left = inl some;
   kept = subst (AreAll sysa v.now v.now []) (sym none) tt;
   loses = λ t d. refl;
-  found = refl;
+  passed = (refl, none);
   volumes = λ t all. kept_none v;
   said = λ t. sym (append-nil (console_now v));
 }

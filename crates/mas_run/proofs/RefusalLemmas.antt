@@ -9,6 +9,7 @@ use Rattle.mas_types.specs.declared.queues.Config.{Config}
 use Rattle.mas_types.specs.Limits.{page_bytes}
 use Rattle.mas_types.specs.Lists.{first_some}
 use Rattle.script_lang.specs.declared.types.Script.{Script}
+use Rattle.script_lang.specs.declared.types.Step.{Step}
 use Rattle.script_lang.specs.Script.{Said}
 use Rattle.spool_disk.specs.declared.plant.Part.TheVariants.{Disk}
 use Rattle.spool_disk.specs.View.{View}
@@ -18,7 +19,7 @@ use Rattle.warm_start.specs.declared.choosing.StartNo.{StartNo}
 use Rattle.warm_start.specs.declared.choosing.StartNo.TheVariants as no_start
 use Rattle.warm_start.specs.Starting.{IsSmallAt, IsSmallVolume}
 use Rattle.mas_run.specs.Refusals.{bytes_needed, refused_where, refused_copy, refused_volume, refused_volumes, refused_devices, refused_sizes, refusal_of, refusal_before_play, Answers, is_refusal, IsSaid, IsPlayedOut, IsDeviceSize}
-use Rattle.mas_run.specs.Statuses.{IsCaused, IsStill, is_of_text}
+use Rattle.mas_run.specs.Statuses.{AreLeftAlone, IsCaused, IsStill, is_of_text}
 use Rattle.mas_run.specs.Unstarted.{status_of_start}
 
 -- DEVICES THAT ARE TOO SMALL
@@ -107,18 +108,18 @@ pub answers_said : (cold only : Bool) (bytes : List ℕ) (v : View) (script : Sc
 answers_said cold only bytes v script answer is answered = subst (λ (s : Said). Answers cold (refusal_of cold v s) answer) (sym is) answered
 
 -- what nothing hinders ends with Done, or for want of memory
-pub ends : (cold : Bool) (answer : Status) (before after : ℕ) (old new : View) → is_refusal cold answer ≡ false → (answer ≡ status.SourceFault → Rose before after) → IsCaused answer old new → IsStill before after old new
-    → IsPlayedOut cold answer
-ends cold status.Done before after old new fine source caused still = tt
-ends cold status.NoMemory before after old new fine source caused still = tt
-ends cold status.SourceFault before after old new fine source caused still = absurd (still.source (source refl))
-ends cold status.BothLost before after old new fine source caused still = absurd (still.disks (caused.failed1 refl) (caused.failed2 refl))
-ends cold status.ConsoleFault before after old new fine source caused still = absurd (still.console (caused.console refl))
-ends cold status.Words before after old new fine source caused still = absurd (cc)
-ends cold (status.BadLine line cause) before after old new fine source caused still = absurd (cc)
-ends cold status.TooLong before after old new fine source caused still = absurd (cc)
-ends cold (status.NotFormatted first second) before after old new fine source caused still = fine
-ends cold (status.DeviceSize dev size) before after old new fine source caused still = fine
+pub ends : (cold : Bool) (answer : Status) (tells : Type 0) (steps : List Step) (before after : ℕ) (old new : View) → is_refusal cold answer ≡ false → (answer ≡ status.SourceFault → Rose before after) → IsCaused answer old new
+    → IsStill tells steps before after old new → (answer ≡ status.BothLost → tells → AreLeftAlone steps old new → ⊥) → IsPlayedOut cold answer
+ends cold status.Done tells steps before after old new fine source caused still alone = tt
+ends cold status.NoMemory tells steps before after old new fine source caused still alone = tt
+ends cold status.SourceFault tells steps before after old new fine source caused still alone = absurd (still.source (source refl))
+ends cold status.BothLost tells steps before after old new fine source caused still alone = absurd (⊎_elim (λ a. alone refl a.0 a.1) (λ not. not (caused.failed1 refl) (caused.failed2 refl)) still.disks)
+ends cold status.ConsoleFault tells steps before after old new fine source caused still alone = absurd (still.console (caused.console refl))
+ends cold status.Words tells steps before after old new fine source caused still alone = absurd (cc)
+ends cold (status.BadLine line cause) tells steps before after old new fine source caused still alone = absurd (cc)
+ends cold status.TooLong tells steps before after old new fine source caused still alone = absurd (cc)
+ends cold (status.NotFormatted first second) tells steps before after old new fine source caused still alone = fine
+ends cold (status.DeviceSize dev size) tells steps before after old new fine source caused still alone = fine
 
 -- a failed source and want of memory answer whatever is refused
 pub free_answer : (cold : Bool) (why : Option Status) (answer : Status) → (answer ≡ status.SourceFault) ⊎ (answer ≡ status.NoMemory) → Answers cold why answer

@@ -15,9 +15,11 @@ use Rattle.mas_types.specs.declared.queues.Config.{Config}
 use Rattle.mas_types.specs.declared.queues.Queue.{Queue}
 use Rattle.mas_types.specs.Ids.{nobody}
 use Rattle.mas_types.specs.Sound.{IsSound}
-use Rattle.spool_disk.specs.View.{View, Line}
+use Rattle.mas_types.specs.declared.ids.Dev.{Dev}
+use Rattle.spool_disk.specs.Acts.{Goes}
+use Rattle.spool_disk.specs.View.{View, Line, World}
 use Rattle.spool_disk.specs.declared.plant.Part.TheVariants.{Disk as DiskPart}
-use Rattle.ckpt_copy.specs.Areas.{reads}
+use Rattle.ckpt_form.specs.Form.{form_reads}
 use Rattle.duplex_pair.specs.Halves.{SomeAlive}
 use Rattle.mas_complex.specs.Crash.{EachTells, IsUntold, setting}
 use Rattle.mas_complex.specs.Headline.{Headline}
@@ -34,21 +36,23 @@ use Rattle.member_node.specs.Reads.{AreLow}
 use Rattle.member_node.proofs.EntryLemmas.{nothing_done}
 use Rattle.member_node.specs.declared.member.NodeNo.{NodeNo}
 use Rattle.member_node.specs.declared.member.NodeNo.TheVariants as no_node
-use Rattle.member_node.specs.Calls.{IsLeft}
+use Rattle.member_node.specs.Calls.{Apart, Course, IsLeft, console_now}
+use Rattle.member_node.specs.Reads.{IsSettle}
 use Rattle.member_node.specs.Writes.{IsWrite}
-use Rattle.member_node.proofs.CourseLemmas.{course_none, left, only_none, papers_none}
+use Rattle.member_node.proofs.CourseLemmas.{apart_then, course_none, course_then, left, only_none, papers_none}
+use Rattle.member_node.proofs.SpareLemmas.{spares_none}
 use Rattle.member_steps.specs.Steps.{AreAllKept}
 use Rattle.member_steps.proofs.StepLemmas.{journal_kept}
 use Rattle.mas_complex.specs.Paper.{MayBegin}
 use Rattle.mas_complex.proofs.Allowed.{one_begins}
-use Rattle.mas_run.specs.Resets.{HasReset, restart_entries}
+use Rattle.mas_run.specs.Resets.{HasReset, restart_at, restart_entries}
 use Rattle.mas_run.specs.Runs.{HasSteps}
 use Rattle.mas_run.specs.Statuses.{IsCausedFrom, is_of_play, status_of}
 use Rattle.lock_cycle.specs.Books.{Book}
 use Rattle.script_lang.specs.declared.types.Step.{Step}
-use Rattle.mas_run.specs.Steps.{FindLost, outcomes_of}
+use Rattle.mas_run.specs.Steps.{ArePassed, outcomes_of}
 use Rattle.mas_run.specs.Turns.{Sight, Turn, turns_from}
-use Rattle.mas_run.proofs.TurnLemmas.{none_found}
+use Rattle.mas_run.proofs.TurnLemmas.{none_passed}
 use Rattle.mas_run.proofs.VolumeLemmas.{kept_on}
 use Rattle.mas_run.proofs.RunLemmas.{reset_alone}
 
@@ -60,6 +64,12 @@ none_said closes (line ∷ lines) P = none_said closes lines P
 pub none_untold : (reads : List ℕ → Option (List ℕ)) (base : Queue) (since : ℕ) (v : View) (entries : List Entry) → since ≡ v.now → IsUntold (setting reads base since) v entries
 none_untold reads base since v entries is =
     subst (λ (t : ℕ). EachTells Closes (drop (length (v.world t).console) (v.world v.now).console) (λ m s. has_step m s entries ≡ false)) (sym is) (none_said Closes (v.world v.now).console (λ m s. has_step m s entries ≡ false))
+
+-- nor later, where the console is as it was then
+pub none_untold_later : (reads : List ℕ → Option (List ℕ)) (base : Queue) (since : ℕ) (old v : View) (entries : List Entry) → since ≡ old.now → Goes old v → console_now v ≡ console_now old → IsUntold (setting reads base since) v entries
+none_untold_later reads base since old v entries is goes same =
+    let first : (v.world since).console ≡ (v.world v.now).console = ap (λ (t : ℕ). (v.world t).console) is ∙ ap (λ (w : World). w.console) (goes.past old.now (omega arith)) ∙ sym same in
+    subst (λ (ls : List Line). EachTells Closes (drop (length ls) (v.world v.now).console) (λ m s. has_step m s entries ≡ false)) (sym first) (none_said Closes (v.world v.now).console (λ m s. has_step m s entries ≡ false))
 
 -- what follows from a fact of an answer that is none of an error
 pub ok_then : {T E A B : Type 0} (r : Result T E) → (A → B) → OnOk r A → OnOk r B
@@ -90,19 +100,41 @@ low_first t was batches fit small le some = record { same = refl; fit = fit; ord
 some_left : (was1 is1 was2 is2 : Bool) → SomeAlive was1 was2 → IsLeft was1 is1 was2 is2 → SomeAlive is1 is2
 some_left was1 is1 was2 is2 some is = ⊎_elim (λ here. here) (λ same. subst (λ (x : Bool). SomeAlive x is2) (sym same.0) (subst (λ (y : Bool). SomeAlive was1 y) (sym same.1) some)) is
 
-module _ (told : Type 0) (b : Batch) (batches : List Batch) where
-  pub reset_none : (is1 is2 : Bool) (v : View) → batches ≡ [] → HasReset {T = Unit {0}} told b batches is1 is1 is2 is2 v v (Err no_node.NoMemory)
-  reset_none is1 is2 v none = record { course = course_none is1 is2 v; loses = λ d. refl; ends = (none, refl, refl); apart = λ t. record { others = only_none v; console = refl; papers = papers_none v } }
+-- nothing is done where room isn't wanting
+pub settle_none : (told : Type 0) (is1 is2 : Bool) (v : View) → SomeAlive is1 is2 → IsSettle {T = Unit {0}} told 0 is1 is1 is2 is2 v v (Ok tt)
+settle_none told is1 is2 v some = record { course = course_none is1 is2 v; cause = some; spares = spares_none 0 v; loses = λ d. refl; apart = λ t. record { others = only_none v; console = refl; papers = papers_none v } }
+
+module _ (told : Type 0) (batches : List Batch) (was1 m1 was2 m2 : Bool) (old mid : View) where
+  -- there was no memory for it, after room was made
+  pub reset_none : IsSettle {T = Unit {0}} told 0 was1 m1 was2 m2 old mid (Ok tt) → batches ≡ [] → HasReset {T = Unit {0}} told batches was1 m1 was2 m2 old mid (Err no_node.NoMemory)
+  reset_none s none = record { course = s.course; loses = s.loses; ends = (none, s.cause); apart = s.apart }
+
+  -- room wasn't made
+  pub reset_unsettled : (r : Result (Unit {0}) NodeNo) (why : NodeNo) → r ≡ Err why → (r ≡ Err no_node.Halted → ⊥) → IsSettle told 0 was1 m1 was2 m2 old mid r → batches ≡ [] → HasReset told batches was1 m1 was2 m2 old mid r
+  reset_unsettled (Ok done) why is goes_on s none = absurd (cc)
+  reset_unsettled (Err no_node.NoMemory) why is goes_on s none = absurd s.cause
+  reset_unsettled (Err no_node.BothLost) why is goes_on s none = record { course = s.course; loses = s.loses; ends = (inl none, s.cause); apart = s.apart }
+  reset_unsettled (Err no_node.ConsoleFault) why is goes_on s none = absurd s.cause
+  reset_unsettled (Err no_node.Halted) why is goes_on s none = absurd (goes_on refl)
 
   -- the operator is never stopped
-  pub reset_written : (was1 is1 was2 is2 : Bool) (old new : View) (r : Result (Unit {0}) NodeNo) → SomeAlive was1 was2 → (r ≡ Err no_node.Halted → ⊥) → IsWrite told 0 b [] batches was1 is1 was2 is2 old new r
-      → HasReset told b batches was1 is1 was2 is2 old new r
-  reset_written was1 is1 was2 is2 old new (Ok done) some goes_on write =
-      record { course = write.course; loses = write.loses; ends = (write.journal, some_left was1 is1 was2 is2 some write.cause); apart = write.apart }
-  reset_written was1 is1 was2 is2 old new (Err no_node.NoMemory) some goes_on write = absurd write.cause
-  reset_written was1 is1 was2 is2 old new (Err no_node.BothLost) some goes_on write = record { course = write.course; loses = write.loses; ends = (write.journal, write.cause); apart = write.apart }
-  reset_written was1 is1 was2 is2 old new (Err no_node.ConsoleFault) some goes_on write = absurd write.cause
-  reset_written was1 is1 was2 is2 old new (Err no_node.Halted) some goes_on write = absurd (goes_on refl)
+  pub reset_written : (is1 is2 : Bool) (new : View) (r : Result (Unit {0}) NodeNo) → (r ≡ Err no_node.Halted → ⊥) → IsSettle {T = Unit {0}} told 0 was1 m1 was2 m2 old mid (Ok tt) → IsWrite told 0 (restart_at mid.now) [] batches m1 is1 m2 is2 mid new r
+      → HasReset told batches was1 is1 was2 is2 old new r
+  reset_written is1 is2 new (Ok done) goes_on s write = record {
+    course = course_then was1 m1 is1 was2 m2 is2 old mid new s.course write.course;
+    loses = λ d. write.loses d ∙ s.loses d;
+    ends = ((mid.now, write.journal.0, s.course.goes.later, write.journal.1, write.journal.2, write.journal.3), some_left m1 is1 m2 is2 s.cause write.cause);
+    apart = λ t. apart_then old mid new s.course.goes.later write.course.goes (s.apart t) (write.apart t);
+  }
+  reset_written is1 is2 new (Err no_node.NoMemory) goes_on s write = absurd write.cause
+  reset_written is1 is2 new (Err no_node.BothLost) goes_on s write = record {
+    course = course_then was1 m1 is1 was2 m2 is2 old mid new s.course write.course;
+    loses = λ d. write.loses d ∙ s.loses d;
+    ends = (inr (mid.now, s.course.goes.later, write.journal), write.cause);
+    apart = λ t. apart_then old mid new s.course.goes.later write.course.goes (s.apart t) (write.apart t);
+  }
+  reset_written is1 is2 new (Err no_node.ConsoleFault) goes_on s write = absurd write.cause
+  reset_written is1 is2 new (Err no_node.Halted) goes_on s write = absurd (goes_on refl)
 
 -- it may begin: it is no Mark
 pub restart_begins : (base : Queue) (js : List Batch) (printed : List ℕ) (es : List Entry) → es ≡ restart_entries → MayBegin base js printed es
@@ -123,25 +155,27 @@ restart_entry batch more Q m none same is =
 -- A WARM RUN AFTER RESTART
 
 reset_left : (tells : Type 0) (asked : List Turn) (base : Queue) (journal : Journal) (since : ℕ) (old new : View) (a a' c c' : Bool) → IsSound base → since ≡ old.now → SomeAlive a c → (a ≡ true → old.lost (DiskPart Ckpt1) ≡ false) → (c ≡ true → old.lost (DiskPart Ckpt2) ≡ false)
-    → (tells → ∥ Headline reads base since journal new ∥₁) → ((opening : List Batch) → FindLost tells new new base.config.groups (run base (kept_all opening)) 1 asked (outcomes_of (run base (kept_all opening)) asked)) → {T : Type 0} (why : NodeNo) → HasReset {T = T} tells (begun old.now nobody restart_entries) journal.batches a a' c c' old new (Err why)
+    → (tells → ∥ Headline form_reads base since journal new ∥₁) → ((opening : List Batch) → ArePassed tells new new base.config.groups (run base (kept_all opening)) 1 0 [] asked (outcomes_of (run base (kept_all opening)) asked)) → {T : Type 0} (why : NodeNo) → HasReset {T = T} tells journal.batches a a' c c' old new (Err why)
     → HasSteps false tells asked (status_of {T = T} (Err why)) base journal since old.loses old new
-reset_left tells asked base journal since old new a a' c c' base_sound is some there1 there2 head found no_node.NoMemory r =
-    let one : SomeAlive a' c' = subst (λ (x : Bool). SomeAlive x c') (sym r.ends.1) (subst (λ (y : Bool). SomeAlive a y) (sym r.ends.2) some) in
-    reset_alone tells asked status.NoMemory base [] journal since old new base_sound r.ends.0 is r.course.goes (inr (inr (refl, refl, refl, refl))) (λ e. absurd (cc)) (λ e. absurd (cc)) r.loses (λ t. (r.apart t).console) head
-    (λ ne. left a' c' one (λ x. r.course.there1 x (there1 (r.course.alive1 x))) (λ y. r.course.there2 y (there2 (r.course.alive2 y)))) (found []) (λ t. kept_on old new (r.apart t).others)
-reset_left tells asked base journal since old new a a' c c' base_sound is some there1 there2 head found no_node.BothLost r =
-    let b : Batch = begun old.now nobody restart_entries in
-    reset_alone tells asked status.BothLost base (b ∷ []) journal since old new base_sound r.ends.0 is r.course.goes
-    (inr (inl (b, refl, record { by = refl; entries = refl; began = omega (arith, is) }, refl, refl, refl, refl, refl))) (λ e. absurd (cc)) (λ e. absurd (cc)) r.loses (λ t. (r.apart t).console) head
-    (λ ne. absurd (ne refl)) (found (b ∷ [])) (λ t. kept_on old new (r.apart t).others)
-reset_left tells asked base journal since old new a a' c c' base_sound is some there1 there2 head found no_node.ConsoleFault r = absurd r.ends
-reset_left tells asked base journal since old new a a' c c' base_sound is some there1 there2 head found no_node.Halted r = absurd r.ends
+reset_left tells asked base journal since old new a a' c c' base_sound is some there1 there2 head passed no_node.NoMemory r =
+    reset_alone tells asked status.NoMemory base [] journal since old new base_sound r.ends.0 is r.course.goes (inr (inr (refl, inl refl, refl, refl))) (λ e. absurd (cc)) (λ e. absurd (cc)) r.loses (λ t. (r.apart t).console) head
+    (λ ne. left a' c' r.ends.1 (λ x. r.course.there1 x (there1 (r.course.alive1 x))) (λ y. r.course.there2 y (there2 (r.course.alive2 y)))) (passed []) (λ t. kept_on old new (r.apart t).others) (λ t. (r.apart t).papers)
+reset_left tells asked base journal since old new a a' c c' base_sound is some there1 there2 head passed no_node.BothLost r =
+    ⊎_elim
+    (λ none. reset_alone tells asked status.BothLost base [] journal since old new base_sound none is r.course.goes (inr (inr (refl, inr refl, refl, refl))) (λ e. absurd (cc)) (λ e. absurd (cc)) r.loses (λ t. (r.apart t).console) head
+    (λ ne. absurd (ne refl)) (passed []) (λ t. kept_on old new (r.apart t).others) (λ t. (r.apart t).papers))
+    (λ flies. reset_alone tells asked status.BothLost base (restart_at flies.0 ∷ []) journal since old new base_sound flies.2 is r.course.goes
+    (inr (inl (restart_at flies.0, refl, record { by = refl; entries = refl; began = omega (arith, is, flies.1) }, refl, refl, refl, refl, refl))) (λ e. absurd (cc)) (λ e. absurd (cc)) r.loses (λ t. (r.apart t).console) head
+    (λ ne. absurd (ne refl)) (passed (restart_at flies.0 ∷ [])) (λ t. kept_on old new (r.apart t).others) (λ t. (r.apart t).papers))
+    r.ends.0
+reset_left tells asked base journal since old new a a' c c' base_sound is some there1 there2 head passed no_node.ConsoleFault r = absurd r.ends
+reset_left tells asked base journal since old new a a' c c' base_sound is some there1 there2 head passed no_node.Halted r = absurd r.ends
 
 pub reset_ended : {T : Type 0} (tells : Type 0) (config : Config) (book : Book) (steps : List Step) (base : Queue) (journal : Journal) (since : ℕ) (old new : View) (a a' c c' : Bool) (why : NodeNo) → IsSound base → since ≡ old.now → SomeAlive a c → (a ≡ true → old.lost (DiskPart Ckpt1) ≡ false) → (c ≡ true → old.lost (DiskPart Ckpt2) ≡ false)
-    → (tells → ∥ Headline reads base since journal new ∥₁) → HasReset {T = T} tells (begun old.now nobody restart_entries) journal.batches a a' c c' old new (Err why)
+    → (tells → ∥ Headline form_reads base since journal new ∥₁) → HasReset {T = T} tells journal.batches a a' c c' old new (Err why)
     → (seen : List Sight) × HasSteps false tells (turns_from config book seen steps) (status_of {T = T} (Err why)) base journal since old.loses old new
 reset_ended {T = T} tells config book steps base journal since old new a a' c c' why base_sound is some there1 there2 head r =
-    ([], reset_left tells (turns_from config book [] steps) base journal since old new a a' c c' base_sound is some there1 there2 head (λ opening. none_found tells new base.config.groups config book steps (run base (kept_all opening)) (run base (kept_all opening)) 1 1 refl) {T = T} why r)
+    ([], reset_left tells (turns_from config book [] steps) base journal since old new a a' c c' base_sound is some there1 there2 head (λ opening. none_passed tells new base.config.groups 0 config book steps (run base (kept_all opening)) (run base (kept_all opening)) 1 1 refl (omega arith)) {T = T} why r)
 
 -- it ends as a run that has begun does
 pub err_plays : (T : Type 0) (why : NodeNo) → is_of_play (status_of {T = T} (Err why)) ≡ true
@@ -150,17 +184,17 @@ err_plays T no_node.BothLost = refl
 err_plays T no_node.ConsoleFault = refl
 err_plays T no_node.Halted = refl
 
-pub reset_caused : {T : Type 0} (told : Type 0) (b : Batch) (batches : List Batch) (a a' c c' : Bool) (old new : View) (why : NodeNo) → HasReset {T = T} told b batches a a' c c' old new (Err why) → (a' ≡ false → new.lost (DiskPart Ckpt1) ≡ true) → (c' ≡ false → new.lost (DiskPart Ckpt2) ≡ true)
+pub reset_caused : {T : Type 0} (told : Type 0) (batches : List Batch) (a a' c c' : Bool) (old new : View) (why : NodeNo) → HasReset {T = T} told batches a a' c c' old new (Err why) → (a' ≡ false → new.lost (DiskPart Ckpt1) ≡ true) → (c' ≡ false → new.lost (DiskPart Ckpt2) ≡ true)
     → IsCausedFrom a c (status_of {T = T} (Err why)) old new
-reset_caused told b batches a a' c c' old new no_node.NoMemory r lost1 lost2 = record { lost = λ e. absurd (cc); failed1 = λ e was. absurd (cc); failed2 = λ e was. absurd (cc); console = λ e. absurd (cc) }
-reset_caused told b batches a a' c c' old new no_node.BothLost r lost1 lost2 = record {
+reset_caused told batches a a' c c' old new no_node.NoMemory r lost1 lost2 = record { lost = λ e. absurd (cc); failed1 = λ e was. absurd (cc); failed2 = λ e was. absurd (cc); console = λ e. absurd (cc) }
+reset_caused told batches a a' c c' old new no_node.BothLost r lost1 lost2 = record {
   lost = λ e. (lost1 r.ends.1.0, lost2 r.ends.1.1);
   failed1 = λ e was. r.course.failed1 was r.ends.1.0;
   failed2 = λ e was. r.course.failed2 was r.ends.1.1;
   console = λ e. absurd (cc);
 }
-reset_caused told b batches a a' c c' old new no_node.ConsoleFault r lost1 lost2 = absurd r.ends
-reset_caused told b batches a a' c c' old new no_node.Halted r lost1 lost2 = absurd r.ends
+reset_caused told batches a a' c c' old new no_node.ConsoleFault r lost1 lost2 = absurd r.ends
+reset_caused told batches a a' c c' old new no_node.Halted r lost1 lost2 = absurd r.ends
 
 -- the one batch is kept
 pub one_kept_now : (b : Batch) (last now : ℕ) (batches : List Batch) → batches ≡ fated Kept last b ∷ [] → last ≤ now → AreAllKept batches now

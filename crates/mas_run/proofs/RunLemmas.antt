@@ -33,11 +33,12 @@ use Rattle.queue_tables.specs.Orders.{HaveOrders}
 use Rattle.queue_tables.specs.Telling.{Tell, TellSound}
 use Rattle.queue_tables.proofs.OrderLemmas.{empty_orders}
 use Rattle.mas_complex.specs.Texts.{HasTexts, Spools}
-use Rattle.spool_disk.specs.View.{View, Line, Disk}
+use Rattle.spool_disk.specs.View.{View, World, Line, Disk, disk_at, disk_now}
 use Rattle.spool_disk.specs.declared.plant.Part.TheVariants.{Disk as DiskPart, Console}
 use Rattle.spool_disk.specs.Acts.{Goes, Rose, top}
-use Rattle.ckpt_copy.specs.Areas.{reads}
+use Rattle.ckpt_form.specs.Form.{form_reads}
 use Rattle.ckpt_copy.specs.Moments.{goes_none, goes_on}
+use Rattle.ckpt_copy.specs.Reading.{AllRead}
 use Rattle.duplex_pair.specs.Halves.{SomeAlive, IsBothLost}
 use Rattle.duplex_pair.specs.declared.errors.PairNo.{PairNo}
 use Rattle.duplex_pair.specs.declared.errors.PairNo.TheVariants as pair_no
@@ -53,14 +54,16 @@ use Rattle.lock_cycle.specs.Books.{Book}
 use Rattle.script_lang.specs.declared.types.Script.{Script}
 use Rattle.script_lang.specs.declared.types.Step.{Step}
 use Rattle.mas_run.specs.Turns.{Sight, Turn, turns_from, turns_of}
-use Rattle.mas_run.specs.Steps.{FindLost, LeavesVolumes, lines_in, loses_after, next_in, outcomes_of}
+use Rattle.mas_run.specs.Steps.{ArePassed, LeavesVolumes, lines_in, loses_after, next_in, outcomes_of}
 use Rattle.mas_run.specs.Plays.{Ends, IfNotLost, ArePlayed, HasPlay}
 use Rattle.mas_run.specs.Runs.{has_begun, IsRun, Adds, HasLost, IsSettled, IsStopped, IsUnclosed, IsUncut, IsRestart, IsReset, HavePassed, IsSafe, IsPlay, HasSteps}
 use Rattle.mas_run.specs.Volumes.{AreVolumesKept, AreVolumesKeptUntil}
 use Rattle.mas_run.proofs.PlayLemmas.{shapes_of}
+use Rattle.mas_run.proofs.PaperLemmas.{papers_at, papers_past, papers_then}
 use Rattle.mas_run.proofs.VolumeLemmas.{kept_none, kept_past, kept_then}
 use Rattle.mas_types.specs.declared.journals.Batch.{Batch}
 use Rattle.mas_complex.specs.Journals.{kept_all, fated}
+use Rattle.mas_complex.specs.Paper.{SamePapers}
 use Rattle.mas_complex.specs.Meaning.{run}
 use Rattle.std.proofs.lemmas.List.{append-nil}
 use Rattle.mas_run.specs.Statuses.{IsCaused, IsCausedFrom, status_of}
@@ -84,7 +87,7 @@ abbrev coded_fate : Coded Fate
 coded_fate = code_by ℕ coded_ℕ fate_code fate_from fate_back
 
 -- what is told is kept, which needs no choice
-pub told_of : (base : Queue) (since : ℕ) (J : Journal) (v : View) → ∥ Headline reads base since J v ∥₁ → AreToldKept J since v
+pub told_of : (base : Queue) (since : ℕ) (J : Journal) (v : View) → ∥ Headline form_reads base since J v ∥₁ → AreToldKept J since v
 told_of base since J v head t from le by at end telling there k d lt has =
     ∥∥₁_elim head (×_prop (Coded-set coded_fate _ _) le_prop) (λ h. h.told t from le by at end telling there k d lt has)
 
@@ -187,12 +190,12 @@ module _ {T : Type 0} (told : Type 0) (asked : List Turn) (from : Queue) (per : 
     loses = p.loses;
     entry = old;
     entered = (refl, goes_none old);
-    found = p.found;
+    passed = p.passed;
     there = λ ne. left_now old new a a' b b' there1 there2 p.course (not_lost answer (SomeAlive a' b' ⊎ HasLost old new) ne p.left);
   }
 
 -- what holds at each moment
-safe_of : (told : Type 0) (base : Queue) (journal : Journal) (since : ℕ) (new : View) → IsSound base → (told → ∥ Headline reads base since journal new ∥₁) → IsSafe told base journal since new
+safe_of : (told : Type 0) (base : Queue) (journal : Journal) (since : ℕ) (new : View) → IsSound base → (told → ∥ Headline form_reads base since journal new ∥₁) → IsSafe told base journal since new
 safe_of told base journal since new sound head = record {
   crash = λ t. ∥∥₁_map (head t) (λ h. h.crash);
   alike = λ t. ∥∥₁_map (head t) (λ h. h.alike);
@@ -202,7 +205,7 @@ safe_of told base journal since new sound head = record {
 }
 
 -- what was played, from what its steps leave
-pub play_of_steps : {T : Type 0} (told : Type 0) (book : Book) (steps : List Step) (base : Queue) (front : List Batch) (journal : Journal) (since : ℕ) (old new : View) (a a' b b' : Bool) → IsSound base → (told → ∥ Headline reads base since journal new ∥₁)
+pub play_of_steps : {T : Type 0} (told : Type 0) (book : Book) (steps : List Step) (base : Queue) (front : List Batch) (journal : Journal) (since : ℕ) (old new : View) (a a' b b' : Bool) → IsSound base → (told → ∥ Headline form_reads base since journal new ∥₁)
     → (a ≡ true → old.lost (DiskPart Ckpt1) ≡ false) → (b ≡ true → old.lost (DiskPart Ckpt2) ≡ false) → (answer : Result T NodeNo)
     → HasPlay told (run base (kept_all front)) base.config book steps front journal.batches a a' b b' old new answer
     → (seen : List Sight) × IsPlay told (turns_from base.config book seen steps) (status_of answer) base front journal since old new
@@ -239,6 +242,7 @@ cold_steps tells asked answer base front journal since old new none is goes p = 
   played = p.played;
   opened = (none, sym is);
   before = λ t. volumes_at old new goes;
+  dry = λ t. papers_at old new goes;
   volumes = p.volumes;
   safe = p.safe;
 }
@@ -276,14 +280,14 @@ module _ (entry old new : View) (goes : Goes entry old) (on : Goes old new) wher
     loses = λ t d. p.loses t d ∙ ap (loses_after d (take p.kept asked)) (same d);
     entry = p.entry;
     entered = (p.entered.0, goes_on entry old p.entry goes p.entered.1);
-    found = p.found;
+    passed = p.passed;
     there = λ ne. ⊎_elim inl (λ lost. inr (⊎_elim (λ one. inl (subst (λ (n : ℕ). Rose n (new.loses Ckpt1)) (same Ckpt1) one)) (λ two. inr (subst (λ (n : ℕ). Rose n (new.loses Ckpt2)) (same Ckpt2) two)) lost)) (p.there ne);
   }
 
-  pub steps_since : (cold : Bool) (tells : Type 0) (asked : List Turn) (answer : Status) (base : Queue) (journal : Journal) (since : ℕ) (first : Dev → ℕ) → (tells → console_now old ≡ console_now entry) → (tells → AreVolumesKept entry old)
+  pub steps_since : (cold : Bool) (tells : Type 0) (asked : List Turn) (answer : Status) (base : Queue) (journal : Journal) (since : ℕ) (first : Dev → ℕ) → (tells → console_now old ≡ console_now entry) → (tells → AreVolumesKept entry old) → (tells → SamePapers entry old)
       → HasSteps cold tells asked answer base journal since first old new → HasSteps cold tells asked answer base journal since first entry new
   unfolding passed_since
-  steps_since cold tells asked answer base journal since first quiet kept r = record {
+  steps_since cold tells asked answer base journal since first quiet kept papers r = record {
     opening = r.opening;
     rest = r.rest;
     batches = r.batches;
@@ -292,14 +296,16 @@ module _ (entry old new : View) (goes : Goes entry old) (on : Goes old new) wher
     played = passed_since tells asked answer (run base (kept_all r.opening)) base.config.groups r.at r.rest first first quiet (λ d. refl) r.played;
     opened = r.opened;
     before = λ t. kept_then r.at entry old new goes.later on (kept t) (r.before t);
+    dry = λ t. papers_then r.at entry old new goes.later on (papers t) (r.dry t);
     volumes = λ t all. kept_then new.now entry old new goes.later on (kept t) (r.volumes t all);
     safe = r.safe;
   }
 
   -- what was played after Restart is what is played of a warm run
   pub warm_steps : (tells : Type 0) (asked : List Turn) (answer : Status) (base : Queue) (b : Batch) (last : ℕ) (front : List Batch) (journal : Journal) (since : ℕ) → front ≡ fated Kept last b ∷ [] → IsRestart since b → b.first ≤ last → last ≤ old.now → since ≤ old.now
-      → ((d : Dev) → old.loses d ≡ entry.loses d) → (tells → console_now old ≡ console_now entry) → (tells → AreVolumesKept entry old) → IsPlay tells asked answer base front journal since old new → HasSteps false tells asked answer base journal since entry.loses entry new
-  warm_steps tells asked answer base b last front journal since are is order past from same quiet kept p = record {
+      → ((d : Dev) → old.loses d ≡ entry.loses d) → (tells → console_now old ≡ console_now entry) → (tells → AreVolumesKept entry old) → (tells → SamePapers entry old)
+      → IsPlay tells asked answer base front journal since old new → HasSteps false tells asked answer base journal since entry.loses entry new
+  warm_steps tells asked answer base b last front journal since are is order past from same quiet kept papers p = record {
     opening = front;
     rest = p.rest;
     batches = p.batches;
@@ -308,16 +314,17 @@ module _ (entry old new : View) (goes : Goes entry old) (on : Goes old new) wher
     played = passed_since tells asked answer (run base (kept_all front)) base.config.groups old.now p.rest old.loses entry.loses quiet same p.played;
     opened = inl (fated Kept last b, are, record { by = is.by; entries = is.entries; began = is.began }, refl, order, past);
     before = λ t. kept_past old.now entry old new (let le : old.now ≤ old.now = omega arith in le) on (kept t);
+    dry = λ t. papers_past old.now entry old new (let le : old.now ≤ old.now = omega arith in le) on (papers t);
     volumes = λ t all. kept_then new.now entry old new goes.later on (kept t) (p.volumes t all);
     safe = p.safe;
   }
 
 -- a warm run in which Restart isn't kept plays no step
 pub reset_alone : (tells : Type 0) (asked : List Turn) (answer : Status) (base : Queue) (opening : List Batch) (journal : Journal) (since : ℕ) (old new : View) → IsSound base → journal.batches ≡ opening → since ≡ old.now → Goes old new → IsReset answer since new.now opening 0 []
-    → (answer ≢ status.Done) → (answer ≢ status.ConsoleFault) → ((d : Dev) → new.loses d ≡ old.loses d) → (tells → console_now new ≡ console_now old) → (tells → ∥ Headline reads base since journal new ∥₁)
-    → (answer ≢ status.BothLost → (new.lost (DiskPart Ckpt1) ≡ false) ⊎ (new.lost (DiskPart Ckpt2) ≡ false)) → FindLost tells new new base.config.groups (run base (kept_all opening)) 1 asked (outcomes_of (run base (kept_all opening)) asked) → (tells → AreVolumesKept old new)
+    → (answer ≢ status.Done) → (answer ≢ status.ConsoleFault) → ((d : Dev) → new.loses d ≡ old.loses d) → (tells → console_now new ≡ console_now old) → (tells → ∥ Headline form_reads base since journal new ∥₁)
+    → (answer ≢ status.BothLost → (new.lost (DiskPart Ckpt1) ≡ false) ⊎ (new.lost (DiskPart Ckpt2) ≡ false)) → ArePassed tells new new base.config.groups (run base (kept_all opening)) 1 0 [] asked (outcomes_of (run base (kept_all opening)) asked) → (tells → AreVolumesKept old new) → (tells → SamePapers old new)
     → HasSteps false tells asked answer base journal since old.loses old new
-reset_alone tells asked answer base opening journal since old new sound are is goes reset not_done not_unsaid same quiet head there found kept = record {
+reset_alone tells asked answer base opening journal since old new sound are is goes reset not_done not_unsaid same quiet head there passed kept papers = record {
   opening = opening;
   rest = [];
   batches = are ∙ sym (append-nil opening);
@@ -341,11 +348,12 @@ reset_alone tells asked answer base opening journal since old new sound are is g
     loses = λ t. same;
     entry = new;
     entered = (refl, goes);
-    found = found;
+    passed = passed;
     there = λ ne. inl (there ne);
   };
   opened = reset;
   before = kept;
+  dry = papers;
   volumes = λ t all. kept t;
   safe = safe_of tells base journal since new sound head;
 }
@@ -379,8 +387,22 @@ caused_unformed T a b pair_no.Halted entry new formed both = let some = formed.n
 -- A COPY AS IT WAS FORMED
 
 pub formed_copy : (base : Queue) (now : ℕ) (rests : List ℕ → Disk → Type 0) (holds : List ℕ → List ℕ → Disk → Type 0) (alive : Bool) (disk : Disk) (pages : List ℕ)
-    → (alive ≡ true → rests pages disk) → (alive ≡ false → now < top → disk.lost ≡ true) → CopyAt (setting reads base now) pages None (copy_of rests holds alive Before) now disk
+    → (alive ≡ true → rests pages disk) → (alive ≡ false → now < top → disk.lost ≡ true) → CopyAt (setting form_reads base now) pages None (copy_of rests holds alive Before) now disk
 formed_copy base now rests holds alive disk pages rested gone = record { at = rested; gone = gone }
+
+-- what its images read as later
+pub formed_images : (dev : Dev) (rests : List ℕ → Disk → Type 0) (pages : List ℕ) (alive : Bool) (v w : View) → Goes v w → ((d : Disk) → rests pages d → AllRead form_reads pages d)
+    → (alive ≡ true → rests pages (disk_now v dev)) → (alive ≡ false → v.now < top → (disk_now v dev).lost ≡ true) → v.now < top → AllRead form_reads pages (disk_at w v.now dev)
+formed_images dev rests pages alive v w goes read rested gone lt =
+    let le : v.now ≤ v.now = omega arith in
+    subst (λ (x : World). AllRead form_reads pages (x.disk dev)) (sym (goes.past v.now le)) (by_copy alive (λ a. read (disk_now v dev) (rested a)) (λ n image is. absurd (clash (disk_now v dev).lost (gone n lt) is.there)))
+  where
+    by_copy : {A : Type 0} (x : Bool) → (x ≡ true → A) → (x ≡ false → A) → A
+    by_copy true f g = f refl
+    by_copy false f g = g refl
+
+    clash : (b : Bool) → b ≡ true → b ≡ false → ⊥
+    clash b p q = absurd (cc)
 
 -- WHAT IS KNOWN OF THE EMPTY QUEUE
 

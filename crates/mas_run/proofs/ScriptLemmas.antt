@@ -30,7 +30,7 @@ use Rattle.mas_run.specs.Stops.{IsStepOf}
 use Rattle.mas_run.specs.Turns.{Sight, Turn, book_after, turn_at, turns_from}
 use Rattle.mas_run.proofs.LineLemmas.{step_untold}
 use Rattle.mas_run.proofs.PlayLemmas.{all_kept_behind, behind, few_played, kept_played, played_all, played_none, played_on, played_out, queue_behind, queue_played}
-use Rattle.mas_run.proofs.TurnLemmas.{book_behind, book_more, none_found, steps_split, turns_counted, turns_length, turns_split}
+use Rattle.mas_run.proofs.TurnLemmas.{book_behind, book_more, none_passed, steps_split, turns_counted, turns_length, turns_split}
 
 -- volumes that have room keep it
 pub roomy_later : (v0 v : View) (config : Config) → Goes v0 v → AreRoomy v0 config → AreRoomy v config
@@ -132,7 +132,7 @@ module _ (told : Type 0) (from : Queue) (config : Config) (book : Book) (asked :
           batches_are = behind opening play.rest step.more batches now play.batches_are step.are;
           played = subst (λ (ts : List Turn). ArePlayed {T = T} told from config.groups ts (play.rest ++ step.more) a0 a' b0 b' v0 v' (Err why)) (sym all_turns)
               (played_out told from config.groups (turns_from config book play.seen (take i asked)) (turn_at config c x s.what) play.rest a0 a a' b0 b b' v0 v v' play.played (run base (kept_all batches)) k (queue_here base is_from) number_here
-              (turns_from config (book_after config c s.what) [] (drop (suc i) asked)) (λ R n e. none_found told v' config.groups config (book_after config c s.what) (drop (suc i) asked) R (after_step (run base (kept_all batches)) k (turn_at config c x s.what)) n (k + 1) e) batches now why step);
+              (turns_from config (book_after config c s.what) [] (drop (suc i) asked)) (λ R n e. none_passed told v' config.groups (length (turns_from config book play.seen (take i asked))) config (book_after config c s.what) (drop (suc i) asked) R (after_step (run base (kept_all batches)) k (turn_at config c x s.what)) n (k + 1) e (omega (arith, e, number_here))) batches now why step);
         }
 
   -- all of them have been played

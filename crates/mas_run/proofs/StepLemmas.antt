@@ -31,7 +31,8 @@ use Rattle.member_node.specs.Calls.{Course, Grows, console_now}
 use Rattle.member_node.specs.Writes.{HasKept, HasFlying}
 use Rattle.duplex_pair.specs.Halves.{IsCkpt, other, pick}
 use Rattle.mas_complex.specs.Elsewhere.{Elsewhere}
-use Rattle.member_node.proofs.CourseLemmas.{apart_first, apart_second, course_first, course_none, course_second}
+use Rattle.mas_complex.specs.Paper.{SamePapers}
+use Rattle.member_node.proofs.CourseLemmas.{apart_first, apart_second, course_first, course_none, course_second, papers_none}
 use Rattle.member_steps.specs.Locked.{IsDenial, denied_lines}
 use Rattle.member_steps.specs.Steps.{GivesStep, StepTells, entry_with}
 use Rattle.mas_run.specs.Steps.{FindsLost, IsOutcome, LeavesVolumes, Outcome, loses_after_step, outcome_of}
@@ -53,7 +54,7 @@ denied_counts Ckpt1 why n = refl
 denied_counts Ckpt2 why n = refl
 denied_counts (Spool v) why n = refl
 
-closed_counts : (d : Dev) (end : Closing) (n : ℕ) → loses_after_step d (Closed end) n ≡ n
+pub closed_counts : (d : Dev) (end : Closing) (n : ℕ) → loses_after_step d (Closed end) n ≡ n
 closed_counts Ckpt1 end n = refl
 closed_counts Ckpt2 end n = refl
 closed_counts (Spool v) end n = refl
@@ -149,6 +150,7 @@ module _ (told : Type 0) (given : Command) (Q : Queue) (per at : ℕ) (front bat
     leaves = kept_now g.reply g.first g.later g.step.journal.0 g.step.journal.1 g.step.journal.2;
     found = tt;
     volumes = λ t none. kept_on v v' (g.step.others t);
+    papers = λ t none. g.step.papers t;
     console = g.step.console;
   }
 
@@ -165,6 +167,7 @@ module _ (told : Type 0) (given : Command) (Q : Queue) (per at : ℕ) (front bat
     leaves = inl (inl refl);
     found = tt;
     volumes = λ t none. kept_on v v' (g.step.others t);
+    papers = λ t none. g.step.papers t;
     console = g.step.console;
   }
 
@@ -184,6 +187,7 @@ module _ (told : Type 0) (given : Command) (Q : Queue) (per at : ℕ) (front bat
       leaves = inl tt;
       found = tt;
       volumes = λ t quiet. kept_on v v' (g.step.others t);
+      papers = λ t none. g.step.papers t;
       console = g.step.console;
     }
 
@@ -200,6 +204,7 @@ module _ (told : Type 0) (given : Command) (Q : Queue) (per at : ℕ) (front bat
       leaves = inr (inl (flies_now g.reply g.first g.later));
       found = tt;
       volumes = λ t quiet. kept_on v v' (g.step.others t);
+      papers = λ t none. g.step.papers t;
       console = g.step.console;
     }
 
@@ -216,6 +221,7 @@ module _ (told : Type 0) (given : Command) (Q : Queue) (per at : ℕ) (front bat
     leaves = kept_now g.reply g.first g.later g.step.journal.0 g.step.journal.1 g.step.journal.2;
     found = tt;
     volumes = λ t none. kept_on v v' (g.step.others t);
+    papers = λ t none. g.step.papers t;
     console = g.step.console;
   }
 
@@ -239,6 +245,7 @@ module _ (told : Type 0) (given : Command) (Q : Queue) (per at : ℕ) (front bat
       leaves = inl tt;
       found = tt;
       volumes = λ t quiet. kept_on v v' (g.step.others t);
+      papers = λ t none. g.step.papers t;
       console = tells_it [] (λ k. absurd (one_more front batches (its_batch g.reply g.first g.later) v'.now are k));
     }
 
@@ -255,6 +262,7 @@ module _ (told : Type 0) (given : Command) (Q : Queue) (per at : ℕ) (front bat
       leaves = inr (inl (flies_now g.reply g.first g.later));
       found = tt;
       volumes = λ t quiet. kept_on v v' (g.step.others t);
+      papers = λ t none. g.step.papers t;
       console = tells_it ((its_batch g.reply g.first g.later) ∷ []) (λ k. absurd (not_both front batches (its_batch g.reply g.first g.later) v'.now refl are k));
     }
 
@@ -271,6 +279,7 @@ module _ (told : Type 0) (given : Command) (Q : Queue) (per at : ℕ) (front bat
       leaves = inr (inr (inl (kept_now g.reply g.first g.later k.0 k.1 k.2)));
       found = tt;
       volumes = λ t quiet. kept_on v v' (g.step.others t);
+      papers = λ t none. g.step.papers t;
       console = tells_it (fated Kept k.0 (its_batch g.reply g.first g.later) ∷ []) (λ l. kept_now g.reply g.first g.later k.0 k.1 k.2);
     }
 
@@ -320,6 +329,7 @@ module _ (told : Type 0) (fields : JobFields) (text : List (List ℕ)) (Q : Queu
     leaves = step.journal;
     found = (step.found, λ t. (step.is t).lies);
     volumes = λ t none. absurd none;
+    papers = λ t none. step.papers t;
     console = tells_own (let r : Result T NodeNo = Ok done in r) step;
   }
   deck_step_of {T = T} (Err no_node.NoMemory) step = record {
@@ -334,6 +344,7 @@ module _ (told : Type 0) (fields : JobFields) (text : List (List ℕ)) (Q : Queu
     leaves = inl (inr step.journal);
     found = (step.found, λ t. (step.is t).lies);
     volumes = λ t none. absurd none;
+    papers = λ t none. step.papers t;
     console = tells_own (let r : Result T NodeNo = Err no_node.NoMemory in r) step;
   }
   deck_step_of {T = T} (Err no_node.BothLost) step = record {
@@ -348,6 +359,7 @@ module _ (told : Type 0) (fields : JobFields) (text : List (List ℕ)) (Q : Queu
     leaves = ⊎_elim inl (λ flies. inr (inl flies)) step.journal;
     found = (step.found, λ t. (step.is t).lies);
     volumes = λ t none. absurd none;
+    papers = λ t none. step.papers t;
     console = tells_own (let r : Result T NodeNo = Err no_node.BothLost in r) step;
   }
   deck_step_of {T = T} (Err no_node.ConsoleFault) step = record {
@@ -362,6 +374,7 @@ module _ (told : Type 0) (fields : JobFields) (text : List (List ℕ)) (Q : Queu
     leaves = step.journal;
     found = (step.found, λ t. (step.is t).lies);
     volumes = λ t none. absurd none;
+    papers = λ t none. step.papers t;
     console = tells_own (let r : Result T NodeNo = Err no_node.ConsoleFault in r) step;
   }
   deck_step_of {T = T} (Err no_node.Halted) step = record {
@@ -376,6 +389,7 @@ module _ (told : Type 0) (fields : JobFields) (text : List (List ℕ)) (Q : Queu
     leaves = ⊎_elim inl (λ others. ⊎_elim (λ flies. inr (inl flies)) (λ all. inr (inr (inl all))) others) step.journal;
     found = (step.found, λ t. (step.is t).lies);
     volumes = λ t none. absurd none;
+    papers = λ t none. step.papers t;
     console = tells_own (let r : Result T NodeNo = Err no_node.Halted in r) step;
   }
 
@@ -422,6 +436,7 @@ module _ (told : Type 0) (n : ℕ) (Q : Queue) (per at : ℕ) (front batches : L
     leaves = work_leaves (let r : Result T NodeNo = Ok done in r) step.looks step.gave step.closes.rest step.closes.journal;
     found = ((step.end, refl, step.caused), λ t. (step.is t).seen);
     volumes = λ t none. absurd none;
+    papers = λ t none. absurd none;
     console = tells_work (let r : Result T NodeNo = Ok done in r) step;
   }
   work_step_of {T = T} (Err no_node.NoMemory) step = record {
@@ -436,6 +451,7 @@ module _ (told : Type 0) (n : ℕ) (Q : Queue) (per at : ℕ) (front batches : L
     leaves = work_leaves (let r : Result T NodeNo = Err no_node.NoMemory in r) step.looks step.gave step.closes.rest step.closes.journal;
     found = ((step.end, refl, step.caused), λ t. (step.is t).seen);
     volumes = λ t none. absurd none;
+    papers = λ t none. absurd none;
     console = tells_work (let r : Result T NodeNo = Err no_node.NoMemory in r) step;
   }
   work_step_of {T = T} (Err no_node.BothLost) step = record {
@@ -450,6 +466,7 @@ module _ (told : Type 0) (n : ℕ) (Q : Queue) (per at : ℕ) (front batches : L
     leaves = work_leaves (let r : Result T NodeNo = Err no_node.BothLost in r) step.looks step.gave step.closes.rest step.closes.journal;
     found = ((step.end, refl, step.caused), λ t. (step.is t).seen);
     volumes = λ t none. absurd none;
+    papers = λ t none. absurd none;
     console = tells_work (let r : Result T NodeNo = Err no_node.BothLost in r) step;
   }
   work_step_of {T = T} (Err no_node.ConsoleFault) step = record {
@@ -464,6 +481,7 @@ module _ (told : Type 0) (n : ℕ) (Q : Queue) (per at : ℕ) (front batches : L
     leaves = work_leaves (let r : Result T NodeNo = Err no_node.ConsoleFault in r) step.looks step.gave step.closes.rest step.closes.journal;
     found = ((step.end, refl, step.caused), λ t. (step.is t).seen);
     volumes = λ t none. absurd none;
+    papers = λ t none. absurd none;
     console = tells_work (let r : Result T NodeNo = Err no_node.ConsoleFault in r) step;
   }
   work_step_of {T = T} (Err no_node.Halted) step = record {
@@ -478,6 +496,7 @@ module _ (told : Type 0) (n : ℕ) (Q : Queue) (per at : ℕ) (front batches : L
     leaves = work_leaves (let r : Result T NodeNo = Err no_node.Halted in r) step.looks step.gave step.closes.rest step.closes.journal;
     found = ((step.end, refl, step.caused), λ t. (step.is t).seen);
     volumes = λ t none. absurd none;
+    papers = λ t none. absurd none;
     console = tells_work (let r : Result T NodeNo = Err no_node.Halted in r) step;
   }
 
@@ -508,6 +527,7 @@ module _ (told : Type 0) (turn : Turn) (Q : Queue) (per at : ℕ) (lines : List 
     leaves = tt;
     found = found;
     volumes = λ t quiet. kept_on v v' (step.others t);
+    papers = λ t none. step.papers t;
     console = λ t. tells_so (let r : Result T NodeNo = Ok done in r) (step.console t);
   }
   aside {T = T} (Err no_node.NoMemory) step = record {
@@ -522,6 +542,7 @@ module _ (told : Type 0) (turn : Turn) (Q : Queue) (per at : ℕ) (lines : List 
     leaves = inl (inl refl);
     found = found;
     volumes = λ t quiet. kept_on v v' (step.others t);
+    papers = λ t none. step.papers t;
     console = λ t. tells_so (let r : Result T NodeNo = Err no_node.NoMemory in r) (step.console t);
   }
   aside (Err no_node.BothLost) step = absurd (step.not_lost refl)
@@ -537,6 +558,7 @@ module _ (told : Type 0) (turn : Turn) (Q : Queue) (per at : ℕ) (lines : List 
     leaves = tt;
     found = found;
     volumes = λ t quiet. kept_on v v' (step.others t);
+    papers = λ t none. step.papers t;
     console = λ t. tells_so (let r : Result T NodeNo = Err no_node.ConsoleFault in r) (step.console t);
   }
   aside {T = T} (Err no_node.Halted) step = record {
@@ -551,6 +573,7 @@ module _ (told : Type 0) (turn : Turn) (Q : Queue) (per at : ℕ) (lines : List 
     leaves = inr (inr (inl tt));
     found = found;
     volumes = λ t quiet. kept_on v v' (step.others t);
+    papers = λ t none. step.papers t;
     console = λ t. tells_so (let r : Result T NodeNo = Err no_node.Halted in r) (step.console t);
   }
 
@@ -565,9 +588,9 @@ closed_step_of told end Q per at front batches a a' b b' v v' result step = asid
 -- A LOSS
 
 pub loss_step_of : {T : Type 0} (done : T) (told : Type 0) (dev : Dev) (Q : Queue) (per at : ℕ) (front batches : List Batch) (a a' b b' : Bool) (v v' : View)
-    → Course a a' b b' v v' → IsLeftOrLost a a' b b' v v' → Loses (Disk dev) v v' → batches ≡ front → (told → LeavesVolumes (Loss dev) → AreVolumesKept v v') → (told → console_now v' ≡ console_now v)
+    → Course a a' b b' v v' → IsLeftOrLost a a' b b' v v' → Loses (Disk dev) v v' → batches ≡ front → (told → LeavesVolumes (Loss dev) → AreVolumesKept v v') → (told → SamePapers v v') → (told → console_now v' ≡ console_now v)
     → IsStepOf told (Loss dev) Q per at front batches a a' b b' v v' (Ok done)
-loss_step_of done told dev Q per at front batches a a' b b' v v' course left loses same volumes console = record {
+loss_step_of done told dev Q per at front batches a a' b b' v v' course left loses same volumes papers console = record {
   course = course;
   cause = left;
   did = record { batches = []; lines = [] };
@@ -579,6 +602,7 @@ loss_step_of done told dev Q per at front batches a a' b b' v v' course left los
   leaves = tt;
   found = tt;
   volumes = volumes;
+  papers = λ t none. papers t;
   console = λ t. console t ∙ sym (append-nil (console_now v));
 }
 
@@ -598,6 +622,7 @@ unplayed_step_of told turn Q per at front batches a b v same counts found = reco
   leaves = inl (inl refl);
   found = found;
   volumes = λ t none. kept_none v;
+  papers = λ t none. papers_none v;
   console = λ t. refl;
 }
 
@@ -638,15 +663,15 @@ module _ {H : Type 0} (alive : H → Bool) (p1 q1 p2 q2 : H) (told : Type 0) (Q 
       → (told → Elsewhere dev v v') → Lost dev
   device_step_of Ckpt1 dead volume others loses elsewhere = loss_step_of tt told Ckpt1 Q per at front batches (alive p1) (alive q1) (alive p2) (alive q2) v v'
       (course_first (alive p1) (alive q1) (alive p2) (alive q2) v v' loses (dead tt) (ap alive others))
-      (inr (inl (let c = loses.counted Ckpt1 refl in omega (arith, c)))) loses same (λ t leaves. kept_on v v' (apart_first v v' loses.goes.later (elsewhere t)).others) (λ t. (apart_first v v' loses.goes.later (elsewhere t)).console)
+      (inr (inl (let c = loses.counted Ckpt1 refl in omega (arith, c)))) loses same (λ t leaves. kept_on v v' (apart_first v v' loses.goes.later (elsewhere t)).others) (λ t. (elsewhere t).papers) (λ t. (apart_first v v' loses.goes.later (elsewhere t)).console)
   device_step_of Ckpt2 dead volume others loses elsewhere = loss_step_of tt told Ckpt2 Q per at front batches (alive p1) (alive q1) (alive p2) (alive q2) v v'
       (course_second (alive p1) (alive q1) (alive p2) (alive q2) v v' loses (dead tt) (ap alive others))
-      (inr (inr (let c = loses.counted Ckpt2 refl in omega (arith, c)))) loses same (λ t leaves. kept_on v v' (apart_second v v' loses.goes.later (elsewhere t)).others) (λ t. (apart_second v v' loses.goes.later (elsewhere t)).console)
+      (inr (inr (let c = loses.counted Ckpt2 refl in omega (arith, c)))) loses same (λ t leaves. kept_on v v' (apart_second v v' loses.goes.later (elsewhere t)).others) (λ t. (elsewhere t).papers) (λ t. (apart_second v v' loses.goes.later (elsewhere t)).console)
   device_step_of (Spool n) dead volume others loses elsewhere =
       let both = volume n refl in
       loss_step_of tt told (Spool n) Q per at front batches (alive p1) (alive q1) (alive p2) (alive q2) v v'
       (subst (λ (x : Bool). Course (alive p1) x (alive p2) (alive q2) v v') (sym both.0) (subst (λ (x : Bool). Course (alive p1) (alive p1) (alive p2) x v v') (sym both.1) (course_volume n (alive p1) (alive p2) v v' loses)))
-      (inl (inr both)) loses same (λ t leaves. absurd leaves) (λ t. (elsewhere t).console v'.now loses.goes.later (let le : v'.now ≤ v'.now = omega arith in le))
+      (inl (inr both)) loses same (λ t leaves. absurd leaves) (λ t. (elsewhere t).papers) (λ t. (elsewhere t).console v'.now loses.goes.later (let le : v'.now ≤ v'.now = omega arith in le))
 
 -- A COPY THAT COUNTS AS ALIVE DID SO BEFORE A LOSS
 

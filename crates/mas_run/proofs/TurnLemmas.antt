@@ -7,6 +7,7 @@ use Rattle.mas_types.specs.declared.commands.Command.{Command}
 use Rattle.mas_types.specs.declared.ids.Dev.TheVariants.{Spool}
 use Rattle.mas_types.specs.declared.ids.MemberId.{MemberId}
 use Rattle.mas_types.specs.declared.jobs.JobFields.{JobFields}
+use Rattle.mas_types.specs.declared.journals.Batch.{Batch}
 use Rattle.mas_types.specs.declared.journals.Entry.{Entry}
 use Rattle.mas_types.specs.declared.queues.Config.{Config}
 use Rattle.mas_types.specs.declared.queues.Queue.{Queue}
@@ -35,11 +36,11 @@ use Rattle.member_work.specs.Work.{work_batches, work_closing, work_lines}
 use Rattle.member_work.proofs.CalmLemmas.{calm_work}
 use Rattle.member_work.proofs.CauseLemmas.{calm_close}
 use Rattle.member_work.proofs.RoundLemmas.{calm_seen}
-use Rattle.member_node.proofs.CourseLemmas.{rose_later, rose_more}
+use Rattle.member_node.proofs.CourseLemmas.{papers_none, rose_later, rose_more}
 use Rattle.member_steps.specs.Locked.{IsOpenTo}
 use Rattle.member_steps.proofs.LockLemmas.{refused_so, opens_again}
 use Rattle.mas_run.specs.Found.{FindNone}
-use Rattle.mas_run.specs.Steps.{FindsLost, FindLost, IsCounted, Outcome, after_step, outcome_of, outcomes_from}
+use Rattle.mas_run.specs.Steps.{ArePassed, FindsLost, IsCounted, Outcome, after_step, outcome_of, outcomes_from}
 use Rattle.mas_run.specs.Turns.{Reads, Gives, Works, Sight, Turn, Granted, clear, task_turn, deck_turn, command_turn, resets, turn_by, turn_at, after_tried, after_deck, after_command, book_after, turns_from, granted_all, AreAwake}
 use Rattle.mas_run.proofs.LockLemmas.{begins_open}
 
@@ -189,29 +190,31 @@ module _ (old mid new : View) (first : Goes old mid) (then_too : Goes mid new) w
   less4 sound rose = sound (rose_later (old.faults (Printer sysa)) (mid.faults (Printer sysa)) (new.faults (Printer sysa)) (first.faults (Printer sysa)) rose)
 
 -- steps take a plant on
-found_goes : (told : Type 0) (per : ℕ) (steps : List Turn) (os : List Outcome) (Q : Queue) (at : ℕ) (old new : View) → FindLost told old new per Q at steps os → Goes old new
-found_goes told per [] [] Q at old new found = subst (λ (v : View). Goes old v) (sym found) (goes_none old)
-found_goes told per [] (o ∷ os) Q at old new found = absurd found
-found_goes told per (turn ∷ steps) [] Q at old new found = absurd found
-found_goes told per (turn ∷ steps) (o ∷ os) Q at old new found = goes_on old found.0 new found.1 (found_goes told per steps os (after_step Q at turn) (at + 1) found.0 new found.3)
+passed_goes : (told : Type 0) (per closed : ℕ) (steps : List Turn) (os : List Outcome) (batches : List Batch) (Q : Queue) (at : ℕ) (old new : View) → ArePassed told old new per Q at closed batches steps os → Goes old new
+passed_goes told per closed [] [] batches Q at old new found = subst (λ (v : View). Goes old v) (sym found.0) (goes_none old)
+passed_goes told per closed [] (o ∷ os) batches Q at old new found = absurd found
+passed_goes told per closed (turn ∷ steps) [] batches Q at old new found = absurd found
+passed_goes told per closed (turn ∷ steps) (o ∷ os) batches Q at old new found = goes_on old found.0 new found.4.goes (passed_goes told per closed steps os found.2 (after_step Q at turn) (at + 1) found.0 new found.5)
 
-outcomes_none : (told : Type 0) (per : ℕ) (tells : told) (new : View) (config : Config) (b : Book) (seen : List Sight) (steps : List Step) (did : List Outcome) (Q : Queue) (at : ℕ) (old : View) → NoVolumeFailed old new → NoPrinterFailed old new
-    → FindLost told old new per Q at (turns_from config b seen steps) did → outcomes_from Q at (turns_from config b seen steps) ≡ outcomes_from Q at (turns_from config b [] steps)
-outcomes_none told per tells new config b seen [] did Q at old sound prints found = refl
-outcomes_none told per tells new config b seen (s ∷ steps) [] Q at old sound prints found = absurd found
-outcomes_none told per tells new config b seen (s ∷ steps) (o ∷ did) Q at old sound prints found =
+outcomes_none : (told : Type 0) (per closed : ℕ) (tells : told) (new : View) (config : Config) (b : Book) (seen : List Sight) (steps : List Step) (did : List Outcome) (batches : List Batch) (Q : Queue) (at : ℕ) (old : View)
+    → NoVolumeFailed old new → NoPrinterFailed old new
+    → ArePassed told old new per Q at closed batches (turns_from config b seen steps) did → outcomes_from Q at (turns_from config b seen steps) ≡ outcomes_from Q at (turns_from config b [] steps)
+outcomes_none told per closed tells new config b seen [] did batches Q at old sound prints found = refl
+outcomes_none told per closed tells new config b seen (s ∷ steps) [] batches Q at old sound prints found = absurd found
+outcomes_none told per closed tells new config b seen (s ∷ steps) (o ∷ did) batches Q at old sound prints found =
     let here = turn_at config b (get_or seen 0 clear) s.what in
     let mid = found.0 in
-    let goes : Goes mid new = found_goes told per (turns_from config (book_after config b s.what) (drop 1 seen) steps) did (after_step Q at here) (at + 1) mid new found.3 in
-    let one = outcome_none told old mid per tells (less1 old mid new found.1 goes sound) (less3 old mid new found.1 goes prints) Q at o config (try_refusal b sysa false) (get_or seen 0 clear) s.what found.2 in
-    let more = outcomes_none told per tells new config (book_after config b s.what) (drop 1 seen) steps did (after_step Q at here) (at + 1) mid (less2 old mid new found.1 goes sound) (less4 old mid new found.1 goes prints) found.3 in
+    let p = found.4 in
+    let goes : Goes mid new = passed_goes told per closed (turns_from config (book_after config b s.what) (drop 1 seen) steps) did found.2 (after_step Q at here) (at + 1) mid new found.5 in
+    let one = outcome_none told old mid per tells (less1 old mid new p.goes goes sound) (less3 old mid new p.goes goes prints) Q at o config (try_refusal b sysa false) (get_or seen 0 clear) s.what p.found in
+    let more = outcomes_none told per closed tells new config (book_after config b s.what) (drop 1 seen) steps did found.2 (after_step Q at here) (at + 1) mid (less2 old mid new p.goes goes sound) (less4 old mid new p.goes goes prints) found.5 in
     ap (λ (os : List Outcome). outcome_of Q at here ∷ os) more
     ∙ ap (λ (p : Outcome). p ∷ outcomes_from (run Q (all_entries p.batches)) (at + 1) (turns_from config (book_after config b s.what) [] steps)) one
 
 pub all_sound : (told : Type 0) → FindNone told
-all_sound told config seen steps did old entry new per Q tells goes sound prints found =
-    let on : Goes entry new = found_goes told per (turns_from config _ seen steps) did Q 1 entry new found in
-    outcomes_none told per tells new config _ seen steps did Q 1 entry (less2 old entry new goes on sound) (less4 old entry new goes on prints) found
+all_sound told config seen steps did old entry new per closed batches Q tells goes sound prints found =
+    let on : Goes entry new = passed_goes told per closed (turns_from config _ seen steps) did batches Q 1 entry new found in
+    outcomes_none told per closed tells new config _ seen steps did batches Q 1 entry (less2 old entry new goes on sound) (less4 old entry new goes on prints) found
 
 -- STEPS THAT ARE PLAYED work at few units
 
@@ -296,13 +299,23 @@ module _ (told : Type 0) (new : View) (per : ℕ) (R Q : Queue) (n at : ℕ) (nu
   turn_found config why ask.Stop = tt
   turn_found config why (ask.StopIn fuse k) = tt
 
--- steps that aren't played, and so found no volume lost
-pub none_found : (told : Type 0) (new : View) (per : ℕ) (config : Config) (b : Book) (steps : List Step) (R Q : Queue) (n at : ℕ) → at ≡ n → FindLost told new new per R n (turns_from config b [] steps) (outcomes_from Q at (turns_from config b [] steps))
-none_found told new per config b [] R Q n at numbered = refl
-none_found told new per config b (s ∷ steps) R Q n at numbered =
+-- steps that aren't played, behind the last that is closed
+pub none_passed : (told : Type 0) (new : View) (per closed : ℕ) (config : Config) (b : Book) (steps : List Step) (R Q : Queue) (n at : ℕ) → at ≡ n → closed < n
+    → ArePassed told new new per R n closed [] (turns_from config b [] steps) (outcomes_from Q at (turns_from config b [] steps))
+none_passed told new per closed config b [] R Q n at numbered few = (refl, refl)
+none_passed told new per closed config b (s ∷ steps) R Q n at numbered few =
     let turn = turn_at config b clear s.what in (
       new,
-      goes_none new,
-      turn_found told new per R Q n at numbered config (try_refusal b sysa false) s.what,
-      none_found told new per config (book_after config b s.what) steps (after_step R n turn) (after_step Q at turn) (n + 1) (at + 1) (omega (arith, numbered)),
+      [],
+      [],
+      refl,
+      record {
+        goes = goes_none new;
+        found = turn_found told new per R Q n at numbered config (try_refusal b sysa false) s.what;
+        papers = λ t none. papers_none new;
+        kept = λ le. absurd (omega (arith, le, few));
+        said = λ t le. absurd (omega (arith, le, few));
+        loses = λ t le. absurd (omega (arith, le, few));
+      },
+      none_passed told new per closed config (book_after config b s.what) steps (after_step R n turn) (after_step Q at turn) (n + 1) (at + 1) (omega (arith, numbered)) (omega (arith, few)),
     )

@@ -13,7 +13,7 @@ use Rattle.mas_types.specs.declared.answers.Status.TheVariants as status
 use Rattle.mas_types.specs.declared.queues.Config.{Config}
 use Rattle.mas_types.specs.declared.queues.Queue.{Queue}
 use Rattle.mas_types.specs.Starts.{no_queue}
-use Rattle.ckpt_copy.specs.Areas.{reads, areas_size}
+use Rattle.ckpt_form.specs.Form.{form_reads, form_needs, form_room}
 use Rattle.ckpt_copy.specs.Pages.{bytes_of, level}
 use Rattle.ckpt_pages.specs.declared.tables.Tables.{Tables}
 use Rattle.ckpt_pages.specs.Checkpoints.{IsCheckpoint}
@@ -34,7 +34,7 @@ use Rattle.member_node.specs.Calls.{Grows, console_now}
 use Rattle.member_node.specs.Drawn.{AreDrawn}
 use Rattle.member_node.proofs.CourseLemmas.{lost_later, lost_more}
 use Rattle.member_node.proofs.DrawnLemmas.{drawn_level}
-use Rattle.mas_run.specs.Runs.{has_begun, areas_room, AreSidesKept, Begins, LosesFirst, IsHeldUntil}
+use Rattle.mas_run.specs.Runs.{has_begun, AreSidesKept, Begins, LosesFirst, IsHeldUntil}
 use Rattle.mas_run.specs.Volumes.{AreVolumesKept}
 use Rattle.mas_run.specs.Statuses.{IsCaused, IsCausedFrom, is_of_play, is_of_text, is_unplayed}
 use Rattle.mas_run.specs.Unstarted.{status_of_start, IsNotStarted}
@@ -124,31 +124,16 @@ why_not_lost no_start.BothLost = inl refl
 why_not_lost (no_start.DeviceSize dev size) = inr (λ e. absurd (cc))
 why_not_lost no_start.NoMemory = inr (λ e. absurd (cc))
 
-pub not_started : (tells : Type 0) (why : StartNo) (old new : View) → ((alive1 alive2 : Bool) × IsCauseOf reads tells areas_size old new alive1 alive2 why) → (why ≡ no_start.BothLost → LosesBoth old new) → (tells → HeldBack {C = Unit {0}} reads (λ copy. areas_room) old new) → IsNotStarted tells (status_of_start why) old new
+pub not_started : (tells : Type 0) (why : StartNo) (old new : View) → ((alive1 alive2 : Bool) × IsCauseOf form_reads tells form_needs old new alive1 alive2 why) → (why ≡ no_start.BothLost → LosesBoth old new) → (tells → HeldBack form_reads form_room old new) → IsNotStarted tells (status_of_start why) old new
 not_started tells (no_start.NotFormatted first second) old new cause lost held = record { alive1 = cause.0; alive2 = cause.1; cause = cause.2 }
 not_started tells no_start.BothLost old new cause lost held = (lost refl, held)
 not_started tells (no_start.DeviceSize dev size) old new cause lost held = record { alive1 = cause.0; alive2 = cause.1; cause = cause.2 }
 not_started tells no_start.NoMemory old new cause lost held = tt
 
--- copies that all have the room of areas
-pub held_areas : {C : Type 0} (room : C → ℕ) (old new : View) → ((c : C) → room c ≡ areas_room) → HeldBack reads room old new → HeldBack {C = Unit {0}} reads (λ copy. areas_room) old new
-held_areas room old new same (inl looked) = inl looked
-held_areas room old new same (inr x) = inr (
-  x.0,
-  record {
-    usable = x.1.usable;
-    sized = x.1.sized;
-    found = x.1.found;
-    held = x.1.held;
-    kept1 = ⊎_elim inl (λ y. inr (tt, subst (λ (n : ℕ). IsUnfit reads Ckpt1 old new (mark_of new) n x.0) (same y.0) y.1)) x.1.kept1;
-    kept2 = ⊎_elim inl (λ y. inr (tt, subst (λ (n : ℕ). IsUnfit reads Ckpt2 old new (mark_of new) n x.0) (same y.0) y.1)) x.1.kept2;
-  },
-)
-
 -- nothing is said by a start that gave nothing, no byte of a volume changes, and nothing is printed
-pub held_whole : {C : Type 0} (room : C → ℕ) (old new : View) → HeldBack reads room old new → (console_now new ≡ console_now old) × AreVolumesKept old new × AreSidesKept old new
-held_whole room old new (inl x) = (x.0.console new.now x.0.goes.later (omega arith), x.0.volumes, x.0.sides new.now x.0.goes.later (omega arith))
-held_whole room old new (inr x) = (x.1.held.console new.now x.1.held.goes.later (omega arith), x.1.held.volumes, x.1.held.sides new.now x.1.held.goes.later (omega arith))
+pub held_whole : (old new : View) → HeldBack form_reads form_room old new → (console_now new ≡ console_now old) × AreVolumesKept old new × AreSidesKept old new
+held_whole old new (inl x) = (x.0.console new.now x.0.goes.later (omega arith), x.0.volumes, x.0.sides new.now x.0.goes.later (omega arith))
+held_whole old new (inr x) = (x.1.held.console new.now x.1.held.goes.later (omega arith), x.1.held.volumes, x.1.held.sides new.now x.1.held.goes.later (omega arith))
 
 pub start_caused : (why : StartNo) (old new : View) → (why ≡ no_start.BothLost → LosesBoth old new) → IsCaused (status_of_start why) old new
 start_caused (no_start.NotFormatted first second) old new lost = record { lost = λ e. absurd (cc); failed1 = λ e. absurd (cc); failed2 = λ e. absurd (cc); console = λ e. absurd (cc) }
@@ -187,10 +172,10 @@ pub no : (base : Queue) → has_begun base ≡ true → has_begun base ≡ false
 no base p q = cc
 
 -- what an image was during the start, it was when the run has ended
-pub held_until : (v0 v1 v2 : View) (found : List ℕ) → Goes v1 v2 → WhileStarting (IsHeld reads (disk_now v0 Ckpt1) found) (IsHeld reads (disk_now v0 Ckpt2) found) v0 v1 → IsHeldUntil v1.now found v0 v2
+pub held_until : (v0 v1 v2 : View) (found : List ℕ) → Goes v1 v2 → WhileStarting (IsHeld form_reads (disk_now v0 Ckpt1) found) (IsHeld form_reads (disk_now v0 Ckpt2) found) v0 v1 → IsHeldUntil v1.now found v0 v2
 held_until v0 v1 v2 found goes held = record {
-  first = λ t from le. subst (λ (w : World). IsHeld reads (disk_now v0 Ckpt1) found (w.disk Ckpt1)) (sym (goes.past t le)) (held.first t from le);
-  second = λ t from le. subst (λ (w : World). IsHeld reads (disk_now v0 Ckpt2) found (w.disk Ckpt2)) (sym (goes.past t le)) (held.second t from le);
+  first = λ t from le. subst (λ (w : World). IsHeld form_reads (disk_now v0 Ckpt1) found (w.disk Ckpt1)) (sym (goes.past t le)) (held.first t from le);
+  second = λ t from le. subst (λ (w : World). IsHeld form_reads (disk_now v0 Ckpt2) found (w.disk Ckpt2)) (sym (goes.past t le)) (held.second t from le);
 }
 
 -- texts that stood on the volumes at a moment still stood there then, but for those with a group on a volume that is lost since

@@ -3,6 +3,7 @@ pub mod Turns
 pub mod Steps
 pub mod Found
 pub mod Volumes
+pub mod Papers
 pub mod Statuses
 pub mod Resets
 pub mod Runs

@@ -18,7 +18,7 @@ use Rattle.member_decks.specs.Batches.{AreAll}
 use Rattle.mas_run.specs.Runs.{IsHistory, IsSettled, IsUnclosed, IsUncut, Adds, IsStopped, HasLost}
 use Rattle.script_input.specs.Played.{sysa}
 use Rattle.mas_run.specs.Turns.{Sight, Turn, turns_from}
-use Rattle.mas_run.specs.Steps.{AreOutcomes, FindLost, LeavesVolumes, Outcome, batches_in, lines_in, loses_after, next_in, outcomes_of}
+use Rattle.mas_run.specs.Steps.{AreOutcomes, ArePassed, LeavesVolumes, Outcome, batches_in, lines_in, loses_after, next_in, outcomes_of}
 use Rattle.mas_run.specs.Statuses.{status_of}
 use Rattle.mas_run.specs.Volumes.{AreVolumesKept}
 use Rattle.mas_types.specs.declared.answers.Status.TheVariants as status
@@ -33,7 +33,7 @@ pub record HavePlayed (told : Type 0) (base : Queue) (per : ℕ) (steps : List T
   pub left : SomeAlive is1 is2 ⊎ HasLost old new
   pub kept : AreAll sysa old.now new.now (batches_in did) batches
   pub loses : told → (d : Dev) → new.loses d ≡ loses_after d steps (old.loses d)
-  pub found : FindLost told old new per base 1 steps did
+  pub passed : ArePassed told old new per base 1 (length steps) batches steps did
   pub volumes : told → All LeavesVolumes steps → AreVolumesKept old new
   pub said : told → console_now new ≡ console_now old ++ map whole (lines_in did)
 
@@ -62,7 +62,7 @@ pub record ArePlayed {T : Type 0} (told : Type 0) (base : Queue) (per : ℕ) (as
   pub history : IsHistory did kept old.now new.now batches
   pub ends : Ends result asked kept closed history.begun (IsSettled (next_in kept did) history.between new.now history.begun) (IsUncut (drop kept asked) (next_in kept did) history.between new.now history.begun) is1 is2 old new
   pub loses : told → (d : Dev) → new.loses d ≡ loses_after d (take kept asked) (old.loses d)
-  pub found : FindLost told old new per base 1 asked did
+  pub passed : ArePassed told old new per base 1 closed batches asked did
   pub volumes : told → All LeavesVolumes asked → AreVolumesKept old new
   pub said : told → Adds (lines_in (take closed did)) (lines_in (take kept did)) (console_now old) (console_now new) (status_of result ≡ status.ConsoleFault) (IsStopped old new)
 

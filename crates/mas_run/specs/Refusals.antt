@@ -6,15 +6,17 @@ use Rattle.mas_types.specs.declared.answers.Status.{Status}
 use Rattle.mas_types.specs.declared.answers.Status.TheVariants as status
 use Rattle.mas_types.specs.declared.queues.Config.{Config}
 use Rattle.mas_types.specs.Lists.{first_some}
-use Rattle.mas_types.specs.Limits.{page_bytes}
+use Rattle.mas_types.specs.Limits.{page_bytes, script_bytes}
 use Rattle.script_lang.specs.declared.types.Run.{Run}
 use Rattle.script_lang.specs.declared.types.Script.{Script}
 use Rattle.script_lang.specs.declared.types.ScriptNo.TheVariants as no
+use Rattle.script_lang.specs.declared.types.Step.{Step}
 use Rattle.script_lang.specs.Script.{Said}
+use Rattle.script_input.specs.Reading.{TakesAtMost}
 use Rattle.script_input.specs.Script.{read_as}
 use Rattle.spool_disk.specs.declared.plant.Part.TheVariants.{Disk}
 use Rattle.spool_disk.specs.View.{View}
-use Rattle.ckpt_copy.specs.Areas.{areas_size}
+use Rattle.ckpt_form.specs.Form.{form_needs}
 use Rattle.ckpt_pages.specs.Shape.{page_count}
 use Rattle.warm_start.specs.Starting.{IsSmall}
 
@@ -26,9 +28,14 @@ calm cold only = record { cold = cold; race = false; only = only }
 abbrev pub said_by : Bool → Bool → List ℕ → Said
 said_by cold only script = read_as (calm cold only) script
 
+-- the steps that it says: none where a line is refused
+abbrev pub steps_of : Said → List Step
+steps_of (Ok script) = script.steps
+steps_of (Err why) = []
+
 -- how many bytes a checkpoint device needs for the pages of a configuration
 abbrev pub bytes_needed : Config → ℕ
-bytes_needed config = areas_size (page_count config)
+bytes_needed config = form_needs (page_count config)
 
 abbrev pub refused_where : Bool → Status → Option Status
 refused_where holds why = if holds then Some why else None
@@ -97,6 +104,10 @@ is_of_script status.TooLong = true
 is_of_script status.SourceFault = true
 is_of_script status.NoMemory = true
 is_of_script _ = false
+
+-- at most one byte more than a script may have was taken from the front of a source
+abbrev pub IsTakenFrom : List ℕ → List ℕ → Type 0
+IsTakenFrom left rest = TakesAtMost (script_bytes + 1) left rest
 
 -- a script that says this
 abbrev pub IsSaid : Bool → Bool → List ℕ → Script → Type 0

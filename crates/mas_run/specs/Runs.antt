@@ -8,16 +8,21 @@ use Rattle.mas_types.specs.declared.journals.Journal.{Journal}
 use Rattle.mas_types.specs.declared.journals.Fate.TheVariants.{Kept, Flying}
 use Rattle.mas_types.specs.declared.answers.Status.{Status}
 use Rattle.mas_types.specs.declared.answers.Status.TheVariants as status
+use Rattle.mas_types.specs.declared.queues.Config.{Config}
 use Rattle.mas_types.specs.declared.queues.Queue.{Queue}
+use Rattle.mas_types.specs.declared.queues.Route.{Route}
 use Rattle.mas_types.specs.Starts.{empty_queue, no_queue}
 use Rattle.script_lang.specs.declared.types.Script.{Script}
 use Rattle.spool_disk.specs.declared.plant.Part.TheVariants.{Disk}
 use Rattle.spool_disk.specs.View.{View, Line, disk_at, disk_now, Throughout}
 use Rattle.spool_disk.specs.Acts.{Goes, Rose, top, next}
-use Rattle.ckpt_copy.specs.Areas.{reads}
+use Rattle.ckpt_form.specs.Form.{form_reads, form_room}
 use Rattle.ckpt_copy.specs.Meanwhile.{SameSides}
-use Rattle.ckpt_copy.specs.Pages.{bytes_of}
+use Rattle.ckpt_copy.specs.Pages.{bytes_of, level}
+use Rattle.ckpt_copy.specs.Reading.{AllRead}
 use Rattle.ckpt_pages.specs.declared.tables.Tables.{Tables}
+use Rattle.ckpt_pages.specs.Checkpoints.{IsCheckpoint}
+use Rattle.ckpt_pages.specs.Starts.{empty_tables}
 use Rattle.mas_types.specs.declared.ids.Page.{Page}
 use Rattle.mas_types.specs.Ids.{nobody}
 use Rattle.mas_types.specs.Sound.{IsSound}
@@ -37,7 +42,8 @@ use Rattle.mas_complex.specs.Paper.{PaperKept}
 use Rattle.mas_complex.specs.Headline.{whole, IsCrashSafe, AreAlwaysAlike, AreTextsLeft, LeavesQueue, AreToldKept}
 use Rattle.script_input.specs.Played.{sysa}
 use Rattle.mas_run.specs.Turns.{Sight, Turn, turns_of}
-use Rattle.mas_run.specs.Steps.{AreOutcomes, BeginsWork, FindLost, LeavesVolumes, Outcome, batches_in, lines_in, loses_after, next_in, outcomes_of}
+use Rattle.mas_run.specs.Steps.{AreOutcomes, ArePassed, BeginsWork, LeavesVolumes, Outcome, batches_in, lines_in, loses_after, next_in, outcomes_of}
+use Rattle.mas_run.specs.Papers.{ArePapersKeptUntil}
 use Rattle.mas_run.specs.Volumes.{AreVolumesKept, AreVolumesKeptUntil}
 
 -- a run has begun where its first queue has members
@@ -125,12 +131,12 @@ pub record IsRestart (since : ℕ) (b : Batch) : Type 0 where
   pub began : since ≤ b.first
 
 -- A warm run begins with Restart, which is kept before its steps begin. Or both copies were lost in it, and it is in flight to
--- the end, or there was no memory for it: then no step is played.
+-- the end; or there was no memory for it, or both copies were lost while room was made for it: then no step is played.
 abbrev pub IsReset : Status → ℕ → ℕ → List Batch → ℕ → List Batch → Type 0
 IsReset answer since at opening kept rest =
     ((b : Batch) × (opening ≡ b ∷ []) × IsRestart since b × (b.fate ≡ Kept) × (b.first ≤ b.last) × (b.last ≤ at))
     ⊎ ((b : Batch) × (opening ≡ b ∷ []) × IsRestart since b × (b.fate ≡ Flying) × (b.last ≡ top) × (answer ≡ status.BothLost) × (kept ≡ 0) × (rest ≡ []))
-    ⊎ ((opening ≡ []) × (answer ≡ status.NoMemory) × (kept ≡ 0) × (rest ≡ []))
+    ⊎ ((opening ≡ []) × ((answer ≡ status.NoMemory) ⊎ (answer ≡ status.BothLost)) × (kept ≡ 0) × (rest ≡ []))
 
 -- what stands in the journal before the steps: nothing in a cold run
 abbrev pub IsOpened : Bool → Status → ℕ → ℕ → List Batch → ℕ → List Batch → Type 0
@@ -139,12 +145,8 @@ IsOpened false answer since at opening kept rest = IsReset answer since at openi
 
 -- up to a warm run's first moment an image of a copy is one of the entry, or reads as the copy did or as the pages found
 pub record IsHeldUntil (since : ℕ) (found : List ℕ) (old new : View) : Type 0 where
-  pub first : Throughout old.now since (λ t. IsHeld reads (disk_now old Ckpt1) found (disk_at new t Ckpt1))
-  pub second : Throughout old.now since (λ t. IsHeld reads (disk_now old Ckpt2) found (disk_at new t Ckpt2))
-
--- a copy in the form of areas has room for one put
-abbrev pub areas_room : ℕ
-areas_room = 1
+  pub first : Throughout old.now since (λ t. IsHeld form_reads (disk_now old Ckpt1) found (disk_at new t Ckpt1))
+  pub second : Throughout old.now since (λ t. IsHeld form_reads (disk_now old Ckpt2) found (disk_at new t Ckpt2))
 
 -- the first moment of a run, and how often a call had lost each device then
 abbrev pub begins_at : ℕ → (Dev → ℕ) → Mark
@@ -163,16 +165,26 @@ pub record IsFoundQueue (tells : Type 0) (old new : View) (since : ℕ) (first :
   pub told : Tell tables base
   pub texts : tells → HasTexts (lost_now new) (spools_at new since) base.config.groups base
   pub given : tells → IsSteady old new → AreGiven old base.config.groups base
-  pub found : tells → IsFound reads old new (begins_at since first) (bytes_of pages)
+  pub found : tells → IsFound form_reads old new (begins_at since first) (bytes_of pages)
   pub one : (first Ckpt1 ≡ old.loses Ckpt1) ⊎ (first Ckpt2 ≡ old.loses Ckpt2)
-  pub kept1 : tells → (first Ckpt1 ≡ old.loses Ckpt1) ⊎ IsUnfit reads Ckpt1 old new (begins_at since first) areas_room pages
-  pub kept2 : tells → (first Ckpt2 ≡ old.loses Ckpt2) ⊎ IsUnfit reads Ckpt2 old new (begins_at since first) areas_room pages
+  pub kept1 : tells → (first Ckpt1 ≡ old.loses Ckpt1) ⊎ IsUnfit form_reads Ckpt1 old new (begins_at since first) (form_room (disk_now old Ckpt1).bytes) pages
+  pub kept2 : tells → (first Ckpt2 ≡ old.loses Ckpt2) ⊎ IsUnfit form_reads Ckpt2 old new (begins_at since first) (form_room (disk_now old Ckpt2).bytes) pages
   pub held : tells → IsHeldUntil since (bytes_of pages) old new
 
 -- a cold run begins with the empty queue of the script's configuration and routes, a warm one with the queue found
 abbrev pub HasBase : Bool → Type 0 → Script → View → View → ℕ → (Dev → ℕ) → Queue → Type 0
 HasBase true tells script old new since first base = base ≡ empty_queue script.config script.routes
 HasBase false tells script old new since first base = IsFoundQueue tells old new since first base
+
+-- At a cold run's first moment whatever a crash leaves of a copy reads as pages of level 1, which spell the empty tables of its configuration
+-- and routes, so that their next order is 0. At the greatest moment, at which the world stays while acts fail, no more is said.
+pub record IsFormatted (config : Config) (routes : List Route) (since : ℕ) (v : View) : Type 0 where
+  pub pages : List Page
+  pub spell : IsCheckpoint pages (empty_tables config routes)
+  pub at_level : level (bytes_of pages) ≡ 1
+  pub next_order : (empty_tables config routes).order ≡ 0
+  pub first : since < top → AllRead form_reads (bytes_of pages) (disk_at v since Ckpt1)
+  pub second : since < top → AllRead form_reads (bytes_of pages) (disk_at v since Ckpt2)
 
 -- how often a call lost a device before the steps: a warm start may lose a copy once, and no volume
 abbrev pub LosesFirst : Bool → Dev → ℕ → ℕ → Type 0
@@ -205,10 +217,11 @@ pub record HavePassed (tells : Type 0) (asked : List Turn) (answer : Status) (fr
   pub said : tells → Adds (lines_in (take closed did)) (lines_in (take kept did)) (console_now old) (console_now new) (answer ≡ status.ConsoleFault) (IsStopped old new)
   -- a device is lost by a call as often as a step that was played says so
   pub loses : tells → (d : Dev) → new.loses d ≡ loses_after d (take kept asked) (first d)
-  -- this is what the plant showed when the first step began; a deck or work finds only a volume or printer lost that failed in that step
+  -- this is what the plant showed when the first step began, and what each step did of all this: a deck or work finds only a volume or
+  -- printer lost that failed in that step, and no step but work prints a line
   pub entry : View
   pub entered : (entry.now ≡ at) × Goes old entry
-  pub found : FindLost tells entry new per from 1 asked did
+  pub passed : ArePassed tells entry new per from 1 closed rest asked did
   -- a copy is left but where both are lost
   pub there : answer ≢ status.BothLost → ((new.lost (Disk Ckpt1) ≡ false) ⊎ (new.lost (Disk Ckpt2) ≡ false)) ⊎ HasLostSince first new
 
@@ -216,8 +229,8 @@ pub record HavePassed (tells : Type 0) (asked : List Turn) (answer : Status) (fr
 -- those on either side of the batch in flight, each text is left, and what is told is kept; the lines that each kept Mark answered stand
 -- on paper, and each line that a printer has more is the next one of the output that is busy at its member.
 pub record IsSafe (tells : Type 0) (base : Queue) (journal : Journal) (since : ℕ) (new : View) : Type 0 where
-  pub crash : tells → ∥ IsCrashSafe reads base journal since new ∥₁
-  pub alike : tells → ∥ AreAlwaysAlike reads base journal since new ∥₁
+  pub crash : tells → ∥ IsCrashSafe form_reads base journal since new ∥₁
+  pub alike : tells → ∥ AreAlwaysAlike form_reads base journal since new ∥₁
   pub texts : tells → ∥ AreTextsLeft base since journal new ∥₁
   pub told : tells → AreToldKept journal since new
   pub paper : tells → ∥ PaperKept base since journal.batches new ∥₁
@@ -242,8 +255,9 @@ pub record HasSteps (cold : Bool) (tells : Type 0) (asked : List Turn) (answer :
   pub began : (since ≤ at) × (at ≤ new.now)
   pub played : HavePassed tells asked answer (run base (kept_all opening)) base.config.groups at rest first old new
   pub opened : IsOpened cold answer since at opening played.kept rest
-  -- no byte of a volume changed before they began, nor in steps that leave the volumes as they are
+  -- no byte of a volume changed before they began, nor in steps that leave the volumes as they are; and no line was printed before
   pub before : tells → AreVolumesKeptUntil at old new
+  pub dry : tells → ArePapersKeptUntil at old new
   pub volumes : tells → All LeavesVolumes asked → AreVolumesKept old new
   pub safe : IsSafe tells base journal since new
 
@@ -257,7 +271,8 @@ pub record IsRun (cold : Bool) (tells : Type 0) (script : Script) (answer : Stat
   pub queue : HasBase cold tells script old new since first base
   pub sound : IsSound base
   pub moment : (old.now ≤ since) × (since ≤ new.now)
-  pub fresh : tells → ∥ LeavesQueue reads base since new ∥₁
+  pub fresh : tells → ∥ LeavesQueue form_reads base since new ∥₁
+  pub formatted : cold ≡ true → tells → IsFormatted script.config script.routes since new
   pub quiet : tells → (new.world since).console ≡ console_now old
   -- nor printed, nor taken or given on a wire
   pub dry : tells → SameSides (old.world old.now) (new.world since)

@@ -1,11 +1,14 @@
 -- Why a run ends.
-use Rattle.std.specs.Prelude.{◌≡◌, ℕ, Bool, true, false, Result, Ok, Err}
+use Rattle.std.specs.Prelude.{◌≡◌, ◌≢◌, ◌⊎◌, ℕ, ◌<◌, Bool, true, false, List, All, Result, Ok, Err}
+use Rattle.mas_types.specs.declared.ids.Dev.{Dev}
 use Rattle.mas_types.specs.declared.ids.Dev.TheVariants.{Ckpt1, Ckpt2}
 use Rattle.mas_types.specs.declared.answers.Status.{Status}
 use Rattle.mas_types.specs.declared.answers.Status.TheVariants as status
+use Rattle.script_lang.specs.declared.types.Ask.TheVariants as ask
+use Rattle.script_lang.specs.declared.types.Step.{Step}
 use Rattle.spool_disk.specs.declared.plant.Part.TheVariants.{Disk, Console}
 use Rattle.spool_disk.specs.View.{View}
-use Rattle.spool_disk.specs.Acts.{Rose}
+use Rattle.spool_disk.specs.Acts.{Rose, top}
 use Rattle.member_node.specs.declared.member.NodeNo.{NodeNo}
 use Rattle.member_node.specs.declared.member.NodeNo.TheVariants as no_node
 use Rattle.member_node.specs.Calls.{WasLost}
@@ -17,10 +20,24 @@ pub record IsCaused (answer : Status) (old new : View) : Type 0 where
   pub failed2 : answer ≡ status.BothLost → WasLost Ckpt2 old new
   pub console : answer ≡ status.ConsoleFault → Rose (old.faults Console) (new.faults Console)
 
--- no fault of the source or of the console rose, and not both copies were lost
-pub record IsStill (before after : ℕ) (old new : View) : Type 0 where
+-- a copy that was there, and that was lost by calls less often than can be counted; no act on it failed, and no step loses it
+pub record IsLeftAlone (dev : Dev) (steps : List Step) (old new : View) : Type 0 where
+  pub there : old.lost (Disk dev) ≡ false
+  pub counted : old.loses dev < top
+  pub failed : Rose (old.faults (Disk dev)) (new.faults (Disk dev)) → ⊥
+  pub unasked : All (λ (s : Step). s.what ≢ ask.Lose dev) steps
+
+-- so is one of the copies, and the other one too, unless it was lost before
+abbrev pub AreLeftAlone : List Step → View → View → Type 0
+AreLeftAlone steps old new =
+    (IsLeftAlone Ckpt1 steps old new × (IsLeftAlone Ckpt2 steps old new ⊎ (old.lost (Disk Ckpt2) ≡ true)))
+    ⊎ (IsLeftAlone Ckpt2 steps old new × (old.lost (Disk Ckpt1) ≡ true))
+
+-- No fault of the source or of the console rose; and the copies were left alone by their devices and by the script's steps, where content is
+-- told, or not both were lost, whoever lost them.
+pub record IsStill (tells : Type 0) (steps : List Step) (before after : ℕ) (old new : View) : Type 0 where
   pub source : Rose before after → ⊥
-  pub disks : WasLost Ckpt1 old new → WasLost Ckpt2 old new → ⊥
+  pub disks : (tells × AreLeftAlone steps old new) ⊎ (WasLost Ckpt1 old new → WasLost Ckpt2 old new → ⊥)
   pub console : Rose (old.faults Console) (new.faults Console) → ⊥
 
 -- the status of a run that has begun and ended with this answer of its steps

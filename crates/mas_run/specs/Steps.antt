@@ -1,20 +1,25 @@
 -- What the steps of a script give, one after another: each its batches, the lines with which it closes, and how often a device was
 -- lost. A step whose member doesn't get the lock, or that closes before any try, has no batch, and its line says why; a step that
 -- loses a device has no batch and no line.
-use Rattle.std.specs.Prelude.{◌≡◌, ℕ, ◌+◌, ◌≤◌, ◌==◌, if◌then◌else◌, List, [], ◌∷◌, ◌++◌, drop, length, All}
+use Rattle.std.specs.Prelude.{◌≡◌, ℕ, ◌+◌, ◌≤◌, ◌==◌, if◌then◌else◌, List, [], ◌∷◌, ◌++◌, drop, length, map, All}
 use Rattle.mas_types.specs.declared.answers.Closing.{Closing}
 use Rattle.mas_types.specs.declared.commands.Reply.{Reply}
 use Rattle.mas_types.specs.declared.ids.Dev.{Dev}
 use Rattle.mas_types.specs.declared.ids.Dev.TheVariants.{Ckpt1, Ckpt2, Spool}
+use Rattle.mas_types.specs.declared.journals.Batch.{Batch}
 use Rattle.mas_types.specs.declared.journals.Entry.{Entry}
 use Rattle.mas_types.specs.declared.queues.Queue.{Queue}
 use Rattle.mas_types.specs.Closings.{closing_line, reply_lines}
 use Rattle.mas_types.specs.Owners.{groups_needed}
 use Rattle.spool_disk.specs.View.{View}
 use Rattle.spool_disk.specs.Acts.{Goes, next}
+use Rattle.mas_complex.specs.Headline.{whole}
 use Rattle.mas_complex.specs.Meaning.{run}
+use Rattle.mas_complex.specs.Paper.{SamePapers}
+use Rattle.member_node.specs.Calls.{console_now}
 use Rattle.member_steps.specs.Locked.{denied_lines}
 use Rattle.member_steps.specs.Steps as command_step
+use Rattle.member_decks.specs.Batches.{AreAll}
 use Rattle.member_decks.specs.Decks.{all_entries, deck_batches, deck_lines, ends_as, lines_by}
 use Rattle.member_decks.specs.Steps.{AreOf, IsFoundLost, LiesOn, opened_queue}
 use Rattle.member_work.specs.Causes.{MayClose}
@@ -181,14 +186,37 @@ FindsLost told old new per Q at (Closed end) o = Unit {0}
 FindsLost told old new per Q at (Loss dev) o = Unit {0}
 FindsLost told old new per Q at Unplayed o = Unit {0}
 
--- So does each of the steps, played one after another, in itself: between what the plant showed behind the step before it and what it
--- showed behind this one.
-abbrev pub FindLost : Type 0 → View → View → ℕ → Queue → ℕ → List Turn → List Outcome → Type 0
-FindLost told old new per Q at [] [] = new ≡ old
-FindLost told old new per Q at [] (o ∷ os) = ⊥
-FindLost told old new per Q at (turn ∷ steps) [] = ⊥
-FindLost told old new per Q at (turn ∷ steps) (o ∷ os) =
-    (mid : View) × Goes old mid × FindsLost told old mid per Q at turn o × FindLost told mid new per (after_step Q at turn) (at + 1) steps os
+-- a step in which no line is printed: it doesn't work
+abbrev pub PrintsNone : Turn → Type 0
+PrintsNone (Granted (Reads fields text lost)) = Unit {0}
+PrintsNone (Granted (Gives given)) = Unit {0}
+PrintsNone (Granted (Works n looks)) = ⊥
+PrintsNone (Denied why) = Unit {0}
+PrintsNone (Closed end) = Unit {0}
+PrintsNone (Loss dev) = Unit {0}
+PrintsNone Unplayed = Unit {0}
+
+-- A step of this number, with these batches of the journal, on a plant that showed `old` before it and `new` behind it. It finds lost what
+-- failed in itself, and but for work each printer keeps its lines at each of its moments. Where it is among the first so many, which are
+-- known to be closed, its batches are these, begun and kept in it; its lines were added to the console, and no others; and a device was lost
+-- by a call as often more as it says.
+pub record IsPassed (told : Type 0) (old new : View) (per : ℕ) (Q : Queue) (at closed : ℕ) (turn : Turn) (o : Outcome) (own : List Batch) : Type 0 where
+  pub goes : Goes old new
+  pub found : FindsLost told old new per Q at turn o
+  pub papers : told → PrintsNone turn → SamePapers old new
+  pub kept : at ≤ closed → AreAll sysa old.now new.now o.batches own
+  pub said : told → at ≤ closed → console_now new ≡ console_now old ++ map whole o.lines
+  pub loses : told → at ≤ closed → (d : Dev) → new.loses d ≡ loses_after_step d turn (old.loses d)
+
+-- Each of the steps, played one after another: each between what the plant showed behind the one before it and what it showed behind this
+-- one, with its own part of these batches.
+abbrev pub ArePassed : Type 0 → View → View → ℕ → Queue → ℕ → ℕ → List Batch → List Turn → List Outcome → Type 0
+ArePassed told old new per Q at closed batches [] [] = (new ≡ old) × (batches ≡ [])
+ArePassed told old new per Q at closed batches [] (o ∷ os) = ⊥
+ArePassed told old new per Q at closed batches (turn ∷ steps) [] = ⊥
+ArePassed told old new per Q at closed batches (turn ∷ steps) (o ∷ os) =
+    (mid : View) × (own : List Batch) × (more : List Batch) × (batches ≡ own ++ more)
+    × IsPassed told old mid per Q at closed turn o own × ArePassed told mid new per (after_step Q at turn) (at + 1) closed more steps os
 
 -- a step that leaves the volumes as they are: it reads no deck, doesn't work, and loses no volume
 abbrev pub LeavesVolumes : Turn → Type 0

@@ -8,13 +8,14 @@ use Rattle.spool_disk.specs.declared.plant.Part.TheVariants.{Console}
 use Rattle.spool_disk.specs.View.{View}
 use Rattle.spool_disk.specs.Acts.{Rose}
 use Rattle.duplex_pair.specs.Halves.{IsBothLost}
+use Rattle.mas_complex.specs.Paper.{SamePapers}
 use Rattle.member_node.specs.declared.member.NodeNo.{NodeNo}
 use Rattle.member_node.specs.declared.member.NodeNo.TheVariants.{BothLost, Halted, ConsoleFault, NoMemory}
 use Rattle.member_node.specs.Calls.{Course, IsLeft, console_now}
 use Rattle.member_steps.specs.Steps.{StepTells}
 use Rattle.member_decks.specs.Batches.{AreAll, AreCut, AreSome, OneFlies}
 use Rattle.mas_run.specs.Runs.{HasLost, IsSettled, IsStopped}
-use Rattle.mas_run.specs.Steps.{FindsLost, IsOutcome, IsWork, LeavesVolumes, Outcome, loses_after_step, outcome_of}
+use Rattle.mas_run.specs.Steps.{FindsLost, IsOutcome, IsWork, LeavesVolumes, Outcome, PrintsNone, loses_after_step, outcome_of}
 use Rattle.script_input.specs.Played.{sysa}
 use Rattle.mas_run.specs.Turns.{Turn}
 use Rattle.mas_run.specs.Volumes.{AreVolumesKept}
@@ -61,4 +62,5 @@ pub record IsStepOf {T : Type 0} (told : Type 0) (turn : Turn) (Q : Queue) (per 
   pub leaves : TurnLeaves result turn did.batches old.now new.now more
   pub found : FindsLost told old new per Q at turn did
   pub volumes : told → LeavesVolumes turn → AreVolumesKept old new
+  pub papers : told → PrintsNone turn → SamePapers old new
   pub console : told → StepTells result did.lines (AreAll sysa old.now new.now did.batches more) (console_now old) (console_now new)

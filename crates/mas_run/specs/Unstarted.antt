@@ -3,11 +3,10 @@ use Rattle.std.specs.Prelude.{Bool, false}
 use Rattle.mas_types.specs.declared.answers.Status.{Status}
 use Rattle.mas_types.specs.declared.answers.Status.TheVariants as status
 use Rattle.spool_disk.specs.View.{View}
-use Rattle.ckpt_copy.specs.Areas.{reads, areas_size}
+use Rattle.ckpt_form.specs.Form.{form_reads, form_needs, form_room}
 use Rattle.warm_start.specs.declared.choosing.StartNo.{StartNo}
 use Rattle.warm_start.specs.declared.choosing.StartNo.TheVariants as no_start
 use Rattle.warm_start.specs.Starting.{IsCauseOf, HeldBack, LosesBoth}
-use Rattle.mas_run.specs.Runs.{areas_room}
 
 -- the status of a run whose warm start gave nothing
 abbrev pub status_of_start : StartNo → Status
@@ -20,7 +19,7 @@ status_of_start no_start.NoMemory = status.NoMemory
 pub record StartCauses (tells : Type 0) (why : StartNo) (old new : View) : Type 0 where
   pub alive1 : Bool
   pub alive2 : Bool
-  pub cause : IsCauseOf reads tells areas_size old new alive1 alive2 why
+  pub cause : IsCauseOf form_reads tells form_needs old new alive1 alive2 why
 
 -- The cause of a warm run's status where it hasn't begun. No copy can be used where it is NotFormatted; both are lost where it
 -- is BothLost, and an act on one of them failed: at most one was lost by a call, and that one may not stay beside the pages found; what
@@ -28,5 +27,5 @@ pub record StartCauses (tells : Type 0) (why : StartNo) (old new : View) : Type 
 abbrev pub IsNotStarted : Type 0 → Status → View → View → Type 0
 IsNotStarted tells (status.NotFormatted first second) old new = StartCauses tells (no_start.NotFormatted first second) old new
 IsNotStarted tells (status.DeviceSize dev size) old new = StartCauses tells (no_start.DeviceSize dev size) old new
-IsNotStarted tells status.BothLost old new = LosesBoth old new × (tells → HeldBack {C = Unit {0}} reads (λ copy. areas_room) old new)
+IsNotStarted tells status.BothLost old new = LosesBoth old new × (tells → HeldBack form_reads form_room old new)
 IsNotStarted tells _ old new = Unit {0}

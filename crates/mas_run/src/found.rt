@@ -8,7 +8,7 @@ ghost use Rattle.mas_types.specs.declared.ids.Dev.{Dev};
 ghost use Rattle.spool_disk.specs.declared.plant.Part.TheVariants.{Disk};
 ghost use Rattle.spool_disk.specs.View.{disk_now};
 ghost use Rattle.spool_disk.specs.Acts.{Goes};
-ghost use Rattle.ckpt_copy.specs.Areas.{reads, areas_size};
+ghost use Rattle.ckpt_form.specs.Form.{form_reads, form_needs};
 ghost use Rattle.ckpt_pages.specs.Shape.{page_count};
 ghost use Rattle.duplex_pair.specs.Halves.{SomeAlive};
 ghost use Rattle.script_input.specs.Played.{IsPlayed, sysa};
@@ -30,7 +30,8 @@ ghost use Rattle.mas_run.specs.Unstarted.{status_of_start as status_of_start_lem
 use crate::ended::Ended;
 use crate::play::{SYSA, ended, play_asked, status_of, unbegun};
 use crate::running::Running;
-use ckpt_copy::{AreaCopy, Copying};
+use ckpt_copy::Copying;
+use ckpt_form::CopyForm;
 use duplex_pair::Pair;
 use mas_types::{Dev, MemberId, Status};
 use member_node::{Checkpoint, Member};
@@ -63,7 +64,7 @@ pub fn status_of_start(why: StartNo) -> Status
 fn play_reset<P: Plant + Drop>(
     alloc: Global,
     asked: &[Step],
-    found: Started<P, AreaCopy>,
+    found: Started<P, CopyForm>,
 ) -> Ended<P>
     requires lock { IsOpenTo found.complex.book found.complex.reserved sysa }
     requires config { IsConfig found.complex.base.config }
@@ -78,8 +79,8 @@ fn play_reset<P: Plant + Drop>(
     requires fit { AreFit found.tables }
     requires orders { HaveOrders found.tables }
     requires sound { TellSound found.tables }
-    requires rests1 { RestsAt P.tells found.complex.pair.first.alive found.complex.first (⟦<AreaCopy as Copying>⟧.count found.complex.pair.first.copy) found.pages (reads (disk_now (P.view found.complex.plant) Ckpt1).bytes) }
-    requires rests2 { RestsAt P.tells found.complex.pair.second.alive found.complex.second (⟦<AreaCopy as Copying>⟧.count found.complex.pair.second.copy) found.pages (reads (disk_now (P.view found.complex.plant) Ckpt2).bytes) }
+    requires rests1 { RestsAt P.tells found.complex.pair.first.alive found.complex.first (⟦<CopyForm as Copying>⟧.count found.complex.pair.first.copy) found.pages (form_reads (disk_now (P.view found.complex.plant) Ckpt1).bytes) }
+    requires rests2 { RestsAt P.tells found.complex.pair.second.alive found.complex.second (⟦<CopyForm as Copying>⟧.count found.complex.pair.second.copy) found.pages (form_reads (disk_now (P.view found.complex.plant) Ckpt2).bytes) }
     requires order { found.tables.order < 2 ^ 62 }
     requires level { found.complex.level < 2 ^ 62 }
     requires journal { found.complex.journal.batches ≡ [] }
@@ -136,13 +137,13 @@ pub(crate) fn play_warm<P: Plant + Drop>(alloc: Global, script: &Script, plant: 
     ensures goes { Goes (P.view plant) (P.view result.plant) }
     ensures loses { has_begun result.base ≡ false → result.status ≢ Status.BothLost → (d : Dev) → (P.view result.plant).loses d ≡ (P.view plant).loses d }
     ensures volumes { P.tells → has_begun result.base ≡ false → AreVolumesKept (P.view plant) (P.view result.plant) }
-    ensures room { has_begun result.base ≡ true → (areas_size (page_count result.base.config) ≤ (P.view plant).size Ckpt1) × (areas_size (page_count result.base.config) ≤ (P.view plant).size Ckpt2) }
+    ensures room { has_begun result.base ≡ true → (form_needs (page_count result.base.config) ≤ (P.view plant).size Ckpt1) × (form_needs (page_count result.base.config) ≤ (P.view plant).size Ckpt2) }
     ensures roomy { has_begun result.base ≡ true → AreRoomy (P.view result.plant) result.base.config }
     ensures run { has_begun result.base ≡ true → IsRun false P.tells script.now result.status result.base result.journal result.since (P.view plant) (P.view result.plant) }
 {
     let pair = Pair::new(
-        AreaCopy::new(Dev::Ckpt1, PAGES),
-        AreaCopy::new(Dev::Ckpt2, PAGES),
+        CopyForm::new(Dev::Ckpt1, PAGES),
+        CopyForm::new(Dev::Ckpt2, PAGES),
     );
     let found = match warm(alloc, plant, pair) {
         Ok(found) => found,

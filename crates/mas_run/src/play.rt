@@ -11,7 +11,7 @@ ghost use Rattle.mas_types.specs.declared.answers.CopyState.{CopyState};
 ghost use Rattle.spool_disk.specs.declared.plant.Part.TheVariants.{Disk};
 ghost use Rattle.spool_disk.specs.View.{disk_now};
 ghost use Rattle.spool_disk.specs.Acts.{Goes};
-ghost use Rattle.ckpt_copy.specs.Areas.{reads};
+ghost use Rattle.ckpt_form.specs.Form.{form_reads};
 ghost use Rattle.ckpt_pages.specs.Shape.{IsRoute};
 ghost use Rattle.ckpt_pages.specs.Starts.{empty_tables};
 ghost use Rattle.duplex_pair.specs.Halves.{SomeAlive};
@@ -35,7 +35,8 @@ ghost use Rattle.mas_run.specs.Volumes.{AreVolumesKept};
 use crate::ended::Ended;
 use crate::found::status_of_start;
 use crate::running::Running;
-use ckpt_copy::{AreaCopy, Copying};
+use ckpt_copy::Copying;
+use ckpt_form::CopyForm;
 use ckpt_pages::page_count;
 use duplex_pair::Pair;
 use mas_complex::Complex;
@@ -92,13 +93,13 @@ pub(crate) fn status_of(answer: &Result<(), NodeNo>) -> Status
 }
 
 /// The end of a run that has begun.
-pub(crate) fn ended<P: Plant + Drop>(status: Status, complex: Complex<P, AreaCopy>) -> Ended<P>
+pub(crate) fn ended<P: Plant + Drop>(status: Status, complex: Complex<P, CopyForm>) -> Ended<P>
     ensures status { result.status ≡ status }
     ensures base { result.base ≡ complex.base }
     ensures since { result.since ≡ complex.since }
     ensures plant { result.plant ≡ complex.plant }
     ensures journal { result.journal.batches ≡ end_of complex.placed complex.current complex.journal.batches }
-    ensures headline { P.tells → ∥ Headline reads result.base result.since result.journal (P.view result.plant) ∥₁ }
+    ensures headline { P.tells → ∥ Headline form_reads result.base result.since result.journal (P.view result.plant) ∥₁ }
 {
     let end = complex.end();
     Ended {
@@ -114,7 +115,7 @@ pub(crate) fn ended<P: Plant + Drop>(status: Status, complex: Complex<P, AreaCop
 pub(crate) fn play_asked<P: Plant + Drop>(
     alloc: Global,
     asked: &[Step],
-    run: Running<P, AreaCopy>,
+    run: Running<P, CopyForm>,
 ) -> Ended<P>
     requires id { run.member.id ≡ sysa }
     requires lock { IsOpenTo run.complex.book run.complex.reserved sysa }
@@ -124,10 +125,10 @@ pub(crate) fn play_asked<P: Plant + Drop>(
     requires may { All IsPlayed asked.now }
     requires roomy { P.tells → AreRoomy (P.view run.complex.plant) run.complex.base.config }
     requires at_lock { IsAtLock run.complex.current run.complex.placed run.member.batch run.member.checkpoint run.member.room }
-    requires calm1 { IsCalm run.complex.pair.first.alive run.complex.first (⟦<AreaCopy as Copying>⟧.count run.complex.pair.first.copy) (length run.member.room) }
-    requires calm2 { IsCalm run.complex.pair.second.alive run.complex.second (⟦<AreaCopy as Copying>⟧.count run.complex.pair.second.copy) (length run.member.room) }
-    requires low1 { ReadsLow P.tells run.complex.pair.first.alive run.member.checkpoint.tables.config (length run.complex.journal.batches) (reads (disk_now (P.view run.complex.plant) Ckpt1).bytes) }
-    requires low2 { ReadsLow P.tells run.complex.pair.second.alive run.member.checkpoint.tables.config (length run.complex.journal.batches) (reads (disk_now (P.view run.complex.plant) Ckpt2).bytes) }
+    requires calm1 { IsCalm run.complex.pair.first.alive run.complex.first (⟦<CopyForm as Copying>⟧.count run.complex.pair.first.copy) (length run.member.room) }
+    requires calm2 { IsCalm run.complex.pair.second.alive run.complex.second (⟦<CopyForm as Copying>⟧.count run.complex.pair.second.copy) (length run.member.room) }
+    requires low1 { ReadsLow P.tells run.complex.pair.first.alive run.member.checkpoint.tables.config (length run.complex.journal.batches) (form_reads (disk_now (P.view run.complex.plant) Ckpt1).bytes) }
+    requires low2 { ReadsLow P.tells run.complex.pair.second.alive run.member.checkpoint.tables.config (length run.complex.journal.batches) (form_reads (disk_now (P.view run.complex.plant) Ckpt2).bytes) }
     requires sound { P.tells → IsToldSound (run_of run.complex.base (kept_all run.complex.journal.batches)) }
     requires own { run.complex.base.config ≡ run.member.checkpoint.tables.config }
     requires fresh { length run.complex.journal.batches ≤ 1 }
@@ -175,7 +176,7 @@ fn bytes_for(config: &Config) -> u64
     requires { IsConfig config.now }
     ensures { result ≡ bytes_needed config.now }
 {
-    AreaCopy::size_for(page_count(config))
+    CopyForm::size_for(page_count(config))
 }
 
 // Refuses the first device that is too small for a configuration.
@@ -228,8 +229,8 @@ pub(crate) fn play_cold<P: Plant + Drop>(alloc: Global, script: &Script, plant: 
     let mut plant = plant;
     let count = page_count(config);
     let mut pair = Pair::new(
-        AreaCopy::new(Dev::Ckpt1, count),
-        AreaCopy::new(Dev::Ckpt2, count),
+        CopyForm::new(Dev::Ckpt1, count),
+        CopyForm::new(Dev::Ckpt2, count),
     );
     // The operator never halts.
     let Ok(()) = pair.form(&mut plant, OPERATOR, member.checkpoint.pages.as_slice()) else {

@@ -1,21 +1,25 @@
 //! Restart of all members, as the first batch of a warm run.
-ghost use Rattle.std.specs.Prelude.{◌≡◌, ◌+◌, ◌≤◌, ◌<◌, ◌^◌, [], length, true, false, None, OnOk};
+ghost use Rattle.std.specs.Prelude.{◌≡◌, ◌+◌, ◌≤◌, ◌<◌, ◌^◌, [], length, true, false, None, OnOk, IsErrOf};
 ghost use Rattle.mas_types.specs.declared.ids.Dev.TheVariants.{Ckpt1, Ckpt2};
 ghost use Rattle.mas_types.specs.Ids.{nobody};
 ghost use Rattle.mas_types.specs.declared.queues.Queue.{Queue};
 ghost use Rattle.spool_disk.specs.View.{disk_now};
 ghost use Rattle.ckpt_pages.specs.Shape.{HasSpelling};
 ghost use Rattle.duplex_pair.specs.Halves.{SomeAlive};
+ghost use Rattle.duplex_pair.specs.Outcomes.{least_room};
 ghost use Rattle.mas_complex.specs.Journals.{begun, end_of, kept_all};
 ghost use Rattle.mas_complex.specs.Meaning.{run};
 ghost use Rattle.queue_effect.specs.Standing.{AreFit};
 ghost use Rattle.queue_tables.specs.Orders.{HaveOrders};
 ghost use Rattle.queue_tables.specs.Telling.{Tell, TellSound};
-ghost use Rattle.member_node.specs.Batches.{HasDone};
+ghost use Rattle.member_node.specs.Batches.{CanDraw, DrawsAnew, HasDone};
+ghost use Rattle.member_node.specs.Copies.{RestsAt};
+ghost use Rattle.member_node.specs.Reads.{IsSettle};
+ghost use Rattle.member_node.specs.declared.member.NodeNo.TheVariants as no_node;
 ghost use Rattle.mas_run.specs.Resets.{restart_entries};
 
 use crate::running::Running;
-use mas_complex::Steady;
+use mas_complex::{Complex, Steady};
 use mas_types::{Command, NoMemory};
 use member_node::{Member, NodeNo};
 use queue_texts::law_of_texts;
@@ -48,14 +52,49 @@ fn give_restart(member: &mut Member, alloc: Global) -> Result<(), NoMemory>
     member.do_command(alloc, 0, Command::Restart)
 }
 
+// Makes room for the member's batch, where that changes a page and a copy that counts as alive has none. Else nothing is done.
+fn make_room<P: Plant + Drop, C: Steady + Drop>(
+    member: &Member,
+    complex: &mut Complex<P, C>,
+) -> Result<(), NodeNo>
+    requires id { member.now.id ≡ nobody }
+    requires here { member.now.behind ≡ false }
+    requires draws { CanDraw member.now.checkpoint }
+    requires free { complex.old.book.holder ≡ nobody }
+    requires none { complex.old.current ≡ None }
+    requires some { SomeAlive complex.old.pair.first.alive complex.old.pair.second.alive }
+    requires rests1 { RestsAt P.tells complex.old.pair.first.alive complex.old.first (C.count complex.old.pair.first.copy) member.now.checkpoint.pages (C.reads (disk_now (P.view complex.old.plant) Ckpt1).bytes) }
+    requires rests2 { RestsAt P.tells complex.old.pair.second.alive complex.old.second (C.count complex.old.pair.second.copy) member.now.checkpoint.pages (C.reads (disk_now (P.view complex.old.plant) Ckpt2).bytes) }
+    ensures base { complex.new.base ≡ complex.old.base }
+    ensures printed { complex.new.printed ≡ complex.old.printed }
+    ensures since { complex.new.since ≡ complex.old.since }
+    ensures book { complex.new.book ≡ complex.old.book }
+    ensures journal { complex.new.journal ≡ complex.old.journal }
+    ensures current { complex.new.current ≡ complex.old.current }
+    ensures placed { complex.new.placed ≡ complex.old.placed }
+    ensures level { complex.new.level ≡ complex.old.level }
+    ensures rests1 { OnOk result (RestsAt P.tells complex.new.pair.first.alive complex.new.first (C.count complex.new.pair.first.copy) member.now.checkpoint.pages (C.reads (disk_now (P.view complex.new.plant) Ckpt1).bytes)) }
+    ensures rests2 { OnOk result (RestsAt P.tells complex.new.pair.second.alive complex.new.second (C.count complex.new.pair.second.copy) member.now.checkpoint.pages (C.reads (disk_now (P.view complex.new.plant) Ckpt2).bytes)) }
+    ensures room1 { OnOk result (complex.new.pair.first.alive ≡ true → DrawsAnew member.now.checkpoint → 1 ≤ C.room complex.new.pair.first.copy) }
+    ensures room2 { OnOk result (complex.new.pair.second.alive ≡ true → DrawsAnew member.now.checkpoint → 1 ≤ C.room complex.new.pair.second.copy) }
+    ensures settle { IsSettle P.tells 0 complex.old.pair.first.alive complex.new.pair.first.alive complex.old.pair.second.alive complex.new.pair.second.alive (P.view complex.old.plant) (P.view complex.new.plant) result }
+    ensures operator { IsErrOf result no_node.Halted → ⊥ }
+    ensures same { (DrawsAnew member.now.checkpoint → ⊥) → complex.new ≡ complex.old }
+    ensures roomy { 1 ≤ least_room complex.old.pair.first.alive complex.old.pair.second.alive (C.room complex.old.pair.first.copy) (C.room complex.old.pair.second.copy) → complex.new ≡ complex.old }
+{
+    if !member.draws_anew() {
+        return Ok(());
+    }
+    member.primary(complex)
+}
+
 impl<P: Plant + Drop, C: Steady + Drop> Running<P, C> {
-    ghost use Rattle.member_node.specs.Copies.{RestsAt};
     ghost use Rattle.member_node.specs.Reads.{IsCalm, ReadsLow};
     ghost use Rattle.member_steps.specs.Steps.{IsAtLock, IsToldSound};
     ghost use Rattle.mas_run.specs.Resets.{HasReset};
 
-    /// Gives Restart as the first batch, by the operator, while nobody holds the lock. It is kept once each copy that is left has
-    /// it. All memory is taken before the first write.
+    /// Gives Restart as the first batch, by the operator, while nobody holds the lock. Where it changes a page and a copy has no room
+    /// for a put, room is made first. It is kept once each copy that is left has it. All memory that its write needs is taken before.
     pub(crate) fn restart(&mut self, alloc: Global) -> Result<(), NodeNo>
         requires id { self.old.member.id ≡ nobody }
         requires here { self.old.member.behind ≡ false }
@@ -73,15 +112,12 @@ impl<P: Plant + Drop, C: Steady + Drop> Running<P, C> {
         requires rests2 { RestsAt P.tells self.old.complex.pair.second.alive self.old.complex.second (C.count self.old.complex.pair.second.copy) self.old.member.checkpoint.pages (C.reads (disk_now (P.view self.old.complex.plant) Ckpt2).bytes) }
         requires order { self.old.member.checkpoint.tables.order < 2 ^ 62 }
         requires level { self.old.complex.level + 1 < 2 ^ 63 }
-        requires room1 { self.old.complex.pair.first.alive ≡ true → 1 ≤ C.room self.old.complex.pair.first.copy }
-        requires room2 { self.old.complex.pair.second.alive ≡ true → 1 ≤ C.room self.old.complex.pair.second.copy }
         ensures base { self.new.complex.base ≡ self.old.complex.base }
         ensures since { self.new.complex.since ≡ self.old.complex.since }
         ensures book { self.new.complex.book ≡ self.old.complex.book }
         ensures id { self.new.member.id ≡ self.old.member.id }
         ensures unreserved { OnOk result (self.new.complex.reserved ≡ None) }
-        ensures reset { HasReset P.tells (begun (P.view self.old.complex.plant).now nobody restart_entries)
-            (end_of self.new.complex.placed self.new.complex.current self.new.complex.journal.batches)
+        ensures reset { HasReset P.tells (end_of self.new.complex.placed self.new.complex.current self.new.complex.journal.batches)
             self.old.complex.pair.first.alive self.new.complex.pair.first.alive self.old.complex.pair.second.alive self.new.complex.pair.second.alive
             (P.view self.old.complex.plant) (P.view self.new.complex.plant) result }
         ensures fresh { OnOk result (length self.new.complex.journal.batches ≡ 1) }
@@ -97,6 +133,7 @@ impl<P: Plant + Drop, C: Steady + Drop> Running<P, C> {
         let Ok(()) = give_restart(&mut self.member, alloc) else {
             return Err(NodeNo::NoMemory);
         };
+        make_room(&self.member, &mut self.complex)?;
         self.complex.kept_texts();
         law_of_texts();
         let Ok(draft) = self.member.ready(alloc, &mut self.complex) else {

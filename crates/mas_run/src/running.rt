@@ -60,7 +60,7 @@ impl<P: Plant + Drop, C: Steady + Drop> Running<P, C> {
     ghost use Rattle.spool_volumes.specs.Volumes.{AreRoomy};
     ghost use Rattle.member_decks.specs.Steps.{AreOf};
     ghost use Rattle.member_node.specs.Calls.{console_now};
-    ghost use Rattle.member_node.specs.Reads.{IsCalm, ReadsLow, orders_after, too_high};
+    ghost use Rattle.member_node.specs.Reads.{IsCalm, ReadsLow, too_high};
     ghost use Rattle.member_steps.specs.Locked.{IsOpenTo};
     ghost use Rattle.member_steps.specs.Steps.{AreAllKept, IsAtLock, IsToldSound};
     ghost use Rattle.mas_run.specs.Plays.{HasPlay};
@@ -88,7 +88,6 @@ impl<P: Plant + Drop, C: Steady + Drop> Running<P, C> {
         requires own { self.old.complex.base.config ≡ self.old.member.checkpoint.tables.config }
         requires most { 1 ≤ C.room_most }
         requires kept { AreAllKept self.old.complex.journal.batches (P.view self.old.complex.plant).now }
-        requires orders { orders_after (length self.old.complex.journal.batches + 1) < too_high }
         requires level { self.old.complex.level + 1 < too_high }
         ensures base { self.new.complex.base ≡ self.old.complex.base }
         ensures since { self.new.complex.since ≡ self.old.complex.since }
@@ -132,7 +131,6 @@ impl<P: Plant + Drop, C: Steady + Drop> Running<P, C> {
         requires own { self.old.complex.base.config ≡ self.old.member.checkpoint.tables.config }
         requires most { 1 ≤ C.room_most }
         requires kept { AreAllKept self.old.complex.journal.batches (P.view self.old.complex.plant).now }
-        requires orders { orders_after (length self.old.complex.journal.batches + levels_in units) < too_high }
         requires level { self.old.complex.level + levels_in units < too_high }
         ensures base { self.new.complex.base ≡ self.old.complex.base }
         ensures since { self.new.complex.since ≡ self.old.complex.since }
@@ -176,7 +174,6 @@ impl<P: Plant + Drop, C: Steady + Drop> Running<P, C> {
         requires own { self.old.complex.base.config ≡ self.old.member.checkpoint.tables.config }
         requires most { 1 ≤ C.room_most }
         requires kept { AreAllKept self.old.complex.journal.batches (P.view self.old.complex.plant).now }
-        requires orders { orders_after (length self.old.complex.journal.batches + 1) < too_high }
         requires level { self.old.complex.level + 1 < too_high }
         ensures base { self.new.complex.base ≡ self.old.complex.base }
         ensures since { self.new.complex.since ≡ self.old.complex.since }
@@ -220,7 +217,6 @@ impl<P: Plant + Drop, C: Steady + Drop> Running<P, C> {
         requires own { self.old.complex.base.config ≡ self.old.member.checkpoint.tables.config }
         requires most { 1 ≤ C.room_most }
         requires kept { AreAllKept self.old.complex.journal.batches (P.view self.old.complex.plant).now }
-        requires orders { orders_after (length self.old.complex.journal.batches + 1) < too_high }
         requires level { self.old.complex.level + 1 < too_high }
         ensures base { self.new.complex.base ≡ self.old.complex.base }
         ensures since { self.new.complex.since ≡ self.old.complex.since }
@@ -264,7 +260,6 @@ impl<P: Plant + Drop, C: Steady + Drop> Running<P, C> {
         requires own { self.old.complex.base.config ≡ self.old.member.checkpoint.tables.config }
         requires most { 1 ≤ C.room_most }
         requires kept { AreAllKept self.old.complex.journal.batches (P.view self.old.complex.plant).now }
-        requires orders { orders_after (length self.old.complex.journal.batches + 1) < too_high }
         requires level { self.old.complex.level + 1 < too_high }
         ensures base { self.new.complex.base ≡ self.old.complex.base }
         ensures since { self.new.complex.since ≡ self.old.complex.since }
@@ -308,7 +303,6 @@ impl<P: Plant + Drop, C: Steady + Drop> Running<P, C> {
         requires own { self.old.complex.base.config ≡ self.old.member.checkpoint.tables.config }
         requires most { 1 ≤ C.room_most }
         requires kept { AreAllKept self.old.complex.journal.batches (P.view self.old.complex.plant).now }
-        requires orders { orders_after (length self.old.complex.journal.batches + 1) < too_high }
         requires level { self.old.complex.level + 1 < too_high }
         ensures base { self.new.complex.base ≡ self.old.complex.base }
         ensures since { self.new.complex.since ≡ self.old.complex.since }
@@ -352,7 +346,6 @@ impl<P: Plant + Drop, C: Steady + Drop> Running<P, C> {
         requires own { self.old.complex.base.config ≡ self.old.member.checkpoint.tables.config }
         requires most { 1 ≤ C.room_most }
         requires kept { AreAllKept self.old.complex.journal.batches (P.view self.old.complex.plant).now }
-        requires orders { orders_after (length self.old.complex.journal.batches + batches_most) < too_high }
         requires level { self.old.complex.level + batches_most < too_high }
         ensures base { self.new.complex.base ≡ self.old.complex.base }
         ensures since { self.new.complex.since ≡ self.old.complex.since }

@@ -9,13 +9,13 @@ ghost use Rattle.script_laws.specs.Limits.{IsScript};
 ghost use Rattle.script_input.specs.Played.{IsPlayed};
 ghost use Rattle.spool_disk.specs.View.{View};
 ghost use Rattle.spool_disk.specs.Acts.{Goes, Rose};
-ghost use Rattle.ckpt_copy.specs.Areas.{areas_size};
+ghost use Rattle.ckpt_form.specs.Form.{form_needs};
 ghost use Rattle.ckpt_pages.specs.Shape.{page_count};
 ghost use Rattle.warm_start.specs.Starting.{OnlyLookedAtAll};
 ghost use Rattle.spool_volumes.specs.Volumes.{AreRoomy};
 ghost use Rattle.member_node.specs.Calls.{console_now};
 ghost use Rattle.mas_run.specs.Unstarted.{IsNotStarted};
-ghost use Rattle.mas_run.specs.Refusals.{refusal_before_play, refused_sizes, Answers, IsPlayedOut, IsSaid, IsTooSmall, is_of_script};
+ghost use Rattle.mas_run.specs.Refusals.{refusal_before_play, refused_sizes, said_by, steps_of, Answers, IsPlayedOut, IsSaid, IsTakenFrom, IsTooSmall, is_of_script};
 ghost use Rattle.mas_run.specs.Runs.{has_begun, AreSidesKept, Begins, IsUnbegun, IsRun};
 ghost use Rattle.mas_run.specs.Statuses.{IsCaused, IsStill, is_of_text, is_unplayed};
 ghost use Rattle.mas_run.specs.Volumes.{AreVolumesKept};
@@ -41,6 +41,7 @@ fn read_all<S: Source>(
     ensures said { S.tells → IfOk result (IsSaid cold only (S.left source.old)) }
     ensures only { only ≡ true → IfOk result (λ script. script.steps ≡ []) }
     ensures read { S.tells → OnOk result (S.left source.new ≡ []) }
+    ensures taken { S.tells → IsTakenFrom (S.left source.old) (S.left source.new) }
     ensures kind { IfErr result (λ status. is_of_script status ≡ true) }
     ensures refused { S.tells → IfErr result (λ status. (v : View) → Answers cold (refusal_before_play cold only (S.left source.old) v) status) }
     ensures source { IsErrOf result Status.SourceFault → Rose (S.faults source.old) (S.faults source.new) }
@@ -78,7 +79,7 @@ pub fn play_steps<P: Plant + Drop>(alloc: Global, cold: bool, script: Script, pl
     ensures goes { Goes (P.view plant) (P.view result.plant) }
     ensures loses { has_begun result.base ≡ false → (result.status ≢ Status.BothLost) ⊎ (cold ≡ true) → (d : Dev) → (P.view result.plant).loses d ≡ (P.view plant).loses d }
     ensures volumes { P.tells → has_begun result.base ≡ false → AreVolumesKept (P.view plant) (P.view result.plant) }
-    ensures room { has_begun result.base ≡ true → (areas_size (page_count result.base.config) ≤ (P.view plant).size Ckpt1) × (areas_size (page_count result.base.config) ≤ (P.view plant).size Ckpt2) }
+    ensures room { has_begun result.base ≡ true → (form_needs (page_count result.base.config) ≤ (P.view plant).size Ckpt1) × (form_needs (page_count result.base.config) ≤ (P.view plant).size Ckpt2) }
     ensures roomy { has_begun result.base ≡ true → AreRoomy (P.view result.plant) result.base.config }
     ensures run { has_begun result.base ≡ true → IsRun cold P.tells script result.status result.base result.journal result.since (P.view plant) (P.view result.plant) }
     ensures stepless { script.steps ≡ [] → P.tells → AreVolumesKept (P.view plant) (P.view result.plant) }
@@ -139,20 +140,24 @@ pub fn play_script<P: Plant + Drop, S: Source>(
     ensures goes { Goes (P.view plant) (P.view result.plant) }
     ensures loses { has_begun result.base ≡ false → (result.status ≢ Status.BothLost) ⊎ (cold ≡ true) → (d : Dev) → (P.view result.plant).loses d ≡ (P.view plant).loses d }
 
+    // At most one byte more than a script may have is taken from its source.
+    ensures taken { S.tells → IsTakenFrom (S.left script.old) (S.left script.new) }
+
     // Where the script is refused, or can't be read, no act is made.
     ensures idle { is_unplayed result.status ≡ true → result.plant ≡ plant }
 
     // A run that has begun plays what its script asks for.
-    ensures room { has_begun result.base ≡ true → (areas_size (page_count result.base.config) ≤ (P.view plant).size Ckpt1) × (areas_size (page_count result.base.config) ≤ (P.view plant).size Ckpt2) }
+    ensures room { has_begun result.base ≡ true → (form_needs (page_count result.base.config) ≤ (P.view plant).size Ckpt1) × (form_needs (page_count result.base.config) ≤ (P.view plant).size Ckpt2) }
     ensures roomy { has_begun result.base ≡ true → AreRoomy (P.view result.plant) result.base.config }
     ensures read { S.tells → has_begun result.base ≡ true → S.left script.new ≡ [] }
     ensures run { has_begun result.base ≡ true → ((read : ScriptLem) × (S.tells → IsSaid cold only (S.left script.old) read)
         × IsRun cold P.tells read result.status result.base result.journal result.since (P.view plant) (P.view result.plant)) }
     ensures formats { only ≡ true → P.tells → AreVolumesKept (P.view plant) (P.view result.plant) }
 
-    // What nothing hinders is played to its end, where a warm run finds a queue and its devices are large enough for it.
+    // What neither a fault nor a line that loses a copy hinders is played to its end, where a warm run finds a queue and its devices are
+    // large enough for it.
     ensures complete { S.tells → refusal_before_play cold only (S.left script.old) (P.view plant) ≡ None
-        → IsStill (S.faults script.old) (S.faults script.new) (P.view plant) (P.view result.plant)
+        → IsStill P.tells (steps_of (said_by cold only (S.left script.old))) (S.faults script.old) (S.faults script.new) (P.view plant) (P.view result.plant)
         → IsPlayedOut cold result.status }
 {
     match read_all(alloc, cold, only, script) {

@@ -13,7 +13,7 @@ use Rattle.spool_disk.specs.declared.plant.Part.TheVariants.{Disk as DiskPart, C
 use Rattle.spool_disk.specs.View.{View, World, Disk, Line, Stretch, Avoids, disk_at, disk_now}
 use Rattle.spool_disk.specs.Acts.{Goes}
 use Rattle.spool_volumes.specs.Volumes.{volume_of}
-use Rattle.ckpt_copy.specs.Areas.{reads}
+use Rattle.ckpt_form.specs.Form.{form_reads}
 use Rattle.ckpt_copy.specs.Changes.{NoMore}
 use Rattle.ckpt_copy.specs.Moments.{either_way, goes_on}
 use Rattle.mas_check.specs.declared.checking.CheckNo.{CheckNo}
@@ -140,7 +140,7 @@ volumes_kept tells old new keeps told = λ t le ge n. no_more_of (disk_now old (
 
 -- THE PAGES
 
-seen_later : (dev : Dev) (v0 v1 v2 : View) (seen : Option (List ℕ)) → (HasGone dev v0 v1 (mark_of v1) → HasGone dev v0 v2 (mark_of v2)) → IsSeen reads dev v0 v1 (mark_of v1) seen → IsSeen reads dev v0 v2 (mark_of v2) seen
+seen_later : (dev : Dev) (v0 v1 v2 : View) (seen : Option (List ℕ)) → (HasGone dev v0 v1 (mark_of v1) → HasGone dev v0 v2 (mark_of v2)) → IsSeen form_reads dev v0 v1 (mark_of v1) seen → IsSeen form_reads dev v0 v2 (mark_of v2) seen
 seen_later dev v0 v1 v2 None gone is = ⊎_elim (λ x. inl (gone x)) (λ none. inr none) is
 seen_later dev v0 v1 v2 (Some bytes) gone is = is
 
@@ -168,7 +168,7 @@ there_later v1 v2 same some = ⊎_elim
     some
 
 pub looked_later : (tells : Type 0) (v0 v1 v2 : View) (pages : List Page) → ((d : Dev) → tells → HasGone d v0 v1 (mark_of v1) → HasGone d v0 v2 (mark_of v2)) → ((d : Dev) → ((n : ℕ) → DiskPart d ≢ DiskPart (Spool n)) → v2.lost (DiskPart d) ≡ v1.lost (DiskPart d))
-    → HasLooked reads tells v0 v1 pages → HasLooked reads tells v0 v2 pages
+    → HasLooked form_reads tells v0 v1 pages → HasLooked form_reads tells v0 v2 pages
 looked_later tells v0 v1 v2 pages gone same l = record {
   sized = l.sized;
   found = λ told.
@@ -218,12 +218,12 @@ module _ (tells : Type 0) (pages : List Page) (v0 v1 v2 v3 : View) (sizes : (n :
 
 module _ (tells : Type 0) (v0 v1 : View) (looks : Looks tells v0 v1) where
   -- there are no pages
-  pub no_pages : (why : StartNo) → SeesNone reads tells v0 v1 why → IsCheckRun tells (status_of_start why) v0 v1
+  pub no_pages : (why : StartNo) → SeesNone form_reads tells v0 v1 why → IsCheckRun tells (status_of_start why) v0 v1
   no_pages why none = record { devices = looked_on tells v0 v1 v1 looks (reads_none tells v1); checked = by_cause why none } where
     unsaid : tells → console_now v1 ≡ console_now v0
     unsaid told = looked_console tells v0 v1 v1 looks (reads_none tells v1) told
 
-    by_cause : (why : StartNo) → SeesNone reads tells v0 v1 why → IsChecked tells (status_of_start why) v0 v1
+    by_cause : (why : StartNo) → SeesNone form_reads tells v0 v1 why → IsChecked tells (status_of_start why) v0 v1
     by_cause (no_start.NotFormatted first second) none = record { why = no_start.NotFormatted first second; is = refl; cause = none; unsaid = unsaid }
     by_cause no_start.BothLost none = record { why = no_start.BothLost; is = refl; cause = none; unsaid = unsaid }
     by_cause (no_start.DeviceSize dev size) none = absurd none
@@ -237,7 +237,7 @@ module _ (tells : Type 0) (v0 v1 : View) (looks : Looks tells v0 v1) where
       checked = record { why = no_start.NoMemory; is = refl; cause = tt; unsaid = looked_console tells v0 v1 v2 looks looked };
     }
 
-    module _ (pages : List Page) (found : HasLooked reads tells v0 v1 pages) (verdict : Result Verdict CheckNo) (is : IsAnswer tells pages v1 v2 verdict) (lines : List (List ℕ)) (of : AreLinesOf verdict lines) (v3 : View) where
+    module _ (pages : List Page) (found : HasLooked form_reads tells v0 v1 pages) (verdict : Result Verdict CheckNo) (is : IsAnswer tells pages v1 v2 verdict) (lines : List (List ℕ)) (of : AreLinesOf verdict lines) (v3 : View) where
       -- what was answered is said
       module _ (some : List (List ℕ)) (adds : Adds tells some v2 v3) where
         devices : KeepsDevices tells v0 v3
@@ -292,7 +292,7 @@ not_checked tells v = no_answer tells v v (looks_none tells v) v (reads_none tel
 
 -- WHAT FOLLOWS FROM IT
 
-both_failed : (tells : Type 0) (old new : View) (why : StartNo) → status.BothLost ≡ status_of_start why → SeesNone reads tells old new why → HasFailed Ckpt1 old new × HasFailed Ckpt2 old new
+both_failed : (tells : Type 0) (old new : View) (why : StartNo) → status.BothLost ≡ status_of_start why → SeesNone form_reads tells old new why → HasFailed Ckpt1 old new × HasFailed Ckpt2 old new
 both_failed tells old new (no_start.NotFormatted first second) is none = absurd (cc)
 both_failed tells old new no_start.BothLost is none = none
 both_failed tells old new (no_start.DeviceSize dev size) is none = absurd none

@@ -8,7 +8,7 @@ use Rattle.mas_types.specs.Starts.{no_queue}
 use Rattle.spool_disk.specs.View.{View}
 use Rattle.spool_disk.specs.Acts.{Rose}
 use Rattle.ckpt_copy.specs.Moments.{sides_none}
-use Rattle.mas_run.specs.Refusals.{Answers, is_of_script, is_refusal, refusal_before_play}
+use Rattle.mas_run.specs.Refusals.{Answers, IsTakenFrom, is_of_script, is_refusal, refusal_before_play}
 use Rattle.mas_run.specs.Runs.{has_begun, AreSidesKept}
 use Rattle.mas_run.specs.Statuses.{IsCaused}
 use Rattle.mas_run.specs.Unstarted.{IsNotStarted}
@@ -47,9 +47,9 @@ script_caused answer old new is = record {
 
 -- for what its script lacks, its source, or want of memory
 pub not_played : (cold only : Bool) (source : Sourced) (tells same : Type 0) (answer : Status) (base : Queue) (journal : Journal) (since : ℕ) (old new : View)
-    → base ≡ no_queue → same → new ≡ old → (source.tells → Answers cold (refusal_before_play cold only source.left old) answer) → is_of_script answer ≡ true → (answer ≡ status.SourceFault → Rose source.before source.after)
+    → base ≡ no_queue → same → new ≡ old → (source.tells → Answers cold (refusal_before_play cold only source.left old) answer) → is_of_script answer ≡ true → (answer ≡ status.SourceFault → Rose source.before source.after) → (source.tells → IsTakenFrom source.left source.rest)
     → IsPlayed cold only source tells same answer base journal since old new
-not_played cold only source tells same answer base journal since old new none stays view refused is faulted = record {
+not_played cold only source tells same answer base journal since old new none stays view refused is faulted taken = record {
   refused = refused;
   words = no_of answer status.Words is refl;
   device = λ c dev size e. absurd (no_of answer (status.DeviceSize dev size) is refl e);
@@ -65,8 +65,9 @@ not_played cold only source tells same answer base journal since old new none st
   room = λ begun. absurd (not_begun base none begun);
   roomy = λ begun. absurd (not_begun base none begun);
   read = λ told begun. absurd (not_begun base none begun);
+  taken = taken;
   run = λ begun. absurd (not_begun base none begun);
   complete = λ told no still.
       let fine : is_refusal cold answer ≡ false = subst (λ (why : Option Status). Answers cold why answer) no (refused told) in
-      ends cold answer source.before source.after old new fine faulted (script_caused answer old new is) still;
+      ends cold answer tells _ source.before source.after old new fine faulted (script_caused answer old new is) still (λ lost told alone. no_of answer status.BothLost is refl lost);
 }

@@ -14,7 +14,7 @@ use Rattle.mas_complex.specs.Headline.{whole}
 use Rattle.mas_complex.specs.Paper.{SamePapers}
 use Rattle.spool_disk.specs.View.{View, World, Disk, Line, disk_at, disk_now}
 use Rattle.spool_disk.specs.Acts.{Goes}
-use Rattle.ckpt_copy.specs.Areas.{reads, areas_size}
+use Rattle.ckpt_form.specs.Form.{form_reads, form_needs}
 use Rattle.ckpt_copy.specs.Changes.{NoMore}
 use Rattle.ckpt_copy.specs.Meanwhile.{SameSides}
 use Rattle.ckpt_copy.specs.Moments.{either_way, goes_on, goes_none, sides_none}
@@ -81,7 +81,7 @@ there_on tells lines v1 v2 adds some = ⊎_elim
     (λ two. inr (adds.lost (DiskPart Ckpt2) (disk_not_console Ckpt2) ∙ two))
     some
 
-found_on : (tells : Type 0) (lines : List (List ℕ)) (v0 v1 v2 : View) (Q : Queue) → Adds tells lines v1 v2 → HasFound reads tells areas_size v0 v1 Q → HasFound reads tells areas_size v0 v2 Q
+found_on : (tells : Type 0) (lines : List (List ℕ)) (v0 v1 v2 : View) (Q : Queue) → Adds tells lines v1 v2 → HasFound form_reads tells form_needs v0 v1 Q → HasFound form_reads tells form_needs v0 v2 Q
 found_on tells lines v0 v1 v2 Q adds f = record {
   pages = f.pages;
   tables = f.tables;
@@ -89,7 +89,7 @@ found_on tells lines v0 v1 v2 Q adds f = record {
   sized = f.sized;
   is = f.is;
   tell = f.tell;
-  found = λ told. found_later reads v0 v1 v2 (mark_of v1) (mark_of v2) (bytes_of f.pages) (gone Ckpt1 told) (gone Ckpt2 told) (f.found told);
+  found = λ told. found_later form_reads v0 v1 v2 (mark_of v1) (mark_of v2) (bytes_of f.pages) (gone Ckpt1 told) (gone Ckpt2 told) (f.found told);
   there = there_on tells lines v1 v2 adds f.there;
   large1 = omega (arith, adds.goes.size Ckpt1, f.large1);
   large2 = omega (arith, adds.goes.size Ckpt2, f.large2);
@@ -99,7 +99,7 @@ found_on tells lines v0 v1 v2 Q adds f = record {
   gone d told x = gone_on_to d v0 v1 v2 adds.goes (adds.loses d) (λ lt. ap (λ (disk : Disk). disk.lost) (adds.disks told v2.now adds.goes.later (omega arith) d) ∙ x.gone (omega (arith, adds.goes.later, lt))) x
 
 -- the queue that is found has members
-pub found_begun : (tells : Type 0) (v0 v1 : View) (Q : Queue) → HasFound reads tells areas_size v0 v1 Q → has_begun Q ≡ true
+pub found_begun : (tells : Type 0) (v0 v1 : View) (Q : Queue) → HasFound form_reads tells form_needs v0 v1 Q → has_begun Q ≡ true
 found_begun tells v0 v1 Q f = ap has_begun f.is ∙ some f.tables.config.members f.usable.0.fit.shape.config.members.0 where
   some : (n : ℕ) → 1 ≤ n → nat_lt 0 n ≡ true
   some n le = grind (arith, nat_tests)
@@ -161,7 +161,7 @@ module _ (tells : Type 0) (v0 v1 v2 : View) (Q : Queue) (looks : Looks tells v0 
   said_caused (status.DeviceSize dev size) said = absurd said
   said_caused status.NoMemory said = absurd said
 
-  module _ (found : HasFound reads tells areas_size v0 v1 Q) where
+  module _ (found : HasFound form_reads tells form_needs v0 v1 Q) where
     pub said_begins : (answer : Status) → AreSaid tells (report_lines Q) v1 v2 answer → Begins answer Q
     said_begins status.Done said = found_begun tells v0 v1 Q found
     said_begins status.ConsoleFault said = found_begun tells v0 v1 Q found
@@ -193,14 +193,14 @@ start_not_words (no_start.DeviceSize dev size) e = absurd (cc)
 start_not_words no_start.NoMemory e = absurd (cc)
 
 pub none_report : (tells : Type 0) (answer : Status) (why : StartNo) (base : Queue) (journal : Journal) (since : ℕ) (v0 v1 : View) → Looks tells v0 v1 → has_begun base ≡ false → answer ≡ status_of_start why
-    → FindsNone reads tells areas_size v0 v1 why → IsReport tells answer base journal since v0 v1
+    → FindsNone form_reads tells form_needs v0 v1 why → IsReport tells answer base journal since v0 v1
 none_report tells answer why base journal since v0 v1 looks not is cause = record {
   devices = no_device tells [] v0 v1 v1 looks (adds_none tells v1);
   reported = λ begun. absurd (no (has_begun base) begun not);
   unfound = λ none. record { why = why; is = is; cause = cause };
 }
 
-pub none_caused : (tells : Type 0) (why : StartNo) (v0 v1 : View) → FindsNone reads tells areas_size v0 v1 why → IsCaused (status_of_start why) v0 v1
+pub none_caused : (tells : Type 0) (why : StartNo) (v0 v1 : View) → FindsNone form_reads tells form_needs v0 v1 why → IsCaused (status_of_start why) v0 v1
 none_caused tells (no_start.NotFormatted first second) v0 v1 none = record { lost = λ e. absurd (cc); failed1 = λ e. absurd (cc); failed2 = λ e. absurd (cc); console = λ e. absurd (cc) }
 none_caused tells no_start.BothLost v0 v1 none = record { lost = λ e. (none.0.0, none.1.0); failed1 = λ e. inl none.0.1; failed2 = λ e. inl none.1.1; console = λ e. absurd (cc) }
 none_caused tells (no_start.DeviceSize dev size) v0 v1 none = record { lost = λ e. absurd (cc); failed1 = λ e. absurd (cc); failed2 = λ e. absurd (cc); console = λ e. absurd (cc) }

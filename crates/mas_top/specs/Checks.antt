@@ -10,7 +10,7 @@ use Rattle.spool_disk.specs.declared.plant.Part.{Part}
 use Rattle.spool_disk.specs.declared.plant.Part.TheVariants.{Disk, Console}
 use Rattle.spool_disk.specs.View.{View, disk_at, disk_now, Throughout}
 use Rattle.spool_disk.specs.Acts.{Goes, Rose}
-use Rattle.ckpt_copy.specs.Areas.{reads}
+use Rattle.ckpt_form.specs.Form.{form_reads}
 use Rattle.ckpt_copy.specs.Changes.{NoMore}
 use Rattle.mas_check.specs.declared.checking.CheckNo.{CheckNo}
 use Rattle.mas_check.specs.Checks.{IsAnswer, line_of}
@@ -50,7 +50,7 @@ SaysLine tells _ line old new = ⊥
 -- The pages of greatest level were checked, with their texts, and the answer was said.
 pub record HasChecked (tells : Type 0) (answer : Status) (old new : View) : Type 0 where
   pub pages : List Page
-  pub looked : HasLooked reads tells old new pages
+  pub looked : HasLooked form_reads tells old new pages
   pub verdict : Result Verdict CheckNo
   pub checked : IsAnswer tells pages old new verdict
   pub line : List ℕ
@@ -61,7 +61,7 @@ pub record HasChecked (tells : Type 0) (answer : Status) (old new : View) : Type
 pub record ChecksNone (tells : Type 0) (answer : Status) (old new : View) : Type 0 where
   pub why : StartNo
   pub is : answer ≡ status_of_start why
-  pub cause : SeesNone reads tells old new why
+  pub cause : SeesNone form_reads tells old new why
   pub unsaid : tells → console_now new ≡ console_now old
 
 -- with these statuses a line was to be said

@@ -10,11 +10,11 @@ use Rattle.mas_types.specs.declared.answers.Status.TheVariants as status
 use Rattle.script_lang.specs.declared.types.Script.{Script}
 use Rattle.spool_disk.specs.View.{View}
 use Rattle.spool_disk.specs.Acts.{Rose}
-use Rattle.ckpt_copy.specs.Areas.{areas_size}
+use Rattle.ckpt_form.specs.Form.{form_needs}
 use Rattle.ckpt_pages.specs.Shape.{page_count}
 use Rattle.spool_volumes.specs.Volumes.{AreRoomy}
 use Rattle.warm_start.specs.Starting.{OnlyLookedAtAll}
-use Rattle.mas_run.specs.Refusals.{refusal_before_play, Answers, IsPlayedOut, IsSaid, IsTooSmall}
+use Rattle.mas_run.specs.Refusals.{refusal_before_play, said_by, steps_of, Answers, IsPlayedOut, IsSaid, IsTakenFrom, IsTooSmall}
 use Rattle.mas_run.specs.Runs.{has_begun, AreSidesKept, IsRun}
 use Rattle.mas_run.specs.Statuses.{IsStill, is_unplayed}
 use Rattle.mas_run.specs.Unstarted.{IsNotStarted}
@@ -50,9 +50,11 @@ pub record IsPlayed (cold only : Bool) (source : Sourced) (tells same : Type 0) 
   pub formats : only ≡ true → tells → AreVolumesKept old new
   pub loses : has_begun base ≡ false → (answer ≢ status.BothLost) ⊎ (cold ≡ true) → (d : Dev) → new.loses d ≡ old.loses d
   -- one that has begun plays what its script asks for
-  pub room : has_begun base ≡ true → (areas_size (page_count base.config) ≤ old.size Ckpt1) × (areas_size (page_count base.config) ≤ old.size Ckpt2)
+  pub room : has_begun base ≡ true → (form_needs (page_count base.config) ≤ old.size Ckpt1) × (form_needs (page_count base.config) ≤ old.size Ckpt2)
   pub roomy : has_begun base ≡ true → AreRoomy new base.config
   pub read : source.tells → has_begun base ≡ true → source.rest ≡ []
+  pub taken : source.tells → IsTakenFrom source.left source.rest
   pub run : has_begun base ≡ true → ((script : Script) × (source.tells → IsSaid cold only source.left script) × IsRun cold tells script answer base journal since old new)
-  -- what nothing hinders is played to its end, where a warm run finds a queue and its devices are large enough for it
-  pub complete : source.tells → refusal_before_play cold only source.left old ≡ None → IsStill source.before source.after old new → IsPlayedOut cold answer
+  -- what neither a fault nor a line that loses a copy hinders is played to its end, where a warm run finds a queue and its devices are large
+  -- enough for it
+  pub complete : source.tells → refusal_before_play cold only source.left old ≡ None → IsStill tells (steps_of (said_by cold only source.left)) source.before source.after old new → IsPlayedOut cold answer

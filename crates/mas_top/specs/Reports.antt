@@ -10,7 +10,7 @@ use Rattle.spool_disk.specs.declared.plant.Part.{Part}
 use Rattle.spool_disk.specs.declared.plant.Part.TheVariants.{Disk, Console}
 use Rattle.spool_disk.specs.View.{View, disk_at, disk_now, Throughout}
 use Rattle.spool_disk.specs.Acts.{Rose}
-use Rattle.ckpt_copy.specs.Areas.{reads, areas_size}
+use Rattle.ckpt_form.specs.Form.{form_reads, form_needs}
 use Rattle.ckpt_copy.specs.Changes.{NoMore}
 use Rattle.mas_complex.specs.Headline.{whole}
 use Rattle.mas_complex.specs.Paper.{SamePapers}
@@ -49,7 +49,7 @@ SaysQueue tells _ Q old new = ⊥
 
 -- A report that found a queue: the one that a start would find. Nothing is given to it.
 pub record HasReported (tells : Type 0) (answer : Status) (base : Queue) (journal : Journal) (since : ℕ) (old new : View) : Type 0 where
-  pub found : HasFound reads tells areas_size old new base
+  pub found : HasFound form_reads tells form_needs old new base
   pub batches : journal.batches ≡ []
   pub moment : since ≡ old.now
   pub said : SaysQueue tells answer base old new
@@ -58,7 +58,7 @@ pub record HasReported (tells : Type 0) (answer : Status) (base : Queue) (journa
 pub record ReportsNone (tells : Type 0) (answer : Status) (old new : View) : Type 0 where
   pub why : StartNo
   pub is : answer ≡ status_of_start why
-  pub cause : FindsNone reads tells areas_size old new why
+  pub cause : FindsNone form_reads tells form_needs old new why
 
 -- A report, on a plant that showed `old` before and `new` after it.
 pub record IsReport (tells : Type 0) (answer : Status) (base : Queue) (journal : Journal) (since : ℕ) (old new : View) : Type 0 where

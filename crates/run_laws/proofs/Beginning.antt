@@ -19,10 +19,11 @@ use Rattle.mas_types.specs.Journal.{entries_of, is_kept_by, is_flying_at, kept_a
 use Rattle.mas_types.specs.Limits.{page_bytes}
 use Rattle.mas_types.specs.Sound.{IsSound}
 use Rattle.queue_laws.specs.Runs.{IsGiven, RunsKeepConfiguration, RunsKeepSound}
+use Rattle.script_lang.specs.declared.types.Script.{Script}
 use Rattle.spool_disk.specs.declared.plant.Part.TheVariants.{Disk as DiskPart}
 use Rattle.spool_disk.specs.Acts.{Goes}
 use Rattle.spool_disk.specs.View.{View, LeavesOnly, disk_now}
-use Rattle.ckpt_copy.specs.Areas.{reads, areas_size}
+use Rattle.ckpt_form.specs.Form.{form_reads, form_needs}
 use Rattle.ckpt_copy.specs.Pages.{bytes_of}
 use Rattle.ckpt_pages.specs.declared.tables.Tables.{Tables}
 use Rattle.ckpt_pages.specs.Checkpoints.{IsCheckpoint, SpellsOneAtMost}
@@ -35,12 +36,12 @@ use Rattle.mas_complex.specs.Paper.{AreGivenIn, PaperKept}
 use Rattle.warm_start.specs.declared.choosing.StartNo.TheVariants as no_start
 use Rattle.warm_start.specs.Starting.{IsSmall, IsState, AreNotLost, OnlyLookedAtAll, mark_of}
 use Rattle.warm_start.specs.Usable.{AreOf, AreUsable, HaveSize, MayStart}
-use Rattle.mas_run.specs.Runs.{has_begun, Begins}
+use Rattle.mas_run.specs.Runs.{has_begun, Begins, IsRun}
 use Rattle.mas_run.specs.Statuses.{IsCaused}
 use Rattle.mas_run.specs.Unstarted.{IsNotStarted, StartCauses}
 use Rattle.run_laws.specs.Left.{IsLeftBy}
 use Rattle.queue_tables.proofs.SoundTables.{told_are_sound}
-use Rattle.run_laws.specs.Beginning.{AreLarge, AreLow, BothLow, IsHindered, IsLow, BeginsWithWhatIsLeft}
+use Rattle.run_laws.specs.Beginning.{AreLarge, AreLow, BothLow, HasEnded, IsHindered, IsLow}
 use Rattle.run_laws.proofs.Copies.{image_of, stand_by, stands, told_by}
 
 -- THE QUEUE THAT IS LEFT
@@ -87,29 +88,29 @@ not_both_gone state.Unread two a b not = a
 not_both_gone state.Unsound two a b not = a
 
 -- a copy that is left reads as pages that can be used: so where a start found none on it, it is lost
-module _ (was : List ℕ) (coming : Option (List ℕ)) (dev : Dev) (t : ℕ) (last old new : View) (left : IsLeftBy t last old) (each : LeavesOnly (left_at last t dev) (λ image. IsOneOf was coming (reads image)))
-    (usable : (bytes : List ℕ) → reads (disk_now old dev).bytes ≡ Some bytes → (bytes ≡ was) ⊎ (coming ≡ Some bytes) → AreUsable bytes)
+module _ (was : List ℕ) (coming : Option (List ℕ)) (dev : Dev) (t : ℕ) (last old new : View) (left : IsLeftBy t last old) (each : LeavesOnly (left_at last t dev) (λ image. IsOneOf was coming (form_reads image)))
+    (usable : (bytes : List ℕ) → form_reads (disk_now old dev).bytes ≡ Some bytes → (bytes ≡ was) ⊎ (coming ≡ Some bytes) → AreUsable bytes)
     (goes : Goes old new) (same : (disk_now new dev).bytes ≡ (disk_now old dev).bytes) where
-  read_one : new.lost (DiskPart dev) ≡ false → IsOneOf was coming (reads (disk_now new dev).bytes)
+  read_one : new.lost (DiskPart dev) ≡ false → IsOneOf was coming (form_reads (disk_now new dev).bytes)
   read_one there =
-      subst (λ (bs : List ℕ). IsOneOf was coming (reads bs)) (sym same) (each (disk_now old dev).bytes (image_of t last old dev left (was_there dev old new goes there)))
+      subst (λ (bs : List ℕ). IsOneOf was coming (form_reads bs)) (sym same) (each (disk_now old dev).bytes (image_of t last old dev left (was_there dev old new goes there)))
 
-  gone : (tells : Type 0) → tells → (alive : Bool) (s : CopyState) → IsState reads tells dev new alive s → IsGone s
+  gone : (tells : Type 0) → tells → (alive : Bool) (s : CopyState) → IsState form_reads tells dev new alive s → IsGone s
   gone tells told alive state.Lost is = tt
   gone tells told alive state.Unread is = subst (IsOneOf was coming) (is.none told).now (read_one is.there)
   gone tells told alive state.Unsound is =
       let found = is.2 told in
       let one : IsOneOf was coming (Some found.0) = subst (IsOneOf was coming) found.1 (read_one is.1) in
-      found.2 (usable found.0 (ap reads (sym same) ∙ found.1) one)
+      found.2 (usable found.0 (ap form_reads (sym same) ∙ found.1) one)
 
 -- SIZES
 
 enough : (needed size is was : ℕ) → size ≡ is → is ≡ was → needed ≤ was → size < needed → ⊥
 enough needed size is was a b c d = omega (arith, a, b, c, d)
 
-never_small : (config : Config) (old new : View) → Goes old new → AreLarge config old → (dev : Dev) (size : ℕ) → IsSmall (areas_size (page_count config)) config dev size new → ⊥
-never_small config old new goes large Ckpt1 size is = enough (areas_size (page_count config)) size (new.size Ckpt1) (old.size Ckpt1) is.0 (goes.size Ckpt1) large.first is.1
-never_small config old new goes large Ckpt2 size is = enough (areas_size (page_count config)) size (new.size Ckpt2) (old.size Ckpt2) is.0 (goes.size Ckpt2) large.second is.1
+never_small : (config : Config) (old new : View) → Goes old new → AreLarge config old → (dev : Dev) (size : ℕ) → IsSmall (form_needs (page_count config)) config dev size new → ⊥
+never_small config old new goes large Ckpt1 size is = enough (form_needs (page_count config)) size (new.size Ckpt1) (old.size Ckpt1) is.0 (goes.size Ckpt1) large.first is.1
+never_small config old new goes large Ckpt2 size is = enough (form_needs (page_count config)) size (new.size Ckpt2) (old.size Ckpt2) is.0 (goes.size Ckpt2) large.second is.1
 never_small config old new goes large (Spool n) size is =
     let small = is.1 in
     enough (page_bytes * config.groups) (new.size (Spool n)) (new.size (Spool n)) (old.size (Spool n)) refl (goes.size (Spool n))
@@ -119,7 +120,7 @@ never_small config old new goes large (Spool n) size is =
 
 module _ (spells : SpellsOneAtMost) (configs : RunsKeepConfiguration) (sounds : RunsKeepSound) (base : Queue) (J : Journal) (t : ℕ) (last old new : View)
     (left : IsLeftBy t last old) (sound : IsSound base) (given : AreGivenIn base J.batches) (low : BothLow old) (large : AreLarge base.config old)
-    (alike : AreAlike reads base J t (left_at last t Ckpt1) (left_at last t Ckpt2)) (goes : Goes old new) (tells : Type 0) (told : tells) where
+    (alike : AreAlike form_reads base J t (left_at last t Ckpt1) (left_at last t Ckpt2)) (goes : Goes old new) (tells : Type 0) (told : tells) where
   kept_given : All (IsGiven base) (kept_at J t)
   kept_given = all_given base (is_kept_by t) J.batches given
 
@@ -133,7 +134,7 @@ module _ (spells : SpellsOneAtMost) (configs : RunsKeepConfiguration) (sounds : 
   usable_by bytes lows one =
       ⊎_elim (λ s. usable_of (run base (kept_at J t)) bytes s kept_sound lows)
       (λ s. usable_of (run base (kept_at J t ++ flying_at J t)) bytes s coming_sound lows)
-      (stand_by reads base J t last old bytes alike one)
+      (stand_by form_reads base J t last old bytes alike one)
 
   -- it isn't so that no copy can be used
   some_found : (disk_now new Ckpt1).bytes ≡ (disk_now old Ckpt1).bytes → (disk_now new Ckpt2).bytes ≡ (disk_now old Ckpt2).bytes → (one two : CopyState) → StartCauses tells (no_start.NotFormatted one two) old new → ⊥
@@ -156,9 +157,9 @@ module _ (spells : SpellsOneAtMost) (configs : RunsKeepConfiguration) (sounds : 
       let u : Tables = x.1 in
       let config : u.config ≡ base.config =
       ⊎_elim (λ s. config_of pages u x.2 x.3 (kept_at J t) s) (λ s. config_of pages u x.2 x.3 (kept_at J t ++ flying_at J t) s)
-      (stands reads base J t last old (bytes_of pages) new (mark_of new) alike left (x.4 told)) in
-      let small : IsSmall (areas_size (page_count u.config)) u.config dev size new = subst (λ (n : ℕ). IsSmall (areas_size n) u.config dev size new) x.2.0.spell.count x.5 in
-      never_small base.config old new goes large dev size (subst (λ (c : Config). IsSmall (areas_size (page_count c)) c dev size new) config small)
+      (stands form_reads base J t last old (bytes_of pages) new (mark_of new) alike left (x.4 told)) in
+      let small : IsSmall (form_needs (page_count u.config)) u.config dev size new = subst (λ (n : ℕ). IsSmall (form_needs n) u.config dev size new) x.2.0.spell.count x.5 in
+      never_small base.config old new goes large dev size (subst (λ (c : Config). IsSmall (form_needs (page_count c)) c dev size new) config small)
 
 -- no byte of a copy changed in a start that gave nothing
 same_bytes : (tells : Type 0) → tells → (old new : View) → (new ≡ old) ⊎ (tells → OnlyLookedAtAll old new) → ((disk_now new Ckpt1).bytes ≡ (disk_now old Ckpt1).bytes) × ((disk_now new Ckpt2).bytes ≡ (disk_now old Ckpt2).bytes)
@@ -170,15 +171,18 @@ not_lost : (A : Type 0) (one two : CopyState) → (status.NotFormatted one two �
 not_lost A one two (inl e) = absurd (cc)
 not_lost A one two (inr a) = a
 
-pub begins : SpellsOneAtMost → RunsKeepConfiguration → RunsKeepSound → (first_tells next_tells : Type 0) → BeginsWithWhatIsLeft first_tells next_tells
-begins spells configs sounds first_tells next_tells told also cold script answer ends base found J since t first last old new was ge le left low large ended =
-    test_cases (has_begun found) ((has_begun found ≡ true) ⊎ IsHindered ends old new) (λ e. inl e)
-    (λ e. inr (hindered ends ended.begun (ended.unstarted e) (ended.untouched e) ended.cause e))
+-- what a warm run that hasn't begun is hindered by
+pub hinders : SpellsOneAtMost → RunsKeepConfiguration → RunsKeepSound → (first_tells next_tells : Type 0) → first_tells → next_tells
+    → (cold : Bool) (script : Script) (answer ends : Status) (base found : Queue) (J : Journal) (since t : ℕ) (first last old new : View)
+    → IsRun cold first_tells script answer base J since first last → since ≤ t → t ≤ last.now → IsLeftBy t last old
+    → BothLow old → AreLarge base.config old → HasEnded next_tells ends found old new → has_begun found ≡ false → IsHindered ends old new
+hinders spells configs sounds first_tells next_tells told also cold script answer ends base found J since t first last old new was ge le left low large ended e =
+    hindered ends ended.begun (ended.unstarted e) (ended.untouched e) ended.cause e
   where
     -- so what a start would have found isn't so
-    never : (A : Type 0) → (AreGivenIn base J.batches → AreAlike reads base J t (left_at last t Ckpt1) (left_at last t Ckpt2) → A → ⊥) → A → ⊥
+    never : (A : Type 0) → (AreGivenIn base J.batches → AreAlike form_reads base J t (left_at last t Ckpt1) (left_at last t Ckpt2) → A → ⊥) → A → ⊥
     never A clash a =
-        ∥∥₁_elim (was.steps.safe.alike told) (λ x y. absurd x) (λ (alike : AreAlwaysAlike reads base J since last).
+        ∥∥₁_elim (was.steps.safe.alike told) (λ x y. absurd x) (λ (alike : AreAlwaysAlike form_reads base J since last).
         ∥∥₁_elim (was.steps.safe.paper told) (λ x y. absurd x) (λ (paper : PaperKept base since J.batches last). clash paper.given (alike t ge le) a))
 
     hindered : (s : Status) → Begins s found → IsNotStarted next_tells s old new → (s ≡ status.BothLost) ⊎ ((new ≡ old) ⊎ (next_tells → OnlyLookedAtAll old new)) → IsCaused s old new → has_begun found ≡ false → IsHindered s old new

@@ -5,7 +5,7 @@ use Rattle.mas_types.specs.declared.ids.Dev.TheVariants.{Ckpt1, Ckpt2}
 use Rattle.spool_disk.specs.declared.plant.Part.TheVariants.{Disk as DiskPart}
 use Rattle.spool_disk.specs.Acts.{top}
 use Rattle.spool_disk.specs.View.{View, Disk, IsImage, disk_at, disk_now}
-use Rattle.ckpt_copy.specs.Areas.{reads}
+use Rattle.ckpt_form.specs.Form.{form_reads}
 use Rattle.ckpt_copy.specs.Pages.{bytes_of}
 use Rattle.mas_complex.specs.Crash.{lost_if}
 use Rattle.warm_start.specs.Starting.{IsHeld, IsSeen, Mark}
@@ -22,17 +22,17 @@ some_is : (x y : List ℕ) → Some x ≡ Some y → x ≡ y
 some_is x y e = cc
 
 -- the pages that are read of a copy that was held
-held_one : (dev : Dev) (t : ℕ) (pages found : List ℕ) (first last old new : View) (mark : Mark) → IsHeld reads (disk_now first dev) pages (disk_at last t dev) → IsLeftBy t last old
-    → (seen : Option (List ℕ)) → IsSeen reads dev old new mark seen → seen ≡ Some found → (found ≡ pages) ⊎ GivesPages dev first found
+held_one : (dev : Dev) (t : ℕ) (pages found : List ℕ) (first last old new : View) (mark : Mark) → IsHeld form_reads (disk_now first dev) pages (disk_at last t dev) → IsLeftBy t last old
+    → (seen : Option (List ℕ)) → IsSeen form_reads dev old new mark seen → seen ≡ Some found → (found ≡ pages) ⊎ GivesPages dev first found
 held_one dev t pages found first last old new mark held left None seen is = absurd (cc)
 held_one dev t pages found first last old new mark held left (Some bytes) seen is =
     let left_bytes = (disk_now old dev).bytes in
-    let read : reads left_bytes ≡ Some found = seen.1 ∙ is in
+    let read : form_reads left_bytes ≡ Some found = seen.1 ∙ is in
     let image : IsImage (disk_at last t dev) left_bytes = image_there ((t == top) && last.lost (DiskPart dev)) (disk_at last t dev) left_bytes (image_of t last old dev left seen.0) in
     ⊎_elim (λ was. inr (record { image = left_bytes; from = inr was; read = read }))
     (λ reads_so. ⊎_elim
-    (λ (as_was : reads left_bytes ≡ reads (disk_now first dev).bytes). inr (record { image = (disk_now first dev).bytes; from = inl refl; read = sym as_was ∙ read }))
-    (λ (as_found : reads left_bytes ≡ Some pages). inl (some_is found pages (sym read ∙ as_found)))
+    (λ (as_was : form_reads left_bytes ≡ form_reads (disk_now first dev).bytes). inr (record { image = (disk_now first dev).bytes; from = inl refl; read = sym as_was ∙ read }))
+    (λ (as_found : form_reads left_bytes ≡ Some pages). inl (some_is found pages (sym read ∙ as_found)))
     reads_so)
     (held left_bytes image)
 

@@ -1,6 +1,7 @@
 -- The next run finds the queue of the run before.
 use Rattle.std.proofs.Common.{◌≡◌, inl, inr, ⊎_elim, ℕ, ◌≤◌, ◌||◌, ◌++◌, Bool, true, false, List, All, Some, refl, sym, ◌∙◌, ap, subst}
 use Rattle.std.proofs.Math.Logic.{∥∥₁_map₂}
+use Rattle.mas_types.specs.declared.answers.Status.{Status}
 use Rattle.mas_types.specs.declared.ids.Dev.{Dev}
 use Rattle.mas_types.specs.declared.ids.Dev.TheVariants.{Spool}
 use Rattle.mas_types.specs.declared.jobs.Job.{Job}
@@ -12,24 +13,27 @@ use Rattle.mas_types.specs.declared.queues.Owner.{Owner}
 use Rattle.mas_types.specs.declared.queues.Queue.{Queue}
 use Rattle.mas_types.specs.declared.queues.Thing.TheVariants.{Deck, Output}
 use Rattle.mas_types.specs.Journal.{kept_at, flying_at}
-use Rattle.queue_laws.specs.Runs.{RunsKeepConfiguration}
+use Rattle.queue_laws.specs.Runs.{RunsKeepConfiguration, RunsKeepSound}
+use Rattle.script_lang.specs.declared.types.Script.{Script}
 use Rattle.spool_disk.specs.declared.plant.Part.TheVariants.{Disk as DiskPart}
 use Rattle.spool_disk.specs.Acts.{Goes}
 use Rattle.spool_disk.specs.View.{View, disk_at, disk_now}
 use Rattle.track_groups.specs.Places.{groups_of}
-use Rattle.ckpt_copy.specs.Areas.{reads}
+use Rattle.ckpt_form.specs.Form.{form_reads}
 use Rattle.ckpt_pages.specs.declared.tables.Tables.{Tables}
 use Rattle.ckpt_pages.specs.Checkpoints.{SpellsOneAtMost}
+use Rattle.ckpt_pages.proofs.SlotLists.{test_cases}
 use Rattle.spool_volumes.specs.Volumes.{Volumes, bytes_unless, volumes_now}
 use Rattle.queue_tables.specs.Telling.{Tell}
 use Rattle.mas_complex.specs.Headline.{AreAlwaysAlike, AreTextsLeft}
 use Rattle.mas_complex.specs.Meaning.{run}
 use Rattle.mas_complex.specs.Texts.{Spools, bytes_on, lost_now, spools_at, IsThereUnless, HasTexts, GivesTexts}
-use Rattle.mas_run.specs.Runs.{IsFoundQueue, begins_at}
+use Rattle.mas_run.specs.Runs.{has_begun, IsFoundQueue, IsRun, begins_at}
 use Rattle.mas_run.specs.Volumes.{AreVolumesKeptUntil}
 use Rattle.run_laws.specs.Left.{IsLeftBy}
 use Rattle.run_laws.specs.Again.{IsQueueAgain}
-use Rattle.run_laws.specs.Joins.{lost_in, IsQueueOf, FindsWhatIsLeft}
+use Rattle.run_laws.specs.Joins.{lost_in, IsQueueOf, GoesOn, FindsWhatIsLeft}
+use Rattle.run_laws.proofs.Beginning.{hinders}
 use Rattle.run_laws.proofs.Copies.{stands, told_by}
 use Rattle.run_laws.proofs.Rows.{jobs_again, outputs_again}
 
@@ -75,7 +79,7 @@ module _ (runs : RunsKeepConfiguration) (base found : Queue) (t : Tables) (one n
 
 -- a run that found its queue, by what is alike on the copies and what is left of the texts
 found_of : SpellsOneAtMost → RunsKeepConfiguration → (tells : Type 0) → tells → (base found : Queue) (J : Journal) (since from at t : ℕ) (first : Dev → ℕ) (last old new : View)
-    → AreAlwaysAlike reads base J since last → AreTextsLeft base since J last → since ≤ t → t ≤ last.now → IsLeftBy t last old
+    → AreAlwaysAlike form_reads base J since last → AreTextsLeft base since J last → since ≤ t → t ≤ last.now → IsLeftBy t last old
     → Goes old new → old.now ≤ from → from ≤ at → AreVolumesKeptUntil at old new → IsFoundQueue tells old new from first found
     → IsQueueOf (lost_in last new) base J t found
 found_of spells runs tells told base found J since from at t first last old new alike texts ge le left goes begins within kept queue =
@@ -89,11 +93,21 @@ found_of spells runs tells told base found J since from at t first last old new 
     (told_by spells (run base (kept_at J t)) queue.pages queue.tables queue.are queue.sized s) given.0))
     (λ s. inr (after runs base found queue.tables (lost_now last) (lost_now new) volumes disks same queue.told has (kept_at J t ++ flying_at J t)
     (told_by spells (run base (kept_at J t ++ flying_at J t)) queue.pages queue.tables queue.are queue.sized s) given.1))
-    (stands reads base J t last old _ new (begins_at from first) (alike t ge le) left (queue.found told))
+    (stands form_reads base J t last old _ new (begins_at from first) (alike t ge le) left (queue.found told))
 
-pub finds : SpellsOneAtMost → RunsKeepConfiguration → (first_tells next_tells : Type 0) → FindsWhatIsLeft first_tells next_tells
+-- a run that has begun
+finds : SpellsOneAtMost → RunsKeepConfiguration → (first_tells next_tells : Type 0) → first_tells → next_tells
+    → (cold : Bool) (script next : Script) (answer ends : Status) (base found : Queue) (J K : Journal) (since from t : ℕ) (first last old new : View)
+    → IsRun cold first_tells script answer base J since first last → since ≤ t → t ≤ last.now → IsLeftBy t last old
+    → Goes old new → IsRun false next_tells next ends found K from old new → ∥ IsQueueOf (lost_in last new) base J t found ∥₁
 finds spells runs first_tells next_tells told also cold script next answer ends base found J K since from t first last old new was ge le left goes is =
     let safe = was.steps.safe in
     let kept = is.steps.before also in
     ∥∥₁_map₂ (safe.alike told) (safe.texts told)
     (λ alike texts. found_of spells runs next_tells also base found J since from is.steps.at t is.first last old new alike texts ge le left goes is.moment.0 is.steps.began.0 kept is.queue)
+
+pub goes_on : SpellsOneAtMost → RunsKeepConfiguration → RunsKeepSound → (first_tells next_tells : Type 0) → FindsWhatIsLeft first_tells next_tells
+goes_on spells runs sounds first_tells next_tells told also cold script next answer ends base found J K since from t first last old new was ge le left ended is =
+    test_cases (has_begun found) (GoesOn base J t last ends found old new)
+    (λ e. inl (e, finds spells runs first_tells next_tells told also cold script next answer ends base found J K since from t first last old new was ge le left ended.goes (is e)))
+    (λ e. inr (e, λ low large. hinders spells runs sounds first_tells next_tells told also cold script answer ends base found J since t first last old new was ge le left low large ended e))

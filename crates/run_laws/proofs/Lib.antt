@@ -1,5 +1,5 @@
 mod Copies
 mod Rows
-mod Found
 mod Beginning
+mod Found
 mod Early

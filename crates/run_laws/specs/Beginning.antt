@@ -1,16 +1,14 @@
--- That a next run begins.
-use Rattle.std.specs.Prelude.{◌≡◌, ◌⊎◌, ℕ, ◌≤◌, ◌<◌, ◌^◌, Bool, true, false, List, Some}
+-- What may keep a next run from beginning.
+use Rattle.std.specs.Prelude.{◌≡◌, ◌⊎◌, ℕ, ◌≤◌, ◌<◌, ◌^◌, false, List, Some}
 use Rattle.mas_types.specs.declared.answers.Status.{Status}
 use Rattle.mas_types.specs.declared.answers.Status.TheVariants as status
 use Rattle.mas_types.specs.declared.ids.Dev.TheVariants.{Ckpt1, Ckpt2}
 use Rattle.mas_types.specs.declared.ids.Page.{Page}
-use Rattle.mas_types.specs.declared.journals.Journal.{Journal}
 use Rattle.mas_types.specs.declared.queues.Config.{Config}
 use Rattle.mas_types.specs.declared.queues.Queue.{Queue}
-use Rattle.script_lang.specs.declared.types.Script.{Script}
 use Rattle.spool_disk.specs.Acts.{Goes}
 use Rattle.spool_disk.specs.View.{View, disk_now}
-use Rattle.ckpt_copy.specs.Areas.{reads, areas_size}
+use Rattle.ckpt_form.specs.Form.{form_reads, form_needs}
 use Rattle.ckpt_copy.specs.Pages.{bytes_of, level}
 use Rattle.ckpt_pages.specs.declared.tables.Tables.{Tables}
 use Rattle.ckpt_pages.specs.Checkpoints.{IsCheckpoint}
@@ -18,10 +16,9 @@ use Rattle.ckpt_pages.specs.Shape.{page_count}
 use Rattle.spool_volumes.specs.Volumes.{AreRoomy}
 use Rattle.warm_start.specs.Starting.{NoneOrFailed, OnlyLookedAtAll, WasTaken}
 use Rattle.warm_start.specs.Usable.{HaveSize}
-use Rattle.mas_run.specs.Runs.{has_begun, Begins, IsRun}
+use Rattle.mas_run.specs.Runs.{has_begun, Begins}
 use Rattle.mas_run.specs.Statuses.{IsCaused}
 use Rattle.mas_run.specs.Unstarted.{IsNotStarted}
-use Rattle.run_laws.specs.Left.{IsLeftBy}
 
 -- WHAT IS LEFT
 
@@ -36,13 +33,13 @@ AreLow bytes = (pages : List Page) (t : Tables) → HaveSize pages → bytes_of 
 
 -- and of the pages that each copy reads as
 pub record BothLow (v : View) : Type 0 where
-  pub first : (bytes : List ℕ) → reads (disk_now v Ckpt1).bytes ≡ Some bytes → AreLow bytes
-  pub second : (bytes : List ℕ) → reads (disk_now v Ckpt2).bytes ≡ Some bytes → AreLow bytes
+  pub first : (bytes : List ℕ) → form_reads (disk_now v Ckpt1).bytes ≡ Some bytes → AreLow bytes
+  pub second : (bytes : List ℕ) → form_reads (disk_now v Ckpt2).bytes ≡ Some bytes → AreLow bytes
 
 -- the devices are as large as a configuration asks
 pub record AreLarge (config : Config) (v : View) : Type 0 where
-  pub first : areas_size (page_count config) ≤ v.size Ckpt1
-  pub second : areas_size (page_count config) ≤ v.size Ckpt2
+  pub first : form_needs (page_count config) ≤ v.size Ckpt1
+  pub second : form_needs (page_count config) ≤ v.size Ckpt2
   pub roomy : AreRoomy v config
 
 -- THE NEXT RUN
@@ -65,13 +62,3 @@ IsHindered (status.NotFormatted first second) old new = ⊥
 IsHindered (status.DeviceSize dev size) old new = ⊥
 IsHindered status.BothLost old new = WasTaken Ckpt1 old new × WasTaken Ckpt2 old new × NoneOrFailed old new
 IsHindered _ old new = Unit {0}
-
--- A run was played, cold or warm, and at a moment of it a crash left what a plant shows, on devices that are large enough; levels and
--- orders are left. A warm run on that plant begins, unless something else hinders it.
-abbrev pub BeginsWithWhatIsLeft : Type 0 → Type 0 → Type 0
-BeginsWithWhatIsLeft first_tells next_tells =
-    first_tells → next_tells
-    → (cold : Bool) (script : Script) (answer ends : Status) (base found : Queue) (J : Journal) (since t : ℕ) (first last old new : View)
-    → IsRun cold first_tells script answer base J since first last → since ≤ t → t ≤ last.now → IsLeftBy t last old
-    → BothLow old → AreLarge base.config old → HasEnded next_tells ends found old new
-    → (has_begun found ≡ true) ⊎ IsHindered ends old new

@@ -4,7 +4,7 @@ use Rattle.mas_types.specs.declared.ids.Dev.{Dev}
 use Rattle.mas_types.specs.declared.ids.Dev.TheVariants.{Ckpt1, Ckpt2}
 use Rattle.mas_types.specs.declared.queues.Queue.{Queue}
 use Rattle.spool_disk.specs.View.{View, IsImage, disk_now}
-use Rattle.ckpt_copy.specs.Areas.{reads}
+use Rattle.ckpt_form.specs.Form.{form_reads}
 use Rattle.ckpt_copy.specs.Pages.{bytes_of}
 use Rattle.mas_run.specs.Runs.{IsFoundQueue, IsHeldUntil}
 use Rattle.run_laws.specs.Left.{IsLeftBy}
@@ -13,7 +13,7 @@ use Rattle.run_laws.specs.Left.{IsLeftBy}
 pub record GivesPages (dev : Dev) (v : View) (found : List ℕ) : Type 0 where
   pub image : List ℕ
   pub from : (image ≡ (disk_now v dev).bytes) ⊎ IsImage (disk_now v dev) image
-  pub read : reads image ≡ Some found
+  pub read : form_reads image ≡ Some found
 
 -- A warm start held the copies so up to a moment, for these pages, and at a moment up to it a crash left what a plant shows. A warm run
 -- on that plant finds these pages, or pages that one of the copies gave before the start.

@@ -1,5 +1,5 @@
 pub mod Left
 pub mod Again
-pub mod Joins
 pub mod Beginning
+pub mod Joins
 pub mod Early

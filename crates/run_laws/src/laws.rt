@@ -1,7 +1,6 @@
-//! What the next run finds of what a run left.
+//! What the next run makes of what a run left.
 ghost use Rattle.run_laws.specs.Left.{CrashesLeave};
 ghost use Rattle.run_laws.specs.Joins.{FindsWhatIsLeft};
-ghost use Rattle.run_laws.specs.Beginning.{BeginsWithWhatIsLeft};
 ghost use Rattle.run_laws.specs.Early.{FindsWhatWasThere};
 
 use ckpt_pages::law_of_checkpoints;
@@ -13,24 +12,15 @@ pub fn law_of_crashes()
     ensures { CrashesLeave }
 {}
 
-/// A warm run on a plant that shows what a crash at a moment of a run may leave begins with the queue after the entries that were
+/// A warm run on a plant that shows what a crash at a moment of a run may leave begins, with the queue after the entries that were
 /// kept at the moment, or with the one after these and those that were in flight. Of a text with a group on a volume that either run
 /// lost, only the number of lines is said.
+///
+/// It begins: what the copies hold and the sizes of devices don't hinder it, where levels and orders are left and the devices are
+/// large enough. Else want of memory may, or its words or script, or that both copies are lost: the crash left none, or an act failed
+/// in the new run on one that it left.
 pub fn law_of_next_runs<P: Plant, N: Plant>(left: &P, next: &N)
     ensures { FindsWhatIsLeft P.tells N.tells }
-{
-    let _left = left;
-    let _next = next;
-    law_of_checkpoints();
-    law_of_runs();
-}
-
-/// A warm run on a plant that shows what a crash at a moment of a run may leave begins: what the copies hold and the sizes of devices
-/// don't hinder it, where levels and orders are left and the devices are large enough. Else want of memory may, or its script, or that both
-/// copies are lost: the crash left none, or an act failed in the new run on one that it left. With which queue it begins
-/// `law_of_next_runs` says.
-pub fn law_of_beginnings<P: Plant, N: Plant>(left: &P, next: &N)
-    ensures { BeginsWithWhatIsLeft P.tells N.tells }
 {
     let _left = left;
     let _next = next;

@@ -1,6 +1,6 @@
-//! What the next run finds of what a run left.
+//! What the next run makes of what a run left.
 #![tactic(auto)]
 
 mod laws;
 
-pub use laws::{law_of_beginnings, law_of_crashes, law_of_early_crashes, law_of_next_runs};
+pub use laws::{law_of_crashes, law_of_early_crashes, law_of_next_runs};

@@ -1,13 +1,12 @@
 use Rattle.std.proofs.Common.{◌≡◌, ◌∙◌, ◌≤◌, ℕ, List, [], inl, refl, sym, ap, subst, arith}
 use Rattle.mas_types.specs.Ids.{nobody}
 use Rattle.spool_disk.specs.View.{World}
-use Rattle.ckpt_copy.specs.Areas.{reads}
+use Rattle.ckpt_form.specs.Form.{form_reads}
 use Rattle.ckpt_copy.specs.Moments.{goes_on}
 use Rattle.mas_complex.specs.Headline.{Headline}
-use Rattle.mas_complex.specs.Journals.{begun}
 use Rattle.member_node.proofs.WriteLemmas.{none_out}
 use Rattle.member_steps.specs.Locked.{IsOpenTo}
-use Rattle.mas_run.specs.Resets.{restart_entries}
+use Rattle.mas_run.specs.Resets.{restart_at}
 use Rattle.lock_cycle.specs.Books.{Book}
 use Rattle.script_input.specs.Played.{sysa}
 use Rattle.mas_run.specs.Runs.{IsPlay}
@@ -17,7 +16,7 @@ use Rattle.mas_types.specs.Limits.{pages_most}
 use Rattle.member_node.specs.declared.checkpoint.Checkpoint.{Checkpoint}
 use Rattle.member_node.specs.declared.member.NodeNo.TheVariants as no_node
 use Rattle.member_steps.proofs.PageLemmas.{few_pages}
-use Rattle.mas_run.proofs.ResetLemmas.{err_plays, reset_ended, reset_caused, reset_none, one_kept_now}
+use Rattle.mas_run.proofs.ResetLemmas.{err_plays, reset_ended, reset_caused, reset_none, settle_none, one_kept_now}
 use Rattle.mas_run.proofs.ScriptLemmas.{roomy_later}
 use Rattle.mas_run.proofs.VolumeLemmas.{kept_on}
 use Rattle.mas_run.proofs.RunLemmas.{warm_steps, caused_through, grows_through}
@@ -33,11 +32,11 @@ returns-in_default-clause-steps g c =
     let v = P.view x.plant in
     let e = c.ended.ensures in
     let J = c.ended.result.journal in
-    let head : P.tells → ∥ Headline reads x.base x.since J v ∥₁ = λ t. rw (e.base, e.since, e.plant) at (e.headline t) in
+    let head : P.tells → ∥ Headline form_reads x.base x.since J v ∥₁ = λ t. rw (e.base, e.since, e.plant) at (e.headline t) in
     let none : J.batches ≡ [] = e.journal ∙ none_out x.journal.batches x.journal.batches x.placed x.current refl c.requires.unplaced c.requires.none ∙ c.requires.journal in
     rw (e.status, e.base, e.since, e.plant)
     (reset_ended {T = Unit {0}} P.tells x.base.config x.book c.args.asked.now x.base J x.since v v x.pair.first.alive x.pair.first.alive x.pair.second.alive x.pair.second.alive no_node.NoMemory c.requires.base_sound c.requires.since c.requires.some c.requires.there1 c.requires.there2 head
-    (reset_none P.tells (begun v.now nobody restart_entries) J.batches x.pair.first.alive x.pair.second.alive v none))
+    (reset_none P.tells J.batches x.pair.first.alive x.pair.first.alive x.pair.second.alive x.pair.second.alive v v (settle_none P.tells x.pair.first.alive x.pair.second.alive v c.requires.some) none))
 
 pub returns-in_default-clause-cause : goal.returns-in_default-clause-cause
 returns-in_default-clause-cause g c =
@@ -89,7 +88,7 @@ returns-in-Err-clause-steps g c =
     let e = c.ended-in-Err.ensures in
     let k = c.in-Err.ensures in
     let J = c.ended-in-Err.result.journal in
-    let head : P.tells → ∥ Headline reads x.base x.since J w ∥₁ = λ t. rw (e.base, e.since, e.plant, k.base, k.since) at (e.headline t) in
+    let head : P.tells → ∥ Headline form_reads x.base x.since J w ∥₁ = λ t. rw (e.base, e.since, e.plant, k.base, k.since) at (e.headline t) in
     rw (e.status, c.status_of.ensures, e.base, e.since, e.plant, k.base, k.since)
     (reset_ended {T = Unit {0}} P.tells x.base.config x.book c.args.asked.now x.base J x.since v w x.pair.first.alive y.pair.first.alive x.pair.second.alive y.pair.second.alive c.in-Err.why c.requires.base_sound c.requires.since c.requires.some c.requires.there1 c.requires.there2 head
     (rw e.journal k.reset))
@@ -104,7 +103,7 @@ returns-in-Err-clause-cause g c =
     let y = c.restart.new.self.complex in
     let e = c.ended-in-Err.ensures in
     rw (e.status, c.status_of.ensures, e.plant)
-    (reset_caused {T = Unit {0}} P.tells (begun (P.view x.plant).now nobody restart_entries) _ x.pair.first.alive y.pair.first.alive x.pair.second.alive y.pair.second.alive (P.view x.plant) (P.view y.plant) c.in-Err.why c.in-Err.ensures.reset y.first_lost y.second_lost)
+    (reset_caused {T = Unit {0}} P.tells _ x.pair.first.alive y.pair.first.alive x.pair.second.alive y.pair.second.alive (P.view x.plant) (P.view y.plant) c.in-Err.why c.in-Err.ensures.reset y.first_lost y.second_lost)
 
 pub restart-requires-clause-free : goal.restart-requires-clause-free
 restart-requires-clause-free g c = c.requires.lock.holder
@@ -143,7 +142,7 @@ play_asked-requires-clause-kept g c =
     let k = c.in-Ok-restart.ensures in
     let out = none_out y.journal.batches y.journal.batches y.placed y.current refl k.at_lock.unplaced k.at_lock.none in
     let r = k.reset.ends.0 in
-    one_kept_now (begun (P.view x.plant).now nobody restart_entries) r.0 (P.view y.plant).now y.journal.batches (sym out ∙ r.3) r.2
+    one_kept_now (restart_at r.0) r.1 (P.view y.plant).now y.journal.batches (sym out ∙ r.5) r.4
 
 pub play_asked-requires-clause-quiet : goal.play_asked-requires-clause-quiet
 play_asked-requires-clause-quiet g c told =
@@ -173,8 +172,8 @@ returns-in-Ok-restart-clause-steps g c =
     let play : IsPlay P.tells (turns_from z.base.config x.book seen c.args.asked.now) z.status z.base y.journal.batches z.journal z.since w (P.view z.plant) =
     subst (λ (b : Book). IsPlay P.tells (turns_from z.base.config b seen c.args.asked.now) z.status z.base y.journal.batches z.journal z.since w (P.view z.plant)) k.book played.1 in (
       seen,
-      warm_steps v w (P.view z.plant) k.reset.course.goes d.goes P.tells (turns_from z.base.config x.book seen c.args.asked.now) z.status z.base (begun v.now nobody restart_entries) r.0 y.journal.batches z.journal z.since (sym out ∙ r.3)
-          (record { by = refl; entries = refl; began = omega (arith, since) }) r.1 r.2 (omega (arith, since, k.reset.course.goes.later)) k.reset.loses (λ t. (k.reset.apart t).console) (λ t. kept_on v w (k.reset.apart t).others) play,
+      warm_steps v w (P.view z.plant) k.reset.course.goes d.goes P.tells (turns_from z.base.config x.book seen c.args.asked.now) z.status z.base (restart_at r.0) r.1 y.journal.batches z.journal z.since (sym out ∙ r.5)
+          (record { by = refl; entries = refl; began = omega (arith, since, r.2) }) r.3 r.4 (omega (arith, since, k.reset.course.goes.later)) k.reset.loses (λ t. (k.reset.apart t).console) (λ t. kept_on v w (k.reset.apart t).others) (λ t. (k.reset.apart t).papers) play,
     )
 
 pub returns-in-Ok-restart-clause-goes : goal.returns-in-Ok-restart-clause-goes

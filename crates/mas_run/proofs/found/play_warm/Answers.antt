@@ -9,7 +9,7 @@ use Rattle.mas_types.specs.declared.queues.Queue.{Queue}
 use Rattle.queue_tables.specs.Telling.{Tell}
 use Rattle.queue_tables.proofs.OrderLemmas.{sound_orders}
 use Rattle.mas_complex.specs.Texts.{HasTexts, lost_now, spools_at}
-use Rattle.ckpt_copy.specs.Areas.{reads, areas_size}
+use Rattle.ckpt_form.specs.Form.{form_reads, form_needs, form_room}
 use Rattle.ckpt_copy.specs.Meanwhile.{SameSides}
 use Rattle.ckpt_copy.specs.Moments.{goes_on}
 use Rattle.ckpt_copy.specs.Pages.{bytes_of}
@@ -27,10 +27,11 @@ use Rattle.script_input.specs.Played.{sysa}
 use Rattle.member_node.specs.Calls.{console_now}
 use Rattle.mas_run.specs.Turns.{Sight, turns_of}
 use Rattle.mas_run.proofs.LockLemmas.{begins_open}
-use Rattle.mas_run.specs.Runs.{HasSteps, areas_room}
+use Rattle.mas_run.specs.Runs.{HasSteps}
 use Rattle.mas_run.proofs.RunLemmas.{steps_since}
-use Rattle.mas_run.proofs.WarmLemmas.{texts_later, found_drawn, found_begun, not_source, not_text, play_not_text, play_not_source, play_begins, not_begun, why_not_lost, not_started, start_caused, starts_first, start_causes, held_areas, held_until, held_whole, no}
+use Rattle.mas_run.proofs.WarmLemmas.{texts_later, found_drawn, found_begun, not_source, not_text, play_not_text, play_not_source, play_begins, not_begun, why_not_lost, not_started, start_caused, starts_first, start_causes, held_until, held_whole, no}
 use Rattle.mas_run.proofs.ScriptLemmas.{roomy_later}
+use Rattle.mas_run.proofs.PaperLemmas.{papers_of}
 use Rattle.mas_run.proofs.found.play_warm.Goals as goal
 
 pub returns-in-Err-clause-no_source : goal.returns-in-Err-clause-no_source
@@ -42,7 +43,7 @@ returns-in-Err-clause-no_text g c = rw (c.unbegun.ensures.status, c.status_of_st
 pub returns-in-Err-clause-unstarted : goal.returns-in-Err-clause-unstarted
 returns-in-Err-clause-unstarted g c none = rw (c.unbegun.ensures.status, c.status_of_start.ensures, c.unbegun.ensures.plant)
     (not_started g.P.Plant.tells c.in-Err.field-0.why (g.P.Plant.view c.args.plant) (g.P.Plant.view c.in-Err.field-0.plant) c.in-Err.ensures.cause c.in-Err.ensures.lost
-    (λ told. held_areas _ (g.P.Plant.view c.args.plant) (g.P.Plant.view c.in-Err.field-0.plant) (λ copy. refl) (c.in-Err.ensures.held told)))
+    (λ told. c.in-Err.ensures.held told))
 
 pub returns-in-Err-clause-cause : goal.returns-in-Err-clause-cause
 returns-in-Err-clause-cause g c = rw (c.unbegun.ensures.status, c.status_of_start.ensures, c.unbegun.ensures.plant)
@@ -57,17 +58,17 @@ returns-in-Err-clause-untouched g c none = rw (c.unbegun.ensures.status, c.statu
 
 pub returns-in-Err-clause-unsaid : goal.returns-in-Err-clause-unsaid
 returns-in-Err-clause-unsaid g c told none = rw c.unbegun.ensures.plant
-    (held_whole _ (g.P.Plant.view c.args.plant) (g.P.Plant.view c.in-Err.field-0.plant) (c.in-Err.ensures.held told)).0
+    (held_whole (g.P.Plant.view c.args.plant) (g.P.Plant.view c.in-Err.field-0.plant) (c.in-Err.ensures.held told)).0
 
 pub returns-in-Err-clause-loses : goal.returns-in-Err-clause-loses
 returns-in-Err-clause-loses g c none ne d = rw c.unbegun.ensures.plant
     (⊎_elim (λ e. absurd (ne (c.unbegun.ensures.status ∙ c.status_of_start.ensures ∙ rw e refl))) (λ other. (c.in-Err.ensures.looked other).1 d) (why_not_lost c.in-Err.field-0.why))
 
 pub returns-in-Err-clause-volumes : goal.returns-in-Err-clause-volumes
-returns-in-Err-clause-volumes g c told none = rw c.unbegun.ensures.plant (held_whole _ (g.P.Plant.view c.args.plant) (g.P.Plant.view c.in-Err.field-0.plant) (c.in-Err.ensures.held told)).1
+returns-in-Err-clause-volumes g c told none = rw c.unbegun.ensures.plant (held_whole (g.P.Plant.view c.args.plant) (g.P.Plant.view c.in-Err.field-0.plant) (c.in-Err.ensures.held told)).1
 
 pub returns-in-Err-clause-unprinted : goal.returns-in-Err-clause-unprinted
-returns-in-Err-clause-unprinted g c told none = rw c.unbegun.ensures.plant (held_whole _ (g.P.Plant.view c.args.plant) (g.P.Plant.view c.in-Err.field-0.plant) (c.in-Err.ensures.held told)).2
+returns-in-Err-clause-unprinted g c told none = rw c.unbegun.ensures.plant (held_whole (g.P.Plant.view c.args.plant) (g.P.Plant.view c.in-Err.field-0.plant) (c.in-Err.ensures.held told)).2
 
 pub returns-in-Err-clause-goes : goal.returns-in-Err-clause-goes
 returns-in-Err-clause-goes g c = rw c.unbegun.ensures.plant c.in-Err.ensures.goes
@@ -212,7 +213,7 @@ returns-clause-room g c begun =
     let s = c.in-Ok.ensures.started in
     let t = c.in-Ok.found.tables in
     let base : Tell c.in-Ok.found.tables c.play_reset.result.base = subst (Tell c.in-Ok.found.tables) (sym c.play_reset.ensures.base) s.tells_base in
-    let many : areas_size (length c.in-Ok.found.pages) ≡ areas_size (page_count c.play_reset.result.base.config) = ap areas_size s.usable.0.spell.count ∙ ap (λ (k : Config). areas_size (page_count k)) (sym base.config) in
+    let many : form_needs (length c.in-Ok.found.pages) ≡ form_needs (page_count c.play_reset.result.base.config) = ap form_needs s.usable.0.spell.count ∙ ap (λ (k : Config). form_needs (page_count k)) (sym base.config) in
     (subst (λ (n : ℕ). n ≤ (P.view c.args.plant).size Ckpt1) many s.large1, subst (λ (n : ℕ). n ≤ (P.view c.args.plant).size Ckpt2) many s.large2)
 
 pub returns-clause-roomy : goal.returns-clause-roomy
@@ -255,19 +256,20 @@ returns-clause-run g c begun =
             (subst (λ (k : Config). HasTexts (lost_now v2) (spools_at v2 v1.now) k.groups x.base) (sym s.tells_base.config) (texts_later v1 v2 w.tables.config.groups x.base goes (s.texts t))));
         given = λ t steady.
             let here : IsSteady v0 v1 = steady_first v0 v1 v2 s.starts.goes goes steady in
-            let was : AreGiven v0 w.tables.config.groups x.base = given_before w.tables.config.groups x.base (IsHeld reads (disk_now v0 Ckpt1) (bytes_of w.pages)) (IsHeld reads (disk_now v0 Ckpt2) (bytes_of w.pages)) v0 v1 (s.held t) here (s.given t here) in
+            let was : AreGiven v0 w.tables.config.groups x.base = given_before w.tables.config.groups x.base (IsHeld form_reads (disk_now v0 Ckpt1) (bytes_of w.pages)) (IsHeld form_reads (disk_now v0 Ckpt2) (bytes_of w.pages)) v0 v1 (s.held t) here (s.given t here) in
             subst (λ (Q : Queue). AreGiven v0 Q.config.groups Q) (sym base0) (subst (λ (k : Config). AreGiven v0 k.groups x.base) (sym s.tells_base.config) was);
-        found = λ t. rw since (found_later reads v0 v1 v2 (mark_of v1) (mark_of v1) (bytes_of w.pages) (gone_later Ckpt1 v0 v1 v2 (mark_of v1) (omega arith) goes) (gone_later Ckpt2 v0 v1 v2 (mark_of v1) (omega arith) goes) (s.found t));
+        found = λ t. rw since (found_later form_reads v0 v1 v2 (mark_of v1) (mark_of v1) (bytes_of w.pages) (gone_later Ckpt1 v0 v1 v2 (mark_of v1) (omega arith) goes) (gone_later Ckpt2 v0 v1 v2 (mark_of v1) (omega arith) goes) (s.found t));
         one = s.one;
-        kept1 = λ t. rw since (⊎_elim inl (λ y. inr (unfit_later reads Ckpt1 v0 v1 v2 (mark_of v1) (mark_of v1) areas_room w.pages (gone_later Ckpt1 v0 v1 v2 (mark_of v1) (omega arith) goes) y.1)) (s.kept1 t));
+        kept1 = λ t. rw since (⊎_elim inl (λ y. inr (unfit_later form_reads Ckpt1 v0 v1 v2 (mark_of v1) (mark_of v1) (form_room (disk_now v0 Ckpt1).bytes) w.pages (gone_later Ckpt1 v0 v1 v2 (mark_of v1) (omega arith) goes) y)) (s.kept1 t));
         held = λ t. rw since (held_until v0 v1 v2 (bytes_of w.pages) goes (s.held t));
-        kept2 = λ t. rw since (⊎_elim inl (λ y. inr (unfit_later reads Ckpt2 v0 v1 v2 (mark_of v1) (mark_of v1) areas_room w.pages (gone_later Ckpt2 v0 v1 v2 (mark_of v1) (omega arith) goes) y.1)) (s.kept2 t));
+        kept2 = λ t. rw since (⊎_elim inl (λ y. inr (unfit_later form_reads Ckpt2 v0 v1 v2 (mark_of v1) (mark_of v1) (form_room (disk_now v0 Ckpt2).bytes) w.pages (gone_later Ckpt2 v0 v1 v2 (mark_of v1) (omega arith) goes) y)) (s.kept2 t));
       };
       sound = subst IsSound (sym base0) s.base_sound;
       moment = (omega (arith, since, s.starts.goes.later), omega (arith, since, goes.later));
       fresh = λ t. rw (base0, since) (∥∥₁_map (f.fresh t) (λ k. rw f.since at (k v2 goes)));
+      formatted = λ cold. absurd (cc);
       quiet = λ t. ap (λ (n : ℕ). (v2.world n).console) since ∙ ap (λ (u : World). u.console) (goes.past v1.now (omega arith)) ∙ quiet t;
       dry = λ t. rw since (subst (λ (u : World). SameSides (v0.world v0.now) u) (sym (goes.past v1.now (omega arith))) ((s.held t).sides v1.now s.starts.goes.later (omega arith)));
       seen = played.0;
-      steps = steps_since v0 v1 v2 s.starts.goes goes false P.tells (turns_of z.base.config played.0 script.steps) z.status z.base z.journal z.since v1.loses quiet (λ t. (s.held t).volumes) played.1;
+      steps = steps_since v0 v1 v2 s.starts.goes goes false P.tells (turns_of z.base.config played.0 script.steps) z.status z.base z.journal z.since v1.loses quiet (λ t. (s.held t).volumes) (λ t. papers_of v0 v1 (s.held t).sides) played.1;
     }

@@ -1,7 +1,7 @@
 use Rattle.std.proofs.Common.{List, subst, sym}
 use Rattle.mas_types.specs.declared.journals.Batch.{Batch}
 use Rattle.mas_types.specs.declared.queues.Queue.{Queue}
-use Rattle.ckpt_copy.specs.Areas.{reads}
+use Rattle.ckpt_form.specs.Form.{form_reads}
 use Rattle.mas_complex.specs.Headline.{Headline}
 use Rattle.mas_complex.specs.Journals.{kept_all}
 use Rattle.mas_complex.specs.Meaning.{run}
@@ -21,7 +21,7 @@ returns-clause-play g c =
     let d = c.play_steps-answer.ensures in
     let J = c.ended.result.journal in
     let from : Queue = run x.base (kept_all x.journal.batches) in
-    let head : P.tells → ∥ Headline reads x.base x.since J w ∥₁ = λ t. rw (e.base, e.since, e.plant, d.base, d.since) at (e.headline t) in
+    let head : P.tells → ∥ Headline form_reads x.base x.since J w ∥₁ = λ t. rw (e.base, e.since, e.plant, d.base, d.since) at (e.headline t) in
     let has : HasPlay P.tells from x.base.config x.book c.args.asked.now x.journal.batches J.batches x.pair.first.alive y.pair.first.alive x.pair.second.alive y.pair.second.alive v w c.play_steps-answer.result =
     subst (λ (bs : List Batch). HasPlay P.tells from x.base.config x.book c.args.asked.now x.journal.batches bs x.pair.first.alive y.pair.first.alive x.pair.second.alive y.pair.second.alive v w c.play_steps-answer.result) (sym e.journal) d.played in
     rw (e.status, c.status_of.ensures, e.base, e.since, e.plant, d.base, d.since)

@@ -1,12 +1,10 @@
-use Rattle.std.proofs.Common.{◌≡◌, ◌∙◌, ℕ, min, true, false, List, Err, length, sym, ap, subst, arith}
+use Rattle.std.proofs.Common.{◌≡◌, ◌∙◌, ℕ, min, true, false, List, Err, length, refl, sym, ap, subst, arith}
 use Rattle.std.proofs.Math.Logic.{∥∥₁_map}
 use Rattle.mas_types.specs.declared.ids.Dev.TheVariants.{Ckpt1, Ckpt2}
 use Rattle.mas_types.specs.declared.queues.Queue.{Queue}
 use Rattle.spool_disk.specs.View.{View, World, disk_now}
 use Rattle.spool_disk.specs.Acts.{Goes}
-use Rattle.ckpt_copy.specs.Areas.{reads}
-use Rattle.ckpt_copy.specs.AreaStates.{Rests, Holds}
-use Rattle.ckpt_copy.specs.Images.{area_rests_now}
+use Rattle.ckpt_form.specs.Form.{form_count, form_holds, form_reads, form_rests, form_rests_now, form_rests_reads}
 use Rattle.ckpt_copy.specs.Meanwhile.{SameSides}
 use Rattle.ckpt_copy.specs.Moments.{goes_on}
 use Rattle.ckpt_copy.specs.Pages.{bytes_of}
@@ -24,19 +22,21 @@ use Rattle.member_steps.specs.Steps.{AreAllKept}
 use Rattle.member_steps.proofs.ReadLemmas.{low_written, told_sound}
 use Rattle.member_node.specs.Copies.{RestsAt}
 use Rattle.ckpt_pages.specs.declared.tables.Tables.{Tables}
+use Rattle.ckpt_pages.specs.Checkpoints.{IsCheckpoint}
 use Rattle.mas_run.specs.Runs.{IsPlay}
 use Rattle.mas_run.specs.Statuses.{IsCausedFrom}
 use Rattle.script_input.specs.Played.{sysa}
 use Rattle.mas_run.specs.Turns.{Sight, turns_from, turns_of}
 use Rattle.mas_run.proofs.LockLemmas.{begins_open}
 use Rattle.mas_types.specs.Limits.{members_most}
-use Rattle.mas_run.proofs.RunLemmas.{begun_empty, caused_unformed, cold_steps, steps_since, none_kept, caused_since, formed_copy, empty_texts, low_empty, orders_empty, sound_base, sound_empty, told_empty}
+use Rattle.mas_run.proofs.RunLemmas.{begun_empty, caused_unformed, cold_steps, steps_since, none_kept, caused_since, formed_copy, formed_images, empty_texts, low_empty, orders_empty, sound_base, sound_empty, told_empty}
 use Rattle.mas_run.proofs.ScriptLemmas.{roomy_later}
 use Rattle.mas_run.proofs.VolumeLemmas.{kept_on}
 use Rattle.mas_run.proofs.WarmLemmas.{no, play_begins, play_not_text}
 use Rattle.std.proofs.lemmas.List.Elements.{All-weaker}
 use Rattle.ckpt_pages.specs.Shape.{IsRoute}
 use Rattle.script_laws.specs.Limits.{IsRoute as IsScriptRoute}
+use Rattle.mas_run.proofs.PaperLemmas.{papers_of}
 use Rattle.mas_run.proofs.play.play_cold.Goals as goal
 
 pub make-complex-requires-clause-begins : goal.make-complex-requires-clause-begins
@@ -49,9 +49,9 @@ make-complex-requires-clause-begins g c told =
     let routes = c.args.script.now.routes in
     let told_base : Tell k.tables c.in-Ok.base = told_empty config routes k.tables c.in-Ok.ensures.tables c.in-Ok.base c.in-Ok.ensures.base (c.law_of_told_queues.ensures.empty config routes) in
     let stand : StandFor c.in-Ok.base (bytes_of k.pages) = drawn_stand k.tables k.level k.levels k.pages c.in-Ok.base c.in-Ok.ensures.drawn (orders_empty config routes k.tables c.in-Ok.ensures.tables) told_base in
-    let first = formed_copy c.in-Ok.base v.now (λ pages disk. Rests n.first.copy.pages n.first.copy.second n.first.copy.stale pages disk) (λ was next disk. Holds n.first.copy.pages n.first.copy.second n.first.copy.stale was next disk) n.first.alive (disk_now v Ckpt1) (bytes_of k.pages)
+    let first = formed_copy c.in-Ok.base v.now (form_rests n.first.copy) (form_holds n.first.copy) n.first.alive (disk_now v Ckpt1) (bytes_of k.pages)
     (λ is. rw c.as_slice.ensures at (f.formed1 told is)) (λ not lt. f.gone1 told c.new-pair.ensures.alive.0 not lt) in
-    let second = formed_copy c.in-Ok.base v.now (λ pages disk. Rests n.second.copy.pages n.second.copy.second n.second.copy.stale pages disk) (λ was next disk. Holds n.second.copy.pages n.second.copy.second n.second.copy.stale was next disk) n.second.alive (disk_now v Ckpt2) (bytes_of k.pages)
+    let second = formed_copy c.in-Ok.base v.now (form_rests n.second.copy) (form_holds n.second.copy) n.second.alive (disk_now v Ckpt2) (bytes_of k.pages)
     (λ is. rw c.as_slice.ensures at (f.formed2 told is)) (λ not lt. f.gone2 told c.new-pair.ensures.alive.1 not lt) in
     ∣ record { pages = bytes_of k.pages; stands = record { at_level = drawn_level k.tables k.level k.levels k.pages c.in-Ok.ensures.drawn; queue = stand }; texts = empty_texts c.args.script.now.config c.args.script.now.routes (lost_now v) (spools_at v v.now) c.in-Ok.base c.in-Ok.ensures.base; first_at = first; second_at = second } ∣₁
 
@@ -90,7 +90,7 @@ play_asked-requires-clause-calm1 g c =
       before = m.places.0;
       as_many = λ is.
           let alive : n.alive ≡ true = sym (ap (λ p. p.first.alive) m.pair) ∙ is in
-          c.in-Ok.ensures.room ∙ ap length (sym c.as_slice.ensures) ∙ sym (ap (λ p. p.first.copy.pages) m.pair ∙ c.in-Ok-form.ensures.count1 alive);
+          c.in-Ok.ensures.room ∙ ap length (sym c.as_slice.ensures) ∙ sym (ap (λ p. form_count p.first.copy) m.pair ∙ c.in-Ok-form.ensures.count1 alive);
     }
 
 pub play_asked-requires-clause-low1 : goal.play_asked-requires-clause-low1
@@ -101,17 +101,17 @@ play_asked-requires-clause-low1 g c =
     let n = c.form.new.self.first in
     let y = c.make-complex.result in
     let m = c.make-complex.ensures in
-    let rests : RestsAt P.tells y.pair.first.alive y.first y.pair.first.copy.pages k.pages (reads (disk_now (P.view y.plant) Ckpt1).bytes) = record {
+    let rests : RestsAt P.tells y.pair.first.alive y.first (form_count y.pair.first.copy) k.pages (form_reads (disk_now (P.view y.plant) Ckpt1).bytes) = record {
       before = m.places.0;
       as_many = λ is.
           let alive : n.alive ≡ true = sym (ap (λ p. p.first.alive) m.pair) ∙ is in
-          ap length (sym c.as_slice.ensures) ∙ sym (ap (λ p. p.first.copy.pages) m.pair ∙ c.in-Ok-form.ensures.count1 alive);
+          ap length (sym c.as_slice.ensures) ∙ sym (ap (λ p. form_count p.first.copy) m.pair ∙ c.in-Ok-form.ensures.count1 alive);
       reads = λ told is.
           let alive : n.alive ≡ true = sym (ap (λ p. p.first.alive) m.pair) ∙ is in
-          ap (λ p. reads (disk_now (P.view p) Ckpt1).bytes) m.plant
-          ∙ area_rests_now n.copy.pages n.copy.second n.copy.stale (bytes_of k.pages) (disk_now v Ckpt1) (rw c.as_slice.ensures at (c.in-Ok-form.ensures.formed1 told alive));
+          ap (λ p. form_reads (disk_now (P.view p) Ckpt1).bytes) m.plant
+          ∙ form_rests_now n.copy (bytes_of k.pages) (disk_now v Ckpt1) (rw c.as_slice.ensures at (c.in-Ok-form.ensures.formed1 told alive));
     } in
-    low_written P.tells y.pair.first.alive y.first y.pair.first.copy.pages k.tables.config (length y.journal.batches) k (reads (disk_now (P.view y.plant) Ckpt1).bytes) c.in-Ok.ensures.drawn
+    low_written P.tells y.pair.first.alive y.first (form_count y.pair.first.copy) k.tables.config (length y.journal.batches) k (form_reads (disk_now (P.view y.plant) Ckpt1).bytes) c.in-Ok.ensures.drawn
     (λ told. low_empty c.args.script.now.config c.args.script.now.routes k.tables c.in-Ok.ensures.tables (length y.journal.batches) c.in-Ok.ensures.drawn.spelling.shape) rests
 
 pub play_asked-requires-clause-calm2 : goal.play_asked-requires-clause-calm2
@@ -122,7 +122,7 @@ play_asked-requires-clause-calm2 g c =
       before = m.places.1;
       as_many = λ is.
           let alive : n.alive ≡ true = sym (ap (λ p. p.second.alive) m.pair) ∙ is in
-          c.in-Ok.ensures.room ∙ ap length (sym c.as_slice.ensures) ∙ sym (ap (λ p. p.second.copy.pages) m.pair ∙ c.in-Ok-form.ensures.count2 alive);
+          c.in-Ok.ensures.room ∙ ap length (sym c.as_slice.ensures) ∙ sym (ap (λ p. form_count p.second.copy) m.pair ∙ c.in-Ok-form.ensures.count2 alive);
     }
 
 pub play_asked-requires-clause-low2 : goal.play_asked-requires-clause-low2
@@ -133,17 +133,17 @@ play_asked-requires-clause-low2 g c =
     let n = c.form.new.self.second in
     let y = c.make-complex.result in
     let m = c.make-complex.ensures in
-    let rests : RestsAt P.tells y.pair.second.alive y.second y.pair.second.copy.pages k.pages (reads (disk_now (P.view y.plant) Ckpt2).bytes) = record {
+    let rests : RestsAt P.tells y.pair.second.alive y.second (form_count y.pair.second.copy) k.pages (form_reads (disk_now (P.view y.plant) Ckpt2).bytes) = record {
       before = m.places.1;
       as_many = λ is.
           let alive : n.alive ≡ true = sym (ap (λ p. p.second.alive) m.pair) ∙ is in
-          ap length (sym c.as_slice.ensures) ∙ sym (ap (λ p. p.second.copy.pages) m.pair ∙ c.in-Ok-form.ensures.count2 alive);
+          ap length (sym c.as_slice.ensures) ∙ sym (ap (λ p. form_count p.second.copy) m.pair ∙ c.in-Ok-form.ensures.count2 alive);
       reads = λ told is.
           let alive : n.alive ≡ true = sym (ap (λ p. p.second.alive) m.pair) ∙ is in
-          ap (λ p. reads (disk_now (P.view p) Ckpt2).bytes) m.plant
-          ∙ area_rests_now n.copy.pages n.copy.second n.copy.stale (bytes_of k.pages) (disk_now v Ckpt2) (rw c.as_slice.ensures at (c.in-Ok-form.ensures.formed2 told alive));
+          ap (λ p. form_reads (disk_now (P.view p) Ckpt2).bytes) m.plant
+          ∙ form_rests_now n.copy (bytes_of k.pages) (disk_now v Ckpt2) (rw c.as_slice.ensures at (c.in-Ok-form.ensures.formed2 told alive));
     } in
-    low_written P.tells y.pair.second.alive y.second y.pair.second.copy.pages k.tables.config (length y.journal.batches) k (reads (disk_now (P.view y.plant) Ckpt2).bytes) c.in-Ok.ensures.drawn
+    low_written P.tells y.pair.second.alive y.second (form_count y.pair.second.copy) k.tables.config (length y.journal.batches) k (form_reads (disk_now (P.view y.plant) Ckpt2).bytes) c.in-Ok.ensures.drawn
     (λ told. low_empty c.args.script.now.config c.args.script.now.routes k.tables c.in-Ok.ensures.tables (length y.journal.batches) c.in-Ok.ensures.drawn.spelling.shape) rests
 
 pub play_asked-requires-clause-at_lock : goal.play_asked-requires-clause-at_lock
@@ -217,6 +217,9 @@ returns-clause-run g c begun =
     let x = c.make-complex.result in
     let r = c.play_asked.result in
     let w = P.view r.plant in
+    let k = c.in-Ok.member.checkpoint in
+    let n = c.form.new.self in
+    let i = c.in-Ok.ensures in
     let f = c.in-Ok-form.ensures in
     let m = c.make-complex.ensures in
     let e = c.play_asked.ensures in
@@ -239,10 +242,20 @@ returns-clause-run g c begun =
       sound = sound_base c.args.script.now.config c.args.script.now.routes r.base (base ∙ c.in-Ok.ensures.base) c.requires.fits.config c.requires.fits.few;
       moment = (omega (arith, since, f.acted.goes.later), omega (arith, since, goes.later));
       fresh = λ t. rw (base, since) (∥∥₁_map (m.fresh t) (λ k. k w goes));
+      formatted = λ cold t. rw since (record {
+        pages = k.pages;
+        spell = subst (λ (u : Tables). IsCheckpoint k.pages u) i.tables (record { level = k.level; levels = k.levels; fit = i.drawn.spelling; ages = i.drawn.leveled; spell = i.drawn.spelled });
+        at_level = drawn_level k.tables k.level k.levels k.pages i.drawn ∙ i.level;
+        next_order = refl;
+        first = formed_images Ckpt1 (form_rests n.first.copy) (bytes_of k.pages) n.first.alive v1 w goes
+            (λ d. form_rests_reads n.first.copy (bytes_of k.pages) d) (λ is. rw c.as_slice.ensures at (f.formed1 t is)) (λ not lt. f.gone1 t c.new-pair.ensures.alive.0 not lt);
+        second = formed_images Ckpt2 (form_rests n.second.copy) (bytes_of k.pages) n.second.alive v1 w goes
+            (λ d. form_rests_reads n.second.copy (bytes_of k.pages) d) (λ is. rw c.as_slice.ensures at (f.formed2 t is)) (λ not lt. f.gone2 t c.new-pair.ensures.alive.1 not lt);
+      });
       quiet = λ t. ap (λ (n : ℕ). (w.world n).console) since ∙ ap (λ (u : World). u.console) (goes.past v1.now (omega arith)) ∙ quiet t;
       dry = λ t. rw since (subst (λ (u : World). SameSides (v0.world v0.now) u) (sym (goes.past v1.now (omega arith))) ((f.during t).sides v1.now f.acted.goes.later (omega arith)));
       seen = seen;
-      steps = steps_since v0 v1 w f.acted.goes goes true P.tells turns r.status r.base r.journal r.since v1.loses quiet (λ t. kept_on v0 v1 (f.during t).others)
+      steps = steps_since v0 v1 w f.acted.goes goes true P.tells turns r.status r.base r.journal r.since v1.loses quiet (λ t. kept_on v0 v1 (f.during t).others) (λ t. papers_of v0 v1 (f.during t).sides)
           (cold_steps P.tells turns r.status r.base x.journal.batches r.journal r.since v1 w m.journal since goes play);
     }
 

@@ -1,6 +1,10 @@
-use Rattle.std.proofs.Common.{◌≡◌, false, Option, subst}
+use Rattle.std.proofs.Common.{◌≡◌, inr, false, List, Option, ap, subst}
 use Rattle.mas_types.specs.declared.answers.Status.{Status}
-use Rattle.mas_run.specs.Refusals.{Answers, is_refusal}
+use Rattle.script_lang.specs.declared.types.Step.{Step}
+use Rattle.mas_run.specs.Refusals.{Answers, is_refusal, said_by, steps_of}
+use Rattle.mas_run.specs.Statuses.{AreLeftAlone}
+use Rattle.mas_run.specs.Unstarted.{IsNotStarted}
+use Rattle.mas_run.proofs.AloneLemmas.{not_both}
 use Rattle.mas_run.proofs.RefusalLemmas.{answers_said, ends}
 use Rattle.mas_run.proofs.VolumeLemmas.{kept_none}
 use Rattle.mas_run.proofs.WarmLemmas.{not_unplayed}
@@ -16,8 +20,15 @@ returns-in-Ok-clause-complete g c tells none still =
     let old = g.P.Plant.view c.args.plant in
     let answered = answers_said c.args.cold c.args.only (g.S.Source.left c.args.script.now) old c.in-Ok.script answer (c.in-Ok.ensures.said tells) c.play_steps.ensures.refused in
     let fine : is_refusal c.args.cold answer ≡ false = subst (λ (why : Option Status). Answers c.args.cold why answer) none answered in
-    ends c.args.cold answer (g.S.Source.faults c.args.script.now) (g.S.Source.faults c.read_all.new.source) old (g.P.Plant.view c.play_steps.result.plant) fine
-    (λ is. absurd (c.play_steps.ensures.no_source is)) c.play_steps.ensures.cause still
+    let new = g.P.Plant.view c.play_steps.result.plant in
+    let steps = steps_of (said_by c.args.cold c.args.only (g.S.Source.left c.args.script.now)) in
+    let same : steps ≡ c.in-Ok.script.steps = ap steps_of (c.in-Ok.ensures.said tells) in
+    let e = c.play_steps.ensures in
+    ends c.args.cold answer g.P.Plant.tells steps (g.S.Source.faults c.args.script.now) (g.S.Source.faults c.read_all.new.source) old new fine
+    (λ is. absurd (e.no_source is)) e.cause still
+    (λ lost told alone. not_both g.P.Plant.tells told c.in-Ok.script answer c.play_steps.result.base c.play_steps.result.journal c.play_steps.result.since old new c.args.cold
+    (subst (λ (l : List Step). AreLeftAlone l old new) same alone)
+    (λ warm none. subst (λ (s : Status). IsNotStarted g.P.Plant.tells s old new) lost (e.unstarted warm none)) (λ cold none. e.loses none (inr cold)) e.run (e.cause.failed1 lost) (e.cause.failed2 lost))
 
 pub returns-in-Ok-clause-device : goal.returns-in-Ok-clause-device
 returns-in-Ok-clause-device g c cold dev size is = (c.in-Ok.script, c.in-Ok.ensures.said, c.play_steps.ensures.device cold dev size is)

@@ -1,4 +1,4 @@
-use Rattle.std.proofs.Common.{◌≡◌, ◌∙◌, Bool, true, false, Some, map, inr, refl, sym, ap, subst}
+use Rattle.std.proofs.Common.{◌≡◌, ◌∙◌, Bool, true, false, Some, map, inr, refl, sym, ap, subst, arith}
 use Rattle.std.specs.Prelude.{string_bytes}
 use Rattle.mas_run.specs.Refusals.{is_of_script, refusal_before_play}
 use Rattle.mas_run.specs.Runs.{has_begun}
@@ -34,7 +34,7 @@ returns-in-Play-clause-play g c cold is =
     let e = c.play_script.ensures in
     let same : c.in-Play.cold ≡ cold = play_same (task_asked (map string_bytes c.args.words.now)) c.in-Play.cold cold (c.in-Ok.ensures ∙ ap Some c.in-Play.is) is in
     subst (λ (x : Bool). IsPlayed x false (source_of S.tells (S.faults c.args.script.now) (S.faults c.play_script.new.script) left (S.left c.play_script.new.script)) P.tells (r.plant ≡ c.args.plant) r.status r.base r.journal r.since old (P.view r.plant)) same
-    (record { refused = e.refused; words = e.words; device = e.device; formatted = e.formatted; unstarted = e.unstarted; faulted = e.source; untouched = e.untouched; idle = e.idle; unprinted = e.unprinted; volumes = e.volumes; formats = e.formats; loses = e.loses; room = e.room; roomy = e.roomy; read = e.read; run = e.run; complete = e.complete })
+    (record { refused = e.refused; words = e.words; device = e.device; formatted = e.formatted; unstarted = e.unstarted; faulted = e.source; untouched = e.untouched; idle = e.idle; unprinted = e.unprinted; volumes = e.volumes; formats = e.formats; loses = e.loses; room = e.room; roomy = e.roomy; read = e.read; taken = e.taken; run = e.run; complete = e.complete })
 
 pub returns-in-Play-clause-report : goal.returns-in-Play-clause-report
 returns-in-Play-clause-report g c is = absurd (play_not_report (task_asked (map string_bytes c.args.words.now)) c.in-Play.cold (c.in-Ok.ensures ∙ ap Some c.in-Play.is) is)
@@ -88,7 +88,7 @@ returns-in-Format-clause-report g c is = absurd (report_not_format (task_asked (
 pub returns-in-Format-clause-format : goal.returns-in-Format-clause-format
 returns-in-Format-clause-format g c is =
     let e = c.play_script-in-Format.ensures in
-    record { refused = e.refused; words = e.words; device = e.device; formatted = e.formatted; unstarted = e.unstarted; faulted = e.source; untouched = e.untouched; idle = e.idle; unprinted = e.unprinted; volumes = e.volumes; formats = e.formats; loses = e.loses; room = e.room; roomy = e.roomy; read = e.read; run = e.run; complete = e.complete }
+    record { refused = e.refused; words = e.words; device = e.device; formatted = e.formatted; unstarted = e.unstarted; faulted = e.source; untouched = e.untouched; idle = e.idle; unprinted = e.unprinted; volumes = e.volumes; formats = e.formats; loses = e.loses; room = e.room; roomy = e.roomy; read = e.read; taken = e.taken; run = e.run; complete = e.complete }
 
 pub returns-in-Format-clause-check : goal.returns-in-Format-clause-check
 returns-in-Format-clause-check g c is = absurd (format_not_check (task_asked (map string_bytes c.args.words.now)) (c.in-Ok.ensures ∙ ap Some c.in-Format.is) is)
@@ -161,7 +161,7 @@ returns-in-Err-clause-play g c cold is =
     let e = c.unbegun.ensures in
     let memory = e.status ∙ c.status_of_no.ensures ∙ some_memory (task_asked (map string_bytes c.args.words.now)) (task.Play cold) c.in-Err.why c.in-Err.ensures is in
     not_played cold false (source_of S.tells (S.faults c.args.script.now) (S.faults c.args.script.now) left left) P.tells (u.plant ≡ c.args.plant) u.status u.base u.journal u.since old (P.view u.plant) e.unbegun.queue e.plant (ap P.view e.plant)
-    (λ told. free_answer cold (refusal_before_play cold false left old) u.status (inr memory)) (ap is_of_script memory) (λ f. absurd (memory_not_source u.status memory f))
+    (λ told. free_answer cold (refusal_before_play cold false left old) u.status (inr memory)) (ap is_of_script memory) (λ f. absurd (memory_not_source u.status memory f)) (λ told. (0, omega arith, refl))
 
 pub returns-in-Err-clause-report : goal.returns-in-Err-clause-report
 returns-in-Err-clause-report g c is =
@@ -181,7 +181,7 @@ returns-in-Err-clause-format g c is =
     let e = c.unbegun.ensures in
     let memory = e.status ∙ c.status_of_no.ensures ∙ some_memory (task_asked (map string_bytes c.args.words.now)) task.Format c.in-Err.why c.in-Err.ensures is in
     not_played true true (source_of S.tells (S.faults c.args.script.now) (S.faults c.args.script.now) left left) P.tells (u.plant ≡ c.args.plant) u.status u.base u.journal u.since old (P.view u.plant) e.unbegun.queue e.plant (ap P.view e.plant)
-    (λ told. free_answer true (refusal_before_play true true left old) u.status (inr memory)) (ap is_of_script memory) (λ f. absurd (memory_not_source u.status memory f))
+    (λ told. free_answer true (refusal_before_play true true left old) u.status (inr memory)) (ap is_of_script memory) (λ f. absurd (memory_not_source u.status memory f)) (λ told. (0, omega arith, refl))
 
 pub returns-in-Err-clause-check : goal.returns-in-Err-clause-check
 returns-in-Err-clause-check g c is =

@@ -38,9 +38,6 @@ play_locked-requires-clause-untold g c told =
     let Q : Queue = run x.base (kept_all x.journal.batches) in
     c.requires.untold told (entry_of Q c.args.self.now.member.id c.args.step c.in-Ok.given ∷ []) (of_one c.args.self.now.member.id c.args.step (entry_of Q c.args.self.now.member.id c.args.step c.in-Ok.given) c.requires.id (refl, refl))
 
-pub play_locked-requires-clause-orders : goal.play_locked-requires-clause-orders
-play_locked-requires-clause-orders g c = omega (arith, c.requires.orders)
-
 pub play_locked-requires-clause-level : goal.play_locked-requires-clause-level
 play_locked-requires-clause-level g c = omega (arith, c.requires.level)
 

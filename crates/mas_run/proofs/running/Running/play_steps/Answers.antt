@@ -7,7 +7,7 @@ use Rattle.mas_complex.specs.Journals.{kept_all}
 use Rattle.mas_complex.specs.Meaning.{run}
 use Rattle.spool_volumes.specs.Volumes.{AreRoomy}
 use Rattle.member_node.proofs.WriteLemmas.{none_out}
-use Rattle.mas_run.proofs.ScriptLemmas.{book_at_base, book_now, few_here, kept_here, play_done, play_ends, play_more, play_none, roomy_later, step_at_base, untold_here}
+use Rattle.mas_run.proofs.ScriptLemmas.{book_at_base, book_now, kept_here, play_done, play_ends, play_more, play_none, roomy_later, step_at_base, untold_here}
 use Rattle.mas_run.proofs.running.Running.play_steps.Goals as goal
 
 pub loop-step-init : goal.loop-step-init
@@ -73,15 +73,6 @@ play_step-requires-clause-kept g c =
     let y = c.loop-step.self.complex in
     let i = c.loop-step.invariant in
     kept_here P.tells (run x.base (kept_all x.journal.batches)) x.base.config x.book c.args.asked.now c.loop-step.step-index x.journal.batches y.journal.batches x.pair.first.alive y.pair.first.alive x.pair.second.alive y.pair.second.alive (P.view x.plant) (P.view y.plant) i.play c.requires.kept
-
-pub play_step-requires-clause-orders : goal.play_step-requires-clause-orders
-play_step-requires-clause-orders g c =
-    let P = g.P.Plant in
-    let x = c.args.self.now.complex in
-    let y = c.loop-step.self.complex in
-    let i = c.loop-step.invariant in
-    let few = few_here P.tells (run x.base (kept_all x.journal.batches)) x.base.config x.book c.args.asked.now c.loop-step.step-index x.journal.batches y.journal.batches x.pair.first.alive y.pair.first.alive x.pair.second.alive y.pair.second.alive (P.view x.plant) (P.view y.plant) i.play c.requires.may in
-    omega (arith, few, c.requires.fresh, c.requires.few, c.loop-step-test.true)
 
 pub play_step-requires-clause-level : goal.play_step-requires-clause-level
 play_step-requires-clause-level g c = omega (arith, c.loop-step.invariant.level, c.requires.level, c.requires.few, c.loop-step-test.true)

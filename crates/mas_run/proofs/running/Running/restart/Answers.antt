@@ -5,6 +5,7 @@ use Rattle.mas_types.specs.declared.ids.MemberId.{MemberId}
 use Rattle.mas_types.specs.declared.commands.Command.TheVariants.{Restart}
 use Rattle.mas_types.specs.declared.journals.Entry.{Entry}
 use Rattle.mas_types.specs.declared.journals.Batch.{Batch}
+use Rattle.mas_types.specs.declared.journals.Journal.{Journal}
 use Rattle.mas_types.specs.declared.queues.Queue.{Queue}
 use Rattle.mas_types.specs.Ids.{nobody}
 use Rattle.mas_types.specs.declared.ids.Dev.TheVariants.{Ckpt1, Ckpt2}
@@ -20,14 +21,18 @@ use Rattle.member_node.proofs.WriteLemmas.{none_out, queue_kept}
 use Rattle.member_node.specs.Reads.{AreLow}
 use Rattle.member_steps.proofs.ReadLemmas.{calm_rest, low_written, same_many, told_sound}
 use Rattle.member_steps.proofs.StepLemmas.{can_draw, journal_kept, level_most, step_texts}
-use Rattle.mas_run.specs.Resets.{restart_entries}
-use Rattle.mas_run.proofs.ResetLemmas.{low_first, none_untold, reset_done, reset_none, reset_written, restart_begins, restart_own, some_kept, tell_none}
+use Rattle.mas_run.proofs.ResetLemmas.{low_first, none_untold_later, reset_done, reset_none, reset_unsettled, reset_written, restart_begins, restart_own, settle_none, some_kept, tell_none}
 use Rattle.mas_run.proofs.running.Running.restart.Goals as goal
+
+pub make_room-requires-clause-draws : goal.make_room-requires-clause-draws
+make_room-requires-clause-draws g c =
+    let e = c.give_restart.ensures in
+    can_draw c.args.self.now.member.checkpoint c.give_restart.new.member.checkpoint c.requires.at_lock.drawn e.pages e.level e.levels e.config e.spelling
 
 pub ready-requires-clause-may : goal.ready-requires-clause-may
 ready-requires-clause-may g c =
     let same = c.give_restart.ensures.id ∙ c.requires.id in
-    record { holds = c.requires.free ∙ sym same; up = λ some. absurd (omega (arith, some, ap (λ (m : MemberId). m.0) same)) }
+    rw c.make_room.ensures.book (record { holds = c.requires.free ∙ sym same; up = λ some. absurd (omega (arith, some, ap (λ (m : MemberId). m.0) same)) })
 
 pub ready-requires-clause-some : goal.ready-requires-clause-some
 ready-requires-clause-some g c = subst (λ (es : List Entry). 1 ≤ length es) (sym c.in-Ok.ensures.entries) (omega arith)
@@ -44,13 +49,13 @@ ready-requires-clause-draws g c =
     can_draw c.args.self.now.member.checkpoint c.give_restart.new.member.checkpoint c.requires.at_lock.drawn e.pages e.level e.levels e.config e.spelling
 
 pub ready-requires-clause-level : goal.ready-requires-clause-level
-ready-requires-clause-level g c told = c.requires.same_level ∙ sym c.give_restart.ensures.level
+ready-requires-clause-level g c told = c.make_room.ensures.level ∙ c.requires.same_level ∙ sym c.give_restart.ensures.level
 
 pub ready-requires-clause-done : goal.ready-requires-clause-done
 ready-requires-clause-done g c told =
     let x = c.args.self.now.complex in
     let m = c.args.self.now.member in
-    ∣ c.in-Ok.ensures.done (run x.base (kept_all x.journal.batches)) (reset_done x.base x.journal.batches m.batch m.checkpoint c.requires.journal c.requires.at_lock.nothing c.requires.at_lock.drawn c.requires.fit c.requires.orders c.requires.queue) ∣₁
+    rw (c.make_room.ensures.base, c.make_room.ensures.journal) (∣ c.in-Ok.ensures.done (run x.base (kept_all x.journal.batches)) (reset_done x.base x.journal.batches m.batch m.checkpoint c.requires.journal c.requires.at_lock.nothing c.requires.at_lock.drawn c.requires.fit c.requires.orders c.requires.queue) ∣₁)
 
 pub ready-requires-clause-small : goal.ready-requires-clause-small
 ready-requires-clause-small g c = subst (λ (n : ℕ). n + 1 < 2 ^ 63) (c.requires.same_level ∙ sym c.give_restart.ensures.level) c.requires.level
@@ -58,7 +63,7 @@ ready-requires-clause-small g c = subst (λ (n : ℕ). n + 1 < 2 ^ 63) (c.requir
 pub write-requires-clause-may : goal.write-requires-clause-may
 write-requires-clause-may g c =
     let same = c.ready.ensures.id ∙ c.give_restart.ensures.id ∙ c.requires.id in
-    rw c.ready.ensures.book (record { holds = c.requires.free ∙ sym same; up = λ some. absurd (omega (arith, some, ap (λ (m : MemberId). m.0) same)) })
+    rw (c.ready.ensures.book, c.make_room.ensures.book) (record { holds = c.requires.free ∙ sym same; up = λ some. absurd (omega (arith, some, ap (λ (m : MemberId). m.0) same)) })
 
 pub write-requires-clause-own : goal.write-requires-clause-own
 write-requires-clause-own g c =
@@ -73,7 +78,7 @@ write-requires-clause-replied g c told =
     let m = c.args.self.now.member in
     let done : HasDone (run x.base (kept_all x.journal.batches)) c.give_restart.new.member.batch c.give_restart.new.member.checkpoint =
     c.in-Ok.ensures.done (run x.base (kept_all x.journal.batches)) (reset_done x.base x.journal.batches m.batch m.checkpoint c.requires.journal c.requires.at_lock.nothing c.requires.at_lock.drawn c.requires.fit c.requires.orders c.requires.queue) in
-    rw (c.ready.ensures.base, c.ready.ensures.kept, c.in-Ok-ready.ensures.reserved) (∣ done.replied ∣₁)
+    rw (c.ready.ensures.base, c.ready.ensures.kept, c.make_room.ensures.base, c.make_room.ensures.journal, c.in-Ok-ready.ensures.reserved) (∣ done.replied ∣₁)
 
 pub write-requires-clause-allowed : goal.write-requires-clause-allowed
 write-requires-clause-allowed g c told =
@@ -82,74 +87,92 @@ write-requires-clause-allowed g c told =
 
 pub write-requires-clause-texts : goal.write-requires-clause-texts
 write-requires-clause-texts g c told =
-    let x = c.args.self.now.complex in
+    let x = c.make_room.new.complex in
     let m = c.args.self.now.member in
     let v = g.P.Plant.view x.plant in
     let e = c.ready.ensures in
     let Q : Queue = run x.base (kept_all x.journal.batches) in
     rw (e.plant, e.base, e.kept, c.in-Ok-ready.ensures.reserved)
     (∥∥₁_map (c.kept_texts.ensures.kept told) (λ has. step_texts c.law_of_texts.ensures.texts c.law_of_texts.ensures.told (lost_now v) (spools_at v v.now) x.base.config.groups x.base x.base x.journal.batches x.journal.batches
-    m.checkpoint.tables nobody 0 Restart c.give_restart.new.member.batch refl c.requires.sound (tell_none m.checkpoint.tables x.base x.journal.batches c.requires.journal c.requires.queue) refl refl c.in-Ok.ensures.entries has))
+    m.checkpoint.tables nobody 0 Restart c.give_restart.new.member.batch refl c.requires.sound (tell_none m.checkpoint.tables x.base x.journal.batches (ap (λ (j : Journal). j.batches) c.make_room.ensures.journal ∙ c.requires.journal) (rw c.make_room.ensures.base c.requires.queue)) refl refl c.in-Ok.ensures.entries has))
 
 pub write-requires-clause-untold : goal.write-requires-clause-untold
 write-requires-clause-untold g c told =
     let P = g.P.Plant in
+    let x = c.args.self.now.complex in
+    let w = c.make_room.new.complex in
     let y = c.ready.new.complex in
-    none_untold g.C.Copying.reads y.base y.since (P.view y.plant) (entries_reserved y.reserved) (c.ready.ensures.since ∙ c.requires.since ∙ ap (λ p. (P.view p).now) (sym c.ready.ensures.plant))
+    let s = c.in_ok-make_room.ensures.settle in
+    rw c.ready.ensures.plant
+    (none_untold_later g.C.Copying.reads y.base y.since (P.view x.plant) (P.view w.plant) (entries_reserved y.reserved) (c.ready.ensures.since ∙ c.make_room.ensures.since ∙ c.requires.since) s.course.goes (s.apart told).console)
 
 pub returns-in_default-clause-reset : goal.returns-in_default-clause-reset
 returns-in_default-clause-reset g c =
     let P = g.P.Plant in
     let x = c.args.self.now.complex in
-    reset_none P.tells (begun (P.view x.plant).now nobody restart_entries) (end_of x.placed x.current x.journal.batches) x.pair.first.alive x.pair.second.alive (P.view x.plant)
+    reset_none P.tells (end_of x.placed x.current x.journal.batches) x.pair.first.alive x.pair.first.alive x.pair.second.alive x.pair.second.alive (P.view x.plant) (P.view x.plant)
+    (settle_none P.tells x.pair.first.alive x.pair.second.alive (P.view x.plant) c.requires.some)
     (none_out x.journal.batches x.journal.batches x.placed x.current refl c.requires.at_lock.unplaced c.requires.at_lock.none ∙ c.requires.journal)
+
+pub returns-in_err-make_room-clause-reset : goal.returns-in_err-make_room-clause-reset
+returns-in_err-make_room-clause-reset g c =
+    let P = g.P.Plant in
+    let x = c.args.self.now.complex in
+    let w = c.make_room.new.complex in
+    let p = err_from_is_err_and c.from_residual.result c.from_residual.ensures.1 in
+    rw (p.1, p.2)
+    (reset_unsettled P.tells (end_of w.placed w.current w.journal.batches) x.pair.first.alive w.pair.first.alive x.pair.second.alive w.pair.second.alive (P.view x.plant) (P.view w.plant) _ _ refl
+    c.in_err-make_room.ensures.operator c.in_err-make_room.ensures.settle (none_out w.journal.batches w.journal.batches w.placed w.current refl (c.make_room.ensures.placed ∙ c.requires.at_lock.unplaced) (c.make_room.ensures.current ∙ c.requires.at_lock.none) ∙ ap (λ (j : Journal). j.batches) c.make_room.ensures.journal ∙ c.requires.journal))
 
 pub returns-in_default-ready-clause-reset : goal.returns-in_default-ready-clause-reset
 returns-in_default-ready-clause-reset g c =
     let P = g.P.Plant in
     let x = c.args.self.now.complex in
-    let y = c.ready.new.complex in
+    let w = c.make_room.new.complex in
     let e = c.in_default-ready.ensures.err in
     rw (c.ready.ensures.pair, c.ready.ensures.plant, c.ready.ensures.current, e.0, e.2)
-    (reset_none P.tells (begun (P.view x.plant).now nobody restart_entries) (end_of x.placed x.current x.journal.batches) x.pair.first.alive x.pair.second.alive (P.view x.plant)
-    (none_out x.journal.batches x.journal.batches x.placed x.current refl c.requires.at_lock.unplaced c.requires.at_lock.none ∙ c.requires.journal))
+    (reset_none P.tells (end_of w.placed w.current w.journal.batches) x.pair.first.alive w.pair.first.alive x.pair.second.alive w.pair.second.alive (P.view x.plant) (P.view w.plant) c.in_ok-make_room.ensures.settle
+    (none_out w.journal.batches w.journal.batches w.placed w.current refl (c.make_room.ensures.placed ∙ c.requires.at_lock.unplaced) (c.make_room.ensures.current ∙ c.requires.at_lock.none) ∙ ap (λ (j : Journal). j.batches) c.make_room.ensures.journal ∙ c.requires.journal))
 
 pub returns-in_err-write-clause-reset : goal.returns-in_err-write-clause-reset
 returns-in_err-write-clause-reset g c =
     let P = g.P.Plant in
     let x = c.args.self.now.complex in
+    let w = c.make_room.new.complex in
     let z = c.write.new.complex in
     let e = c.ready.ensures in
-    let grown = c.in-Ok-ready.ensures.grown c.requires.at_lock.unplaced in
+    let grown = c.in-Ok-ready.ensures.grown (c.make_room.ensures.placed ∙ c.requires.at_lock.unplaced) in
     let same = e.id ∙ c.give_restart.ensures.id ∙ c.requires.id in
-    let write = rw (same, e.plant, e.pair, c.in-Ok-ready.ensures.reserved, c.in-Ok.ensures.entries) at (c.in_err-write.ensures.write [] grown.0 (grown.1 ∙ ap (λ (bs : List Batch). bs ++ grown.0 ∷ []) c.requires.journal)) in
-    let p = err_from_is_err_and c.from_residual.result c.from_residual.ensures.1 in
-    rw (p.1, p.2) (reset_written P.tells (begun (P.view x.plant).now nobody restart_entries) (end_of z.placed z.current z.journal.batches) x.pair.first.alive z.pair.first.alive x.pair.second.alive z.pair.second.alive (P.view x.plant) (P.view z.plant) _
-    c.requires.some (λ halts. absurd (omega (arith, c.in_err-write.ensures.operator halts, ap (λ (m : MemberId). m.0) same))) write)
+    let write = rw (same, e.plant, e.pair, c.in-Ok-ready.ensures.reserved, c.in-Ok.ensures.entries) at (c.in_err-write.ensures.write [] grown.0 (grown.1 ∙ ap (λ (bs : List Batch). bs ++ grown.0 ∷ []) (ap (λ (j : Journal). j.batches) c.make_room.ensures.journal ∙ c.requires.journal))) in
+    let r = c.from_residual-in_err-write.result in
+    let p = err_from_is_err_and r c.from_residual-in_err-write.ensures.1 in
+    rw (p.1, p.2) (reset_written P.tells (end_of z.placed z.current z.journal.batches) x.pair.first.alive w.pair.first.alive x.pair.second.alive w.pair.second.alive (P.view x.plant) (P.view w.plant) z.pair.first.alive z.pair.second.alive (P.view z.plant) _
+    (λ halts. absurd (omega (arith, c.in_err-write.ensures.operator halts, ap (λ (m : MemberId). m.0) same))) c.in_ok-make_room.ensures.settle write)
 
 pub returns-clause-reset : goal.returns-clause-reset
 returns-clause-reset g c =
     let P = g.P.Plant in
     let x = c.args.self.now.complex in
+    let w = c.make_room.new.complex in
     let z = c.write.new.complex in
     let e = c.ready.ensures in
-    let grown = c.in-Ok-ready.ensures.grown c.requires.at_lock.unplaced in
+    let grown = c.in-Ok-ready.ensures.grown (c.make_room.ensures.placed ∙ c.requires.at_lock.unplaced) in
     let same = e.id ∙ c.give_restart.ensures.id ∙ c.requires.id in
-    let write = rw (same, e.plant, e.pair, c.in-Ok-ready.ensures.reserved, c.in-Ok.ensures.entries) at (c.in_ok-write.ensures.write [] grown.0 (grown.1 ∙ ap (λ (bs : List Batch). bs ++ grown.0 ∷ []) c.requires.journal)) in
-    reset_written P.tells (begun (P.view x.plant).now nobody restart_entries) (end_of z.placed z.current z.journal.batches) x.pair.first.alive z.pair.first.alive x.pair.second.alive z.pair.second.alive (P.view x.plant) (P.view z.plant) (Ok tt)
-    c.requires.some (λ e. absurd (cc)) write
+    let write = rw (same, e.plant, e.pair, c.in-Ok-ready.ensures.reserved, c.in-Ok.ensures.entries) at (c.in_ok-write.ensures.write [] grown.0 (grown.1 ∙ ap (λ (bs : List Batch). bs ++ grown.0 ∷ []) (ap (λ (j : Journal). j.batches) c.make_room.ensures.journal ∙ c.requires.journal))) in
+    reset_written P.tells (end_of z.placed z.current z.journal.batches) x.pair.first.alive w.pair.first.alive x.pair.second.alive w.pair.second.alive (P.view x.plant) (P.view w.plant) z.pair.first.alive z.pair.second.alive (P.view z.plant) (Ok tt)
+    (λ e. absurd (cc)) c.in_ok-make_room.ensures.settle write
 
 pub returns-clause-fresh : goal.returns-clause-fresh
 returns-clause-fresh g c =
     let P = g.P.Plant in
-    let x = c.args.self.now.complex in
+    let x = c.make_room.new.complex in
     let y = c.ready.new.complex in
     let z = c.write.new.complex in
-    let grown = c.in-Ok-ready.ensures.grown c.requires.at_lock.unplaced in
+    let grown = c.in-Ok-ready.ensures.grown (c.make_room.ensures.placed ∙ c.requires.at_lock.unplaced) in
     let b : Batch = begun (P.view y.plant).now c.ready.new.self.id (entries_reserved y.reserved) in
     let journal : z.journal.batches ≡ x.journal.batches ++ fated Kept (P.view z.plant).now b ∷ [] =
     journal_kept x.journal.batches y.journal.batches z.journal.batches grown.0 (fated Kept (P.view z.plant).now b) grown.1 c.in_ok-write.ensures.kept in
-    ap (λ (bs : List Batch). length bs) (journal ∙ ap (λ (bs : List Batch). bs ++ fated Kept (P.view z.plant).now b ∷ []) c.requires.journal)
+    ap (λ (bs : List Batch). length bs) (journal ∙ ap (λ (bs : List Batch). bs ++ fated Kept (P.view z.plant).now b ∷ []) (ap (λ (j : Journal). j.batches) c.make_room.ensures.journal ∙ c.requires.journal))
 
 pub returns-clause-at_lock : goal.returns-clause-at_lock
 returns-clause-at_lock g c =
@@ -190,10 +213,10 @@ pub returns-clause-low1 : goal.returns-clause-low1
 returns-clause-low1 g c =
     let P = g.P.Plant in
     let C = g.C.Copying in
-    let x = c.args.self.now.complex in
+    let x = c.make_room.new.complex in
     let y = c.ready.new.complex in
     let z = c.write.new.complex in
-    let grown = c.in-Ok-ready.ensures.grown c.requires.at_lock.unplaced in
+    let grown = c.in-Ok-ready.ensures.grown (c.make_room.ensures.placed ∙ c.requires.at_lock.unplaced) in
     let b : Batch = begun (P.view y.plant).now c.ready.new.self.id (entries_reserved y.reserved) in
     let n = c.ready.new.self.checkpoint in
     let u = c.give_restart.ensures in
@@ -205,10 +228,10 @@ pub returns-clause-low2 : goal.returns-clause-low2
 returns-clause-low2 g c =
     let P = g.P.Plant in
     let C = g.C.Copying in
-    let x = c.args.self.now.complex in
+    let x = c.make_room.new.complex in
     let y = c.ready.new.complex in
     let z = c.write.new.complex in
-    let grown = c.in-Ok-ready.ensures.grown c.requires.at_lock.unplaced in
+    let grown = c.in-Ok-ready.ensures.grown (c.make_room.ensures.placed ∙ c.requires.at_lock.unplaced) in
     let b : Batch = begun (P.view y.plant).now c.ready.new.self.id (entries_reserved y.reserved) in
     let n = c.ready.new.self.checkpoint in
     let u = c.give_restart.ensures in
@@ -219,7 +242,7 @@ returns-clause-low2 g c =
 pub returns-clause-sound : goal.returns-clause-sound
 returns-clause-sound g c =
     let P = g.P.Plant in
-    let x = c.args.self.now.complex in
+    let x = c.make_room.new.complex in
     let y = c.ready.new.complex in
     let z = c.write.new.complex in
     let m = c.args.self.now.member in
@@ -227,15 +250,15 @@ returns-clause-sound g c =
     let e = c.ready.ensures in
     let k = c.in_ok-write.ensures in
     let Q : Queue = run x.base (kept_all x.journal.batches) in
-    let grown = c.in-Ok-ready.ensures.grown c.requires.at_lock.unplaced in
+    let grown = c.in-Ok-ready.ensures.grown (c.make_room.ensures.placed ∙ c.requires.at_lock.unplaced) in
     let b : Batch = begun (P.view y.plant).now c.ready.new.self.id (entries_reserved y.reserved) in
     let journal : z.journal.batches ≡ x.journal.batches ++ fated Kept (P.view z.plant).now b ∷ [] =
     journal_kept x.journal.batches y.journal.batches z.journal.batches grown.0 (fated Kept (P.view z.plant).now b) grown.1 k.kept in
-    let done : HasDone Q d.batch d.checkpoint = c.in-Ok.ensures.done Q (reset_done x.base x.journal.batches m.batch m.checkpoint c.requires.journal c.requires.at_lock.nothing c.requires.at_lock.drawn c.requires.fit c.requires.orders c.requires.queue) in
+    let done : HasDone Q d.batch d.checkpoint = c.in-Ok.ensures.done Q (reset_done x.base x.journal.batches m.batch m.checkpoint (ap (λ (j : Journal). j.batches) c.make_room.ensures.journal ∙ c.requires.journal) c.requires.at_lock.nothing c.requires.at_lock.drawn c.requires.fit c.requires.orders (rw c.make_room.ensures.base c.requires.queue)) in
     told_sound d.checkpoint.tables (run z.base (kept_all z.journal.batches)) c.in-Ok.ensures.sound
     (subst (Tell d.checkpoint.tables) (queue_kept x.base z.base Q (run Q d.batch) x.journal.batches z.journal.batches (P.view z.plant).now b d.batch (k.base ∙ e.base) refl journal (ap entries_reserved c.in-Ok-ready.ensures.reserved) refl) done.queue)
 
 pub returns-clause-level : goal.returns-clause-level
 returns-clause-level g c =
     let old : ℕ = c.args.self.now.complex.level in
-    subst (λ (n : ℕ). n ≤ old + 1) (sym (c.in_ok-write.ensures.level ∙ ap (level_with c.in-Ok-ready.draft) c.ready.ensures.same_level)) (level_most c.in-Ok-ready.draft old)
+    subst (λ (n : ℕ). n ≤ old + 1) (sym (c.in_ok-write.ensures.level ∙ ap (level_with c.in-Ok-ready.draft) (c.ready.ensures.same_level ∙ c.make_room.ensures.level))) (level_most c.in-Ok-ready.draft old)
