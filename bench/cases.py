@@ -30,7 +30,7 @@ PRINTED = 10
 def backlog(command, where, count):
     """Outputs that wait for their class, and are printed by lines of WORK once the printer takes it: points of how many
     wait and the milliseconds of each output, and how many of them are the program's own."""
-    front, _ = SIZES[102]
+    front = SIZES[102].front
     lines = [front, b"SYSA $TPRT,Q=B,F=STD,L=20\n", *(deck(number, b"A") for number in range(count))]
     lines += [b"SYSA $TPRT,Q=A,F=STD,L=20\n", *[b"SYSA WORK %d\n" % (5 * PRINTED)] * (count // PRINTED)]
     took = in_folder(where, lambda folder: play(command, folder, lines))
@@ -50,7 +50,7 @@ def waiting(command, where, count, cause, classes):
     """Milliseconds of a deck with its work, and of an idle line of WORK, at so many outputs of class A that wait for
     their class or for their forms, where the printer takes these classes."""
     output = b"A" if cause == "class" else b"(A,,PAY)"
-    lines = [SIZES[102][0], b"SYSA $TPRT,Q=%s,F=STD,L=20\n" % classes]
+    lines = [SIZES[102].front, b"SYSA $TPRT,Q=%s,F=STD,L=20\n" % classes]
     lines += [*(deck(number, output) for number in range(count)), *[b"SYSA WORK 1\n"] * 100]
     took = in_folder(where, lambda folder: play(command, folder, lines))
     last = 2 * count + 1
@@ -66,7 +66,7 @@ def small_deck(number):
 def empty(command, where, count):
     """A queue from which each deck is printed and purged before the next: milliseconds a deck of each tenth, and the
     KiB that each deck of the last nine tenths adds."""
-    lines = [SIZES[36][0], *map(small_deck, range(count))]
+    lines = [SIZES[36].front, *map(small_deck, range(count))]
     took = in_folder(where, lambda folder: play(command, folder, lines))
     size = count // 10
     tenths = [1000 * between(took, 2 * size * k or 1, 2 * size * (k + 1)) / size for k in range(10)]
@@ -85,7 +85,7 @@ def long_deck(number):
 
 def fill(command, folder):
     """Fills all groups of the greatest configuration with decks."""
-    front, words, number = SIZES[323][0], ("--cold",), 0
+    front, words, number = SIZES[323].front, ("--cold",), 0
     while True:
         took = play(command, folder, [front, *(long_deck(number + k) for k in range(15))], words)
         front, words, number = b"", (), number + 15
@@ -137,6 +137,6 @@ def starts(command, where, pages):
     """Seconds on the processor of a cold start at a size, and of a warm one."""
 
     def run(folder):
-        return start(command, folder, ("--cold",), SIZES[pages][0]), start(command, folder)
+        return start(command, folder, ("--cold",), SIZES[pages].front), start(command, folder)
 
     return in_folder(where, run)

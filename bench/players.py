@@ -8,6 +8,7 @@ import subprocess
 import sys
 import tempfile
 import time
+from typing import NamedTuple
 
 TOP = os.path.dirname(os.path.dirname(os.path.abspath(__file__)))
 PROGRAM = os.path.join(TOP, "crates", "mas_main", "out", "mas_main")
@@ -15,20 +16,31 @@ PAGE = 4096
 CARDS = [b"EMPLOYEE %06d   NAME OF EMPLOYEE %06d   SALARY %07d.00" % (card, card, card) for card in range(40)]
 
 
-def config(jobs, outputs, groups, volumes=1):
-    """A script's first line, and the pages of a copy of the checkpoint by it."""
-    line = b"CONFIG JOBS=%d,OUTPUTS=%d,GROUPS=%d,VOLUMES=%d\n" % (jobs, outputs, groups, volumes)
-    return line, 3 + -(-jobs // 16) + -(-outputs // 32) + -(-(groups * volumes) // 512)
+class Size(NamedTuple):
+    """A size of the checkpoint: a script's first line, the pages of a copy, and the first pages of outputs and groups.
+    Those of jobs begin with page 3."""
+
+    front: bytes
+    pages: int
+    outputs: int
+    groups: int
 
 
-# Of the sizes of a checkpoint that are played: the least one of note, the default one, a wide one and the greatest.
+def size_of(jobs, outputs, groups, volumes=1):
+    front = b"CONFIG JOBS=%d,OUTPUTS=%d,GROUPS=%d,VOLUMES=%d\n" % (jobs, outputs, groups, volumes)
+    first_output = 3 + -(-jobs // 16)
+    first_group = first_output + -(-outputs // 32)
+    return Size(front, first_group + -(-(groups * volumes) // 512), first_output, first_group)
+
+
+# The sizes that are played: the least one of note, the default one, a wide one and the greatest.
 SIZES = {
-    16: config(64, 128, 2560),
-    36: (b"CONFIG\n", 36),
-    102: config(1008, 1024, 2048),
-    323: config(2048, 4096, 4096, 8),
+    16: size_of(64, 128, 2560),
+    36: size_of(256, 512, 512),
+    102: size_of(1008, 1024, 2048),
+    323: size_of(2048, 4096, 4096, 8),
 }
-assert all(pages == size for size, (_, pages) in SIZES.items())
+assert all(pages == it.pages for pages, it in SIZES.items())
 
 
 def deck(number, output=b"(A,,PAY)"):
@@ -51,11 +63,14 @@ def lines_of(number):
 # The raw floor. An act is (file, place, bytes), or (file,) for a sync; None stands for the console's file.
 
 
+COPIES = ("CKPT1", "CKPT2")
+
+
 def formatting(pages):
-    for copy in ("CKPT1", "CKPT2"):
+    for copy in COPIES:
         yield copy, 0, 1
         yield (copy,)
-        yield copy, 1, 9
+        yield copy, 1, 11
         for page in range(pages):
             yield copy, PAGE * (1 + page), PAGE
         yield (copy,)
@@ -63,18 +78,40 @@ def formatting(pages):
         yield (copy,)
 
 
-def batch(pages, area, is_first):
-    """What keeps a batch: the pages of one area of both copies, behind gates that are closed first."""
-    for copy in ("CKPT1", "CKPT2"):
-        if not is_first:
-            yield copy, 8 + area, 1
+def opened(copy, slot):
+    """A slot's gate is opened or closed."""
+    yield copy, 8 + slot, 1
+    yield (copy,)
+
+
+class Log:
+    """What batches write to both copies, each into the next slot of four. Before a batch for which none is left, the
+    pages that the slots list are written home, and the slots are closed."""
+
+    def __init__(self, pages):
+        self.pages, self.slots = pages, []
+
+    def settle(self):
+        for copy in COPIES:
+            for page in sorted(set().union(*self.slots)):
+                yield copy, PAGE * (1 + page), PAGE
             yield (copy,)
-        for page in range(pages):
-            yield copy, PAGE * (1 + area * pages + page), PAGE
-        yield (copy,)
-    for copy in ("CKPT1", "CKPT2"):
-        yield copy, 8 + area, 1
-        yield (copy,)
+            for slot in range(len(self.slots)):
+                yield from opened(copy, slot)
+        self.slots = []
+
+    def batch(self, *changed):
+        """A batch that changes these pages, and page 0."""
+        if len(self.slots) == 4:
+            yield from self.settle()
+        slot, listed = len(self.slots), {0, *changed}
+        for copy in COPIES:
+            for block in range(1 + len(listed)):
+                yield copy, PAGE * (1 + self.pages + slot * (self.pages + 1) + block), PAGE
+            yield (copy,)
+        for copy in COPIES:
+            yield from opened(copy, slot)
+        self.slots.append(listed)
 
 
 def group(number):
@@ -90,24 +127,41 @@ def acts(decks, pages):
     """All writes and syncs of a run. A deck is two batches with its text between them, and its work four, with its
     output before the last."""
     yield from formatting(pages)
+    log, first_output, first_group = Log(pages), *SIZES[pages][2:]
     for number in range(1, decks + 1):
         entered, worked = lines_of(number)
-        yield from batch(pages, 1, number == 1)
+        job, output = 3 + (number - 1) // 16, first_output + (number - 1) // 32
+        text, printed = (first_group + group // 512 for group in (2 * number - 2, 2 * number - 1))
+        yield from log.batch(job, text)
         yield from group(2 * number - 2)
-        yield from batch(pages, 0, False)
+        yield from log.batch(job, text)
         yield from said(entered)
-        yield from batch(pages, 1, False)
-        yield from batch(pages, 0, False)
-        yield from batch(pages, 1, False)
+        yield from log.batch(job)
+        yield from log.batch(job)
+        yield from log.batch(printed)
         yield from group(2 * number - 1)
-        yield from batch(pages, 0, False)
+        yield from log.batch(job, output, printed)
         yield from said(worked)
+
+
+def written(decks, pages):
+    """The KiB that a run writes to its files for each deck with its work; with the first goes the formatting."""
+    each, sizes, lines = 0, [], 0
+    for act in acts(decks, pages):
+        if act[0] is None:
+            lines += 1
+            if lines % 2 == 0:
+                sizes.append(each / 1024)
+                each = 0
+        elif len(act) == 3:
+            each += act[2]
+    return sizes
 
 
 def play_floor(decks, pages):
     """The bare loop."""
     files = {name: os.open(name, os.O_RDWR | os.O_CREAT, 0o666) for name in ("CKPT1", "CKPT2", "SPOOL1")}
-    bytes_of = {size: b"x" * size for size in (1, 9, PAGE)}
+    bytes_of = {size: b"x" * size for size in (1, 11, PAGE)}
     said_yet = iter(line + b"\n" for number in range(1, decks + 1) for line in lines_of(number))
     for act in acts(decks, pages):
         if len(act) == 1:
@@ -118,13 +172,13 @@ def play_floor(decks, pages):
             os.pwrite(files[act[0]], bytes_of[act[2]], act[1])
 
 
-def seen(command, folder, decks):
-    """The writes and syncs that the program makes for so many decks, and the pages of the checkpoint that it reads,
-    by what `strace` tells."""
+def seen(command, folder, decks, pages):
+    """The writes and syncs that the program makes for so many decks at a size, and the pages of the checkpoint that it
+    reads, by what `strace` tells."""
     log = os.path.join(folder, "calls")
     calls = "trace=openat,fcntl,lseek,read,write,pread64,pwrite64,writev,fsync,fdatasync"
     words = ["strace", "-qq", "-s", "0", "-e", calls, "-o", log, *command, "play", "--cold"]
-    subprocess.run(words, input=script(decks, SIZES[36][0]), stdout=subprocess.DEVNULL, cwd=folder, check=True)
+    subprocess.run(words, input=script(decks, SIZES[pages].front), stdout=subprocess.DEVNULL, cwd=folder, check=True)
     with open(log, encoding="ascii", errors="replace") as file:
         lines = file.readlines()
     names, places, done, read = {1: None}, {}, [], 0
@@ -380,9 +434,8 @@ def in_folder(where, run):
 def taken(player, command, where, played):
     """One run of a player, of so many decks at a size, in a new folder."""
     decks, pages = played
-    front, _ = SIZES[pages]
     if player == "the program":
-        words, given = [*command, "play", "--cold"], script(decks, front)
+        words, given = [*command, "play", "--cold"], script(decks, SIZES[pages].front)
     else:
         words, given = [sys.executable, os.path.abspath(__file__), str(decks), player, str(pages)], b""
     return in_folder(where, lambda folder: Taken(words, given, folder, decks))

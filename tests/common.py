@@ -9,6 +9,14 @@ LAUNCHER = os.path.join(TOP, "mas")
 PROGRAM = os.path.join(TOP, "crates", "mas_main", "out", "mas_main")
 # How long one run of the program may take.
 SECONDS = 120
+# The bytes of a page, and of each other block of a copy.
+PAGE = 4096
+# The byte of an open gate. The gates of a copy follow its byte 8.
+OPEN = 0xA5
+GATES_AT = 8
+# The forms of a copy: two areas of pages, and home pages with a log of four slots.
+AREAS, LOG = 1, 2
+SLOTS = 4
 
 
 def proved_program():
@@ -41,3 +49,30 @@ def first_difference(want, have):
         if want_line != have_line:
             return at + 1, want_line[:200], have_line[:200]
     return None
+
+
+def number_at(held, place, width):
+    """A number as pages and copies have it."""
+    return int.from_bytes(held[place : place + width], "big")
+
+
+def directory_place(copy, slot):
+    """Where the directory of a slot stands in a copy of the log form."""
+    pages = number_at(copy, 2, 2)
+    return PAGE * (1 + pages + slot * (pages + 1))
+
+
+def page_places(copy):
+    """Where each page stands that a sound copy reads as, by its form."""
+    pages = number_at(copy, 2, 2)
+    if copy[1] == AREAS:
+        starts = [PAGE * (1 + area * pages) for area in (0, 1) if copy[GATES_AT + area] == OPEN]
+        first = max(starts, key=lambda start: number_at(copy, start + 8, 8))
+        return [first + PAGE * page for page in range(pages)]
+    places = [PAGE * (1 + page) for page in range(pages)]
+    for slot in range(SLOTS):
+        if copy[GATES_AT + slot] == OPEN:
+            directory = directory_place(copy, slot)
+            for at in range(number_at(copy, directory, 2)):
+                places[number_at(copy, directory + 16 + 2 * at, 2)] = directory + PAGE * (1 + at)
+    return places

@@ -53,7 +53,7 @@ impl Case {
     /// A case in which nothing goes wrong, without lines, over devices that have just room for six pages and four groups.
     pub fn new(alloc: Global) -> Case {
         Case {
-            ckpt: 4096 * 13,
+            ckpt: 4096 * 35,
             volume: 4096 * 4,
             script: Vec::new(alloc),
             next: Vec::new(alloc),

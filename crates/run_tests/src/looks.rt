@@ -17,10 +17,19 @@ const PARTS: [(Part, &[u8]); 4] = [
 ];
 
 /// The bytes of a block.
-const BLOCK: u64 = 4096;
+pub const BLOCK: u64 = 4096;
 
-/// The blocks of a copy: the first one, and both areas of six pages.
-const BLOCKS: u64 = 13;
+/// The pages of a copy, which stand at home in the blocks behind the first one.
+const PAGES: usize = 6;
+
+/// The slots behind them, each a directory and room for an image of each page.
+const SLOTS: usize = 4;
+
+/// The byte of an open gate.
+const OPEN: u8 = 165;
+
+/// No device has more blocks.
+pub const BLOCKS_MOST: u64 = 1024;
 
 /// How many of the jobs are entered, and once more how many there are: after how many batches of decks the queue is.
 pub fn batches_of_decks(jobs: &[Job]) -> u64 {
@@ -46,11 +55,23 @@ fn fated(batches: &[Batch], fate: Fate) -> usize {
     batches.iter().filter(|batch| batch.fate == fate).count()
 }
 
-fn add_status(alloc: Global, line: &mut Vec<u8>, status: &Status) -> Result<(), NoMemory> {
+/// How a run ended.
+pub fn add_status(alloc: Global, line: &mut Vec<u8>, status: &Status) -> Result<(), NoMemory> {
     match status_line(alloc, status)? {
         None => Ok(line.extend_from_slice(b"DONE")?),
         Some(text) => Ok(line.extend_from_slice(text.as_slice())?),
     }
+}
+
+/// Which parts are lost.
+pub fn add_lost(line: &mut Vec<u8>, plant: &MemPlant) -> Result<(), NoMemory> {
+    line.extend_from_slice(b", lost")?;
+    for (part, word) in PARTS {
+        if plant.lost(part) {
+            line.extend_from_slice(word)?;
+        }
+    }
+    Ok(())
 }
 
 // Which parts are lost, what stands on the console from a line on, and what on paper.
@@ -60,12 +81,7 @@ fn add_outside(
     plant: &MemPlant,
     said: usize,
 ) -> Result<(), NoMemory> {
-    line.extend_from_slice(b", lost")?;
-    for (part, word) in PARTS {
-        if plant.lost(part) {
-            line.extend_from_slice(word)?;
-        }
-    }
+    add_lost(line, plant)?;
     line.extend_from_slice(b", says")?;
     add_lines(line, &plant.console_lines(alloc)?, said)?;
     line.extend_from_slice(b", paper")?;
@@ -88,7 +104,7 @@ pub fn add_ended(
 /// A block of a device, where it has that.
 pub fn block(plant: &mut MemPlant, dev: Dev, number: u64) -> Option<[u8; 4096]> {
     let mut into = [0; 4096];
-    if number >= BLOCKS || plant.size(dev) < number * BLOCK + BLOCK {
+    if number >= BLOCKS_MOST || plant.size(dev) < number * BLOCK + BLOCK {
         return None;
     }
     match plant.read(MemberId(0), dev, number * BLOCK, &mut into) {
@@ -97,12 +113,35 @@ pub fn block(plant: &mut MemPlant, dev: Dev, number: u64) -> Option<[u8; 4096]> 
     }
 }
 
-// Both copies have the same pages.
+// In which block each page of a copy stands: at home, or in the last open slot that lists it.
+fn places(plant: &mut MemPlant, dev: Dev) -> Option<[u64; PAGES]> {
+    let head = block(plant, dev, 0)?;
+    let mut places = [1, 2, 3, 4, 5, 6];
+    for slot in 0..SLOTS {
+        if head[8 + slot] != OPEN {
+            continue;
+        }
+        let first = 7 * (slot as u64 + 1);
+        let directory = block(plant, dev, first)?;
+        for at in 0..PAGES {
+            let page = directory[17 + 2 * at] as usize;
+            if at < directory[1] as usize && page < PAGES {
+                places[page] = first + 1 + at as u64;
+            }
+        }
+    }
+    Some(places)
+}
+
+// Both copies read as the same pages.
 fn are_equal(plant: &mut MemPlant) -> bool {
-    for number in 1..BLOCKS {
+    let (Some(first), Some(second)) = (places(plant, Dev::Ckpt1), places(plant, Dev::Ckpt2)) else {
+        return false;
+    };
+    for page in 0..PAGES {
         match (
-            block(plant, Dev::Ckpt1, number),
-            block(plant, Dev::Ckpt2, number),
+            block(plant, Dev::Ckpt1, first[page]),
+            block(plant, Dev::Ckpt2, second[page]),
         ) {
             (Some(first), Some(second)) if first == second => {}
             _ => return false,
@@ -120,8 +159,12 @@ fn write(plant: &mut MemPlant, byte: Option<(Dev, u64, u8)>) {
     }
 }
 
-// The queue that a start finds behind an ended run.
-fn add_left(alloc: Global, line: &mut Vec<u8>, ended: &Ended<MemPlant>) -> Result<(), NoMemory> {
+/// The queue that a start finds behind an ended run.
+pub fn add_left(
+    alloc: Global,
+    line: &mut Vec<u8>,
+    ended: &Ended<MemPlant>,
+) -> Result<(), NoMemory> {
     let left = ended.plant.crash_at(alloc, ended.plant.now(), Choice::Old)?;
     let next = start(alloc, b"", left)?;
     line.extend_from_slice(b", then ")?;

@@ -8,6 +8,7 @@ mod cases;
 mod looks;
 mod modes;
 mod queues;
+mod starts;
 
 use cases::{Case, set};
 use mas_types::NoMemory;

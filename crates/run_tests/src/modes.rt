@@ -44,8 +44,8 @@ impl Told {
         Ok(())
     }
 
-    // The number of a state, which is told where it is a new one.
-    fn state(&mut self, state: Vec<u8>) -> Result<u64, NoMemory> {
+    /// The number of a state, which is told where it is a new one.
+    pub fn state(&mut self, state: Vec<u8>) -> Result<u64, NoMemory> {
         let known = self
             .states
             .as_slice()
@@ -63,8 +63,8 @@ impl Told {
         Ok(at)
     }
 
-    // Tells the stretch, if there is one.
-    fn end(&mut self) -> Result<(), NoMemory> {
+    /// Tells the stretch, if there is one.
+    pub fn end(&mut self) -> Result<(), NoMemory> {
         if self.outcome.len() == 0 {
             return Ok(());
         }
@@ -77,8 +77,8 @@ impl Told {
         Ok(())
     }
 
-    // The outcome of a moment or an act. It goes on with the stretch, or begins one.
-    fn at(&mut self, at: u64, outcome: Vec<u8>) -> Result<(), NoMemory> {
+    /// The outcome of a moment or an act. It goes on with the stretch, or begins one.
+    pub fn at(&mut self, at: u64, outcome: Vec<u8>) -> Result<(), NoMemory> {
         if self.outcome.as_slice() != outcome.as_slice() {
             self.end()?;
             self.from = at;
@@ -208,8 +208,8 @@ fn add_rows(out: &mut Vec<u8>, bytes: &[u8]) -> Result<(), NoMemory> {
     Ok(())
 }
 
-// The moment at which a batch was kept.
-fn kept_at(run: &Ended<MemPlant>, number: u64) -> u64 {
+/// The moment at which a batch was kept.
+pub fn kept_at(run: &Ended<MemPlant>, number: u64) -> u64 {
     let batches = run.journal.batches.as_slice();
     match batches.get(number as usize) {
         Some(batch) => batch.last,
@@ -255,6 +255,7 @@ pub fn play(case: &mut Case, told: &mut Told, word: u8, line: &str) -> Result<()
         b'b' => told.block(case, line),
         b'f' => told.acts(case, false, first, second),
         b'h' => told.acts(case, true, first, second),
+        b'w' => told.starts(case, first),
         _ => told.crashes(case, word, first, second),
     }
 }
