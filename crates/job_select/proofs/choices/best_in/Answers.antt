@@ -1,0 +1,11 @@
+use Rattle.job_select.proofs.BestLemmas.{best_some, best_none, best_not_picked}
+use Rattle.job_select.proofs.choices.best_in.Goals as goal
+
+pub returns-clause-some : goal.returns-clause-some
+returns-clause-some g c = best_some g.T.Ordered.order (g.C.Choice.rank c.args.choice.now) (g.C.Choice.picks c.args.choice.now) c.args.slots.now c.args.chain.now c.requires c.walk.result c.walk.ensures
+
+pub returns-clause-none : goal.returns-clause-none
+returns-clause-none g c = best_none g.T.Ordered.order (g.C.Choice.rank c.args.choice.now) (g.C.Choice.picks c.args.choice.now) c.args.slots.now c.args.chain.now c.requires c.walk.result c.walk.ensures
+
+pub returns-clause-none_picked : goal.returns-clause-none_picked
+returns-clause-none_picked g c = best_not_picked g.T.Ordered.order (g.C.Choice.rank c.args.choice.now) (g.C.Choice.picks c.args.choice.now) c.args.slots.now c.args.chain.now c.requires c.walk.result c.walk.ensures

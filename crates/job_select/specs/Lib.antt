@@ -1,0 +1,5 @@
+pub mod Chains
+pub mod Best
+pub mod Kinds
+pub mod Indexes
+pub mod Examples

@@ -1,0 +1,5 @@
+use Rattle.queue_indexed.proofs.ToldLemmas.{told}
+use Rattle.queue_indexed.proofs.units.running.Goals as goal
+
+pub returns : goal.returns
+returns c = λ Q tell. c.running.ensures Q (told c.args.index.now c.args.tables.now Q c.requires tell)
