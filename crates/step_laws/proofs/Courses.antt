@@ -19,7 +19,11 @@ use Rattle.member_work.specs.Work.{Round, batches_in, closing_behind, closing_by
 use Rattle.step_turns.specs.Batches.{batch_of, cut, is_full}
 use Rattle.step_turns.specs.Courses.{Course, Finds, course_of, hold_then, holder_then, sittings}
 use Rattle.step_turns.specs.Entries.{all_entries}
-use Rattle.step_turns.specs.States.{ForStep, Grant, Holder, State, Told}
+use Rattle.step_turns.specs.declared.states.Grant.{Grant}
+use Rattle.step_turns.specs.declared.states.Holder.{Holder}
+use Rattle.step_turns.specs.declared.states.State.{State}
+use Rattle.step_turns.specs.declared.states.Grant.TheVariants.{ForStep}
+use Rattle.step_turns.specs.declared.states.State.TheVariants.{Told}
 use Rattle.step_turns.specs.Turns.{Turn, after_part, closes_as, turn}
 use Rattle.step_turns.proofs.Cutting.{cut_entries}
 use Rattle.step_turns.proofs.Endings.{told_gives_none}

@@ -23,7 +23,10 @@ use Rattle.member_work.specs.Work.{Round}
 use Rattle.step_turns.specs.Courses.{Course, Finds, course}
 use Rattle.step_turns.specs.Decks.{are_refused, finishing, job_begun, lines_by, opening}
 use Rattle.step_turns.specs.Entries.{all_entries, closes, closing_reply, entry_of, given_in, reply_in}
-use Rattle.step_turns.specs.States.{Away, Deck, Fresh, Holder, SpoolDeck, Told, Work}
+use Rattle.step_turns.specs.declared.states.Holder.{Holder}
+use Rattle.step_turns.specs.declared.states.State.TheVariants.{Away, Fresh, Told}
+use Rattle.step_turns.specs.declared.states.Task.TheVariants.{Deck, Work}
+use Rattle.step_turns.specs.declared.states.Aside.TheVariants.{SpoolDeck}
 use Rattle.step_turns.specs.Turns.{deck_opens}
 use Rattle.step_turns.proofs.Endings.{told_gives_none}
 use Rattle.step_laws.specs.Joins.{CommandIsCut, DeckIsCut, MayLose, WorkIsCut, WorkIsOfLooks, finds_by, finds_lost, holds_for}

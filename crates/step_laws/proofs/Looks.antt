@@ -23,7 +23,12 @@ use Rattle.member_work.specs.Units.{outcome_for, taken_queue}
 use Rattle.member_work.specs.Work.{Round, queue_behind, round_of, round_play, rounds, rounds_by}
 use Rattle.step_turns.specs.Courses.{Finds}
 use Rattle.step_turns.specs.JobEnds.{chunk_end, groups_for_end}
-use Rattle.step_turns.specs.States.{Away, ForStep, Found, Holder, PrintLines, ReadText, SpoolOutputs, nothing_found}
+use Rattle.step_turns.specs.declared.states.Found.{Found}
+use Rattle.step_turns.specs.declared.states.Holder.{Holder}
+use Rattle.step_turns.specs.declared.states.State.TheVariants.{Away}
+use Rattle.step_turns.specs.declared.states.Grant.TheVariants.{ForStep}
+use Rattle.step_turns.specs.declared.states.Aside.TheVariants.{PrintLines, ReadText, SpoolOutputs}
+use Rattle.step_turns.specs.States.{nothing_found}
 use Rattle.step_laws.specs.Joins.{finds_by, found_with}
 use Rattle.step_laws.proofs.Work.{Agrees, reading, rounds_at}
 

@@ -35,7 +35,13 @@ use Rattle.step_turns.specs.Courses.{Course, Finds}
 use Rattle.step_turns.specs.Decks.{are_refused, takes}
 use Rattle.step_turns.specs.Entries.{all_entries, closing_reply, given_in, reply_to}
 use Rattle.step_turns.specs.JobEnds.{chunk_end, drop_groups, ending, groups_for_end, printed_end, taking}
-use Rattle.step_turns.specs.States.{Aside, Away, ForStep, Grant, Holder, PrintLines, Progress, ReadText, Rested, SpoolOutputs}
+use Rattle.step_turns.specs.declared.states.Aside.{Aside}
+use Rattle.step_turns.specs.declared.states.Grant.{Grant}
+use Rattle.step_turns.specs.declared.states.Holder.{Holder}
+use Rattle.step_turns.specs.declared.states.Progress.{Progress}
+use Rattle.step_turns.specs.declared.states.State.TheVariants.{Away, Rested}
+use Rattle.step_turns.specs.declared.states.Grant.TheVariants.{ForStep}
+use Rattle.step_turns.specs.declared.states.Aside.TheVariants.{PrintLines, ReadText, SpoolOutputs}
 use Rattle.step_turns.specs.Turns.{after_part, aside_turn, closes_as, goes_on, goes_on_by, groups_taken, is_spent, job_ends, leaves, lines_printed, next_unit, outputs_stand, prints_output, reads_job, text_read, units_from}
 use Rattle.step_turns.proofs.Given.{run_append}
 use Rattle.step_laws.proofs.Courses.{batches_first, finishes, finishes_closed, finishes_last, finishes_part, finishes_part_closed, keeps_hold, not_idle, one_sitting, works, works_by, works_first, works_full, works_last, works_on, works_part, works_spent, written_first}

@@ -18,7 +18,14 @@ use Rattle.member_work.specs.Looks.{Look, first_look, read_of}
 use Rattle.member_work.specs.Work.{work_batches, work_lines}
 use Rattle.step_turns.specs.Courses.{Course, Finds, course}
 use Rattle.step_turns.specs.Laws.{aside_done}
-use Rattle.step_turns.specs.States.{Aside, Away, Deck, ForStep, Found, Give, Holder, PrintLines, ReadText, SpoolDeck, SpoolOutputs, Work, nothing_found}
+use Rattle.step_turns.specs.declared.states.Aside.{Aside}
+use Rattle.step_turns.specs.declared.states.Found.{Found}
+use Rattle.step_turns.specs.declared.states.Holder.{Holder}
+use Rattle.step_turns.specs.declared.states.State.TheVariants.{Away}
+use Rattle.step_turns.specs.declared.states.Task.TheVariants.{Deck, Give, Work}
+use Rattle.step_turns.specs.declared.states.Grant.TheVariants.{ForStep}
+use Rattle.step_turns.specs.declared.states.Aside.TheVariants.{PrintLines, ReadText, SpoolDeck, SpoolOutputs}
+use Rattle.step_turns.specs.States.{nothing_found}
 
 -- a member that took the lock for this step, with a whole hold
 abbrev pub holds_for : Queue → MemberId → ℕ → Holder

@@ -3,8 +3,10 @@
 
 mod examples;
 mod laws;
+mod states;
 
 pub use examples::examples_of_sittings;
 pub use laws::{
     law_of_batches, law_of_causes, law_of_ends, law_of_holds, law_of_the_lock, law_of_units,
 };
+pub use states::{Aside, Found, Grant, Holder, Progress, Release, State, Task};

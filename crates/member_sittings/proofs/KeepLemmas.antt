@@ -1,0 +1,214 @@
+-- What a sitting of one batch did, from the calls that keep the batch and say the lines.
+use Rattle.std.proofs.Common.{◌≡◌, inr, ℕ, ◌≤◌, Bool, List, [], ◌∷◌, ◌++◌, length, None, false, Result, Ok, Err, append-nil, refl, sym, ◌∙◌, ap, subst}
+use Rattle.mas_types.specs.declared.ids.MemberId.{MemberId}
+use Rattle.mas_types.specs.declared.journals.Entry.{Entry}
+use Rattle.spool_disk.specs.View.{View}
+use Rattle.spool_disk.specs.declared.plant.Plant.{Ghosts as PlantGhosts}
+use Rattle.mas_complex.specs.Journals.{begun}
+use Rattle.mas_complex.specs.Parts.{Parts}
+use Rattle.member_node.specs.declared.member.NodeNo.{NodeNo}
+use Rattle.member_node.specs.declared.member.NodeNo.TheVariants.{BothLost, Halted, ConsoleFault, NoMemory}
+use Rattle.member_node.specs.Calls.{console_now}
+use Rattle.member_node.specs.Spares.{Spares, stopped_in}
+use Rattle.member_node.specs.Writes.{HasKept}
+use Rattle.member_node.proofs.CourseLemmas.{course_none, only_none, papers_none}
+use Rattle.member_node.proofs.SpareLemmas.{spares_none}
+use Rattle.member_steps.specs.Steps.{IsStep, StepCauses, StepLeaves}
+use Rattle.member_decks.specs.Batches.{HasAll}
+use Rattle.member_decks.specs.Keeping.{CopyCauses, GivesUpLeaves, IsOnCopies, KeepLeaves}
+use Rattle.step_turns.specs.Sittings.{Sitting, released}
+use Rattle.step_turns.specs.declared.states.Holder.{Holder}
+use Rattle.step_turns.specs.declared.states.Release.{Release}
+use Rattle.step_turns.specs.declared.states.State.{State}
+use Rattle.member_sittings.specs.declared.ends.SittingEnd.{SittingEnd}
+use Rattle.member_sittings.specs.Ends.{ends_in}
+use Rattle.member_sittings.specs.Left.{HasSaid, said_of}
+use Rattle.member_sittings.specs.Sat.{IsEndOf, IsSat, journal_of}
+use Rattle.member_sittings.proofs.ReachLemmas.{OneLeft, none_left, one_all, one_given_up, one_kept, one_step, one_unkept, said_answer, said_by, said_none}
+
+-- the causes of an answer are those of a step's
+pub causes_of : (T : Type 0) (e : NodeNo) (by : ℕ) (a a' b b' : Bool) (v w : View) → CopyCauses {T = Unit {0}} (Err e) by a a' b b' v w → StepCauses {T = T} (Err e) by a a' b b' v w
+causes_of T NoMemory by a a' b b' v w cause = cause
+causes_of T BothLost by a a' b b' v w cause = cause
+causes_of T Halted by a a' b b' v w cause = cause
+causes_of T ConsoleFault by a a' b b' v w cause = absurd cause
+
+pub no_console : (e : NodeNo) (by : ℕ) (a a' b b' : Bool) (v w : View) → CopyCauses {T = Unit {0}} (Err e) by a a' b b' v w → e ≡ ConsoleFault → ⊥
+no_console ConsoleFault by a a' b b' v w cause is = absurd cause
+no_console NoMemory by a a' b b' v w cause is = absurd (cc)
+no_console BothLost by a a' b b' v w cause is = absurd (cc)
+no_console Halted by a a' b b' v w cause is = absurd (cc)
+
+-- who was stopped, by an answer of another type
+spares_of : (T : Type 0) (e : NodeNo) (by : ℕ) (v w : View) → Spares by (stopped_in {T = Unit {0}} (Err e)) v w → Spares by (stopped_in {T = T} (Err e)) v w
+spares_of T e by v w spares = spares
+
+step_causes : (T : Type 0) (e : NodeNo) (by : ℕ) (a a' b b' : Bool) (v w : View) → StepCauses {T = Unit {0}} (Err e) by a a' b b' v w → StepCauses {T = T} (Err e) by a a' b b' v w
+step_causes T NoMemory by a a' b b' v w cause = cause
+step_causes T BothLost by a a' b b' v w cause = cause
+step_causes T Halted by a a' b b' v w cause = cause
+step_causes T ConsoleFault by a a' b b' v w cause = cause
+
+module _ {P C : Type 0} (plants : PlantGhosts P) (by : MemberId) (h : Holder) (same : h.by ≡ by) (next : State) (lines : List (List ℕ)) (x y : Parts P C) where
+  abbrev V : View
+  V = plants.view x.plant
+
+  abbrev W : View
+  W = plants.view y.plant
+
+  abbrev Of : List Entry → Sitting
+  Of es = ends_in h (es ∷ []) next lines
+
+  -- the member is the holder
+  named : (es : List Entry) (r : Result SittingEnd NodeNo) → IsSat plants by (Of es) x y r → IsSat plants h.by (Of es) x y r
+  named es r sat = subst (λ (i : MemberId). IsSat plants i (Of es) x y r) (sym same) sat
+
+  -- acts on the copies alone, after which it ended so
+  by_copies : (es : List Entry) (e : NodeNo) → IsOnCopies {T = Unit {0}} plants.tells by.0 x.first_alive y.first_alive x.second_alive y.second_alive V W (Err e) → OneLeft {T = SittingEnd} by V.now W.now es x.batches (journal_of y) (Err e)
+      → IsSat plants h.by (Of es) x y (Err e)
+  by_copies es e acts one = named es (Err e) (record {
+    acts = record {
+      course = acts.course;
+      loses = acts.loses;
+      others = λ t. (acts.apart t).others;
+      papers = λ t. (acts.apart t).papers;
+      spares = spares_of SittingEnd e by.0 V W acts.spares;
+      cause = causes_of SittingEnd e by.0 x.first_alive y.first_alive x.second_alive y.second_alive V W acts.cause;
+    };
+    reach = one.by_it.reach;
+    more = one.more;
+    journal = one.are;
+    left = one.by_it.left;
+    reached = one.by_it.reached;
+    console = λ t. said_none lines (console_now V) (console_now W) _ e (no_console e by.0 x.first_alive y.first_alive x.second_alive y.second_alive V W acts.cause) (acts.apart t).console;
+    ends = tt;
+  })
+
+  -- the batch couldn't be kept
+  pub sat_unkept : (es : List Entry) (e : NodeNo) → 1 ≤ length es → IsOnCopies {T = Unit {0}} plants.tells by.0 x.first_alive y.first_alive x.second_alive y.second_alive V W (Err e)
+      → KeepLeaves {T = Unit {0}} (Err e) x.batches (journal_of y) (begun V.now by es) W.now → IsSat plants h.by (Of es) x y (Err e)
+  sat_unkept es e some acts leaves = by_copies es e acts (one_unkept by V.now W.now acts.course.goes.later es some x.batches (journal_of y) e leaves)
+
+  -- memory wanted before the batch had all its entries
+  pub sat_given_up : (es rest : List Entry) (e : NodeNo) → IsOnCopies {T = Unit {0}} plants.tells by.0 x.first_alive y.first_alive x.second_alive y.second_alive V W (Err e)
+      → GivesUpLeaves e x.batches (journal_of y) (begun V.now by es) W.now → IsSat plants h.by (Of (es ++ rest)) x y (Err e)
+  sat_given_up es rest e acts leaves = by_copies (es ++ rest) e acts (one_given_up by V.now W.now acts.course.goes.later es rest x.batches (journal_of y) e leaves)
+
+  -- it was kept, and nothing is said
+  pub sat_kept : (es : List Entry) (end : SittingEnd) → 1 ≤ length es → lines ≡ [] → IsEndOf (Of es) end → IsOnCopies {T = Unit {0}} plants.tells by.0 x.first_alive y.first_alive x.second_alive y.second_alive V W (Ok tt)
+      → HasKept x.batches (journal_of y) (begun V.now by es) W.now → IsSat plants h.by (Of es) x y (Ok end)
+  sat_kept es end some silent ends acts kept =
+      let one : OneLeft by V.now W.now es x.batches (journal_of y) (Ok end) = one_kept by V.now W.now acts.course.goes.later es some x.batches (journal_of y) (Ok end) kept in
+      named es (Ok end) (record {
+        acts = record {
+          course = acts.course;
+          loses = acts.loses;
+          others = λ t. (acts.apart t).others;
+          papers = λ t. (acts.apart t).papers;
+          spares = acts.spares;
+          cause = acts.cause;
+        };
+        reach = one.by_it.reach;
+        more = one.more;
+        journal = one.are;
+        left = one.by_it.left;
+        reached = one.by_it.reached;
+        console = λ t. record {
+          said = record { lines = length lines; torn = None };
+          is = (acts.apart t).console ∙ sym (append-nil (console_now V)) ∙ silently t;
+          by_answer = refl;
+          once_kept = inr (one_all by V.now W.now acts.course.goes.later es some x.batches (journal_of y) kept);
+        };
+        ends = ends;
+      })
+    where
+      silently : plants.tells → console_now V ++ [] ≡ console_now V ++ said_of (record { lines = length lines; torn = None }) lines
+      silently t = subst (λ (l : List (List ℕ)). console_now V ++ [] ≡ console_now V ++ said_of (record { lines = length l; torn = None }) l) (sym silent) refl
+
+  -- A step's batch and its lines: one answer for both.
+  module _ (es : List Entry) (some : 1 ≤ length es) where
+    abbrev Step : Result (Unit {0}) NodeNo → Type 0
+    Step r = IsStep plants.tells by.0 lines (begun V.now by es) x.batches (journal_of y) x.first_alive y.first_alive x.second_alive y.second_alive V W r
+
+    abbrev All_kept : Type 0
+    All_kept = HasAll by V.now W.now (es ∷ []) x.batches (journal_of y)
+
+    says : (r : Result (Unit {0}) NodeNo) → Step r → plants.tells → HasSaid All_kept lines (console_now V) (console_now W) r
+    says r step t = said_by lines (console_now V) (console_now W) (HasKept x.batches (journal_of y) (begun V.now by es) W.now) All_kept r
+        (λ kept. one_all by V.now W.now step.course.goes.later es some x.batches (journal_of y) kept)
+        (λ ok. one_all by V.now W.now step.course.goes.later es some x.batches (journal_of y) (subst (λ (q : Result (Unit {0}) NodeNo). StepLeaves q x.batches (journal_of y) (begun V.now by es) W.now) ok step.journal))
+        (λ bad. one_all by V.now W.now step.course.goes.later es some x.batches (journal_of y) (subst (λ (q : Result (Unit {0}) NodeNo). StepLeaves q x.batches (journal_of y) (begun V.now by es) W.now) bad step.journal))
+        (step.console t)
+
+    -- it closed with an error
+    pub sat_unclosed : (e : NodeNo) → Step (Err e) → IsSat plants h.by (Of es) x y (Err e)
+    sat_unclosed e step =
+        let one : OneLeft {T = SittingEnd} by V.now W.now es x.batches (journal_of y) (Err e) = one_step by V.now W.now step.course.goes.later es some x.batches (journal_of y) e step.journal in
+        named es (Err e) (record {
+          acts = record {
+            course = step.course;
+            loses = step.loses;
+            others = step.others;
+            papers = step.papers;
+            spares = spares_of SittingEnd e by.0 V W step.spares;
+            cause = step_causes SittingEnd e by.0 x.first_alive y.first_alive x.second_alive y.second_alive V W step.cause;
+          };
+          reach = one.by_it.reach;
+          more = one.more;
+          journal = one.are;
+          left = one.by_it.left;
+          reached = one.by_it.reached;
+          console = λ t. said_answer All_kept lines (console_now V) (console_now W) e (says (Err e) step t);
+          ends = tt;
+        })
+
+    -- or its lines are said
+    pub sat_closed : (end : SittingEnd) → IsEndOf (Of es) end → Step (Ok tt) → IsSat plants h.by (Of es) x y (Ok end)
+    sat_closed end ends step =
+        let one : OneLeft by V.now W.now es x.batches (journal_of y) (Ok end) = one_kept by V.now W.now step.course.goes.later es some x.batches (journal_of y) (Ok end) step.journal in
+        named es (Ok end) (record {
+          acts = record {
+            course = step.course;
+            loses = step.loses;
+            others = step.others;
+            papers = step.papers;
+            spares = step.spares;
+            cause = step.cause;
+          };
+          reach = one.by_it.reach;
+          more = one.more;
+          journal = one.are;
+          left = one.by_it.left;
+          reached = one.by_it.reached;
+          console = λ t. let said = says (Ok tt) step t in record { said = said.said; is = said.is; by_answer = said.by_answer; once_kept = said.once_kept };
+          ends = ends;
+        })
+
+-- nothing was done, since memory wanted
+pub sat_none : {P C : Type 0} (plants : PlantGhosts P) (by : MemberId) (h : Holder) (next : State) (lines : List (List ℕ)) (x : Parts P C) (es : List Entry) → journal_of x ≡ x.batches → IsSat plants by (ends_in h (es ∷ []) next lines) x x (Err NoMemory)
+sat_none plants by h next lines x es same =
+    let v = plants.view x.plant in
+    record {
+      acts = record {
+        course = course_none x.first_alive x.second_alive v;
+        loses = λ t d. refl;
+        others = λ t. only_none v;
+        papers = λ t. papers_none v;
+        spares = spares_none by.0 v;
+        cause = inr (refl, refl);
+      };
+      reach = record { whole = 0; part = 0; flies = false };
+      more = [];
+      journal = same ∙ sym (append-nil x.batches);
+      left = none_left by v.now v.now (es ∷ []);
+      reached = refl;
+      console = λ t. said_none lines (console_now v) (console_now v) _ NoMemory (λ e. absurd (cc)) refl;
+      ends = tt;
+    }
+
+-- how a sitting of one batch ends
+pub ends_of : (h : Holder) (es : List Entry) (next : State) (lines : List (List ℕ)) (given : ℕ) (release : Release) → given ≡ length es → release ≡ released h.grant h.hold given next
+    → IsEndOf (ends_in h (es ∷ []) next lines) (record { next = next; given = given; release = release })
+ends_of h es next lines given release many is =
+    let all : given ≡ length (es ++ []) = many ∙ sym (ap length (append-nil es)) in
+    record { next = refl; given = all; release = is ∙ ap (λ (n : ℕ). released h.grant h.hold n next) all }

@@ -1,0 +1,289 @@
+-- How far a sitting came, from what its parts left in the journal and on the console.
+use Rattle.std.proofs.Common.{◌≡◌, ◌⊎◌, inl, inr, ⊎_elim, ℕ, suc, ◌≤◌, ◌<◌, Bool, true, false, List, [], ◌∷◌, ◌++◌, length, map, take, drop, Some, None, Result, Ok, Err, append_assoc, append-nil, refl, sym, ◌∙◌, ap, subst, arith}
+use Rattle.std.proofs.lemmas.List.{take_at}
+use Rattle.mas_types.specs.declared.ids.MemberId.{MemberId}
+use Rattle.mas_types.specs.declared.journals.Batch.{Batch}
+use Rattle.mas_types.specs.declared.journals.Entry.{Entry}
+use Rattle.mas_types.specs.declared.journals.Fate.TheVariants.{Kept}
+use Rattle.spool_disk.specs.View.{Line}
+use Rattle.mas_complex.specs.Headline.{whole}
+use Rattle.mas_complex.specs.Journals.{begun, fated}
+use Rattle.member_node.specs.declared.member.NodeNo.{NodeNo}
+use Rattle.member_node.specs.declared.member.NodeNo.TheVariants.{BothLost, Halted, ConsoleFault, NoMemory}
+use Rattle.member_node.specs.Writes.{HasFlying, HasKept}
+use Rattle.member_steps.specs.Saying.{Breaks, torn}
+use Rattle.member_steps.specs.Steps.{StepLeaves, StepTells}
+use Rattle.member_decks.specs.Batches.{AreAll, AreCut, HasAll, IsKeptBatch, OneFlies}
+use Rattle.member_decks.specs.Keeping.{GivesUpLeaves, KeepLeaves}
+use Rattle.step_turns.specs.Batches.{batch_of}
+use Rattle.member_sittings.specs.Left.{HasLeft, HasSaid, IsLastBatch, Reach, ReachesBy, StandThere, left_by, reach_all, said_nothing, said_of}
+
+-- A BATCH, AND SOME OF ITS ENTRIES
+
+-- what is written where there is something to write
+pub batch_some : (es : List Entry) → 1 ≤ length es → batch_of es ≡ es ∷ []
+batch_some [] some = absurd (omega (arith, some))
+batch_some (e ∷ es) some = refl
+
+-- the first entries of a batch
+pub part_front : (es rest : List Entry) → 1 ≤ length es → batch_of (take (length es) (es ++ rest)) ≡ es ∷ []
+part_front es rest some = ap batch_of (take_at es rest (length es) refl) ∙ batch_some es some
+
+take_all : {A : Type 0} (xs : List A) → take (length xs) xs ≡ xs
+take_all [] = refl
+take_all (x ∷ xs) = ap (λ l. x ∷ l) (take_all xs)
+
+drop_all : {A : Type 0} (xs : List A) → drop (length xs) xs ≡ []
+drop_all [] = refl
+drop_all (x ∷ xs) = drop_all xs
+
+-- to the end all of them stand there
+pub left_all : (ess : List (List Entry)) → left_by (reach_all ess) ess ≡ ess
+left_all ess = ap (λ (l : List (List Entry)). l ++ []) (take_all ess) ∙ append-nil ess
+
+-- ONE AFTER ANOTHER
+
+stand_flag : (flies : Bool) (by : MemberId) (es : List Entry) (from now : ℕ) (b : Batch) → flies ≡ false → IsKeptBatch by es from now b → IsLastBatch flies by es from now b
+stand_flag flies by es from now b is kept = subst (λ (f : Bool). IsLastBatch f by es from now b) (sym is) kept
+
+-- a kept one, and others after it
+pub stand_next : (flies : Bool) (by : MemberId) (from now : ℕ) (es : List Entry) (ess : List (List Entry)) (b : Batch) (bs : List Batch) → IsKeptBatch by es from now b → StandThere flies by b.last now ess bs → StandThere flies by from now (es ∷ ess) (b ∷ bs)
+stand_next flies by from now es [] b [] kept rest = (refl, stand_flag flies by es from now b rest kept)
+stand_next flies by from now es [] b (c ∷ bs) kept rest = absurd rest
+stand_next flies by from now es (next ∷ ess) b bs kept rest = (kept, rest)
+
+pub stand_all : (by : MemberId) (from now : ℕ) (ess : List (List Entry)) (bs : List Batch) → AreAll by from now ess bs → StandThere false by from now ess bs
+stand_all by from now [] [] all = refl
+stand_all by from now [] (b ∷ bs) all = absurd all
+stand_all by from now (es ∷ ess) [] all = absurd all
+stand_all by from now (es ∷ ess) (b ∷ bs) all = stand_next false by from now es ess b bs all.0 (stand_all by b.last now ess bs all.1)
+
+-- what is left, of these batches
+pub record Lefts (flies : Bool) (by : MemberId) (from now : ℕ) (ess : List (List Entry)) (more : List Batch) : Type 0 where
+  pub reach : Reach
+  pub flag : reach.flies ≡ flies
+  pub left : HasLeft by from now ess reach more
+
+pub all_left : (by : MemberId) (from now : ℕ) (ess : List (List Entry)) (bs : List Batch) → AreAll by from now ess bs → HasLeft by from now ess (reach_all ess) bs
+all_left by from now ess bs all = record {
+  within = omega arith;
+  flying = λ e. absurd (cc);
+  stand = subst (λ (l : List (List Entry)). StandThere false by from now l bs) (sym (left_all ess)) (stand_all by from now ess bs all);
+}
+
+-- nothing was begun
+pub none_left : (by : MemberId) (from now : ℕ) (ess : List (List Entry)) → HasLeft by from now ess (record { whole = 0; part = 0; flies = false }) []
+none_left by from now ess = record { within = omega arith; flying = λ e. absurd (cc); stand = refl }
+
+-- some entries of the first one stand there alone
+pub part_left : (flies : Bool) (by : MemberId) (from now : ℕ) (es rest : List Entry) (ess : List (List Entry)) (b : Batch) → 1 ≤ length es → IsLastBatch flies by es from now b
+    → HasLeft by from now ((es ++ rest) ∷ ess) (record { whole = 0; part = length es; flies = flies }) (b ∷ [])
+part_left flies by from now es rest ess b some last = record {
+  within = omega arith;
+  flying = λ e. some;
+  stand = subst (λ (l : List (List Entry)). StandThere flies by from now l (b ∷ [])) (sym (part_front es rest some)) (refl, last);
+}
+
+-- one more stands before those
+pub next_left : (flies : Bool) (by : MemberId) (from now : ℕ) (es : List Entry) (ess : List (List Entry)) (b : Batch) (bs : List Batch) → IsKeptBatch by es from now b → Lefts flies by b.last now ess bs → Lefts flies by from now (es ∷ ess) (b ∷ bs)
+next_left flies by from now es ess b bs kept l = record {
+  reach = record { whole = suc l.reach.whole; part = l.reach.part; flies = l.reach.flies };
+  flag = l.flag;
+  left = record {
+    within = let within = l.left.within in omega (arith, within);
+    flying = l.left.flying;
+    stand = stand_next l.reach.flies by from now es (left_by l.reach ess) b bs kept l.left.stand;
+  };
+}
+
+pub cut_left : (by : MemberId) (from now : ℕ) (ess : List (List Entry)) (bs : List Batch) → AreCut by from now ess bs → Lefts false by from now ess bs
+cut_left by from now [] bs cut = absurd cut
+cut_left by from now (es ∷ ess) [] cut = record { reach = record { whole = 0; part = 0; flies = false }; flag = refl; left = none_left by from now (es ∷ ess) }
+cut_left by from now (es ∷ ess) (b ∷ bs) cut = ⊎_elim
+    (λ last.
+    let front : List Entry = last.1.0 in
+    let part = part_left false by from now front last.1.1.1.0 ess b last.1.1.0 last.1.2 in
+    record {
+      reach = record { whole = 0; part = length front; flies = false };
+      flag = refl;
+      left = subst (λ (l : List Batch). HasLeft by from now (es ∷ ess) (record { whole = 0; part = length front; flies = false }) (b ∷ l)) (sym last.0)
+          (subst (λ (l : List Entry). HasLeft by from now (l ∷ ess) (record { whole = 0; part = length front; flies = false }) (b ∷ [])) (sym last.1.1.1.1) part);
+    })
+    (λ more. next_left false by from now es ess b bs more.0 (cut_left by b.last now ess bs more.1))
+    cut
+
+pub flies_left : (by : MemberId) (from now : ℕ) (ess : List (List Entry)) (bs : List Batch) → OneFlies by from now ess bs → Lefts true by from now ess bs
+flies_left by from now [] bs one = absurd one
+flies_left by from now (es ∷ ess) [] one = absurd one
+flies_left by from now (es ∷ ess) (b ∷ bs) one = ⊎_elim
+    (λ last.
+    let front : List Entry = last.1.0 in
+    let part = part_left true by from now front last.1.1.1.0 ess b last.1.1.0 last.1.2 in
+    record {
+      reach = record { whole = 0; part = length front; flies = true };
+      flag = refl;
+      left = subst (λ (l : List Batch). HasLeft by from now (es ∷ ess) (record { whole = 0; part = length front; flies = true }) (b ∷ l)) (sym last.0)
+          (subst (λ (l : List Entry). HasLeft by from now (l ∷ ess) (record { whole = 0; part = length front; flies = true }) (b ∷ [])) (sym last.1.1.1.1) part);
+    })
+    (λ more. next_left true by from now es ess b bs more.0 (flies_left by b.last now ess bs more.1))
+    one
+
+-- BY THE ANSWER
+
+-- what a sitting left, and by its answer
+pub record LeftBy {T : Type 0} (by : MemberId) (from now : ℕ) (ess : List (List Entry)) (more : List Batch) (result : Result T NodeNo) : Type 0 where
+  pub reach : Reach
+  pub left : HasLeft by from now ess reach more
+  pub reached : ReachesBy result ess reach
+
+module _ (by : MemberId) (from now : ℕ) (ess : List (List Entry)) (more : List Batch) where
+  pub by_all : {T : Type 0} (r : Result T NodeNo) → AreAll by from now ess more → LeftBy by from now ess more r
+  by_all (Ok done) all = record { reach = reach_all ess; left = all_left by from now ess more all; reached = refl }
+  by_all (Err ConsoleFault) all = record { reach = reach_all ess; left = all_left by from now ess more all; reached = refl }
+  by_all (Err NoMemory) all = record { reach = reach_all ess; left = all_left by from now ess more all; reached = refl }
+  by_all (Err BothLost) all = record { reach = reach_all ess; left = all_left by from now ess more all; reached = tt }
+  by_all (Err Halted) all = record { reach = reach_all ess; left = all_left by from now ess more all; reached = tt }
+
+  -- where memory wanted
+  pub by_cut_wanted : {T : Type 0} → AreCut by from now ess more → LeftBy {T = T} by from now ess more (Err NoMemory)
+  by_cut_wanted cut = let l = cut_left by from now ess more cut in record { reach = l.reach; left = l.left; reached = l.flag }
+
+  abbrev Thirds : Type 0
+  Thirds = AreCut by from now ess more ⊎ OneFlies by from now ess more ⊎ AreAll by from now ess more
+
+  pub by_thirds_lost : {T : Type 0} → Thirds → LeftBy {T = T} by from now ess more (Err BothLost)
+  by_thirds_lost three = ⊎_elim
+      (λ cut. let l = cut_left by from now ess more cut in record { reach = l.reach; left = l.left; reached = tt })
+      (λ two. ⊎_elim (λ one. let l = flies_left by from now ess more one in record { reach = l.reach; left = l.left; reached = tt }) (λ all. by_all (Err BothLost) all) two)
+      three
+
+  pub by_thirds_halted : {T : Type 0} → Thirds → LeftBy {T = T} by from now ess more (Err Halted)
+  by_thirds_halted three = ⊎_elim
+      (λ cut. let l = cut_left by from now ess more cut in record { reach = l.reach; left = l.left; reached = tt })
+      (λ two. ⊎_elim (λ one. let l = flies_left by from now ess more one in record { reach = l.reach; left = l.left; reached = tt }) (λ all. by_all (Err Halted) all) two)
+      three
+
+-- ONE BATCH
+
+-- behind these batches more, as far as a sitting of one batch came
+pub record OneLeft {T : Type 0} (by : MemberId) (from now : ℕ) (all : List Entry) (front batches : List Batch) (result : Result T NodeNo) : Type 0 where
+  pub more : List Batch
+  pub are : batches ≡ front ++ more
+  pub by_it : LeftBy by from now (all ∷ []) more result
+
+module _ (by : MemberId) (from now : ℕ) (later : from ≤ now) (es rest : List Entry) (front batches : List Batch) where
+  abbrev Cut : Batch
+  Cut = begun from by es
+
+  -- nothing was begun
+  pub one_none : {T : Type 0} (e : NodeNo) → (e ≡ ConsoleFault → ⊥) → batches ≡ front → OneLeft {T = T} by from now (es ++ rest) front batches (Err e)
+  one_none NoMemory never none = record { more = []; are = none ∙ sym (append-nil front); by_it = record { reach = record { whole = 0; part = 0; flies = false }; left = none_left by from now ((es ++ rest) ∷ []); reached = refl } }
+  one_none BothLost never none = record { more = []; are = none ∙ sym (append-nil front); by_it = record { reach = record { whole = 0; part = 0; flies = false }; left = none_left by from now ((es ++ rest) ∷ []); reached = tt } }
+  one_none Halted never none = record { more = []; are = none ∙ sym (append-nil front); by_it = record { reach = record { whole = 0; part = 0; flies = false }; left = none_left by from now ((es ++ rest) ∷ []); reached = tt } }
+  one_none ConsoleFault never none = absurd (never refl)
+
+  flown : IsLastBatch true by es from now Cut
+  flown = record { by_it = refl; entries = refl; flies = refl; moments = (omega arith, later, refl) }
+
+  kept : (k : HasKept front batches Cut now) → IsLastBatch false by es from now (fated Kept k.0 Cut)
+  kept k = record { by_it = refl; entries = refl; kept = refl; moments = (omega arith, k.1, k.2) }
+
+  -- its first entries are in flight
+  pub one_lost : {T : Type 0} → 1 ≤ length es → HasFlying front batches Cut → OneLeft {T = T} by from now (es ++ rest) front batches (Err BothLost)
+  one_lost some flies = record { more = Cut ∷ []; are = flies; by_it = record { reach = record { whole = 0; part = length es; flies = true }; left = part_left true by from now es rest [] Cut some flown; reached = tt } }
+
+  pub one_halted : {T : Type 0} → 1 ≤ length es → HasFlying front batches Cut → OneLeft {T = T} by from now (es ++ rest) front batches (Err Halted)
+  one_halted some flies = record { more = Cut ∷ []; are = flies; by_it = record { reach = record { whole = 0; part = length es; flies = true }; left = part_left true by from now es rest [] Cut some flown; reached = tt } }
+
+  -- they are kept, and memory wanted
+  pub one_wanted : {T : Type 0} → 1 ≤ length es → HasKept front batches Cut now → OneLeft {T = T} by from now (es ++ rest) front batches (Err NoMemory)
+  one_wanted some k = record { more = fated Kept k.0 Cut ∷ []; are = k.3; by_it = record { reach = record { whole = 0; part = length es; flies = false }; left = part_left false by from now es rest [] (fated Kept k.0 Cut) some (kept k); reached = refl } }
+
+  -- a step in which memory wanted in its first batch
+  pub one_given_up : {T : Type 0} (e : NodeNo) → GivesUpLeaves e front batches Cut now → OneLeft {T = T} by from now (es ++ rest) front batches (Err e)
+  one_given_up NoMemory leaves = ⊎_elim (λ none. one_none NoMemory (λ e. absurd (cc)) none) (λ k. one_wanted k.0 k.1) leaves
+  one_given_up BothLost leaves = one_lost leaves.0 leaves.1
+  one_given_up Halted leaves = one_halted leaves.0 leaves.1
+  one_given_up ConsoleFault leaves = absurd leaves
+
+-- the whole batch
+module _ (by : MemberId) (from now : ℕ) (later : from ≤ now) (es : List Entry) (some : 1 ≤ length es) (front batches : List Batch) where
+  abbrev Whole : Batch
+  Whole = begun from by es
+
+  pub one_all : HasKept front batches Whole now → HasAll by from now (es ∷ []) front batches
+  one_all k = (fated Kept k.0 Whole ∷ [], k.3, (record { by_it = refl; entries = refl; kept = refl; moments = (omega arith, k.1, k.2) }, tt))
+
+  pub one_kept : {T : Type 0} (r : Result T NodeNo) → HasKept front batches Whole now → OneLeft by from now es front batches r
+  one_kept r k = let all = one_all k in record { more = all.0; are = all.1; by_it = by_all by from now (es ∷ []) all.0 r all.2 }
+
+  -- with nothing behind it
+  alone : {T : Type 0} (r : Result T NodeNo) → OneLeft by from now (es ++ []) front batches r → OneLeft by from now es front batches r
+  alone r one = subst (λ (l : List Entry). OneLeft by from now l front batches r) (append-nil es) one
+
+  pub one_unkept : {T : Type 0} (e : NodeNo) → KeepLeaves {T = Unit {0}} (Err e) front batches Whole now → OneLeft {T = T} by from now es front batches (Err e)
+  one_unkept NoMemory none = alone (Err NoMemory) (one_none by from now later es [] front batches NoMemory (λ e. absurd (cc)) none)
+  one_unkept BothLost flies = alone (Err BothLost) (one_lost by from now later es [] front batches some flies)
+  one_unkept Halted flies = alone (Err Halted) (one_halted by from now later es [] front batches some flies)
+  one_unkept ConsoleFault never = absurd never
+
+  pub one_step : {T : Type 0} (e : NodeNo) → StepLeaves {T = Unit {0}} (Err e) front batches Whole now → OneLeft {T = T} by from now es front batches (Err e)
+  one_step NoMemory none = alone (Err NoMemory) (one_none by from now later es [] front batches NoMemory (λ e. absurd (cc)) none)
+  one_step ConsoleFault k = one_kept (Err ConsoleFault) k
+  one_step BothLost leaves = ⊎_elim
+      (λ none. alone (Err BothLost) (one_none by from now later es [] front batches BothLost (λ e. absurd (cc)) none))
+      (λ flies. alone (Err BothLost) (one_lost by from now later es [] front batches some flies))
+      leaves
+  one_step Halted leaves = ⊎_elim
+      (λ none. alone (Err Halted) (one_none by from now later es [] front batches Halted (λ e. absurd (cc)) none))
+      (λ two. ⊎_elim (λ flies. alone (Err Halted) (one_halted by from now later es [] front batches some flies)) (λ k. one_kept (Err Halted) k) two)
+      leaves
+
+-- ON THE CONSOLE
+
+module _ (lines : List (List ℕ)) (was now : List Line) where
+  -- nothing was said
+  pub said_none : {T : Type 0} (A : Type 0) (e : NodeNo) → (e ≡ ConsoleFault → ⊥) → now ≡ was → HasSaid {T = T} A lines was now (Err e)
+  said_none A NoMemory never same = record { said = said_nothing; is = same ∙ sym (append-nil was); by_answer = refl; once_kept = inl refl }
+  said_none A BothLost never same = record { said = said_nothing; is = same ∙ sym (append-nil was); by_answer = refl; once_kept = inl refl }
+  said_none A Halted never same = record { said = said_nothing; is = same ∙ sym (append-nil was); by_answer = omega arith; once_kept = inl refl }
+  said_none A ConsoleFault never same = absurd (never refl)
+
+  -- so many lines, whole
+  whole_said : (n : ℕ) → now ≡ was ++ map whole (take n lines) → now ≡ was ++ said_of (record { lines = n; torn = None }) lines
+  whole_said n is = is ∙ ap (λ (l : List Line). was ++ l) (sym (append-nil (map whole (take n lines))))
+
+  pub said_all : {T : Type 0} (A : Type 0) (done : T) → A → now ≡ was ++ map whole lines → HasSaid A lines was now (Ok done)
+  said_all A done kept is = record {
+    said = record { lines = length lines; torn = None };
+    is = whole_said (length lines) (is ∙ ap (λ (l : List (List ℕ)). was ++ map whole l) (sym (take_all lines)));
+    by_answer = refl;
+    once_kept = inr kept;
+  }
+
+  pub said_some : {T : Type 0} (A : Type 0) (n : ℕ) → A → n < length lines → now ≡ was ++ map whole (take n lines) → HasSaid {T = T} A lines was now (Err ConsoleFault)
+  said_some A n kept less is = record { said = record { lines = n; torn = None }; is = whole_said n is; by_answer = (less, refl); once_kept = inr kept }
+
+  pub said_broken : {T : Type 0} (A : Type 0) (n : ℕ) → A → n < length lines → Breaks n lines was now → HasSaid {T = T} A lines was now (Err Halted)
+  said_broken A n kept less breaks = ⊎_elim
+      (λ none. record { said = record { lines = n; torn = None }; is = whole_said n none; by_answer = omega (arith, less); once_kept = inr kept })
+      (λ more. ⊎_elim
+      (λ part. record { said = record { lines = n; torn = Some part.0 }; is = part.1 ∙ append_assoc was (map whole (take n lines)) (torn part.0 ∷ []); by_answer = omega (arith, less); once_kept = inr kept })
+      (λ next. record { said = record { lines = suc n; torn = None }; is = whole_said (suc n) next; by_answer = omega (arith, less); once_kept = inr kept })
+      more)
+      breaks
+
+  -- of a step's lines
+  pub said_by : (A B : Type 0) (r : Result (Unit {0}) NodeNo) → (A → B) → (r ≡ Ok tt → B) → (r ≡ Err ConsoleFault → B) → StepTells r lines A was now → HasSaid B lines was now r
+  said_by A B (Ok done) f ok fault tells = said_all B done (ok refl) tells
+  said_by A B (Err ConsoleFault) f ok fault tells = said_some B tells.0 (fault refl) tells.1 tells.2
+  said_by A B (Err NoMemory) f ok fault tells = said_none B NoMemory (λ e. absurd (cc)) tells
+  said_by A B (Err BothLost) f ok fault tells = said_none B BothLost (λ e. absurd (cc)) tells
+  said_by A B (Err Halted) f ok fault tells = ⊎_elim (λ none. said_none B Halted (λ e. absurd (cc)) none) (λ some. said_broken B some.1 (f some.0) some.2 some.3) tells
+
+-- the same by an answer of another type
+pub said_answer : {T : Type 0} (A : Type 0) (lines : List (List ℕ)) (was now : List Line) (e : NodeNo) → HasSaid {T = Unit {0}} A lines was now (Err e) → HasSaid {T = T} A lines was now (Err e)
+said_answer A lines was now NoMemory s = record { said = s.said; is = s.is; by_answer = s.by_answer; once_kept = s.once_kept }
+said_answer A lines was now BothLost s = record { said = s.said; is = s.is; by_answer = s.by_answer; once_kept = s.once_kept }
+said_answer A lines was now ConsoleFault s = record { said = s.said; is = s.is; by_answer = s.by_answer; once_kept = s.once_kept }
+said_answer A lines was now Halted s = record { said = s.said; is = s.is; by_answer = s.by_answer; once_kept = s.once_kept }

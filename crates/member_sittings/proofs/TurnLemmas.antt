@@ -1,0 +1,129 @@
+-- What the machine of steps gives in the sittings of a command and of a deck.
+use Rattle.std.proofs.Common.{◌≡◌, ℕ, ◌≤◌, Bool, true, false, if◌then◌else◌, List, [], ◌∷◌, length, All, Option, None, Some, refl, ◌∙◌, ap, arith}
+use Rattle.std.proofs.lemmas.List.Elements.{All-nil, All-cons}
+use Rattle.mas_types.specs.declared.ids.JobNo.{JobNo}
+use Rattle.mas_types.specs.declared.ids.MemberId.{MemberId}
+use Rattle.mas_types.specs.declared.commands.Command.{Command}
+use Rattle.mas_types.specs.declared.commands.Command.TheVariants as command
+use Rattle.mas_types.specs.declared.commands.Reply.{Reply}
+use Rattle.mas_types.specs.declared.commands.Reply.TheVariants as reply
+use Rattle.mas_types.specs.declared.jobs.JobFields.{JobFields}
+use Rattle.mas_types.specs.declared.journals.Entry.{Entry}
+use Rattle.mas_types.specs.declared.queues.Queue.{Queue}
+use Rattle.mas_types.specs.Closings.{reply_lines}
+use Rattle.mas_types.specs.Owners.{groups_needed}
+use Rattle.mas_complex.specs.Meaning.{step}
+use Rattle.member_steps.specs.Steps.{entry_of, reply_to}
+use Rattle.member_decks.specs.declared.opening.Opened.{Opened}
+use Rattle.member_decks.specs.declared.opening.Opened.TheVariants as opened
+use Rattle.member_decks.specs.Decks.{are_refused, closing_reply, ends_as, ends_begun, finishing, given_in, lines_by, opening}
+use Rattle.member_decks.specs.Steps.{AreOf}
+use Rattle.step_turns.specs.Batches.{batch_of, cut, is_full}
+use Rattle.step_turns.specs.Decks.{job_begun, job_opened}
+use Rattle.step_turns.specs.Entries.{all_entries}
+use Rattle.step_turns.specs.Sittings.{Sitting, released, sit, sitting_of}
+use Rattle.step_turns.specs.declared.states.Found.{Found}
+use Rattle.step_turns.specs.declared.states.Holder.{Holder}
+use Rattle.step_turns.specs.declared.states.State.{State}
+use Rattle.step_turns.specs.declared.states.State.TheVariants.{Away, Fresh, Told}
+use Rattle.step_turns.specs.declared.states.Task.TheVariants.{Deck, Give}
+use Rattle.step_turns.specs.declared.states.Aside.TheVariants.{SpoolDeck}
+use Rattle.step_turns.specs.Turns.{Turn, deck_opens, turn}
+use Rattle.member_sittings.specs.Asides.{deck_found}
+use Rattle.member_sittings.specs.Ends.{ends_in}
+use Rattle.member_sittings.proofs.ReachLemmas.{batch_some}
+
+-- A SITTING OF ONE PART
+
+cut_full : (es : List Entry) (b : Bool) → batch_of es ≡ es ∷ [] → (if b then es ∷ [] else batch_of es) ≡ es ∷ []
+cut_full es true one = refl
+cut_full es false one = one
+
+-- is one batch
+pub cut_one : (es : List Entry) → 1 ≤ length es → cut [] (es ∷ []) ≡ es ∷ []
+cut_one es some = cut_full es (is_full es) (batch_some es some)
+
+abbrev sat_with : Holder → State → List (List ℕ) → List (List Entry) → List (List Entry) → Sitting
+sat_with h next lines parts batches = record {
+  batches = batches;
+  next = next;
+  lines = lines;
+  release = released h.grant h.hold (length (all_entries parts)) next;
+}
+
+pub sit_one : (h : Holder) (t : Turn) (es : List Entry) → t.parts ≡ es ∷ [] → 1 ≤ length es → sitting_of h t ≡ ends_in h (es ∷ []) t.next t.lines
+sit_one h t es one some =
+    ap (λ (parts : List (List Entry)). sat_with h t.next t.lines parts (cut [] parts)) one
+    ∙ ap (sat_with h t.next t.lines (es ∷ [])) (cut_one es some)
+
+-- A COMMAND
+
+pub command_sits : (Q : Queue) (h : Holder) (c : Command) (found : Found) → sit Q h (Fresh (Give c)) found ≡ ends_in h ((entry_of Q h.by h.step c ∷ []) ∷ []) Told (reply_lines h.by h.step (reply_to Q h.by c))
+command_sits Q h c found = refl
+
+-- A DECK'S FIRST PART
+
+-- how its opening ends, by the job that has its groups
+abbrev pub opened_with : Option JobNo → Opened
+opened_with None = opened.Closed
+opened_with (Some n) = opened.Ready n
+
+by_refused : (b : Bool) (n : JobNo) → (if b then opened.Closed else opened.Ready n) ≡ opened_with (if b then None else Some n)
+by_refused true n = refl
+by_refused false n = refl
+
+begun_alike : (Q : Queue) (by : MemberId) (groups : ℕ) (r : Reply) → ends_begun Q by groups r ≡ opened_with (job_begun Q by groups r)
+begun_alike Q by groups (reply.Job n) = by_refused (are_refused groups Q by groups) n
+begun_alike Q by groups _ = refl
+
+pub opened_alike : (Q : Queue) (by : MemberId) (fields : JobFields) (groups : ℕ) → ends_as Q by fields groups ≡ opened_with (job_opened Q by fields groups)
+opened_alike Q by fields groups = begun_alike (step Q by (command.Begin fields)).0 by groups (step Q by (command.Begin fields)).1
+
+pub with_closed : (o : Option JobNo) → opened_with o ≡ opened.Closed → o ≡ None
+with_closed None is = refl
+with_closed (Some n) is = absurd (cc)
+
+pub with_ready : (o : Option JobNo) (n : JobNo) → opened_with o ≡ opened.Ready n → o ≡ Some n
+with_ready None n is = absurd (cc)
+with_ready (Some m) n is = let same : m ≡ n = cc in ap Some same
+
+module _ (Q : Queue) (h : Holder) (fields : JobFields) (text : List (List ℕ)) (found : Found) where
+  abbrev Groups : ℕ
+  Groups = groups_needed text
+
+  -- the entries of its opening
+  abbrev pub FirstPart : List Entry
+  FirstPart = given_in Q h.by h.step (opening Q h.by fields Groups)
+
+  abbrev pub DeckTurn : Turn
+  DeckTurn = turn h Q (Fresh (Deck fields text)) found
+
+  parts_are : (o : Option JobNo) → (deck_opens h o FirstPart text).parts ≡ FirstPart ∷ []
+  parts_are None = refl
+  parts_are (Some n) = refl
+
+  pub first_some : 1 ≤ length FirstPart
+  first_some = omega arith
+
+  pub deck_sits : sit Q h (Fresh (Deck fields text)) found ≡ ends_in h (FirstPart ∷ []) DeckTurn.next DeckTurn.lines
+  deck_sits = sit_one h DeckTurn FirstPart (parts_are (job_opened Q h.by fields Groups)) first_some
+
+  abbrev as_opened : Option JobNo → Sitting
+  as_opened o = sitting_of h (deck_opens h o FirstPart text)
+
+  pub deck_closes : job_opened Q h.by fields Groups ≡ None → sit Q h (Fresh (Deck fields text)) found ≡ ends_in h (FirstPart ∷ []) Told (reply_lines h.by h.step (closing_reply FirstPart))
+  deck_closes none = ap as_opened none ∙ sit_one h (deck_opens h None FirstPart text) FirstPart refl first_some
+
+  pub deck_waits : (n : JobNo) → job_opened Q h.by fields Groups ≡ Some n → sit Q h (Fresh (Deck fields text)) found ≡ ends_in h (FirstPart ∷ []) (Away (SpoolDeck n text)) []
+  deck_waits n one = ap as_opened one ∙ sit_one h (deck_opens h (Some n) FirstPart text) FirstPart refl first_some
+
+-- ITS SECOND PART
+
+pub spooled_sits : (Q : Queue) (h : Holder) (n : JobNo) (text : List (List ℕ)) (lost : Option ℕ)
+    → sit Q h (Away (SpoolDeck n text)) (deck_found lost) ≡ ends_in h ((entry_of Q h.by h.step (finishing lost n text) ∷ []) ∷ []) Told (lines_by h.by h.step lost (closing_reply (entry_of Q h.by h.step (finishing lost n text) ∷ [])))
+spooled_sits Q h n text lost = refl
+
+-- A BATCH OF ONE KIND OF ENTRIES
+
+pub all_of_one : (by : MemberId) (at : ℕ) (es : List Entry) → AreOf by at es → All (λ (l : List Entry). AreOf by at l) (es ∷ [])
+all_of_one by at es of = All-cons (λ (l : List Entry). AreOf by at l) es [] of (All-nil (λ (l : List Entry). AreOf by at l))

@@ -1,0 +1,79 @@
+use Rattle.std.proofs.Common.{◌≡◌, ◌≤◌, ◌∙◌, ℕ, List, All, Result, length, take, ap, subst, sym}
+use Rattle.mas_types.specs.declared.ids.GroupNo.{GroupNo}
+use Rattle.mas_types.specs.declared.queues.Config.{Config}
+use Rattle.mas_types.specs.Owners.{groups_needed, member_count}
+use Rattle.track_groups.specs.Groups.{held_by}
+use Rattle.mas_complex.specs.Journals.{kept_all}
+use Rattle.mas_complex.specs.Meaning.{run}
+use Rattle.mas_complex.specs.Parts.{parts_of}
+use Rattle.mas_complex.specs.Spool.{IsGroupOf, IsHeldBy}
+use Rattle.member_node.specs.declared.member.NodeNo.{NodeNo}
+use Rattle.member_decks.specs.Spooling.{Rise}
+use Rattle.member_decks.proofs.HeldLemmas.{all_within, as_many_held, lowest_rise}
+use Rattle.member_decks.proofs.PageLemmas.{acts_none}
+use Rattle.member_node.proofs.SpareLemmas.{spares_none}
+use Rattle.step_turns.specs.declared.states.Found.{Found}
+use Rattle.member_sittings.specs.Asides.{HasSpooled}
+use Rattle.member_sittings.proofs.AsideLemmas.{all_take, spools_by}
+use Rattle.member_sittings.proofs.asides.spool_deck.Goals as goal
+
+pub slice_bounds-spool_text-end : goal.slice_bounds-spool_text-end
+slice_bounds-spool_text-end g c =
+    let m = c.args.member.now in
+    let need : ℕ = c.groups_needed-groups.result in
+    let list : c.as_slice-2.result.now ≡ held_by m.id m.checkpoint.tables.owners = c.as_slice-2.ensures ∙ c.in-Ok.ensures ∙ ap (held_by m.id) c.as_slice.ensures in
+    let enough : need ≤ member_count m.id m.checkpoint.tables.owners = subst (λ (k : ℕ). k ≤ member_count m.id m.checkpoint.tables.owners) (sym c.groups_needed-groups.ensures) c.requires.groups.enough in
+    subst (λ (l : List GroupNo). need ≡ length (take need l)) (sym list) (sym (as_many_held m.id m.checkpoint.tables.owners need enough))
+
+pub spool_text-requires-clause-as_many : goal.spool_text-requires-clause-as_many
+spool_text-requires-clause-as_many g c =
+    let m = c.args.member.now in
+    let need : ℕ = c.groups_needed-groups.result in
+    let list : c.as_slice-2.result.now ≡ held_by m.id m.checkpoint.tables.owners = c.as_slice-2.ensures ∙ c.in-Ok.ensures ∙ ap (held_by m.id) c.as_slice.ensures in
+    let enough : need ≤ member_count m.id m.checkpoint.tables.owners = subst (λ (k : ℕ). k ≤ member_count m.id m.checkpoint.tables.owners) (sym c.groups_needed-groups.ensures) c.requires.groups.enough in
+    subst (λ (l : List GroupNo). length (take need l) ≡ groups_needed c.args.text.now) (sym list) (as_many_held m.id m.checkpoint.tables.owners need enough ∙ c.groups_needed-groups.ensures)
+
+pub spool_text-requires-clause-rise : goal.spool_text-requires-clause-rise
+spool_text-requires-clause-rise g c =
+    let m = c.args.member.now in
+    let need : ℕ = c.groups_needed-groups.result in
+    let list : c.as_slice-2.result.now ≡ held_by m.id m.checkpoint.tables.owners = c.as_slice-2.ensures ∙ c.in-Ok.ensures ∙ ap (held_by m.id) c.as_slice.ensures in
+    subst (λ (l : List GroupNo). Rise (take need l)) (sym list) (lowest_rise m.id m.checkpoint.tables.owners need)
+
+pub spool_text-requires-clause-within : goal.spool_text-requires-clause-within
+spool_text-requires-clause-within g c =
+    let m = c.args.member.now in
+    let x = c.args.complex.now in
+    let need : ℕ = c.groups_needed-groups.result in
+    let list : c.as_slice-2.result.now ≡ held_by m.id m.checkpoint.tables.owners = c.as_slice-2.ensures ∙ c.in-Ok.ensures ∙ ap (held_by m.id) c.as_slice.ensures in
+    subst (λ (l : List GroupNo). All (IsGroupOf x.base.config) (take need l)) (sym list)
+    (subst (λ (k : Config). All (IsGroupOf k) (take need (held_by m.id m.checkpoint.tables.owners))) (sym c.requires.config) (all_within m.id m.checkpoint.tables.owners need m.checkpoint.tables.config c.requires.shape.owners))
+
+pub spool_text-requires-clause-held : goal.spool_text-requires-clause-held
+spool_text-requires-clause-held g c told =
+    let m = c.args.member.now in
+    let x = c.args.complex.now in
+    let need : ℕ = c.groups_needed-groups.result in
+    let list : c.as_slice-2.result.now ≡ held_by m.id m.checkpoint.tables.owners = c.as_slice-2.ensures ∙ c.in-Ok.ensures ∙ ap (held_by m.id) c.as_slice.ensures in
+    subst (λ (l : List GroupNo). All (λ h. IsHeldBy m.id h (run x.base (kept_all x.journal.batches))) (take need l)) (sym list)
+    (all_take (λ (h : GroupNo). IsHeldBy m.id h (run x.base (kept_all x.journal.batches))) need (held_by m.id m.checkpoint.tables.owners) (c.requires.held told))
+
+pub returns-in_default-clause-spools : goal.returns-in_default-clause-spools
+returns-in_default-clause-spools g c =
+    let P = g.P.Plant in
+    let v = P.view c.args.complex.now.plant in
+    let by = c.args.member.now.id.0 in
+    record { acts = acts_none P.tells by v; cause = spares_none by v; finds = tt }
+
+pub returns-clause-spools : goal.returns-clause-spools
+returns-clause-spools g c =
+    let P = g.P.Plant in
+    let x = c.args.complex.now in
+    let y = c.spool_text.new.complex in
+    let m = c.args.member.now in
+    let text = c.args.text.now in
+    let list : c.as_slice-2.result.now ≡ held_by m.id m.checkpoint.tables.owners = c.as_slice-2.ensures ∙ c.in-Ok.ensures ∙ ap (held_by m.id) c.as_slice.ensures in
+    let cause = rw (list, c.groups_needed-groups.ensures) at c.spool_text.ensures.cause in
+    let there = rw (list, c.groups_needed-groups.ensures) at c.spool_text.ensures.there in
+    subst (λ (r : Result Found NodeNo). HasSpooled P (parts_of x) (parts_of y) m text r) (sym c.found_by.ensures)
+    (spools_by P (parts_of x) (parts_of y) m text c.spool_text.result c.spool_text.ensures.acts cause there)

@@ -1,0 +1,13 @@
+use Rattle.member_sittings.proofs.SeatLemmas.{own_batch}
+use Rattle.member_sittings.proofs.closing.give_up_sitting.Goals as goal
+
+pub give_up-requires-clause-own : goal.give_up-requires-clause-own
+give_up-requires-clause-own g c =
+    let m = c.args.member.now in
+    own_batch m.id c.args.holder.step m.batch c.requires.gives.of
+
+pub give_up-requires-clause-untold : goal.give_up-requires-clause-untold
+give_up-requires-clause-untold g c told = c.requires.gives.untold told c.args.member.now.batch c.requires.gives.of
+
+pub returns-clause-cut : goal.returns-clause-cut
+returns-clause-cut g c = rw c.requires.holder (record { acts = c.give_up.ensures.acts; leaves = c.give_up.ensures.leaves })

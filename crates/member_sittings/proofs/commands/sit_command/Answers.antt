@@ -1,0 +1,113 @@
+use Rattle.std.proofs.Common.{◌∙◌, ◌+◌, ◌<◌, ◌^◌, ℕ, List, [], ◌∷◌, refl, sym, ap, subst, arith}
+use Rattle.std.proofs.Math.Logic.{∥∥₁_map}
+use Rattle.mas_types.specs.declared.ids.MemberId.{MemberId}
+use Rattle.mas_types.specs.declared.journals.Entry.{Entry}
+use Rattle.mas_types.specs.declared.queues.Queue.{Queue}
+use Rattle.mas_types.specs.Closings.{reply_lines}
+use Rattle.ckpt_pages.specs.declared.tables.Tables.{Tables}
+use Rattle.mas_complex.specs.Journals.{kept_all}
+use Rattle.mas_complex.specs.Meaning.{run}
+use Rattle.mas_complex.specs.Parts.{parts_of}
+use Rattle.mas_complex.specs.Texts.{lost_now, spools_at}
+use Rattle.member_node.proofs.WriteLemmas.{none_out}
+use Rattle.member_steps.specs.Steps.{entry_of, entry_with, reply_to}
+use Rattle.member_steps.proofs.StepLemmas.{if_ok, may_alike, some_of_one, step_texts}
+use Rattle.member_decks.proofs.FinishLemmas.{one_of}
+use Rattle.step_turns.specs.declared.states.State.TheVariants.{Told}
+use Rattle.step_turns.specs.States.{nothing_found}
+use Rattle.member_sittings.specs.Ends.{ends_in}
+use Rattle.member_sittings.specs.Sat.{IsSatOn}
+use Rattle.member_sittings.specs.Whole.{Commanded}
+use Rattle.member_sittings.proofs.KeepLemmas.{sat_none}
+use Rattle.member_sittings.proofs.SeatLemmas.{gives_one}
+use Rattle.member_sittings.proofs.TurnLemmas.{all_of_one, command_sits}
+use Rattle.member_sittings.proofs.commands.sit_command.Goals as goal
+
+pub returns-in_default-clause-sat : goal.returns-in_default-clause-sat
+returns-in_default-clause-sat g c =
+    let P = g.P.Plant in
+    let x = c.args.complex.now in
+    let h = c.args.holder in
+    let b = c.requires.may.sits.seat.between in
+    let Q : Queue = run x.base (kept_all x.journal.batches) in
+    let e : Entry = entry_of Q h.by h.step c.args.command in
+    record {
+      sitting = ends_in h ((e ∷ []) ∷ []) Told (reply_lines h.by h.step (reply_to Q h.by c.args.command));
+      is = λ t. sym (command_sits Q h c.args.command nothing_found);
+      of = all_of_one h.by h.step (e ∷ []) (one_of (e ∷ []) e h.by h.step refl refl refl);
+      sat = sat_none P h.by h Told (reply_lines h.by h.step (reply_to Q h.by c.args.command)) (parts_of x) (e ∷ [])
+          (none_out x.journal.batches x.journal.batches x.placed x.current refl b.unplaced b.none);
+    }
+
+pub close_sitting-requires : goal.close_sitting-requires
+close_sitting-requires g c =
+    let P = g.P.Plant in
+    let C = g.C.Copying in
+    let x = c.args.complex.now in
+    let m = c.args.member.now in
+    let n = c.give.new.member in
+    let e = c.give.ensures in
+    let k = c.in-Ok.ensures in
+    let sits = c.requires.may.sits in
+    let b = sits.seat.between in
+    let may = c.requires.givable in
+    let v = P.view x.plant in
+    let did : Commanded m n = record {
+      id = e.id;
+      room = e.room;
+      here = e.behind ∙ sits.seat.still.here;
+      level = e.level;
+      levels = e.levels;
+      pages = e.pages;
+      config = e.config;
+      spelling = e.spelling;
+      fit = e.fit;
+    } in
+    let bounds = c.requires.may.bounds in
+    let high = bounds.high in
+    let reached = bounds.reached in
+    record {
+      gives = gives_one P C (parts_of x) m n did c.args.holder.step sits c.args.command k.given.0 k.given.2 may.may may.fit may.unmarked e.order k.done
+          (λ t. k.sound (b.sound t) (may_alike m.checkpoint.tables x.base (kept_all x.journal.batches) (b.sound t) (b.queue t) m.id c.args.command may.may))
+          (λ t. ∥∥₁_map (c.kept_texts.ensures.kept t) (λ has. step_texts c.law_of_texts.ensures.texts c.law_of_texts.ensures.told (lost_now v) (spools_at v v.now) x.base.config.groups x.base x.base x.journal.batches x.journal.batches
+          m.checkpoint.tables m.id c.args.holder.step c.args.command n.batch may.plain (b.sound t) (b.queue t) refl refl (k.entry _ (b.queue t)) has));
+      some = some_of_one n.batch _ k.given.2;
+      bounds = record { high = subst (λ (i : ℕ). i + 1 < 2 ^ 63) (sym e.level) (omega (arith, high)); reached = omega (arith, reached); first = bounds.first; second = bounds.second };
+      holder = c.requires.may.holder ∙ sym e.id;
+    }
+
+pub returns-clause-sat : goal.returns-clause-sat
+returns-clause-sat g c =
+    let P = g.P.Plant in
+    let x = c.args.complex.now in
+    let m = c.args.member.now in
+    let n = c.give.new.member in
+    let h = c.args.holder in
+    let k = c.in-Ok.ensures in
+    let at = h.step in
+    let d = c.args.command in
+    let Q : Queue = run x.base (kept_all x.journal.batches) in
+    let e : Entry = entry_with m.id at d k.given.0 in
+    let lines : List (List ℕ) = c.in-Ok.lines in
+    record {
+      sitting = ends_in h (n.batch ∷ []) Told lines;
+      is = λ t.
+          let told = c.requires.may.sits.seat.between.queue t in
+          ap (λ (es : List Entry). ends_in h (es ∷ []) Told lines) (k.entry Q told)
+          ∙ ap (λ (ls : List (List ℕ)). ends_in h ((entry_of Q m.id at d ∷ []) ∷ []) Told ls) (k.lines Q told)
+          ∙ ap (λ (i : MemberId). ends_in h ((entry_of Q i at d ∷ []) ∷ []) Told (reply_lines i at (reply_to Q i d))) (sym c.requires.may.holder)
+          ∙ sym (command_sits Q h d nothing_found);
+      of = all_of_one h.by at n.batch (one_of n.batch e h.by at k.given.2 (sym c.requires.may.holder) refl);
+      sat = c.close_sitting.ensures.sat;
+    }
+
+pub returns-clause-again : goal.returns-clause-again
+returns-clause-again g c =
+    let x = c.args.complex.now in
+    let m = c.args.member.now in
+    let z = c.close_sitting.new.complex in
+    let l = c.close_sitting.new.member in
+    let d = c.give.ensures in
+    let tables = ap (λ (t : Tables). t.order) c.close_sitting.ensures.tables in
+    if_ok _ (λ e. IsSatOn g.P.Plant g.C.Copying (parts_of x) (parts_of z) m l c.args.holder.step e) c.close_sitting.result
+    (λ e on. record { sits = on.sits; grown = record { order = omega (arith, d.order, tables); high = rw d.level at on.grown.high; reached = on.grown.reached } }) c.close_sitting.ensures.again

@@ -1,0 +1,28 @@
+use Rattle.std.proofs.Common.{◌∙◌, ℕ, List, [], ◌∷◌, ap, refl, subst, sym}
+use Rattle.mas_types.specs.declared.ids.MemberId.{MemberId}
+use Rattle.mas_complex.specs.Parts.{parts_of}
+use Rattle.member_node.proofs.WriteLemmas.{none_out}
+use Rattle.member_decks.specs.Decks.{closing_reply, lines_by}
+use Rattle.step_turns.specs.declared.states.State.TheVariants.{Told}
+use Rattle.member_sittings.specs.Ends.{ends_in}
+use Rattle.member_sittings.specs.Sat.{IsSat}
+use Rattle.member_sittings.proofs.KeepLemmas.{sat_none}
+use Rattle.member_sittings.proofs.decks.close_deck.Goals as goal
+
+pub returns-in_default-clause-sat : goal.returns-in_default-clause-sat
+returns-in_default-clause-sat g c =
+    let x = c.args.complex.now in
+    let m = c.args.member.now in
+    let h = c.args.holder in
+    let still = c.requires.may.gives.still in
+    sat_none g.P.Plant h.by h Told (lines_by h.by h.step c.args.lost (closing_reply m.batch)) (parts_of x) m.batch
+    (none_out x.journal.batches x.journal.batches x.placed x.current refl still.unplaced still.none)
+
+pub returns-clause-sat : goal.returns-clause-sat
+returns-clause-sat g c =
+    let x = c.args.complex.now in
+    let z = c.close_sitting.new.complex in
+    let m = c.args.member.now in
+    let h = c.args.holder in
+    let lines = c.in-Ok.ensures ∙ ap (λ (i : MemberId). lines_by i h.step c.args.lost (closing_reply m.batch)) (sym c.requires.may.holder) in
+    subst (λ (ls : List (List ℕ)). IsSat g.P.Plant h.by (ends_in h (m.batch ∷ []) Told ls) (parts_of x) (parts_of z) c.close_sitting.result) lines c.close_sitting.ensures.sat

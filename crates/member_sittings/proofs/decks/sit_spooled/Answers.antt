@@ -1,0 +1,163 @@
+use Rattle.std.proofs.Common.{◌≡◌, ◌∙◌, ◌+◌, ◌<◌, ◌^◌, ℕ, true, List, [], ◌∷◌, refl, sym, ap, subst, arith}
+use Rattle.std.proofs.Math.Logic.{∥∥₁_map}
+use Rattle.mas_types.specs.declared.commands.Command.{Command}
+use Rattle.mas_types.specs.declared.commands.Command.TheVariants as command
+use Rattle.mas_types.specs.declared.ids.MemberId.{MemberId}
+use Rattle.mas_types.specs.declared.journals.Entry.{Entry}
+use Rattle.mas_types.specs.declared.queues.Config.{Config}
+use Rattle.mas_types.specs.declared.queues.Queue.{Queue}
+use Rattle.mas_types.specs.Fit.{IsFit}
+use Rattle.mas_types.specs.Queue.{is_member}
+use Rattle.mas_types.specs.Step.{may_give}
+use Rattle.queue_commands.specs.Given.{IsGiver}
+use Rattle.ckpt_pages.specs.declared.tables.Tables.{Tables}
+use Rattle.mas_complex.specs.Journals.{kept_all}
+use Rattle.mas_complex.specs.Meaning.{run}
+use Rattle.mas_complex.specs.Parts.{parts_of}
+use Rattle.mas_complex.specs.Texts.{HasTexts, lost_now, spools_at}
+use Rattle.member_node.proofs.WriteLemmas.{none_out, run_append}
+use Rattle.member_steps.specs.Steps.{entry_of, entry_with}
+use Rattle.member_steps.proofs.StepLemmas.{if_ok, only_entry, some_of_one}
+use Rattle.member_decks.specs.Decks.{closing_reply, finishing, lines_by}
+use Rattle.member_decks.proofs.FinishLemmas.{finished_texts, finishing_fit, finishing_giver, finishing_may, finishing_unmarked, one_named, one_of}
+use Rattle.step_turns.specs.declared.states.State.TheVariants.{Told}
+use Rattle.member_sittings.specs.Ends.{deck_end}
+use Rattle.member_sittings.specs.Sat.{IsSatOn}
+use Rattle.member_sittings.specs.Whole.{Commanded}
+use Rattle.member_sittings.proofs.KeepLemmas.{sat_none}
+use Rattle.member_sittings.proofs.SeatLemmas.{gives_one}
+use Rattle.member_sittings.proofs.TurnLemmas.{all_of_one, spooled_sits}
+use Rattle.member_sittings.proofs.decks.sit_spooled.Goals as goal
+
+pub do_command-requires-clause-command : goal.do_command-requires-clause-command
+do_command-requires-clause-command g c = let d = c.args.deck in subst IsFit (sym c.finishing-command.ensures) (finishing_fit d.lost d.job d.text c.requires.text)
+
+pub do_command-requires-clause-giver : goal.do_command-requires-clause-giver
+do_command-requires-clause-giver g c =
+    let m = c.args.member.now in
+    let d = c.args.deck in
+    let holds = c.requires.may.sits.seat.still.holds in
+    subst (IsGiver m.id) (sym c.finishing-command.ensures) (finishing_giver d.lost d.job d.text m.id holds.some holds.few)
+
+pub do_command-requires-clause-order : goal.do_command-requires-clause-order
+do_command-requires-clause-order g c = let order = c.requires.may.bounds.order in omega (arith, order)
+
+pub returns-in_default-clause-sat : goal.returns-in_default-clause-sat
+returns-in_default-clause-sat g c =
+    let P = g.P.Plant in
+    let x = c.args.complex.now in
+    let h = c.args.holder in
+    let d = c.args.deck in
+    let b = c.requires.may.sits.seat.between in
+    let Q : Queue = run x.base (kept_all x.journal.batches) in
+    let e : Entry = entry_of Q h.by h.step (finishing d.lost d.job d.text) in
+    record {
+      sitting = deck_end h (e ∷ []) d.lost;
+      is = λ t. sym (spooled_sits Q h d.job d.text d.lost);
+      of = all_of_one h.by h.step (e ∷ []) (one_of (e ∷ []) e h.by h.step refl refl refl);
+      sat = sat_none P h.by h Told (lines_by h.by h.step d.lost (closing_reply (e ∷ []))) (parts_of x) (e ∷ [])
+          (none_out x.journal.batches x.journal.batches x.placed x.current refl b.unplaced b.none);
+    }
+
+pub close_deck-requires-clause-may : goal.close_deck-requires-clause-may
+close_deck-requires-clause-may g c =
+    let P = g.P.Plant in
+    let C = g.C.Copying in
+    let x = c.args.complex.now in
+    let m = c.args.member.now in
+    let n = c.do_command.new.self in
+    let e = c.do_command.ensures in
+    let k = c.in-Ok.ensures in
+    let d = c.args.deck in
+    let last : Command = finishing d.lost d.job d.text in
+    let at = c.args.holder.step in
+    let sits = c.requires.may.sits in
+    let b = sits.seat.between in
+    let v = P.view x.plant in
+    let Q : Queue = run x.base (kept_all x.journal.batches) in
+    let gone = lost_now v in
+    let disks = spools_at v v.now in
+    let per = x.base.config.groups in
+    let p = k.pushed in
+    let pushed : n.batch ≡ entry_with m.id at c.finishing-command.result p.0 ∷ [] = only_entry m.batch n.batch (entry_with m.id at c.finishing-command.result p.0) p.1 b.nothing in
+    let one : n.batch ≡ entry_with m.id at last p.0 ∷ [] = pushed ∙ ap (λ (q : Command). entry_with m.id at q p.0 ∷ []) c.finishing-command.ensures in
+    let member : is_member x.base.config m.id ≡ true = sits.seat.still.holds.member in
+    let of_tables : is_member m.checkpoint.tables.config m.id ≡ true = subst (λ (q : Config). is_member q m.id ≡ true) sits.seat.still.config member in
+    let may : may_give x.base m.id last ≡ true = sym (finishing_may d.lost d.job d.text x.base m.id) ∙ member in
+    let did : Commanded m n = record {
+      id = e.id;
+      room = e.room;
+      here = e.behind ∙ sits.seat.still.here;
+      level = e.level;
+      levels = e.levels;
+      pages = e.pages;
+      config = e.config;
+      spelling = e.spelling;
+      fit = e.fit;
+    } in
+    let bounds = c.requires.may.bounds in
+    let high = bounds.high in
+    let reached = bounds.reached in
+    record {
+      gives = gives_one P C (parts_of x) m n did at sits last p.0 one may (finishing_fit d.lost d.job d.text c.requires.text) (finishing_unmarked d.lost d.job d.text) e.order k.done
+          (λ t.
+          let s = b.sound t in
+          let drops : may_give s.queue m.id (command.Drop d.job) ≡ true = ap (λ (q : Config). is_member q m.id) s.told.config ∙ of_tables in
+          k.sound s (ap (may_give s.queue m.id) c.finishing-command.ensures ∙ sym (finishing_may d.lost d.job d.text s.queue m.id) ∙ drops))
+          (λ t.
+          let tells = b.queue t in
+          let own = c.law_of_texts.ensures.told m.checkpoint.tables Q (b.sound t) tells in
+          let named : n.batch ≡ entry_of Q m.id at last ∷ [] = only_entry m.batch n.batch (entry_of Q m.id at c.finishing-command.result) (k.entry Q tells) b.nothing ∙ ap (λ (q : Command). entry_of Q m.id at q ∷ []) c.finishing-command.ensures in
+          ∥∥₁_map (c.kept_texts.ensures.kept t) (λ has. subst (HasTexts gone disks per) (sym (run_append x.base (kept_all x.journal.batches) n.batch ∙ ap (run Q) named))
+          (finished_texts gone disks per Q m.id at own has c.law_of_texts.ensures.texts c.law_of_entered_texts.ensures.enter d.lost d.job d.text (λ none. c.requires.spooled none t))));
+      some = some_of_one n.batch (entry_with m.id at last p.0) one;
+      bounds = record { high = subst (λ (i : ℕ). i + 1 < 2 ^ 63) (sym e.level) (omega (arith, high)); reached = omega (arith, reached); first = bounds.first; second = bounds.second };
+      holder = c.requires.may.holder ∙ sym e.id;
+    }
+
+pub close_deck-requires-clause-named : goal.close_deck-requires-clause-named
+close_deck-requires-clause-named g c =
+    let m = c.args.member.now in
+    let n = c.do_command.new.self in
+    let p = c.in-Ok.ensures.pushed in
+    let e = entry_with m.id c.args.holder.step c.finishing-command.result p.0 in
+    one_named n.batch e (only_entry m.batch n.batch e p.1 c.requires.may.sits.seat.between.nothing) p.2
+
+pub returns-clause-sat : goal.returns-clause-sat
+returns-clause-sat g c =
+    let P = g.P.Plant in
+    let x = c.args.complex.now in
+    let m = c.args.member.now in
+    let n = c.do_command.new.self in
+    let h = c.args.holder in
+    let k = c.in-Ok.ensures in
+    let at = h.step in
+    let d = c.args.deck in
+    let last : Command = finishing d.lost d.job d.text in
+    let Q : Queue = run x.base (kept_all x.journal.batches) in
+    let p = k.pushed in
+    let e = entry_with m.id at c.finishing-command.result p.0 in
+    let pushed : n.batch ≡ e ∷ [] = only_entry m.batch n.batch e p.1 c.requires.may.sits.seat.between.nothing in
+    record {
+      sitting = deck_end h n.batch d.lost;
+      is = λ t.
+          let tells = c.requires.may.sits.seat.between.queue t in
+          let named : n.batch ≡ entry_of Q m.id at last ∷ [] = only_entry m.batch n.batch (entry_of Q m.id at c.finishing-command.result) (k.entry Q tells) c.requires.may.sits.seat.between.nothing
+          ∙ ap (λ (q : Command). entry_of Q m.id at q ∷ []) c.finishing-command.ensures in
+          ap (λ (es : List Entry). deck_end h es d.lost) named
+          ∙ ap (λ (i : MemberId). deck_end h (entry_of Q i at last ∷ []) d.lost) (sym c.requires.may.holder)
+          ∙ sym (spooled_sits Q h d.job d.text d.lost);
+      of = all_of_one h.by at n.batch (one_of n.batch e h.by at pushed (sym c.requires.may.holder) refl);
+      sat = c.close_deck.ensures.sat;
+    }
+
+pub returns-clause-again : goal.returns-clause-again
+returns-clause-again g c =
+    let x = c.args.complex.now in
+    let m = c.args.member.now in
+    let z = c.close_deck.new.complex in
+    let l = c.close_deck.new.member in
+    let d = c.do_command.ensures in
+    let tables = ap (λ (t : Tables). t.order) c.close_deck.ensures.tables in
+    if_ok _ (λ e. IsSatOn g.P.Plant g.C.Copying (parts_of x) (parts_of z) m l c.args.holder.step e) c.close_deck.result
+    (λ e on. record { sits = on.sits; grown = record { order = omega (arith, d.order, tables); high = rw d.level at on.grown.high; reached = on.grown.reached } }) c.close_deck.ensures.again

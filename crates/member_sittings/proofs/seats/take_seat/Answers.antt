@@ -1,0 +1,44 @@
+use Rattle.std.proofs.Common.{ap}
+use Rattle.std.proofs.lemmas.Result.{err_from_is_err_and}
+use Rattle.mas_types.specs.declared.journals.Journal.{Journal}
+use Rattle.mas_complex.specs.Parts.{parts_of}
+use Rattle.member_sittings.proofs.SeatLemmas.{Taken, taken_seat}
+use Rattle.member_sittings.proofs.seats.take_seat.Goals as goal
+
+pub returns-in_err-take_hold-clause-acts : goal.returns-in_err-take_hold-clause-acts
+returns-in_err-take_hold-clause-acts g c =
+    let p = err_from_is_err_and c.from_residual.result c.from_residual.ensures.1 in
+    rw (p.1, p.2) c.in_err-take_hold.ensures.acts
+
+pub returns-clause-seat : goal.returns-clause-seat
+returns-clause-seat g c =
+    let P = g.P.Plant in
+    let C = g.C.Copying in
+    let x = c.args.complex.now in
+    let y = c.take_hold.new.complex in
+    let m = c.args.member.now in
+    let n = c.take_hold.new.member in
+    let e = c.take_hold.ensures in
+    let k = c.in_ok-take_hold.ensures in
+    let taken : Taken P C (parts_of x) (parts_of y) m n = record {
+      book = e.book;
+      base = e.base;
+      since = e.since;
+      batches = ap (λ (j : Journal). j.batches) e.journal;
+      reserved = e.reserved;
+      level = e.level;
+      id = e.id;
+      here = k.here;
+      goes = k.acts.course.goes;
+      between = k.between;
+      first = k.rests1;
+      second = k.rests2;
+      room1 = k.room1;
+      room2 = k.room2;
+      many = k.many;
+      config = k.config;
+      order = k.order;
+      low = k.low;
+      high = k.high;
+    } in
+    taken_seat P C (parts_of x) (parts_of y) m n c.requires taken

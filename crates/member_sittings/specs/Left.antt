@@ -1,0 +1,92 @@
+-- What a sitting leaves in the journal, as far as it came, and on the console.
+use Rattle.std.specs.Prelude.{◌≡◌, ◌⊎◌, ℕ, ◌≤◌, ◌<◌, Bool, true, false, List, [], ◌∷◌, ◌++◌, length, map, take, drop, Option, Some, None, Result, Ok, Err}
+use Rattle.mas_types.specs.declared.ids.MemberId.{MemberId}
+use Rattle.mas_types.specs.declared.journals.Batch.{Batch}
+use Rattle.mas_types.specs.declared.journals.Entry.{Entry}
+use Rattle.spool_disk.specs.View.{Line}
+use Rattle.mas_complex.specs.Headline.{whole}
+use Rattle.member_node.specs.declared.member.NodeNo.{NodeNo}
+use Rattle.member_node.specs.declared.member.NodeNo.TheVariants.{BothLost, Halted, ConsoleFault, NoMemory}
+use Rattle.member_steps.specs.Saying.{torn}
+use Rattle.member_decks.specs.Batches.{IsFlyingBatch, IsKeptBatch}
+use Rattle.step_turns.specs.Batches.{batch_of}
+
+-- THE JOURNAL
+
+-- How far a sitting came: so many of its batches are kept, and of the next one so many entries stand in the journal too, in flight to the
+-- end or kept. None do where that isn't begun.
+pub record Reach : Type 0 where
+  pub whole : ℕ
+  pub part : ℕ
+  pub flies : Bool
+
+-- each batch is kept
+abbrev pub reach_all : List (List Entry) → Reach
+reach_all ess = record { whole = length ess; part = 0; flies = false }
+
+abbrev pub first_of : List (List Entry) → List Entry
+first_of [] = []
+first_of (es ∷ ess) = es
+
+-- the batches that stand in the journal, by their entries
+abbrev pub left_by : Reach → List (List Entry) → List (List Entry)
+left_by r ess = take r.whole ess ++ batch_of (take r.part (first_of (drop r.whole ess)))
+
+-- a batch that is in flight to the end, or else kept
+abbrev pub IsLastBatch : Bool → MemberId → List Entry → ℕ → ℕ → Batch → Type 0
+IsLastBatch true by es from now b = IsFlyingBatch by es from now b
+IsLastBatch false by es from now b = IsKeptBatch by es from now b
+
+-- Batches with these entries, each kept before the next began; the last is in flight where this is true.
+abbrev pub StandThere : Bool → MemberId → ℕ → ℕ → List (List Entry) → List Batch → Type 0
+StandThere flies by from now [] [] = flies ≡ false
+StandThere flies by from now [] (b ∷ bs) = ⊥
+StandThere flies by from now (es ∷ ess) [] = ⊥
+StandThere flies by from now (es ∷ []) (b ∷ bs) = (bs ≡ []) × IsLastBatch flies by es from now b
+StandThere flies by from now (es ∷ next ∷ ess) (b ∷ bs) = IsKeptBatch by es from now b × StandThere flies by b.last now (next ∷ ess) bs
+
+-- How far it came by its answer: to the end where the step goes on or the console failed. Where memory wanted nothing is in flight.
+abbrev pub ReachesBy : {T : Type 0} → Result T NodeNo → List (List Entry) → Reach → Type 0
+ReachesBy (Ok done) ess r = r ≡ reach_all ess
+ReachesBy (Err ConsoleFault) ess r = r ≡ reach_all ess
+ReachesBy (Err NoMemory) ess r = r.flies ≡ false
+ReachesBy (Err BothLost) ess r = Unit {0}
+ReachesBy (Err Halted) ess r = Unit {0}
+
+-- A journal has more of these batches of a member, begun from a moment on, as far as this one came.
+pub record HasLeft (by : MemberId) (from now : ℕ) (ess : List (List Entry)) (reach : Reach) (more : List Batch) : Type 0 where
+  pub within : reach.whole ≤ length ess
+  pub flying : reach.flies ≡ true → 1 ≤ reach.part
+  pub stand : StandThere reach.flies by from now (left_by reach ess) more
+
+-- THE CONSOLE
+
+-- so many lines were said whole, and this text torn after them
+pub record Said : Type 0 where
+  pub lines : ℕ
+  pub torn : Option (List ℕ)
+
+abbrev pub said_nothing : Said
+said_nothing = record { lines = 0; torn = None }
+
+abbrev pub torn_line : Option (List ℕ) → List Line
+torn_line None = []
+torn_line (Some text) = torn text ∷ []
+
+abbrev pub said_of : Said → List (List ℕ) → List Line
+said_of s lines = map whole (take s.lines lines) ++ torn_line s.torn
+
+-- what was said by the answer
+abbrev pub SaidBy : {T : Type 0} → Result T NodeNo → List (List ℕ) → Said → Type 0
+SaidBy (Ok done) lines s = s ≡ record { lines = length lines; torn = None }
+SaidBy (Err NoMemory) lines s = s ≡ said_nothing
+SaidBy (Err BothLost) lines s = s ≡ said_nothing
+SaidBy (Err ConsoleFault) lines s = (s.lines < length lines) × (s.torn ≡ None)
+SaidBy (Err Halted) lines s = s.lines ≤ length lines
+
+-- Of these lines some were said by the answer, and none before this held.
+pub record HasSaid {T : Type 0} (kept : Type 0) (lines : List (List ℕ)) (was now : List Line) (result : Result T NodeNo) : Type 0 where
+  pub said : Said
+  pub is : now ≡ was ++ said_of said lines
+  pub by_answer : SaidBy result lines said
+  pub once_kept : (said ≡ said_nothing) ⊎ kept

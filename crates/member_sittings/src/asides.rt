@@ -1,0 +1,62 @@
+//! A deck's acts without the lock: its text goes into the groups that were taken for its job.
+ghost use Rattle.std.specs.Prelude.{◌≡◌};
+ghost use Rattle.mas_complex.specs.Parts.{parts_of};
+ghost use Rattle.member_sittings.specs.Asides.{MaySpoolDeck, SpoolsDeck, deck_found, finds_of};
+
+use job_outcome::Read;
+use mas_complex::{Complex, Steady};
+use mas_types::Lines;
+use member_decks::{SpoolError, spool_text};
+use member_node::{Member, NodeNo};
+use spool_disk::Plant;
+use spool_text::groups_needed;
+use std::alloc::Global;
+use step_turns::Found;
+use track_groups::held_by;
+
+// What a member found that looked only whether a volume is lost.
+fn found_lost(alloc: Global, lost: Option<u8>) -> Found
+    ensures { result ≡ deck_found lost }
+{
+    Found {
+        read: Read::Lines(Lines::new(alloc)),
+        lost,
+        printer: false,
+    }
+}
+
+// What a member found that spooled a text, by the answer of the acts.
+fn found_by(alloc: Global, spooled: Result<(), SpoolError>) -> Result<Found, NodeNo>
+    ensures { result ≡ finds_of spooled }
+{
+    match spooled {
+        Ok(()) => Ok(found_lost(alloc, None)),
+        Err(SpoolError::Lost(volume)) => Ok(found_lost(alloc, Some(volume))),
+        Err(SpoolError::Halted) => Err(NodeNo::Halted),
+    }
+}
+
+/// Writes a deck's text into the lowest groups of the member, as many as it needs, and syncs the volumes on which they lie. It needs no
+/// lock: whoever holds it, the book, the copies and the journal are as they were. Answers the volume that was found lost, if one was.
+///
+/// NoMemory leaves all as it was. Halted comes only where the member was stopped.
+pub fn spool_deck<P: Plant + Drop, C: Steady + Drop>(
+    member: &Member,
+    alloc: Global,
+    complex: &mut Complex<P, C>,
+    text: &Lines,
+) -> Result<Found, NodeNo>
+    requires { MaySpoolDeck complex.old member.now text.now }
+    ensures frame { parts_of complex.new ≡ record (parts_of complex.old) { plant = complex.new.plant } }
+    ensures spools { SpoolsDeck complex.old complex.new member.now text.now result }
+{
+    let by = member.id;
+    let Ok(held) = held_by(alloc, member.checkpoint.tables.owners.as_slice(), by) else {
+        return Err(NodeNo::NoMemory);
+    };
+    let groups = groups_needed(text);
+    found_by(
+        alloc,
+        spool_text(complex, by, &held.as_slice()[..groups as usize], text),
+    )
+}

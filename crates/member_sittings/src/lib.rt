@@ -1,0 +1,17 @@
+//! A member's sittings: what it does while it holds the lock, from the beginning of its step or after acts without the lock, up to the next
+//! such acts or the step's end. And the acts of a deck that want no lock.
+#![tactic(auto)]
+
+mod asides;
+mod closing;
+mod commands;
+mod decks;
+mod ends;
+mod seats;
+
+pub use asides::spool_deck;
+pub use closing::{close_sitting, give_up_sitting, pause_sitting};
+pub use commands::sit_command;
+pub use decks::{SpooledDeck, sit_deck, sit_spooled};
+pub use ends::{SittingEnd, release_of};
+pub use seats::take_seat;
