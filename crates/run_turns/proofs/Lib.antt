@@ -1,0 +1,11 @@
+mod Computed
+pub mod Tests
+pub mod Ledger
+pub mod Stopped
+pub mod Told
+pub mod Alone
+pub mod Locks
+pub mod Near
+pub mod One
+pub mod Halts
+pub mod Firsts

@@ -1,0 +1,13 @@
+pub mod Sights
+pub mod Scenes
+pub mod Admissions
+pub mod Pieces
+pub mod Cuts
+pub mod Steps
+pub mod Runs
+pub mod Fuses
+pub mod Alone
+pub mod Laws
+pub mod Examples
+pub mod StopExamples
+pub mod PrintExamples
