@@ -1,0 +1,377 @@
+-- The rest of a sitting, part by part.
+use Rattle.std.proofs.Common.{◌≡◌, ◌∙◌, ◌⊎◌, inl, inr, ⊎_elim, ℕ, zero, suc, ◌+◌, ◌≤◌, Bool, true, false, List, [], ◌∷◌, ◌++◌, length, map, take, All, append_assoc, append-nil, Result, Ok, Err, ap, refl, sym, subst, arith}
+use Rattle.std.proofs.lemmas.List.{length-append}
+use Rattle.std.proofs.lemmas.List.Elements.{All-append, All-cons, All-nil}
+use Rattle.std.specs.Prelude.{IfOk, OnOk}
+use Rattle.mas_types.specs.declared.answers.Closing.{Closing}
+use Rattle.mas_types.specs.declared.commands.Command.{Command}
+use Rattle.mas_types.specs.declared.ids.MemberId.{MemberId}
+use Rattle.mas_types.specs.declared.journals.Batch.{Batch}
+use Rattle.mas_types.specs.declared.journals.Entry.{Entry}
+use Rattle.mas_types.specs.declared.queues.Queue.{Queue}
+use Rattle.mas_types.specs.Closings.{closing_line}
+use Rattle.mas_types.specs.Run.{run}
+use Rattle.queue_laws.proofs.Finds.{test_cases}
+use Rattle.spool_disk.specs.declared.plant.Part.TheVariants.{Console}
+use Rattle.spool_disk.specs.Acts.{Goes}
+use Rattle.spool_disk.specs.View.{Line, View}
+use Rattle.mas_complex.specs.Headline.{whole}
+use Rattle.job_outcome.specs.declared.units.UnitEnd.{UnitEnd}
+use Rattle.job_outcome.specs.declared.units.UnitEnd.TheVariants as ends
+use Rattle.job_outcome.specs.Next.{end_by}
+use Rattle.member_node.specs.declared.member.NodeNo.{NodeNo}
+use Rattle.member_node.specs.declared.member.NodeNo.TheVariants.{BothLost, Halted, ConsoleFault, NoMemory}
+use Rattle.member_node.proofs.CourseLemmas.{course_then, only_none, only_on, papers_none, papers_on, rose_later}
+use Rattle.member_node.specs.Spares.{stopped_in}
+use Rattle.member_node.proofs.SpareLemmas.{spares_then}
+use Rattle.member_decks.specs.Batches.{AreAll, HasAll, IsKeptBatch}
+use Rattle.member_decks.proofs.BatchLemmas.{all_sooner}
+use Rattle.member_decks.specs.Keeping.{CopyCauses}
+use Rattle.member_decks.specs.Steps.{AreOf}
+use Rattle.member_steps.specs.Saying.{Breaks}
+use Rattle.member_steps.specs.Steps.{StepCauses, StepTells}
+use Rattle.member_decks.proofs.OutcomeLemmas.{left_then}
+use Rattle.member_work.specs.Steps.{IsClosing, IsKeeping, WorkLeaves}
+use Rattle.member_work.proofs.KeepingLemmas.{keeping_starts, never_console}
+use Rattle.member_work.proofs.LeavesLemmas.{StartsAs, work_then}
+use Rattle.step_turns.specs.Batches.{batch_of, cut, cut_after}
+use Rattle.step_turns.specs.Entries.{all_entries, closing_reply, given_in}
+use Rattle.step_turns.specs.Sittings.{released}
+use Rattle.step_turns.specs.declared.states.Holder.{Holder}
+use Rattle.step_turns.specs.declared.states.State.{State}
+use Rattle.step_turns.specs.declared.states.State.TheVariants.{Rested, Told}
+use Rattle.step_turns.specs.Turns.{Turn, after_part, goes_on, goes_on_by, leaves, says, units_from}
+use Rattle.step_turns.proofs.Given.{entries_append}
+use Rattle.member_sittings.specs.declared.ends.SittingEnd.{SittingEnd}
+use Rattle.member_units.specs.Plays.{Closes, EndsAs, HasGiven, Keeps, Plays, SparesVolumes, Wrote, after_full, full_of, given_by, rests, wrote_after, wrote_of}
+use Rattle.member_units.specs.Works.{Outside, Place}
+use Rattle.member_units.proofs.Cuts.{batch_entries, cut_end, full_entries, full_first, of_after, of_batch, of_cut, of_full_batches, one_batch, starts_after, starts_cut, starts_full, starts_itself}
+use Rattle.member_units.proofs.Ours.{AreIts, after_its}
+
+-- BATCHES THAT ARE KEPT, AND THEN OTHERS OR LINES
+
+kept_later : (by : MemberId) (es : List Entry) (from now later : ℕ) (b : Batch) → now ≤ later → IsKeptBatch by es from now b → IsKeptBatch by es from later b
+kept_later by es from now later b le k = record { by_it = k.by_it; entries = k.entries; kept = k.kept; moments = (k.moments.0, k.moments.1, omega (arith, le, k.moments.2)) }
+
+all_then : (by : MemberId) (from mid now : ℕ) (ess more : List (List Entry)) (bs cs : List Batch) → from ≤ mid → mid ≤ now → AreAll by from mid ess bs → AreAll by mid now more cs → AreAll by from now (ess ++ more) (bs ++ cs)
+all_then by from mid now [] more [] cs first then all rest = all_sooner by from mid now more cs first rest
+all_then by from mid now [] more (b ∷ bs) cs first then all rest = absurd all
+all_then by from mid now (es ∷ ess) more [] cs first then all rest = absurd all
+all_then by from mid now (es ∷ ess) more (b ∷ bs) cs first then all rest = (kept_later by es from mid now b then all.0, all_then by b.last mid now ess more bs cs all.0.moments.2 then all.1 rest)
+
+-- the cause of an error before a line
+causes_as : (S T : Type 0) (by : MemberId) (e : NodeNo) (a a' b b' : Bool) (v w : View) → CopyCauses {T = S} (Err e) by.0 a a' b b' v w → StepCauses {T = T} (Err e) by.0 a a' b b' v w
+causes_as S T by NoMemory a a' b b' v w c = c
+causes_as S T by BothLost a a' b b' v w c = c
+causes_as S T by Halted a a' b b' v w c = c
+causes_as S T by ConsoleFault a a' b b' v w c = absurd c
+
+leaves_as : (S T : Type 0) (by : MemberId) (e : NodeNo) (from now : ℕ) (ess : List (List Entry)) (bs : List Batch) → WorkLeaves {T = S} (Err e) by from now ess bs → WorkLeaves {T = T} (Err e) by from now ess bs
+leaves_as S T by NoMemory from now ess bs l = l
+leaves_as S T by BothLost from now ess bs l = l
+leaves_as S T by Halted from now ess bs l = l
+leaves_as S T by ConsoleFault from now ess bs l = l
+
+module _ {T : Type 0} (told : Type 0) (by : MemberId) where
+  -- an error before a line is said
+  pub closes_error : {S : Type 0} (e : NodeNo) (lines : List (List ℕ)) (ess : List (List Entry)) (o n : Outside) → Keeps {T = S} told by ess o n (Err e) → Closes {T = T} told by lines ess o n (Err e)
+  closes_error {S} e lines ess o n k = record {
+    course = k.course;
+    loses = k.loses;
+    cause = causes_as S T by e o.first n.first o.second n.second o.view n.view k.cause;
+    spares = k.spares;
+    rest = k.rest;
+    batches_are = k.batches_are;
+    journal = leaves_as S T by e o.view.now n.view.now ess k.rest k.journal;
+    console = λ t. tells e k.cause (k.quiet t);
+  } where
+    tells : (x : NodeNo) → CopyCauses {T = S} (Err x) by.0 o.first n.first o.second n.second o.view n.view → (n.view.world n.view.now).console ≡ (o.view.world o.view.now).console
+        → StepTells {T = T} (Err x) lines (HasAll by o.view.now n.view.now ess o.batches n.batches) (o.view.world o.view.now).console (n.view.world n.view.now).console
+    tells NoMemory c same = same
+    tells BothLost c same = same
+    tells Halted c same = inl same
+    tells ConsoleFault c same = absurd c
+
+  -- nothing is said
+  pub closes_none : {S : Type 0} (s : S) (t : T) (ess : List (List Entry)) (o n : Outside) → Keeps {T = S} told by ess o n (Ok s) → Closes {T = T} told by [] ess o n (Ok t)
+  closes_none s t ess o n k = record {
+    course = k.course;
+    loses = k.loses;
+    cause = k.cause;
+    spares = k.spares;
+    rest = k.rest;
+    batches_are = k.batches_are;
+    journal = k.journal;
+    console = λ told. k.quiet told ∙ sym (append-nil (o.view.world o.view.now).console);
+  }
+
+  causes_then : (r : Result T NodeNo) (o m n : Outside) → {S : Type 0} (s : S) → CopyCauses {T = S} (Ok s) by.0 o.first m.first o.second m.second o.view m.view → o.view.stops by.0 ≤ m.view.stops by.0 → o.view.faults Console ≤ m.view.faults Console
+      → StepCauses r by.0 m.first n.first m.second n.second m.view n.view → StepCauses r by.0 o.first n.first o.second n.second o.view n.view
+  causes_then (Ok t) o m n s left stops faults c = left_then o.first m.first n.first o.second m.second n.second left c
+  causes_then (Err NoMemory) o m n s left stops faults c = left_then o.first m.first n.first o.second m.second n.second left c
+  causes_then (Err BothLost) o m n s left stops faults c = c
+  causes_then (Err ConsoleFault) o m n s left stops faults c = (left_then o.first m.first n.first o.second m.second n.second left c.0, rose_later (o.view.faults Console) (m.view.faults Console) (n.view.faults Console) faults c.1)
+  causes_then (Err Halted) o m n s left stops faults c = (left_then o.first m.first n.first o.second m.second n.second left c.0, rose_later (o.view.stops by.0) (m.view.stops by.0) (n.view.stops by.0) stops c.1)
+
+  tells_on : (r : Result T NodeNo) (lines : List (List ℕ)) (A B : Type 0) (o m n : Outside) → (m.view.world m.view.now).console ≡ (o.view.world o.view.now).console → (A → B)
+      → StepTells r lines A (m.view.world m.view.now).console (n.view.world n.view.now).console → StepTells r lines B (o.view.world o.view.now).console (n.view.world n.view.now).console
+  tells_on (Ok t) lines A B o m n same to tells = tells ∙ ap (λ (l : List Line). l ++ map whole lines) same
+  tells_on (Err NoMemory) lines A B o m n same to tells = tells ∙ same
+  tells_on (Err BothLost) lines A B o m n same to tells = tells ∙ same
+  tells_on (Err ConsoleFault) lines A B o m n same to tells = (tells.0, tells.1, tells.2 ∙ ap (λ (l : List Line). l ++ map whole (take tells.0 lines)) same)
+  tells_on (Err Halted) lines A B o m n same to tells = ⊎_elim
+      (λ none. inl (none ∙ same))
+      (λ more. inr (to more.0, more.1, more.2, subst (λ (l : List Line). Breaks more.1 lines l (n.view.world n.view.now).console) same more.3))
+      tells
+
+  -- batches are kept, and then others before the lines are said
+  pub closes_then : {S : Type 0} (s : S) (r : Result T NodeNo) (lines : List (List ℕ)) (ess more : List (List Entry)) (o m n : Outside) → Keeps {T = S} told by ess o m (Ok s) → Closes told by lines more m n r → Closes told by lines (ess ++ more) o n r
+  closes_then s r lines ess more o m n one two =
+      let first = one.course.goes.later in
+      let then = two.course.goes.later in
+      let joined : (rest : List Batch) → n.batches ≡ m.batches ++ rest → n.batches ≡ o.batches ++ (one.rest ++ rest) = λ rest is. is ∙ ap (λ (l : List Batch). l ++ rest) one.batches_are ∙ append_assoc o.batches one.rest rest in
+      record {
+        course = course_then o.first m.first n.first o.second m.second n.second o.view m.view n.view one.course two.course;
+        loses = λ t d. two.loses t d ∙ one.loses t d;
+        cause = causes_then r o m n s one.cause (one.course.goes.stops by.0) (one.course.goes.faults Console) two.cause;
+        spares = spares_then by.0 (stopped_in r) o.view m.view n.view one.spares two.spares;
+        rest = one.rest ++ two.rest;
+        batches_are = joined two.rest two.batches_are;
+        journal = work_then by r o.view.now m.view.now n.view.now ess one.rest more two.rest first then one.journal two.journal;
+        console = λ t. tells_on r lines (HasAll by m.view.now n.view.now more m.batches n.batches) (HasAll by o.view.now n.view.now (ess ++ more) o.batches n.batches) o m n (one.quiet t)
+            (λ has. (one.rest ++ has.0, joined has.0 has.1, all_then by o.view.now m.view.now n.view.now ess more one.rest has.0 first then one.journal has.2)) (two.console t);
+      }
+
+-- by an answer of another type
+pub closes_err : {S T : Type 0} (told : Type 0) (by : MemberId) (e : NodeNo) (lines : List (List ℕ)) (ess : List (List Entry)) (o n : Outside) → Closes {T = S} told by lines ess o n (Err e) → Closes {T = T} told by lines ess o n (Err e)
+closes_err {S} {T} told by e lines ess o n k = record { course = k.course; loses = k.loses; cause = causes e k.cause; spares = k.spares; rest = k.rest; batches_are = k.batches_are; journal = left e k.journal; console = λ t. said e (k.console t) } where
+  causes : (x : NodeNo) → StepCauses {T = S} (Err x) by.0 o.first n.first o.second n.second o.view n.view → StepCauses {T = T} (Err x) by.0 o.first n.first o.second n.second o.view n.view
+  causes NoMemory c = c
+  causes BothLost c = c
+  causes ConsoleFault c = c
+  causes Halted c = c
+
+  left : (x : NodeNo) → WorkLeaves {T = S} (Err x) by o.view.now n.view.now ess k.rest → WorkLeaves {T = T} (Err x) by o.view.now n.view.now ess k.rest
+  left NoMemory c = c
+  left BothLost c = c
+  left ConsoleFault c = c
+  left Halted c = c
+
+  said : (x : NodeNo) → StepTells {T = S} (Err x) lines (HasAll by o.view.now n.view.now ess o.batches n.batches) (o.view.world o.view.now).console (n.view.world n.view.now).console
+      → StepTells {T = T} (Err x) lines (HasAll by o.view.now n.view.now ess o.batches n.batches) (o.view.world o.view.now).console (n.view.world n.view.now).console
+  said NoMemory c = c
+  said BothLost c = c
+  said ConsoleFault c = c
+  said Halted c = c
+
+pub closes_ok : {S T : Type 0} (told : Type 0) (by : MemberId) (s : S) (t : T) (lines : List (List ℕ)) (ess : List (List Entry)) (o n : Outside) → Closes {T = S} told by lines ess o n (Ok s) → Closes {T = T} told by lines ess o n (Ok t)
+closes_ok told by s t lines ess o n k = record { course = k.course; loses = k.loses; cause = k.cause; spares = k.spares; rest = k.rest; batches_are = k.batches_are; journal = k.journal; console = k.console }
+
+-- no volume is written, and nothing printed
+pub apart_none : (o : Outside) → SparesVolumes o o
+apart_none o = record { others = only_none o.view; papers = papers_none o.view }
+
+pub apart_then : (o m n : Outside) → o.view.now ≤ m.view.now → Goes m.view n.view → SparesVolumes o m → SparesVolumes m n → SparesVolumes o n
+apart_then o m n later goes one two = record { others = only_on o.view m.view n.view later goes one.others two.others; papers = papers_on o.view m.view n.view later goes one.papers two.papers }
+
+-- THE REST OF A SITTING
+
+module _ (told : Type 0) (h : Holder) (given : ℕ) where
+  -- by what it is to write
+  pub plays_as : (w w' : Wrote) (old : Place) (new : Outside) (r : Result SittingEnd NodeNo) → (told → w ≡ w') → Plays told h given w old new r → Plays told h given w' old new r
+  plays_as w w' old new r same p = record { wrote = p.wrote; is = λ t. p.is t ∙ same t; of = p.of; ends = p.ends; closes = p.closes; spares = p.spares }
+
+  -- an error, where what was to be kept begins what is to be written
+  pub plays_error : {S : Type 0} (why : NodeNo) (w w' : Wrote) (xs : List (List Entry)) (old : Place) (new : Outside) → (told → w' ≡ w) → All (AreOf h.by h.step) w'.batches → StartsAs xs w'.batches
+      → (told → SparesVolumes old.outside new) → Keeps {T = S} told h.by xs old.outside new (Err why) → Plays told h given w old new (Err why)
+  plays_error {S} why w w' xs old new is of starts spares keeps = record {
+    wrote = w';
+    is = is;
+    of = of;
+    ends = tt;
+    closes = closes_error told h.by {S = S} why w'.lines w'.batches old.outside new
+        (keeping_starts {T = S} told h.by why xs w'.batches old.outside.batches new.batches old.outside.first new.first old.outside.second new.second old.outside.view new.view starts keeps);
+    spares = spares;
+  }
+
+  -- it ends in a state of the step
+  pub plays_leave : {S : Type 0} (s : S) (e : SittingEnd) (next : State) (old : Place) (new : Outside) → e.next ≡ next → e.given ≡ given → e.release ≡ released h.grant h.hold e.given e.next → AreOf h.by h.step old.batch → (told → SparesVolumes old.outside new)
+      → Keeps {T = S} told h.by (batch_of old.batch) old.outside new (Ok s) → Plays told h given (wrote_of old.batch (leaves next)) old new (Ok e)
+  plays_leave {S} s e next old new is_next is_given is_released of spares keeps = record {
+    wrote = wrote_of old.batch (leaves next);
+    is = λ t. refl;
+    of = of_batch h.by h.step old.batch of;
+    ends = (is_next, ap (λ (n : ℕ). n + length old.batch) is_given ∙ ap (λ (es : List Entry). given + length es) (sym (batch_entries old.batch)), is_released);
+    closes = closes_none told h.by {S = S} s e (batch_of old.batch) old.outside new keeps;
+    spares = spares;
+  }
+
+  abbrev ToldThen : SittingEnd → Type 0
+  ToldThen e = (e.next ≡ Told) × (e.given ≡ given) × (e.release ≡ released h.grant h.hold e.given e.next)
+
+  -- the step closes
+  pub plays_close : {S : Type 0} (s : S) (r : Result SittingEnd NodeNo) (lines : List (List ℕ)) (old : Place) (mid new : Outside) → IfOk r ToldThen → AreOf h.by h.step old.batch → (told → SparesVolumes old.outside new)
+      → Keeps {T = S} told h.by (batch_of old.batch) old.outside mid (Ok s) → Closes told h.by lines [] mid new r → Plays told h given (wrote_of old.batch (says lines)) old new r
+  plays_close {S} s r lines old mid new ends of spares keeps closes = record {
+    wrote = wrote_of old.batch (says lines);
+    is = λ t. refl;
+    of = of_batch h.by h.step old.batch of;
+    ends = if_ok r ends;
+    closes = subst (λ (ess : List (List Entry)). Closes told h.by lines ess old.outside new r) (append-nil (batch_of old.batch)) (closes_then told h.by {S = S} s r lines (batch_of old.batch) [] old.outside mid new keeps closes);
+    spares = spares;
+  } where
+    if_ok : (r : Result SittingEnd NodeNo) → IfOk r ToldThen → IfOk r (EndsAs h given old.batch (wrote_of old.batch (says lines)))
+    if_ok (Ok e) ends = (ends.0, ap (λ (n : ℕ). n + length old.batch) ends.1 ∙ ap (λ (es : List Entry). given + length es) (sym (batch_entries old.batch)), ends.2)
+    if_ok (Err why) ends = tt
+
+  -- what is full is written, and then the rest
+  pub plays_full : {S : Type 0} (s : S) (t : Turn) (old mid : Place) (new : Outside) (r : Result SittingEnd NodeNo) → AreOf h.by h.step old.batch → mid.batch ≡ after_full old.batch → (told → SparesVolumes old.outside mid.outside)
+      → Keeps {T = S} told h.by (full_of old.batch) old.outside mid.outside (Ok s) → Plays told h given (wrote_of mid.batch t) mid new r → Plays told h given (wrote_after old.batch t) old new r
+  plays_full {S} s t old mid new r of left spares keeps p = record {
+    wrote = record { batches = full_of old.batch ++ p.wrote.batches; next = p.wrote.next; lines = p.wrote.lines };
+    is = λ told. joined (p.wrote) (p.is told);
+    of = All-append (AreOf h.by h.step) (full_of old.batch) p.wrote.batches (of_full_batches h.by h.step old.batch of) p.of;
+    ends = if_ok r p.ends;
+    closes = closes_then told h.by {S = S} s r p.wrote.lines (full_of old.batch) p.wrote.batches old.outside mid.outside new keeps p.closes;
+    spares = λ told. apart_then old.outside mid.outside new keeps.course.goes.later p.closes.course.goes (spares told) (p.spares told);
+  } where
+    joined : (w : Wrote) → w ≡ wrote_of mid.batch t → record { batches = full_of old.batch ++ w.batches; next = w.next; lines = w.lines } ≡ wrote_after old.batch t
+    joined w is =
+        let batches : full_of old.batch ++ w.batches ≡ cut_after old.batch (λ unwritten. cut unwritten t.parts) =
+        ap (λ (x : Wrote). full_of old.batch ++ x.batches) is ∙ ap (λ (es : List Entry). full_of old.batch ++ cut es t.parts) left ∙ sym (full_first old.batch t.parts) in
+        ap (λ (x : Wrote). record { batches = full_of old.batch ++ w.batches; next = x.next; lines = x.lines }) is ∙ ap (λ (bs : List (List Entry)). record { batches = bs; next = t.next; lines = t.lines }) batches
+
+    long : (e : SittingEnd) → e.given + length mid.batch ≡ given + length (all_entries p.wrote.batches) → e.given + length old.batch ≡ given + length (all_entries (full_of old.batch ++ p.wrote.batches))
+    long e same =
+        let all = ap length (full_entries old.batch) in
+        let parts = length-append (all_entries (full_of old.batch)) (after_full old.batch) in
+        let less = ap length left in
+        let both = ap length (entries_append (full_of old.batch) p.wrote.batches) in
+        let more = length-append (all_entries (full_of old.batch)) (all_entries p.wrote.batches) in
+        omega (arith, same, all, parts, less, both, more)
+
+    if_ok : (r : Result SittingEnd NodeNo) → IfOk r (EndsAs h given mid.batch p.wrote) → IfOk r (EndsAs h given old.batch (record { batches = full_of old.batch ++ p.wrote.batches; next = p.wrote.next; lines = p.wrote.lines }))
+    if_ok (Ok e) ends = (ends.0, long e ends.1, ends.2)
+    if_ok (Err why) ends = tt
+
+-- A PART, and then the rest
+
+module _ (told : Type 0) (h : Holder) (cs : List Command) (e : UnitEnd) (old mid : Place) (of : AreOf h.by h.step old.batch) (left given done : ℕ) where
+  abbrev all : List Entry
+  all = given_in old.queue h.by h.step cs
+
+  -- what follows these entries
+  abbrev then : List Entry → UnitEnd → Turn
+  then es end = goes_on_by h end left (units_from h left) (run old.queue es) (given + length es) done
+
+  abbrev whole_part : Turn
+  whole_part = after_part all (then all e)
+
+  -- memory wanted for it, or a batch couldn't be kept then
+  pub part_error : (why : NodeNo) → HasGiven told h cs e old mid (Err why) → Plays told h given (wrote_of old.batch whole_part) old mid.outside (Err why)
+  part_error why g =
+      let w = wrote_of old.batch (after_part g.es (then g.es e)) in
+      plays_error told h given {S = UnitEnd} why (wrote_of old.batch whole_part) w (batch_of (old.batch ++ g.es)) old mid.outside
+      (λ t. ap (λ (es : List Entry). wrote_of old.batch (after_part es (then es e))) (g.is t))
+      (of_cut h.by h.step old.batch (g.es ∷ (then g.es e).parts) of (All-cons (AreOf h.by h.step) g.es (then g.es e).parts g.of (after_its h e left (run old.queue g.es) (given + length g.es) done)))
+      (starts_after (old.batch ++ g.es) (then g.es e).parts)
+      g.spares g.keeps
+
+  -- it was given
+  pub part_then : (end : UnitEnd) (given' : ℕ) (new : Outside) (r : Result SittingEnd NodeNo) (g : HasGiven told h cs e old mid (Ok end)) → given' ≡ given + length g.es
+      → Plays told h given' (wrote_after mid.batch (goes_on_by h end left (units_from h left) mid.queue given' done)) mid new r → Plays told h given (wrote_of old.batch whole_part) old new r
+  part_then end given' new r g more p = record {
+    wrote = p.wrote;
+    is = λ t. p.is t ∙ same t;
+    of = p.of;
+    ends = if_ok r p.ends;
+    closes = closes_then told h.by {S = UnitEnd} end r p.wrote.lines [] p.wrote.batches old.outside mid.outside new g.keeps p.closes;
+    spares = λ t. apart_then old.outside mid.outside new g.keeps.course.goes.later p.closes.course.goes (g.spares t) (p.spares t);
+  } where
+    same : told → wrote_after mid.batch (goes_on_by h end left (units_from h left) mid.queue given' done) ≡ wrote_of old.batch whole_part
+    same t =
+        ap (λ (es : List Entry). wrote_after es (goes_on_by h end left (units_from h left) mid.queue given' done)) g.left
+        ∙ ap (λ (Q : Queue). wrote_after (old.batch ++ g.es) (goes_on_by h end left (units_from h left) Q given' done)) g.queue
+        ∙ ap (λ (n : ℕ). wrote_after (old.batch ++ g.es) (goes_on_by h end left (units_from h left) (run old.queue g.es) n done)) more
+        ∙ ap (λ (x : UnitEnd). wrote_after (old.batch ++ g.es) (then g.es x)) (g.ends t)
+        ∙ ap (λ (es : List Entry). wrote_after (old.batch ++ es) (then es e)) (g.is t)
+
+    if_ok : (r : Result SittingEnd NodeNo) → IfOk r (EndsAs h given' mid.batch p.wrote) → IfOk r (EndsAs h given old.batch p.wrote)
+    if_ok (Ok x) ends = let is = ends.1 in let longer = ap length g.left in let both = length-append old.batch g.es in (ends.0, omega (arith, is, longer, both, more), ends.2)
+    if_ok (Err why) ends = tt
+
+-- AFTER A UNIT
+
+module _ (told : Type 0) (h : Holder) (given : ℕ) where
+  -- the step closes, full batch or not
+  pub closed_after : (lines : List (List ℕ)) (old : Place) (new : Outside) (r : Result SittingEnd NodeNo) → Plays told h given (wrote_of old.batch (says lines)) old new r → Plays told h given (wrote_after old.batch (says lines)) old new r
+  closed_after lines old new r p = plays_as told h given (wrote_of old.batch (says lines)) (wrote_after old.batch (says lines)) old new r (λ t. ap (λ (bs : List (List Entry)). record { batches = bs; next = Told; lines = lines }) (sym (cut_end old.batch))) p
+
+  -- a full batch couldn't be kept
+  pub full_error : {S : Type 0} (why : NodeNo) (e : UnitEnd) (left done : ℕ) (old : Place) (new : Outside) → AreOf h.by h.step old.batch → (told → SparesVolumes old.outside new) → Keeps {T = S} told h.by (full_of old.batch) old.outside new (Err why)
+      → Plays told h given (wrote_after old.batch (goes_on_by h e left (units_from h left) old.queue given done)) old new (Err why)
+  full_error {S} why e left done old new of spares keeps =
+      let t = goes_on_by h e left (units_from h left) old.queue given done in
+      plays_error told h given {S = S} why (wrote_after old.batch t) (wrote_after old.batch t) (full_of old.batch) old new (λ t. refl) (of_after h.by h.step old.batch t.parts of (after_its h e left old.queue given done)) (starts_full old.batch t.parts) spares keeps
+
+-- after a unit the next one follows, or the hold is spent
+goes_next : (h : Holder) (left : ℕ) (Q : Queue) (given done : ℕ) → rests h left given ≡ false → goes_on h left (units_from h left) Q given done ≡ units_from h left Q given done
+goes_next h zero Q given done not = refl
+goes_next h (suc left) Q given done not = rw not refl
+
+goes_rest : (h : Holder) (left : ℕ) (Q : Queue) (given done : ℕ) → rests h left given ≡ true → goes_on h left (units_from h left) Q given done ≡ leaves (Rested (record { done = done; left = left }))
+goes_rest h zero Q given done spent = absurd (cc)
+goes_rest h (suc left) Q given done spent = rw spent refl
+
+module _ (told : Type 0) (h : Holder) (given left done : ℕ) {S : Type 0} (s : S) (old mid : Place) (new : Outside) (r : Result SittingEnd NodeNo) (of : AreOf h.by h.step old.batch) (left_is : mid.batch ≡ after_full old.batch)
+    (spares : told → SparesVolumes old.outside mid.outside) (keeps : Keeps {T = S} told h.by (full_of old.batch) old.outside mid.outside (Ok s)) where
+  abbrev Goes_on : UnitEnd → Turn
+  Goes_on e = goes_on_by h e left (units_from h left) old.queue given done
+
+  pub on_after : (e : UnitEnd) → e ≡ ends.Done → mid.queue ≡ old.queue → rests h left given ≡ false → Plays told h given (wrote_of mid.batch (units_from h left mid.queue given (done + 1))) mid new r → Plays told h given (wrote_after old.batch (Goes_on e)) old new r
+  on_after e is queue not p =
+      subst (λ (x : UnitEnd). Plays told h given (wrote_after old.batch (Goes_on x)) old new r) (sym is)
+      (subst (λ (t : Turn). Plays told h given (wrote_after old.batch t) old new r) (sym (goes_next h left old.queue given (done + 1) not))
+      (plays_full told h given {S = S} s (units_from h left old.queue given (done + 1)) old mid new r of left_is spares keeps
+      (subst (λ (Q : Queue). Plays told h given (wrote_of mid.batch (units_from h left Q given (done + 1))) mid new r) queue p)))
+
+  pub rest_after : (e : UnitEnd) → e ≡ ends.Done → rests h left given ≡ true → Plays told h given (wrote_of mid.batch (leaves (Rested (record { done = done + 1; left = left })))) mid new r → Plays told h given (wrote_after old.batch (Goes_on e)) old new r
+  rest_after e is spent p =
+      subst (λ (x : UnitEnd). Plays told h given (wrote_after old.batch (Goes_on x)) old new r) (sym is)
+      (subst (λ (t : Turn). Plays told h given (wrote_after old.batch t) old new r) (sym (goes_rest h left old.queue given (done + 1) spent))
+      (plays_full told h given {S = S} s (leaves (Rested (record { done = done + 1; left = left }))) old mid new r of left_is spares keeps p))
+
+-- A PART BEFORE ACTS
+
+module _ (told : Type 0) (h : Holder) (cs : List Command) (e : UnitEnd) (old mid : Place) (of : AreOf h.by h.step old.batch) (given : ℕ) (next : State) where
+  abbrev given_all : List Entry
+  given_all = given_in old.queue h.by h.step cs
+
+  pub pause_error : (why : NodeNo) → HasGiven told h cs e old mid (Err why) → Plays told h given (wrote_of old.batch (after_part given_all (leaves next))) old mid.outside (Err why)
+  pause_error why g =
+      let w = wrote_of old.batch (after_part g.es (leaves next)) in
+      plays_error told h given {S = UnitEnd} why (wrote_of old.batch (after_part given_all (leaves next))) w (batch_of (old.batch ++ g.es)) old mid.outside
+      (λ t. ap (λ (es : List Entry). wrote_of old.batch (after_part es (leaves next))) (g.is t))
+      (of_cut h.by h.step old.batch (g.es ∷ []) of (All-cons (AreOf h.by h.step) g.es [] g.of (All-nil (AreOf h.by h.step))))
+      (starts_after (old.batch ++ g.es) [])
+      g.spares g.keeps
+
+  pub pause_then : (end : UnitEnd) (given' : ℕ) (new : Outside) (r : Result SittingEnd NodeNo) (g : HasGiven told h cs e old mid (Ok end)) → given' ≡ given + length g.es → Plays told h given' (wrote_of mid.batch (leaves next)) mid new r
+      → Plays told h given (wrote_of old.batch (after_part given_all (leaves next))) old new r
+  pause_then end given' new r g more p = record {
+    wrote = p.wrote;
+    is = λ t. p.is t ∙ same t;
+    of = p.of;
+    ends = if_ok r p.ends;
+    closes = closes_then told h.by {S = UnitEnd} end r p.wrote.lines [] p.wrote.batches old.outside mid.outside new g.keeps p.closes;
+    spares = λ t. apart_then old.outside mid.outside new g.keeps.course.goes.later p.closes.course.goes (g.spares t) (p.spares t);
+  } where
+    same : told → wrote_of mid.batch (leaves next) ≡ wrote_of old.batch (after_part given_all (leaves next))
+    same t =
+        ap (λ (es : List Entry). wrote_of es (leaves next)) g.left
+        ∙ ap (λ (bs : List (List Entry)). record { batches = bs; next = next; lines = [] }) (sym (cut_end (old.batch ++ g.es)))
+        ∙ ap (λ (es : List Entry). wrote_of old.batch (after_part es (leaves next))) (g.is t)
+
+    if_ok : (r : Result SittingEnd NodeNo) → IfOk r (EndsAs h given' mid.batch p.wrote) → IfOk r (EndsAs h given old.batch p.wrote)
+    if_ok (Ok x) ends = let is = ends.1 in let longer = ap length g.left in let both = length-append old.batch g.es in (ends.0, omega (arith, is, longer, both, more), ends.2)
+    if_ok (Err why) ends = tt

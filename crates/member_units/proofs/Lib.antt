@@ -1,0 +1,13 @@
+pub mod Cuts
+pub mod Ours
+pub mod Going
+pub mod Working
+pub mod Gave
+pub mod Seated
+pub mod Sat
+pub mod Following
+pub mod Readiness
+pub mod Resting
+pub mod Firsts
+pub mod Taking
+pub mod Shown

@@ -1,0 +1,106 @@
+-- A whole sitting.
+use Rattle.std.proofs.Common.{◌≡◌, ◌∙◌, ◌⊎◌, inl, inr, ⊎_elim, ℕ, ◌+◌, List, [], ◌∷◌, ◌++◌, length, Result, Ok, Err, append-nil, ap, refl, sym, subst, arith}
+use Rattle.std.specs.Prelude.{IfOk}
+use Rattle.mas_types.specs.declared.ids.MemberId.{MemberId}
+use Rattle.mas_types.specs.declared.journals.Batch.{Batch}
+use Rattle.mas_types.specs.declared.journals.Entry.{Entry}
+use Rattle.mas_types.specs.declared.queues.Queue.{Queue}
+use Rattle.lock_cycle.specs.Books.{Book}
+use Rattle.spool_disk.specs.View.{Line}
+use Rattle.spool_disk.specs.declared.plant.Plant.{Ghosts as PlantGhosts}
+use Rattle.ckpt_copy.specs.declared.copying.Copying.{Ghosts as CopyGhosts}
+use Rattle.mas_complex.specs.declared.complex.Complex.{Complex}
+use Rattle.ckpt_form.specs.declared.steady.Steady.{Ghosts as SteadyGhosts}
+use Rattle.mas_complex.specs.Parts.{parts_of}
+use Rattle.member_node.specs.declared.member.Member.{Member}
+use Rattle.member_node.specs.declared.member.NodeNo.{NodeNo}
+use Rattle.member_node.specs.declared.member.NodeNo.TheVariants.{BothLost, Halted, ConsoleFault, NoMemory}
+use Rattle.member_node.specs.Calls.{console_now}
+use Rattle.member_steps.specs.Steps.{StepTells}
+use Rattle.member_decks.specs.Batches.{AreAll, HasAll}
+use Rattle.member_work.specs.Steps.{WorkLeaves}
+use Rattle.step_turns.specs.Batches.{cut}
+use Rattle.step_turns.specs.Entries.{all_entries}
+use Rattle.step_turns.specs.Sittings.{Sitting, released, sit}
+use Rattle.step_turns.specs.declared.states.Found.{Found}
+use Rattle.step_turns.specs.declared.states.Holder.{Holder}
+use Rattle.step_turns.specs.declared.states.State.{State}
+use Rattle.step_turns.specs.Turns.{Turn, turn}
+use Rattle.step_turns.proofs.Cutting.{cut_entries}
+use Rattle.member_sittings.specs.declared.ends.SittingEnd.{SittingEnd}
+use Rattle.member_sittings.specs.Left.{HasSaid}
+use Rattle.member_sittings.specs.Sat.{HasSat, IsEndOf, Start, sat_in}
+use Rattle.member_sittings.proofs.ReachLemmas.{LeftBy, by_all, by_cut_wanted, by_thirds_halted, by_thirds_lost, said_all, said_broken, said_none, said_some}
+use Rattle.member_units.specs.Plays.{EndsAs, Plays, Wrote, wrote_of}
+use Rattle.member_units.specs.Works.{Run, outside, place_of, queue_kept, run_of}
+use Rattle.member_units.proofs.Working.{AtWork, none_flies}
+
+-- by the answer: what is left in the journal
+left_by : (r : Result SittingEnd NodeNo) (by : MemberId) (from now : ℕ) (ess : List (List Entry)) (more : List Batch) → WorkLeaves r by from now ess more → LeftBy by from now ess more r
+left_by (Ok e) by from now ess more all = by_all by from now ess more (Ok e) all
+left_by (Err ConsoleFault) by from now ess more all = by_all by from now ess more (Err ConsoleFault) all
+left_by (Err NoMemory) by from now ess more leaves = ⊎_elim (λ cut. by_cut_wanted by from now ess more cut) (λ all. by_all by from now ess more (Err NoMemory) all) leaves
+left_by (Err BothLost) by from now ess more leaves = by_thirds_lost by from now ess more leaves
+left_by (Err Halted) by from now ess more leaves = by_thirds_halted by from now ess more leaves
+
+-- and on the console
+said_by : (r : Result SittingEnd NodeNo) (A : Type 0) (lines : List (List ℕ)) (was now : List Line) → (r ≡ Err ConsoleFault → A) → ((e : SittingEnd) → r ≡ Ok e → A) → StepTells r lines A was now → HasSaid A lines was now r
+said_by (Ok e) A lines was now fault ok tells = said_all lines was now A e (ok e refl) tells
+said_by (Err ConsoleFault) A lines was now fault ok tells = said_some lines was now A tells.0 (fault refl) tells.1 tells.2
+said_by (Err NoMemory) A lines was now fault ok tells = said_none lines was now A NoMemory (λ e. absurd (cc)) tells
+said_by (Err BothLost) A lines was now fault ok tells = said_none lines was now A BothLost (λ e. absurd (cc)) tells
+said_by (Err Halted) A lines was now fault ok tells = ⊎_elim (λ none. said_none lines was now A Halted (λ e. absurd (cc)) none) (λ some. said_broken lines was now A some.1 some.0 some.2 some.3) tells
+
+all_where : (r : Result SittingEnd NodeNo) (by : MemberId) (from now : ℕ) (ess : List (List Entry)) (front batches rest : List Batch) → batches ≡ front ++ rest → WorkLeaves r by from now ess rest → (r ≡ Err ConsoleFault → HasAll by from now ess front batches) × ((e : SittingEnd) → r ≡ Ok e → HasAll by from now ess front batches)
+all_where (Ok e) by from now ess front batches rest are all = (λ is. absurd (cc), λ x is. (rest, are, all))
+all_where (Err ConsoleFault) by from now ess front batches rest are all = (λ is. (rest, are, all), λ x is. absurd (cc))
+all_where (Err NoMemory) by from now ess front batches rest are all = (λ is. absurd (cc), λ x is. absurd (cc))
+all_where (Err BothLost) by from now ess front batches rest are all = (λ is. absurd (cc), λ x is. absurd (cc))
+all_where (Err Halted) by from now ess front batches rest are all = (λ is. absurd (cc), λ x is. absurd (cc))
+
+abbrev sitting_as : Holder → Wrote → Sitting
+sitting_as h w = record { batches = w.batches; next = w.next; lines = w.lines; release = released h.grant h.hold (length (all_entries w.batches)) w.next }
+
+sits_as : (h : Holder) (Q : Queue) (s : State) (found : Found) (w : Wrote) → w ≡ wrote_of [] (turn h Q s found) → sitting_as h w ≡ sit Q h s found
+sits_as h Q s found w is =
+    let t = turn h Q s found in
+    ap (sitting_as h) is ∙ ap (λ (es : List Entry). record { batches = cut [] t.parts; next = t.next; lines = t.lines; release = released h.grant h.hold (length es) t.next }) (cut_entries [] t.parts)
+
+ends_as : (h : Holder) (w : Wrote) (r : Result SittingEnd NodeNo) → IfOk r (EndsAs h 0 [] w) → IfOk r (IsEndOf (sitting_as h w))
+ends_as h w (Ok e) ends =
+    let all : e.given ≡ length (all_entries w.batches) = let is = ends.1 in omega (arith, is) in
+    record { next = ends.0; given = all; release = ends.2 ∙ ap (λ (n : ℕ). released h.grant h.hold n e.next) all ∙ ap (λ (s : State). released h.grant h.hold (length (all_entries w.batches)) s) ends.0 }
+ends_as h w (Err why) ends = tt
+
+module _ {P C : Type 0} {plants : PlantGhosts P} {steadies : SteadyGhosts C} {copies : CopyGhosts C} where
+  pub frame_of : (x y : Complex P C plants steadies copies) (m n : Member) → run_of y n ≡ run_of x m → parts_of y ≡ sat_in (parts_of y) (parts_of x)
+  frame_of x y m n same =
+      let base : y.base ≡ x.base = ap (λ (r : Run). r.base) same in
+      let since : y.since ≡ x.since = ap (λ (r : Run). r.since) same in
+      let book : y.book ≡ x.book = ap (λ (r : Run). r.book) same in
+      ap (λ (b : Book). record (parts_of y) { book = b }) book ∙ ap (λ (q : Queue). record (parts_of y) { book = x.book; base = q }) base ∙ ap (λ (n : ℕ). record (parts_of y) { book = x.book; base = x.base; since = n }) since
+
+  pub sat_of : (x y : Complex P C plants steadies copies) (m : Member) (h : Holder) (s : State) (found : Found) (w : Wrote) (r : Result SittingEnd NodeNo) → m.batch ≡ [] → AtWork x m → (plants.tells → w ≡ wrote_of [] (turn h (queue_kept x) s found))
+      → Plays plants.tells h 0 w (place_of x m) (outside y) r → HasSat (record { holder = h; state = s; found = found }) x y r
+  sat_of x y m h s found w r nothing work is p =
+      let c = p.closes in
+      let front = none_flies x m work in
+      let are = c.batches_are ∙ ap (λ (bs : List Batch). bs ++ c.rest) front in
+      let left = left_by r h.by (plants.view x.plant).now (plants.view y.plant).now p.wrote.batches c.rest c.journal in
+      let all = all_where r h.by (plants.view x.plant).now (plants.view y.plant).now p.wrote.batches x.journal.batches (outside y).batches c.rest are c.journal in
+      record {
+        sitting = sitting_as h p.wrote;
+        is = λ t. sits_as h (queue_kept x) s found p.wrote (p.is t ∙ is t);
+        of = p.of;
+        sat = record {
+          acts = record { course = c.course; loses = c.loses; others = λ t. (p.spares t).others; papers = λ t. (p.spares t).papers; spares = c.spares; cause = c.cause };
+          reach = left.reach;
+          more = c.rest;
+          journal = are;
+          left = left.left;
+          reached = left.reached;
+          console = λ t. said_by r (HasAll h.by (plants.view x.plant).now (plants.view y.plant).now p.wrote.batches x.journal.batches (outside y).batches) p.wrote.lines (console_now (plants.view x.plant)) (console_now (plants.view y.plant)) all.0 all.1
+              (subst (λ (bs : List Batch). StepTells r p.wrote.lines (HasAll h.by (plants.view x.plant).now (plants.view y.plant).now p.wrote.batches bs (outside y).batches) (console_now (plants.view x.plant)) (console_now (plants.view y.plant))) front (c.console t));
+          ends = ends_as h p.wrote r (subst (λ (es : List Entry). IfOk r (EndsAs h 0 es p.wrote)) nothing p.ends);
+        };
+      }

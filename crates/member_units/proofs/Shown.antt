@@ -1,0 +1,157 @@
+-- What acts without the lock show of a text.
+use Rattle.std.proofs.Common.{OnOk, Result, Ok, Err, ◌≡◌, ◌∙◌, ℕ, Bool, true, false, List, Option, Some, None, ap, refl, sym, subst, arith}
+use Rattle.std.proofs.Math.Logic.{∥∥₁_elim}
+use Rattle.std.specs.Coded.{Coded-set}
+use Rattle.queue_laws.proofs.Finds.{find-All}
+use Rattle.mas_types.specs.declared.ids.GroupNo.{GroupNo}
+use Rattle.mas_types.specs.declared.answers.Closing.TheVariants as closing
+use Rattle.mas_types.specs.declared.ids.JobNo.{JobNo}
+use Rattle.mas_types.specs.declared.ids.MemberId.{MemberId}
+use Rattle.mas_types.specs.declared.ids.OutNo.{OutNo}
+use Rattle.mas_types.specs.declared.jobs.Job.{Job}
+use Rattle.mas_types.specs.declared.jobs.Output.{Output}
+use Rattle.mas_types.specs.declared.jobs.Text.{Text}
+use Rattle.mas_types.specs.declared.jobs.Text.TheVariants.{Whole, Gone}
+use Rattle.mas_types.specs.declared.queues.Config.{Config}
+use Rattle.mas_types.specs.declared.queues.Queue.{Queue}
+use Rattle.mas_types.specs.declared.queues.Thing.TheVariants.{Deck}
+use Rattle.mas_types.specs.Queue.{has_key, has_number, job_at, line_count, output_at}
+use Rattle.lay_bytes.specs.declared.records.JobRec.{JobRec}
+use Rattle.lay_bytes.specs.declared.records.OutRec.{OutRec}
+use Rattle.ckpt_pages.specs.Shape.{HasSpelling}
+use Rattle.output_queue.specs.Outputs.{AreOutputs, HasOutput}
+use Rattle.queue_tables.specs.Telling.{Tell}
+use Rattle.ckpt_pages.specs.declared.tables.Tables.{Tables}
+use Rattle.mas_types.specs.declared.ids.Dev.TheVariants.{Spool}
+use Rattle.spool_disk.specs.declared.plant.Part.TheVariants.{Disk as DiskPart}
+use Rattle.spool_disk.specs.Acts.{Goes}
+use Rattle.spool_disk.specs.View.{View}
+use Rattle.spool_volumes.specs.Volumes.{AreRoomy}
+use Rattle.track_groups.specs.Places.{groups_of}
+use Rattle.mas_complex.specs.Texts.{HasTexts, IsThereUnless, lost_now, spools_at}
+use Rattle.job_outcome.specs.declared.outcomes.Read.{Read}
+use Rattle.job_outcome.specs.declared.outcomes.Read.TheVariants as read
+use Rattle.member_work.specs.Gone.{gone_with}
+use Rattle.member_decks.proofs.OpenLemmas.{tells_some}
+use Rattle.member_work.specs.Looks.{as_it_is}
+use Rattle.member_work.specs.Printing.{IsChunkOf, IsToldOutput}
+use Rattle.member_work.specs.Units.{chunk_end, printed_end as printed_by}
+use Rattle.member_work.proofs.PrintedLemmas.{limit_most, output_key}
+use Rattle.step_turns.specs.JobEnds.{printed_end}
+use Rattle.member_work.specs.Reading.{IsFailedRead, IsReadOf}
+use Rattle.member_work.specs.Rounds.{HasFailed, IsReadAs, IsWhole}
+use Rattle.member_work.specs.Steps.{IsTold}
+use Rattle.member_work.proofs.LookingLemmas.{coded_read, number_of}
+use Rattle.mas_types.specs.declared.jobs.OutSpec.{OutSpec}
+use Rattle.spool_disk.specs.declared.plant.Plant.{Ghosts as PlantGhosts}
+use Rattle.mas_complex.specs.Parts.{Parts}
+use Rattle.member_node.specs.declared.member.Member.{Member}
+use Rattle.member_decks.specs.declared.spooling.SpoolError.{SpoolError}
+use Rattle.member_decks.specs.declared.spooling.SpoolError.TheVariants as spool
+use Rattle.member_decks.specs.Spooling.{OnVolumes, SpoolCauses}
+use Rattle.member_work.specs.Spooled.{AreSpooled}
+use Rattle.member_sittings.specs.Asides.{finds_of}
+use Rattle.member_units.specs.Asides.{HasWritten, IsJobStill, lowest_for}
+
+one_group : (a b : GroupNo) → Some a ≡ Some b → a ≡ b
+one_group a b e = cc
+
+-- a text that was gone
+pub gone_is : (t : Text) (g : GroupNo) → Some g ≡ gone_with t → read.Gone g ≡ as_it_is t
+gone_is (Whole lines) g is = absurd (cc)
+gone_is (Gone group count) g is = ap read.Gone (one_group g group is)
+
+module _ (told : Type 0) (config : Config) (v w : View) (text : Text) (count : ℕ) (groups its : List GroupNo) where
+  abbrev Reads : Read → Type 0
+  Reads o = (t : Text) → line_count t ≡ count → told → AreRoomy v config → IsThereUnless (lost_now v) (spools_at v v.now) config.groups t groups → IsReadOf config.groups t groups o v w
+
+  -- one that stands in these groups, or was there
+  pub text_seen : (Stands : Type 0) (o : Read) → its ≡ groups → line_count text ≡ count → told → IsWhole text → AreRoomy v config → ∥ Stands ∥₁ → (Stands → IsThereUnless (lost_now v) (spools_at v v.now) config.groups text its)
+      → Reads o → IsFailedRead config.groups groups o v w → IsReadAs told config.groups text its (Some o) v w
+  text_seen Stands (read.Lines lines) same lines_are tells whole roomy texts there reads failed =
+      λ again. ∥∥₁_elim texts (Coded-set coded_read _ _) (λ stands. reads text lines_are tells roomy (subst (λ (gs : List GroupNo). IsThereUnless (lost_now v) (spools_at v v.now) config.groups text gs) same (there stands)))
+  text_seen Stands (read.Gone group) same lines_are tells whole roomy texts there reads failed =
+      λ again. ∥∥₁_elim texts (Coded-set coded_read _ _) (λ stands. reads text lines_are tells roomy (subst (λ (gs : List GroupNo). IsThereUnless (lost_now v) (spools_at v v.now) config.groups text gs) same (there stands)))
+  text_seen Stands (read.Lost volume) same lines_are tells whole roomy texts there reads failed =
+      (λ again. whole, subst (λ (gs : List GroupNo). HasFailed config.groups gs volume v w) (sym same) failed)
+
+-- the text of a job, and its groups, as the member's tables still tell them
+module _ (told : Type 0) (config : Config) (t : Tables) (Q : Queue) (v w : View) (n : JobNo) (r : JobRec) (j : Job) where
+  stands_there : job_at Q n ≡ Some j → HasTexts (lost_now v) (spools_at v v.now) config.groups Q → IsThereUnless (lost_now v) (spools_at v v.now) config.groups j.text (groups_of (Deck n) Q.owners)
+  stands_there found texts = subst (λ (k : JobNo). IsThereUnless (lost_now v) (spools_at v v.now) config.groups j.text (groups_of (Deck k) Q.owners)) (number_of n j Q.jobs found)
+      (find-All (λ (x : Job). IsThereUnless (lost_now v) (spools_at v v.now) config.groups x.text (groups_of (Deck x.number) Q.owners)) (has_number n) Q.jobs j texts.decks found).0
+
+  pub job_seen : (o : Read) → IsJobStill t n Q → IsTold t r → r.number ≡ n → job_at Q n ≡ Some j → told → IsWhole j.text → AreRoomy v config → ∥ HasTexts (lost_now v) (spools_at v v.now) config.groups Q ∥₁
+      → Reads told config v w j.text r.cards (groups_of (Deck n) t.owners) (groups_of (Deck n) Q.owners) o → IsFailedRead config.groups (groups_of (Deck n) t.owners) o v w → IsReadAs told config.groups j.text (groups_of (Deck n) Q.owners) (Some o) v w
+  job_seen o still job number found tells whole roomy texts reads failed =
+      let same = still.groups ∙ ap (groups_of (Deck n)) still.told.owners in
+      let there : job_at still.was r.number ≡ Some j = ap (job_at still.was) number ∙ sym still.job ∙ found in
+      let its = job.same still.was j still.told there in
+      text_seen told config v w j.text r.cards (groups_of (Deck n) t.owners) (groups_of (Deck n) Q.owners) (HasTexts (lost_now v) (spools_at v v.now) config.groups Q) o same its.2 tells whole roomy texts (stands_there found) reads failed
+
+-- THE NEXT LINES OF AN OUTPUT
+
+-- this is the last of them by the record that the member's tables have
+pub chunk_from : (t : Tables) (by : MemberId) (n : JobNo) (i : OutNo) (at : ℕ) (r : OutRec) (last : ℕ) → HasSpelling t → ((os : List Output) → AreOutputs t.outputs os → HasOutput (has_key n i) t.outputs os at r) → IsToldOutput t r
+    → ((Q : Queue) (o : Output) → Tell t Q → output_at Q n i ≡ Some o → last ≡ chunk_end Q by o) → IsChunkOf t by r last
+chunk_from t by n i at r last spelled some its is =
+    let s = tells_some t in
+    let key = output_key t n i at r some in
+    let named : (Q : Queue) → output_at Q r.job r.index ≡ output_at Q n i = λ Q. ap (λ (k : JobNo). output_at Q k r.index) key.0 ∙ ap (output_at Q n) key.1 in
+    let has = some s.0.outputs s.1.outputs in
+    let end = is s.0 has.item s.1 has.found in
+    let same = its.same s.0 has.item s.1 (named s.0 ∙ has.found) in
+    let most = limit_most t s.0 by spelled s.1 in
+    record {
+      limit = omega (arith, end, same.2, most);
+      total = omega (arith, end, same.4);
+      is = λ Q o told found. is Q o told (sym (named Q) ∙ found);
+    }
+
+-- how the unit is refused after they were to be printed, and whether the printer was found lost
+pub same_end : (lost : Bool) (o : Read) → printed_by lost o ≡ printed_end lost o
+same_end true (read.Lines lines) = refl
+same_end false (read.Lines lines) = refl
+same_end lost (read.Gone group) = refl
+same_end lost (read.Lost volume) = refl
+
+pub printer_lost : (lost : Bool) (o : Read) → printed_by lost o ≡ Some closing.PrinterLost → lost ≡ true
+printer_lost true o is = refl
+printer_lost false (read.Lines lines) is = absurd (cc)
+printer_lost false (read.Gone group) is = absurd (cc)
+printer_lost false (read.Lost volume) is = absurd (cc)
+
+pub none_refused : (lost printer : Bool) (o : Read) → (printer ≡ false → printed_by lost o ≡ Some closing.PrinterLost → ⊥) → printed_end printer o ≡ None → printed_by lost o ≡ None
+none_refused lost true (read.Lines lines) not none = absurd (cc)
+none_refused true false (read.Lines lines) not none = absurd (not refl refl)
+none_refused false false (read.Lines lines) not none = refl
+none_refused lost printer (read.Gone group) not none = absurd (cc)
+none_refused lost printer (read.Lost volume) not none = absurd (cc)
+
+-- a volume that failed before has failed
+pub failed_later : (per : ℕ) (groups : List GroupNo) (o : Read) (old mid new : View) → Goes mid new → IsFailedRead per groups o old mid → IsFailedRead per groups o old new
+failed_later per groups (read.Lines lines) old mid new after failed = tt
+failed_later per groups (read.Gone group) old mid new after failed = tt
+failed_later per groups (read.Lost volume) old mid new after failed = record {
+  there = failed.there;
+  lost = after.lost (DiskPart (Spool volume)) failed.lost;
+  rose = let more = after.faults (DiskPart (Spool volume)) in let rose = failed.rose in omega (arith, rose, more);
+}
+
+-- OUTPUTS THAT WERE WRITTEN, by the answer of the acts
+
+pub writes_by : {P C : Type 0} (plants : PlantGhosts P) (x y : Parts P C) (m : Member) (specs : List OutSpec) (r : Result (Unit {0}) SpoolError) → OnVolumes plants.tells m.id.0 (plants.view x.plant) (plants.view y.plant)
+    → SpoolCauses r m.id.0 x.base.config.groups (lowest_for m.id m.checkpoint.tables.owners specs) (plants.view x.plant) (plants.view y.plant)
+    → OnOk r (plants.tells → AreRoomy (plants.view x.plant) x.base.config → AreSpooled (spools_at (plants.view y.plant) (plants.view y.plant).now) x.base.config.groups specs (lowest_for m.id m.checkpoint.tables.owners specs))
+    → HasWritten plants x y m specs (finds_of r)
+writes_by plants x y m specs (Ok done) acts cause there = record {
+  acts = acts;
+  cause = cause;
+  finds = record { only = refl; lost = tt; there = λ none told roomy. there told roomy };
+}
+writes_by plants x y m specs (Err (spool.Lost volume)) acts cause there = record {
+  acts = acts;
+  cause = cause.3;
+  finds = record { only = refl; lost = record { there = cause.0; lost = cause.1; rose = cause.2 }; there = λ none. absurd (cc) };
+}
+writes_by plants x y m specs (Err spool.Halted) acts cause there = record { acts = acts; cause = (cause.2, cause.1); finds = tt }

@@ -1,0 +1,132 @@
+use Rattle.std.proofs.Common.{◌≡◌, ◌∙◌, List, All, Some, None, ap, refl, subst, sym}
+use Rattle.std.proofs.lemmas.Result.{err_from_is_err_and}
+use Rattle.mas_types.specs.declared.ids.GroupNo.{GroupNo}
+use Rattle.mas_types.specs.declared.jobs.Job.{Job}
+use Rattle.mas_types.specs.declared.queues.Config.{Config}
+use Rattle.mas_types.specs.declared.queues.Queue.{Queue}
+use Rattle.mas_types.specs.declared.queues.Thing.TheVariants.{Deck}
+use Rattle.mas_types.specs.Queue.{job_at}
+use Rattle.spool_volumes.specs.Volumes.{AreRoomy}
+use Rattle.track_groups.specs.Places.{groups_of}
+use Rattle.mas_complex.specs.Journals.{kept_all}
+use Rattle.mas_complex.specs.Meaning.{run}
+use Rattle.mas_complex.specs.Parts.{parts_of}
+use Rattle.mas_complex.specs.Spool.{IsGroupOf}
+use Rattle.member_node.proofs.SpareLemmas.{spares_none}
+use Rattle.member_decks.proofs.OpenLemmas.{tells_some}
+use Rattle.member_decks.proofs.PageLemmas.{acts_none, quiet_none}
+use Rattle.mas_complex.specs.Texts.{spools_at}
+use Rattle.member_work.proofs.JobLemmas.{found_number, whole_text}
+use Rattle.member_work.proofs.LookingLemmas.{groups_within, number_of, told_job}
+use Rattle.step_turns.specs.declared.states.Found.{Found}
+use Rattle.member_units.specs.Asides.{FindsText, read_found}
+use Rattle.member_units.proofs.Shown.{gone_is, job_seen}
+use Rattle.member_units.proofs.asides.read_job_text.Goals as goal
+
+-- ONE THAT WAS GONE
+
+pub gone_deck-requires-clause-numbers : goal.gone_deck-requires-clause-numbers
+gone_deck-requires-clause-numbers g c told = (c.requires.may.sound told).numbers
+
+pub gone_deck-requires-clause-config : goal.gone_deck-requires-clause-config
+gone_deck-requires-clause-config g c told = (c.requires.may.sound told).config
+
+pub returns-in-Some-clause-reads : goal.returns-in-Some-clause-reads
+returns-in-Some-clause-reads g c =
+    let P = g.P.Plant in
+    let x = c.args.complex.now in
+    let m = c.args.member.now in
+    let v = P.view x.plant in
+    let n = c.args.job in
+    record {
+      acts = acts_none P.tells m.id.0 v;
+      reads = λ told. quiet_none (spools_at v v.now);
+      cause = spares_none m.id.0 v;
+      finds = subst (λ (f : Found). FindsText P (parts_of x) (parts_of x) m n f) (sym c.found_read.ensures)
+          (record { only = refl; fits = tt; failed = tt; read = λ told roomy j there again. gone_is j.text c.in-Some.group (sym c.in-Some.is ∙ c.gone_deck.ensures.gone told j there) });
+    }
+
+-- THE RECORD OF THE JOB
+
+pub unreachable-requires : goal.unreachable-requires
+unreachable-requires g c =
+    let t = c.args.member.now.checkpoint.tables in
+    let s = tells_some t in
+    let none = rw c.as_slice.ensures at c.in_default-find_job.ensures.none in
+    let job = c.requires.job s.0 s.1 c.requires.sound in
+    absurd (let not = sym (none s.0.jobs s.1.jobs) ∙ job.there in cc)
+
+pub read_text-requires-clause-within : goal.read_text-requires-clause-within
+read_text-requires-clause-within g c =
+    let t = c.args.member.now.checkpoint.tables in
+    let x = c.args.complex.now in
+    let its = Deck c.args.job in
+    let list : c.as_slice-groups.result.now ≡ groups_of its t.owners = c.as_slice-groups.ensures ∙ c.in-Ok.ensures ∙ ap (groups_of its) c.as_slice-2.ensures in
+    subst (λ (l : List GroupNo). All (IsGroupOf x.base.config) l) (sym list)
+    (subst (λ (k : Config). All (IsGroupOf k) (groups_of its t.owners)) (sym c.requires.may.config) (groups_within c.law_of_places.ensures.own its t.owners t.config c.requires.may.spelling.shape.owners))
+
+pub read_text-requires-clause-count : goal.read_text-requires-clause-count
+read_text-requires-clause-count g c =
+    let t = c.args.member.now.checkpoint.tables in
+    let f = c.in-Some-find_job.found in
+    let some = rw c.as_slice.ensures at c.in-Some-find_job.ensures.some in
+    let here = rw c.as_slice.ensures at c.in-Some-find_job.ensures.here in
+    (told_job t c.args.job f.at f.item c.requires.may.spelling some here).few
+
+-- IT IS READ
+
+pub returns-in_default-groups_of-clause-reads : goal.returns-in_default-groups_of-clause-reads
+returns-in_default-groups_of-clause-reads g c =
+    let P = g.P.Plant in
+    let m = c.args.member.now in
+    let v = P.view c.args.complex.now.plant in
+    record { acts = acts_none P.tells m.id.0 v; reads = λ told. quiet_none (spools_at v v.now); cause = spares_none m.id.0 v; finds = tt }
+
+pub returns-in_err-read-clause-frame : goal.returns-in_err-read-clause-frame
+returns-in_err-read-clause-frame g c =
+    let e = c.read_text.ensures in
+    rw (e.pair, e.base, e.since, e.book, e.journal, e.current, e.reserved, e.placed, e.first, e.second, e.level) refl
+
+pub returns-in_err-read-clause-reads : goal.returns-in_err-read-clause-reads
+returns-in_err-read-clause-reads g c =
+    let p = err_from_is_err_and c.from_residual.result c.from_residual.ensures.1 in
+    rw (p.1, p.2) (record { acts = c.read_text.ensures.acts; reads = c.read_text.ensures.reads; cause = c.in_err-read.ensures.cause; finds = tt })
+
+pub returns-clause-frame : goal.returns-clause-frame
+returns-clause-frame g c =
+    let e = c.read_text.ensures in
+    rw (e.pair, e.base, e.since, e.book, e.journal, e.current, e.reserved, e.placed, e.first, e.second, e.level) refl
+
+pub returns-clause-reads : goal.returns-clause-reads
+returns-clause-reads g c =
+    let P = g.P.Plant in
+    let x = c.args.complex.now in
+    let y = c.read_text.new.complex in
+    let m = c.args.member.now in
+    let t = m.checkpoint.tables in
+    let n = c.args.job in
+    let its = Deck n in
+    let f = c.in-Some-find_job.found in
+    let some = rw c.as_slice.ensures at c.in-Some-find_job.ensures.some in
+    let here = rw c.as_slice.ensures at c.in-Some-find_job.ensures.here in
+    let job = told_job t n f.at f.item c.requires.may.spelling some here in
+    let s = tells_some t in
+    let own = some s.0.jobs s.1.jobs in
+    let number : f.item.number ≡ n = sym (ap (λ r. r.number) own.is) ∙ number_of n own.item s.0.jobs own.found in
+    let list : c.as_slice-groups.result.now ≡ groups_of its t.owners = c.as_slice-groups.ensures ∙ c.in-Ok.ensures ∙ ap (groups_of its) c.as_slice-2.ensures in
+    let Q : Queue = run x.base (kept_all x.journal.batches) in
+    let reads = rw list at c.in_ok-read.ensures.read in
+    let failed = rw list at c.in_ok-read.ensures.failed in
+    record {
+      acts = c.read_text.ensures.acts;
+      reads = c.read_text.ensures.reads;
+      cause = c.in_ok-read.ensures.cause;
+      finds = subst (λ (k : Found). FindsText P (parts_of x) (parts_of y) m n k) (sym c.found_read-2.ensures)
+          (record {
+            only = refl;
+            fits = c.in_ok-read.ensures.fits;
+            failed = failed;
+            read = λ told roomy j there. job_seen P.tells x.base.config t Q (P.view x.plant) (P.view y.plant) n f.item j c.in_ok-read.read (c.requires.still told) job number there told
+                (whole_text j.text (sym (c.gone_deck.ensures.gone told j there) ∙ c.in_default.is)) roomy (c.kept_texts.ensures.kept told) reads failed;
+          });
+    }

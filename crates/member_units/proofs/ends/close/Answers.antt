@@ -1,0 +1,113 @@
+use Rattle.std.proofs.Common.{◌≡◌, ◌∙◌, [], ◌∷◌, ℕ, List, Ok, Err, ap, refl, sym, subst}
+use Rattle.std.proofs.lemmas.Result.{err_from_is_err_and}
+use Rattle.mas_types.specs.declared.ids.MemberId.{MemberId}
+use Rattle.mas_types.specs.Closings.{closing_line}
+use Rattle.member_decks.specs.Steps.{AreOf}
+use Rattle.member_work.specs.Work.{batches_in}
+use Rattle.step_turns.specs.Batches.{batch_of}
+use Rattle.step_turns.specs.Turns.{says}
+use Rattle.member_units.specs.Plays.{wrote_of}
+use Rattle.member_units.specs.Works.{outside, place_of}
+use Rattle.member_units.proofs.Cuts.{of_batch, one_batch, starts_itself}
+use Rattle.member_units.proofs.Gave.{keeps_as, spares_of}
+use Rattle.member_units.proofs.Going.{apart_then, closes_err, closes_ok, plays_close, plays_error}
+use Rattle.member_units.proofs.Seated.{closes_said, said_apart, seat_said}
+use Rattle.member_units.proofs.Working.{own_batch, same_run}
+use Rattle.member_units.proofs.ends.close.Goals as goal
+
+-- MEMORY WANTED FOR THE LINE
+
+pub give_up-requires-clause-untold : goal.give_up-requires-clause-untold
+give_up-requires-clause-untold g c told = c.requires.works.untold told c.args.member.now.batch c.requires.works.of
+
+pub returns-in_default-clause-run : goal.returns-in_default-clause-run
+returns-in_default-clause-run g c =
+    let k = c.give_up.ensures in
+    same_run c.args.complex.now c.give_up.new.complex c.args.member.now c.give_up.new.member c.args.holder k.base k.since k.book k.id
+
+pub returns-in_default-clause-plays : goal.returns-in_default-clause-plays
+returns-in_default-clause-plays g c =
+    let x = c.args.complex.now in
+    let y = c.give_up.new.complex in
+    let m = c.args.member.now in
+    let h = c.args.holder in
+    let v = c.requires.works in
+    let w = wrote_of m.batch (says (closing_line h.by h.step c.args.end.now ∷ [])) in
+    plays_error g.P.Plant.tells h c.args.given {S = Unit {0}} c.give_up.result w w (batch_of m.batch) (place_of x m) (outside y) (λ t. refl) (of_batch h.by h.step m.batch (own_batch x m h v)) (starts_itself m.batch)
+    (λ told. spares_of x y (c.give_up.ensures.apart told)) (keeps_as x y m h.by (batches_in (m.batch ∷ [])) (batch_of m.batch) (Err c.give_up.result) v.own v.work (one_batch m.batch) c.give_up.ensures.keeps)
+
+-- THE BATCH COULDN'T BE KEPT
+
+pub returns-in_err-keep-clause-plays : goal.returns-in_err-keep-clause-plays
+returns-in_err-keep-clause-plays g c =
+    let x = c.args.complex.now in
+    let m = c.args.member.now in
+    let h = c.args.holder in
+    let w = wrote_of m.batch (says (closing_line h.by h.step c.args.end.now ∷ [])) in
+    let q = err_from_is_err_and c.from_residual.result c.from_residual.ensures.1 in
+    rw (q.1, q.2) (plays_error g.P.Plant.tells h c.args.given {S = Unit {0}} _ w w (batch_of m.batch) (place_of x m) (outside c.keep.new.complex) (λ t. refl) (of_batch h.by h.step m.batch (own_batch x m h c.requires.works)) (starts_itself m.batch) c.keep.ensures.spares c.in_err-keep.ensures.keeps)
+
+-- THE LINE
+
+pub tell_lines-requires-clause-up : goal.tell_lines-requires-clause-up
+tell_lines-requires-clause-up g c = c.in_ok-keep.ensures.works.may.up
+
+pub tell_lines-requires-clause-none : goal.tell_lines-requires-clause-none
+tell_lines-requires-clause-none g c = c.in_ok-keep.ensures.works.work.none
+
+pub tell_lines-requires-clause-kept : goal.tell_lines-requires-clause-kept
+tell_lines-requires-clause-kept g c = c.in_ok-keep.ensures.works.work.kept
+
+pub returns-in_err-tell_lines-clause-run : goal.returns-in_err-tell_lines-clause-run
+returns-in_err-tell_lines-clause-run g c =
+    let t = c.tell_lines.ensures in
+    let n = c.keep.new.member in
+    same_run c.keep.new.complex c.tell_lines.new.complex n n c.args.holder t.base t.since t.book refl ∙ c.keep.ensures.run
+
+pub returns-in_err-tell_lines-clause-plays : goal.returns-in_err-tell_lines-clause-plays
+returns-in_err-tell_lines-clause-plays g c =
+    let P = g.P.Plant in
+    let x = c.args.complex.now in
+    let y = c.keep.new.complex in
+    let z = c.tell_lines.new.complex in
+    let m = c.args.member.now in
+    let n = c.keep.new.member in
+    let h = c.args.holder in
+    let t = c.tell_lines.ensures in
+    let o = c.in_ok-keep.ensures in
+    let lines = closing_line h.by h.step c.args.end.now ∷ [] in
+    let q = err_from_is_err_and c.from_residual-in_err-tell_lines.result c.from_residual-in_err-tell_lines.ensures.1 in
+    let said = closes_said y z n h o.works t.pair t.journal t.current t.placed lines (Err _) (rw c.in-Ok.ensures at c.in_err-tell_lines.ensures.said) in
+    rw (q.1, q.2) (plays_close P.tells h c.args.given {S = Unit {0}} _ (Err _) lines (place_of x m) (outside y) (outside z) tt (own_batch x m h c.requires.works)
+    (λ told. apart_then (outside x) (outside y) (outside z) o.keeps.course.goes.later said.course.goes (c.keep.ensures.spares told) (said_apart y z t.said.acts told)) o.keeps (closes_err P.tells h.by _ lines [] (outside y) (outside z) said))
+
+pub returns-clause-run : goal.returns-clause-run
+returns-clause-run g c =
+    let t = c.tell_lines.ensures in
+    let n = c.keep.new.member in
+    same_run c.keep.new.complex c.tell_lines.new.complex n n c.args.holder t.base t.since t.book refl ∙ c.keep.ensures.run
+
+pub returns-clause-plays : goal.returns-clause-plays
+returns-clause-plays g c =
+    let P = g.P.Plant in
+    let x = c.args.complex.now in
+    let y = c.keep.new.complex in
+    let z = c.tell_lines.new.complex in
+    let m = c.args.member.now in
+    let n = c.keep.new.member in
+    let h = c.args.holder in
+    let t = c.tell_lines.ensures in
+    let o = c.in_ok-keep.ensures in
+    let lines = closing_line h.by h.step c.args.end.now ∷ [] in
+    let said = closes_said y z n h o.works t.pair t.journal t.current t.placed lines (Ok _) (rw c.in-Ok.ensures at c.in_ok-tell_lines.ensures.said) in
+    plays_close P.tells h c.args.given {S = Unit {0}} _ (Ok _) lines (place_of x m) (outside y) (outside z) (refl, refl, c.release_of-release.ensures) (own_batch x m h c.requires.works)
+    (λ told. apart_then (outside x) (outside y) (outside z) o.keeps.course.goes.later said.course.goes (c.keep.ensures.spares told) (said_apart y z t.said.acts told)) o.keeps (closes_ok P.tells h.by _ _ lines [] (outside y) (outside z) said)
+
+pub returns-clause-seat : goal.returns-clause-seat
+returns-clause-seat g c =
+    let t = c.tell_lines.ensures in
+    let o = c.in_ok-keep.ensures in
+    seat_said c.keep.new.complex c.tell_lines.new.complex c.keep.new.member c.args.holder o.works t.pair t.journal t.current t.placed o.nothing t.base t.since t.book t.reserved t.first t.second t.level t.said.acts
+
+pub returns-clause-reached : goal.returns-clause-reached
+returns-clause-reached g c = rw c.tell_lines.ensures.level c.in_ok-keep.ensures.reached

@@ -1,0 +1,60 @@
+use Rattle.std.proofs.Common.{◌≡◌, ◌∙◌, ◌+◌, ◌≤◌, ◌++◌, [], ◌∷◌, List, Ok, Err, Result, append-nil, ap, refl, sym, subst, arith}
+use Rattle.std.proofs.lemmas.Result.{err_from_is_err_and}
+use Rattle.mas_types.specs.declared.answers.Closing.TheVariants.{SpoolLost}
+use Rattle.mas_types.specs.declared.commands.Command.{Command}
+use Rattle.mas_types.specs.declared.ids.MemberId.{MemberId}
+use Rattle.mas_types.specs.declared.journals.Entry.{Entry}
+use Rattle.mas_types.specs.declared.queues.Queue.{Queue}
+use Rattle.job_outcome.specs.declared.units.UnitEnd.{UnitEnd}
+use Rattle.job_outcome.specs.declared.units.UnitEnd.TheVariants.{Refused}
+use Rattle.job_outcome.specs.Next.{end_by}
+use Rattle.member_work.specs.Units.{taken_end}
+use Rattle.step_turns.specs.Entries.{closing_reply, given_in}
+use Rattle.step_turns.specs.JobEnds.{drop_groups, ending, taking}
+use Rattle.member_units.specs.Works.{queue_here, queue_kept}
+use Rattle.member_units.proofs.Gave.{last_given}
+use Rattle.member_units.proofs.Working.{kept_here, leaves_room, same_run, works_on}
+use Rattle.member_units.proofs.giving.free_groups.Goals as goal
+
+pub returns-in_err-end-clause-run : goal.returns-in_err-end-clause-run
+returns-in_err-end-clause-run g c =
+    let k = c.drop_given.ensures in
+    same_run c.args.complex.now c.drop_given.new.complex c.args.member.now c.drop_given.new.member c.args.holder k.base k.since k.book k.id
+
+pub returns-in_err-end-clause-given : goal.returns-in_err-end-clause-given
+returns-in_err-end-clause-given g c =
+    let q = err_from_is_err_and c.from_residual.result c.from_residual.ensures.1 in
+    let x = c.args.complex.now in
+    let m = c.args.member.now in
+    let h = c.args.holder in
+    let k = c.drop_given.ensures in
+    rw (q.1, q.2) (last_given x c.drop_given.new.complex m c.drop_given.new.member h c.requires.works k.base (Err _) (λ (Q : Queue) (i : MemberId). drop_groups ∷ []) (λ (Q : Queue) (i : MemberId). Refused (SpoolLost c.args.volume)) c.requires.nothing tt k.apart c.in_err-end.ensures.last)
+
+pub returns-clause-run : goal.returns-clause-run
+returns-clause-run g c =
+    let k = c.drop_given.ensures in
+    same_run c.args.complex.now c.drop_given.new.complex c.args.member.now c.drop_given.new.member c.args.holder k.base k.since k.book k.id
+
+pub returns-clause-given : goal.returns-clause-given
+returns-clause-given g c =
+    let x = c.args.complex.now in
+    let m = c.args.member.now in
+    let h = c.args.holder in
+    let k = c.drop_given.ensures in
+    last_given x c.drop_given.new.complex m c.drop_given.new.member h c.requires.works k.base (Ok c.in_ok-end.end) (λ (Q : Queue) (i : MemberId). drop_groups ∷ []) (λ (Q : Queue) (i : MemberId). Refused (SpoolLost c.args.volume)) c.requires.nothing c.in_ok-end.ensures.work k.apart c.in_ok-end.ensures.last
+
+pub returns-clause-works : goal.returns-clause-works
+returns-clause-works g c =
+    let x = c.args.complex.now in
+    let y = c.drop_given.new.complex in
+    let m = c.args.member.now in
+    let n = c.drop_given.new.member in
+    let h = c.args.holder in
+    let k = c.drop_given.ensures in
+    let o = c.in_ok-end.ensures in
+    works_on x y m n h c.requires.works (same_run x y m n h k.base k.since k.book k.id) o.work o.of o.untold o.copy1 o.copy2
+
+pub returns-clause-room : goal.returns-clause-room
+returns-clause-room g c =
+    let o = c.in_ok-end.ensures in
+    leaves_room c.args.complex.now c.drop_given.new.complex c.drop_given.new.member o.order o.high o.reached

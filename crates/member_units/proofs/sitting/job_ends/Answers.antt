@@ -1,0 +1,151 @@
+use Rattle.std.proofs.Common.{◌≡◌, ◌∙◌, ◌+◌, ◌-◌, ◌≤◌, ◌<◌, ◌++◌, [], ◌∷◌, ℕ, List, Option, Some, None, Ok, Err, length, ap, refl, sym, subst, arith}
+use Rattle.std.proofs.lemmas.Result.{err_from_is_err_and}
+use Rattle.mas_types.specs.declared.commands.Command.{Command}
+use Rattle.mas_types.specs.declared.queues.Queue.{Queue}
+use Rattle.mas_types.specs.Commands.Life.{groups_of_outputs, is_cancelled}
+use Rattle.mas_types.specs.Owners.{member_count}
+use Rattle.mas_types.specs.Queue.{job_at}
+use Rattle.queue_tables.specs.Telling.{Tell}
+use Rattle.track_groups.specs.Groups.{held_by}
+use Rattle.mas_complex.specs.Texts.{spools_at}
+use Rattle.job_outcome.specs.declared.units.UnitEnd.TheVariants.{Done}
+use Rattle.member_decks.proofs.OpenLemmas.{tells_some}
+use Rattle.member_work.specs.Units.{taken_end}
+use Rattle.member_work.proofs.PartLemmas.{spooled_nowhere}
+use Rattle.member_work.proofs.StateLemmas.{work_queue}
+use Rattle.step_turns.specs.JobEnds.{groups_for_end, taking}
+use Rattle.step_turns.specs.declared.states.State.TheVariants.{Away}
+use Rattle.step_turns.specs.declared.states.Aside.TheVariants.{SpoolOutputs}
+use Rattle.step_turns.specs.Turns.{job_ends as job_ends_lem, outputs_stand as outputs_stand_lem}
+use Rattle.member_units.specs.Plays.{wrote_of}
+use Rattle.member_units.specs.Works.{Run, outside, place_of, queue_here, queue_kept}
+use Rattle.member_units.proofs.Firsts.{first_room}
+use Rattle.member_units.proofs.Going.{plays_as}
+use Rattle.member_units.proofs.Resting.{again_left, if_ok, reached_left, ready_left, tells_here}
+use Rattle.member_units.proofs.Taking.{ends_none, needs_all, refused_then, taken_error, taken_then}
+use Rattle.member_units.proofs.Working.{kept_here}
+use Rattle.member_units.proofs.sitting.job_ends.Goals as goal
+
+-- NO GROUPS ARE NEEDED
+
+pub outputs_stand-requires-clause-stand : goal.outputs_stand-requires-clause-stand
+outputs_stand-requires-clause-stand g c =
+    let P = g.P.Plant in
+    let x = c.args.complex.now in
+    let m = c.args.member.now in
+    let n = c.args.ends.job in
+    let specs = c.args.ends.outputs in
+    let Q = queue_kept x in
+    record {
+      job = c.requires.under_way;
+      there = λ none told.
+          let tell : Tell m.checkpoint.tables Q = subst (Tell m.checkpoint.tables) (kept_here x m c.requires.nothing) (tells_here x m c.args.holder c.requires.works told) in
+          let is = rw c.as_slice.ensures at (c.groups_for_end-needed.ensures.groups Q tell) in
+          spooled_nowhere c.law_of_read_texts.ensures c.law_of_groups.ensures.count (spools_at (P.view x.plant) (P.view x.plant).now) Q.config.groups Q n specs (held_by m.id Q.owners) c.requires.outputs.each (sym is ∙ c.if-needed-eq0.true);
+    }
+
+pub returns-then-needed-eq0-clause-plays : goal.returns-then-needed-eq0-clause-plays
+returns-then-needed-eq0-clause-plays g c =
+    let x = c.args.complex.now in
+    let m = c.args.member.now in
+    let h = c.args.holder in
+    let p = c.args.ends.progress in
+    let n = c.args.ends.job in
+    let specs = c.args.ends.outputs in
+    let Q = queue_here x m in
+    plays_as g.P.Plant.tells h 0 (wrote_of [] (outputs_stand_lem h None Q n specs p)) (wrote_of [] (job_ends_lem h (groups_for_end Q n specs) Q n specs p)) (place_of x m) (outside c.outputs_stand.new.complex) c.outputs_stand.result
+    (λ told.
+    let is = rw c.as_slice.ensures at (c.groups_for_end-needed.ensures.groups Q (tells_here x m h c.requires.works told)) in
+    ap (wrote_of []) (sym (ends_none h Q n specs p (groups_for_end Q n specs) (sym is ∙ c.if-needed-eq0.true)))) c.outputs_stand.ensures.plays
+
+-- THEY ARE TAKEN
+
+pub take_groups-requires-clause-needed : goal.take_groups-requires-clause-needed
+take_groups-requires-clause-needed g c = let not = c.if-needed-eq0.false in omega (arith, not)
+
+pub returns-in_err-end-clause-plays : goal.returns-in_err-end-clause-plays
+returns-in_err-end-clause-plays g c =
+    let x = c.args.complex.now in
+    let m = c.args.member.now in
+    let h = c.args.holder in
+    let p = c.args.ends.progress in
+    let n = c.args.ends.job in
+    let specs = c.args.ends.outputs in
+    let needed = c.groups_for_end-needed.result in
+    let Q = queue_here x m in
+    let some : 1 ≤ needed = let not = c.if-needed-eq0.false in omega (arith, not) in
+    let q = err_from_is_err_and c.from_residual.result c.from_residual.ensures.1 in
+    rw (q.1, q.2) (taken_error x c.take_groups.new.complex m c.take_groups.new.member h c.requires.works c.requires.nothing n specs p needed some
+    (λ told. rw c.as_slice.ensures at (c.groups_for_end-needed.ensures.groups Q (tells_here x m h c.requires.works told))) _ c.in_err-end.ensures.given)
+
+-- AND ITS OUTPUTS WAIT FOR THEM
+
+pub leave-requires-clause-room : goal.leave-requires-clause-room
+leave-requires-clause-room g c = c.in_ok-end.ensures.room 1 (omega arith) (omega arith)
+
+pub returns-in-Done-clause-run : goal.returns-in-Done-clause-run
+returns-in-Done-clause-run g c = c.leave.ensures.run ∙ c.take_groups.ensures.run
+
+pub returns-in-Done-clause-plays : goal.returns-in-Done-clause-plays
+returns-in-Done-clause-plays g c =
+    let x = c.args.complex.now in
+    let m = c.args.member.now in
+    let h = c.args.holder in
+    let needed = c.groups_for_end-needed.result in
+    let Q = queue_here x m in
+    let some : 1 ≤ needed = let not = c.if-needed-eq0.false in omega (arith, not) in
+    taken_then x c.take_groups.new.complex m c.take_groups.new.member h c.requires.works c.requires.nothing c.args.ends.job c.args.ends.outputs c.args.ends.progress needed some
+    (λ told. rw c.as_slice.ensures at (c.groups_for_end-needed.ensures.groups Q (tells_here x m h c.requires.works told))) c.in_ok-end.end c.len-given.result (outside c.leave.new.complex) c.leave.result c.in-Done.is c.len-given.ensures c.in_ok-end.ensures.given c.leave.ensures.plays
+
+pub returns-in-Done-clause-again : goal.returns-in-Done-clause-again
+returns-in-Done-clause-again g c = again_left c.leave.new.complex c.leave.new.member c.args.holder c.leave.result (Away (SpoolOutputs c.args.ends.job c.args.ends.outputs c.args.ends.progress)) (λ s. s) c.leave.ensures.next c.leave.ensures.works c.leave.ensures.nothing
+
+pub returns-in-Done-clause-ready : goal.returns-in-Done-clause-ready
+returns-in-Done-clause-ready g c =
+    let t = c.args.member.now.checkpoint.tables in
+    let mid = c.take_groups.new.member in
+    let n = c.args.ends.job in
+    let specs = c.args.ends.outputs in
+    let needed = c.groups_for_end-needed.result in
+    let some : 1 ≤ needed = let not = c.if-needed-eq0.false in omega (arith, not) in
+    let s = tells_some t in
+    let is : needed ≡ groups_for_end s.0 n specs = rw c.as_slice.ensures at (c.groups_for_end-needed.ensures.groups s.0 s.1) in
+    let all : groups_of_outputs specs ≡ needed = sym (needs_all (is_cancelled (job_at s.0 n)) specs (subst (λ (k : ℕ). 1 ≤ k) is some)) ∙ sym is in
+    let enough = c.in_ok-end.ensures.enough (ap Ok c.in-Done.is) in
+    let by = mid.id in
+    ready_left mid.checkpoint.tables c.leave.new.member.checkpoint.tables by c.leave.new.member.id c.leave.result (Away (SpoolOutputs n specs c.args.ends.progress)) c.leave.ensures.tables (ap (λ (r : Run). r.id) c.leave.ensures.run)
+    (record {
+      outputs = c.requires.outputs;
+      some = subst (λ (k : ℕ). 1 ≤ k) (sym all) some;
+      enough = subst (λ (k : ℕ). k ≤ member_count by mid.checkpoint.tables.owners) (sym all) enough;
+    })
+    c.leave.ensures.next
+
+pub returns-in-Done-clause-reached : goal.returns-in-Done-clause-reached
+returns-in-Done-clause-reached g c =
+    let same = c.in_ok-end.ensures.reached in
+    reached_left c.leave.new.complex (c.args.complex.now.level + c.args.ends.progress.left + 2) c.take_groups.new.complex.level c.leave.result (Away (SpoolOutputs c.args.ends.job c.args.ends.outputs c.args.ends.progress)) (omega (arith, same)) c.leave.ensures.next c.leave.ensures.reached
+
+-- ONE WAS REFUSED
+
+pub go_on_after-requires-clause-room : goal.go_on_after-requires-clause-room
+go_on_after-requires-clause-room g c = first_room c.args.complex.now c.take_groups.new.complex c.take_groups.new.member c.args.ends.progress.left c.args.ends.progress.done c.requires.units c.requires.level c.in_ok-end.ensures.room
+
+pub returns-clause-run : goal.returns-clause-run
+returns-clause-run g c = c.go_on_after.ensures.run ∙ c.take_groups.ensures.run
+
+pub returns-clause-plays : goal.returns-clause-plays
+returns-clause-plays g c =
+    let x = c.args.complex.now in
+    let m = c.args.member.now in
+    let h = c.args.holder in
+    let needed = c.groups_for_end-needed.result in
+    let Q = queue_here x m in
+    let some : 1 ≤ needed = let not = c.if-needed-eq0.false in omega (arith, not) in
+    refused_then x c.take_groups.new.complex m c.take_groups.new.member h c.requires.works c.requires.nothing c.args.ends.job c.args.ends.outputs c.args.ends.progress needed some
+    (λ told. rw c.as_slice.ensures at (c.groups_for_end-needed.ensures.groups Q (tells_here x m h c.requires.works told))) c.in_ok-end.end (outside c.go_on_after.new.complex) c.go_on_after.result c.in_default.not-Done c.in_ok-end.ensures.given c.go_on_after.ensures.plays
+
+pub returns-clause-reached : goal.returns-clause-reached
+returns-clause-reached g c =
+    let same = c.in_ok-end.ensures.reached in
+    if_ok c.go_on_after.result _ _ (λ e le. omega (arith, le, same)) c.go_on_after.ensures.reached

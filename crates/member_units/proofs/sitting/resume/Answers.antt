@@ -1,0 +1,95 @@
+use Rattle.std.proofs.Common.{◌≡◌, ◌∙◌, ◌+◌, ◌≤◌, ◌<◌, [], ◌∷◌, ℕ, List, Ok, Err, ap, refl, sym, subst, arith}
+use Rattle.std.proofs.lemmas.List.Elements.{All-nil}
+use Rattle.mas_types.specs.declared.journals.Entry.{Entry}
+use Rattle.job_outcome.specs.declared.outcomes.Outcome.{Outcome}
+use Rattle.job_outcome.specs.Outcomes.{outcome_of}
+use Rattle.member_node.specs.declared.member.NodeNo.TheVariants.{NoMemory}
+use Rattle.member_work.proofs.KeepingLemmas.{keeping_wanted}
+use Rattle.step_turns.specs.Turns.{text_read}
+use Rattle.member_sittings.specs.declared.ends.SittingEnd.{SittingEnd}
+use Rattle.member_units.specs.Plays.{wrote_of}
+use Rattle.member_units.specs.Works.{outside, place_of, queue_here}
+use Rattle.member_units.proofs.Cuts.{of_cut}
+use Rattle.member_units.proofs.Going.{apart_none, plays_error}
+use Rattle.member_units.proofs.Ours.{text_its}
+use Rattle.member_units.proofs.Resting.{if_ok}
+use Rattle.member_units.proofs.sitting.resume.Goals as goal
+
+-- NO DECK
+
+pub unreachable-requires : goal.unreachable-requires
+unreachable-requires g c = rw c.in-SpoolDeck.is at c.requires.may
+
+-- A JOB'S TEXT
+
+pub outcome_of-requires-clause-fields : goal.outcome_of-requires-clause-fields
+outcome_of-requires-clause-fields g c = let may = rw c.in-ReadText.is at c.requires.may in may.0
+
+pub outcome_of-requires-clause-text : goal.outcome_of-requires-clause-text
+outcome_of-requires-clause-text g c = let may = rw c.in-ReadText.is at c.requires.may in may.1
+
+pub returns-in_default-clause-plays : goal.returns-in_default-clause-plays
+returns-in_default-clause-plays g c =
+    let P = g.P.Plant in
+    let x = c.args.complex.now in
+    let m = c.args.member.now in
+    let h = c.args.holder in
+    let o = outside x in
+    let t = text_read h (outcome_of c.in-ReadText.runs c.in-ReadText.fields c.args.found.read) (queue_here x m) c.in-ReadText.job c.in-ReadText.progress in
+    rw c.in-ReadText.is (plays_error P.tells h 0 {S = SittingEnd} NoMemory (wrote_of [] t) (wrote_of [] t) [] (place_of x m) o (λ told. refl) (of_cut h.by h.step [] t.parts (All-nil _) (text_its h (outcome_of c.in-ReadText.runs c.in-ReadText.fields c.args.found.read) (queue_here x m) c.in-ReadText.job c.in-ReadText.progress)) tt
+    (λ told. apart_none o) (keeping_wanted {T = SittingEnd} P.tells h.by o.batches o.batches refl [] o.first o.second o.view))
+
+pub text_read-requires-clause-under_way : goal.text_read-requires-clause-under_way
+text_read-requires-clause-under_way g c = let may = rw c.in-ReadText.is at c.requires.may in may.2
+
+pub text_read-requires-clause-level : goal.text_read-requires-clause-level
+text_read-requires-clause-level g c = let level = rw c.in-ReadText.is at c.requires.level in omega (arith, level)
+
+pub text_read-requires-clause-units : goal.text_read-requires-clause-units
+text_read-requires-clause-units g c = let units = rw c.in-ReadText.is at c.requires.units in omega (arith, units)
+
+pub returns-in-ReadText-clause-plays : goal.returns-in-ReadText-clause-plays
+returns-in-ReadText-clause-plays g c = rw (c.in-ReadText.is, sym c.in-Ok.ensures.outcome) c.text_read.ensures.plays
+
+pub returns-in-ReadText-clause-reached : goal.returns-in-ReadText-clause-reached
+returns-in-ReadText-clause-reached g c = rw c.in-ReadText.is (if_ok c.text_read.result _ _ (λ e le. omega (arith, le)) c.text_read.ensures.reached)
+
+-- A JOB'S OUTPUTS
+
+pub outputs_stand-requires-clause-outputs : goal.outputs_stand-requires-clause-outputs
+outputs_stand-requires-clause-outputs g c = let may = rw c.in-SpoolOutputs.is at c.requires.may in may.0
+
+pub outputs_stand-requires-clause-stand : goal.outputs_stand-requires-clause-stand
+outputs_stand-requires-clause-stand g c = let may = rw c.in-SpoolOutputs.is at c.requires.may in may.1
+
+pub outputs_stand-requires-clause-level : goal.outputs_stand-requires-clause-level
+outputs_stand-requires-clause-level g c = let level = rw c.in-SpoolOutputs.is at c.requires.level in omega (arith, level)
+
+pub outputs_stand-requires-clause-units : goal.outputs_stand-requires-clause-units
+outputs_stand-requires-clause-units g c = let units = rw c.in-SpoolOutputs.is at c.requires.units in omega (arith, units)
+
+pub returns-in-SpoolOutputs-clause-plays : goal.returns-in-SpoolOutputs-clause-plays
+returns-in-SpoolOutputs-clause-plays g c = rw c.in-SpoolOutputs.is c.outputs_stand.ensures.plays
+
+pub returns-in-SpoolOutputs-clause-reached : goal.returns-in-SpoolOutputs-clause-reached
+returns-in-SpoolOutputs-clause-reached g c = rw c.in-SpoolOutputs.is (if_ok c.outputs_stand.result _ _ (λ e le. omega (arith, le)) c.outputs_stand.ensures.reached)
+
+-- AN OUTPUT'S LINES
+
+pub lines_printed-requires-clause-index : goal.lines_printed-requires-clause-index
+lines_printed-requires-clause-index g c = let may = rw c.in-PrintLines.is at c.requires.may in may.0
+
+pub lines_printed-requires-clause-right : goal.lines_printed-requires-clause-right
+lines_printed-requires-clause-right g c none told = let may = rw c.in-PrintLines.is at c.requires.may in may.1 (sym c.printed_end-end.ensures.is ∙ none) told
+
+pub lines_printed-requires-clause-level : goal.lines_printed-requires-clause-level
+lines_printed-requires-clause-level g c = let level = rw c.in-PrintLines.is at c.requires.level in omega (arith, level)
+
+pub lines_printed-requires-clause-units : goal.lines_printed-requires-clause-units
+lines_printed-requires-clause-units g c = let units = rw c.in-PrintLines.is at c.requires.units in omega (arith, units)
+
+pub returns-clause-plays : goal.returns-clause-plays
+returns-clause-plays g c = rw (c.in-PrintLines.is, sym c.printed_end-end.ensures.is) c.lines_printed.ensures.plays
+
+pub returns-clause-reached : goal.returns-clause-reached
+returns-clause-reached g c = rw c.in-PrintLines.is (if_ok c.lines_printed.result _ _ (λ e le. omega (arith, le)) c.lines_printed.ensures.reached)

@@ -1,0 +1,37 @@
+use Rattle.std.proofs.Common.{◌≡◌, ◌∙◌, [], ap, refl, sym, subst}
+use Rattle.mas_types.specs.declared.queues.Queue.{Queue}
+use Rattle.step_turns.specs.declared.states.State.TheVariants.{Away}
+use Rattle.step_turns.specs.Turns.{aside_turn}
+use Rattle.member_units.specs.Plays.{wrote_of}
+use Rattle.member_units.specs.Works.{Run, queue_here, queue_kept}
+use Rattle.member_units.proofs.Sat.{frame_of, sat_of}
+use Rattle.member_units.proofs.Seated.{low_bounds, works_sits}
+use Rattle.member_units.proofs.Working.{kept_here}
+use Rattle.member_units.proofs.sitting.resume_work.Goals as goal
+
+pub resume-requires-clause-works : goal.resume-requires-clause-works
+resume-requires-clause-works g c = works_sits c.args.complex.now c.args.member.now c.args.holder c.requires.sits.sits c.requires.sits.bounds c.requires.sits.holder c.requires.base_sound
+
+pub resume-requires-clause-low : goal.resume-requires-clause-low
+resume-requires-clause-low g c = low_bounds c.args.complex.now c.args.member.now c.requires.sits.bounds
+
+pub resume-requires-clause-nothing : goal.resume-requires-clause-nothing
+resume-requires-clause-nothing g c = c.requires.sits.sits.seat.between.nothing
+
+pub returns-clause-frame : goal.returns-clause-frame
+returns-clause-frame g c = frame_of c.args.complex.now c.resume.new.complex c.args.member.now c.resume.new.member c.resume.ensures.run
+
+pub returns-clause-id : goal.returns-clause-id
+returns-clause-id g c = ap (λ (r : Run). r.id) c.resume.ensures.run
+
+pub returns-clause-sat : goal.returns-clause-sat
+returns-clause-sat g c =
+    let x = c.args.complex.now in
+    let m = c.args.member.now in
+    let h = c.args.holder in
+    let a = c.args.aside in
+    let f = c.args.found in
+    let nothing = c.requires.sits.sits.seat.between.nothing in
+    let w = works_sits x m h c.requires.sits.sits c.requires.sits.bounds c.requires.sits.holder c.requires.base_sound in
+    sat_of x c.resume.new.complex m h (Away a) f (wrote_of [] (aside_turn h (queue_here x m) a f)) c.resume.result nothing w.work
+    (λ told. ap (λ (Q : Queue). wrote_of [] (aside_turn h Q a f)) (kept_here x m nothing)) c.resume.ensures.plays

@@ -1,0 +1,103 @@
+use Rattle.std.proofs.Common.{◌≡◌, ◌∙◌, ◌+◌, ◌-◌, ◌≤◌, ◌<◌, ◌++◌, [], ◌∷◌, ℕ, List, Ok, Err, length, ap, refl, sym, subst, arith}
+use Rattle.std.proofs.lemmas.Result.{err_from_is_err_and}
+use Rattle.mas_types.specs.declared.commands.Command.TheVariants as command
+use Rattle.mas_types.specs.declared.journals.Entry.{Entry}
+use Rattle.mas_types.specs.Closings.{closing_line}
+use Rattle.job_outcome.specs.declared.outcomes.Outcome.TheVariants as outcome
+use Rattle.job_outcome.specs.Next.{end_by}
+use Rattle.step_turns.specs.Entries.{closing_reply, given_in}
+use Rattle.step_turns.specs.declared.states.State.TheVariants.{Told}
+use Rattle.step_turns.specs.Turns.{closes_as, text_read as text_read_lem}
+use Rattle.member_units.specs.Plays.{wrote_of}
+use Rattle.member_units.specs.Works.{outside, place_of, queue_here}
+use Rattle.member_units.proofs.Firsts.{first_error, first_then}
+use Rattle.member_units.proofs.Going.{plays_as}
+use Rattle.member_units.proofs.Resting.{again_told, if_ok, reached_left, ready_told}
+use Rattle.member_units.proofs.Working.{less_room, room_low, uses_one}
+use Rattle.member_units.proofs.sitting.text_read.Goals as goal
+
+-- IT IS CONVERTED
+
+pub give-requires-clause-room : goal.give-requires-clause-room
+give-requires-clause-room g c = room_low c.args.complex.now c.args.member.now c.requires.low 1 (omega arith) (omega arith)
+
+pub give-requires-clause-few : goal.give-requires-clause-few
+give-requires-clause-few g c = let none = ap (λ (es : List Entry). length es) c.requires.nothing in omega (arith, none)
+
+pub give-requires-clause-may : goal.give-requires-clause-may
+give-requires-clause-may g c = let w = c.requires.works in record { plain = refl; fit = tt; giver = (w.some, w.by); may = w.member; closes = refl }
+
+pub give-requires-clause-right : goal.give-requires-clause-right
+give-requires-clause-right g c told = tt
+
+pub returns-in_err-end-in-Convert-clause-plays : goal.returns-in_err-end-in-Convert-clause-plays
+returns-in_err-end-in-Convert-clause-plays g c =
+    let x = c.args.complex.now in
+    let m = c.args.member.now in
+    let h = c.args.holder in
+    let p = c.args.job.progress in
+    let Q = queue_here x m in
+    let cs = command.Converted c.args.job.job ∷ [] in
+    let q = err_from_is_err_and c.from_residual.result c.from_residual.ensures.1 in
+    rw (q.1, q.2, c.in-Convert.is) (first_error x c.give.new.complex m c.give.new.member h c.requires.works c.requires.nothing cs (end_by (closing_reply (given_in Q h.by h.step cs))) p.left p.done (text_read_lem h outcome.Convert Q c.args.job.job p) (λ told. refl) _ c.in_err-end-in-Convert.ensures.given)
+
+pub go_on_after-requires-clause-room : goal.go_on_after-requires-clause-room
+go_on_after-requires-clause-room g c =
+    let level = c.requires.level in
+    let units = c.requires.units in
+    let o = c.in_ok-end-in-Convert.ensures in
+    let high = o.high in
+    let same = o.reached in
+    uses_one c.args.complex.now c.give.new.complex c.args.member.now c.give.new.member o.order (omega (arith, high)) (omega (arith, same)) (c.args.job.progress.left + 3) (room_low c.args.complex.now c.args.member.now c.requires.low (c.args.job.progress.left + 3 + 1) (omega (arith, units)) (omega (arith, level)))
+
+pub returns-in_ok-end-in-Convert-clause-run : goal.returns-in_ok-end-in-Convert-clause-run
+returns-in_ok-end-in-Convert-clause-run g c = c.go_on_after.ensures.run ∙ c.give.ensures.run
+
+pub returns-in_ok-end-in-Convert-clause-plays : goal.returns-in_ok-end-in-Convert-clause-plays
+returns-in_ok-end-in-Convert-clause-plays g c =
+    let x = c.args.complex.now in
+    let m = c.args.member.now in
+    let h = c.args.holder in
+    let p = c.args.job.progress in
+    let Q = queue_here x m in
+    let cs = command.Converted c.args.job.job ∷ [] in
+    rw c.in-Convert.is (first_then x c.give.new.complex m c.give.new.member h c.requires.works c.requires.nothing cs (end_by (closing_reply (given_in Q h.by h.step cs))) p.left p.done (text_read_lem h outcome.Convert Q c.args.job.job p) (λ told. refl)
+    c.in_ok-end-in-Convert.end (outside c.go_on_after.new.complex) c.go_on_after.result c.in_ok-end-in-Convert.ensures.given c.go_on_after.ensures.plays)
+
+pub returns-in_ok-end-in-Convert-clause-reached : goal.returns-in_ok-end-in-Convert-clause-reached
+returns-in_ok-end-in-Convert-clause-reached g c =
+    let same = c.in_ok-end-in-Convert.ensures.reached in
+    if_ok c.go_on_after.result _ _ (λ e le. omega (arith, le, same)) c.go_on_after.ensures.reached
+
+-- THE UNIT IS REFUSED
+
+pub close-requires-clause-room : goal.close-requires-clause-room
+close-requires-clause-room g c = room_low c.args.complex.now c.args.member.now c.requires.low 1 (omega arith) (omega arith)
+
+pub close-requires-clause-named : goal.close-requires-clause-named
+close-requires-clause-named g c = rw c.in-Stop.is at c.requires.named
+
+pub returns-in-Stop-clause-plays : goal.returns-in-Stop-clause-plays
+returns-in-Stop-clause-plays g c =
+    let x = c.args.complex.now in
+    let m = c.args.member.now in
+    let h = c.args.holder in
+    rw c.in-Stop.is (plays_as g.P.Plant.tells h 0 (wrote_of m.batch (closes_as h c.in-Stop.end)) (wrote_of [] (closes_as h c.in-Stop.end)) (place_of x m) (outside c.close.new.complex) c.close.result
+    (λ told. ap (λ (es : List Entry). wrote_of es (closes_as h c.in-Stop.end)) c.requires.nothing) c.close.ensures.plays)
+
+pub returns-in-Stop-clause-again : goal.returns-in-Stop-clause-again
+returns-in-Stop-clause-again g c = again_told c.close.new.complex c.close.new.member c.args.holder.step c.close.result c.close.ensures.told c.close.ensures.seat
+
+pub returns-in-Stop-clause-ready : goal.returns-in-Stop-clause-ready
+returns-in-Stop-clause-ready g c = ready_told c.close.new.member.checkpoint.tables c.close.new.member.id c.close.result c.close.ensures.told
+
+pub returns-in-Stop-clause-reached : goal.returns-in-Stop-clause-reached
+returns-in-Stop-clause-reached g c = reached_left c.close.new.complex (c.args.complex.now.level + c.args.job.progress.left + 2) c.args.complex.now.level c.close.result Told (omega arith) c.close.ensures.told c.close.ensures.reached
+
+-- IT ENDS
+
+pub job_ends-requires-clause-outputs : goal.job_ends-requires-clause-outputs
+job_ends-requires-clause-outputs g c = rw c.in-End.is at c.requires.fits
+
+pub returns-in-End-clause-plays : goal.returns-in-End-clause-plays
+returns-in-End-clause-plays g c = rw c.in-End.is c.job_ends.ensures.plays

@@ -1,0 +1,150 @@
+use Rattle.std.proofs.Common.{◌≡◌, ◌∙◌, ◌+◌, ◌-◌, ◌*◌, ◌≤◌, ◌<◌, ◌++◌, [], ◌∷◌, ℕ, List, Ok, Err, length, ap, refl, sym, subst, arith}
+use Rattle.std.proofs.lemmas.List.{length-append}
+use Rattle.std.proofs.lemmas.Result.{err_from_is_err_and}
+use Rattle.mas_types.specs.declared.ids.MemberId.{MemberId}
+use Rattle.mas_types.specs.declared.journals.Entry.{Entry}
+use Rattle.paper_laws.specs.Counts.{counts_after}
+use Rattle.mas_complex.specs.Paper.{counts_of}
+use Rattle.job_outcome.specs.Next.{end_by}
+use Rattle.step_turns.specs.Entries.{closing_reply, given_in}
+use Rattle.step_turns.specs.declared.states.State.TheVariants.{Away, Told}
+use Rattle.step_turns.specs.Turns.{Turn, leaves, no_more, one_command, units_from, waits_for}
+use Rattle.member_units.specs.declared.nexts.Next.{Next}
+use Rattle.member_units.specs.declared.nexts.Next.TheVariants as next
+use Rattle.member_units.specs.Nexts.{turn_by}
+use Rattle.member_units.specs.Plays.{Wrote, wrote_of}
+use Rattle.member_units.specs.Works.{Run, outside, place_of, queue_here}
+use Rattle.member_units.proofs.Following.{unit_given, unit_unmarked}
+use Rattle.member_units.proofs.Going.{part_error, part_then, plays_as}
+use Rattle.member_units.proofs.Resting.{again_left, again_told, if_ok, left_some, reached_left, ready_left, ready_told, tells_here, waits_few}
+use Rattle.member_units.proofs.Working.{less_room, own_batch, uses_one}
+use Rattle.member_units.proofs.units.begin.Goals as goal
+
+pub give-requires-clause-room : goal.give-requires-clause-room
+give-requires-clause-room g c = less_room c.args.complex.now c.args.member.now 1 (c.args.progress.left + 3) (omega arith) c.requires.room
+
+pub give-requires-clause-few : goal.give-requires-clause-few
+give-requires-clause-few g c = let none = ap (λ (es : List Entry). length es) c.requires.nothing in omega (arith, none)
+
+pub give-requires-clause-may : goal.give-requires-clause-may
+give-requires-clause-may g c =
+    let w = c.requires.works in
+    unit_given c.args.complex.now.base c.args.member.now.id c.in-Give.command w.some w.by w.member c.in-Give.ensures.right
+
+pub give-requires-clause-right : goal.give-requires-clause-right
+give-requires-clause-right g c told =
+    let x = c.args.complex.now in
+    let m = c.args.member.now in
+    unit_unmarked (queue_here x m) m.id (counts_after m.batch (counts_of x.printed) m.id) c.in-Give.command c.in-Give.ensures.right
+
+-- what follows is what the queue gives
+pub returns-in_err-end-in-Give-clause-plays : goal.returns-in_err-end-in-Give-clause-plays
+returns-in_err-end-in-Give-clause-plays g c =
+    let P = g.P.Plant in
+    let x = c.args.complex.now in
+    let m = c.args.member.now in
+    let h = c.args.holder in
+    let p = c.args.progress in
+    let w = c.requires.works in
+    let Q = queue_here x m in
+    let d = c.in-Give.command in
+    let q = err_from_is_err_and c.from_residual.result c.from_residual.ensures.1 in
+    let y = c.give.new.complex in
+    rw (q.1, q.2) (plays_as P.tells h 0 (wrote_of m.batch (one_command h d (p.left - 1) (units_from h (p.left - 1)) Q 0 p.done)) (wrote_of [] (units_from h p.left Q 0 p.done)) (place_of x m) (outside y) (Err _)
+    (λ told. ap (λ (es : List Entry). wrote_of es (one_command h d (p.left - 1) (units_from h (p.left - 1)) Q 0 p.done)) c.requires.nothing ∙ ap (wrote_of []) (sym (c.in-Give.ensures.unit Q h 0 w.own (tells_here x m h w told))))
+    (part_error P.tells h (d ∷ []) (end_by (closing_reply (given_in Q h.by h.step (d ∷ [])))) (place_of x m) (place_of y c.give.new.member) (own_batch x m h w) (p.left - 1) 0 p.done _ c.in_err-end-in-Give.ensures.given))
+
+pub go_on-requires-clause-room : goal.go_on-requires-clause-room
+go_on-requires-clause-room g c =
+    let some = left_some c.args.progress.left _ c.in-Give.command c.next_unit.ensures.none c.in-Give.is in
+    let o = c.in_ok-end-in-Give.ensures in
+    let high = o.high in
+    let same = o.reached in
+    uses_one c.args.complex.now c.give.new.complex c.args.member.now c.give.new.member o.order (omega (arith, high)) (omega (arith, same)) (c.args.progress.left - 1 + 3) (less_room c.args.complex.now c.args.member.now (c.args.progress.left - 1 + 3 + 1) (c.args.progress.left + 3) (omega (arith, some)) c.requires.room)
+
+pub go_on-requires-clause-units : goal.go_on-requires-clause-units
+go_on-requires-clause-units g c =
+    let some = left_some c.args.progress.left _ c.in-Give.command c.next_unit.ensures.none c.in-Give.is in
+    let few = c.requires.units in
+    omega (arith, some, few)
+
+pub returns-in_ok-end-in-Give-clause-run : goal.returns-in_ok-end-in-Give-clause-run
+returns-in_ok-end-in-Give-clause-run g c = c.go_on.ensures.run ∙ c.give.ensures.run
+
+pub returns-in_ok-end-in-Give-clause-plays : goal.returns-in_ok-end-in-Give-clause-plays
+returns-in_ok-end-in-Give-clause-plays g c =
+    let P = g.P.Plant in
+    let x = c.args.complex.now in
+    let y = c.give.new.complex in
+    let z = c.go_on.new.complex in
+    let m = c.args.member.now in
+    let n = c.give.new.member in
+    let h = c.args.holder in
+    let p = c.args.progress in
+    let w = c.requires.works in
+    let Q = queue_here x m in
+    let d = c.in-Give.command in
+    plays_as P.tells h 0 (wrote_of m.batch (one_command h d (p.left - 1) (units_from h (p.left - 1)) Q 0 p.done)) (wrote_of [] (units_from h p.left Q 0 p.done)) (place_of x m) (outside z) c.go_on.result
+    (λ told. ap (λ (es : List Entry). wrote_of es (one_command h d (p.left - 1) (units_from h (p.left - 1)) Q 0 p.done)) c.requires.nothing ∙ ap (wrote_of []) (sym (c.in-Give.ensures.unit Q h 0 w.own (tells_here x m h w told))))
+    (part_then P.tells h (d ∷ []) (end_by (closing_reply (given_in Q h.by h.step (d ∷ [])))) (place_of x m) (place_of y n) (own_batch x m h w) (p.left - 1) 0 p.done c.in_ok-end-in-Give.end 1 (outside z) c.go_on.result c.in_ok-end-in-Give.ensures.given
+    (let one = c.in_ok-end-in-Give.ensures.one in let left = ap (λ (es : List Entry). length es) c.in_ok-end-in-Give.ensures.given.left in let both = length-append m.batch c.in_ok-end-in-Give.ensures.given.es in omega (arith, one, left, both)) c.go_on.ensures.plays)
+
+pub returns-in_ok-end-in-Give-clause-reached : goal.returns-in_ok-end-in-Give-clause-reached
+returns-in_ok-end-in-Give-clause-reached g c =
+    let some = left_some c.args.progress.left _ c.in-Give.command c.next_unit.ensures.none c.in-Give.is in
+    let same = c.in_ok-end-in-Give.ensures.reached in
+    if_ok c.go_on.result _ _ (λ e le. omega (arith, le, same, some)) c.go_on.ensures.reached
+
+-- IT WAITS
+
+pub leave-requires-clause-room : goal.leave-requires-clause-room
+leave-requires-clause-room g c = less_room c.args.complex.now c.args.member.now 1 (c.args.progress.left + 3) (omega arith) c.requires.room
+
+pub returns-in-Wait-clause-plays : goal.returns-in-Wait-clause-plays
+returns-in-Wait-clause-plays g c =
+    let x = c.args.complex.now in
+    let m = c.args.member.now in
+    let h = c.args.holder in
+    let p = c.args.progress in
+    let w = c.requires.works in
+    let Q = queue_here x m in
+    plays_as g.P.Plant.tells h 0 (wrote_of m.batch (leaves (Away c.in-Wait.aside))) (wrote_of [] (units_from h p.left Q 0 p.done)) (place_of x m) (outside c.leave.new.complex) c.leave.result
+    (λ told. ap (λ (es : List Entry). wrote_of es (leaves (Away c.in-Wait.aside))) c.requires.nothing ∙ ap (wrote_of []) (sym (c.in-Wait.ensures.unit Q h 0 w.own (tells_here x m h w told))))
+    c.leave.ensures.plays
+
+pub returns-in-Wait-clause-again : goal.returns-in-Wait-clause-again
+returns-in-Wait-clause-again g c = again_left c.leave.new.complex c.leave.new.member c.args.holder c.leave.result (Away c.in-Wait.aside) (λ s. s) c.leave.ensures.next c.leave.ensures.works c.leave.ensures.nothing
+
+pub returns-in-Wait-clause-ready : goal.returns-in-Wait-clause-ready
+returns-in-Wait-clause-ready g c =
+    let l = c.leave.ensures in
+    ready_left c.args.member.now.checkpoint.tables c.leave.new.member.checkpoint.tables c.args.member.now.id c.leave.new.member.id c.leave.result (Away c.in-Wait.aside) l.tables (ap (λ (r : Run). r.id) l.run) c.in-Wait.ensures.right l.next
+
+pub returns-in-Wait-clause-reached : goal.returns-in-Wait-clause-reached
+returns-in-Wait-clause-reached g c = reached_left c.leave.new.complex (c.args.complex.now.level + c.args.progress.left + 1) c.args.complex.now.level c.leave.result (Away c.in-Wait.aside) (waits_few c.args.complex.now.level c.args.progress _ c.in-Wait.aside c.next_unit.ensures.waits c.in-Wait.is) c.leave.ensures.next c.leave.ensures.reached
+
+-- NONE APPLIES
+
+pub close-requires-clause-room : goal.close-requires-clause-room
+close-requires-clause-room g c = less_room c.args.complex.now c.args.member.now 1 (c.args.progress.left + 3) (omega arith) c.requires.room
+
+pub returns-in-Nothing-clause-plays : goal.returns-in-Nothing-clause-plays
+returns-in-Nothing-clause-plays g c =
+    let x = c.args.complex.now in
+    let m = c.args.member.now in
+    let h = c.args.holder in
+    let p = c.args.progress in
+    let w = c.requires.works in
+    let Q = queue_here x m in
+    plays_as g.P.Plant.tells h 0 (wrote_of m.batch (no_more h p.done)) (wrote_of [] (units_from h p.left Q 0 p.done)) (place_of x m) (outside c.close.new.complex) c.close.result
+    (λ told. ap (λ (es : List Entry). wrote_of es (no_more h p.done)) c.requires.nothing ∙ ap (wrote_of []) (sym (c.in-Nothing.ensures.unit Q h 0 w.own (tells_here x m h w told))))
+    c.close.ensures.plays
+
+pub returns-in-Nothing-clause-again : goal.returns-in-Nothing-clause-again
+returns-in-Nothing-clause-again g c = again_told c.close.new.complex c.close.new.member c.args.holder.step c.close.result c.close.ensures.told c.close.ensures.seat
+
+pub returns-in-Nothing-clause-ready : goal.returns-in-Nothing-clause-ready
+returns-in-Nothing-clause-ready g c = ready_told c.close.new.member.checkpoint.tables c.close.new.member.id c.close.result c.close.ensures.told
+
+pub returns-in-Nothing-clause-reached : goal.returns-in-Nothing-clause-reached
+returns-in-Nothing-clause-reached g c = reached_left c.close.new.complex (c.args.complex.now.level + c.args.progress.left + 1) c.args.complex.now.level c.close.result Told (omega arith) c.close.ensures.told c.close.ensures.reached

@@ -1,0 +1,297 @@
+use Rattle.std.proofs.Common.{◌≡◌, ◌∙◌, ◌+◌, ◌-◌, ◌≤◌, ◌<◌, ◌++◌, [], ◌∷◌, ℕ, List, Result, Ok, Err, length, ap, refl, sym, subst, arith}
+use Rattle.std.proofs.lemmas.List.{length-append}
+use Rattle.std.proofs.lemmas.Result.{err_from_is_err_and}
+use Rattle.mas_types.specs.declared.answers.Closing.TheVariants as closing
+use Rattle.mas_types.specs.declared.journals.Entry.{Entry}
+use Rattle.mas_types.specs.Closings.{closing_line}
+use Rattle.paper_laws.specs.Counts.{counts_after}
+use Rattle.mas_complex.specs.Paper.{counts_of}
+use Rattle.job_outcome.specs.Next.{end_by}
+use Rattle.step_turns.specs.Entries.{closing_reply, given_in}
+use Rattle.step_turns.specs.declared.states.State.TheVariants.{Away, Rested, Told}
+use Rattle.step_turns.specs.Turns.{leaves, no_more, one_command, units_from}
+use Rattle.member_units.specs.Plays.{wrote_of}
+use Rattle.member_units.specs.Works.{Run, outside, place_of, queue_here}
+use Rattle.member_units.proofs.Following.{unit_given, unit_unmarked}
+use Rattle.member_units.proofs.Going.{closed_after, full_error, on_after, part_error, part_then, plays_as, rest_after}
+use Rattle.member_units.proofs.Resting.{again_left, again_told, left_some, reached_left, ready_left, ready_told, tells_here, waits_few}
+use Rattle.member_units.proofs.Working.{less_room, own_batch}
+use Rattle.member_units.proofs.units.go_on.Goals as goal
+
+pub loop-end-init : goal.loop-end-init
+loop-end-init g c =
+    record {
+      run = refl;
+      works = c.requires.works;
+      room = c.requires.room;
+      named = c.requires.named;
+      units = refl;
+      few = omega arith;
+      level = omega arith;
+      then = λ new r p. p;
+    }
+
+-- THE STEP CLOSES AFTER A UNIT
+
+pub close-requires-clause-room : goal.close-requires-clause-room
+close-requires-clause-room g c = less_room c.loop-end.complex c.loop-end.member 1 (c.loop-end.at.progress.left + 3) (omega arith) c.loop-end.invariant.room
+
+pub returns-in-Idle-clause-run : goal.returns-in-Idle-clause-run
+returns-in-Idle-clause-run g c = c.close.ensures.run ∙ c.loop-end.invariant.run
+
+pub returns-in-Idle-clause-plays : goal.returns-in-Idle-clause-plays
+returns-in-Idle-clause-plays g c =
+    let i = c.loop-end.invariant in
+    let h = c.args.holder in
+    i.then (outside c.close.new.complex) c.close.result (rw c.in-Idle.is (closed_after g.P.Plant.tells h c.loop-end.at.given (closing_line h.by h.step (closing.DoneUnits c.loop-end.at.progress.done) ∷ []) (place_of c.loop-end.complex c.loop-end.member) (outside c.close.new.complex) c.close.result c.close.ensures.plays))
+
+pub returns-in-Idle-clause-again : goal.returns-in-Idle-clause-again
+returns-in-Idle-clause-again g c = again_told c.close.new.complex c.close.new.member c.args.holder.step c.close.result c.close.ensures.told c.close.ensures.seat
+
+pub returns-in-Idle-clause-ready : goal.returns-in-Idle-clause-ready
+returns-in-Idle-clause-ready g c = ready_told c.close.new.member.checkpoint.tables c.close.new.member.id c.close.result c.close.ensures.told
+
+pub returns-in-Idle-clause-reached : goal.returns-in-Idle-clause-reached
+returns-in-Idle-clause-reached g c =
+    let level = c.loop-end.invariant.level in
+    reached_left c.close.new.complex (c.args.complex.now.level + c.args.from.progress.left + 2) c.loop-end.complex.level c.close.result Told (omega (arith, level)) c.close.ensures.told c.close.ensures.reached
+
+pub returns-in-Refused-clause-run : goal.returns-in-Refused-clause-run
+returns-in-Refused-clause-run g c = c.close-in-Refused.ensures.run ∙ c.loop-end.invariant.run
+
+pub returns-in-Refused-clause-plays : goal.returns-in-Refused-clause-plays
+returns-in-Refused-clause-plays g c =
+    let i = c.loop-end.invariant in
+    let h = c.args.holder in
+    i.then (outside c.close-in-Refused.new.complex) c.close-in-Refused.result (rw c.in-Refused.is (closed_after g.P.Plant.tells h c.loop-end.at.given (closing_line h.by h.step c.in-Refused.end ∷ []) (place_of c.loop-end.complex c.loop-end.member) (outside c.close-in-Refused.new.complex) c.close-in-Refused.result c.close-in-Refused.ensures.plays))
+
+pub returns-in-Refused-clause-again : goal.returns-in-Refused-clause-again
+returns-in-Refused-clause-again g c = again_told c.close-in-Refused.new.complex c.close-in-Refused.new.member c.args.holder.step c.close-in-Refused.result c.close-in-Refused.ensures.told c.close-in-Refused.ensures.seat
+
+pub returns-in-Refused-clause-ready : goal.returns-in-Refused-clause-ready
+returns-in-Refused-clause-ready g c = ready_told c.close-in-Refused.new.member.checkpoint.tables c.close-in-Refused.new.member.id c.close-in-Refused.result c.close-in-Refused.ensures.told
+
+pub returns-in-Refused-clause-reached : goal.returns-in-Refused-clause-reached
+returns-in-Refused-clause-reached g c =
+    let level = c.loop-end.invariant.level in
+    reached_left c.close-in-Refused.new.complex (c.args.complex.now.level + c.args.from.progress.left + 2) c.loop-end.complex.level c.close-in-Refused.result Told (omega (arith, level)) c.close-in-Refused.ensures.told c.close-in-Refused.ensures.reached
+
+-- A FULL BATCH
+
+pub keep_full-requires-clause-room : goal.keep_full-requires-clause-room
+keep_full-requires-clause-room g c = less_room c.loop-end.complex c.loop-end.member 1 (c.loop-end.at.progress.left + 3) (omega arith) c.loop-end.invariant.room
+
+pub returns-in_err-keep_full-clause-run : goal.returns-in_err-keep_full-clause-run
+returns-in_err-keep_full-clause-run g c = c.keep_full.ensures.run ∙ c.loop-end.invariant.run
+
+pub returns-in_err-keep_full-clause-plays : goal.returns-in_err-keep_full-clause-plays
+returns-in_err-keep_full-clause-plays g c =
+    let i = c.loop-end.invariant in
+    let h = c.args.holder in
+    let z = c.loop-end.complex in
+    let n = c.loop-end.member in
+    let q = err_from_is_err_and c.from_residual.result c.from_residual.ensures.1 in
+    rw (q.1, q.2) (i.then (outside c.keep_full.new.complex) (Err _) (full_error g.P.Plant.tells h c.loop-end.at.given {S = Unit {0}} _ c.loop-end.end c.loop-end.at.progress.left c.loop-end.at.progress.done (place_of z n) (outside c.keep_full.new.complex) (own_batch z n h i.works) c.keep_full.ensures.spares c.in_err-keep_full.ensures.keeps))
+
+-- THE HOLD IS SPENT
+
+pub leave-requires-clause-room : goal.leave-requires-clause-room
+leave-requires-clause-room g c = c.in_ok-keep_full.ensures.uses 1 (less_room c.loop-end.complex c.loop-end.member 2 (c.loop-end.at.progress.left + 3) (omega arith) c.loop-end.invariant.room)
+
+pub returns-then-rests-clause-run : goal.returns-then-rests-clause-run
+returns-then-rests-clause-run g c = c.leave.ensures.run ∙ c.keep_full.ensures.run ∙ c.loop-end.invariant.run
+
+pub returns-then-rests-clause-plays : goal.returns-then-rests-clause-plays
+returns-then-rests-clause-plays g c =
+    let i = c.loop-end.invariant in
+    let h = c.args.holder in
+    let z = c.loop-end.complex in
+    let n = c.loop-end.member in
+    let y = c.keep_full.new.complex in
+    let k = c.keep_full.new.member in
+    let o = c.in_ok-keep_full.ensures in
+    i.then (outside c.leave.new.complex) c.leave.result
+    (rest_after g.P.Plant.tells h c.loop-end.at.given c.loop-end.at.progress.left c.loop-end.at.progress.done {S = Unit {0}} _ (place_of z n) (place_of y k) (outside c.leave.new.complex) c.leave.result (own_batch z n h i.works) o.left c.keep_full.ensures.spares o.keeps
+    c.loop-end.end c.in-Done.is (sym c.rests.ensures ∙ c.if-rests.true) c.leave.ensures.plays)
+
+pub returns-then-rests-clause-again : goal.returns-then-rests-clause-again
+returns-then-rests-clause-again g c = again_left c.leave.new.complex c.leave.new.member c.args.holder c.leave.result _ (λ s. s) c.leave.ensures.next c.leave.ensures.works c.leave.ensures.nothing
+
+pub returns-then-rests-clause-ready : goal.returns-then-rests-clause-ready
+returns-then-rests-clause-ready g c =
+    let l = c.leave.ensures in
+    ready_left c.keep_full.new.member.checkpoint.tables c.leave.new.member.checkpoint.tables c.keep_full.new.member.id c.leave.new.member.id c.leave.result _ l.tables (ap (λ (r : Run). r.id) l.run) tt l.next
+
+pub returns-then-rests-clause-reached : goal.returns-then-rests-clause-reached
+returns-then-rests-clause-reached g c =
+    let level = c.loop-end.invariant.level in
+    let more = c.in_ok-keep_full.ensures.reached in
+    reached_left c.leave.new.complex (c.args.complex.now.level + c.args.from.progress.left + 2) c.keep_full.new.complex.level c.leave.result (Rested (record { done = c.loop-end.at.progress.done + 1; left = c.loop-end.at.progress.left })) (omega (arith, level, more)) c.leave.ensures.next c.leave.ensures.reached
+
+-- THE NEXT UNIT GIVES A COMMAND
+
+pub give-requires-clause-room : goal.give-requires-clause-room
+give-requires-clause-room g c = c.in_ok-keep_full.ensures.uses 1 (less_room c.loop-end.complex c.loop-end.member 2 (c.loop-end.at.progress.left + 3) (omega arith) c.loop-end.invariant.room)
+
+pub give-requires-clause-may : goal.give-requires-clause-may
+give-requires-clause-may g c =
+    let w = c.in_ok-keep_full.ensures.works in
+    unit_given c.keep_full.new.complex.base c.keep_full.new.member.id c.in-Give.command w.some w.by w.member c.in-Give.ensures.right
+
+pub give-requires-clause-right : goal.give-requires-clause-right
+give-requires-clause-right g c told =
+    let y = c.keep_full.new.complex in
+    let k = c.keep_full.new.member in
+    unit_unmarked (queue_here y k) k.id (counts_after k.batch (counts_of y.printed) k.id) c.in-Give.command c.in-Give.ensures.right
+
+pub returns-in_err-end-in-Give-clause-run : goal.returns-in_err-end-in-Give-clause-run
+returns-in_err-end-in-Give-clause-run g c = c.give.ensures.run ∙ c.keep_full.ensures.run ∙ c.loop-end.invariant.run
+
+pub returns-in_err-end-in-Give-clause-plays : goal.returns-in_err-end-in-Give-clause-plays
+returns-in_err-end-in-Give-clause-plays g c =
+    let P = g.P.Plant in
+    let i = c.loop-end.invariant in
+    let h = c.args.holder in
+    let z = c.loop-end.complex in
+    let n = c.loop-end.member in
+    let y = c.keep_full.new.complex in
+    let k = c.keep_full.new.member in
+    let o = c.in_ok-keep_full.ensures in
+    let at = c.loop-end.at in
+    let left = at.progress.left in
+    let Q = queue_here y k in
+    let d = c.in-Give.command in
+    let new = outside c.give.new.complex in
+    let q = err_from_is_err_and c.from_residual-in_err-end-in-Give.result c.from_residual-in_err-end-in-Give.ensures.1 in
+    rw (q.1, q.2) (i.then new (Err _)
+    (on_after P.tells h at.given left at.progress.done {S = Unit {0}} _ (place_of z n) (place_of y k) new (Err _) (own_batch z n h i.works) o.left c.keep_full.ensures.spares o.keeps c.loop-end.end c.in-Done.is o.queue (sym c.rests.ensures ∙ c.if-rests.false)
+    (plays_as P.tells h at.given (wrote_of k.batch (one_command h d (left - 1) (units_from h (left - 1)) Q at.given (at.progress.done + 1))) (wrote_of k.batch (units_from h left Q at.given (at.progress.done + 1))) (place_of y k) new (Err _)
+    (λ told. ap (wrote_of k.batch) (sym (c.in-Give.ensures.unit Q h at.given o.works.own (tells_here y k h o.works told))))
+    (part_error P.tells h (d ∷ []) (end_by (closing_reply (given_in Q h.by h.step (d ∷ [])))) (place_of y k) (place_of c.give.new.complex c.give.new.member) (own_batch y k h o.works) (left - 1) at.given (at.progress.done + 1) _ c.in_err-end-in-Give.ensures.given))))
+
+pub loop-end-preserved : goal.loop-end-preserved
+loop-end-preserved g c =
+    let P = g.P.Plant in
+    let i = c.loop-end.invariant in
+    let h = c.args.holder in
+    let z = c.loop-end.complex in
+    let n = c.loop-end.member in
+    let y = c.keep_full.new.complex in
+    let k = c.keep_full.new.member in
+    let v = c.give.new.complex in
+    let l = c.give.new.member in
+    let o = c.in_ok-keep_full.ensures in
+    let e = c.in_ok-end-in-Give.ensures in
+    let at = c.loop-end.at in
+    let left = at.progress.left in
+    let Q = queue_here y k in
+    let d = c.in-Give.command in
+    let some = left_some left _ d c.next_unit.ensures.none c.in-Give.is in
+    let units = i.units in
+    let few = i.few in
+    let level = i.level in
+    let more = o.reached in
+    let same = e.reached in
+    let orders = i.room.order in
+    let kept = o.uses (left + 2) (less_room z n (left + 2 + 1) (left + 3) (omega arith) i.room) in
+    let high = kept.high in
+    let reach = kept.level in
+    let as_before = o.order in
+    let order_is = e.order in
+    let high_is = e.high in
+    record {
+      run = c.give.ensures.run ∙ c.keep_full.ensures.run ∙ i.run;
+      works = e.works;
+      room = record { order = omega (arith, some, orders, as_before, order_is); high = omega (arith, some, high, high_is); level = omega (arith, some, reach, same) };
+      named = e.named;
+      units = omega (arith, some, units);
+      few = omega (arith, some, few);
+      level = omega (arith, some, level, more, same);
+      then = λ new r p. i.then new r
+          (on_after P.tells h at.given left at.progress.done {S = Unit {0}} _ (place_of z n) (place_of y k) new r (own_batch z n h i.works) o.left c.keep_full.ensures.spares o.keeps c.loop-end.end c.in-Done.is o.queue (sym c.rests.ensures ∙ c.if-rests.false)
+          (plays_as P.tells h at.given (wrote_of k.batch (one_command h d (left - 1) (units_from h (left - 1)) Q at.given (at.progress.done + 1))) (wrote_of k.batch (units_from h left Q at.given (at.progress.done + 1))) (place_of y k) new r
+          (λ told. ap (wrote_of k.batch) (sym (c.in-Give.ensures.unit Q h at.given o.works.own (tells_here y k h o.works told))))
+          (part_then P.tells h (d ∷ []) (end_by (closing_reply (given_in Q h.by h.step (d ∷ [])))) (place_of y k) (place_of v l) (own_batch y k h o.works) (left - 1) at.given (at.progress.done + 1) c.in_ok-end-in-Give.end (at.given + 1) new r e.given
+          (let one = e.one in let longer = ap (λ (es : List Entry). length es) e.given.left in let both = length-append k.batch e.given.es in omega (arith, one, longer, both)) p)));
+    }
+
+-- IT WAITS
+
+pub leave-requires-in-Wait-clause-room : goal.leave-requires-in-Wait-clause-room
+leave-requires-in-Wait-clause-room g c = c.in_ok-keep_full.ensures.uses 1 (less_room c.loop-end.complex c.loop-end.member 2 (c.loop-end.at.progress.left + 3) (omega arith) c.loop-end.invariant.room)
+
+pub returns-in-Wait-clause-run : goal.returns-in-Wait-clause-run
+returns-in-Wait-clause-run g c = c.leave-in-Wait.ensures.run ∙ c.keep_full.ensures.run ∙ c.loop-end.invariant.run
+
+pub returns-in-Wait-clause-plays : goal.returns-in-Wait-clause-plays
+returns-in-Wait-clause-plays g c =
+    let P = g.P.Plant in
+    let i = c.loop-end.invariant in
+    let h = c.args.holder in
+    let z = c.loop-end.complex in
+    let n = c.loop-end.member in
+    let y = c.keep_full.new.complex in
+    let k = c.keep_full.new.member in
+    let o = c.in_ok-keep_full.ensures in
+    let at = c.loop-end.at in
+    let left = at.progress.left in
+    let Q = queue_here y k in
+    let new = outside c.leave-in-Wait.new.complex in
+    i.then new c.leave-in-Wait.result
+    (on_after P.tells h at.given left at.progress.done {S = Unit {0}} _ (place_of z n) (place_of y k) new c.leave-in-Wait.result (own_batch z n h i.works) o.left c.keep_full.ensures.spares o.keeps c.loop-end.end c.in-Done.is o.queue (sym c.rests.ensures ∙ c.if-rests.false)
+    (plays_as P.tells h at.given (wrote_of k.batch (leaves (Away c.in-Wait.aside))) (wrote_of k.batch (units_from h left Q at.given (at.progress.done + 1))) (place_of y k) new c.leave-in-Wait.result
+    (λ told. ap (wrote_of k.batch) (sym (c.in-Wait.ensures.unit Q h at.given o.works.own (tells_here y k h o.works told)))) c.leave-in-Wait.ensures.plays))
+
+pub returns-in-Wait-clause-again : goal.returns-in-Wait-clause-again
+returns-in-Wait-clause-again g c = again_left c.leave-in-Wait.new.complex c.leave-in-Wait.new.member c.args.holder c.leave-in-Wait.result (Away c.in-Wait.aside) (λ s. s) c.leave-in-Wait.ensures.next c.leave-in-Wait.ensures.works c.leave-in-Wait.ensures.nothing
+
+pub returns-in-Wait-clause-ready : goal.returns-in-Wait-clause-ready
+returns-in-Wait-clause-ready g c =
+    let l = c.leave-in-Wait.ensures in
+    ready_left c.keep_full.new.member.checkpoint.tables c.leave-in-Wait.new.member.checkpoint.tables c.keep_full.new.member.id c.leave-in-Wait.new.member.id c.leave-in-Wait.result (Away c.in-Wait.aside) l.tables (ap (λ (r : Run). r.id) l.run) c.in-Wait.ensures.right l.next
+
+pub returns-in-Wait-clause-reached : goal.returns-in-Wait-clause-reached
+returns-in-Wait-clause-reached g c =
+    let level = c.loop-end.invariant.level in
+    let more = c.in_ok-keep_full.ensures.reached in
+    let few = waits_few c.keep_full.new.complex.level (record { done = c.loop-end.at.progress.done + 1; left = c.loop-end.at.progress.left }) _ c.in-Wait.aside c.next_unit.ensures.waits c.in-Wait.is in
+    reached_left c.leave-in-Wait.new.complex (c.args.complex.now.level + c.args.from.progress.left + 2) c.keep_full.new.complex.level c.leave-in-Wait.result (Away c.in-Wait.aside) (omega (arith, level, more, few)) c.leave-in-Wait.ensures.next c.leave-in-Wait.ensures.reached
+
+-- NONE APPLIES
+
+pub close-requires-in-Nothing-clause-room : goal.close-requires-in-Nothing-clause-room
+close-requires-in-Nothing-clause-room g c = c.in_ok-keep_full.ensures.uses 1 (less_room c.loop-end.complex c.loop-end.member 2 (c.loop-end.at.progress.left + 3) (omega arith) c.loop-end.invariant.room)
+
+pub returns-in-Nothing-clause-run : goal.returns-in-Nothing-clause-run
+returns-in-Nothing-clause-run g c = c.close-in-Nothing.ensures.run ∙ c.keep_full.ensures.run ∙ c.loop-end.invariant.run
+
+pub returns-in-Nothing-clause-plays : goal.returns-in-Nothing-clause-plays
+returns-in-Nothing-clause-plays g c =
+    let P = g.P.Plant in
+    let i = c.loop-end.invariant in
+    let h = c.args.holder in
+    let z = c.loop-end.complex in
+    let n = c.loop-end.member in
+    let y = c.keep_full.new.complex in
+    let k = c.keep_full.new.member in
+    let o = c.in_ok-keep_full.ensures in
+    let at = c.loop-end.at in
+    let left = at.progress.left in
+    let Q = queue_here y k in
+    let new = outside c.close-in-Nothing.new.complex in
+    i.then new c.close-in-Nothing.result
+    (on_after P.tells h at.given left at.progress.done {S = Unit {0}} _ (place_of z n) (place_of y k) new c.close-in-Nothing.result (own_batch z n h i.works) o.left c.keep_full.ensures.spares o.keeps c.loop-end.end c.in-Done.is o.queue (sym c.rests.ensures ∙ c.if-rests.false)
+    (plays_as P.tells h at.given (wrote_of k.batch (no_more h (at.progress.done + 1))) (wrote_of k.batch (units_from h left Q at.given (at.progress.done + 1))) (place_of y k) new c.close-in-Nothing.result
+    (λ told. ap (wrote_of k.batch) (sym (c.in-Nothing.ensures.unit Q h at.given o.works.own (tells_here y k h o.works told)))) c.close-in-Nothing.ensures.plays))
+
+pub returns-in-Nothing-clause-again : goal.returns-in-Nothing-clause-again
+returns-in-Nothing-clause-again g c = again_told c.close-in-Nothing.new.complex c.close-in-Nothing.new.member c.args.holder.step c.close-in-Nothing.result c.close-in-Nothing.ensures.told c.close-in-Nothing.ensures.seat
+
+pub returns-in-Nothing-clause-ready : goal.returns-in-Nothing-clause-ready
+returns-in-Nothing-clause-ready g c = ready_told c.close-in-Nothing.new.member.checkpoint.tables c.close-in-Nothing.new.member.id c.close-in-Nothing.result c.close-in-Nothing.ensures.told
+
+pub returns-in-Nothing-clause-reached : goal.returns-in-Nothing-clause-reached
+returns-in-Nothing-clause-reached g c =
+    let level = c.loop-end.invariant.level in
+    let more = c.in_ok-keep_full.ensures.reached in
+    reached_left c.close-in-Nothing.new.complex (c.args.complex.now.level + c.args.from.progress.left + 2) c.keep_full.new.complex.level c.close-in-Nothing.result Told (omega (arith, level, more)) c.close-in-Nothing.ensures.told c.close-in-Nothing.ensures.reached

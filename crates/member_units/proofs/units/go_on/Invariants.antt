@@ -1,0 +1,33 @@
+use Rattle.std.proofs.Common.{◌≡◌, ◌+◌, ◌≤◌, ◌<◌, ℕ, Result}
+use Rattle.job_outcome.specs.Next.{IsNamedEnd}
+use Rattle.member_node.specs.declared.member.NodeNo.{NodeNo}
+use Rattle.step_turns.specs.Turns.{goes_on_by, units_from}
+use Rattle.member_sittings.specs.declared.ends.SittingEnd.{SittingEnd}
+use Rattle.member_units.specs.Plays.{Plays, wrote_after}
+use Rattle.member_units.specs.Works.{HasRoom, Outside, Works, place_of, queue_here, run_of}
+use Rattle.member_units.proofs.units.go_on.Given as goal
+
+abbrev pub decreases-loop-end : goal.decreases-loop-end
+decreases-loop-end g l = l.at.progress.left
+
+-- what the sitting does from here is the rest of what it does as a whole
+abbrev pub invariant-loop-end : goal.invariant-loop-end
+invariant-loop-end g l =
+    let P = g.P.Plant in
+    let x = l.fn.complex in
+    let m = l.fn.member in
+    let z = l.complex in
+    let n = l.member in
+    let h = l.holder in
+    record {
+      run : run_of z n ≡ run_of x m;
+      works : Works z n h;
+      room : HasRoom z n (l.at.progress.left + 3);
+      named : IsNamedEnd l.end;
+      units : l.at.progress.done + l.at.progress.left ≡ l.fn.from.progress.done + l.fn.from.progress.left;
+      few : l.at.given + l.at.progress.left ≤ l.fn.from.given + l.fn.from.progress.left;
+      level : z.level + l.at.progress.left ≤ x.level + l.fn.from.progress.left;
+      then : (new : Outside) (r : Result SittingEnd NodeNo)
+          → Plays P.tells h l.at.given (wrote_after n.batch (goes_on_by h l.end l.at.progress.left (units_from h l.at.progress.left) (queue_here z n) l.at.given l.at.progress.done)) (place_of z n) new r
+          → Plays P.tells h l.fn.from.given (wrote_after m.batch (goes_on_by h l.fn.end l.fn.from.progress.left (units_from h l.fn.from.progress.left) (queue_here x m) l.fn.from.given l.fn.from.progress.done)) (place_of x m) new r;
+    }

@@ -1,0 +1,179 @@
+-- Acts of a step of work that want no lock: which may be done, and what they show.
+use Rattle.std.specs.Prelude.{◌≡◌, ℕ, ◌+◌, ◌≤◌, true, List, take, All, Option, None, Some, Result, IfOk}
+use Rattle.mas_types.specs.declared.ids.GroupNo.{GroupNo}
+use Rattle.mas_types.specs.declared.ids.JobNo.{JobNo}
+use Rattle.mas_types.specs.declared.ids.MemberId.{MemberId}
+use Rattle.mas_types.specs.declared.ids.OutNo.{OutNo}
+use Rattle.mas_types.specs.declared.jobs.Job.{Job}
+use Rattle.mas_types.specs.declared.jobs.Output.{Output}
+use Rattle.mas_types.specs.declared.jobs.OutSpec.{OutSpec}
+use Rattle.mas_types.specs.declared.queues.Owner.{Owner}
+use Rattle.mas_types.specs.declared.queues.Queue.{Queue}
+use Rattle.mas_types.specs.declared.queues.Thing.{Thing}
+use Rattle.mas_types.specs.declared.queues.Thing.TheVariants.{Deck, Output as OutputThing}
+use Rattle.mas_types.specs.Commands.Life.{groups_of_outputs}
+use Rattle.mas_types.specs.Limits.{members_most}
+use Rattle.mas_types.specs.Owners.{member_count}
+use Rattle.mas_types.specs.Queue.{job_at, output_at}
+use Rattle.mas_types.specs.Sound.{IsSound}
+use Rattle.ckpt_copy.specs.declared.copying.Copying.{Ghosts as CopyGhosts}
+use Rattle.ckpt_pages.specs.Shape.{HasSpelling}
+use Rattle.ckpt_pages.specs.declared.tables.Tables.{Tables}
+use Rattle.queue_tables.specs.Telling.{Tell, TellSound}
+use Rattle.lock_cycle.specs.Books.{Book, IsMember}
+use Rattle.spool_disk.specs.View.{View}
+use Rattle.spool_disk.specs.declared.plant.Plant.{Ghosts as PlantGhosts}
+use Rattle.spool_volumes.specs.Volumes.{AreRoomy}
+use Rattle.track_groups.specs.Groups.{held_by}
+use Rattle.track_groups.specs.Places.{groups_of}
+use Rattle.job_exec.specs.Running.{AreOutputs}
+use Rattle.job_outcome.specs.declared.outcomes.Read.{Read}
+use Rattle.job_outcome.specs.Outcomes.{IsReadable}
+use Rattle.mas_complex.specs.declared.complex.Complex.{Complex}
+use Rattle.ckpt_form.specs.declared.steady.Steady.{Ghosts as SteadyGhosts}
+use Rattle.mas_complex.specs.Locking.{IsUp}
+use Rattle.mas_complex.specs.Paper.{counts_of}
+use Rattle.mas_complex.specs.Parts.{Parts, parts_of}
+use Rattle.mas_complex.specs.Spool.{IsHeldBy}
+use Rattle.mas_complex.specs.Texts.{spools_at}
+use Rattle.member_node.specs.declared.member.Member.{Member}
+use Rattle.member_node.specs.declared.member.NodeNo.{NodeNo}
+use Rattle.member_decks.specs.Spooling.{OnVolumes}
+use Rattle.member_decks.specs.Steps.{SpoolStops}
+use Rattle.member_work.specs.Printing.{IsBeside}
+use Rattle.member_work.specs.Reading.{IsFailedRead, OnlyReads}
+use Rattle.member_work.specs.Rounds.{HasPrinterFailed, IsReadAs, IsSpoolLost, IsWhole}
+use Rattle.member_work.specs.Spooled.{AreSpooled}
+use Rattle.member_work.specs.Units.{chunk_end}
+use Rattle.step_turns.specs.JobEnds.{printed_end}
+use Rattle.step_turns.specs.States.{nothing_found}
+use Rattle.step_turns.specs.declared.states.Found.{Found}
+use Rattle.member_sittings.specs.Asides.{deck_found}
+use Rattle.member_sittings.specs.Whole.{queue_of}
+use Rattle.member_units.specs.Ready.{IsJobReady, IsOutputReady}
+
+-- WHAT A MEMBER FOUND
+
+-- it read a text
+abbrev pub read_found : Read → Found
+read_found read = record nothing_found { read = read }
+
+-- WHAT THE MEMBER'S TABLES SAY OF A QUEUE, though others may have changed it since
+
+-- a job and its groups are still as the tables tell
+pub record IsJobStill (t : Tables) (n : JobNo) (Q : Queue) : Type 0 where
+  pub was : Queue
+  pub told : Tell t was
+  pub job : job_at Q n ≡ job_at was n
+  pub groups : groups_of (Deck n) Q.owners ≡ groups_of (Deck n) was.owners
+
+-- the lowest groups of a member, as many as outputs need
+abbrev pub lowest_for : MemberId → List Owner → List OutSpec → List GroupNo
+lowest_for by owners specs = take (groups_of_outputs specs) (held_by by owners)
+
+module _ {P C : Type 0} (plants : PlantGhosts P) where
+  abbrev v : Parts P C → View
+  v x = plants.view x.plant
+
+  -- a member that isn't stopped may act, whoever holds the lock
+  pub record MayAside (x : Parts P C) (m : Member) : Type 0 where
+    pub up : IsUp x.book m.id
+    pub sound : plants.tells → IsSound x.base
+    pub spelling : HasSpelling m.checkpoint.tables
+    pub config : x.base.config ≡ m.checkpoint.tables.config
+    pub some : 1 ≤ x.base.config.groups
+
+  -- READING A JOB'S TEXT
+
+  pub record MayRead (x : Parts P C) (m : Member) (n : JobNo) : Type 0 where
+    pub may : MayAside x m
+    pub sound : TellSound m.checkpoint.tables
+    pub job : IsJobReady m.checkpoint.tables n
+    pub still : plants.tells → IsJobStill m.checkpoint.tables n (queue_of x)
+
+  -- How it was read: where content is told it is as the queue has it, unless a volume of its groups was found lost.
+  pub record FindsText (x y : Parts P C) (m : Member) (n : JobNo) (found : Found) : Type 0 where
+    pub only : found ≡ read_found found.read
+    pub fits : IsReadable found.read
+    pub failed : IsFailedRead x.base.config.groups (groups_of (Deck n) m.checkpoint.tables.owners) found.read (v x) (v y)
+    pub read : plants.tells → AreRoomy (v x) x.base.config → (j : Job) → job_at (queue_of x) n ≡ Some j
+        → IsReadAs plants.tells x.base.config.groups j.text (groups_of (Deck n) (queue_of x).owners) (Some found.read) (v x) (v y)
+
+  -- Reading, by its answer: no volume is written. Halted comes only where the member was stopped.
+  pub record HasRead (x y : Parts P C) (m : Member) (n : JobNo) (result : Result Found NodeNo) : Type 0 where
+    pub acts : OnVolumes plants.tells m.id.0 (v x) (v y)
+    pub reads : OnlyReads plants.tells (v x) (v y)
+    pub cause : SpoolStops result m.id.0 (v x) (v y)
+    pub finds : IfOk result (FindsText x y m n)
+
+  -- WRITING THE OUTPUTS OF A JOB
+
+  pub record MayWrite (x : Parts P C) (m : Member) (specs : List OutSpec) : Type 0 where
+    pub may : MayAside x m
+    pub none : x.current ≡ None
+    pub outputs : AreOutputs specs
+    pub enough : groups_of_outputs specs ≤ member_count m.id m.checkpoint.tables.owners
+    pub held : plants.tells → All (λ g. IsHeldBy m.id g (queue_of x)) (held_by m.id m.checkpoint.tables.owners)
+
+  -- A volume that was found lost failed in the acts, and one of the groups lies on it; else the texts stand in these, all of it synced.
+  pub record FindsPlace (x y : Parts P C) (groups : List GroupNo) (specs : List OutSpec) (found : Found) : Type 0 where
+    pub only : found ≡ deck_found found.lost
+    pub lost : IsSpoolLost x.base.config.groups groups found.lost (v x) (v y)
+    pub there : found.lost ≡ None → plants.tells → AreRoomy (v x) x.base.config
+        → AreSpooled (spools_at (v y) (v y).now) x.base.config.groups specs groups
+
+  pub record HasWritten (x y : Parts P C) (m : Member) (specs : List OutSpec) (result : Result Found NodeNo) : Type 0 where
+    pub acts : OnVolumes plants.tells m.id.0 (v x) (v y)
+    pub cause : SpoolStops result m.id.0 (v x) (v y)
+    pub finds : IfOk result (FindsPlace x y (lowest_for m.id m.checkpoint.tables.owners specs) specs)
+
+  -- PRINTING THE NEXT LINES OF AN OUTPUT
+
+  pub record MayPrintNext (x : Parts P C) (m : Member) (n : JobNo) (i : OutNo) (last : ℕ) : Type 0 where
+    pub may : MayAside x m
+    pub few : m.id.0 ≤ members_most
+    pub some : 1 ≤ m.id.0
+    pub seated : IsMember x.book m.id
+    pub none : x.current ≡ None
+    pub sound : TellSound m.checkpoint.tables
+    pub output : IsOutputReady m.checkpoint.tables m.id n i
+    pub chunk : (Q : Queue) (o : Output) → Tell m.checkpoint.tables Q → output_at Q n i ≡ Some o → last ≡ chunk_end Q m.id o
+    pub told : plants.tells → Tell m.checkpoint.tables (queue_of x)
+    pub roomy : plants.tells → AreRoomy (v x) x.base.config
+
+  -- How the text was read, and whether the printer was found lost; where the unit isn't refused for it, the lines stand on paper.
+  pub record FindsLines (x y : Parts P C) (m : Member) (n : JobNo) (i : OutNo) (last : ℕ) (found : Found) : Type 0 where
+    pub only : found.lost ≡ None
+    pub fits : IsReadable found.read
+    pub failed : IsFailedRead x.base.config.groups (groups_of (OutputThing n i) m.checkpoint.tables.owners) found.read (v x) (v y)
+    pub read : plants.tells → AreRoomy (v x) x.base.config → (o : Output) → output_at (queue_of x) n i ≡ Some o
+        → IsReadAs plants.tells x.base.config.groups o.text (groups_of (OutputThing n i) (queue_of x).owners) (Some found.read) (v x) (v y)
+    pub printer : found.printer ≡ true → HasPrinterFailed m.id (v x) (v y)
+    pub counted : printed_end found.printer found.read ≡ None → plants.tells → (o : Output) → output_at (queue_of x) n i ≡ Some o
+        → last ≤ o.mark + counts_of y.printed m.id
+
+  pub record HasPrintedNext (x y : Parts P C) (m : Member) (n : JobNo) (i : OutNo) (last : ℕ) (result : Result Found NodeNo) : Type 0 where
+    pub acts : IsBeside plants.tells (v x) (v y)
+    pub cause : SpoolStops result m.id.0 (v x) (v y)
+    pub finds : IfOk result (FindsLines x y m n i last)
+
+-- OVER THE SHARED VALUE
+
+module _ {P C : Type 0} {plants : PlantGhosts P} {steadies : SteadyGhosts C} {copies : CopyGhosts C} where
+  abbrev pub MayReadText : Complex P C plants steadies copies → Member → JobNo → Type 0
+  MayReadText x m n = MayRead plants (parts_of x) m n
+
+  abbrev pub ReadsText : Complex P C plants steadies copies → Complex P C plants steadies copies → Member → JobNo → Result Found NodeNo → Type 0
+  ReadsText x y m n result = HasRead plants (parts_of x) (parts_of y) m n result
+
+  abbrev pub MayWriteOutputs : Complex P C plants steadies copies → Member → List OutSpec → Type 0
+  MayWriteOutputs x m specs = MayWrite plants (parts_of x) m specs
+
+  abbrev pub WritesOutputs : Complex P C plants steadies copies → Complex P C plants steadies copies → Member → List OutSpec → Result Found NodeNo → Type 0
+  WritesOutputs x y m specs result = HasWritten plants (parts_of x) (parts_of y) m specs result
+
+  abbrev pub MayPrintLines : Complex P C plants steadies copies → Member → JobNo → OutNo → ℕ → Type 0
+  MayPrintLines x m n i last = MayPrintNext plants (parts_of x) m n i last
+
+  abbrev pub PrintsLines : Complex P C plants steadies copies → Complex P C plants steadies copies → Member → JobNo → OutNo → ℕ → Result Found NodeNo → Type 0
+  PrintsLines x y m n i last result = HasPrintedNext plants (parts_of x) (parts_of y) m n i last result

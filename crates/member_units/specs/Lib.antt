@@ -1,0 +1,5 @@
+pub mod Works
+pub mod Plays
+pub mod Nexts
+pub mod Ready
+pub mod Asides

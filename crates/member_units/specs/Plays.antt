@@ -1,0 +1,91 @@
+-- What a sitting of work does from a place within it: what it writes, the state that it leaves, and its lines.
+use Rattle.std.specs.Prelude.{◌≡◌, ℕ, zero, suc, ◌+◌, Bool, true, false, if◌then◌else◌, List, [], ◌∷◌, ◌++◌, length, All, Result, Ok, Err, IfOk, OnOk}
+use Rattle.mas_types.specs.declared.commands.Command.{Command}
+use Rattle.mas_types.specs.declared.ids.MemberId.{MemberId}
+use Rattle.mas_types.specs.declared.journals.Entry.{Entry}
+use Rattle.mas_types.specs.declared.queues.Queue.{Queue}
+use Rattle.mas_types.specs.Run.{run}
+use Rattle.mas_complex.specs.Paper.{SamePapers}
+use Rattle.member_node.specs.declared.member.NodeNo.{NodeNo}
+use Rattle.member_node.specs.Calls.{IsOnlyOn}
+use Rattle.member_decks.specs.Steps.{AreOf}
+use Rattle.member_work.specs.Steps.{IsClosing, IsKeeping}
+use Rattle.job_outcome.specs.declared.units.UnitEnd.{UnitEnd}
+use Rattle.step_turns.specs.Batches.{batch_of, cut, cut_after, is_full}
+use Rattle.step_turns.specs.Entries.{all_entries, given_in}
+use Rattle.step_turns.specs.Sittings.{released}
+use Rattle.step_turns.specs.declared.states.Holder.{Holder}
+use Rattle.step_turns.specs.declared.states.State.{State}
+use Rattle.step_turns.specs.Turns.{Turn, is_spent}
+use Rattle.member_sittings.specs.declared.ends.SittingEnd.{SittingEnd}
+use Rattle.member_units.specs.Works.{Outside, Place}
+
+-- the batches that it writes, the state that it leaves, and the lines with which the step closes
+pub record Wrote : Type 0 where
+  pub batches : List (List Entry)
+  pub next : State
+  pub lines : List (List ℕ)
+
+-- where these entries aren't written yet, and this is still to come
+abbrev pub wrote_of : List Entry → Turn → Wrote
+wrote_of so_far t = record { batches = cut so_far t.parts; next = t.next; lines = t.lines }
+
+-- the same after a whole part: what isn't written is written first where it is a full batch
+abbrev pub wrote_after : List Entry → Turn → Wrote
+wrote_after es t = record { batches = cut_after es (λ unwritten. cut unwritten t.parts); next = t.next; lines = t.lines }
+
+abbrev pub full_of : List Entry → List (List Entry)
+full_of es = if is_full es then es ∷ [] else []
+
+abbrev pub after_full : List Entry → List Entry
+after_full es = if is_full es then [] else es
+
+-- whether a sitting ends between two units, where so many may follow, after so many commands
+abbrev pub rests : Holder → ℕ → ℕ → Bool
+rests h zero given = false
+rests h (suc left) given = is_spent h.grant h.hold given
+
+-- A CALL THAT KEEPS BATCHES, or with which the step closes, by what others see before it and after it
+
+abbrev pub Keeps : {T : Type 0} → Type 0 → MemberId → List (List Entry) → Outside → Outside → Result T NodeNo → Type 0
+Keeps told by ess old new r = IsKeeping told by ess old.batches new.batches old.first new.first old.second new.second old.view new.view r
+
+abbrev pub Closes : {T : Type 0} → Type 0 → MemberId → List (List ℕ) → List (List Entry) → Outside → Outside → Result T NodeNo → Type 0
+Closes told by lines ess old new r = IsClosing told by lines ess old.batches new.batches old.first new.first old.second new.second old.view new.view r
+
+-- no volume is written, and nothing is printed
+pub record SparesVolumes (old new : Outside) : Type 0 where
+  pub others : IsOnlyOn old.view new.view
+  pub papers : SamePapers old.view new.view
+
+-- what it answers: the next state, how many commands the sitting gave, and what becomes of the lock
+abbrev pub EndsAs : Holder → ℕ → List Entry → Wrote → SittingEnd → Type 0
+EndsAs h given so_far w e = (e.next ≡ w.next) × (e.given + length so_far ≡ given + length (all_entries w.batches)) × (e.release ≡ released h.grant h.hold e.given e.next)
+
+-- The rest of a sitting in which so many commands are given: what it writes is kept as its answer says. Where content is told it writes
+-- this.
+pub record Plays (told : Type 0) (h : Holder) (given : ℕ) (w : Wrote) (old : Place) (new : Outside) (result : Result SittingEnd NodeNo) : Type 0 where
+  pub wrote : Wrote
+  pub is : told → wrote ≡ w
+  pub of : All (AreOf h.by h.step) wrote.batches
+  pub ends : IfOk result (EndsAs h given old.batch wrote)
+  pub closes : Closes told h.by wrote.lines wrote.batches old.outside new result
+  pub spares : told → SparesVolumes old.outside new
+
+-- COMMANDS OF A UNIT
+
+-- what is kept of what was given, after an error
+abbrev pub given_by : {T : Type 0} → Result T NodeNo → List Entry → List (List Entry)
+given_by (Ok end) es = []
+given_by (Err why) es = batch_of es
+
+-- The last commands of a unit, which aren't written yet then. Where content is told they are these, and the unit ends so.
+pub record HasGiven (told : Type 0) (h : Holder) (cs : List Command) (e : UnitEnd) (old new : Place) (result : Result UnitEnd NodeNo) : Type 0 where
+  pub es : List Entry
+  pub is : told → es ≡ given_in old.queue h.by h.step cs
+  pub of : AreOf h.by h.step es
+  pub keeps : Keeps told h.by (given_by result (old.batch ++ es)) old.outside new.outside result
+  pub left : OnOk result (new.batch ≡ old.batch ++ es)
+  pub queue : OnOk result (new.queue ≡ run old.queue es)
+  pub ends : IfOk result (λ end. told → end ≡ e)
+  pub spares : told → SparesVolumes old.outside new.outside

@@ -1,0 +1,82 @@
+-- What holds where a sitting of work leaves a step that waits for acts, and what has to hold where it goes on after them.
+use Rattle.std.specs.Prelude.{◌≡◌, ℕ, ◌≤◌, true, false, List, take, None, Option}
+use Rattle.mas_types.specs.declared.commands.Command.{Command}
+use Rattle.mas_types.specs.declared.commands.Command.TheVariants as command
+use Rattle.mas_types.specs.declared.ids.JobNo.{JobNo}
+use Rattle.mas_types.specs.declared.ids.MemberId.{MemberId}
+use Rattle.mas_types.specs.declared.ids.OutNo.{OutNo}
+use Rattle.mas_types.specs.declared.jobs.OutSpec.{OutSpec}
+use Rattle.mas_types.specs.declared.queues.Queue.{Queue}
+use Rattle.mas_types.specs.Commands.Life.{groups_of_outputs, outputs_at_end}
+use Rattle.mas_types.specs.Fit.{IsFit, IsIndex, IsJobFields}
+use Rattle.mas_types.specs.Owners.{member_count}
+use Rattle.mas_types.specs.Queue.{job_at}
+use Rattle.mas_types.specs.Step.{may_give}
+use Rattle.ckpt_pages.specs.declared.tables.Tables.{Tables}
+use Rattle.track_groups.specs.Groups.{held_by}
+use Rattle.queue_commands.specs.Given.{IsGiver, is_plain}
+use Rattle.queue_tables.specs.Telling.{Tell, TellSound}
+use Rattle.paper_laws.specs.Counts.{IsMarkRight}
+use Rattle.mas_complex.specs.Texts.{Spools}
+use Rattle.job_exec.specs.Running.{AreOutputs}
+use Rattle.job_outcome.specs.Outcomes.{IsReadable}
+use Rattle.member_work.specs.Printing.{IsPrinting}
+use Rattle.member_work.specs.Spooled.{AreSpooled}
+use Rattle.member_work.specs.Steps.{IsUnderWay}
+use Rattle.step_turns.specs.Entries.{is_drop}
+use Rattle.step_turns.specs.JobEnds.{groups_for_end, printed_end}
+use Rattle.step_turns.specs.declared.states.Aside.{Aside}
+use Rattle.step_turns.specs.declared.states.Found.{Found}
+use Rattle.step_turns.specs.declared.states.State.{State}
+use Rattle.step_turns.specs.declared.states.State.TheVariants.{Away}
+use Rattle.step_turns.specs.declared.states.Aside.TheVariants.{PrintLines, ReadText, SpoolDeck, SpoolOutputs}
+
+-- a command that a member may give in a sitting: it brings no text, and the step may close with its reply
+pub record MayBeGiven (base : Queue) (by : MemberId) (c : Command) : Type 0 where
+  pub plain : is_plain c ≡ true
+  pub fit : IsFit c
+  pub giver : IsGiver by c
+  pub may : may_give base by c ≡ true
+  pub closes : is_drop c ≡ false
+
+-- WHERE IT WAITS. The facts on a queue hold of each that the member's tables tell.
+
+-- the job is under way
+abbrev pub IsJobReady : Tables → JobNo → Type 0
+IsJobReady t n = (Q : Queue) → Tell t Q → TellSound t → IsUnderWay Q n
+
+-- the output is busy at the member
+pub record IsOutputReady (t : Tables) (by : MemberId) (n : JobNo) (i : OutNo) : Type 0 where
+  pub index : IsIndex i.0
+  pub printing : (Q : Queue) → Tell t Q → TellSound t → IsPrinting Q by n i
+
+-- the member has the groups that the outputs of a job need
+pub record AreOutputsReady (t : Tables) (by : MemberId) (specs : List OutSpec) : Type 0 where
+  pub outputs : AreOutputs specs
+  pub some : 1 ≤ groups_of_outputs specs
+  pub enough : groups_of_outputs specs ≤ member_count by t.owners
+
+abbrev pub IsReadyFor : Tables → MemberId → Aside → Type 0
+IsReadyFor t by (SpoolDeck n text) = ⊥
+IsReadyFor t by (ReadText runs n fields p) = IsJobFields fields × IsJobReady t n
+IsReadyFor t by (SpoolOutputs n specs p) = AreOutputsReady t by specs
+IsReadyFor t by (PrintLines n i last p) = IsOutputReady t by n i
+
+abbrev pub IsReady : Tables → MemberId → State → Type 0
+IsReady t by (Away aside) = IsReadyFor t by aside
+IsReady t by _ = Unit {0}
+
+-- WHERE IT GOES ON, by what was found
+
+-- the job's outputs stand in the lowest groups of the member, unless a volume of theirs was found lost
+pub record OutputsStand (told : Type 0) (Q : Queue) (by : MemberId) (disks : Spools) (per : ℕ) (n : JobNo) (specs : List OutSpec) (lost : Option ℕ) : Type 0 where
+  pub job : told → IsUnderWay Q n
+  pub there : lost ≡ None → told → AreSpooled disks per (outputs_at_end (job_at Q n) specs) (take (groups_for_end Q n specs) (held_by by Q.owners))
+
+-- A step may go on with a job that is under way still, whose text was read, or whose outputs stand there; or with an output whose lines stand
+-- on paper, unless one couldn't be printed.
+abbrev pub MayResume : Type 0 → Queue → MemberId → Spools → (MemberId → ℕ) → Aside → Found → Type 0
+MayResume told Q by disks counts (SpoolDeck n text) found = ⊥
+MayResume told Q by disks counts (ReadText runs n fields p) found = IsJobFields fields × IsReadable found.read × (told → IsUnderWay Q n)
+MayResume told Q by disks counts (SpoolOutputs n specs p) found = AreOutputs specs × OutputsStand told Q by disks Q.config.groups n specs found.lost
+MayResume told Q by disks counts (PrintLines n i last p) found = IsIndex i.0 × (printed_end found.printer found.read ≡ None → told → IsMarkRight Q by (counts by) (command.Mark n i last))

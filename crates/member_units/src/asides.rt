@@ -1,0 +1,163 @@
+//! Acts of a step of work that want no lock: a job's text is read, its outputs are written, an output's next lines are printed.
+ghost use Rattle.std.specs.Prelude.{◌≡◌, true, false, None, Some};
+ghost use Rattle.mas_types.specs.declared.answers.Closing.TheVariants.{PrinterLost};
+ghost use Rattle.mas_complex.specs.Parts.{parts_of};
+ghost use Rattle.member_sittings.specs.Asides.{deck_found, finds_of};
+ghost use Rattle.member_units.specs.Asides.{MayPrintLines, MayReadText, MayWriteOutputs, PrintsLines, ReadsText, WritesOutputs, read_found};
+
+use job_outcome::Read;
+use job_queue::find_job;
+use mas_complex::{Complex, Steady};
+use mas_types::{Closing, JobNo, Lines, OutNo, OutSpec, Thing};
+use member_decks::SpoolError;
+use member_node::{Member, NodeNo};
+use member_work::{
+    gone_deck, gone_output, groups_of_outputs, print_text, read_text, write_and_sync,
+};
+use output_queue::find_output;
+use spool_disk::Plant;
+use std::alloc::Global;
+use step_turns::Found;
+use track_groups::{groups_of, held_by, law_of_places};
+
+// What a member found that read a text.
+fn found_read(read: Read) -> Found
+    ensures { result ≡ read_found read }
+{
+    Found {
+        read,
+        lost: None,
+        printer: false,
+    }
+}
+
+// What a member found that looked only whether a volume is lost.
+fn found_lost(alloc: Global, lost: Option<u8>) -> Found
+    ensures { result ≡ deck_found lost }
+{
+    Found {
+        read: Read::Lines(Lines::new(alloc)),
+        lost,
+        printer: false,
+    }
+}
+
+// What a member found that wrote texts, by the answer of the acts.
+fn found_by(alloc: Global, written: Result<(), SpoolError>) -> Result<Found, NodeNo>
+    ensures { result ≡ finds_of written }
+{
+    match written {
+        Ok(()) => Ok(found_lost(alloc, None)),
+        Err(SpoolError::Lost(volume)) => Ok(found_lost(alloc, Some(volume))),
+        Err(SpoolError::Halted) => Err(NodeNo::Halted),
+    }
+}
+
+// What a member found that read a text and printed lines of it, unless the unit is refused so.
+fn found_printed(read: Read, end: Option<Closing>) -> Found
+    ensures read { result.read ≡ read }
+    ensures lost { result.lost ≡ None }
+    ensures printer { result.printer ≡ true → end ≡ Some PrinterLost }
+    ensures not { result.printer ≡ false → end ≡ Some PrinterLost → ⊥ }
+{
+    let printer = matches!(end, Some(Closing::PrinterLost));
+    Found {
+        read,
+        lost: None,
+        printer,
+    }
+}
+
+/// Reads the text of a job that is run or converted. It needs no lock: whoever holds it, the book, the copies and the journal are as they
+/// were. A text that was gone when the run began isn't read. Answers how it was read.
+///
+/// NoMemory leaves all as it was. Halted comes only where the member was stopped.
+pub fn read_job_text<P: Plant + Drop, C: Steady + Drop>(
+    member: &Member,
+    alloc: Global,
+    complex: &mut Complex<P, C>,
+    job: JobNo,
+) -> Result<Found, NodeNo>
+    requires { MayReadText complex.old member.now job }
+    ensures frame { parts_of complex.new ≡ record (parts_of complex.old) { plant = complex.new.plant; printed = complex.new.printed } }
+    ensures reads { ReadsText complex.old complex.new member.now job result }
+{
+    if let Some(group) = gone_deck(complex, job) {
+        return Ok(found_read(Read::Gone(group)));
+    }
+    law_of_places();
+    complex.kept_texts();
+    let tables = &member.checkpoint.tables;
+    let Some(found) = find_job(tables.jobs.as_slice(), job) else {
+        unreachable!();
+    };
+    let Ok(groups) = groups_of(alloc, tables.owners.as_slice(), Thing::Deck(job)) else {
+        return Err(NodeNo::NoMemory);
+    };
+    let groups = groups.as_slice();
+    let read = read_text(complex, alloc, member.id, groups, found.item.cards)?;
+    Ok(found_read(read))
+}
+
+/// Writes the texts of a job's outputs into the lowest groups of the member, as many as they need, and syncs the volumes on which they lie.
+/// It needs no lock: whoever holds it, the book, the copies and the journal are as they were. Answers the volume that was found lost, if one
+/// was.
+///
+/// NoMemory leaves all as it was. Halted comes only where the member was stopped.
+pub fn write_outputs<P: Plant + Drop, C: Steady + Drop>(
+    member: &Member,
+    alloc: Global,
+    complex: &mut Complex<P, C>,
+    outputs: &[OutSpec],
+) -> Result<Found, NodeNo>
+    requires { MayWriteOutputs complex.old member.now outputs.now }
+    ensures frame { parts_of complex.new ≡ record (parts_of complex.old) { plant = complex.new.plant } }
+    ensures writes { WritesOutputs complex.old complex.new member.now outputs.now result }
+{
+    let by = member.id;
+    let Ok(held) = held_by(alloc, member.checkpoint.tables.owners.as_slice(), by) else {
+        return Err(NodeNo::NoMemory);
+    };
+    let needed = groups_of_outputs(outputs);
+    found_by(
+        alloc,
+        write_and_sync(complex, by, &held.as_slice()[..needed as usize], outputs),
+    )
+}
+
+/// Reads the text of the output that is busy at the member and prints its lines up to this one on the member's printer, but for those that
+/// the member has printed since its last Pick, Mark, Back or Forward. It needs no lock. A text that was gone when the run began isn't read.
+/// Answers how the text was read, and whether the printer was found lost.
+///
+/// NoMemory leaves the first of the lines on paper, perhaps. Halted comes only where the member was stopped.
+pub fn print_next_lines<P: Plant + Drop, C: Steady + Drop>(
+    member: &Member,
+    alloc: Global,
+    complex: &mut Complex<P, C>,
+    job: JobNo,
+    output: OutNo,
+    last: u32,
+) -> Result<Found, NodeNo>
+    requires { MayPrintLines complex.old member.now job output last }
+    ensures frame { parts_of complex.new ≡ record (parts_of complex.old) { plant = complex.new.plant; printed = complex.new.printed; book = complex.new.book; reserved = complex.new.reserved } }
+    ensures prints { PrintsLines complex.old complex.new member.now job output last result }
+{
+    if let Some(group) = gone_output(complex, job, output) {
+        return Ok(found_read(Read::Gone(group)));
+    }
+    law_of_places();
+    complex.kept_texts();
+    let tables = &member.checkpoint.tables;
+    let by = member.id;
+    let Some(found) = find_output(tables.outputs.as_slice(), job, output) else {
+        unreachable!();
+    };
+    let thing = Thing::Output(job, output);
+    let Ok(groups) = groups_of(alloc, tables.owners.as_slice(), thing) else {
+        return Err(NodeNo::NoMemory);
+    };
+    let groups = groups.as_slice();
+    let read = read_text(complex, alloc, by, groups, found.item.lines)?;
+    let end = print_text(complex, alloc, by, &found.item, last, &read)?;
+    Ok(found_printed(read, end))
+}
