@@ -16,12 +16,12 @@ front_step : (v : Bool) (b : ℕ) (front text : List ℕ) → take (length front
 front_step true b front text e = refl
 front_step false b front text e = ap (λ (l : List ℕ). b ∷ l) e
 
--- the word stands at the front
+-- the word of a text stands at its front
 pub take_word : (text : List ℕ) → take (length (word text)) text ≡ word text
 take_word [] = refl
 take_word (b ∷ text) = front_step (is_blank b) b (word text) text (take_word text)
 
--- so does the field
+-- the field of a text stands at its front
 pub take_field : (quoted : Bool) (text : List ℕ) → take (length (field_in quoted text)) text ≡ field_in quoted text
 take_field quoted [] = refl
 take_field quoted (b ∷ text) = front_step (is_blank b && not quoted) b (field_in (quoted_behind quoted b) text) text (take_field (quoted_behind quoted b) text)
@@ -42,7 +42,7 @@ length_field quoted (b ∷ text) = within_step (is_blank b && not quoted) b (fie
 pub rest_cut : {A : Type 0} → (n : ℕ) (xs : List A) → take (length xs - n) (drop n xs) ≡ drop n xs
 rest_cut n xs = let short : length (drop n xs) ≤ length xs - n = omega (arith, length-drop n xs) in take_all (length xs - n) (drop n xs) short
 
--- by a test
+-- the value of an `if`, where the test is known
 pub if_yes : {A : Type 0} → (v : Bool) (a b : A) → v ≡ true → (if v then a else b) ≡ a
 if_yes true a b e = refl
 if_yes false a b e = absurd (cc)

@@ -22,7 +22,7 @@ items_at at taken cards card here is =
     let place : at + 1 + taken ≡ at + (1 + taken) = omega arith in
     rw (whole, ← further) (ap (λ (l : List Item). item ∷ l) (items_passed taken (at + 1 + 1) (drop (at + 1) cards) ∙ rw (number, drop-drop, place) refl))
 
--- the same for the number of cards before the end
+-- cards that are passed over count among the cards before the end
 pub cards_passed : (k : ℕ) (cards : List (List ℕ)) → k ≤ length cards → cards_to_end k cards ≡ k + cards_to_end 0 (drop k cards)
 cards_passed zero cards h = omega arith
 cards_passed (suc k) [] h = absurd (omega arith)

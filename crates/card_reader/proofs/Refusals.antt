@@ -77,7 +77,7 @@ short_card card is =
     let short : length card ≤ card_bytes = grind (arith, nat_tests) in
     omega arith
 
--- they make a text, and so does each front of them
+-- cards of which none is refused are lines of a text, and so is each front of them
 pub cards_fit : (k last : ℕ) (cards : List (List ℕ)) → refused_card 1 last cards ≡ None → AreLines (take k cards)
 cards_fit k last cards e =
     let all = none_refused 1 last cards e in

@@ -87,7 +87,7 @@ pub seen_at-at : (own : Name8) (seen : Seen) (job : Option JobFields) (item : It
 seen_at-at own seen None item = before_job-at own seen item (kind_of item.card)
 seen_at-at own seen (Some job) item = in_job-at seen job item.number item.card (kind_of item.card)
 
--- the same of what is said where memory is found
+-- a refusal names its card also where the answer may instead be out of memory
 pub ok_at : (n : ℕ) (found : Result Sees NoMemory) (said : Sees) → IfErr said (λ r. r.card ≡ n) → IfOk found (λ sees. sees ≡ said) → IfOk found (λ sees. IfErr sees (λ r. r.card ≡ n))
 ok_at n (Ok sees) said at e = rw e at
 ok_at n (Err none) said at e = tt

@@ -29,12 +29,12 @@ bad card cause = record { card = card; cause = cause }
 
 -- CARDS AS SUCH
 
--- at most 80 text bytes
+-- a card has at most 80 text bytes
 abbrev pub is_card : List ℕ → Bool
 is_card card = nat_le (length card) card_bytes && is_text_line card
 
--- The least of these cards that is refused as such, from a number on, where the job ends before the card behind so many:
--- it is no text of 80 bytes, it is one too many, or it stands behind the card that ends the job.
+-- The least of these cards that is refused as such, from a number on, where the job ends before the card behind so
+-- many: it is no text of 80 bytes, it is one too many, or it stands behind the card that ends the job.
 abbrev pub refused_card : ℕ → ℕ → List (List ℕ) → Option Refused
 refused_card n last [] = None
 refused_card n last (card ∷ cards) =
@@ -82,18 +82,22 @@ result_and_then next (Err worse) = Err worse
 -- a `/*PRIORITY` card may stand before the JOB statement, once
 abbrev pub priority_seen : Seen → ℕ → Option JesCard → Sees
 priority_seen seen n None = refused n cause.Jes
-priority_seen seen n (Some (jes.Priority prio)) = if is_some seen.priority then refused n cause.Place else Ok (record seen { priority = Some prio })
+priority_seen seen n (Some (jes.Priority prio)) = if is_some seen.priority then refused n cause.Place else Ok
+    (record seen { priority = Some prio })
 priority_seen seen n (Some (jes.Restart restart)) = refused n cause.Jes
 priority_seen seen n (Some (jes.Print dest)) = refused n cause.Jes
 priority_seen seen n (Some (jes.Xeq node)) = refused n cause.Jes
 
--- the other JES2 cards may stand behind it, before the first EXEC statement
+-- JES2 cards except `/*PRIORITY` may stand after the JOB statement, before the first EXEC statement
 abbrev pub jes_seen : Seen → JobFields → ℕ → Option JesCard → Sees
 jes_seen seen job n None = refused n cause.Jes
 jes_seen seen job n (Some (jes.Priority prio)) = refused n cause.Place
-jes_seen seen job n (Some (jes.Restart restart)) = if seen.has_steps then refused n cause.Place else Ok (record seen { job = Some (record job { restart = restart }) })
-jes_seen seen job n (Some (jes.Print dest)) = if seen.has_steps then refused n cause.Place else Ok (record seen { job = Some (record job { dest = dest }) })
-jes_seen seen job n (Some (jes.Xeq node)) = if seen.has_steps then refused n cause.Place else Ok (record seen { job = Some (record job { node = node }) })
+jes_seen seen job n (Some (jes.Restart restart)) = if seen.has_steps then refused n cause.Place else Ok
+    (record seen { job = Some (record job { restart = restart }) })
+jes_seen seen job n (Some (jes.Print dest)) = if seen.has_steps then refused n cause.Place else Ok
+    (record seen { job = Some (record job { dest = dest }) })
+jes_seen seen job n (Some (jes.Xeq node)) = if seen.has_steps then refused n cause.Place else Ok
+    (record seen { job = Some (record job { node = node }) })
 
 abbrev pub job_seen : Name8 → Seen → ℕ → Name8 → Option JobOperands → Sees
 job_seen own seen n name None = refused n cause.Operand
@@ -102,17 +106,18 @@ job_seen own seen n name (Some operands) = Ok (record seen { job = Some (job_of 
 -- the JOB statement: its name, and then its operands
 abbrev pub job_statement_seen : Name8 → Seen → Item → Sees
 job_statement_seen own seen item =
-    if is_statement_name (name_of item.card) then job_seen own seen item.number (record { 0 = padded (name_of item.card) }) (job_operands_of (operands_from (item.card ∷ item.behind)))
+    if is_statement_name (name_of item.card) then job_seen own seen item.number
+    (record { 0 = padded (name_of item.card) }) (job_operands_of (operands_from (item.card ∷ item.behind)))
     else refused item.number cause.Name
 
--- it is the first statement
+-- the first statement of a deck, which has to be a JOB statement
 abbrev pub first_statement_seen : Name8 → Seen → Item → Operation → Sees
 first_statement_seen own seen item operation.Job = job_statement_seen own seen item
 first_statement_seen own seen item operation.Exec = refused item.number cause.First
 first_statement_seen own seen item operation.Dd = refused item.number cause.First
 first_statement_seen own seen item operation.Other = refused item.number cause.First
 
--- there is no second JOB statement
+-- a statement after the JOB statement, which may not be a second JOB statement
 abbrev pub later_statement_seen : Seen → ℕ → Operation → Sees
 later_statement_seen seen n operation.Job = refused n cause.Place
 later_statement_seen seen n operation.Exec = Ok (record seen { has_steps = true })
@@ -123,12 +128,13 @@ later_statement_seen seen n operation.Other = Ok seen
 abbrev pub seen_before_job : Name8 → Seen → Item → Kind → Sees
 seen_before_job own seen item kind.Comment = Ok seen
 seen_before_job own seen item kind.Statement = first_statement_seen own seen item (operation_of item.card)
-seen_before_job own seen item kind.Jes = if is_priority item.card then priority_seen seen item.number (jes_of item.card) else refused item.number cause.First
+seen_before_job own seen item kind.Jes = if is_priority item.card then priority_seen seen item.number (jes_of item.card)
+    else refused item.number cause.First
 seen_before_job own seen item kind.Null = refused item.number cause.First
 seen_before_job own seen item kind.Delimiter = refused item.number cause.First
 seen_before_job own seen item kind.Stray = refused item.number cause.First
 
--- a card behind it; what stands outside data and is no statement of ours is for the converter
+-- a card after the JOB statement; what stands outside data and is no statement of ours is for the converter
 abbrev pub seen_in_job : Seen → JobFields → ℕ → List ℕ → Kind → Sees
 seen_in_job seen job n card kind.Statement = later_statement_seen seen n (operation_of card)
 seen_in_job seen job n card kind.Jes = jes_seen seen job n (jes_of card)
@@ -144,7 +150,8 @@ seen_at own seen (Some job) item = seen_in_job seen job item.number item.card (k
 -- what was seen after all of these cards, up to the first that is refused
 abbrev pub seen_after : Name8 → Seen → List Item → Sees
 seen_after own seen [] = Ok seen
-seen_after own seen (item ∷ items) = result_and_then (λ more. seen_after own more items) (seen_at own seen seen.job item)
+seen_after own seen (item ∷ items) = result_and_then (λ more. seen_after own more items)
+    (seen_at own seen seen.job item)
 
 -- DECKS
 
@@ -165,7 +172,8 @@ least (Some card) (Err other) = if nat_le card.card other.card then Err card els
 
 -- what a deck says of its job
 abbrev pub read_as : Name8 → List (List ℕ) → Result JobFields Refused
-read_as own cards = least (refused_card 1 (cards_to_end 0 cards + 1) cards) (job_seen_in (seen_after own nothing_seen (items_of cards)))
+read_as own cards = least (refused_card 1 (cards_to_end 0 cards + 1) cards)
+    (job_seen_in (seen_after own nothing_seen (items_of cards)))
 
 -- the stored text: all cards before the one that ends the job
 abbrev pub text_of : List (List ℕ) → List (List ℕ)

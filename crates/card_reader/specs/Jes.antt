@@ -39,7 +39,7 @@ behind_second card = behind_word (behind_word (words_at card))
 abbrev pub behind_third : List ℕ → List ℕ
 behind_third card = behind_word (behind_second card)
 
--- `/*PRIORITY`, with whatever behind it
+-- `/*PRIORITY`, whatever stands after it
 abbrev pub is_priority : List ℕ → Bool
 is_priority card = bytes_eq (first_word card) (codes "PRIORITY")
 

@@ -73,7 +73,8 @@ keyword_taken so_far operand =
 
 -- accounting information and the programmer's name stand before the keywords
 abbrev pub positional_taken : JobOperands → Option JobOperands
-positional_taken so_far = if so_far.keyed || nat_le 2 so_far.positional then None else Some (record so_far { positional = so_far.positional + 1 })
+positional_taken so_far = if so_far.keyed || nat_le 2 so_far.positional then None else Some
+    (record so_far { positional = so_far.positional + 1 })
 
 abbrev pub operand_taken : JobOperands → List ℕ → Option JobOperands
 operand_taken so_far operand = if is_keyword operand then keyword_taken so_far operand else positional_taken so_far
@@ -81,9 +82,11 @@ operand_taken so_far operand = if is_keyword operand then keyword_taken so_far o
 -- what operands say behind others
 abbrev pub operands_taken : JobOperands → List (List ℕ) → Option JobOperands
 operands_taken so_far [] = Some so_far
-operands_taken so_far (operand ∷ operands) = option_and_then (λ more. operands_taken more operands) (operand_taken so_far operand)
+operands_taken so_far (operand ∷ operands) = option_and_then (λ more. operands_taken more operands)
+    (operand_taken so_far operand)
 
 -- what the operands of a JOB statement say, none where they are none
 abbrev pub job_operands_of : Operands → Option JobOperands
 job_operands_of operands =
-    if operands.whole && is_balanced operands.text then operands_taken default_operands (operands_of operands.text) else None
+    if operands.whole && is_balanced operands.text then operands_taken default_operands (operands_of operands.text) else
+    None

@@ -5,16 +5,18 @@ use Rattle.card_reader.specs.Cards.{quoted_behind, is_apostrophe}
 
 -- how many parentheses are open behind a byte; within apostrophes there are none
 abbrev pub depth_behind : Bool → ℕ → ℕ → ℕ
-depth_behind quoted depth b = if quoted then depth else if b == 40 then depth + 1 else if b == 41 then depth - 1 else depth
+depth_behind quoted depth b = if quoted then depth else if b == 40 then depth
+    + 1 else if b == 41 then depth - 1 else depth
 
 -- a comma outside parentheses and apostrophes
 abbrev pub is_separator : Bool → ℕ → ℕ → Bool
 is_separator quoted depth b = (b == 44) && not quoted && (depth == 0)
 
--- what stands before the first such comma
+-- what stands before the first comma that ends an operand
 abbrev pub operand_in : Bool → ℕ → List ℕ → List ℕ
 operand_in quoted depth [] = []
-operand_in quoted depth (b ∷ bs) = if is_separator quoted depth b then [] else b ∷ operand_in (quoted_behind quoted b) (depth_behind quoted depth b) bs
+operand_in quoted depth (b ∷ bs) = if is_separator quoted depth b then [] else b
+    ∷ operand_in (quoted_behind quoted b) (depth_behind quoted depth b) bs
 
 -- the first operand of a field
 abbrev pub first_operand : List ℕ → List ℕ
@@ -25,7 +27,7 @@ abbrev pub onto_first_part : ℕ → List (List ℕ) → List (List ℕ)
 onto_first_part b [] = (b ∷ []) ∷ []
 onto_first_part b (part ∷ parts) = (b ∷ part) ∷ parts
 
--- the parts between such commas
+-- the parts of a field between the commas that end its operands
 abbrev pub parts_in : Bool → ℕ → List ℕ → List (List ℕ)
 parts_in quoted depth [] = [] ∷ []
 parts_in quoted depth (b ∷ bs) =
@@ -47,7 +49,7 @@ is_balanced_in quoted depth (b ∷ bs) =
 abbrev pub is_balanced : List ℕ → Bool
 is_balanced field = is_balanced_in false 0 field
 
--- neither an apostrophe nor a parenthesis
+-- the byte is neither an apostrophe nor a parenthesis
 abbrev pub is_plain : ℕ → Bool
 is_plain b = not (is_apostrophe b) && not (b == 40) && not (b == 41)
 

@@ -19,7 +19,7 @@ use Rattle.card_reader.specs.Operands.{first_operand, operands_of, is_plain}
 abbrev pub missing : Operands
 missing = record { text = []; whole = false; cards = 0 }
 
--- the same, one card further
+-- the operands, where they continue one card further
 abbrev pub one_further : Operands → Operands
 one_further rest = record { text = rest.text; whole = rest.whole; cards = 1 + rest.cards }
 
@@ -107,10 +107,12 @@ data_behind ends (card ∷ cards) =
 
 -- the cards of data behind a statement with these operands
 abbrev pub statement_data : List ℕ → Operands → List (List ℕ) → DataCards
-statement_data card operands behind = data_behind (ending_of (operation_of card) operands.text) (drop operands.cards behind)
+statement_data card operands behind = data_behind (ending_of (operation_of card) operands.text)
+    (drop operands.cards behind)
 
 abbrev pub further_of_kind : Kind → List ℕ → List (List ℕ) → ℕ
-further_of_kind kind.Statement card behind = (operands_from (card ∷ behind)).cards + (statement_data card (operands_from (card ∷ behind)) behind).taken
+further_of_kind kind.Statement card behind = (operands_from (card ∷ behind)).cards
+    + (statement_data card (operands_from (card ∷ behind)) behind).taken
 further_of_kind kind.Comment card behind = 0
 further_of_kind kind.Null card behind = 0
 further_of_kind kind.Delimiter card behind = 0
@@ -132,7 +134,8 @@ pub record Item : Type 0 where
 abbrev pub items_from : ℕ → ℕ → List (List ℕ) → List Item
 items_from n skipped [] = []
 items_from n (suc skipped) (card ∷ cards) = items_from (n + 1) skipped cards
-items_from n zero (card ∷ cards) = record { number = n; card = card; behind = cards } ∷ items_from (n + 1) (further_cards (card ∷ cards)) cards
+items_from n zero (card ∷ cards) = record { number = n; card = card; behind = cards }
+    ∷ items_from (n + 1) (further_cards (card ∷ cards)) cards
 
 -- whether an item ends the job
 abbrev pub ends_job : Item → Bool
@@ -151,7 +154,8 @@ items_of cards = up_to_end (items_from 1 0 cards)
 abbrev pub cards_to_end : ℕ → List (List ℕ) → ℕ
 cards_to_end skipped [] = 0
 cards_to_end (suc skipped) (card ∷ cards) = 1 + cards_to_end skipped cards
-cards_to_end zero (card ∷ cards) = if is_null_kind (kind_of card) then 0 else 1 + cards_to_end (further_cards (card ∷ cards)) cards
+cards_to_end zero (card ∷ cards) = if is_null_kind (kind_of card) then 0 else 1
+    + cards_to_end (further_cards (card ∷ cards)) cards
 
 -- the first of some cards
 abbrev pub first_of : List (List ℕ) → List ℕ

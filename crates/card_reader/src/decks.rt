@@ -32,7 +32,7 @@ pub enum DeckNo {
     /// The least card that is refused, counted from 1, and the first cause that applies to it.
     #[error("card {card} is refused")]
     BadCard { card: u32, cause: CardCause },
-    /// There was no memory.
+    /// Out of memory.
     #[error("no memory")]
     NoMemory,
 }
@@ -75,7 +75,7 @@ fn is_text(card: &[u8]) -> bool
     card.iter().all(|b| is_text_byte(*b))
 }
 
-// At most 80 text bytes.
+// A card has at most 80 text bytes.
 fn is_card(card: &[u8]) -> bool
     ensures { result ≡ is_card_lem card.now }
 {
@@ -179,7 +179,8 @@ fn job_operands_at(
     at: usize,
 ) -> Result<Option<JobOperands>, NoMemory>
     requires { slice_get cards.now at ≡ Some card.now }
-    ensures { IfOk result (λ operands. operands ≡ job_operands_of (operands_from (card.now ∷ drop (at + 1) cards.now))) }
+    ensures { IfOk result (λ operands. operands
+        ≡ job_operands_of (operands_from (card.now ∷ drop (at + 1) cards.now))) }
 {
     let operands = operands_at(alloc, cards, at)?;
     Ok(read_job_operands(&operands))
@@ -196,7 +197,8 @@ fn see_job(
 ) -> Result<Result<Seen, Refused>, NoMemory>
     requires within { at + 1 < 2 ^ 64 }
     requires here { slice_get cards.now at ≡ Some card.now }
-    ensures { IfOk result (λ sees. sees ≡ job_statement_seen own seen (item_of (at + 1) card.now (drop (at + 1) cards.now))) }
+    ensures { IfOk result (λ sees. sees
+        ≡ job_statement_seen own seen (item_of (at + 1) card.now (drop (at + 1) cards.now))) }
 {
     let name = name_of(card);
     if !is_statement_name(name) {
@@ -223,7 +225,8 @@ fn see_before_job(
 ) -> Result<Result<Seen, Refused>, NoMemory>
     requires within { at + 1 < 2 ^ 64 }
     requires here { slice_get cards.now at ≡ Some card.now }
-    ensures { IfOk result (λ sees. sees ≡ seen_before_job own seen (item_of (at + 1) card.now (drop (at + 1) cards.now)) (kind_of_lem card.now)) }
+    ensures { IfOk result (λ sees. sees
+        ≡ seen_before_job own seen (item_of (at + 1) card.now (drop (at + 1) cards.now)) (kind_of_lem card.now)) }
 {
     match kind_of(card) {
         Kind::Comment => Ok(Ok(seen)),
@@ -264,7 +267,8 @@ fn see(
 ) -> Result<Result<Seen, Refused>, NoMemory>
     requires within { at + 1 < 2 ^ 64 }
     requires here { slice_get cards.now at ≡ Some card.now }
-    ensures value { IfOk result (λ sees. sees ≡ seen_at own seen seen.job (item_of (at + 1) card.now (drop (at + 1) cards.now))) }
+    ensures value { IfOk result (λ sees. sees
+        ≡ seen_at own seen seen.job (item_of (at + 1) card.now (drop (at + 1) cards.now))) }
     ensures card { IfOk result (λ sees. IfErr sees (λ refused. refused.card ≡ at + 1)) }
 {
     match seen.job {

@@ -71,7 +71,7 @@ pub fn is_balanced(field: &[u8]) -> bool
     !quoted && depth == 0
 }
 
-// Neither an apostrophe nor a parenthesis.
+// The byte is neither an apostrophe nor a parenthesis.
 pub(crate) fn is_plain(byte: u8) -> bool
     ensures { result ≡ is_plain_lem byte }
 {

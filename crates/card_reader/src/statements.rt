@@ -38,7 +38,7 @@ pub enum Ending {
 pub struct DataCards {
     /// The cards of data.
     pub cards: usize,
-    /// These and the card that ends them, where it is read with them.
+    /// The cards of data and the card that ends them, where it is read with them.
     pub taken: usize,
 }
 

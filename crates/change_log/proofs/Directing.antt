@@ -49,7 +49,7 @@ length_taken zero numbers le = refl
 length_taken (suc i) [] le = absurd (omega (arith, le))
 length_taken (suc i) (x ∷ numbers) le = let e = length_taken i numbers (omega (arith, le)) in omega (arith, e)
 
--- one number more is written behind what stands in front
+-- one number more is written after what stands in front
 pub number_put : (f i x : ℕ) (front numbers old now new : List ℕ) → length front ≡ f → i < length numbers → x ≡ get_or numbers i 0
     → now ≡ front ++ word_bytes (take i numbers) ++ drop (f + 2 * i) old → new ≡ take (f + 2 * i) now ++ to_be_bytes w16 x ++ drop (f + 2 * i + 2) now
     → new ≡ front ++ word_bytes (take (i + 1) numbers) ++ drop (f + 2 * (i + 1)) old

@@ -1,4 +1,4 @@
--- A slot behind its closed gate is written, and then opened.
+-- A slot whose gate is closed is written, and then opened.
 use Rattle.std.proofs.Common.{◌≡◌, ◌⊎◌, inl, inr, ⊎_elim, ℕ, zero, suc, ◌+◌, ◌*◌, ◌≤◌, ◌<◌, ◌==◌, Bool, true, false, if◌then◌else◌, List, [], ◌∷◌, length, slice_index, drop, refl, ap, subst, arith, suc-mul, Contains}
 use Rattle.std.proofs.lemmas.Bool.Decides.{nat_tests}
 use Rattle.std.proofs.lemmas.Bool.{and_parts, leb-true}
@@ -18,7 +18,7 @@ use Rattle.change_log.specs.LogRests.{AreInside}
 use Rattle.change_log.specs.LogImages.{logged_kept, stands_reads}
 use Rattle.change_log.specs.Placing.{laid_within, place_from}
 
--- each slot begins behind the one before it
+-- each slot begins after the one before it
 next_directory : (n s : ℕ) → directory_block n (suc s) ≡ directory_block n s + (n + 1)
 next_directory n s = let e = suc-mul s (n + 1) in omega (arith, e)
 
@@ -54,7 +54,7 @@ place_below n p lists (suc s) lt few =
     let most = few s (omega arith) in
     ⊎_elim (λ same. omega (arith, same, before, e)) (λ w. let hi = w.1 in omega (arith, hi, most, e)) (laid_within (image_block n s 0) p (lists s) (place n p lists s))
 
--- a write behind block 0, apart from the directories of open slots and from where the pages stand
+-- a write after block 0, apart from the directories of open slots and from where the pages stand
 pub stands_spreads : (n : ℕ) (lists : ℕ → List ℕ) (pages : List ℕ) (old new : Disk) (w k : ℕ) → Stands n lists pages old → Spreads w k old new → page_bytes ≤ w
     → ((s : ℕ) → s < slots → lists_any (lists s) ≡ true → Apart (stretch w k) (stretch (page_bytes * directory_block n s) page_bytes))
     → ((p : ℕ) → p < n → Apart (stretch w k) (stretch (page_bytes * place n p lists slots) page_bytes)) → Stands n lists pages new

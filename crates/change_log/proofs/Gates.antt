@@ -15,7 +15,7 @@ same_default [] i d e lt = absurd (omega (arith, lt))
 same_default (x ∷ l) zero d e lt = refl
 same_default (x ∷ l) (suc i) d e lt = same_default l i d e (omega (arith, lt))
 
--- at most as many slots are free as there are gates behind those that are counted already
+-- at most as many slots are free as there are gates after those that are counted already
 pub free_most : (gates : List Bool) (free : ℕ) → free_after free gates ≤ free + length gates
 free_most [] free = omega arith
 free_most (true ∷ gates) free = let rest = free_most gates 0 in omega (arith, rest)
@@ -63,7 +63,7 @@ lists_none (x ∷ l) none = absurd (cc)
 pub none_above : (gates : List Bool) (lists : ℕ → List ℕ) → length gates ≡ slots → OpenAs gates lists → (j : ℕ) → next_slot gates ≤ j → lists j ≡ []
 none_above gates lists four open_as j le = lists_none (lists j) (sym (open_as j) ∙ closed_above gates j four le)
 
--- with one more slot open
+-- the gates are open where a slot lists a page, with one more slot open
 pub opened_as : (gates : List Bool) (lists : ℕ → List ℕ) (s : ℕ) (numbers : List ℕ) → s < length gates → lists_any numbers ≡ true → OpenAs gates lists → OpenAs (set gates s true) (with_list s numbers lists)
 opened_as gates lists s numbers lt any open_as j = by_test (j == s) refl where
   by_test : (b : Bool) → (j == s) ≡ b → slice_index_or (set gates s true) j false ≡ lists_any (with_list s numbers lists j)

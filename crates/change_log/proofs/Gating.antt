@@ -25,7 +25,7 @@ apart_next s j ne le = grind (arith, nat_tests, ne, le)
 gate_apart : (s j : ℕ) → (j == s) ≡ false → Apart (stretch (gate_of s) 1) (stretch (gate_of j) 1)
 gate_apart s j ne = ⊎_elim (λ le. let lt = apart_next s j ne le in inl (omega (arith, lt))) (λ lt. inr (omega (arith, lt))) (either_way s j)
 
--- a page stands behind block 0
+-- a page stands after block 0
 place_some : (n p : ℕ) (lists : ℕ → List ℕ) (k : ℕ) → 1 ≤ place n p lists k
 place_some n p lists k = ⊎_elim (λ e. omega (arith, e)) (λ lt. omega (arith, lt)) (place_past n p lists k)
 
@@ -122,7 +122,7 @@ module _ (dev : Dev) (n s : ℕ) (numbers : List ℕ) (lists : ℕ → List ℕ)
             (block_spreads n s (disk_now old dev) d inside spreads (laid (image_block n s 0) p numbers (place n p lists slots)) (page_in p next) (next_some p) (there p lt));
       }
 
--- the same slots in other words
+-- what stands by the lists of some slots stands by equal lists
 pub stands_same : (n : ℕ) (f g : ℕ → List ℕ) (pages : List ℕ) (disk : Disk) → ((s : ℕ) → s < slots → f s ≡ g s) → Stands n f pages disk → Stands n g pages disk
 stands_same n f g pages disk same stands = record {
   logged = record {
@@ -175,6 +175,6 @@ closing_on dev n gates i pages old new inside shut so put now = record {
   closed_below j true is lt = ap (λ (b : Bool). if b then [] else now.lists j) is
   closed_below j false is lt = let less : j < i = grind (arith, nat_tests, is, lt) in with_other i [] now.lists j is ∙ now.below j less
 
--- once all were closed
+-- once all gates were closed no slot lists a page
 pub closing_done : (n : ℕ) (gates : List Bool) (pages : List ℕ) (disk : Disk) → Closing n gates slots pages disk → Stands n (λ s. []) pages disk
 closing_done n gates pages disk closing = stands_same n closing.lists (λ s. []) pages disk closing.below closing.stands

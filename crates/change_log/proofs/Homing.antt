@@ -53,7 +53,7 @@ pub home_already : (n i : ℕ) (gates : List Bool) (places pages : List ℕ) (di
 home_already n i gates places pages disk inside home rests =
     ap (λ (b : ℕ). block b disk.bytes) (sym home ∙ rests.stand_as i inside) ∙ (rests.stands.here i inside).there
 
--- and those before it
+-- where page i and the pages before it are written at home, the first i + 1 are
 pub homes_more : (i : ℕ) (pages bytes : List ℕ) → block (1 + i) bytes ≡ page_in i pages → AreWritten i pages bytes → AreWritten (i + 1) pages bytes
 homes_more i pages bytes here before p lt = ⊎_elim
     (λ le. let e : i ≡ p = omega (arith, le, lt) in subst (λ (q : ℕ). block (1 + q) bytes ≡ page_in q pages) e here) (λ less. before p less) (either_way i p)
@@ -62,7 +62,7 @@ homes_more i pages bytes here before p lt = ⊎_elim
 pub homes_read : (dev : Dev) (n : ℕ) (gates : List Bool) (places pages : List ℕ) (old homes : View) → Meanwhile dev (Rests n gates places pages) old homes → Meanwhile dev (AllRead reads pages) old homes
 homes_read dev n gates places pages old homes so = meanwhile_weaker dev (Rests n gates places pages) (AllRead reads pages) old homes so (rests_all n gates places pages)
 
--- and synced
+-- the home pages are written, and then synced
 module _ (dev : Dev) (n : ℕ) (gates : List Bool) (places pages : List ℕ) (old homes synced : View)
     (so : Meanwhile dev (Rests n gates places pages) old homes) (sync : Meanwhile dev (Spreads 0 0 (disk_now homes dev)) homes synced) where
   rests_homes : Meanwhile dev (Rests n gates places pages) homes synced
@@ -85,7 +85,7 @@ module _ (dev : Dev) (n : ℕ) (gates : List Bool) (places pages : List ℕ) (ol
     sure = subst (λ u. Avoids u (stretch (page_bytes * home_block p) page_bytes)) (sym clean) tt;
   }
 
--- before the first slot is closed
+-- the copy before the first slot is closed
 pub closing_first : (n : ℕ) (gates : List Bool) (places pages : List ℕ) (disk : Disk) → Rests n gates places pages disk → AreHome n pages disk → Closing n gates 0 pages disk
 closing_first n gates places pages disk rests home = record {
   lists = rests.lists;

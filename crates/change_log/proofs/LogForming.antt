@@ -51,12 +51,12 @@ closed_spreads w k old new closed spreads le = record { byte = closed.byte; clos
 abbrev block_start : ℕ → List ℕ
 block_start n = GATE_OPEN ∷ FORM_LOG ∷ n / 256 ∷ n % 256 ∷ []
 
--- from the gate and the rest
+-- the first four bytes of a block, from its gate and the rest
 head_from : (n : ℕ) (image : List ℕ) → slice_index image 0 ≡ GATE_OPEN → slice 1 11 image ≡ block_head n → 4 ≤ length image → slice 0 4 image ≡ block_start n
 head_from n [] gate block le = absurd (omega (arith, le))
 head_from n (x ∷ l) gate block le = slice_first 3 (x ∷ l) ∙ ap (λ (b : ℕ). b ∷ slice 1 3 (x ∷ l)) gate ∙ ap (λ (b : List ℕ). GATE_OPEN ∷ b) (slice_in 1 11 0 3 (x ∷ l) (omega arith) ∙ ap (slice 0 3) block)
 
--- once VALID is open too, the home pages stand, and all slots are closed
+-- once VALID is open, the home pages stand, and all slots are closed
 formed_open : (n : ℕ) (pages : List ℕ) (disk : Disk) → Formed n pages disk → Has 0 4 (block_start n) disk → Stands n (λ s. []) pages disk
 formed_open n pages disk formed valid = record {
   logged = record {
@@ -101,7 +101,7 @@ formed_as_disk n pages disk image formed fits = record {
   here = has_as_disk page_bytes (page_bytes * n) pages disk image formed.here fits;
 }
 
--- while VALID is opened
+-- what a formed device reads as while VALID is opened
 formed_reads : (n : ℕ) (pages : List ℕ) (disk : Disk) (image : List ℕ) → Formed n pages disk → Fits disk image → (reads image ≡ None) ⊎ (reads image ≡ Some pages)
 formed_reads n pages disk image formed fits = by_gate (is_open 0 image) refl where
   shown : Formed n pages (as_disk image)
@@ -122,7 +122,7 @@ formed_spreads n pages old new formed spreads = record {
   here = has_spreads page_bytes (page_bytes * n) 0 1 pages old new formed.here spreads (inl (omega arith));
 }
 
--- block 0 but VALID was written, and then the pages, with a sync
+-- block 0 except VALID was written, and then the pages, with a sync
 pub formed_now : (n : ℕ) (pages : List ℕ) (mid new : Disk) → IsReady n (length new.bytes) → slice 1 11 mid.bytes ≡ block_head n → Spreads page_bytes (page_bytes * n) mid new → IsPut page_bytes (page_bytes * n) pages new → length pages ≡ page_bytes * n → Formed n pages new
 formed_now n pages mid new ready block spreads put size = record {
   size = size;
@@ -134,7 +134,7 @@ formed_now n pages mid new ready block spreads put size = record {
   here = has_put page_bytes (page_bytes * n) pages new put;
 }
 
--- the same, with the bytes as the call made them
+-- the write of block 0 except VALID, by the bytes that the call made
 pub head_spreads : (dev : Dev) (n : ℕ) (bytes : List ℕ) (old new : View) → bytes ≡ block_head n → Meanwhile dev (Spreads 1 (length bytes) (disk_now old dev)) old new → Meanwhile dev (Spreads 1 11 (disk_now old dev)) old new
 head_spreads dev n bytes old new is so = subst (λ (b : List ℕ). Meanwhile dev (Spreads 1 (length b) (disk_now old dev)) old new) is so
 
@@ -165,7 +165,7 @@ module _ (dev : Dev) (pages : List ℕ) (k : ℕ) (old shut full new : View) (cl
       (meanwhile_weaker dev (Spreads 0 1 (disk_now full dev)) (EachForms reads (disk_now old dev) pages) full new opens
       (λ d s image is. ⊎_elim inl (λ e. inr (inl e)) (formed_reads n pages d image (formed_spreads n pages (disk_now full dev) d formed s) (fits_image d image is))))
 
--- and at the end
+-- once VALID of a formed device was opened, each page stands at home, and all slots are closed
 pub formed_rests : (dev : Dev) (n : ℕ) (pages : List ℕ) (full new : View) → Formed n pages (disk_now full dev) → Meanwhile dev (Spreads 0 1 (disk_now full dev)) full new
     → IsPut 0 1 (GATE_OPEN ∷ []) (disk_now new dev) → Stands n (λ s. []) pages (disk_now new dev)
 formed_rests dev n pages full new before opens put =

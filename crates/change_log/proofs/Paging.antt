@@ -33,7 +33,7 @@ pub page_here : (i : ℕ) (pages : List Page) (d : Page) (bytes : List ℕ) → 
     → length bytes ≡ page_bytes → bytes ≡ (get_or pages i d).0 → bytes ≡ page_in i (bytes_of pages)
 page_here i pages d bytes lt before size is = is ∙ sym (page_of i pages d lt before (ap length (sym is) ∙ size))
 
--- and the bytes up to it
+-- the bytes of the first i + 1 pages are as long as i + 1 pages
 pub size_more : (i : ℕ) (pages : List Page) (d : Page) (bytes : List ℕ) → i < length pages → length (bytes_of (take i pages)) ≡ page_bytes * i
     → length bytes ≡ page_bytes → bytes ≡ (get_or pages i d).0 → length (bytes_of (take (i + 1) pages)) ≡ page_bytes * (i + 1)
 size_more i pages d bytes lt before size is =
@@ -43,7 +43,7 @@ size_more i pages d bytes lt before size is =
     let here = ap (λ (l : List ℕ). length l) is in
     omega (arith, more, push, sum, before, size, here)
 
--- and all of them
+-- the bytes of all pages are as long as so many pages
 pub size_all : (i : ℕ) (pages : List Page) → length pages ≤ i → i ≤ length pages → length (bytes_of (take i pages)) ≡ page_bytes * i
     → length (bytes_of pages) ≡ page_bytes * length pages
 size_all i pages all some size =
@@ -85,7 +85,7 @@ equal a b is = grind (arith, nat_tests)
 pub next_hit : (count many number i : ℕ) → (nat_lt count many && (number == i)) ≡ true → (count < many) × (number ≡ i)
 next_hit count many number i is = let parts = and_parts (nat_lt count many) (number == i) is in (less count many parts.0, equal number i parts.1)
 
--- it isn't: so the next one is behind it
+-- the page isn't the next of those that changed, so that one comes after it
 pub next_miss : (count many number i : ℕ) → (nat_lt count many && (number == i)) ≡ false → count < many → i ≤ number → i + 1 ≤ number
 next_miss count many number i is lt le = by_test (number == i) refl where
   by_test : (b : Bool) → (number == i) ≡ b → i + 1 ≤ number

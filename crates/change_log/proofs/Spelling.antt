@@ -45,7 +45,7 @@ zeros_from (x ∷ l) are =
 nested : (p q r s t : List ℕ) → p ++ q ++ r ++ s ++ t ≡ p ++ (q ++ (r ++ (s ++ t)))
 nested p q r s t = append_assoc (p ++ q ++ r) s t ∙ append_assoc (p ++ q) r (s ++ t) ∙ append_assoc p q (r ++ (s ++ t))
 
--- the first piece behind some bytes, and what follows it
+-- the first piece after some bytes, and what follows it
 joined : (at len : ℕ) (l : List ℕ) → slice at len l ++ drop (at + len) l ≡ drop at l
 joined at len l = ap (λ (r : List ℕ). slice at len l ++ r) (sym (drop-drop len at l)) ∙ take-append-drop len (drop at l)
 

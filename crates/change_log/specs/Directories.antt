@@ -9,7 +9,7 @@ use Rattle.lay_bytes.specs.Bytes.{are_zeros}
 abbrev pub count_in : List ℕ → ℕ
 count_in block = 256 * slice_index block 0 + slice_index block 1
 
--- so many numbers of two bytes, the greater byte first
+-- the first numbers that bytes spell: so many of two bytes each, the greater byte first
 abbrev pub words : ℕ → List ℕ → List ℕ
 words zero bytes = []
 words (suc k) [] = []
@@ -34,14 +34,15 @@ are_pages n (x ∷ numbers) = (x == 0) && nat_lt 0 n && ascend n 0 numbers
 -- count nor the level nor a number stands. The level, in bytes 8 to 15, may be any.
 abbrev pub is_directory : ℕ → List ℕ → Bool
 is_directory n block =
-    nat_le (count_in block) n && are_pages n (numbers_in block) && are_zeros (slice 2 6 block) && are_zeros (drop (16 + 2 * count_in block) block)
+    nat_le (count_in block) n && are_pages n (numbers_in block) && are_zeros (slice 2 6 block) && are_zeros
+    (drop (16 + 2 * count_in block) block)
 
 -- the bytes of numbers
 abbrev pub word_bytes : List ℕ → List ℕ
 word_bytes [] = []
 word_bytes (x ∷ numbers) = to_be_bytes w16 x ++ word_bytes numbers
 
--- these bytes with numbers behind the level
+-- bytes of a directory, with these numbers after its level
 abbrev pub with_numbers : List ℕ → List ℕ → List ℕ
 with_numbers numbers bytes = take 16 bytes ++ word_bytes numbers ++ drop (16 + 2 * length numbers) bytes
 
@@ -49,6 +50,6 @@ with_numbers numbers bytes = take 16 bytes ++ word_bytes numbers ++ drop (16 + 2
 abbrev pub directory_front : List ℕ → List ℕ → List ℕ
 directory_front level numbers = to_be_bytes w16 (length numbers) ++ replicate 6 0 ++ level ++ word_bytes numbers
 
--- and the whole block
+-- the whole block of a directory, with zeros after its last number
 abbrev pub directory : List ℕ → List ℕ → List ℕ
 directory level numbers = directory_front level numbers ++ replicate (page_bytes - (16 + 2 * length numbers)) 0

@@ -4,18 +4,22 @@ use Rattle.change_log.specs.Directories.{numbers_in, is_directory, directory_fro
 use Rattle.change_log.specs.Logs.{log_size, directory_block, block_head, place, free_after, is_valid, room_in}
 
 -- pages 0, 3 and 259 at a level that may be any
-pub three_numbers : numbers_in (0 ∷ 3 ∷ 0 ∷ 0 ∷ 0 ∷ 0 ∷ 0 ∷ 0 ∷ 0 ∷ 0 ∷ 0 ∷ 0 ∷ 0 ∷ 0 ∷ 1 ∷ 7 ∷ 0 ∷ 0 ∷ 0 ∷ 3 ∷ 1 ∷ 3 ∷ 0 ∷ []) ≡ 0 ∷ 3 ∷ 259 ∷ []
+pub three_numbers : numbers_in
+    (0 ∷ 3 ∷ 0 ∷ 0 ∷ 0 ∷ 0 ∷ 0 ∷ 0 ∷ 0 ∷ 0 ∷ 0 ∷ 0 ∷ 0 ∷ 0 ∷ 1 ∷ 7 ∷ 0 ∷ 0 ∷ 0 ∷ 3 ∷ 1 ∷ 3 ∷ 0 ∷ []) ≡ 0 ∷ 3 ∷ 259 ∷ []
 three_numbers = refl
 
--- they are pages of 260, but not of 259
-pub three_of_260 : is_directory 260 (0 ∷ 3 ∷ 0 ∷ 0 ∷ 0 ∷ 0 ∷ 0 ∷ 0 ∷ 9 ∷ 9 ∷ 9 ∷ 9 ∷ 9 ∷ 9 ∷ 9 ∷ 9 ∷ 0 ∷ 0 ∷ 0 ∷ 3 ∷ 1 ∷ 3 ∷ 0 ∷ []) ≡ true
+-- pages 0, 3 and 259 are pages of 260, but not of 259
+pub three_of_260 : is_directory 260
+    (0 ∷ 3 ∷ 0 ∷ 0 ∷ 0 ∷ 0 ∷ 0 ∷ 0 ∷ 9 ∷ 9 ∷ 9 ∷ 9 ∷ 9 ∷ 9 ∷ 9 ∷ 9 ∷ 0 ∷ 0 ∷ 0 ∷ 3 ∷ 1 ∷ 3 ∷ 0 ∷ []) ≡ true
 three_of_260 = refl
 
-pub three_of_259 : is_directory 259 (0 ∷ 3 ∷ 0 ∷ 0 ∷ 0 ∷ 0 ∷ 0 ∷ 0 ∷ 9 ∷ 9 ∷ 9 ∷ 9 ∷ 9 ∷ 9 ∷ 9 ∷ 9 ∷ 0 ∷ 0 ∷ 0 ∷ 3 ∷ 1 ∷ 3 ∷ 0 ∷ []) ≡ false
+pub three_of_259 : is_directory 259
+    (0 ∷ 3 ∷ 0 ∷ 0 ∷ 0 ∷ 0 ∷ 0 ∷ 0 ∷ 9 ∷ 9 ∷ 9 ∷ 9 ∷ 9 ∷ 9 ∷ 9 ∷ 9 ∷ 0 ∷ 0 ∷ 0 ∷ 3 ∷ 1 ∷ 3 ∷ 0 ∷ []) ≡ false
 three_of_259 = refl
 
--- a page twice, no page 0, no page at all, a byte behind the numbers
-pub twice : is_directory 9 (0 ∷ 3 ∷ 0 ∷ 0 ∷ 0 ∷ 0 ∷ 0 ∷ 0 ∷ 0 ∷ 0 ∷ 0 ∷ 0 ∷ 0 ∷ 0 ∷ 0 ∷ 2 ∷ 0 ∷ 0 ∷ 0 ∷ 3 ∷ 0 ∷ 3 ∷ 0 ∷ []) ≡ false
+-- a page twice, no page 0, no page at all, a byte after the numbers
+pub twice : is_directory 9 (0 ∷ 3 ∷ 0 ∷ 0 ∷ 0 ∷ 0 ∷ 0 ∷ 0 ∷ 0 ∷ 0 ∷ 0 ∷ 0 ∷ 0 ∷ 0 ∷ 0 ∷ 2 ∷ 0 ∷ 0 ∷ 0 ∷ 3 ∷ 0 ∷ 3 ∷ 0
+    ∷ []) ≡ false
 twice = refl
 
 pub no_first : is_directory 9 (0 ∷ 1 ∷ 0 ∷ 0 ∷ 0 ∷ 0 ∷ 0 ∷ 0 ∷ 0 ∷ 0 ∷ 0 ∷ 0 ∷ 0 ∷ 0 ∷ 0 ∷ 2 ∷ 0 ∷ 3 ∷ 0 ∷ []) ≡ false
@@ -24,7 +28,8 @@ no_first = refl
 pub none_at_all : is_directory 9 (replicate 20 0) ≡ false
 none_at_all = refl
 
-pub one_behind : is_directory 9 (0 ∷ 1 ∷ 0 ∷ 0 ∷ 0 ∷ 0 ∷ 0 ∷ 0 ∷ 0 ∷ 0 ∷ 0 ∷ 0 ∷ 0 ∷ 0 ∷ 0 ∷ 2 ∷ 0 ∷ 0 ∷ 0 ∷ 1 ∷ []) ≡ false
+pub one_behind : is_directory 9 (0 ∷ 1 ∷ 0 ∷ 0 ∷ 0 ∷ 0 ∷ 0 ∷ 0 ∷ 0 ∷ 0 ∷ 0 ∷ 0 ∷ 0 ∷ 0 ∷ 0 ∷ 2 ∷ 0 ∷ 0 ∷ 0 ∷ 1 ∷ [])
+    ≡ false
 one_behind = refl
 
 -- block 0 after VALID, of 36 pages
@@ -44,7 +49,7 @@ small_device = refl
 pub room_of_head : room_in head ≡ 2
 room_of_head = refl
 
--- with VALID closed, and of the areas form
+-- heads that aren't valid: with VALID closed, and of the areas form
 pub shut_head : is_valid (0 ∷ 2 ∷ 0 ∷ 36 ∷ []) 757760 ≡ false
 shut_head = refl
 

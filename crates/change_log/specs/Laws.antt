@@ -25,18 +25,20 @@ abbrev pub ReadsAtRest : Type 0
 ReadsAtRest = (n : ℕ) (lists : ℕ → List ℕ) (pages : List ℕ) (disk : Disk) → Stands n lists pages disk
     → (reads disk.bytes ≡ Some pages) × AllRead reads pages disk
 
--- While the gate of a slot after all open ones is opened, each image reads as the old or as the new pages: those that the
--- slot lists stand in its images, synced, and each other one where it stood.
+-- While the gate of a slot after all open ones is opened, each image reads as the old or as the new pages: those that
+-- the slot lists stand in its images, synced, and each other one where it stood.
 abbrev pub ReadsWhileOpened : Type 0
 ReadsWhileOpened = (n s : ℕ) (numbers : List ℕ) (lists : ℕ → List ℕ) (was next : List ℕ) (disk : Disk)
     → s < slots → lists_any numbers ≡ true → Turning n s numbers lists disk → ((j : ℕ) → s ≤ j → lists j ≡ [])
     → length was ≡ page_bytes * n → length next ≡ page_bytes * n → ArePlaced n lists was disk
-    → ((p : ℕ) → p < n → Has (page_bytes * laid (image_block n s 0) p numbers (place n p lists slots)) page_bytes (page_in p next) disk)
+    → ((p : ℕ) → p < n → Has (page_bytes * laid (image_block n s 0) p numbers (place n p lists slots)) page_bytes
+    (page_in p next) disk)
     → EachReads reads was next disk
 
 -- While the gate of the lowest open slot is closed, each image reads as before, if each home page is the page that is
 -- read. Afterwards each page still stands where the slots put it.
 abbrev pub ReadsWhileClosed : Type 0
 ReadsWhileClosed = (n s : ℕ) (numbers : List ℕ) (lists : ℕ → List ℕ) (pages : List ℕ) (disk : Disk)
-    → s < slots → lists_any numbers ≡ true → Turning n s numbers lists disk → lists s ≡ numbers → ((j : ℕ) → j < s → lists j ≡ [])
+    → s < slots → lists_any numbers ≡ true → Turning n s numbers lists disk → lists s ≡ numbers
+    → ((j : ℕ) → j < s → lists j ≡ [])
     → length pages ≡ page_bytes * n → ArePlaced n lists pages disk → AreHome n pages disk → AllRead reads pages disk

@@ -10,17 +10,17 @@ pub record IsHeadOf (head : Head) (block : List ℕ) (size : ℕ) : Type 0 where
   pub pages : head.pages ≡ pages_in block
   pub gates : head.gates ≡ gates_in block
 
--- block 0 is valid and was read so, or it isn't valid
+-- block 0 is valid and has this head, or it isn't valid
 abbrev pub IsHeadIn : Option Head → List ℕ → ℕ → Type 0
 IsHeadIn None block size = is_valid block size ≡ false
 IsHeadIn (Some head) block size = IsHeadOf head block size
 
--- where the pages stand by the slots of these bytes
+-- the pages stand where the slots of these bytes put them
 pub record ArePlacesOf (n : ℕ) (places bytes : List ℕ) : Type 0 where
   pub listed : are_listed n bytes slots ≡ true
   pub placed : (p : ℕ) → p < n → slice_index places p ≡ place n p (slot_lists n bytes) slots
 
--- the directory of an open slot isn't valid, or the pages stand so
+-- the directory of an open slot isn't valid, or the pages stand at these places
 abbrev pub ArePlacesIn : ℕ → Option (List ℕ) → List ℕ → Type 0
 ArePlacesIn n None bytes = are_listed n bytes slots ≡ false
 ArePlacesIn n (Some places) bytes = ArePlacesOf n places bytes

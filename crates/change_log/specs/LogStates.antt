@@ -42,7 +42,7 @@ pub record Logged (n : ℕ) (lists : ℕ → List ℕ) (disk : Disk) : Type 0 wh
   pub head : IsHeaded n disk
   pub slot : (s : ℕ) → s < slots → SlotStands n s (lists s) disk
 
--- and each page where it is read
+-- block 0 and the slots stand, and each page where it is read
 pub record Stands (n : ℕ) (lists : ℕ → List ℕ) (pages : List ℕ) (disk : Disk) : Type 0 where
   pub logged : Logged n lists disk
   pub size : length pages ≡ page_bytes * n
@@ -57,7 +57,7 @@ abbrev pub lists_any : List ℕ → Bool
 lists_any [] = false
 lists_any (x ∷ numbers) = true
 
--- the same slots, but slot s lists these pages
+-- the lists of the slots, with this list in slot s
 abbrev pub with_list : ℕ → List ℕ → (ℕ → List ℕ) → ℕ → List ℕ
 with_list s numbers lists j = if j == s then numbers else lists j
 

@@ -38,7 +38,7 @@ abbrev pub laid : ℕ → ℕ → List ℕ → ℕ → ℕ
 laid b p [] under = under
 laid b p (x ∷ numbers) under = laid (b + 1) p numbers (if x == p then b else under)
 
--- each page of a table stands so
+-- each page of a new table stands where the images lay it over the old one
 abbrev pub AreLaid : ℕ → List ℕ → List ℕ → List ℕ → Type 0
 AreLaid b numbers old new = (p : ℕ) → slice_index new p ≡ laid b p numbers (slice_index old p)
 
@@ -55,7 +55,8 @@ slot_lists n bytes s = if is_open (gate_of s) bytes then numbers_in (block (dire
 -- each of the first slots whose gate is open begins with a directory
 abbrev pub are_listed : ℕ → List ℕ → ℕ → Bool
 are_listed n bytes zero = true
-are_listed n bytes (suc s) = are_listed n bytes s && (if is_open (gate_of s) bytes then is_directory n (block (directory_block n s) bytes) else true)
+are_listed n bytes (suc s) = are_listed n bytes s &&
+    (if is_open (gate_of s) bytes then is_directory n (block (directory_block n s) bytes) else true)
 
 -- page p of a copy of n pages
 abbrev pub page_read : ℕ → List ℕ → ℕ → List ℕ
@@ -69,7 +70,8 @@ gathered (suc k) page = gathered k page ++ page k
 -- VALID is open, the form is the log, the number of pages is in range, and the device is large enough for it
 abbrev pub is_valid : List ℕ → ℕ → Bool
 is_valid head size =
-    is_open 0 head && (slice_index head 1 == FORM_LOG) && nat_le pages_least (pages_in head) && nat_le (pages_in head) pages_most
+    is_open 0 head && (slice_index head 1 == FORM_LOG) && nat_le pages_least (pages_in head) && nat_le (pages_in head)
+    pages_most
     && nat_le (log_size (pages_in head)) size
 
 -- the bytes of the pages that a copy's bytes read as

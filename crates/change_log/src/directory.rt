@@ -85,7 +85,7 @@ pub fn read_directory(block: &[u8; PAGE_BYTES], pages: u16) -> Option<Listed>
     }
 }
 
-// Writes numbers one after another behind the level. The other bytes stay.
+// Writes numbers after the level, one after another. The other bytes stay.
 fn put_numbers(numbers: &[u16], into: &mut [u8])
     requires { 16 + 2 * length numbers.now ≤ length into.old }
     ensures { into.new ≡ with_numbers numbers.now into.old }
@@ -95,7 +95,7 @@ fn put_numbers(numbers: &[u16], into: &mut [u8])
     }
 }
 
-// Writes a directory. What is behind its numbers stays.
+// Writes a directory. What is after its numbers stays.
 fn put_directory(level: &[u8; 8], numbers: &[u16], into: &mut [u8])
     requires few { length numbers.now < 65536 }
     requires room { 16 + 2 * length numbers.now ≤ length into.old }

@@ -26,7 +26,7 @@ pub struct LogCopy {
     gates: [bool; SLOTS as usize],
     // The block in which each page stands.
     places: [u16; PLACES],
-    // The same once the slot that the last put wrote is open.
+    // The block in which each page stands once the slot that the last put wrote is open.
     next_places: [u16; PLACES],
 }
 
@@ -80,7 +80,8 @@ impl Copying for LogCopy {
 
     ghost holds = { λ c was next disk. Holds c.pages c.gates c.places c.next_places was next disk };
 
-    ghost stays_ready = { λ c old new goes ready. kept_stays c.pages (old.size c.dev) (new.size c.dev) c.gates c.places c.next_places (goes.size c.dev) ready };
+    ghost stays_ready = { λ c old new goes ready.
+        kept_stays c.pages (old.size c.dev) (new.size c.dev) c.gates c.places c.next_places (goes.size c.dev) ready };
 
     ghost ready_count = { λ c v ready. kept_count c.pages (v.size c.dev) c.gates c.places c.next_places ready };
 
@@ -92,13 +93,16 @@ impl Copying for LogCopy {
 
     ghost holds_rests = { λ c was next disk holds. holds.rests };
 
-    ghost rests_stays = { λ c pages old new stays rests. log_rests_stays old new stays c.pages c.gates c.places pages rests };
+    ghost rests_stays = { λ c pages old new stays rests.
+        log_rests_stays old new stays c.pages c.gates c.places pages rests };
 
-    ghost holds_stays = { λ c was next old new stays holds. log_holds_stays old new stays c.pages c.gates c.places c.next_places was next holds };
+    ghost holds_stays = { λ c was next old new stays holds.
+        log_holds_stays old new stays c.pages c.gates c.places c.next_places was next holds };
 
     ghost blank_reads = { λ size image differs. log_blank size image differs };
 
-    ghost holds_behind = { λ c was next disk holds. log_holds_behind c.pages c.gates c.places c.next_places was next disk holds };
+    ghost holds_behind = { λ c was next disk holds.
+        log_holds_behind c.pages c.gates c.places c.next_places was next disk holds };
 
     fn size_for(pages: u16) -> u64 {
         size_of_log(pages)

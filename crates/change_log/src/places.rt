@@ -19,8 +19,8 @@ pub fn home_places() -> [u16; PLACES]
     places
 }
 
-/// Lays images, which stand in the blocks from `first` on and are of these pages, over what stood there: each page that is
-/// listed stands in its image from now on, every other stays where it is.
+/// Lays images, which stand in the blocks from `first` on and are of these pages, over what stood there: each page that
+/// is listed stands in its image from now on, every other stays where it is.
 pub fn lay_images(places: &mut [u16; PLACES], first: u16, numbers: &[u16])
     requires inside { All (λ p. p < pages_most) numbers.now }
     requires few { first + length numbers.now < 65536 }

@@ -34,7 +34,8 @@ pages_in image = 256 * slice_index image 2 + slice_index image 3
 -- VALID is open, the form is that of areas, the number of pages is in range, and the device is large enough for it
 abbrev pub is_valid : List ℕ → ℕ → Bool
 is_valid block size =
-    is_open 0 block && (slice_index block 1 == FORM_AREAS) && nat_le pages_least (pages_in block) && nat_le (pages_in block) pages_most
+    is_open 0 block && (slice_index block 1 == FORM_AREAS) && nat_le pages_least (pages_in block) && nat_le
+    (pages_in block) pages_most
     && nat_le (areas_size (pages_in block)) size
 
 -- the open area of greater level, the first on a tie
@@ -48,7 +49,8 @@ chosen false false first second = None
 abbrev pub reads : List ℕ → Option (List ℕ)
 reads image =
     if is_valid image (length image)
-    then chosen (is_open (gate_of false) image) (is_open (gate_of true) image) (area (pages_in image) false image) (area (pages_in image) true image)
+    then chosen (is_open (gate_of false) image) (is_open (gate_of true) image) (area (pages_in image) false image)
+    (area (pages_in image) true image)
     else None
 
 -- block 0 from the form to the gates: the first area is open, the second closed

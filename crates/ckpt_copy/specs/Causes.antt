@@ -35,8 +35,8 @@ answer_found (Err NotValid) = Done
 answer_found (Err NoMemory) = Done
 
 -- A call of a member that acts on one device alone, with this answer: Failed is answered only where the device's faults
--- rose, and the device is lost then; Halted only where the member's stops rose; else no part is lost, no fault is counted and
--- nobody is stopped by it. It arms nothing.
+-- rose, and the device is lost then; Halted only where the member's stops rose; else no part is lost, no fault is
+-- counted and nobody is stopped by it. It arms nothing.
 pub record Caused (by : ℕ) (dev : Dev) (old new : View) (answer : Act) : Type 0 where
   pub goes : Goes old new
   pub failed : answer ≡ Failed → Rose (old.faults (DiskPart dev)) (new.faults (DiskPart dev))

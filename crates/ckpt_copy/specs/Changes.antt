@@ -7,7 +7,8 @@ use Rattle.spool_disk.specs.Acts.{DiffersIn}
 -- doesn't come back.
 pub record Spreads (at len : ℕ) (old new : Disk) : Type 0 where
   pub differs : DiffersIn at len old.bytes new.bytes
-  pub unsynced : (s : Stretch) → Apart (record { from = at; len = len }) s → Avoids old.unsynced s → Avoids new.unsynced s
+  pub unsynced : (s : Stretch) → Apart (record { from = at; len = len }) s → Avoids old.unsynced s
+      → Avoids new.unsynced s
   pub there : new.lost ≡ false → old.lost ≡ false
 
 -- No byte differs, nothing more is unsynced, and a lost device doesn't come back: so each image is one of before.

@@ -20,6 +20,8 @@ pub record IsNone (reads : List ℕ → Option (List ℕ)) (disk : Disk) : Type 
 abbrev pub IsOfOld : Disk → List ℕ → Type 0
 IsOfOld was image = (before : List ℕ) × IsImage was before × DiffersIn 0 1 before image
 
--- while a copy is formed: each image reads as none or as the new pages, or is one of those before but for the VALID gate
+-- while a copy is formed: each image reads as none or as the new pages, or is one of those before but for the VALID
+-- gate
 abbrev pub EachForms : (List ℕ → Option (List ℕ)) → Disk → List ℕ → Disk → Type 0
-EachForms reads was pages disk = LeavesOnly disk (λ image. (reads image ≡ None) ⊎ (reads image ≡ Some pages) ⊎ IsOfOld was image)
+EachForms reads was pages disk = LeavesOnly disk
+    (λ image. (reads image ≡ None) ⊎ (reads image ≡ Some pages) ⊎ IsOfOld was image)

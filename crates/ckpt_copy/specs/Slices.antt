@@ -10,7 +10,8 @@ abbrev pub stretch : ℕ → ℕ → Stretch
 stretch at len = record { from = at; len = len }
 
 -- a stretch before the change
-slice_before : (at len w : ℕ) (old new : List ℕ) → at + len ≤ w → take w new ≡ take w old → slice at len new ≡ slice at len old
+slice_before : (at len w : ℕ) (old new : List ℕ) → at + len ≤ w → take w new ≡ take w old
+    → slice at len new ≡ slice at len old
 slice_before at len w old new le same =
     sym (drop-take at len new)
     ∙ ap (drop at) (sym (take-take (at + len) w new le) ∙ ap (take (at + len)) same ∙ take-take (at + len) w old le)
@@ -20,11 +21,13 @@ slice_before at len w old new le same =
 pub drop_behind : (at w : ℕ) (l : List ℕ) → w ≤ at → drop at l ≡ drop (at - w) (drop w l)
 drop_behind at w l le = let e : at ≡ w + (at - w) = omega arith in ap (λ n. drop n l) e ∙ sym (drop-drop (at - w) w l)
 
-slice_behind : (at len w : ℕ) (old new : List ℕ) → w ≤ at → drop w new ≡ drop w old → slice at len new ≡ slice at len old
+slice_behind : (at len w : ℕ) (old new : List ℕ) → w ≤ at → drop w new ≡ drop w old
+    → slice at len new ≡ slice at len old
 slice_behind at len w old new le same =
     ap (take len) (drop_behind at w new le ∙ ap (drop (at - w)) same ∙ sym (drop_behind at w old le))
 
-pub slice_apart : (at len w k : ℕ) (old new : List ℕ) → DiffersIn w k old new → Apart (stretch w k) (stretch at len) → slice at len new ≡ slice at len old
+pub slice_apart : (at len w k : ℕ) (old new : List ℕ) → DiffersIn w k old new → Apart (stretch w k) (stretch at len)
+    → slice at len new ≡ slice at len old
 slice_apart at len w k old new differs (inl behind) = slice_behind at len (w + k) old new behind differs.after
 slice_apart at len w k old new differs (inr before) = slice_before at len w old new before differs.before
 
@@ -38,7 +41,8 @@ slice_in a n i k l le =
     ∙ ap (take k) (drop-drop i a l))
 
 -- what is there and synced stays where it isn't written
-pub has_spreads : (at len w k : ℕ) (bytes : List ℕ) (old new : Disk) → Has at len bytes old → Spreads w k old new → Apart (stretch w k) (stretch at len) → Has at len bytes new
+pub has_spreads : (at len w k : ℕ) (bytes : List ℕ) (old new : Disk) → Has at len bytes old → Spreads w k old new
+    → Apart (stretch w k) (stretch at len) → Has at len bytes new
 has_spreads at len w k bytes old new has spreads apart = record {
   there = slice_apart at len w k old.bytes new.bytes spreads.differs apart ∙ has.there;
   sure = spreads.unsynced (stretch at len) apart has.sure;
@@ -46,10 +50,12 @@ has_spreads at len w k bytes old new has spreads apart = record {
 
 -- what was put is there and synced
 pub has_put : (at len : ℕ) (bytes : List ℕ) (new : Disk) → IsPut at len bytes new → Has at len bytes new
-has_put at len bytes new put = record { there = put.there; sure = subst (λ u. Avoids u (stretch at len)) (sym put.synced) tt }
+has_put at len bytes new put = record
+    { there = put.there; sure = subst (λ u. Avoids u (stretch at len)) (sym put.synced) tt }
 
 -- a byte of a stretch
-pub byte_in : (at len i : ℕ) (bytes l : List ℕ) → slice at len l ≡ bytes → i < len → get_or l (at + i) 0 ≡ get_or bytes i 0
+pub byte_in : (at len i : ℕ) (bytes l : List ℕ) → slice at len l ≡ bytes → i < len
+    → get_or l (at + i) 0 ≡ get_or bytes i 0
 byte_in at len i bytes l is lt =
     sym (get_or-drop at l i 0) ∙ sym (get_or-take len (drop at l) i 0 lt) ∙ ap (λ (m : List ℕ). get_or m i 0) is
 
@@ -64,5 +70,6 @@ fits_image disk image is = record { size = is.size; synced = is.synced }
 pub fits_own : (disk : Disk) → Fits disk disk.bytes
 fits_own disk = record { size = refl; synced = λ s avoids. refl }
 
-pub has_image : (at len : ℕ) (bytes : List ℕ) (disk : Disk) (image : List ℕ) → Has at len bytes disk → Fits disk image → slice at len image ≡ bytes
+pub has_image : (at len : ℕ) (bytes : List ℕ) (disk : Disk) (image : List ℕ) → Has at len bytes disk → Fits disk image
+    → slice at len image ≡ bytes
 has_image at len bytes disk image has is = is.synced (stretch at len) has.sure ∙ has.there

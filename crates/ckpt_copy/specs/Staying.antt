@@ -20,7 +20,8 @@ no_more_image old new image stays is = record {
 
 module _ (old new : Disk) (stays : NoMore old new) where
   has_stays : (at len : ℕ) (bytes : List ℕ) → Has at len bytes old → Has at len bytes new
-  has_stays at len bytes has = record { there = ap (slice at len) stays.bytes ∙ has.there; sure = stays.unsynced (stretch at len) has.sure }
+  has_stays at len bytes has = record
+      { there = ap (slice at len) stays.bytes ∙ has.there; sure = stays.unsynced (stretch at len) has.sure }
 
   stands_stays : (n : ℕ) (second : Bool) (pages : List ℕ) → Stands n second pages old → Stands n second pages new
   stands_stays n second pages stands = record {
@@ -38,10 +39,16 @@ module _ (old new : Disk) (stays : NoMore old new) where
   shut_stays : (n : ℕ) (second : Bool) (pages : List ℕ) → Shut n second pages old → Shut n second pages new
   shut_stays n second pages shut = record {
     stands = stands_stays n second pages shut.stands;
-    shut = record { byte = shut.shut.byte; closed = shut.shut.closed; has = has_stays (gate_of (not second)) 1 (shut.shut.byte ∷ []) shut.shut.has };
+    shut = record {
+      byte = shut.shut.byte;
+      closed = shut.shut.closed;
+      has = has_stays (gate_of (not second)) 1
+          (shut.shut.byte ∷ []) shut.shut.has;
+    };
   }
 
-  pub area_rests_stays : (n : ℕ) (second stale : Bool) (pages : List ℕ) → Rests n second stale pages old → Rests n second stale pages new
+  pub area_rests_stays : (n : ℕ) (second stale : Bool) (pages : List ℕ) → Rests n second stale pages old
+      → Rests n second stale pages new
   area_rests_stays n second false pages rests = shut_stays n second pages rests
   area_rests_stays n second true pages rests = record {
     stands = stands_stays n second pages rests.stands;
@@ -50,7 +57,8 @@ module _ (old new : Disk) (stays : NoMore old new) where
     loses = rests.loses;
   }
 
-  pub area_holds_stays : (n : ℕ) (second stale : Bool) (pages next : List ℕ) → Holds n second stale pages next old → Holds n second stale pages next new
+  pub area_holds_stays : (n : ℕ) (second stale : Bool) (pages next : List ℕ) → Holds n second stale pages next old
+      → Holds n second stale pages next new
   area_holds_stays n second stale pages next holds = record {
     fresh = holds.fresh;
     shut = shut_stays n second pages holds.shut;
@@ -59,5 +67,7 @@ module _ (old new : Disk) (stays : NoMore old new) where
   }
 
 -- a copy whose next pages wait is at rest too
-pub area_holds_rests : (n : ℕ) (second stale : Bool) (pages next : List ℕ) (disk : Disk) → Holds n second stale pages next disk → Rests n second stale pages disk
-area_holds_rests n second stale pages next disk holds = subst (λ b. Rests n second b pages disk) (sym holds.fresh) holds.shut
+pub area_holds_rests : (n : ℕ) (second stale : Bool) (pages next : List ℕ) (disk : Disk)
+    → Holds n second stale pages next disk → Rests n second stale pages disk
+area_holds_rests n second stale pages next disk holds = subst (λ b. Rests n second b pages disk) (sym holds.fresh)
+    holds.shut

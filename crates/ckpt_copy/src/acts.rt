@@ -1,7 +1,8 @@
 //! Acts on the device of a copy, answered as a `Result`.
 //!
-//! Places and lengths are in bytes. In each call Failed comes only where the device's faults rose in it, and the device is
-//! lost then; Halted only where the stops of `by` rose. No call changes another device, the console, a printer or a wire.
+//! Places and lengths are in bytes. In each call Failed comes only where the device's faults rose in it, and the device
+//! is lost then; Halted only where the stops of `by` rose. No call changes another device, the console, a printer or a
+//! wire.
 ghost use Rattle.std.specs.Prelude.{◌≡◌, ◌⊎◌, ◌+◌, ◌*◌, ◌≤◌, [], length, OnOk, IfOk, false};
 ghost use Rattle.mas_types.specs.Limits.{page_bytes, pages_most};
 ghost use Rattle.spool_disk.specs.declared.plant.Part.TheVariants.{Disk as DiskPart};
@@ -41,8 +42,10 @@ pub fn write_act<P: Plant>(
     ensures out { P.tells → IsOut dev (P.view plant.new) (answer_of result) }
     ensures there { OnOk result ((P.view plant.new).lost (DiskPart dev) ≡ false) }
     ensures one { (P.view plant.new).now ≡ next (P.view plant.old).now }
-    ensures during { P.tells → Meanwhile dev (Spreads at (length bytes.now) (disk_now (P.view plant.old) dev)) (P.view plant.old) (P.view plant.new) }
-    ensures put { OnOk result (P.tells → slice at (length bytes.now) (disk_now (P.view plant.new) dev).bytes ≡ bytes.now) }
+    ensures during { P.tells → Meanwhile dev (Spreads at (length bytes.now) (disk_now (P.view plant.old) dev))
+        (P.view plant.old) (P.view plant.new) }
+    ensures put { OnOk result (P.tells
+        → slice at (length bytes.now) (disk_now (P.view plant.new) dev).bytes ≡ bytes.now) }
 {
     answered(plant.write(by, dev, at, bytes))
 }
@@ -53,7 +56,8 @@ pub fn sync_act<P: Plant>(plant: &mut P, by: MemberId, dev: Dev) -> Result<(), C
     ensures out { P.tells → IsOut dev (P.view plant.new) (answer_of result) }
     ensures there { OnOk result ((P.view plant.new).lost (DiskPart dev) ≡ false) }
     ensures one { (P.view plant.new).now ≡ next (P.view plant.old).now }
-    ensures during { P.tells → Meanwhile dev (Spreads 0 0 (disk_now (P.view plant.old) dev)) (P.view plant.old) (P.view plant.new) }
+    ensures during { P.tells → Meanwhile dev (Spreads 0 0 (disk_now (P.view plant.old) dev)) (P.view plant.old)
+        (P.view plant.new) }
     ensures synced { OnOk result (P.tells → ((disk_now (P.view plant.new) dev).unsynced ≡ [])
         × ((disk_now (P.view plant.new) dev).bytes ≡ (disk_now (P.view plant.old) dev).bytes)) }
 {
@@ -72,7 +76,8 @@ pub fn write_synced<P: Plant>(
     ensures cause { Caused by.0 dev (P.view plant.old) (P.view plant.new) (answer_of result) }
     ensures out { P.tells → IsOut dev (P.view plant.new) (answer_of result) }
     ensures there { OnOk result ((P.view plant.new).lost (DiskPart dev) ≡ false) }
-    ensures during { P.tells → Meanwhile dev (Spreads at (length bytes.now) (disk_now (P.view plant.old) dev)) (P.view plant.old) (P.view plant.new) }
+    ensures during { P.tells → Meanwhile dev (Spreads at (length bytes.now) (disk_now (P.view plant.old) dev))
+        (P.view plant.old) (P.view plant.new) }
     ensures put { OnOk result (P.tells → IsPut at (length bytes.now) bytes.now (disk_now (P.view plant.new) dev)) }
 {
     write_act(plant, by, dev, at, bytes)?;
@@ -100,8 +105,11 @@ fn write_each<P: Plant>(
     requires size { start + page_bytes * length pages.now ≤ (P.view plant.old).size dev }
     ensures cause { Caused by.0 dev (P.view plant.old) (P.view plant.new) (answer_of result) }
     ensures out { P.tells → IsOut dev (P.view plant.new) (answer_of result) }
-    ensures during { P.tells → Meanwhile dev (Spreads start (page_bytes * length pages.now) (disk_now (P.view plant.old) dev)) (P.view plant.old) (P.view plant.new) }
-    ensures put { OnOk result (P.tells → slice start (page_bytes * length pages.now) (disk_now (P.view plant.new) dev).bytes ≡ bytes_of pages.now) }
+    ensures during { P.tells → Meanwhile dev
+        (Spreads start (page_bytes * length pages.now) (disk_now (P.view plant.old) dev)) (P.view plant.old)
+        (P.view plant.new) }
+    ensures put { OnOk result (P.tells
+        → slice start (page_bytes * length pages.now) (disk_now (P.view plant.new) dev).bytes ≡ bytes_of pages.now) }
 {
     let mut at = start;
     for page in pages {
@@ -125,8 +133,11 @@ pub fn write_pages<P: Plant>(
     ensures cause { Caused by.0 dev (P.view plant.old) (P.view plant.new) (answer_of result) }
     ensures out { P.tells → IsOut dev (P.view plant.new) (answer_of result) }
     ensures there { OnOk result ((P.view plant.new).lost (DiskPart dev) ≡ false) }
-    ensures during { P.tells → Meanwhile dev (Spreads start (page_bytes * length pages.now) (disk_now (P.view plant.old) dev)) (P.view plant.old) (P.view plant.new) }
-    ensures put { OnOk result (P.tells → IsPut start (page_bytes * length pages.now) (bytes_of pages.now) (disk_now (P.view plant.new) dev)) }
+    ensures during { P.tells → Meanwhile dev
+        (Spreads start (page_bytes * length pages.now) (disk_now (P.view plant.old) dev)) (P.view plant.old)
+        (P.view plant.new) }
+    ensures put { OnOk result (P.tells
+        → IsPut start (page_bytes * length pages.now) (bytes_of pages.now) (disk_now (P.view plant.new) dev)) }
 {
     write_each(plant, by, dev, start, pages)?;
     sync_act(plant, by, dev)
@@ -145,8 +156,10 @@ pub fn read_act<P: Plant>(
     ensures out { P.tells → IsOut dev (P.view plant.new) (answer_of result) }
     ensures there { OnOk result ((P.view plant.new).lost (DiskPart dev) ≡ false) }
     ensures one { (P.view plant.new).now ≡ next (P.view plant.old).now }
-    ensures during { P.tells → Meanwhile dev (NoMore (disk_now (P.view plant.old) dev)) (P.view plant.old) (P.view plant.new) }
-    ensures read { OnOk result (P.tells → IsRead at (length into.old) into.new (disk_now (P.view plant.old) dev) (disk_now (P.view plant.new) dev)) }
+    ensures during { P.tells → Meanwhile dev (NoMore (disk_now (P.view plant.old) dev)) (P.view plant.old)
+        (P.view plant.new) }
+    ensures read { OnOk result (P.tells
+        → IsRead at (length into.old) into.new (disk_now (P.view plant.old) dev) (disk_now (P.view plant.new) dev)) }
 {
     answered(plant.read(by, dev, at, into))
 }
@@ -158,9 +171,11 @@ pub fn read_block<P: Plant>(plant: &mut P, by: MemberId, dev: Dev, at: u64) -> R
     ensures cause { Caused by.0 dev (P.view plant.old) (P.view plant.new) (answer_of result) }
     ensures out { P.tells → IsOut dev (P.view plant.new) (answer_of result) }
     ensures there { OnOk result ((P.view plant.new).lost (DiskPart dev) ≡ false) }
-    ensures during { P.tells → Meanwhile dev (NoMore (disk_now (P.view plant.old) dev)) (P.view plant.old) (P.view plant.new) }
+    ensures during { P.tells → Meanwhile dev (NoMore (disk_now (P.view plant.old) dev)) (P.view plant.old)
+        (P.view plant.new) }
     ensures same { OnOk result (P.tells → disk_now (P.view plant.new) dev ≡ disk_now (P.view plant.old) dev) }
-    ensures page { IfOk result (λ page. P.tells → page.0 ≡ slice at page_bytes (disk_now (P.view plant.old) dev).bytes) }
+    ensures page { IfOk result (λ page. P.tells
+        → page.0 ≡ slice at page_bytes (disk_now (P.view plant.old) dev).bytes) }
 {
     let mut page = Page([0; PAGE_BYTES]);
     read_act(plant, by, dev, at, &mut page.0)?;

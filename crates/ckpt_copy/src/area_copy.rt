@@ -67,7 +67,8 @@ fn shut<P: Plant>(
     ensures out { P.tells → IsOut dev (P.view plant.new) (answer_of result) }
     ensures during { P.tells → (was : List ℕ) → Rests pages second stale was (disk_now (P.view plant.old) dev)
         → Meanwhile dev (AllRead area_reads was) (P.view plant.old) (P.view plant.new) }
-    ensures shut { OnOk result (P.tells → (was : List ℕ) → Rests pages second stale was (disk_now (P.view plant.old) dev)
+    ensures shut { OnOk result (P.tells → (was : List ℕ)
+        → Rests pages second stale was (disk_now (P.view plant.old) dev)
         → Shut pages second was (disk_now (P.view plant.new) dev)) }
 {
     if stale {
@@ -87,8 +88,11 @@ fn write_formed<P: Plant>(
     requires size { areas_size (length pages.now) ≤ (P.view plant.old).size dev }
     ensures cause { Caused by.0 dev (P.view plant.old) (P.view plant.new) (answer_of result) }
     ensures out { P.tells → IsOut dev (P.view plant.new) (answer_of result) }
-    ensures during { P.tells → Meanwhile dev (Spreads 1 (page_bytes - 1 + page_bytes * length pages.now) (disk_now (P.view plant.old) dev)) (P.view plant.old) (P.view plant.new) }
-    ensures written { OnOk result (P.tells → pages_least ≤ length pages.now → Formed (length pages.now) (bytes_of pages.now) (disk_now (P.view plant.new) dev)) }
+    ensures during { P.tells → Meanwhile dev
+        (Spreads 1 (page_bytes - 1 + page_bytes * length pages.now) (disk_now (P.view plant.old) dev))
+        (P.view plant.old) (P.view plant.new) }
+    ensures written { OnOk result (P.tells → pages_least ≤ length pages.now
+        → Formed (length pages.now) (bytes_of pages.now) (disk_now (P.view plant.new) dev)) }
 {
     write_act(plant, by, dev, HEAD_AT, &areas_head(pages.len() as u16))?;
     write_pages(plant, by, dev, BLOCK, pages)?;

@@ -120,8 +120,8 @@ pub trait Copying {
     /// Makes a copy of these pages of whatever is on the device: closes VALID, writes block 0 and the pages, and opens
     /// VALID, each with a sync. The copy then has as many pages.
     ///
-    /// At each moment of the call an image reads as none or as these pages, or it is, but for VALID, an image of before the
-    /// call. After Ok each image reads as these pages.
+    /// At each moment of the call an image reads as none or as these pages, or it is, but for VALID, an image of before
+    /// the call. After Ok each image reads as these pages.
     fn form<P: Plant>(&mut self, plant: &mut P, by: MemberId, pages: &[Page]) -> Result<(), CopyNo>
         requires enough { pages_least ≤ length pages.now }
         requires few { length pages.now ≤ pages_most }
@@ -134,11 +134,14 @@ pub trait Copying {
         ensures cause { Caused by.0 (dev self.old) (P.view plant.old) (P.view plant.new) (answer_of result) }
         ensures out { P.tells → IsOut (dev self.old) (P.view plant.new) (answer_of result) }
         ensures there { OnOk result ((P.view plant.new).lost (DiskPart (dev self.old)) ≡ false) }
-        ensures during { P.tells → Meanwhile (dev self.old) (EachForms reads (disk_now (P.view plant.old) (dev self.old)) (bytes_of pages.now)) (P.view plant.old) (P.view plant.new) }
-        ensures formed { OnOk result (P.tells → rests self.new (bytes_of pages.now) (disk_now (P.view plant.new) (dev self.old))) };
+        ensures during { P.tells → Meanwhile (dev self.old)
+            (EachForms reads (disk_now (P.view plant.old) (dev self.old)) (bytes_of pages.now)) (P.view plant.old)
+            (P.view plant.new) }
+        ensures formed { OnOk result (P.tells
+            → rests self.new (bytes_of pages.now) (disk_now (P.view plant.new) (dev self.old))) };
 
-    /// Finds what the copy reads as: syncs, so that what a halted call left is settled, and then reads. The copy then has
-    /// that many pages.
+    /// Finds what the copy reads as: syncs, so that what a halted call left is settled, and then reads. The copy then
+    /// has that many pages.
     ///
     /// NotValid comes exactly where the copy reads as none. Each image at each moment of the call is one of before it.
     fn find<P: Plant>(
@@ -155,12 +158,17 @@ pub trait Copying {
         ensures cause { Caused by.0 (dev self.old) (P.view plant.old) (P.view plant.new) (answer_found result) }
         ensures out { P.tells → IsOut (dev self.old) (P.view plant.new) (answer_found result) }
         ensures there { OnOk result ((P.view plant.new).lost (DiskPart (dev self.old)) ≡ false) }
-        ensures there_none { IsErrOf result FindNo.NotValid → (P.view plant.new).lost (DiskPart (dev self.old)) ≡ false }
-        ensures during { P.tells → Meanwhile (dev self.old) (NoMore (disk_now (P.view plant.old) (dev self.old))) (P.view plant.old) (P.view plant.new) }
-        ensures found { IfOk result (λ pages. P.tells → rests self.new (bytes_of pages) (disk_now (P.view plant.new) (dev self.old))) }
+        ensures there_none { IsErrOf result FindNo.NotValid
+            → (P.view plant.new).lost (DiskPart (dev self.old)) ≡ false }
+        ensures during { P.tells → Meanwhile (dev self.old) (NoMore (disk_now (P.view plant.old) (dev self.old)))
+            (P.view plant.old) (P.view plant.new) }
+        ensures found { IfOk result (λ pages. P.tells
+            → rests self.new (bytes_of pages) (disk_now (P.view plant.new) (dev self.old))) }
         ensures settled { OnOk result (P.tells → (disk_now (P.view plant.new) (dev self.old)).unsynced ≡ []) }
-        ensures room_found { OnOk result (P.tells → room self.new ≡ room_in (disk_now (P.view plant.new) (dev self.old)).bytes) }
-        ensures not_valid { IsErrOf result FindNo.NotValid → P.tells → IsNone reads (disk_now (P.view plant.new) (dev self.old)) };
+        ensures room_found { OnOk result
+            (P.tells → room self.new ≡ room_in (disk_now (P.view plant.new) (dev self.old)).bytes) }
+        ensures not_valid { IsErrOf result FindNo.NotValid → P.tells
+            → IsNone reads (disk_now (P.view plant.new) (dev self.old)) };
 
     /// Reads one page of the copy, by one read.
     fn read_page<P: Plant>(
@@ -176,14 +184,15 @@ pub trait Copying {
         ensures out { P.tells → IsOut (dev self.now) (P.view plant.new) (answer_of result) }
         ensures there { OnOk result ((P.view plant.new).lost (DiskPart (dev self.now)) ≡ false) }
         ensures one { (P.view plant.new).now ≡ next (P.view plant.old).now }
-        ensures during { P.tells → Meanwhile (dev self.now) (NoMore (disk_now (P.view plant.old) (dev self.now))) (P.view plant.old) (P.view plant.new) }
+        ensures during { P.tells → Meanwhile (dev self.now) (NoMore (disk_now (P.view plant.old) (dev self.now)))
+            (P.view plant.old) (P.view plant.new) }
         ensures err { OnErr result (into.new ≡ into.old) }
-        ensures read { OnOk result (P.tells → (was : List ℕ) → rests self.now was (disk_now (P.view plant.old) (dev self.now))
-            → into.new.0 ≡ page_in page was) };
+        ensures read { OnOk result (P.tells → (was : List ℕ)
+            → rests self.now was (disk_now (P.view plant.old) (dev self.now)) → into.new.0 ≡ page_in page was) };
 
-    /// Writes the next pages behind a closed gate, and syncs them. `changed` are the numbers of the pages that differ from
-    /// what the copy reads, ascending from 0; a page that doesn't differ may be among them. The level in page 0 has to be
-    /// above the one that the copy reads.
+    /// Writes the next pages behind a closed gate, and syncs them. `changed` are the numbers of the pages that differ
+    /// from what the copy reads, ascending from 0; a page that doesn't differ may be among them. The level in page 0
+    /// has to be above the one that the copy reads.
     ///
     /// At each moment of the call each image reads as before it.
     fn put<P: Plant>(
@@ -207,13 +216,15 @@ pub trait Copying {
         ensures there { OnOk result ((P.view plant.new).lost (DiskPart (dev self.old)) ≡ false) }
         ensures during { P.tells → (was : List ℕ) → rests self.old was (disk_now (P.view plant.old) (dev self.old))
             → Meanwhile (dev self.old) (AllRead reads was) (P.view plant.old) (P.view plant.new) }
-        ensures held { OnOk result (P.tells → (was : List ℕ) → rests self.old was (disk_now (P.view plant.old) (dev self.old))
-            → level was < level (bytes_of pages.now) → Covers (count self.old) changed.now was (bytes_of pages.now)
+        ensures held { OnOk result (P.tells → (was : List ℕ)
+            → rests self.old was (disk_now (P.view plant.old) (dev self.old)) → level was < level (bytes_of pages.now)
+            → Covers (count self.old) changed.now was (bytes_of pages.now)
             → holds self.new was (bytes_of pages.now) (disk_now (P.view plant.new) (dev self.old))) }
-        ensures written { OnOk result (P.tells → written self.new changed.now (bytes_of pages.now) (disk_now (P.view plant.new) (dev self.old))) };
+        ensures written { OnOk result (P.tells
+            → written self.new changed.now (bytes_of pages.now) (disk_now (P.view plant.new) (dev self.old))) };
 
-    /// Opens the gate before the pages that the last `put` wrote, and syncs it. Without such a put nothing is said of what
-    /// the copy reads afterwards.
+    /// Opens the gate before the pages that the last `put` wrote, and syncs it. Without such a put nothing is said of
+    /// what the copy reads afterwards.
     ///
     /// At each moment of the call each image reads as the old or the new pages. After Ok each reads as the new ones.
     fn open_gate<P: Plant>(&mut self, plant: &mut P, by: MemberId) -> Result<(), CopyNo>
@@ -227,9 +238,11 @@ pub trait Copying {
         ensures cause { Caused by.0 (dev self.old) (P.view plant.old) (P.view plant.new) (answer_of result) }
         ensures out { P.tells → IsOut (dev self.old) (P.view plant.new) (answer_of result) }
         ensures there { OnOk result ((P.view plant.new).lost (DiskPart (dev self.old)) ≡ false) }
-        ensures during { P.tells → (was next : List ℕ) → holds self.old was next (disk_now (P.view plant.old) (dev self.old))
+        ensures during { P.tells → (was next : List ℕ)
+            → holds self.old was next (disk_now (P.view plant.old) (dev self.old))
             → Meanwhile (dev self.old) (EachReads reads was next) (P.view plant.old) (P.view plant.new) }
-        ensures opened { OnOk result (P.tells → (was next : List ℕ) → holds self.old was next (disk_now (P.view plant.old) (dev self.old))
+        ensures opened { OnOk result (P.tells → (was next : List ℕ)
+            → holds self.old was next (disk_now (P.view plant.old) (dev self.old))
             → rests self.new next (disk_now (P.view plant.new) (dev self.old))) };
 
     /// Makes room for puts again. The pages have to be those that the copy reads, and no put may wait.
@@ -252,7 +265,8 @@ pub trait Copying {
         ensures out { P.tells → IsOut (dev self.old) (P.view plant.new) (answer_of result) }
         ensures during { P.tells → rests self.old (bytes_of pages.now) (disk_now (P.view plant.old) (dev self.old))
             → Meanwhile (dev self.old) (AllRead reads (bytes_of pages.now)) (P.view plant.old) (P.view plant.new) }
-        ensures settled { OnOk result (P.tells → rests self.old (bytes_of pages.now) (disk_now (P.view plant.old) (dev self.old))
+        ensures settled { OnOk result (P.tells
+            → rests self.old (bytes_of pages.now) (disk_now (P.view plant.old) (dev self.old))
             → rests self.new (bytes_of pages.now) (disk_now (P.view plant.new) (dev self.old))) };
 
     /// Any acts leave the number of pages and the size of the device as they are.

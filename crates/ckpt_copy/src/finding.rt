@@ -61,11 +61,14 @@ pub(crate) fn read_head<P: Plant>(
 ) -> Result<Option<Head>, CopyNo>
     ensures cause { Caused by.0 dev (P.view plant.old) (P.view plant.new) (answer_of result) }
     ensures out { P.tells → IsOut dev (P.view plant.new) (answer_of result) }
-    ensures there { (P.view plant.old).lost (DiskPart dev) ≡ false → OnOk result ((P.view plant.new).lost (DiskPart dev) ≡ false) }
-    ensures during { P.tells → Meanwhile dev (NoMore (disk_now (P.view plant.old) dev)) (P.view plant.old) (P.view plant.new) }
+    ensures there { (P.view plant.old).lost (DiskPart dev) ≡ false
+        → OnOk result ((P.view plant.new).lost (DiskPart dev) ≡ false) }
+    ensures during { P.tells → Meanwhile dev (NoMore (disk_now (P.view plant.old) dev)) (P.view plant.old)
+        (P.view plant.new) }
     ensures same { OnOk result (P.tells → disk_now (P.view plant.new) dev ≡ disk_now (P.view plant.old) dev) }
     ensures ready { IfOk result (λ found. IfSome found (λ head. IsReady head.pages ((P.view plant.old).size dev))) }
-    ensures head { IfOk result (λ found. P.tells → IsHeadIn found (disk_now (P.view plant.old) dev).bytes ((P.view plant.old).size dev)) }
+    ensures head { IfOk result (λ found. P.tells
+        → IsHeadIn found (disk_now (P.view plant.old) dev).bytes ((P.view plant.old).size dev)) }
 {
     let size = plant.size(dev);
     if size < size_of_areas(PAGES_LEAST) {
@@ -83,7 +86,8 @@ fn read_level<P: Plant>(plant: &mut P, by: MemberId, dev: Dev, start: u64) -> Re
     ensures cause { Caused by.0 dev (P.view plant.old) (P.view plant.new) (answer_of result) }
     ensures out { P.tells → IsOut dev (P.view plant.new) (answer_of result) }
     ensures there { OnOk result ((P.view plant.new).lost (DiskPart dev) ≡ false) }
-    ensures during { P.tells → Meanwhile dev (NoMore (disk_now (P.view plant.old) dev)) (P.view plant.old) (P.view plant.new) }
+    ensures during { P.tells → Meanwhile dev (NoMore (disk_now (P.view plant.old) dev)) (P.view plant.old)
+        (P.view plant.new) }
     ensures same { OnOk result (P.tells → disk_now (P.view plant.new) dev ≡ disk_now (P.view plant.old) dev) }
     ensures level { IfOk result (λ level. P.tells → level ≡ level_from start (disk_now (P.view plant.old) dev).bytes) }
 {
@@ -102,10 +106,13 @@ pub(crate) fn choose_area<P: Plant>(
     requires ready { IsReady head.now.pages ((P.view plant.old).size dev) }
     ensures cause { Caused by.0 dev (P.view plant.old) (P.view plant.new) (answer_of result) }
     ensures out { P.tells → IsOut dev (P.view plant.new) (answer_of result) }
-    ensures there { (P.view plant.old).lost (DiskPart dev) ≡ false → OnOk result ((P.view plant.new).lost (DiskPart dev) ≡ false) }
-    ensures during { P.tells → Meanwhile dev (NoMore (disk_now (P.view plant.old) dev)) (P.view plant.old) (P.view plant.new) }
+    ensures there { (P.view plant.old).lost (DiskPart dev) ≡ false
+        → OnOk result ((P.view plant.new).lost (DiskPart dev) ≡ false) }
+    ensures during { P.tells → Meanwhile dev (NoMore (disk_now (P.view plant.old) dev)) (P.view plant.old)
+        (P.view plant.new) }
     ensures same { OnOk result (P.tells → disk_now (P.view plant.new) dev ≡ disk_now (P.view plant.old) dev) }
-    ensures chosen { IfOk result (λ area. P.tells → area ≡ area_chosen head.now.pages head.now.first head.now.second (disk_now (P.view plant.old) dev).bytes) }
+    ensures chosen { IfOk result (λ area. P.tells
+        → area ≡ area_chosen head.now.pages head.now.first head.now.second (disk_now (P.view plant.old) dev).bytes) }
 {
     match (head.first, head.second) {
         (true, true) => {
@@ -134,11 +141,14 @@ pub(crate) fn read_pages<P: Plant>(
     ensures cause { Caused by.0 dev (P.view plant.old) (P.view plant.new) (answer_found result) }
     ensures out { P.tells → IsOut dev (P.view plant.new) (answer_found result) }
     ensures valid { IsErrOf result FindNo.NotValid → ⊥ }
-    ensures there { (P.view plant.old).lost (DiskPart dev) ≡ false → OnOk result ((P.view plant.new).lost (DiskPart dev) ≡ false) }
-    ensures during { P.tells → Meanwhile dev (NoMore (disk_now (P.view plant.old) dev)) (P.view plant.old) (P.view plant.new) }
+    ensures there { (P.view plant.old).lost (DiskPart dev) ≡ false
+        → OnOk result ((P.view plant.new).lost (DiskPart dev) ≡ false) }
+    ensures during { P.tells → Meanwhile dev (NoMore (disk_now (P.view plant.old) dev)) (P.view plant.old)
+        (P.view plant.new) }
     ensures same { OnOk result (P.tells → disk_now (P.view plant.new) dev ≡ disk_now (P.view plant.old) dev) }
     ensures count { IfOk result (λ pages. length pages ≡ count) }
-    ensures pages { IfOk result (λ pages. P.tells → bytes_of pages ≡ slice start (page_bytes * count) (disk_now (P.view plant.old) dev).bytes) }
+    ensures pages { IfOk result (λ pages. P.tells
+        → bytes_of pages ≡ slice start (page_bytes * count) (disk_now (P.view plant.old) dev).bytes) }
 {
     let mut pages = List::new(alloc);
     for place in 0..count {

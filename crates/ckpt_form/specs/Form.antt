@@ -27,13 +27,15 @@ form_count c = c.pages
 abbrev pub form_rests : LogCopy → List ℕ → Disk → Type 0
 form_rests c was disk = Rests c.pages c.gates c.places was disk
 
--- and with the next ones behind a closed gate
+-- a copy that holds these pages, and the next pages behind a closed gate
 abbrev pub form_holds : LogCopy → List ℕ → List ℕ → Disk → Type 0
 form_holds c was next disk = Holds c.pages c.gates c.places c.next_places was next disk
 
 -- at rest the bytes of the device, and of each image, read as the pages
-pub form_rests_now : (c : LogCopy) (pages : List ℕ) (disk : Disk) → form_rests c pages disk → form_reads disk.bytes ≡ Some pages
+pub form_rests_now : (c : LogCopy) (pages : List ℕ) (disk : Disk) → form_rests c pages disk
+    → form_reads disk.bytes ≡ Some pages
 form_rests_now c pages disk rests = rests_bytes c.pages c.gates c.places pages disk rests
 
-pub form_rests_reads : (c : LogCopy) (pages : List ℕ) (disk : Disk) → form_rests c pages disk → AllRead form_reads pages disk
+pub form_rests_reads : (c : LogCopy) (pages : List ℕ) (disk : Disk) → form_rests c pages disk
+    → AllRead form_reads pages disk
 form_rests_reads c pages disk rests = rests_all c.pages c.gates c.places pages disk rests

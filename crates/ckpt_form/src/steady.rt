@@ -32,7 +32,8 @@ impl Steady for CopyForm {
 
     ghost ready_fit = { λ c v ready. kept_fit c.pages (v.size c.dev) c.gates c.places c.next_places ready };
 
-    ghost stays_fit = { λ c old new goes fit. fit_stays c.pages (old.size c.dev) (new.size c.dev) c.gates c.places c.next_places (goes.size c.dev) fit };
+    ghost stays_fit = { λ c old new goes fit.
+        fit_stays c.pages (old.size c.dev) (new.size c.dev) c.gates c.places c.next_places (goes.size c.dev) fit };
 
     ghost has_room = { some_room };
 }

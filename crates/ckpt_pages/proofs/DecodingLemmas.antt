@@ -226,7 +226,7 @@ one_value pages t u c d =
     same_made (header_with t c.level) (header_with u d.level) t.config.node u.config.node t.members u.members t.lines u.lines t.routes u.routes t.jobs u.jobs t.outputs u.outputs t.owners u.owners
     head (ap (λ (n : Nodes). n.node) nodes) members (ap (λ (n : Nodes). n.lines) nodes) (ap (λ (n : Nodes). n.routes) nodes) jobs outputs owners
 
--- the level is one, too
+-- pages have one level at most
 one_level : (pages : List Page) (t u : Tables) (c : IsCheckpoint pages t) (d : IsCheckpoint pages u) → c.level ≡ d.level
 one_level pages t u c d =
     let some : 0 < length pages = omega (arith, c.spell.count) in

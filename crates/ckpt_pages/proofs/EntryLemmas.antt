@@ -41,7 +41,7 @@ pub record IsReadTo {X : Type 0} (slot : X → List ℕ) (Fits : X → Type 0) (
 pub room_below : (w q n : ℕ) → q < n → w * q + w ≤ w * n
 room_below w q n lt = omega (arith, mul-suc w q, mul-le-mul_left {m = suc q} {n = n} w lt)
 
--- one more entry has room
+-- bytes for n entries have room for each of them
 pub room_for : (w i at n size : ℕ) → at ≡ w * i → i < n → w * n ≤ size → at + w ≤ size
 room_for w i at n size e lt room = omega (arith, e, room_below w i n lt, room)
 
@@ -109,13 +109,13 @@ module _ {X : Type 0} (slot : X → List ℕ) (Fits : X → Type 0) where
       ap (piece at w) h.is ∙ chunk_at items i at d (replicate (length bytes - length (concat (map slot items))) 0) h.fit (omega (arith, h.len)) e,
     )
 
-    -- zeros follow them
+    -- zeros follow the entries
     pub tail_of : (count at : ℕ) (bytes : List ℕ) (items : List X) → AreEntries slot Fits count bytes items → at ≡ w * count → are_zeros (drop at bytes) ≡ true
     tail_of count at bytes items h e =
         let len : length (concat (map slot items)) ≡ at = omega (arith, concat_length items h.fit, ap (λ (n : ℕ). w * n) h.len) in
         ap (λ (p : List ℕ). are_zeros (drop at p)) h.is ∙ ap are_zeros (drop_at (concat (map slot items)) (replicate (length bytes - length (concat (map slot items))) 0) at len) ∙ zeros_all (length bytes - length (concat (map slot items)))
 
-    -- an entry that isn't one
+    -- where a piece is no entry, the bytes are no entries
     pub no_entry : (count i at w' : ℕ) (bytes : List ℕ) → i < count → at ≡ w * i → w' ≡ w → ((x : X) → Fits x → take (at + w' - at) (drop at bytes) ≡ slot x → ⊥) → AreNoEntries slot Fits count bytes
     no_entry count i at w' bytes lt e e' wrong [] h = absurd (omega (arith, h.len))
     no_entry count i at w' bytes lt e e' wrong (x ∷ xs) h =
@@ -123,7 +123,7 @@ module _ {X : Type 0} (slot : X → List ℕ) (Fits : X → Type 0) where
         let n : at + w' - at ≡ w = omega (arith, e') in
         wrong (get_or (x ∷ xs) i x) p.0 (ap (λ (k : ℕ). take k (drop at bytes)) n ∙ p.1)
 
-    -- zeros that aren't there
+    -- where no zeros follow, the bytes are no entries
     pub no_tail : (count i at : ℕ) (bytes : List ℕ) → i ≤ count → count ≤ i → at ≡ w * i → false ≡ are_zeros (take (length bytes - at) (drop at bytes)) → AreNoEntries slot Fits count bytes
     no_tail count i at bytes le ge e wrong items h =
         let same : i ≡ count = omega arith in

@@ -180,7 +180,7 @@ not_whole head h e w k is e' =
 
 -- ---- the whole page
 
--- a first piece of n bytes, and what is behind it
+-- a first piece of n bytes, and what is after it
 pub split_front : (text : List ℕ) (ps : List (List ℕ)) (n size : ℕ) → length text ≡ n → (take n (filled_to size (text ∷ ps)) ≡ text) × (drop n (filled_to size (text ∷ ps)) ≡ filled_to (size - n) ps)
 split_front text ps n size len =
     let zeros : List ℕ = replicate (size - length (text ++ concat ps)) 0 in
@@ -265,7 +265,7 @@ levels_fit level (l ∷ ls) lt h =
     let p = All-head (λ l. (1 ≤ l) × (l ≤ level)) l ls h in
     All-cons (λ l. l < 2 ^ 64) l ls (omega (arith, p.1, lt)) (levels_fit level ls lt (All-tail (λ l. (1 ≤ l) × (l ≤ level)) l ls h))
 
--- the levels behind the header are entries
+-- the levels after the header are entries
 pub levels_are : (t : Tables) (level count : ℕ) (levels page rest : List ℕ) → AreLevels t level levels → IsCut t level levels page → rest ≡ drop 1024 page → length rest ≡ 3072 → count ≡ page_count t.config
     → AreEntries (to_be_bytes w64) (λ l. l < 2 ^ 64) count rest levels
 levels_are t level count levels page rest h cut e len n = record {

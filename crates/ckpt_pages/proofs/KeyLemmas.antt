@@ -67,11 +67,11 @@ module _ {X : Type 0} (w : List X → X → Bool) (xs : List X) (i at : ℕ) (d 
   here = let e : drop i xs ≡ get_or xs i d ∷ drop (i + 1) xs = rw (drop-cons xs i d inside, add-one) refl in
       subst (λ (ys : List X). sound.first_wrong w (take i xs) at ys ≡ o) e before
 
-  -- this one is right
+  -- item i is right: the search for a wrong one goes on after it
   pub step_on : w (take i xs) (get_or xs i d) ≡ false → sound.first_wrong w (take (i + 1) xs) (at + 1) (drop (i + 1) xs) ≡ o
   step_on right = subst (λ (ys : List X). sound.first_wrong w ys (at + 1) (drop (i + 1) xs) ≡ o) (sym (take_more xs i d inside)) (let h = here in rw right at h)
 
-  -- this one is wrong
+  -- item i is wrong: the search ends at it
   pub stop_here : w (take i xs) (get_or xs i d) ≡ true → Some at ≡ o
   stop_here wrong = let h = here in rw wrong at h
 

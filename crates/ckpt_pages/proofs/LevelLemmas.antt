@@ -18,7 +18,7 @@ use Rattle.ckpt_pages.proofs.EntryLemmas.{chunk_at}
 first_page : (t : Tables) (levels : List ℕ) (pages : List Page) → Spell t levels pages → page_in pages 0 ≡ page_of t levels 0
 first_page t levels pages spell = spell.each 0 (omega (arith, spell.count))
 
--- the level of the checkpoint stands behind the first eight bytes
+-- the level of the checkpoint stands after the first eight bytes
 pub level_spelled : (t : Tables) (levels : List ℕ) (pages : List Page) → Spell t levels pages → piece 8 8 (page_in pages 0) ≡ to_be_bytes w64 (slice_index levels 0)
 level_spelled t levels pages spell = ap (piece 8 8) (first_page t levels pages spell)
 

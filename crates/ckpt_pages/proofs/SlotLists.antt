@@ -97,7 +97,7 @@ module _ {X : Type 0} (wrong : List X → X → Bool) where
 -- WHAT STANDS IN SLOTS
 
 module _ {X : Type 0} where
-  -- the same, where neither slot is free
+  -- a test of two items, as a test of two slots: false where one of them is free
   abbrev pub in_slots : (X → X → Bool) → Option X → Option X → Bool
   in_slots same a None = false
   in_slots same a (Some b) = holds_one (λ y. same y b) a

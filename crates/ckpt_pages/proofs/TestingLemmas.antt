@@ -40,7 +40,7 @@ use Rattle.ckpt_pages.proofs.SlotPageLemmas.{bad_outputs, bad_owners}
 abbrev pub StandTo : {X : Type 0} → (X → List ℕ) → (X → Type 0) → ℕ → ℕ → ℕ → List ℕ → Type 0
 StandTo {X} slot Fits w i at bytes = (items : List X) × IsReadTo slot Fits w i at bytes [] items
 
--- so many items stand on the pages before page
+-- the items on the pages before page are the total less the rest
 abbrev pub StandBefore : {X : Type 0} → (X → List ℕ) → (X → Type 0) → ℕ → ℕ → ℕ → List Page → ℕ → ℕ → Type 0
 StandBefore {X} slot Fits a_page first total pages page rest = (items : List X) × (rest + length items ≡ total) × AreReadTo slot Fits a_page first total pages page items
 
@@ -97,7 +97,7 @@ one_level_more level i count age bytes h lt room fits small e some most =
           (read_more (to_be_bytes w64) (λ a. a < 2 ^ 64) 8 i (8 * i) bytes [] h.0 (h.0 ++ age ∷ []) age h.2 small (long_at (8 * i) age bytes (omega (arith, lt, room)) fits e) refl),
     )
 
--- the number at its place is the level
+-- the number at the place of a page's level is that level
 level_there : (count i : ℕ) (bytes levels : List ℕ) → AreEntries (to_be_bytes w64) (λ a. a < 2 ^ 64) count bytes levels → i < count → from_be_bytes w64 (piece (8 * i) 8 bytes) ≡ get_or levels i 0
 level_there count i bytes levels h lt =
     let p = entry_of (to_be_bytes w64) (λ a. a < 2 ^ 64) 8 level_size count i (8 * i) bytes levels 0 h lt refl in

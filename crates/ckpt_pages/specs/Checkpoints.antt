@@ -23,7 +23,8 @@ SpellsOneAtMost = (pages : List Page) (t u : Tables) → IsCheckpoint pages t �
 
 -- pages that spell tables are a checkpoint of these
 abbrev pub SpelledIsCheckpoint : Type 0
-SpelledIsCheckpoint = (t : Tables) (level : ℕ) (levels : List ℕ) (pages : List Page) → HasSpelling t → AreLevels t level levels → Spell t levels pages → IsCheckpoint pages t
+SpelledIsCheckpoint = (t : Tables) (level : ℕ) (levels : List ℕ) (pages : List Page) → HasSpelling t
+    → AreLevels t level levels → Spell t levels pages → IsCheckpoint pages t
 
 -- page q is a spelling: that of some tables with as many pages, whose page 0 is this page 0
 pub record IsSpelling (pages : List Page) (q : ℕ) : Type 0 where

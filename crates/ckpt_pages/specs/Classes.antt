@@ -75,7 +75,12 @@ bytes_dropped : (cs : List Class) (rest : List ℕ) → drop (length cs) (class_
 bytes_dropped cs rest = drop_at (class_bytes cs) rest (length cs) (length-map cs (λ (c : Class). c.0))
 
 pub classes_size : (cs : List Class) → length cs ≤ 36 → length (classes_entry cs) ≡ 37
-classes_size cs few = omega (arith, length-append (class_bytes cs) (replicate (36 - length cs) 0), length-map cs (λ (c : Class). c.0), length-replicate {A = ℕ} (36 - length cs) 0)
+classes_size cs few = omega (
+  arith,
+  length-append (class_bytes cs) (replicate (36 - length cs) 0),
+  length-map cs (λ (c : Class). c.0),
+  length-replicate {A = ℕ} (36 - length cs) 0,
+)
 
 pub classes_stand : (cs : List Class) → AreClasses cs → are_classes (classes_entry cs) ≡ true
 classes_stand cs h =
@@ -83,7 +88,8 @@ classes_stand cs h =
     let one : nat_le 1 (length cs) ≡ true = least cs h.some in
     let few : nat_le (length cs) 36 ≡ true = most cs h.few in
     rw (bytes_taken cs (replicate (36 - length cs) 0), bytes_dropped cs (replicate (36 - length cs) 0))
-    (both_from _ _ (both_from _ _ (both_from _ _ (both_from _ _ one few) (classes_to cs h.each)) (distinct_to cs h.distinct)) (zeros_all (36 - length cs)))
+    (both_from _ _ (both_from _ _ (both_from _ _ (both_from _ _ one few) (classes_to cs h.each))
+    (distinct_to cs h.distinct)) (zeros_all (36 - length cs)))
   where
     least : (cs : List Class) → 1 ≤ length cs → nat_le 1 (length cs) ≡ true
     least cs h = grind (arith, nat_tests)
@@ -94,7 +100,7 @@ classes_stand cs h =
 pub classes_again : (cs : List Class) → classes_in (classes_entry cs) ≡ cs
 classes_again cs = ap classes_made (bytes_taken cs (replicate (36 - length cs) 0)) ∙ made_classes cs
 
--- so many classes stand at the beginning
+-- the first n bytes are classes, all different, and zeros follow
 pub record AreCounted (n : ℕ) (bs : List ℕ) : Type 0 where
   pub some : 1 ≤ n
   pub few : n ≤ 36
@@ -104,8 +110,10 @@ pub record AreCounted (n : ℕ) (bs : List ℕ) : Type 0 where
 
 pub counted_from : (n : ℕ) (bs : List ℕ) → are_classes (n ∷ bs) ≡ true → AreCounted n bs
 counted_from n bs h =
-    let a = both_true (nat_le 1 n && nat_le n 36 && list_all is_class_byte (take n bs) && are_different (take n bs)) (are_zeros (drop n bs)) h in
-    let b = both_true (nat_le 1 n && nat_le n 36 && list_all is_class_byte (take n bs)) (are_different (take n bs)) a.0 in
+    let a = both_true (nat_le 1 n && nat_le n 36 && list_all is_class_byte (take n bs) && are_different (take n bs))
+    (are_zeros (drop n bs)) h in
+    let b = both_true (nat_le 1 n && nat_le n 36 && list_all is_class_byte (take n bs)) (are_different (take n bs)) a.0
+    in
     let c = both_true (nat_le 1 n && nat_le n 36) (list_all is_class_byte (take n bs)) b.0 in
     let d = both_true (nat_le 1 n) (nat_le n 36) c.0 in
     record { some = least n d.0; few = most n d.1; each = c.1; different = b.1; rest = a.1 }
@@ -116,14 +124,16 @@ counted_from n bs h =
     most : (n : ℕ) → nat_le n 36 ≡ true → n ≤ 36
     most n h = grind (arith, nat_tests)
 
-pub classes_take : (p : List ℕ) → length p ≡ 37 → are_classes p ≡ true → AreClasses (classes_in p) × (classes_entry (classes_in p) ≡ p)
+pub classes_take : (p : List ℕ) → length p ≡ 37 → are_classes p ≡ true → AreClasses (classes_in p)
+    × (classes_entry (classes_in p) ≡ p)
 classes_take [] len h = absurd (omega (arith, len))
 classes_take (n ∷ bs) len h =
     let k = counted_from n bs h in
     let size : length (take n bs) ≡ n = omega (arith, length-take n bs, len, k.few) in
     let count : length (classes_made (take n bs)) ≡ n = omega (arith, length-map (take n bs) made_class, size) in
     let back : class_bytes (classes_made (take n bs)) ≡ take n bs = made_bytes (take n bs) in
-    let tail : drop n bs ≡ replicate (36 - n) 0 = zeros_of (36 - n) (drop n bs) k.rest (omega (arith, length-drop n bs, len)) in (
+    let tail : drop n bs ≡ replicate (36 - n) 0 = zeros_of (36 - n) (drop n bs) k.rest
+    (omega (arith, length-drop n bs, len)) in (
       record {
         some = omega (arith, count, k.some);
         few = omega (arith, count, k.few);
@@ -136,7 +146,7 @@ classes_take (n ∷ bs) len h =
           ∙ ap (λ (x : List ℕ). n ∷ x) (take-append-drop n bs),
     )
 
--- how many there are
+-- how many classes there are at most
 pub few_classes : (p : List ℕ) → length p ≡ 37 → are_classes p ≡ true → slice_index p 0 ≤ 36
 few_classes [] len h = absurd (omega (arith, len))
 few_classes (n ∷ bs) len h = (counted_from n bs h).few

@@ -23,8 +23,10 @@ age_most = 9223372036854775807
 -- the first 1,024 bytes of page 0
 abbrev pub header_fields : List Field
 header_fields =
-    field.Long mark_of_header mark_of_header ∷ field.Long 1 age_most ∷ field.Byte 1 1 ∷ field.Byte 1 members_most ∷ field.Byte 1 volumes_most ∷ field.Zeros 1
-    ∷ field.Half jobs_least jobs_most ∷ field.Half outputs_least outputs_most ∷ field.Half 1 groups_most ∷ field.Half 1 hold_most ∷ field.Half 0 dormancy_most
+    field.Long mark_of_header mark_of_header ∷ field.Long 1 age_most ∷ field.Byte 1 1 ∷ field.Byte 1 members_most
+    ∷ field.Byte 1 volumes_most ∷ field.Zeros 1
+    ∷ field.Half jobs_least jobs_most ∷ field.Half outputs_least outputs_most ∷ field.Half 1 groups_most
+    ∷ field.Half 1 hold_most ∷ field.Half 0 dormancy_most
     ∷ field.Zeros 2 ∷ field.Word 0 number_most ∷ field.Zeros 4 ∷ field.Long 0 age_most ∷ field.Zeros 976 ∷ []
 
 abbrev pub header_in : List (List ℕ) → Header
@@ -47,7 +49,8 @@ node_fields = field.Name ∷ field.Byte 0 routes_most ∷ field.Zeros 119 ∷ []
 
 -- the entry of a member
 abbrev pub setting_fields : List Field
-setting_fields = field.Byte 1 1 ∷ field.Classes ∷ field.Classes ∷ field.Name ∷ field.Half 1 printer_lines_most ∷ field.Zeros 43 ∷ []
+setting_fields = field.Byte 1 1 ∷ field.Classes ∷ field.Classes ∷ field.Name ∷ field.Half 1 printer_lines_most
+    ∷ field.Zeros 43 ∷ []
 
 -- the classes that a number and then the classes give
 abbrev pub classes_in : List ℕ → List Class

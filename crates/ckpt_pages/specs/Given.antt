@@ -6,7 +6,7 @@ use Rattle.ckpt_pages.specs.Checkpoints.{IsCheckpoint}
 use Rattle.ckpt_pages.specs.Pages.{page_in}
 use Rattle.ckpt_pages.specs.Shape.{level_in}
 
--- of so many pages, from the first on
+-- the levels that page 0 gives so many pages, from the first on
 abbrev pub levels_in : List ℕ → ℕ → List ℕ
 levels_in page0 zero = []
 levels_in page0 (suc n) = levels_in page0 n ++ level_in page0 n ∷ []

@@ -15,11 +15,32 @@ use Rattle.ckpt_pages.specs.Pages.{filled, header_pieces, page_in, page_of}
 
 -- the configuration, with the name that page 2 has
 abbrev pub config_of : Header → Name8 → Config
-config_of h node = record { members = h.members; jobs = h.jobs; outputs = h.outputs; volumes = h.volumes; groups = h.groups; hold = h.hold; dormancy = h.dormancy; node = node }
+config_of h node = record {
+  members = h.members;
+  jobs = h.jobs;
+  outputs = h.outputs;
+  volumes = h.volumes;
+  groups
+      = h.groups;
+  hold = h.hold;
+  dormancy = h.dormancy;
+  node = node;
+}
 
 -- tables of which page 0 alone is known
 abbrev pub bare_tables : Header → Tables
-bare_tables h = record { config = config_of h blank_name; jobs = []; outputs = []; owners = []; members = []; routes = []; lines = []; last = h.last; order = h.order }
+bare_tables h = record {
+  config = config_of h blank_name;
+  jobs = [];
+  outputs = [];
+  owners = [];
+  members = [];
+  routes
+      = [];
+  lines = [];
+  last = h.last;
+  order = h.order;
+}
 
 -- what page 0 of tables says
 abbrev pub header_with : Tables → ℕ → Header
@@ -36,7 +57,7 @@ header_with t level = record {
   order = t.order;
 }
 
--- its fields, one after another
+-- the fields of a header, one after another
 abbrev pub header_spelled_by : Header → List (List ℕ)
 header_spelled_by h = header_pieces (bare_tables h) h.level
 
@@ -60,7 +81,7 @@ pub record HasNumbers (h : Header) : Type 0 where
 abbrev pub is_whole : Header → Bool
 is_whole h = (h.jobs % 16 == 0) && (h.outputs % 32 == 0)
 
--- how many pages it asks for
+-- how many pages a header asks for
 abbrev pub pages_of : Header → ℕ
 pages_of h = page_count (config_of h blank_name)
 
@@ -73,7 +94,7 @@ pub record AreAges (level count : ℕ) (levels : List ℕ) : Type 0 where
   pub len : length levels ≡ count
   pub ages : are_ages level levels ≡ true
 
--- page 0 says this, and there are as many pages as it asks for
+-- page 0 says this header, and there are as many pages as it asks for
 pub record IsHeader (h : Header) (pages : List Page) : Type 0 where
   pub numbers : HasNumbers h
   pub count : length pages ≡ pages_of h
@@ -83,4 +104,5 @@ pub record IsHeader (h : Header) (pages : List Page) : Type 0 where
 
 -- page 0 is that of no tables with as many pages
 abbrev pub NoHeader : List Page → Type 0
-NoHeader pages = (t : Tables) (level : ℕ) (levels : List ℕ) → HasSpelling t → AreLevels t level levels → length pages ≡ page_count t.config → page_in pages 0 ≡ page_of t levels 0 → ⊥
+NoHeader pages = (t : Tables) (level : ℕ) (levels : List ℕ) → HasSpelling t → AreLevels t level levels
+    → length pages ≡ page_count t.config → page_in pages 0 ≡ page_of t levels 0 → ⊥

@@ -37,7 +37,8 @@ is_wrong_output t groups jobs before o =
     contains nat_eq jobs.orders o.order || contains nat_eq before.orders o.order || nat_le t.order o.order
     || not (contains nat_eq jobs.with_outputs o.job.0) || contains same_print_key before.prints (o.job.0, o.index.0)
     || (is_somebody o.busy && contains nat_eq before.printers o.busy.0) || is_above t o.busy
-    || nat_lt (o.lines * o.copies) o.mark || (nat_lt 0 o.lines && not (contains same_print_key groups.prints (o.job.0, o.index.0)))
+    || nat_lt (o.lines * o.copies) o.mark ||
+    (nat_lt 0 o.lines && not (contains same_print_key groups.prints (o.job.0, o.index.0)))
 
 abbrev pub is_wrong_output_slot : Tables → GroupKeys → JobKeys → OutputKeys → Option OutRec → Bool
 is_wrong_output_slot t groups jobs before slot = holds_one (is_wrong_output t groups jobs before) slot
@@ -46,7 +47,7 @@ is_wrong_output_slot t groups jobs before slot = holds_one (is_wrong_output t gr
 abbrev pub first_output : Tables → Option ℕ
 first_output t = first_wrong (sound.is_wrong_output_slot t) [] (length t.jobs) t.outputs
 
--- these are the jobs and the outputs of the tables
+-- the keys are those of the tables' jobs and outputs
 pub record AreSlotKeys (t : Tables) (jobs : JobKeys) (outputs : OutputKeys) : Type 0 where
   pub jobs_are : AreJobKeys jobs t.jobs
   pub outputs_are : AreOutputKeys outputs t.outputs

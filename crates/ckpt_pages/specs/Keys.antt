@@ -30,26 +30,29 @@ AddsOne {Keys} {X} Are old x new = (xs : List X) → Are old xs → Are new (xs 
 abbrev pub same_print_key : ℕ × ℕ → ℕ × ℕ → Bool
 same_print_key a b = nat_eq a.0 b.0 && nat_eq a.1 b.1
 
--- and a place of that output
+-- a job's number, an output's index and a place of that output
 abbrev pub same_print_place : (ℕ × ℕ) × ℕ → (ℕ × ℕ) × ℕ → Bool
 same_print_place a b = same_print_key a.0 b.0 && nat_eq a.1 b.1
 
--- these texts have groups among the owners
+-- the keys are those of the texts that have groups among the owners
 pub record AreGroupKeys (keys : GroupKeys) (owners : List Owner) : Type 0 where
   pub decks : (n : JobNo) → contains nat_eq keys.decks n.0 ≡ list_any (is_deck_of n) owners
-  pub prints : (n : JobNo) (i : OutNo) → contains same_print_key keys.prints (n.0, i.0) ≡ list_any (is_output_of n i) owners
+  pub prints : (n : JobNo) (i : OutNo)
+      → contains same_print_key keys.prints (n.0, i.0) ≡ list_any (is_output_of n i) owners
 
--- these are the jobs in the slots
+-- the keys are those of the jobs in the slots
 pub record AreJobKeys (keys : JobKeys) (slots : List (Option JobRec)) : Type 0 where
   pub numbers : (n : JobNo) → contains nat_eq keys.numbers n.0 ≡ is_there (λ i. same_number i.number n) slots
   pub orders : (order : ℕ) → contains nat_eq keys.orders order ≡ is_there (λ i. i.order == order) slots
   pub with_outputs : (n : JobNo) → contains nat_eq keys.with_outputs n.0 ≡ is_there (has_outputs n) slots
   pub past_input : (n : JobNo) → contains nat_eq keys.past_input n.0 ≡ is_there (has_deck n) slots
 
--- these are the outputs in the slots
+-- the keys are those of the outputs in the slots
 pub record AreOutputKeys (keys : OutputKeys) (slots : List (Option OutRec)) : Type 0 where
   pub orders : (order : ℕ) → contains nat_eq keys.orders order ≡ is_there (λ p. p.order == order) slots
-  pub prints : (n : JobNo) (i : OutNo) → contains same_print_key keys.prints (n.0, i.0) ≡ is_there (λ o. same_number o.job n && same_index o.index i) slots
+  pub prints : (n : JobNo) (i : OutNo)
+      → contains same_print_key keys.prints (n.0, i.0)
+      ≡ is_there (λ o. same_number o.job n && same_index o.index i) slots
   pub printers : (m : MemberId) → contains nat_eq keys.printers m.0 ≡ is_there (λ p. same_member p.busy m) slots
 
 -- whether a group's place is taken

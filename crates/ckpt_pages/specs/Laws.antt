@@ -20,22 +20,27 @@ use Rattle.ckpt_pages.specs.QueueOf.{queue_of}
 
 -- the eight bytes of page 0 from byte 8 on are the first level
 abbrev pub BeginsWithLevel : Type 0
-BeginsWithLevel = (t : Tables) (levels : List ℕ) (pages : List Page) → Spell t levels pages → piece 8 8 (page_in pages 0) ≡ to_be_bytes w64 (slice_index levels 0)
+BeginsWithLevel = (t : Tables) (levels : List ℕ) (pages : List Page) → Spell t levels pages
+    → piece 8 8 (page_in pages 0) ≡ to_be_bytes w64 (slice_index levels 0)
 
 -- page 0 gives each page its level
 abbrev pub GivesLevels : Type 0
 GivesLevels =
-    (t : Tables) (levels : List ℕ) (pages : List Page) (p : ℕ) → Spell t levels pages → All (λ l. l < 2 ^ 64) levels → p < length levels
+    (t : Tables) (levels : List ℕ) (pages : List Page) (p : ℕ) → Spell t levels pages → All (λ l. l < 2 ^ 64) levels
+    → p < length levels
     → level_in (page_in pages 0) p ≡ slice_index levels p
 
 -- empty tables have a spelling, where the routes have one
 abbrev pub EmptyHasSpelling : Type 0
-EmptyHasSpelling = (config : Config) (routes : List Route) → IsConfig config → length routes ≤ routes_most → All IsRoute routes → HasSpelling (empty_tables config routes)
+EmptyHasSpelling = (config : Config) (routes : List Route) → IsConfig config → length routes ≤ routes_most
+    → All IsRoute routes → HasSpelling (empty_tables config routes)
 
 -- every page may have level 1
 abbrev pub AreFirstLevels : Type 0
-AreFirstLevels = (config : Config) (routes : List Route) → IsConfig config → AreLevels (empty_tables config routes) 1 (first_levels (page_count config))
+AreFirstLevels = (config : Config) (routes : List Route) → IsConfig config
+    → AreLevels (empty_tables config routes) 1 (first_levels (page_count config))
 
 -- empty tables stand for the empty queue
 abbrev pub EmptyStandsForEmpty : Type 0
-EmptyStandsForEmpty = (config : Config) (routes : List Route) (deck : JobRec → Text) (print : OutRec → Text) → queue_of (empty_tables config routes) deck print ≡ empty_queue config routes
+EmptyStandsForEmpty = (config : Config) (routes : List Route) (deck : JobRec → Text) (print : OutRec → Text)
+    → queue_of (empty_tables config routes) deck print ≡ empty_queue config routes

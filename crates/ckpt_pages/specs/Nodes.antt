@@ -16,9 +16,10 @@ names_of node count = node.0 ∷ (count ∷ []) ∷ replicate 119 0 ∷ []
 
 -- the bytes of page 2
 abbrev pub node_page : Name8 → List LineCount → List Route → List ℕ
-node_page node lines routes = filled (concat (names_of node (length routes)) ∷ (map line_entry lines ++ (replicate 768 0 ∷ map route_entry routes)))
+node_page node lines routes = filled
+    (concat (names_of node (length routes)) ∷ (map line_entry lines ++ (replicate 768 0 ∷ map route_entry routes)))
 
--- page 2 says this
+-- page 2 says these nodes
 pub record AreNodes (page : List ℕ) (n : Nodes) : Type 0 where
   pub node : IsName n.node
   pub count : length n.lines ≡ wires_most

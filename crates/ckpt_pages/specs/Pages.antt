@@ -12,12 +12,13 @@ use Rattle.ckpt_pages.specs.declared.tables.Tables.{Tables}
 use Rattle.mas_types.specs.Limits.{page_bytes}
 use Rattle.ckpt_pages.specs.Shape.{page_count, jobs_a_page, outputs_a_page, owners_a_page, first_job_page, first_output_page, first_group_page}
 
--- so many classes, the classes, and zeros up to 36
+-- the number of the classes, the classes, and zeros up to 36
 abbrev pub classes_entry : List Class → List ℕ
 classes_entry classes = length classes ∷ (map (λ c. c.0) classes ++ replicate (36 - length classes) 0)
 
 abbrev pub setting_pieces : Setting → List (List ℕ)
-setting_pieces s = (1 ∷ []) ∷ classes_entry s.init ∷ classes_entry s.prt ∷ s.forms.0 ∷ to_be_bytes w16 s.lines ∷ replicate 43 0 ∷ []
+setting_pieces s = (1 ∷ []) ∷ classes_entry s.init ∷ classes_entry s.prt ∷ s.forms.0 ∷ to_be_bytes w16 s.lines
+    ∷ replicate 43 0 ∷ []
 
 -- a member's entry of 128 bytes
 abbrev pub setting_entry : Setting → List ℕ
@@ -41,7 +42,8 @@ route_entry r = concat (route_pieces r)
 abbrev pub header_pieces : Tables → ℕ → List (List ℕ)
 header_pieces t level =
     codes "MASCKPT1" ∷ to_be_bytes w64 level ∷ (1 ∷ []) ∷ (t.config.members ∷ []) ∷ (t.config.volumes ∷ []) ∷ (0 ∷ [])
-    ∷ to_be_bytes w16 t.config.jobs ∷ to_be_bytes w16 t.config.outputs ∷ to_be_bytes w16 t.config.groups ∷ to_be_bytes w16 t.config.hold ∷ to_be_bytes w16 t.config.dormancy
+    ∷ to_be_bytes w16 t.config.jobs ∷ to_be_bytes w16 t.config.outputs ∷ to_be_bytes w16 t.config.groups
+    ∷ to_be_bytes w16 t.config.hold ∷ to_be_bytes w16 t.config.dormancy
     ∷ replicate 2 0 ∷ to_be_bytes w32 t.last.0 ∷ replicate 4 0 ∷ to_be_bytes w64 t.order ∷ replicate 976 0 ∷ []
 
 -- the first 128 bytes of page 2
@@ -57,9 +59,11 @@ abbrev pub page_pieces : Tables → List ℕ → ℕ → List (List ℕ)
 page_pieces t levels p =
     if p == 0 then concat (header_pieces t (slice_index levels 0)) ∷ map (to_be_bytes w64) levels
     else if p == 1 then map setting_entry t.members
-    else if p == 2 then concat (node_pieces t) ∷ (map line_entry t.lines ++ (replicate 768 0 ∷ map route_entry t.routes))
+    else if p == 2 then concat (node_pieces t)
+    ∷ (map line_entry t.lines ++ (replicate 768 0 ∷ map route_entry t.routes))
     else if nat_lt p (first_output_page t.config) then map job_slot (part jobs_a_page (p - first_job_page) t.jobs)
-    else if nat_lt p (first_group_page t.config) then map output_slot (part outputs_a_page (p - first_output_page t.config) t.outputs)
+    else if nat_lt p (first_group_page t.config) then map output_slot
+    (part outputs_a_page (p - first_output_page t.config) t.outputs)
     else map owner_entry (part owners_a_page (p - first_group_page t.config) t.owners)
 
 -- the pieces, and zeros up to so many bytes

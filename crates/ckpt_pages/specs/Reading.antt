@@ -8,13 +8,15 @@ use Rattle.ckpt_pages.specs.declared.entries.PageNo.TheVariants.{BadPage, NoMemo
 use Rattle.ckpt_pages.specs.Pages.{filled, filled_to, part, page_in}
 
 -- the bytes are the entries of so many items, and zeros
-pub record AreEntries {X : Type 0} (spelling : X → List ℕ) (Fits : X → Type 0) (count : ℕ) (bytes : List ℕ) (items : List X) : Type 0 where
+pub record AreEntries {X : Type 0} (spelling : X → List ℕ) (Fits : X → Type 0) (count : ℕ) (bytes : List ℕ)
+    (items : List X) : Type 0 where
   pub len : length items ≡ count
   pub fit : All Fits items
   pub is : bytes ≡ filled_to (length bytes) (map spelling items)
 
 -- the items of the bytes are added
-pub record ReadsEntries {X : Type 0} (spelling : X → List ℕ) (Fits : X → Type 0) (count : ℕ) (bytes : List ℕ) (old new : List X) : Type 0 where
+pub record ReadsEntries {X : Type 0} (spelling : X → List ℕ) (Fits : X → Type 0) (count : ℕ) (bytes : List ℕ)
+    (old new : List X) : Type 0 where
   pub more : List X
   pub is : new ≡ old ++ more
   pub reads : AreEntries spelling Fits count bytes more
@@ -24,13 +26,15 @@ abbrev pub AreNoEntries : {X : Type 0} → (X → List ℕ) → (X → Type 0) �
 AreNoEntries {X} spelling Fits count bytes = (items : List X) → AreEntries spelling Fits count bytes items → ⊥
 
 -- the pages from the first on spell so many items, so many to a page
-pub record ArePages {X : Type 0} (spelling : X → List ℕ) (Fits : X → Type 0) (a_page first total : ℕ) (pages : List Page) (items : List X) : Type 0 where
+pub record ArePages {X : Type 0} (spelling : X → List ℕ) (Fits : X → Type 0) (a_page first total : ℕ)
+    (pages : List Page) (items : List X) : Type 0 where
   pub len : length items ≡ total
   pub fit : All Fits items
   pub each : (q : ℕ) → a_page * q < total → page_in pages (first + q) ≡ filled (map spelling (part a_page q items))
 
 -- page p is the first of them that spells none
-pub record IsFirstBad {X : Type 0} (spelling : X → List ℕ) (Fits : X → Type 0) (a_page first total : ℕ) (pages : List Page) (p : ℕ) : Type 0 where
+pub record IsFirstBad {X : Type 0} (spelling : X → List ℕ) (Fits : X → Type 0) (a_page first total : ℕ)
+    (pages : List Page) (p : ℕ) : Type 0 where
   pub from : first ≤ p
   pub within : a_page * (p - first) < total
   pub before : List X

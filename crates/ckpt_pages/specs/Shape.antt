@@ -22,7 +22,7 @@ outputs_a_page = 32
 abbrev pub owners_a_page : ℕ
 owners_a_page = 512
 
--- the first page of jobs, behind the header, the members and the nodes
+-- the first page of jobs, after the header, the members and the nodes
 abbrev pub first_job_page : ℕ
 first_job_page = 3
 
@@ -32,7 +32,7 @@ first_output_page c = first_job_page + c.jobs / jobs_a_page
 abbrev pub first_group_page : Config → ℕ
 first_group_page c = first_output_page c + c.outputs / outputs_a_page
 
--- as many as it takes for all groups
+-- as many pages as it takes for all groups
 abbrev pub group_pages : Config → ℕ
 group_pages c = (c.volumes * c.groups + 511) / owners_a_page
 
@@ -79,13 +79,15 @@ pub record AreLevels (t : Tables) (level : ℕ) (levels : List ℕ) : Type 0 whe
 
 -- the level of a page, as page 0 gives it
 abbrev pub level_in : List ℕ → ℕ → ℕ
-level_in page0 p = if p == 0 then from_be_bytes w64 (piece 8 8 page0) else from_be_bytes w64 (piece (1024 + 8 * p) 8 page0)
+level_in page0 p = if p == 0 then from_be_bytes w64 (piece 8 8 page0) else from_be_bytes w64
+    (piece (1024 + 8 * p) 8 page0)
 
--- from page p on those that differ, and 0
+-- the numbers of the pages that differ, from page p on, and 0
 abbrev pub differing_from : ℕ → List Page → List Page → List ℕ
 differing_from p [] new = []
 differing_from p (x ∷ xs) [] = []
-differing_from p (x ∷ xs) (y ∷ ys) = (if (p == 0) || not (bytes_eq x.0 y.0) then p ∷ [] else []) ++ differing_from (p + 1) xs ys
+differing_from p (x ∷ xs) (y ∷ ys) = (if (p == 0) || not (bytes_eq x.0 y.0) then p ∷ [] else [])
+    ++ differing_from (p + 1) xs ys
 
 abbrev pub differing : List Page → List Page → List ℕ
 differing old new = differing_from 0 old new

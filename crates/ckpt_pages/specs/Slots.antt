@@ -1,4 +1,4 @@
--- The pages of slots and of groups, behind those of the header, the members and the nodes.
+-- The pages of slots and of groups, after those of the header, the members and the nodes.
 use Rattle.std.specs.Prelude.{◌≡◌, ℕ, ◌*◌, ◌≤◌, List, length, map, All, Option}
 use Rattle.mas_types.specs.declared.ids.Name8.{Name8}
 use Rattle.mas_types.specs.declared.ids.Page.{Page}
@@ -23,7 +23,8 @@ use Rattle.ckpt_pages.specs.Reading.{ArePages}
 use Rattle.ckpt_pages.specs.Checkpoints.{IsLeastBad}
 
 -- tables from their parts
-abbrev pub made : Header → Name8 → List Setting → List LineCount → List Route → List (Option JobRec) → List (Option OutRec) → List Owner → Tables
+abbrev pub made : Header → Name8 → List Setting → List LineCount → List Route → List (Option JobRec)
+    → List (Option OutRec) → List Owner → Tables
 made h node members lines routes jobs outputs owners = record {
   config = config_of h node;
   jobs = jobs;
@@ -36,14 +37,17 @@ made h node members lines routes jobs outputs owners = record {
   order = h.order;
 }
 
--- all of them are read
+-- the pages spell the slots of jobs and outputs, and the groups
 pub record AreSlots (h : Header) (pages : List Page) (s : Slots) : Type 0 where
   pub of_jobs : ArePages job_slot (IfUsed IsJobRec) jobs_a_page first_job_page h.jobs pages s.jobs
-  pub of_outputs : ArePages output_slot (IfUsed IsOutRec) outputs_a_page (first_output_page (config_of h blank_name)) h.outputs pages s.outputs
-  pub of_owners : ArePages owner_entry IsOwner owners_a_page (first_group_page (config_of h blank_name)) (h.volumes * h.groups) pages s.owners
+  pub of_outputs : ArePages output_slot (IfUsed IsOutRec) outputs_a_page (first_output_page (config_of h blank_name))
+      h.outputs pages s.outputs
+  pub of_owners : ArePages owner_entry IsOwner owners_a_page (first_group_page (config_of h blank_name))
+      (h.volumes * h.groups) pages s.owners
 
 -- pages 1 and 2 are read
-pub record AreFront (h : Header) (node : Name8) (members : List Setting) (lines : List LineCount) (routes : List Route) (pages : List Page) : Type 0 where
+pub record AreFront (h : Header) (node : Name8) (members : List Setting) (lines : List LineCount) (routes : List Route)
+    (pages : List Page) : Type 0 where
   pub node_fit : IsName node
   pub members_are : (length members ≡ h.members) × All IsSetting members
   pub lines_are : (length lines ≡ wires_most) × All IsLineCount lines
@@ -53,4 +57,5 @@ pub record AreFront (h : Header) (node : Name8) (members : List Setting) (lines 
 
 -- page p is the least that is no spelling, where pages 1 and 2 are spellings
 abbrev pub IsBadBehind : Header → List Page → ℕ → Type 0
-IsBadBehind h pages p = (node : Name8) (members : List Setting) (lines : List LineCount) (routes : List Route) → AreFront h node members lines routes pages → IsLeastBad pages p
+IsBadBehind h pages p = (node : Name8) (members : List Setting) (lines : List LineCount) (routes : List Route)
+    → AreFront h node members lines routes pages → IsLeastBad pages p

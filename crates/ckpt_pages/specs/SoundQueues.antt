@@ -18,4 +18,5 @@ pub record AreTexts (t : Tables) (deck : JobRec → Text) (print : OutRec → Te
 
 -- sound tables stand for a queue with the sound parts, where their texts are such
 abbrev pub SoundStandForSound : Type 0
-SoundStandForSound = (t : Tables) (deck : JobRec → Text) (print : OutRec → Text) → HasSpelling t → AreSound t → AreTexts t deck print → IsSound (queue_of t deck print)
+SoundStandForSound = (t : Tables) (deck : JobRec → Text) (print : OutRec → Text) → HasSpelling t → AreSound t
+    → AreTexts t deck print → IsSound (queue_of t deck print)

@@ -6,8 +6,10 @@ use Rattle.lay_bytes.specs.Fields.{widths, first_bad, pieces}
 use Rattle.lay_bytes.proofs.Pieces.{AreSpelled, spelled_again}
 use Rattle.lay_bytes.proofs.SlotLemmas.{spelled_length}
 
-module _ {X : Type 0} (fields : List Field) (spelled_by : X → List (List ℕ)) (said_by : List (List ℕ) → X) (Fits : X → Type 0)
-    (spelled : (x : X) → Fits x → AreSpelled fields (spelled_by x)) (again : (x : X) → Fits x → said_by (spelled_by x) ≡ x) where
+module _ {X : Type 0} (fields : List Field) (spelled_by : X → List (List ℕ)) (said_by : List (List ℕ) → X)
+    (Fits : X → Type 0)
+    (spelled : (x : X) → Fits x → AreSpelled fields (spelled_by x))
+    (again : (x : X) → Fits x → said_by (spelled_by x) ≡ x) where
   pub good_of : (x : X) → Fits x → first_bad 0 fields (concat (spelled_by x)) ≡ None
   good_of x h = (spelled_again fields (spelled_by x) (spelled x h)).good
 

@@ -5,7 +5,7 @@ use crate::tables::Tables;
 use mas_types::{Copied, List, NoMemory};
 use std::alloc::Global;
 
-/// So many times the item.
+/// The item, so many times.
 pub(crate) fn repeated<T: Copy + Drop>(
     alloc: Global,
     item: T,

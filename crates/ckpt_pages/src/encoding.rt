@@ -221,7 +221,8 @@ fn put_page_0(tables: &Tables, levels: &List<Level>, into: &mut [u8; 4096])
     requires some { 1 ≤ length levels.now }
     requires few { length levels.now ≤ 384 }
     requires zeros { into.old ≡ replicate page_bytes 0 }
-    ensures { into.new ≡ filled (concat (header_pieces tables.now (slice_index levels.now 0)) ∷ map (to_be_bytes w64) levels.now) }
+    ensures { into.new ≡ filled (concat (header_pieces tables.now (slice_index levels.now 0))
+        ∷ map (to_be_bytes w64) levels.now) }
 {
     put(&header_bytes(tables, *levels.item(0)), 0, into);
     put_levels(levels.as_slice(), 1024, into);
@@ -240,7 +241,8 @@ fn put_page_2(tables: &Tables, into: &mut [u8; 4096])
     requires routes { length tables.now.routes ≤ routes_most }
     requires lines { length tables.now.lines ≡ wires_most }
     requires zeros { into.old ≡ replicate page_bytes 0 }
-    ensures { into.new ≡ filled (concat (node_pieces tables.now) ∷ (map line_entry tables.now.lines ++ (replicate 768 0 ∷ map route_entry tables.now.routes))) }
+    ensures { into.new ≡ filled (concat (node_pieces tables.now)
+        ∷ (map line_entry tables.now.lines ++ (replicate 768 0 ∷ map route_entry tables.now.routes))) }
 {
     put(&node_bytes(tables), 0, into);
     put_lines(tables.lines.as_slice(), 128, into);

@@ -13,7 +13,7 @@ use thiserror::Error;
 /// Why bytes were not read.
 #[derive(Clone, Copy, Debug, PartialEq, Eq, Error)]
 pub enum EntryError {
-    /// They are no spelling.
+    /// The bytes are no spelling.
     #[error("the bytes are no spelling")]
     Bad,
     #[error("no memory")]
@@ -46,10 +46,10 @@ impl EntryError {
 pub(crate) trait Entry: Drop + Sized {
     ghost WIDTH: { ℕ };
 
-    /// The bytes of its spelling.
+    /// The bytes of a value's spelling.
     ghost spelling: { Self → List ℕ };
 
-    /// That it has a spelling.
+    /// That a value has a spelling.
     ghost has_spelling: { Self → Type 0 };
 
     /// The bytes of an entry.

@@ -13,7 +13,7 @@ use lay_bytes::{Field, check_fields, read_u16, read_u32, read_u64};
 use mas_types::{JobNo, Level, List, Page};
 use std::alloc::Global;
 
-/// What page 0 says but for the levels of the other pages.
+/// What page 0 says except the levels of the other pages.
 #[derive(Clone, Copy, PartialEq, Eq)]
 pub(crate) struct Header {
     pub level: Level,

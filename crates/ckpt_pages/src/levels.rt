@@ -49,7 +49,8 @@ pub fn levels_of(alloc: Global, pages: &[Page]) -> Result<List<Level>, NoMemory>
     Ok(levels)
 }
 
-/// Page 0 of encoded pages gives each page the level that it was encoded with, and these are the levels of a checkpoint.
+/// Page 0 of encoded pages gives each page the level that it was encoded with, and these are the levels of a
+/// checkpoint.
 pub fn law_of_levels()
     ensures first { BeginsWithLevel }
     ensures each { GivesLevels }

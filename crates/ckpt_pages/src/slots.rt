@@ -11,7 +11,7 @@ use lay_bytes::{JobRec, OutRec};
 use mas_types::{List, Owner, Page};
 use std::alloc::Global;
 
-/// What the pages behind the nodes say.
+/// What the pages after the nodes say.
 #[derive(Drop)]
 pub(crate) struct Slots {
     pub jobs: List<Option<JobRec>>,
@@ -19,7 +19,7 @@ pub(crate) struct Slots {
     pub owners: List<Owner>,
 }
 
-/// Reads all pages behind the nodes.
+/// Reads all pages after the nodes.
 pub(crate) fn read_slots(alloc: Global, pages: &[Page], header: &Header) -> Result<Slots, PageNo>
     requires { IsHeader header.now pages.now }
     ensures found { IfOk result (AreSlots header.now pages.now) }

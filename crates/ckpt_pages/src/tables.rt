@@ -19,7 +19,7 @@ pub(crate) const JOBS_A_PAGE: usize = 16;
 pub(crate) const OUTPUTS_A_PAGE: usize = 32;
 /// The entries of track groups on a page.
 pub(crate) const OWNERS_A_PAGE: usize = 512;
-/// The first page of jobs, behind the header, the members and the nodes.
+/// The first page of jobs, after the header, the members and the nodes.
 pub(crate) const FIRST_JOB_PAGE: u16 = 3;
 
 /// The queue as a checkpoint has it: jobs and outputs in slots, listed by their order and not by

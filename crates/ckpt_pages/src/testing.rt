@@ -16,7 +16,7 @@ use crate::tables::{FIRST_JOB_PAGE, JOBS_A_PAGE, OUTPUTS_A_PAGE, OWNERS_A_PAGE};
 use lay_bytes::{JobRec, OutRec, check_fields, is_zero, read_u64};
 use mas_types::{Level, LineCount, Owner, Page, Route, Setting};
 
-// Whether so many entries stand from the first byte on, and zeros behind them.
+// Whether so many entries stand from the first byte on, and zeros after them.
 fn are_entries<E: Entry>(bytes: &[u8], count: usize) -> bool
     requires { E.WIDTH * count ≤ length bytes.now }
     ensures good { result ≡ true → SomeEntries E.spelling E.has_spelling count bytes.now }
@@ -55,7 +55,7 @@ fn first_bad_of<E: Entry>(pages: &[Page], first: usize, a_page: usize, total: us
     None
 }
 
-// Whether so many levels from 1 to this one stand from the first byte on, this one first, and zeros behind them.
+// Whether so many levels from 1 to this one stand from the first byte on, this one first, and zeros after them.
 fn are_levels(level: Level, bytes: &[u8], count: usize) -> bool
     requires some { 1 ≤ count }
     requires room { 8 * count ≤ length bytes.now }
@@ -108,7 +108,7 @@ fn are_nodes(page: &[u8]) -> bool
     are_entries::<LineCount>(middle, 8) && are_entries::<Route>(tail, head[8] as usize)
 }
 
-// The first page behind the nodes that is no spelling.
+// The first page after the nodes that is no spelling.
 fn first_bad_slot(pages: &[Page], header: &Header) -> Option<u16>
     requires { IsHeader header.now pages.now }
     ensures good { result ≡ None → SomeSlots header.now pages.now }
@@ -134,8 +134,8 @@ fn first_bad_slot(pages: &[Page], header: &Header) -> Option<u16>
     first_bad_of::<Owner>(pages, first_group, OWNERS_A_PAGE, groups)
 }
 
-/// The least page that is no spelling, 0 where page 0 asks for another number of pages or there is none. Where there is no such page
-/// all of them spell tables, and `decode` reads these if it gets its memory. This takes none.
+/// The least page that is no spelling, 0 where page 0 asks for another number of pages or there is none. Where there is
+/// no such page all of them spell tables, and `decode` reads these if it gets its memory. This takes none.
 pub fn first_bad(pages: &[Page]) -> Option<u16>
     ensures good { result ≡ None → SpellSome pages.now }
     ensures bad { IfSome result (IsLeastBad pages.now) }

@@ -101,7 +101,8 @@ fn push_output(alloc: Global, lines: &mut Lines, output: &Output) -> Result<(), 
 }
 
 fn push_volumes(alloc: Global, lines: &mut Lines, queue: &Queue) -> Result<(), NoMemory>
-    ensures { OnOk result (lines.new ≡ lines.old ++ volume_lines 1 queue.now.config.volumes queue.now.owners queue.now.config.groups) }
+    ensures { OnOk result (lines.new
+        ≡ lines.old ++ volume_lines 1 queue.now.config.volumes queue.now.owners queue.now.config.groups) }
 {
     let groups = queue.config.groups;
     let mut rest = queue.owners.as_slice();
@@ -184,7 +185,9 @@ fn output_line(alloc: Global, output: &Output) -> Result<List<u8>, NoMemory>
 
 // The output's key, its class and its destination.
 fn push_sorting(line: &mut List<u8>, output: &Output) -> Result<(), NoMemory>
-    ensures { OnOk result (line.new ≡ line.old ++ (output_key output.now.job output.now.index ++ 32 ∷ output.now.class.0 ∷ 32 ∷ name_text output.now.dest)) }
+    ensures { OnOk result (line.new
+        ≡ line.old ++ (output_key output.now.job output.now.index
+        ++ 32 ∷ output.now.class.0 ∷ 32 ∷ name_text output.now.dest)) }
 {
     push_output_key(line, output.job, output.index)?;
     line.push(b' ')?;
@@ -193,9 +196,12 @@ fn push_sorting(line: &mut List<u8>, output: &Output) -> Result<(), NoMemory>
     push_name(line, &output.dest)
 }
 
-// Its forms, copies, lines and mark, each behind a blank.
+// An output's forms, copies, lines and mark, each after a blank.
 fn push_counts(line: &mut List<u8>, output: &Output) -> Result<(), NoMemory>
-    ensures { OnOk result (line.new ≡ line.old ++ 32 ∷ (name_text output.now.forms ++ 32 ∷ (decimal output.now.copies ++ 32 ∷ (decimal (line_count_lem output.now.text) ++ 32 ∷ decimal output.now.mark)))) }
+    ensures { OnOk result (line.new
+        ≡ line.old ++ 32 ∷ (name_text output.now.forms
+        ++ 32 ∷ (decimal output.now.copies
+        ++ 32 ∷ (decimal (line_count_lem output.now.text) ++ 32 ∷ decimal output.now.mark)))) }
 {
     line.push(b' ')?;
     push_name(line, &output.forms)?;

@@ -16,7 +16,8 @@ pub fn closing(alloc: Global, by: MemberId, step: u32, end: &Closing) -> Result<
     closing_line(alloc, by, step, end)
 }
 
-/// The lines of a display as they are said: each with the member's name, the step in five digits and a hyphen before it.
+/// The lines of a display as they are said: each with the member's name, the step in five digits and a hyphen before
+/// it.
 pub fn details(alloc: Global, by: MemberId, step: u32, shown: &Lines) -> Result<Lines, NoMemory>
     requires { by.0 ≤ members_most }
     ensures { IfOk result (λ lines. lines ≡ detail_lines by step shown.now) }

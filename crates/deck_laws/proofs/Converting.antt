@@ -249,11 +249,11 @@ text_read job text found is =
 
 -- FROM THE GRAMMAR TO WHAT IS CONVERTED
 
--- what was converted, and these statements behind it
+-- what was converted, and these statements after it
 abbrev done : List Statement → Converted → Converted
 done statements before = record { steps = onto statements before.steps; sysouts = sysouts (onto statements before.steps) }
 
--- the statements may stand behind it
+-- the statements may stand after what was converted
 pub record MayFollow (statements : List Statement) (before : Converted) : Type 0 where
   pub placed : before.steps ≡ [] → leading_dds statements ≡ []
   pub few : length (onto statements before.steps) ≤ job_steps_most

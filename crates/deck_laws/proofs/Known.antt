@@ -22,7 +22,7 @@ use Rattle.card_reader.specs.Statements.{Item}
 use Rattle.card_reader.specs.Decks.{Sees, bad, refused, is_card, refused_card, result_and_then, priority_seen, jes_seen, job_statement_seen, first_statement_seen, later_statement_seen, seen_before_job, seen_in_job, seen_after}
 use Rattle.deck_laws.specs.Grammar.{Opening, opening_of, opened, opened_by, opened_if, priority_of, is_of_job, is_no_job, may_follow_as, is_exec_operation, is_exec_as, may_follow, with_card, with_item, with_items}
 
--- before a JOB statement, and in its job
+-- what is seen of a deck before its JOB statement, and in its job
 abbrev pub before_job : Option Prio → Seen
 before_job p = record { priority = p; job = None; has_steps = false }
 

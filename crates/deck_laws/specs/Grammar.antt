@@ -20,7 +20,7 @@ use Rattle.card_reader.specs.Decks.{is_card}
 
 -- BEFORE THE JOB STATEMENT
 
--- a JOB statement with the priority that stands before it, and the cards behind it
+-- a JOB statement with the priority that stands before it, and the cards after it
 pub record Opening : Type 0 where
   pub priority : Option Prio
   pub statement : Item
@@ -34,7 +34,7 @@ priority_of (Some (jes.Print dest)) = None
 priority_of (Some (jes.Xeq node)) = None
 priority_of None = None
 
--- the priority of a card that is the first such card
+-- the priority after a card: that of the first `/*PRIORITY` card
 abbrev pub first_priority : Option Prio → List ℕ → Option Prio
 first_priority None card = if is_priority card then priority_of (jes_of card) else None
 first_priority (Some before) card = None
@@ -62,7 +62,7 @@ abbrev pub opening_of : Option Prio → List Item → Option Opening
 opening_of priority [] = None
 opening_of priority (item ∷ items) = opened (kind_of item.card) priority item items (λ after. opening_of after items)
 
--- BEHIND IT
+-- AFTER THE JOB STATEMENT
 
 -- RESTART, PRINT or XEQ
 abbrev pub is_of_job : Option JesCard → Bool
@@ -104,7 +104,8 @@ is_exec_as kind.Stray card = false
 -- each may follow, where an EXEC stands before them or not
 abbrev pub may_follow : Bool → List Item → Bool
 may_follow steps [] = true
-may_follow steps (item ∷ items) = may_follow_as (kind_of item.card) steps item.card && may_follow (is_exec_as (kind_of item.card) item.card || steps) items
+may_follow steps (item ∷ items) = may_follow_as (kind_of item.card) steps item.card && may_follow
+    (is_exec_as (kind_of item.card) item.card || steps) items
 
 -- what a JES2 card says of the job
 abbrev pub with_card : JobFields → Option JesCard → JobFields

@@ -40,7 +40,8 @@ joined (Some statements) (Some others) = Some (statements ++ others)
 -- the statements of cards that are read by themselves, where none is refused
 abbrev pub statements_on : JobFields → List Item → Option (List Statement)
 statements_on job [] = Some []
-statements_on job (item ∷ items) = joined (statement_on job (kind_of item.card) item.card item.behind) (statements_on job items)
+statements_on job (item ∷ items) = joined (statement_on job (kind_of item.card) item.card item.behind)
+    (statements_on job items)
 
 -- the DDs before the first EXEC
 abbrev pub leading_by : Line → List (List ℕ) → List Dd → List Dd
@@ -62,8 +63,8 @@ abbrev pub steps_of : List Statement → List Step
 steps_of [] = []
 steps_of (statement ∷ statements) = steps_by statement.line (leading_dds statements) (steps_of statements)
 
--- Each card outside data is read, no DD stands before the first EXEC, and there are at most 64 steps and, among their DDs,
--- 32 with SYSOUT.
+-- Each card outside data is read, no DD stands before the first EXEC, and there are at most 64 steps and, among their
+-- DDs, 32 with SYSOUT.
 pub record IsText (job : JobFields) (text : List (List ℕ)) (steps : List Step) : Type 0 where
   pub statements : List Statement
   pub read : statements_on job (items_of text) ≡ Some statements

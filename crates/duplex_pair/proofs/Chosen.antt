@@ -107,7 +107,7 @@ module _ {C : Type 0} (count room : C → ℕ) (room_most : ℕ) (ready : C → 
   none_first dev v w was copy alive alive' Unread Lost err seen less is told disk = subst (λ (d : Disk). IsNone reads d) (sym (disk refl)) (seen.none told)
   none_first dev v w was copy alive alive' Unread Unread err seen less is told disk = subst (λ (d : Disk). IsNone reads d) (sym (disk refl)) (seen.none told)
 
--- where none reads, whichever copy is named first
+-- no copy reads, whichever is named first
 pub none_swapped : (one two : Look) → IsErrOf (chosen one two) NotValid → IsErrOf (chosen two one) NotValid
 none_swapped (Pages one) (Pages two) err = absurd (cc)
 none_swapped (Pages one) Lost err = absurd (cc)
@@ -119,7 +119,7 @@ none_swapped Unread (Pages two) err = absurd (cc)
 none_swapped Unread Lost err = err
 none_swapped Unread Unread err = err
 
--- a copy that counts as alive, but for those that go
+-- a copy that counts as alive, except those that go
 pub alive_goes : (a c x : Bool) → x ≡ (a && not c) → c ≡ true → x ≡ false
 alive_goes true c x e is = e ∙ ap not is
 alive_goes false c x e is = e

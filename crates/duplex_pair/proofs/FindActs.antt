@@ -38,7 +38,7 @@ found_none by a a' b b' stopped old new x = record {
 }
 
 module _ (by : ℕ) (a b : Bool) (old mid new : View) (x : PairActed by a true b true false old mid) where
-  -- and then the first copy goes
+  -- after acts on both copies the first goes
   pub found_first : Loses (DiskPart Ckpt1) mid new → PairFound by a false b true false old new
   found_first y = record {
     goes = goes_on old mid new x.goes y.goes;
@@ -62,7 +62,7 @@ module _ (by : ℕ) (a b : Bool) (old mid new : View) (x : PairActed by a true b
     other p (inl ne) = ne
     other p (inr e) = let was : a ≡ true = x.alive1 refl in absurd (cc)
 
-  -- or the second
+  -- after acts on both copies the second goes
   pub found_second : Loses (DiskPart Ckpt2) mid new → PairFound by a true b false false old new
   found_second y = record {
     goes = goes_on old mid new x.goes y.goes;

@@ -123,13 +123,13 @@ blank_image size disk image blank is =
     sym (take-length image) ∙ whole ∙ take-length disk.bytes ∙ blank.bytes
 
 module _ (reads : List ℕ → Option (List ℕ)) (pages : List ℕ) (size : ℕ) (blank_reads : (image : List ℕ) → DiffersIn 0 1 (replicate size 0) image → reads image ≡ None) where
-  -- while the copy is formed on a device of zeros
+  -- while a copy is formed on a device of zeros, an image of it reads as none or as the pages
   pub forms_blank : (was disk : Disk) → IsBlank size was → EachForms reads was pages disk → LeavesOnly disk (λ image. (reads image ≡ None) ⊎ (reads image ≡ Some pages))
   forms_blank was disk blank forms image is = ⊎_elim (λ none. inl none) (λ others. ⊎_elim (λ some. inr some) (λ old. inl (of_old old)) others) (forms image is) where
     of_old : IsOfOld was image → reads image ≡ None
     of_old (before, from, differs) = blank_reads image (subst (λ (b : List ℕ). DiffersIn 0 1 b image) (blank_image size was before blank from) differs)
 
-  -- and before
+  -- before a copy is formed on a device of zeros, each image of it reads as none
   pub blank_forms : (disk : Disk) → IsBlank size disk → LeavesOnly disk (λ image. (reads image ≡ None) ⊎ (reads image ≡ Some pages))
   blank_forms disk blank image is =
       inl (blank_reads image (subst (λ (b : List ℕ). DiffersIn 0 1 (replicate size 0) b) (sym (blank_image size disk image blank is)) (record { size = refl; before = refl; after = refl })))
@@ -141,11 +141,11 @@ module _ (reads : List ℕ → Option (List ℕ)) (pages : List ℕ) (size : ℕ
     abbrev P : Disk → Type 0
     P = IsOrForms reads (disk_now old dev) pages
 
-    -- up to the renewal
+    -- the device up to its renewal
     pub while_renewed : WhileReplaced dev (IsOrForms reads (disk_now old dev) pages) old mid
     while_renewed = while_weaker dev (IsOrBlank size (disk_now old dev)) P old mid renews (λ d is. or_forms (disk_now old dev) d is)
 
-    -- and while the copy is formed
+    -- the device up to its renewal, and while the copy is formed on it
     pub while_formed : (at : Dev) (new : View) → dev ≡ at → Replaces 0 dev false old mid → IsBlank size (disk_now mid dev) → Meanwhile at (EachForms reads (disk_now mid at) pages) mid new
         → WhileReplaced dev (IsOrForms reads (disk_now old dev) pages) old new
     while_formed at new same goes blank given =

@@ -19,8 +19,10 @@ pub record PairActed (by : ℕ) (was1 is1 was2 is2 stopped : Bool) (old new : Vi
   pub failed2 : was2 ≡ true → is2 ≡ false → Rose (old.faults (DiskPart Ckpt2)) (new.faults (DiskPart Ckpt2))
   pub is_lost1 : was1 ≡ true → is1 ≡ false → new.lost (DiskPart Ckpt1) ≡ true
   pub is_lost2 : was2 ≡ true → is2 ≡ false → new.lost (DiskPart Ckpt2) ≡ true
-  pub else_lost : (p : Part) → (p ≢ DiskPart Ckpt1) ⊎ (is1 ≡ was1) → (p ≢ DiskPart Ckpt2) ⊎ (is2 ≡ was2) → new.lost p ≡ old.lost p
-  pub else_faults : (p : Part) → (p ≢ DiskPart Ckpt1) ⊎ (is1 ≡ was1) → (p ≢ DiskPart Ckpt2) ⊎ (is2 ≡ was2) → new.faults p ≡ old.faults p
+  pub else_lost : (p : Part) → (p ≢ DiskPart Ckpt1) ⊎ (is1 ≡ was1) → (p ≢ DiskPart Ckpt2) ⊎ (is2 ≡ was2)
+      → new.lost p ≡ old.lost p
+  pub else_faults : (p : Part) → (p ≢ DiskPart Ckpt1) ⊎ (is1 ≡ was1) → (p ≢ DiskPart Ckpt2) ⊎ (is2 ≡ was2)
+      → new.faults p ≡ old.faults p
   pub halted : stopped ≡ true → Rose (old.stops by) (new.stops by)
   pub not_operator : stopped ≡ true → 0 < by
   pub stands : stopped ≡ true → (is1 || is2) ≡ true

@@ -21,9 +21,9 @@ pub record IsLostBeside (dev : Dev) (was is other : Bool) (old new : View) : Typ
   pub gone : is ≡ false
   pub beside : other ≡ true
 
--- A call of a member that finds the pages of a pair: which copies counted as alive before and count so after, and whether
--- the member was stopped in it. A copy goes only where an act on it failed, or by one call while the other one stays; no
--- other part is lost, no other fault is counted, and nobody else is stopped.
+-- A call of a member that finds the pages of a pair: which copies counted as alive before and count so after, and
+-- whether the member was stopped in it. A copy goes only where an act on it failed, or by one call while the other one
+-- stays; no other part is lost, no other fault is counted, and nobody else is stopped.
 pub record PairFound (by : ℕ) (was1 is1 was2 is2 stopped : Bool) (old new : View) : Type 0 where
   pub goes : Goes old new
   pub alive1 : is1 ≡ true → was1 ≡ true
@@ -31,10 +31,14 @@ pub record PairFound (by : ℕ) (was1 is1 was2 is2 stopped : Bool) (old new : Vi
   pub loses1 : (new.loses Ckpt1 ≡ old.loses Ckpt1) ⊎ IsLostBeside Ckpt1 was1 is1 is2 old new
   pub loses2 : (new.loses Ckpt2 ≡ old.loses Ckpt2) ⊎ IsLostBeside Ckpt2 was2 is2 is1 old new
   pub else_loses : (d : Dev) → d ≢ Ckpt1 → d ≢ Ckpt2 → new.loses d ≡ old.loses d
-  pub failed1 : was1 ≡ true → is1 ≡ false → Rose (old.faults (DiskPart Ckpt1)) (new.faults (DiskPart Ckpt1)) ⊎ (new.loses Ckpt1 ≡ next (old.loses Ckpt1))
-  pub failed2 : was2 ≡ true → is2 ≡ false → Rose (old.faults (DiskPart Ckpt2)) (new.faults (DiskPart Ckpt2)) ⊎ (new.loses Ckpt2 ≡ next (old.loses Ckpt2))
-  pub else_lost : (p : Part) → (p ≢ DiskPart Ckpt1) ⊎ (is1 ≡ was1) → (p ≢ DiskPart Ckpt2) ⊎ (is2 ≡ was2) → new.lost p ≡ old.lost p
-  pub else_faults : (p : Part) → (p ≢ DiskPart Ckpt1) ⊎ (is1 ≡ was1) → (p ≢ DiskPart Ckpt2) ⊎ (is2 ≡ was2) → new.faults p ≡ old.faults p
+  pub failed1 : was1 ≡ true → is1 ≡ false → Rose (old.faults (DiskPart Ckpt1)) (new.faults (DiskPart Ckpt1))
+      ⊎ (new.loses Ckpt1 ≡ next (old.loses Ckpt1))
+  pub failed2 : was2 ≡ true → is2 ≡ false → Rose (old.faults (DiskPart Ckpt2)) (new.faults (DiskPart Ckpt2))
+      ⊎ (new.loses Ckpt2 ≡ next (old.loses Ckpt2))
+  pub else_lost : (p : Part) → (p ≢ DiskPart Ckpt1) ⊎ (is1 ≡ was1) → (p ≢ DiskPart Ckpt2) ⊎ (is2 ≡ was2)
+      → new.lost p ≡ old.lost p
+  pub else_faults : (p : Part) → (p ≢ DiskPart Ckpt1) ⊎ (is1 ≡ was1) → (p ≢ DiskPart Ckpt2) ⊎ (is2 ≡ was2)
+      → new.faults p ≡ old.faults p
   pub halted : stopped ≡ true → Rose (old.stops by) (new.stops by)
   pub not_operator : stopped ≡ true → 0 < by
   pub no_other_stop : (m : ℕ) → (m ≢ by) ⊎ (stopped ≡ false) → new.stops m ≡ old.stops m

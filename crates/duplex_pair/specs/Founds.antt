@@ -40,15 +40,21 @@ abbrev pub goes_away : Look → Look → Bool
 goes_away look other = is_unread look && has_pages other
 
 -- A copy that counts as alive has pages of its own, of the level that was found on it.
-pub record FoundOn {C : Type 0} (count room : C → ℕ) (room_most : ℕ) (ready : C → View → Type 0) (rests : C → List ℕ → Disk → Type 0) (tells : Type 0) (dev : Dev) (v : View) (copy : C) (alive : Bool) (found : ℕ) : Type 0 where
+pub record FoundOn {C : Type 0} (count room : C → ℕ) (room_most : ℕ) (ready : C → View → Type 0)
+    (rests : C → List ℕ → Disk → Type 0) (tells : Type 0) (dev : Dev) (v : View) (copy : C) (alive : Bool)
+    (found : ℕ) : Type 0 where
   pub own : List Page
   pub was : WasFound count room room_most ready rests tells dev v copy alive own
   pub at : found ≡ level (bytes_of own)
 
--- These pages were found: they are those of the copy of greater level, of CKPT1 on a tie. A copy without pages counts as
--- lost.
-pub record WasChosen {C : Type 0} (count room : C → ℕ) (room_most : ℕ) (ready : C → View → Type 0) (rests : C → List ℕ → Disk → Type 0) (tells : Type 0) (v : View) (first : C) (alive1 : Bool) (found1 : ℕ) (second : C) (alive2 : Bool) (found2 : ℕ) (pages : List Page) : Type 0 where
+-- These pages were found: they are those of the copy of greater level, of CKPT1 on a tie. A copy without pages counts
+-- as lost.
+pub record WasChosen {C : Type 0} (count room : C → ℕ) (room_most : ℕ) (ready : C → View → Type 0)
+    (rests : C → List ℕ → Disk → Type 0) (tells : Type 0) (v : View) (first : C) (alive1 : Bool) (found1 : ℕ)
+    (second : C) (alive2 : Bool) (found2 : ℕ) (pages : List Page) : Type 0 where
   pub on_first : alive1 ≡ true → FoundOn count room room_most ready rests tells Ckpt1 v first alive1 found1
   pub on_second : alive2 ≡ true → FoundOn count room room_most ready rests tells Ckpt2 v second alive2 found2
-  pub from : (WasFound count room room_most ready rests tells Ckpt1 v first alive1 pages × (found1 ≡ level (bytes_of pages)) × (alive2 ≡ true → found2 ≤ found1))
-      ⊎ (WasFound count room room_most ready rests tells Ckpt2 v second alive2 pages × (found2 ≡ level (bytes_of pages)) × (alive1 ≡ true → found1 < found2))
+  pub from : (WasFound count room room_most ready rests tells Ckpt1 v first alive1 pages
+      × (found1 ≡ level (bytes_of pages)) × (alive2 ≡ true → found2 ≤ found1))
+      ⊎ (WasFound count room room_most ready rests tells Ckpt2 v second alive2 pages × (found2 ≡ level (bytes_of pages))
+      × (alive1 ≡ true → found1 < found2))

@@ -19,7 +19,7 @@ pick Ckpt1 first second = first
 pick Ckpt2 first second = second
 pick (Spool n) first second = first
 
--- and the other
+-- the one of two things that isn't of this device
 abbrev pub other : {A : Type 0} → Dev → A → A → A
 other Ckpt1 first second = second
 other Ckpt2 first second = first
@@ -60,6 +60,7 @@ abbrev pub IsBothLost : Bool → Bool → Type 0
 IsBothLost first second = (first ≡ false) × (second ≡ false)
 
 -- each copy that counts as alive is ready
-pub record AreReady {C : Type 0} (ready : C → View → Type 0) (one two : C) (one_alive two_alive : Bool) (v : View) : Type 0 where
+pub record AreReady {C : Type 0} (ready : C → View → Type 0) (one two : C) (one_alive two_alive : Bool)
+    (v : View) : Type 0 where
   pub first : one_alive ≡ true → ready one v
   pub second : two_alive ≡ true → ready two v

@@ -17,7 +17,8 @@ IsLevelFound Unread found = Unit {0}
 IsLevelFound (Pages pages) found = found ≡ level (bytes_of pages)
 
 -- A copy at rest with pages of the level that was found on it: these pages, or ones of a lower level.
-pub record Lags {C : Type 0} (rests : C → List ℕ → Disk → Type 0) (copy : C) (found : ℕ) (was pages : List ℕ) (disk : Disk) : Type 0 where
+pub record Lags {C : Type 0} (rests : C → List ℕ → Disk → Type 0) (copy : C) (found : ℕ) (was pages : List ℕ)
+    (disk : Disk) : Type 0 where
   pub rest : rests copy was disk
   pub at : level was ≡ found
   pub same : found ≡ level pages → was ≡ pages

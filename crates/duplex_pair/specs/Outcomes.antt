@@ -13,19 +13,19 @@ abbrev pub half_stopped : {T : Type 0} → Result T Halted → Bool
 half_stopped (Ok value) = false
 half_stopped (Err _) = true
 
--- in a call on the pair
+-- the member was stopped in a call on the pair
 abbrev pub pair_stopped : {T : Type 0} → Result T PairNo → Bool
 pair_stopped (Ok value) = false
 pair_stopped (Err BothLost) = false
 pair_stopped (Err PairHalted) = true
 
--- in a look at one copy
+-- the member was stopped in a look at one copy
 abbrev pub look_stopped : {T : Type 0} → Result T LookNo → Bool
 look_stopped (Ok value) = false
 look_stopped (Err LookHalted) = true
 look_stopped (Err LookNoMemory) = false
 
--- in a find
+-- the member was stopped in a find
 abbrev pub find_stopped : {T : Type 0} → Result T PairFindNo → Bool
 find_stopped (Ok value) = false
 find_stopped (Err FindBothLost) = false

@@ -25,8 +25,8 @@ replace_stopped (Err BothLost) = false
 replace_stopped (Err Failed) = false
 replace_stopped (Err Halted) = true
 
--- A member replaces a device, and whether it was stopped in it: past worlds stay, counts don't fall, and only this device
--- may be lost or there again.
+-- A member replaces a device, and whether it was stopped in it: past worlds stay, counts don't fall, and only this
+-- device may be lost or there again.
 pub record Replaces (by : ℕ) (dev : Dev) (stopped : Bool) (old new : View) : Type 0 where
   pub later : old.now ≤ new.now
   pub past : (t : ℕ) → t ≤ old.now → new.world t ≡ old.world t
@@ -50,10 +50,12 @@ IsOrBlank size was disk = SameOrLost was disk ⊎ IsBlank size disk
 
 -- the device is as it was, or lost now, or each of its images reads as none or as these pages
 abbrev pub IsOrForms : (List ℕ → Option (List ℕ)) → Disk → List ℕ → Disk → Type 0
-IsOrForms reads was pages disk = SameOrLost was disk ⊎ LeavesOnly disk (λ image. (reads image ≡ None) ⊎ (reads image ≡ Some pages))
+IsOrForms reads was pages disk = SameOrLost was disk
+    ⊎ LeavesOnly disk (λ image. (reads image ≡ None) ⊎ (reads image ≡ Some pages))
 
 -- The copy counts as alive, has these many pages and all its room, and its device is there.
-pub record IsFormed {C : Type 0} (count room : C → ℕ) (room_most : ℕ) (ready : C → View → Type 0) (pages : ℕ) (dev : Dev) (v : View) (copy : C) : Type 0 where
+pub record IsFormed {C : Type 0} (count room : C → ℕ) (room_most : ℕ) (ready : C → View → Type 0) (pages : ℕ)
+    (dev : Dev) (v : View) (copy : C) : Type 0 where
   pub as_many : count copy ≡ pages
   pub has_room : room copy ≡ room_most
   pub is_ready : ready copy v

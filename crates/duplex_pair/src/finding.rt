@@ -64,13 +64,17 @@ impl<C: Copying + Drop> Pair<C> {
         requires ckpt { IsCkpt dev }
         ensures other { other dev self.new.first self.new.second ≡ other dev self.old.first self.old.second }
         ensures copy { (pick dev self.new.first self.new.second).copy ≡ (pick dev self.old.first self.old.second).copy }
-        ensures found { (pick dev self.new.first self.new.second).found ≡ (pick dev self.old.first self.old.second).found }
-        ensures alive { (pick dev self.new.first self.new.second).alive ≡ ((pick dev self.old.first self.old.second).alive && not goes) }
+        ensures found { (pick dev self.new.first self.new.second).found
+            ≡ (pick dev self.old.first self.old.second).found }
+        ensures alive { (pick dev self.new.first self.new.second).alive
+            ≡ ((pick dev self.old.first self.old.second).alive && not goes) }
         ensures goes { Goes (P.view plant.old) (P.view plant.new) }
         ensures loses { goes ≡ true → Loses (Disk dev) (P.view plant.old) (P.view plant.new) }
         ensures is_lost { goes ≡ true → (P.view plant.new).lost (Disk dev) ≡ true }
-        ensures else_lost { (p : Part) → (p ≢ Disk dev) ⊎ (goes ≡ false) → (P.view plant.new).lost p ≡ (P.view plant.old).lost p }
-        ensures during { P.tells → Meanwhile dev (NoMore (disk_now (P.view plant.old) dev)) (P.view plant.old) (P.view plant.new) }
+        ensures else_lost { (p : Part) → (p ≢ Disk dev) ⊎ (goes ≡ false)
+            → (P.view plant.new).lost p ≡ (P.view plant.old).lost p }
+        ensures during { P.tells → Meanwhile dev (NoMore (disk_now (P.view plant.old) dev)) (P.view plant.old)
+            (P.view plant.new) }
         ensures idle { goes ≡ false → plant.new ≡ plant.old }
     {
         if goes {
@@ -78,11 +82,12 @@ impl<C: Copying + Drop> Pair<C> {
         }
     }
 
-    /// Finds the pages of greatest level, those of CKPT1 on a tie: each copy is synced and then read. One that can't be read
-    /// is lost, by one call, where the other can. The device of a copy that counts as lost has to be lost.
+    /// Finds the pages of greatest level, those of CKPT1 on a tie: each copy is synced and then read. One that can't be
+    /// read is lost, by one call, where the other can. The device of a copy that counts as lost has to be lost.
     ///
-    /// After an error no copy was lost by a call. BothLost comes exactly where both copies count as lost after the looks, NotValid exactly where one doesn't and none
-    /// reads. At each moment of the call an image of a copy is one of before it.
+    /// After an error no copy was lost by a call. BothLost comes exactly where both copies count as lost after the
+    /// looks, NotValid exactly where one doesn't and none reads. At each moment of the call an image of a copy is one
+    /// of before it.
     pub fn find<P: Plant>(
         &mut self,
         alloc: Global,
@@ -91,16 +96,23 @@ impl<C: Copying + Drop> Pair<C> {
     ) -> Result<List<Page>, PairFindNo>
         requires lost1 { self.old.first.alive ≡ false → (P.view plant.old).lost (Disk Ckpt1) ≡ true }
         requires lost2 { self.old.second.alive ≡ false → (P.view plant.old).lost (Disk Ckpt2) ≡ true }
-        ensures acted { PairFound by.0 self.old.first.alive self.new.first.alive self.old.second.alive self.new.second.alive (find_stopped result) (P.view plant.old) (P.view plant.new) }
+        ensures acted { PairFound by.0 self.old.first.alive self.new.first.alive self.old.second.alive
+            self.new.second.alive (find_stopped result) (P.view plant.old) (P.view plant.new) }
         ensures unlost { OnErr result ((d : DevLem) → (P.view plant.new).loses d ≡ (P.view plant.old).loses d) }
         ensures lost1 { self.new.first.alive ≡ false → (P.view plant.new).lost (Disk Ckpt1) ≡ true }
         ensures lost2 { self.new.second.alive ≡ false → (P.view plant.new).lost (Disk Ckpt2) ≡ true }
         ensures both { IsErrOf result FindNoBothLost → IsBothLost self.new.first.alive self.new.second.alive }
         ensures not_valid { IsErrOf result FindNoNotValid → SomeAlive self.new.first.alive self.new.second.alive }
-        ensures none1 { IsErrOf result FindNoNotValid → P.tells → self.new.first.alive ≡ true → IsNone C.reads (disk_now (P.view plant.new) Ckpt1) }
-        ensures none2 { IsErrOf result FindNoNotValid → P.tells → self.new.second.alive ≡ true → IsNone C.reads (disk_now (P.view plant.new) Ckpt2) }
-        ensures found { IfOk result (λ pages. WasChosen C.count C.room C.room_most C.ready C.rests P.tells (P.view plant.new) self.new.first.copy self.new.first.alive self.new.first.found self.new.second.copy self.new.second.alive self.new.second.found pages) }
-        ensures during { P.tells → BothMeanwhile (NoMore (disk_now (P.view plant.old) Ckpt1)) (NoMore (disk_now (P.view plant.old) Ckpt2)) (P.view plant.old) (P.view plant.new) }
+        ensures none1 { IsErrOf result FindNoNotValid → P.tells → self.new.first.alive ≡ true
+            → IsNone C.reads (disk_now (P.view plant.new) Ckpt1) }
+        ensures none2 { IsErrOf result FindNoNotValid → P.tells → self.new.second.alive ≡ true
+            → IsNone C.reads (disk_now (P.view plant.new) Ckpt2) }
+        ensures found { IfOk result (λ pages.
+            WasChosen C.count C.room C.room_most C.ready C.rests P.tells (P.view plant.new) self.new.first.copy
+            self.new.first.alive self.new.first.found self.new.second.copy self.new.second.alive self.new.second.found
+            pages) }
+        ensures during { P.tells → BothMeanwhile (NoMore (disk_now (P.view plant.old) Ckpt1))
+            (NoMore (disk_now (P.view plant.old) Ckpt2)) (P.view plant.old) (P.view plant.new) }
     {
         let first = self.look(alloc, plant, by, Dev::Ckpt1)?;
         let second = self.look(alloc, plant, by, Dev::Ckpt2)?;

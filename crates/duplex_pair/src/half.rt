@@ -40,17 +40,24 @@ impl<C: Copying + Drop> Half<C> {
     ) -> Result<(), Halted>
         requires enough { pages_least ≤ length pages.now }
         requires few { length pages.now ≤ pages_most }
-        requires size { self.old.alive ≡ true → C.needs (length pages.now) ≤ (P.view plant.old).size (C.dev self.old.copy) }
+        requires size { self.old.alive ≡ true
+            → C.needs (length pages.now) ≤ (P.view plant.old).size (C.dev self.old.copy) }
         ensures dev { C.dev self.new.copy ≡ C.dev self.old.copy }
         ensures count { OnOk result (self.new.alive ≡ true → C.count self.new.copy ≡ length pages.now) }
         ensures room { OnOk result (self.new.alive ≡ true → C.room self.new.copy ≡ C.room_most) }
         ensures ready { OnOk result (self.new.alive ≡ true → C.ready self.new.copy (P.view plant.new)) }
-        ensures acted { Acted by.0 (C.dev self.old.copy) self.old.alive self.new.alive (half_stopped result) (P.view plant.old) (P.view plant.new) }
+        ensures acted { Acted by.0 (C.dev self.old.copy) self.old.alive self.new.alive (half_stopped result)
+            (P.view plant.old) (P.view plant.new) }
         ensures idle { self.old.alive ≡ false → plant.new ≡ plant.old }
-        ensures there { OnOk result (self.new.alive ≡ true → (P.view plant.new).lost (Disk (C.dev self.old.copy)) ≡ false) }
+        ensures there { OnOk result (self.new.alive ≡ true
+            → (P.view plant.new).lost (Disk (C.dev self.old.copy)) ≡ false) }
         ensures gone { P.tells → IsGone (C.dev self.old.copy) self.old.alive self.new.alive (P.view plant.new) }
-        ensures during { P.tells → Meanwhile (C.dev self.old.copy) (Touched self.old.alive (EachForms C.reads (disk_now (P.view plant.old) (C.dev self.old.copy)) (bytes_of pages.now)) (disk_now (P.view plant.old) (C.dev self.old.copy))) (P.view plant.old) (P.view plant.new) }
-        ensures formed { OnOk result (P.tells → self.new.alive ≡ true → C.rests self.new.copy (bytes_of pages.now) (disk_now (P.view plant.new) (C.dev self.old.copy))) }
+        ensures during { P.tells → Meanwhile (C.dev self.old.copy)
+            (Touched self.old.alive (EachForms C.reads (disk_now (P.view plant.old) (C.dev self.old.copy))
+            (bytes_of pages.now)) (disk_now (P.view plant.old) (C.dev self.old.copy))) (P.view plant.old)
+            (P.view plant.new) }
+        ensures formed { OnOk result (P.tells → self.new.alive ≡ true
+            → C.rests self.new.copy (bytes_of pages.now) (disk_now (P.view plant.new) (C.dev self.old.copy))) }
     {
         if !self.alive {
             return Ok(());
@@ -81,14 +88,21 @@ impl<C: Copying + Drop> Half<C> {
         ensures count { C.count self.new.copy ≡ C.count self.old.copy }
         ensures room { C.room self.new.copy ≡ C.room self.old.copy }
         ensures ready { self.old.alive ≡ true → C.ready self.new.copy (P.view plant.new) }
-        ensures acted { Acted by.0 (C.dev self.old.copy) self.old.alive self.new.alive (half_stopped result) (P.view plant.old) (P.view plant.new) }
+        ensures acted { Acted by.0 (C.dev self.old.copy) self.old.alive self.new.alive (half_stopped result)
+            (P.view plant.old) (P.view plant.new) }
         ensures idle { self.old.alive ≡ false → plant.new ≡ plant.old }
-        ensures there { OnOk result (self.new.alive ≡ true → (P.view plant.new).lost (Disk (C.dev self.old.copy)) ≡ false) }
+        ensures there { OnOk result (self.new.alive ≡ true
+            → (P.view plant.new).lost (Disk (C.dev self.old.copy)) ≡ false) }
         ensures gone { P.tells → IsGone (C.dev self.old.copy) self.old.alive self.new.alive (P.view plant.new) }
-        ensures during { P.tells → (was : List ℕ) → (self.old.alive ≡ true → C.rests self.old.copy was (disk_now (P.view plant.old) (C.dev self.old.copy)))
-            → Meanwhile (C.dev self.old.copy) (Touched self.old.alive (AllRead C.reads was) (disk_now (P.view plant.old) (C.dev self.old.copy))) (P.view plant.old) (P.view plant.new) }
-        ensures held { OnOk result (P.tells → self.new.alive ≡ true → (was : List ℕ) → C.rests self.old.copy was (disk_now (P.view plant.old) (C.dev self.old.copy))
-            → level was < level (bytes_of pages.now) → Covers (C.count self.old.copy) changed.now was (bytes_of pages.now)
+        ensures during { P.tells → (was : List ℕ)
+            → (self.old.alive ≡ true → C.rests self.old.copy was (disk_now (P.view plant.old) (C.dev self.old.copy)))
+            → Meanwhile (C.dev self.old.copy)
+            (Touched self.old.alive (AllRead C.reads was) (disk_now (P.view plant.old) (C.dev self.old.copy)))
+            (P.view plant.old) (P.view plant.new) }
+        ensures held { OnOk result (P.tells → self.new.alive ≡ true → (was : List ℕ)
+            → C.rests self.old.copy was (disk_now (P.view plant.old) (C.dev self.old.copy))
+            → level was < level (bytes_of pages.now)
+            → Covers (C.count self.old.copy) changed.now was (bytes_of pages.now)
             → C.holds self.new.copy was (bytes_of pages.now) (disk_now (P.view plant.new) (C.dev self.old.copy))) }
     {
         if !self.alive {
@@ -110,15 +124,23 @@ impl<C: Copying + Drop> Half<C> {
         requires room { self.old.alive ≡ true → 1 ≤ C.room self.old.copy }
         ensures dev { C.dev self.new.copy ≡ C.dev self.old.copy }
         ensures count { C.count self.new.copy ≡ C.count self.old.copy }
-        ensures room { OnOk result (self.new.alive ≡ true → C.room self.new.copy ≡ C.room_after (C.room self.old.copy)) }
+        ensures room { OnOk result (self.new.alive ≡ true
+            → C.room self.new.copy ≡ C.room_after (C.room self.old.copy)) }
         ensures ready { self.old.alive ≡ true → C.ready self.new.copy (P.view plant.new) }
-        ensures acted { Acted by.0 (C.dev self.old.copy) self.old.alive self.new.alive (half_stopped result) (P.view plant.old) (P.view plant.new) }
+        ensures acted { Acted by.0 (C.dev self.old.copy) self.old.alive self.new.alive (half_stopped result)
+            (P.view plant.old) (P.view plant.new) }
         ensures idle { self.old.alive ≡ false → plant.new ≡ plant.old }
-        ensures there { OnOk result (self.new.alive ≡ true → (P.view plant.new).lost (Disk (C.dev self.old.copy)) ≡ false) }
+        ensures there { OnOk result (self.new.alive ≡ true
+            → (P.view plant.new).lost (Disk (C.dev self.old.copy)) ≡ false) }
         ensures gone { P.tells → IsGone (C.dev self.old.copy) self.old.alive self.new.alive (P.view plant.new) }
-        ensures during { P.tells → (was next : List ℕ) → (self.old.alive ≡ true → C.holds self.old.copy was next (disk_now (P.view plant.old) (C.dev self.old.copy)))
-            → Meanwhile (C.dev self.old.copy) (Touched self.old.alive (EachReads C.reads was next) (disk_now (P.view plant.old) (C.dev self.old.copy))) (P.view plant.old) (P.view plant.new) }
-        ensures opened { OnOk result (P.tells → self.new.alive ≡ true → (was next : List ℕ) → C.holds self.old.copy was next (disk_now (P.view plant.old) (C.dev self.old.copy))
+        ensures during { P.tells → (was next : List ℕ)
+            → (self.old.alive ≡ true → C.holds self.old.copy was next
+            (disk_now (P.view plant.old) (C.dev self.old.copy)))
+            → Meanwhile (C.dev self.old.copy)
+            (Touched self.old.alive (EachReads C.reads was next) (disk_now (P.view plant.old) (C.dev self.old.copy)))
+            (P.view plant.old) (P.view plant.new) }
+        ensures opened { OnOk result (P.tells → self.new.alive ≡ true → (was next : List ℕ)
+            → C.holds self.old.copy was next (disk_now (P.view plant.old) (C.dev self.old.copy))
             → C.rests self.new.copy next (disk_now (P.view plant.new) (C.dev self.old.copy))) }
     {
         if !self.alive {
@@ -147,12 +169,17 @@ impl<C: Copying + Drop> Half<C> {
         ensures count { C.count self.new.copy ≡ C.count self.old.copy }
         ensures room { OnOk result (self.new.alive ≡ true → C.room self.new.copy ≡ C.room_most) }
         ensures ready { self.old.alive ≡ true → C.ready self.new.copy (P.view plant.new) }
-        ensures acted { Acted by.0 (C.dev self.old.copy) self.old.alive self.new.alive (half_stopped result) (P.view plant.old) (P.view plant.new) }
+        ensures acted { Acted by.0 (C.dev self.old.copy) self.old.alive self.new.alive (half_stopped result)
+            (P.view plant.old) (P.view plant.new) }
         ensures idle { self.old.alive ≡ false → plant.new ≡ plant.old }
         ensures gone { P.tells → IsGone (C.dev self.old.copy) self.old.alive self.new.alive (P.view plant.new) }
-        ensures during { P.tells → (self.old.alive ≡ true → C.rests self.old.copy (bytes_of pages.now) (disk_now (P.view plant.old) (C.dev self.old.copy)))
-            → Meanwhile (C.dev self.old.copy) (Touched self.old.alive (AllRead C.reads (bytes_of pages.now)) (disk_now (P.view plant.old) (C.dev self.old.copy))) (P.view plant.old) (P.view plant.new) }
-        ensures settled { OnOk result (P.tells → self.new.alive ≡ true → C.rests self.old.copy (bytes_of pages.now) (disk_now (P.view plant.old) (C.dev self.old.copy))
+        ensures during { P.tells → (self.old.alive ≡ true
+            → C.rests self.old.copy (bytes_of pages.now) (disk_now (P.view plant.old) (C.dev self.old.copy)))
+            → Meanwhile (C.dev self.old.copy)
+            (Touched self.old.alive (AllRead C.reads (bytes_of pages.now))
+            (disk_now (P.view plant.old) (C.dev self.old.copy))) (P.view plant.old) (P.view plant.new) }
+        ensures settled { OnOk result (P.tells → self.new.alive ≡ true
+            → C.rests self.old.copy (bytes_of pages.now) (disk_now (P.view plant.old) (C.dev self.old.copy))
             → C.rests self.new.copy (bytes_of pages.now) (disk_now (P.view plant.new) (C.dev self.old.copy))) }
     {
         if !self.alive {
@@ -179,14 +206,18 @@ impl<C: Copying + Drop> Half<C> {
         requires ready { self.old.alive ≡ true → C.ready self.old.copy (P.view plant.old) }
         requires page { self.old.alive ≡ true → page < C.count self.old.copy }
         ensures copy { self.new.copy ≡ self.old.copy }
-        ensures acted { Acted by.0 (C.dev self.old.copy) self.old.alive self.new.alive (half_stopped result) (P.view plant.old) (P.view plant.new) }
+        ensures acted { Acted by.0 (C.dev self.old.copy) self.old.alive self.new.alive (half_stopped result)
+            (P.view plant.old) (P.view plant.new) }
         ensures idle { self.old.alive ≡ false → plant.new ≡ plant.old }
-        ensures there { OnOk result (self.new.alive ≡ true → (P.view plant.new).lost (Disk (C.dev self.old.copy)) ≡ false) }
+        ensures there { OnOk result (self.new.alive ≡ true
+            → (P.view plant.new).lost (Disk (C.dev self.old.copy)) ≡ false) }
         ensures gone { P.tells → IsGone (C.dev self.old.copy) self.old.alive self.new.alive (P.view plant.new) }
-        ensures during { P.tells → Meanwhile (C.dev self.old.copy) (NoMore (disk_now (P.view plant.old) (C.dev self.old.copy))) (P.view plant.old) (P.view plant.new) }
+        ensures during { P.tells → Meanwhile (C.dev self.old.copy)
+            (NoMore (disk_now (P.view plant.old) (C.dev self.old.copy))) (P.view plant.old) (P.view plant.new) }
         ensures err { OnErr result (into.new ≡ into.old) }
         ensures none { OnOk result (self.new.alive ≡ false → into.new ≡ into.old) }
-        ensures read { OnOk result (P.tells → self.new.alive ≡ true → (was : List ℕ) → C.rests self.old.copy was (disk_now (P.view plant.old) (C.dev self.old.copy))
+        ensures read { OnOk result (P.tells → self.new.alive ≡ true → (was : List ℕ)
+            → C.rests self.old.copy was (disk_now (P.view plant.old) (C.dev self.old.copy))
             → into.new.0 ≡ page_in page was) }
     {
         if !self.alive {
@@ -209,7 +240,8 @@ impl<C: Copying + Drop> Half<C> {
         ensures found { self.new.found ≡ self.old.found }
         ensures loses { Loses (Disk dev) (P.view plant.old) (P.view plant.new) }
         ensures gone { P.tells → IsGone dev true self.new.alive (P.view plant.new) }
-        ensures during { P.tells → Meanwhile dev (SameOrLost (disk_now (P.view plant.old) dev)) (P.view plant.old) (P.view plant.new) }
+        ensures during { P.tells → Meanwhile dev (SameOrLost (disk_now (P.view plant.old) dev)) (P.view plant.old)
+            (P.view plant.new) }
     {
         plant.lose(dev);
         self.alive = false;
@@ -224,14 +256,19 @@ impl<C: Copying + Drop> Half<C> {
     ) -> Result<Look, LookNo>
         requires lost { self.old.alive ≡ false → (P.view plant.old).lost (Disk (C.dev self.old.copy)) ≡ true }
         ensures dev { C.dev self.new.copy ≡ C.dev self.old.copy }
-        ensures acted { Acted by.0 (C.dev self.old.copy) self.old.alive self.new.alive (look_stopped result) (P.view plant.old) (P.view plant.new) }
+        ensures acted { Acted by.0 (C.dev self.old.copy) self.old.alive self.new.alive (look_stopped result)
+            (P.view plant.old) (P.view plant.new) }
         ensures idle { self.old.alive ≡ false → plant.new ≡ plant.old }
         ensures err { OnErr result (self.new ≡ self.old) }
         ensures gone { P.tells → IsGone (C.dev self.old.copy) self.old.alive self.new.alive (P.view plant.new) }
-        ensures during { P.tells → Meanwhile (C.dev self.old.copy) (NoMore (disk_now (P.view plant.old) (C.dev self.old.copy))) (P.view plant.old) (P.view plant.new) }
-        ensures seen { IfOk result (λ look. WasSeen C.count C.room C.room_most C.ready C.reads C.rests P.tells (C.dev self.old.copy) (P.view plant.new) self.old.copy self.new.copy self.new.alive look) }
+        ensures during { P.tells → Meanwhile (C.dev self.old.copy)
+            (NoMore (disk_now (P.view plant.old) (C.dev self.old.copy))) (P.view plant.old) (P.view plant.new) }
+        ensures seen { IfOk result (λ look.
+            WasSeen C.count C.room C.room_most C.ready C.reads C.rests P.tells (C.dev self.old.copy) (P.view plant.new)
+            self.old.copy self.new.copy self.new.alive look) }
         ensures level { IfOk result (λ look. IsLevelFound look self.new.found) }
-        ensures room { IfOk result (λ look. P.tells → HasRoom C.room C.room_in self.new.copy look (disk_now (P.view plant.new) (C.dev self.old.copy)).bytes) }
+        ensures room { IfOk result (λ look. P.tells
+            → HasRoom C.room C.room_in self.new.copy look (disk_now (P.view plant.new) (C.dev self.old.copy)).bytes) }
     {
         if !self.alive {
             return Ok(Look::Lost);

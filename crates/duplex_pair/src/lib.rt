@@ -1,7 +1,7 @@
 //! The two copies of the checkpoint, of which one may be lost.
 //!
-//! A copy counts as lost exactly where an act on it failed, or `lose` was called on it, since the pair was made or since the
-//! last `replace` of it was answered Ok. After a failed act a call goes on with the other copy.
+//! A copy counts as lost exactly where an act on it failed, or `lose` was called on it, since the pair was made or
+//! since the last `replace` of it was answered Ok. After a failed act a call goes on with the other copy.
 #![tactic(auto)]
 
 mod errors;

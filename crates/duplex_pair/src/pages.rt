@@ -41,7 +41,7 @@ pub fn page_numbers() -> [u16; MOST]
     numbers
 }
 
-/// Of these numbers those of a checkpoint of so many pages.
+/// The numbers among these that are of a checkpoint of so many pages.
 pub fn first_numbers(numbers: &[u16; MOST], count: u16) -> &[u16]
     requires numbers { AreNumbers numbers.now }
     requires some { 1 ≤ count }

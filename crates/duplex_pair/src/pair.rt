@@ -72,7 +72,8 @@ impl<C: Copying + Drop> Pair<C> {
 
     /// The puts possible before a settle: the least of the copies that count as alive, 0 where none does.
     pub fn room(&self) -> u8
-        ensures { result ≡ least_room self.now.first.alive self.now.second.alive (C.room self.now.first.copy) (C.room self.now.second.copy) }
+        ensures { result ≡ least_room self.now.first.alive self.now.second.alive (C.room self.now.first.copy)
+            (C.room self.now.second.copy) }
     {
         match (self.first.alive, self.second.alive) {
             (true, true) => self.first.copy.room().min(self.second.copy.room()),
@@ -105,23 +106,40 @@ impl<C: Copying + Drop> Pair<C> {
         changed: &[u16],
     ) -> Result<(), Halted>
         requires ckpt { IsCkpt dev }
-        requires ready { (pick dev self.old.first self.old.second).alive ≡ true → C.ready (pick dev self.old.first self.old.second).copy (P.view plant.old) }
-        requires as_many { (pick dev self.old.first self.old.second).alive ≡ true → length pages.now ≡ C.count (pick dev self.old.first self.old.second).copy }
-        requires room { (pick dev self.old.first self.old.second).alive ≡ true → 1 ≤ C.room (pick dev self.old.first self.old.second).copy }
-        requires changed { (pick dev self.old.first self.old.second).alive ≡ true → ArePages (C.count (pick dev self.old.first self.old.second).copy) changed.now }
+        requires ready { (pick dev self.old.first self.old.second).alive ≡ true
+            → C.ready (pick dev self.old.first self.old.second).copy (P.view plant.old) }
+        requires as_many { (pick dev self.old.first self.old.second).alive ≡ true
+            → length pages.now ≡ C.count (pick dev self.old.first self.old.second).copy }
+        requires room { (pick dev self.old.first self.old.second).alive ≡ true
+            → 1 ≤ C.room (pick dev self.old.first self.old.second).copy }
+        requires changed { (pick dev self.old.first self.old.second).alive ≡ true
+            → ArePages (C.count (pick dev self.old.first self.old.second).copy) changed.now }
         ensures other { other dev self.new.first self.new.second ≡ other dev self.old.first self.old.second }
-        ensures count { C.count (pick dev self.new.first self.new.second).copy ≡ C.count (pick dev self.old.first self.old.second).copy }
-        ensures room { C.room (pick dev self.new.first self.new.second).copy ≡ C.room (pick dev self.old.first self.old.second).copy }
-        ensures acted { Acted by.0 dev (pick dev self.old.first self.old.second).alive (pick dev self.new.first self.new.second).alive (half_stopped result) (P.view plant.old) (P.view plant.new) }
+        ensures count { C.count (pick dev self.new.first self.new.second).copy
+            ≡ C.count (pick dev self.old.first self.old.second).copy }
+        ensures room { C.room (pick dev self.new.first self.new.second).copy
+            ≡ C.room (pick dev self.old.first self.old.second).copy }
+        ensures acted { Acted by.0 dev (pick dev self.old.first self.old.second).alive
+            (pick dev self.new.first self.new.second).alive (half_stopped result) (P.view plant.old)
+            (P.view plant.new) }
         ensures idle { (pick dev self.old.first self.old.second).alive ≡ false → plant.new ≡ plant.old }
-        ensures ready { (pick dev self.old.first self.old.second).alive ≡ true → C.ready (pick dev self.new.first self.new.second).copy (P.view plant.new) }
-        ensures there { OnOk result ((pick dev self.new.first self.new.second).alive ≡ true → (P.view plant.new).lost (Disk dev) ≡ false) }
-        ensures gone { P.tells → IsGone dev (pick dev self.old.first self.old.second).alive (pick dev self.new.first self.new.second).alive (P.view plant.new) }
-        ensures during { P.tells → (was : List ℕ) → ((pick dev self.old.first self.old.second).alive ≡ true → C.rests (pick dev self.old.first self.old.second).copy was (disk_now (P.view plant.old) dev))
-            → Meanwhile dev (Touched (pick dev self.old.first self.old.second).alive (AllRead C.reads was) (disk_now (P.view plant.old) dev)) (P.view plant.old) (P.view plant.new) }
-        ensures held { OnOk result (P.tells → (pick dev self.new.first self.new.second).alive ≡ true → (was : List ℕ) → C.rests (pick dev self.old.first self.old.second).copy was (disk_now (P.view plant.old) dev)
-            → level was < level (bytes_of pages.now) → Covers (C.count (pick dev self.old.first self.old.second).copy) changed.now was (bytes_of pages.now)
-            → C.holds (pick dev self.new.first self.new.second).copy was (bytes_of pages.now) (disk_now (P.view plant.new) dev)) }
+        ensures ready { (pick dev self.old.first self.old.second).alive ≡ true
+            → C.ready (pick dev self.new.first self.new.second).copy (P.view plant.new) }
+        ensures there { OnOk result ((pick dev self.new.first self.new.second).alive ≡ true
+            → (P.view plant.new).lost (Disk dev) ≡ false) }
+        ensures gone { P.tells → IsGone dev (pick dev self.old.first self.old.second).alive
+            (pick dev self.new.first self.new.second).alive (P.view plant.new) }
+        ensures during { P.tells → (was : List ℕ)
+            → ((pick dev self.old.first self.old.second).alive ≡ true
+            → C.rests (pick dev self.old.first self.old.second).copy was (disk_now (P.view plant.old) dev))
+            → Meanwhile dev (Touched (pick dev self.old.first self.old.second).alive (AllRead C.reads was)
+            (disk_now (P.view plant.old) dev)) (P.view plant.old) (P.view plant.new) }
+        ensures held { OnOk result (P.tells → (pick dev self.new.first self.new.second).alive ≡ true → (was : List ℕ)
+            → C.rests (pick dev self.old.first self.old.second).copy was (disk_now (P.view plant.old) dev)
+            → level was < level (bytes_of pages.now)
+            → Covers (C.count (pick dev self.old.first self.old.second).copy) changed.now was (bytes_of pages.now)
+            → C.holds (pick dev self.new.first self.new.second).copy was (bytes_of pages.now)
+            (disk_now (P.view plant.new) dev)) }
     {
         match dev {
             Dev::Ckpt1 => self.first.put(plant, by, pages, changed),
@@ -130,8 +148,8 @@ impl<C: Copying + Drop> Pair<C> {
         }
     }
 
-    /// Writes the next pages of one copy behind its closed gate, and syncs them. `changed` are the numbers of the pages that
-    /// differ from what the copy reads. On a copy that counts as lost nothing is done.
+    /// Writes the next pages of one copy behind its closed gate, and syncs them. `changed` are the numbers of the pages
+    /// that differ from what the copy reads. On a copy that counts as lost nothing is done.
     ///
     /// At each moment of the call each image of the copy reads as before it, and the other copy stays as it is.
     pub fn put<P: Plant>(
@@ -143,23 +161,40 @@ impl<C: Copying + Drop> Pair<C> {
         changed: &[u16],
     ) -> Result<(), PairNo>
         requires ckpt { IsCkpt dev }
-        requires ready { (pick dev self.old.first self.old.second).alive ≡ true → C.ready (pick dev self.old.first self.old.second).copy (P.view plant.old) }
-        requires as_many { (pick dev self.old.first self.old.second).alive ≡ true → length pages.now ≡ C.count (pick dev self.old.first self.old.second).copy }
-        requires room { (pick dev self.old.first self.old.second).alive ≡ true → 1 ≤ C.room (pick dev self.old.first self.old.second).copy }
-        requires changed { (pick dev self.old.first self.old.second).alive ≡ true → ArePages (C.count (pick dev self.old.first self.old.second).copy) changed.now }
+        requires ready { (pick dev self.old.first self.old.second).alive ≡ true
+            → C.ready (pick dev self.old.first self.old.second).copy (P.view plant.old) }
+        requires as_many { (pick dev self.old.first self.old.second).alive ≡ true
+            → length pages.now ≡ C.count (pick dev self.old.first self.old.second).copy }
+        requires room { (pick dev self.old.first self.old.second).alive ≡ true
+            → 1 ≤ C.room (pick dev self.old.first self.old.second).copy }
+        requires changed { (pick dev self.old.first self.old.second).alive ≡ true
+            → ArePages (C.count (pick dev self.old.first self.old.second).copy) changed.now }
         ensures other { other dev self.new.first self.new.second ≡ other dev self.old.first self.old.second }
-        ensures count { C.count (pick dev self.new.first self.new.second).copy ≡ C.count (pick dev self.old.first self.old.second).copy }
-        ensures room { C.room (pick dev self.new.first self.new.second).copy ≡ C.room (pick dev self.old.first self.old.second).copy }
-        ensures acted { Acted by.0 dev (pick dev self.old.first self.old.second).alive (pick dev self.new.first self.new.second).alive (pair_stopped result) (P.view plant.old) (P.view plant.new) }
+        ensures count { C.count (pick dev self.new.first self.new.second).copy
+            ≡ C.count (pick dev self.old.first self.old.second).copy }
+        ensures room { C.room (pick dev self.new.first self.new.second).copy
+            ≡ C.room (pick dev self.old.first self.old.second).copy }
+        ensures acted { Acted by.0 dev (pick dev self.old.first self.old.second).alive
+            (pick dev self.new.first self.new.second).alive (pair_stopped result) (P.view plant.old)
+            (P.view plant.new) }
         ensures idle { (pick dev self.old.first self.old.second).alive ≡ false → plant.new ≡ plant.old }
-        ensures ready { (pick dev self.old.first self.old.second).alive ≡ true → C.ready (pick dev self.new.first self.new.second).copy (P.view plant.new) }
-        ensures there { OnOk result ((pick dev self.new.first self.new.second).alive ≡ true → (P.view plant.new).lost (Disk dev) ≡ false) }
-        ensures gone { P.tells → IsGone dev (pick dev self.old.first self.old.second).alive (pick dev self.new.first self.new.second).alive (P.view plant.new) }
-        ensures during { P.tells → (was : List ℕ) → ((pick dev self.old.first self.old.second).alive ≡ true → C.rests (pick dev self.old.first self.old.second).copy was (disk_now (P.view plant.old) dev))
-            → Meanwhile dev (Touched (pick dev self.old.first self.old.second).alive (AllRead C.reads was) (disk_now (P.view plant.old) dev)) (P.view plant.old) (P.view plant.new) }
-        ensures held { OnOk result (P.tells → (pick dev self.new.first self.new.second).alive ≡ true → (was : List ℕ) → C.rests (pick dev self.old.first self.old.second).copy was (disk_now (P.view plant.old) dev)
-            → level was < level (bytes_of pages.now) → Covers (C.count (pick dev self.old.first self.old.second).copy) changed.now was (bytes_of pages.now)
-            → C.holds (pick dev self.new.first self.new.second).copy was (bytes_of pages.now) (disk_now (P.view plant.new) dev)) }
+        ensures ready { (pick dev self.old.first self.old.second).alive ≡ true
+            → C.ready (pick dev self.new.first self.new.second).copy (P.view plant.new) }
+        ensures there { OnOk result ((pick dev self.new.first self.new.second).alive ≡ true
+            → (P.view plant.new).lost (Disk dev) ≡ false) }
+        ensures gone { P.tells → IsGone dev (pick dev self.old.first self.old.second).alive
+            (pick dev self.new.first self.new.second).alive (P.view plant.new) }
+        ensures during { P.tells → (was : List ℕ)
+            → ((pick dev self.old.first self.old.second).alive ≡ true
+            → C.rests (pick dev self.old.first self.old.second).copy was (disk_now (P.view plant.old) dev))
+            → Meanwhile dev (Touched (pick dev self.old.first self.old.second).alive (AllRead C.reads was)
+            (disk_now (P.view plant.old) dev)) (P.view plant.old) (P.view plant.new) }
+        ensures held { OnOk result (P.tells → (pick dev self.new.first self.new.second).alive ≡ true → (was : List ℕ)
+            → C.rests (pick dev self.old.first self.old.second).copy was (disk_now (P.view plant.old) dev)
+            → level was < level (bytes_of pages.now)
+            → Covers (C.count (pick dev self.old.first self.old.second).copy) changed.now was (bytes_of pages.now)
+            → C.holds (pick dev self.new.first self.new.second).copy was (bytes_of pages.now)
+            (disk_now (P.view plant.new) dev)) }
         ensures both { IsErrOf result PairNoBothLost → IsBothLost self.new.first.alive self.new.second.alive }
         ensures ok { OnOk result (SomeAlive self.new.first.alive self.new.second.alive) }
     {
@@ -169,19 +204,34 @@ impl<C: Copying + Drop> Pair<C> {
 
     fn open_half<P: Plant>(&mut self, plant: &mut P, by: MemberId, dev: Dev) -> Result<(), Halted>
         requires ckpt { IsCkpt dev }
-        requires ready { (pick dev self.old.first self.old.second).alive ≡ true → C.ready (pick dev self.old.first self.old.second).copy (P.view plant.old) }
-        requires room { (pick dev self.old.first self.old.second).alive ≡ true → 1 ≤ C.room (pick dev self.old.first self.old.second).copy }
+        requires ready { (pick dev self.old.first self.old.second).alive ≡ true
+            → C.ready (pick dev self.old.first self.old.second).copy (P.view plant.old) }
+        requires room { (pick dev self.old.first self.old.second).alive ≡ true
+            → 1 ≤ C.room (pick dev self.old.first self.old.second).copy }
         ensures other { other dev self.new.first self.new.second ≡ other dev self.old.first self.old.second }
-        ensures count { C.count (pick dev self.new.first self.new.second).copy ≡ C.count (pick dev self.old.first self.old.second).copy }
-        ensures room { OnOk result ((pick dev self.new.first self.new.second).alive ≡ true → C.room (pick dev self.new.first self.new.second).copy ≡ C.room_after (C.room (pick dev self.old.first self.old.second).copy)) }
-        ensures acted { Acted by.0 dev (pick dev self.old.first self.old.second).alive (pick dev self.new.first self.new.second).alive (half_stopped result) (P.view plant.old) (P.view plant.new) }
+        ensures count { C.count (pick dev self.new.first self.new.second).copy
+            ≡ C.count (pick dev self.old.first self.old.second).copy }
+        ensures room { OnOk result ((pick dev self.new.first self.new.second).alive ≡ true
+            → C.room (pick dev self.new.first self.new.second).copy
+            ≡ C.room_after (C.room (pick dev self.old.first self.old.second).copy)) }
+        ensures acted { Acted by.0 dev (pick dev self.old.first self.old.second).alive
+            (pick dev self.new.first self.new.second).alive (half_stopped result) (P.view plant.old)
+            (P.view plant.new) }
         ensures idle { (pick dev self.old.first self.old.second).alive ≡ false → plant.new ≡ plant.old }
-        ensures ready { (pick dev self.old.first self.old.second).alive ≡ true → C.ready (pick dev self.new.first self.new.second).copy (P.view plant.new) }
-        ensures there { OnOk result ((pick dev self.new.first self.new.second).alive ≡ true → (P.view plant.new).lost (Disk dev) ≡ false) }
-        ensures gone { P.tells → IsGone dev (pick dev self.old.first self.old.second).alive (pick dev self.new.first self.new.second).alive (P.view plant.new) }
-        ensures during { P.tells → (was next : List ℕ) → ((pick dev self.old.first self.old.second).alive ≡ true → C.holds (pick dev self.old.first self.old.second).copy was next (disk_now (P.view plant.old) dev))
-            → Meanwhile dev (Touched (pick dev self.old.first self.old.second).alive (EachReads C.reads was next) (disk_now (P.view plant.old) dev)) (P.view plant.old) (P.view plant.new) }
-        ensures opened { OnOk result (P.tells → (pick dev self.new.first self.new.second).alive ≡ true → (was next : List ℕ) → C.holds (pick dev self.old.first self.old.second).copy was next (disk_now (P.view plant.old) dev)
+        ensures ready { (pick dev self.old.first self.old.second).alive ≡ true
+            → C.ready (pick dev self.new.first self.new.second).copy (P.view plant.new) }
+        ensures there { OnOk result ((pick dev self.new.first self.new.second).alive ≡ true
+            → (P.view plant.new).lost (Disk dev) ≡ false) }
+        ensures gone { P.tells → IsGone dev (pick dev self.old.first self.old.second).alive
+            (pick dev self.new.first self.new.second).alive (P.view plant.new) }
+        ensures during { P.tells → (was next : List ℕ)
+            → ((pick dev self.old.first self.old.second).alive ≡ true
+            → C.holds (pick dev self.old.first self.old.second).copy was next (disk_now (P.view plant.old) dev))
+            → Meanwhile dev (Touched (pick dev self.old.first self.old.second).alive (EachReads C.reads was next)
+            (disk_now (P.view plant.old) dev)) (P.view plant.old) (P.view plant.new) }
+        ensures opened { OnOk result (P.tells → (pick dev self.new.first self.new.second).alive ≡ true
+            → (was next : List ℕ) → C.holds (pick dev self.old.first self.old.second).copy was next
+            (disk_now (P.view plant.old) dev)
             → C.rests (pick dev self.new.first self.new.second).copy next (disk_now (P.view plant.new) dev)) }
     {
         match dev {
@@ -191,11 +241,11 @@ impl<C: Copying + Drop> Pair<C> {
         }
     }
 
-    /// Opens the gate before the pages that the last `put` of one copy wrote, and syncs it. On a copy that counts as lost
-    /// nothing is done.
+    /// Opens the gate before the pages that the last `put` of one copy wrote, and syncs it. On a copy that counts as
+    /// lost nothing is done.
     ///
-    /// At each moment of the call each image of the copy reads as the old or the new pages, and the other copy stays as it
-    /// is.
+    /// At each moment of the call each image of the copy reads as the old or the new pages, and the other copy stays as
+    /// it is.
     pub fn open_copy<P: Plant>(
         &mut self,
         plant: &mut P,
@@ -203,19 +253,34 @@ impl<C: Copying + Drop> Pair<C> {
         dev: Dev,
     ) -> Result<(), PairNo>
         requires ckpt { IsCkpt dev }
-        requires ready { (pick dev self.old.first self.old.second).alive ≡ true → C.ready (pick dev self.old.first self.old.second).copy (P.view plant.old) }
-        requires room { (pick dev self.old.first self.old.second).alive ≡ true → 1 ≤ C.room (pick dev self.old.first self.old.second).copy }
+        requires ready { (pick dev self.old.first self.old.second).alive ≡ true
+            → C.ready (pick dev self.old.first self.old.second).copy (P.view plant.old) }
+        requires room { (pick dev self.old.first self.old.second).alive ≡ true
+            → 1 ≤ C.room (pick dev self.old.first self.old.second).copy }
         ensures other { other dev self.new.first self.new.second ≡ other dev self.old.first self.old.second }
-        ensures count { C.count (pick dev self.new.first self.new.second).copy ≡ C.count (pick dev self.old.first self.old.second).copy }
-        ensures room { OnOk result ((pick dev self.new.first self.new.second).alive ≡ true → C.room (pick dev self.new.first self.new.second).copy ≡ C.room_after (C.room (pick dev self.old.first self.old.second).copy)) }
-        ensures acted { Acted by.0 dev (pick dev self.old.first self.old.second).alive (pick dev self.new.first self.new.second).alive (pair_stopped result) (P.view plant.old) (P.view plant.new) }
+        ensures count { C.count (pick dev self.new.first self.new.second).copy
+            ≡ C.count (pick dev self.old.first self.old.second).copy }
+        ensures room { OnOk result ((pick dev self.new.first self.new.second).alive ≡ true
+            → C.room (pick dev self.new.first self.new.second).copy
+            ≡ C.room_after (C.room (pick dev self.old.first self.old.second).copy)) }
+        ensures acted { Acted by.0 dev (pick dev self.old.first self.old.second).alive
+            (pick dev self.new.first self.new.second).alive (pair_stopped result) (P.view plant.old)
+            (P.view plant.new) }
         ensures idle { (pick dev self.old.first self.old.second).alive ≡ false → plant.new ≡ plant.old }
-        ensures ready { (pick dev self.old.first self.old.second).alive ≡ true → C.ready (pick dev self.new.first self.new.second).copy (P.view plant.new) }
-        ensures there { OnOk result ((pick dev self.new.first self.new.second).alive ≡ true → (P.view plant.new).lost (Disk dev) ≡ false) }
-        ensures gone { P.tells → IsGone dev (pick dev self.old.first self.old.second).alive (pick dev self.new.first self.new.second).alive (P.view plant.new) }
-        ensures during { P.tells → (was next : List ℕ) → ((pick dev self.old.first self.old.second).alive ≡ true → C.holds (pick dev self.old.first self.old.second).copy was next (disk_now (P.view plant.old) dev))
-            → Meanwhile dev (Touched (pick dev self.old.first self.old.second).alive (EachReads C.reads was next) (disk_now (P.view plant.old) dev)) (P.view plant.old) (P.view plant.new) }
-        ensures opened { OnOk result (P.tells → (pick dev self.new.first self.new.second).alive ≡ true → (was next : List ℕ) → C.holds (pick dev self.old.first self.old.second).copy was next (disk_now (P.view plant.old) dev)
+        ensures ready { (pick dev self.old.first self.old.second).alive ≡ true
+            → C.ready (pick dev self.new.first self.new.second).copy (P.view plant.new) }
+        ensures there { OnOk result ((pick dev self.new.first self.new.second).alive ≡ true
+            → (P.view plant.new).lost (Disk dev) ≡ false) }
+        ensures gone { P.tells → IsGone dev (pick dev self.old.first self.old.second).alive
+            (pick dev self.new.first self.new.second).alive (P.view plant.new) }
+        ensures during { P.tells → (was next : List ℕ)
+            → ((pick dev self.old.first self.old.second).alive ≡ true
+            → C.holds (pick dev self.old.first self.old.second).copy was next (disk_now (P.view plant.old) dev))
+            → Meanwhile dev (Touched (pick dev self.old.first self.old.second).alive (EachReads C.reads was next)
+            (disk_now (P.view plant.old) dev)) (P.view plant.old) (P.view plant.new) }
+        ensures opened { OnOk result (P.tells → (pick dev self.new.first self.new.second).alive ≡ true
+            → (was next : List ℕ) → C.holds (pick dev self.old.first self.old.second).copy was next
+            (disk_now (P.view plant.old) dev)
             → C.rests (pick dev self.new.first self.new.second).copy next (disk_now (P.view plant.new) dev)) }
         ensures both { IsErrOf result PairNoBothLost → IsBothLost self.new.first.alive self.new.second.alive }
         ensures ok { OnOk result (SomeAlive self.new.first.alive self.new.second.alive) }
@@ -230,10 +295,12 @@ impl<C: Copying + Drop> Pair<C> {
         ensures other { other dev self.new.first self.new.second ≡ other dev self.old.first self.old.second }
         ensures copy { (pick dev self.new.first self.new.second).copy ≡ (pick dev self.old.first self.old.second).copy }
         ensures alive { (pick dev self.new.first self.new.second).alive ≡ false }
-        ensures found { (pick dev self.new.first self.new.second).found ≡ (pick dev self.old.first self.old.second).found }
+        ensures found { (pick dev self.new.first self.new.second).found
+            ≡ (pick dev self.old.first self.old.second).found }
         ensures loses { Loses (Disk dev) (P.view plant.old) (P.view plant.new) }
         ensures gone { P.tells → IsGone dev true (pick dev self.new.first self.new.second).alive (P.view plant.new) }
-        ensures during { P.tells → Meanwhile dev (SameOrLost (disk_now (P.view plant.old) dev)) (P.view plant.old) (P.view plant.new) }
+        ensures during { P.tells → Meanwhile dev (SameOrLost (disk_now (P.view plant.old) dev)) (P.view plant.old)
+            (P.view plant.new) }
     {
         match dev {
             Dev::Ckpt1 => self.first.lose(plant, dev),
@@ -244,8 +311,8 @@ impl<C: Copying + Drop> Pair<C> {
 
     /// What one copy holds: it is synced, and then read. The device of a copy that counts as lost has to be lost.
     ///
-    /// Lost is answered exactly where the device is lost at the end of the call, Unread where it isn't and reads as none.
-    /// At each moment of the call an image of the copy is one of before it, and the other copy stays as it is.
+    /// Lost is answered exactly where the device is lost at the end of the call, Unread where it isn't and reads as
+    /// none. At each moment of the call an image of the copy is one of before it, and the other copy stays as it is.
     pub fn look<P: Plant>(
         &mut self,
         alloc: Global,
@@ -254,16 +321,26 @@ impl<C: Copying + Drop> Pair<C> {
         dev: Dev,
     ) -> Result<Look, LookNo>
         requires ckpt { IsCkpt dev }
-        requires lost { (pick dev self.old.first self.old.second).alive ≡ false → (P.view plant.old).lost (Disk dev) ≡ true }
+        requires lost { (pick dev self.old.first self.old.second).alive ≡ false
+            → (P.view plant.old).lost (Disk dev) ≡ true }
         ensures other { other dev self.new.first self.new.second ≡ other dev self.old.first self.old.second }
-        ensures acted { Acted by.0 dev (pick dev self.old.first self.old.second).alive (pick dev self.new.first self.new.second).alive (look_stopped result) (P.view plant.old) (P.view plant.new) }
+        ensures acted { Acted by.0 dev (pick dev self.old.first self.old.second).alive
+            (pick dev self.new.first self.new.second).alive (look_stopped result) (P.view plant.old)
+            (P.view plant.new) }
         ensures idle { (pick dev self.old.first self.old.second).alive ≡ false → plant.new ≡ plant.old }
         ensures err { OnErr result (pick dev self.new.first self.new.second ≡ pick dev self.old.first self.old.second) }
-        ensures gone { P.tells → IsGone dev (pick dev self.old.first self.old.second).alive (pick dev self.new.first self.new.second).alive (P.view plant.new) }
-        ensures during { P.tells → Meanwhile dev (NoMore (disk_now (P.view plant.old) dev)) (P.view plant.old) (P.view plant.new) }
-        ensures seen { IfOk result (λ look. WasSeen C.count C.room C.room_most C.ready C.reads C.rests P.tells dev (P.view plant.new) (pick dev self.old.first self.old.second).copy (pick dev self.new.first self.new.second).copy (pick dev self.new.first self.new.second).alive look) }
+        ensures gone { P.tells → IsGone dev (pick dev self.old.first self.old.second).alive
+            (pick dev self.new.first self.new.second).alive (P.view plant.new) }
+        ensures during { P.tells → Meanwhile dev (NoMore (disk_now (P.view plant.old) dev)) (P.view plant.old)
+            (P.view plant.new) }
+        ensures seen { IfOk result (λ look.
+            WasSeen C.count C.room C.room_most C.ready C.reads C.rests P.tells dev (P.view plant.new)
+            (pick dev self.old.first self.old.second).copy (pick dev self.new.first self.new.second).copy
+            (pick dev self.new.first self.new.second).alive look) }
         ensures level { IfOk result (λ look. IsLevelFound look (pick dev self.new.first self.new.second).found) }
-        ensures room { IfOk result (λ look. P.tells → HasRoom C.room C.room_in (pick dev self.new.first self.new.second).copy look (disk_now (P.view plant.new) dev).bytes) }
+        ensures room { IfOk result (λ look. P.tells
+            → HasRoom C.room C.room_in (pick dev self.new.first self.new.second).copy look
+            (disk_now (P.view plant.new) dev).bytes) }
     {
         match dev {
             Dev::Ckpt1 => self.first.look(alloc, plant, by),
@@ -282,19 +359,27 @@ impl<C: Copying + Drop> Pair<C> {
         requires few { length pages.now ≤ pages_most }
         requires size1 { self.old.first.alive ≡ true → C.needs (length pages.now) ≤ (P.view plant.old).size Ckpt1 }
         requires size2 { self.old.second.alive ≡ true → C.needs (length pages.now) ≤ (P.view plant.old).size Ckpt2 }
-        ensures acted { PairActed by.0 self.old.first.alive self.new.first.alive self.old.second.alive self.new.second.alive (half_stopped result) (P.view plant.old) (P.view plant.new) }
+        ensures acted { PairActed by.0 self.old.first.alive self.new.first.alive self.old.second.alive
+            self.new.second.alive (half_stopped result) (P.view plant.old) (P.view plant.new) }
         ensures gone1 { P.tells → IsGone Ckpt1 self.old.first.alive self.new.first.alive (P.view plant.new) }
         ensures gone2 { P.tells → IsGone Ckpt2 self.old.second.alive self.new.second.alive (P.view plant.new) }
-        ensures during { P.tells → BothMeanwhile (Touched self.old.first.alive (EachForms C.reads (disk_now (P.view plant.old) Ckpt1) (bytes_of pages.now)) (disk_now (P.view plant.old) Ckpt1)) (Touched self.old.second.alive (EachForms C.reads (disk_now (P.view plant.old) Ckpt2) (bytes_of pages.now)) (disk_now (P.view plant.old) Ckpt2)) (P.view plant.old) (P.view plant.new) }
-        ensures ready { OnOk result (AreReady C.ready self.new.first.copy self.new.second.copy self.new.first.alive self.new.second.alive (P.view plant.new)) }
+        ensures during { P.tells → BothMeanwhile
+            (Touched self.old.first.alive (EachForms C.reads (disk_now (P.view plant.old) Ckpt1) (bytes_of pages.now))
+            (disk_now (P.view plant.old) Ckpt1))
+            (Touched self.old.second.alive (EachForms C.reads (disk_now (P.view plant.old) Ckpt2) (bytes_of pages.now))
+            (disk_now (P.view plant.old) Ckpt2)) (P.view plant.old) (P.view plant.new) }
+        ensures ready { OnOk result (AreReady C.ready self.new.first.copy self.new.second.copy self.new.first.alive
+            self.new.second.alive (P.view plant.new)) }
         ensures count1 { OnOk result (self.new.first.alive ≡ true → C.count self.new.first.copy ≡ length pages.now) }
         ensures room1 { OnOk result (self.new.first.alive ≡ true → C.room self.new.first.copy ≡ C.room_most) }
         ensures there1 { OnOk result (self.new.first.alive ≡ true → (P.view plant.new).lost (Disk Ckpt1) ≡ false) }
-        ensures formed1 { OnOk result (P.tells → self.new.first.alive ≡ true → C.rests self.new.first.copy (bytes_of pages.now) (disk_now (P.view plant.new) Ckpt1)) }
+        ensures formed1 { OnOk result (P.tells → self.new.first.alive ≡ true
+            → C.rests self.new.first.copy (bytes_of pages.now) (disk_now (P.view plant.new) Ckpt1)) }
         ensures count2 { OnOk result (self.new.second.alive ≡ true → C.count self.new.second.copy ≡ length pages.now) }
         ensures room2 { OnOk result (self.new.second.alive ≡ true → C.room self.new.second.copy ≡ C.room_most) }
         ensures there2 { OnOk result (self.new.second.alive ≡ true → (P.view plant.new).lost (Disk Ckpt2) ≡ false) }
-        ensures formed2 { OnOk result (P.tells → self.new.second.alive ≡ true → C.rests self.new.second.copy (bytes_of pages.now) (disk_now (P.view plant.new) Ckpt2)) }
+        ensures formed2 { OnOk result (P.tells → self.new.second.alive ≡ true
+            → C.rests self.new.second.copy (bytes_of pages.now) (disk_now (P.view plant.new) Ckpt2)) }
     {
         self.first.form(plant, by, pages)?;
         self.second.form(plant, by, pages)?;
@@ -303,8 +388,8 @@ impl<C: Copying + Drop> Pair<C> {
 
     /// Makes a copy of these pages of each device whose copy counts as alive.
     ///
-    /// At each moment of the call an image of such a device reads as none or as these pages, or it is, but for VALID, one of
-    /// before the call. After Ok each image reads as these pages.
+    /// At each moment of the call an image of such a device reads as none or as these pages, or it is, except VALID,
+    /// one of before the call. After Ok each image reads as these pages.
     pub fn form<P: Plant>(
         &mut self,
         plant: &mut P,
@@ -315,19 +400,27 @@ impl<C: Copying + Drop> Pair<C> {
         requires few { length pages.now ≤ pages_most }
         requires size1 { self.old.first.alive ≡ true → C.needs (length pages.now) ≤ (P.view plant.old).size Ckpt1 }
         requires size2 { self.old.second.alive ≡ true → C.needs (length pages.now) ≤ (P.view plant.old).size Ckpt2 }
-        ensures acted { PairActed by.0 self.old.first.alive self.new.first.alive self.old.second.alive self.new.second.alive (pair_stopped result) (P.view plant.old) (P.view plant.new) }
+        ensures acted { PairActed by.0 self.old.first.alive self.new.first.alive self.old.second.alive
+            self.new.second.alive (pair_stopped result) (P.view plant.old) (P.view plant.new) }
         ensures gone1 { P.tells → IsGone Ckpt1 self.old.first.alive self.new.first.alive (P.view plant.new) }
         ensures gone2 { P.tells → IsGone Ckpt2 self.old.second.alive self.new.second.alive (P.view plant.new) }
-        ensures during { P.tells → BothMeanwhile (Touched self.old.first.alive (EachForms C.reads (disk_now (P.view plant.old) Ckpt1) (bytes_of pages.now)) (disk_now (P.view plant.old) Ckpt1)) (Touched self.old.second.alive (EachForms C.reads (disk_now (P.view plant.old) Ckpt2) (bytes_of pages.now)) (disk_now (P.view plant.old) Ckpt2)) (P.view plant.old) (P.view plant.new) }
-        ensures ready { OnOk result (AreReady C.ready self.new.first.copy self.new.second.copy self.new.first.alive self.new.second.alive (P.view plant.new)) }
+        ensures during { P.tells → BothMeanwhile
+            (Touched self.old.first.alive (EachForms C.reads (disk_now (P.view plant.old) Ckpt1) (bytes_of pages.now))
+            (disk_now (P.view plant.old) Ckpt1))
+            (Touched self.old.second.alive (EachForms C.reads (disk_now (P.view plant.old) Ckpt2) (bytes_of pages.now))
+            (disk_now (P.view plant.old) Ckpt2)) (P.view plant.old) (P.view plant.new) }
+        ensures ready { OnOk result (AreReady C.ready self.new.first.copy self.new.second.copy self.new.first.alive
+            self.new.second.alive (P.view plant.new)) }
         ensures count1 { OnOk result (self.new.first.alive ≡ true → C.count self.new.first.copy ≡ length pages.now) }
         ensures room1 { OnOk result (self.new.first.alive ≡ true → C.room self.new.first.copy ≡ C.room_most) }
         ensures there1 { OnOk result (self.new.first.alive ≡ true → (P.view plant.new).lost (Disk Ckpt1) ≡ false) }
-        ensures formed1 { OnOk result (P.tells → self.new.first.alive ≡ true → C.rests self.new.first.copy (bytes_of pages.now) (disk_now (P.view plant.new) Ckpt1)) }
+        ensures formed1 { OnOk result (P.tells → self.new.first.alive ≡ true
+            → C.rests self.new.first.copy (bytes_of pages.now) (disk_now (P.view plant.new) Ckpt1)) }
         ensures count2 { OnOk result (self.new.second.alive ≡ true → C.count self.new.second.copy ≡ length pages.now) }
         ensures room2 { OnOk result (self.new.second.alive ≡ true → C.room self.new.second.copy ≡ C.room_most) }
         ensures there2 { OnOk result (self.new.second.alive ≡ true → (P.view plant.new).lost (Disk Ckpt2) ≡ false) }
-        ensures formed2 { OnOk result (P.tells → self.new.second.alive ≡ true → C.rests self.new.second.copy (bytes_of pages.now) (disk_now (P.view plant.new) Ckpt2)) }
+        ensures formed2 { OnOk result (P.tells → self.new.second.alive ≡ true
+            → C.rests self.new.second.copy (bytes_of pages.now) (disk_now (P.view plant.new) Ckpt2)) }
         ensures both { IsErrOf result PairNoBothLost → IsBothLost self.new.first.alive self.new.second.alive }
         ensures ok { OnOk result (SomeAlive self.new.first.alive self.new.second.alive) }
     {
@@ -341,24 +434,46 @@ impl<C: Copying + Drop> Pair<C> {
         by: MemberId,
         pages: &[Page],
     ) -> Result<(), Halted>
-        requires ready { AreReady C.ready self.old.first.copy self.old.second.copy self.old.first.alive self.old.second.alive (P.view plant.old) }
+        requires ready { AreReady C.ready self.old.first.copy self.old.second.copy self.old.first.alive
+            self.old.second.alive (P.view plant.old) }
         requires as_many1 { self.old.first.alive ≡ true → length pages.now ≡ C.count self.old.first.copy }
         requires as_many2 { self.old.second.alive ≡ true → length pages.now ≡ C.count self.old.second.copy }
-        ensures acted { PairActed by.0 self.old.first.alive self.new.first.alive self.old.second.alive self.new.second.alive (half_stopped result) (P.view plant.old) (P.view plant.new) }
-        ensures gone1 { P.tells → (self.old.first.alive ≡ true → C.rests self.old.first.copy (bytes_of pages.now) (disk_now (P.view plant.old) Ckpt1)) → (self.old.second.alive ≡ true → C.rests self.old.second.copy (bytes_of pages.now) (disk_now (P.view plant.old) Ckpt2))
+        ensures acted { PairActed by.0 self.old.first.alive self.new.first.alive self.old.second.alive
+            self.new.second.alive (half_stopped result) (P.view plant.old) (P.view plant.new) }
+        ensures gone1 { P.tells → (self.old.first.alive ≡ true
+            → C.rests self.old.first.copy (bytes_of pages.now) (disk_now (P.view plant.old) Ckpt1))
+            → (self.old.second.alive ≡ true
+            → C.rests self.old.second.copy (bytes_of pages.now) (disk_now (P.view plant.old) Ckpt2))
             → IsGone Ckpt1 self.old.first.alive self.new.first.alive (P.view plant.new) }
         ensures gone2 { P.tells → IsGone Ckpt2 self.old.second.alive self.new.second.alive (P.view plant.new) }
-        ensures during { P.tells → (self.old.first.alive ≡ true → C.rests self.old.first.copy (bytes_of pages.now) (disk_now (P.view plant.old) Ckpt1)) → (self.old.second.alive ≡ true → C.rests self.old.second.copy (bytes_of pages.now) (disk_now (P.view plant.old) Ckpt2))
-            → BothMeanwhile (Touched self.old.first.alive (AllRead C.reads (bytes_of pages.now)) (disk_now (P.view plant.old) Ckpt1)) (Touched self.old.second.alive (AllRead C.reads (bytes_of pages.now)) (disk_now (P.view plant.old) Ckpt2)) (P.view plant.old) (P.view plant.new) }
+        ensures during { P.tells → (self.old.first.alive ≡ true
+            → C.rests self.old.first.copy (bytes_of pages.now) (disk_now (P.view plant.old) Ckpt1))
+            → (self.old.second.alive ≡ true
+            → C.rests self.old.second.copy (bytes_of pages.now) (disk_now (P.view plant.old) Ckpt2))
+            → BothMeanwhile (Touched self.old.first.alive (AllRead C.reads (bytes_of pages.now))
+            (disk_now (P.view plant.old) Ckpt1))
+            (Touched self.old.second.alive (AllRead C.reads (bytes_of pages.now)) (disk_now (P.view plant.old) Ckpt2))
+            (P.view plant.old) (P.view plant.new) }
         ensures count1 { C.count self.new.first.copy ≡ C.count self.old.first.copy }
         ensures count2 { C.count self.new.second.copy ≡ C.count self.old.second.copy }
-        ensures ready { AreReady C.ready self.new.first.copy self.new.second.copy self.new.first.alive self.new.second.alive (P.view plant.new) }
+        ensures ready { AreReady C.ready self.new.first.copy self.new.second.copy self.new.first.alive
+            self.new.second.alive (P.view plant.new) }
         ensures room1 { OnOk result (self.new.first.alive ≡ true → C.room self.new.first.copy ≡ C.room_most) }
         ensures room2 { OnOk result (self.new.second.alive ≡ true → C.room self.new.second.copy ≡ C.room_most) }
-        ensures settled1 { OnOk result (P.tells → (self.old.first.alive ≡ true → C.rests self.old.first.copy (bytes_of pages.now) (disk_now (P.view plant.old) Ckpt1)) → (self.old.second.alive ≡ true → C.rests self.old.second.copy (bytes_of pages.now) (disk_now (P.view plant.old) Ckpt2))
-            → self.new.first.alive ≡ true → C.rests self.new.first.copy (bytes_of pages.now) (disk_now (P.view plant.new) Ckpt1)) }
-        ensures settled2 { OnOk result (P.tells → (self.old.first.alive ≡ true → C.rests self.old.first.copy (bytes_of pages.now) (disk_now (P.view plant.old) Ckpt1)) → (self.old.second.alive ≡ true → C.rests self.old.second.copy (bytes_of pages.now) (disk_now (P.view plant.old) Ckpt2))
-            → self.new.second.alive ≡ true → C.rests self.new.second.copy (bytes_of pages.now) (disk_now (P.view plant.new) Ckpt2)) }
+        ensures settled1 { OnOk result
+            (P.tells → (self.old.first.alive ≡ true
+            → C.rests self.old.first.copy (bytes_of pages.now) (disk_now (P.view plant.old) Ckpt1))
+            → (self.old.second.alive ≡ true
+            → C.rests self.old.second.copy (bytes_of pages.now) (disk_now (P.view plant.old) Ckpt2))
+            → self.new.first.alive ≡ true → C.rests self.new.first.copy (bytes_of pages.now)
+            (disk_now (P.view plant.new) Ckpt1)) }
+        ensures settled2 { OnOk result
+            (P.tells → (self.old.first.alive ≡ true
+            → C.rests self.old.first.copy (bytes_of pages.now) (disk_now (P.view plant.old) Ckpt1))
+            → (self.old.second.alive ≡ true
+            → C.rests self.old.second.copy (bytes_of pages.now) (disk_now (P.view plant.old) Ckpt2))
+            → self.new.second.alive ≡ true
+            → C.rests self.new.second.copy (bytes_of pages.now) (disk_now (P.view plant.new) Ckpt2)) }
     {
         self.first.settle(plant, by, pages)?;
         self.second.settle(plant, by, pages)?;
@@ -374,24 +489,46 @@ impl<C: Copying + Drop> Pair<C> {
         by: MemberId,
         pages: &[Page],
     ) -> Result<(), PairNo>
-        requires ready { AreReady C.ready self.old.first.copy self.old.second.copy self.old.first.alive self.old.second.alive (P.view plant.old) }
+        requires ready { AreReady C.ready self.old.first.copy self.old.second.copy self.old.first.alive
+            self.old.second.alive (P.view plant.old) }
         requires as_many1 { self.old.first.alive ≡ true → length pages.now ≡ C.count self.old.first.copy }
         requires as_many2 { self.old.second.alive ≡ true → length pages.now ≡ C.count self.old.second.copy }
-        ensures acted { PairActed by.0 self.old.first.alive self.new.first.alive self.old.second.alive self.new.second.alive (pair_stopped result) (P.view plant.old) (P.view plant.new) }
-        ensures gone1 { P.tells → (self.old.first.alive ≡ true → C.rests self.old.first.copy (bytes_of pages.now) (disk_now (P.view plant.old) Ckpt1)) → (self.old.second.alive ≡ true → C.rests self.old.second.copy (bytes_of pages.now) (disk_now (P.view plant.old) Ckpt2))
+        ensures acted { PairActed by.0 self.old.first.alive self.new.first.alive self.old.second.alive
+            self.new.second.alive (pair_stopped result) (P.view plant.old) (P.view plant.new) }
+        ensures gone1 { P.tells → (self.old.first.alive ≡ true
+            → C.rests self.old.first.copy (bytes_of pages.now) (disk_now (P.view plant.old) Ckpt1))
+            → (self.old.second.alive ≡ true
+            → C.rests self.old.second.copy (bytes_of pages.now) (disk_now (P.view plant.old) Ckpt2))
             → IsGone Ckpt1 self.old.first.alive self.new.first.alive (P.view plant.new) }
         ensures gone2 { P.tells → IsGone Ckpt2 self.old.second.alive self.new.second.alive (P.view plant.new) }
-        ensures during { P.tells → (self.old.first.alive ≡ true → C.rests self.old.first.copy (bytes_of pages.now) (disk_now (P.view plant.old) Ckpt1)) → (self.old.second.alive ≡ true → C.rests self.old.second.copy (bytes_of pages.now) (disk_now (P.view plant.old) Ckpt2))
-            → BothMeanwhile (Touched self.old.first.alive (AllRead C.reads (bytes_of pages.now)) (disk_now (P.view plant.old) Ckpt1)) (Touched self.old.second.alive (AllRead C.reads (bytes_of pages.now)) (disk_now (P.view plant.old) Ckpt2)) (P.view plant.old) (P.view plant.new) }
+        ensures during { P.tells → (self.old.first.alive ≡ true
+            → C.rests self.old.first.copy (bytes_of pages.now) (disk_now (P.view plant.old) Ckpt1))
+            → (self.old.second.alive ≡ true
+            → C.rests self.old.second.copy (bytes_of pages.now) (disk_now (P.view plant.old) Ckpt2))
+            → BothMeanwhile (Touched self.old.first.alive (AllRead C.reads (bytes_of pages.now))
+            (disk_now (P.view plant.old) Ckpt1))
+            (Touched self.old.second.alive (AllRead C.reads (bytes_of pages.now)) (disk_now (P.view plant.old) Ckpt2))
+            (P.view plant.old) (P.view plant.new) }
         ensures count1 { C.count self.new.first.copy ≡ C.count self.old.first.copy }
         ensures count2 { C.count self.new.second.copy ≡ C.count self.old.second.copy }
-        ensures ready { AreReady C.ready self.new.first.copy self.new.second.copy self.new.first.alive self.new.second.alive (P.view plant.new) }
+        ensures ready { AreReady C.ready self.new.first.copy self.new.second.copy self.new.first.alive
+            self.new.second.alive (P.view plant.new) }
         ensures room1 { OnOk result (self.new.first.alive ≡ true → C.room self.new.first.copy ≡ C.room_most) }
         ensures room2 { OnOk result (self.new.second.alive ≡ true → C.room self.new.second.copy ≡ C.room_most) }
-        ensures settled1 { OnOk result (P.tells → (self.old.first.alive ≡ true → C.rests self.old.first.copy (bytes_of pages.now) (disk_now (P.view plant.old) Ckpt1)) → (self.old.second.alive ≡ true → C.rests self.old.second.copy (bytes_of pages.now) (disk_now (P.view plant.old) Ckpt2))
-            → self.new.first.alive ≡ true → C.rests self.new.first.copy (bytes_of pages.now) (disk_now (P.view plant.new) Ckpt1)) }
-        ensures settled2 { OnOk result (P.tells → (self.old.first.alive ≡ true → C.rests self.old.first.copy (bytes_of pages.now) (disk_now (P.view plant.old) Ckpt1)) → (self.old.second.alive ≡ true → C.rests self.old.second.copy (bytes_of pages.now) (disk_now (P.view plant.old) Ckpt2))
-            → self.new.second.alive ≡ true → C.rests self.new.second.copy (bytes_of pages.now) (disk_now (P.view plant.new) Ckpt2)) }
+        ensures settled1 { OnOk result
+            (P.tells → (self.old.first.alive ≡ true
+            → C.rests self.old.first.copy (bytes_of pages.now) (disk_now (P.view plant.old) Ckpt1))
+            → (self.old.second.alive ≡ true
+            → C.rests self.old.second.copy (bytes_of pages.now) (disk_now (P.view plant.old) Ckpt2))
+            → self.new.first.alive ≡ true → C.rests self.new.first.copy (bytes_of pages.now)
+            (disk_now (P.view plant.new) Ckpt1)) }
+        ensures settled2 { OnOk result
+            (P.tells → (self.old.first.alive ≡ true
+            → C.rests self.old.first.copy (bytes_of pages.now) (disk_now (P.view plant.old) Ckpt1))
+            → (self.old.second.alive ≡ true
+            → C.rests self.old.second.copy (bytes_of pages.now) (disk_now (P.view plant.old) Ckpt2))
+            → self.new.second.alive ≡ true
+            → C.rests self.new.second.copy (bytes_of pages.now) (disk_now (P.view plant.new) Ckpt2)) }
         ensures both { IsErrOf result PairNoBothLost → IsBothLost self.new.first.alive self.new.second.alive }
         ensures ok { OnOk result (SomeAlive self.new.first.alive self.new.second.alive) }
     {
@@ -406,19 +543,25 @@ impl<C: Copying + Drop> Pair<C> {
         page: u16,
         into: &mut Page,
     ) -> Result<(), Halted>
-        requires ready { AreReady C.ready self.old.first.copy self.old.second.copy self.old.first.alive self.old.second.alive (P.view plant.old) }
+        requires ready { AreReady C.ready self.old.first.copy self.old.second.copy self.old.first.alive
+            self.old.second.alive (P.view plant.old) }
         requires page1 { self.old.first.alive ≡ true → page < C.count self.old.first.copy }
         requires page2 { self.old.second.alive ≡ true → page < C.count self.old.second.copy }
-        ensures acted { PairActed by.0 self.old.first.alive self.new.first.alive self.old.second.alive self.new.second.alive (half_stopped result) (P.view plant.old) (P.view plant.new) }
+        ensures acted { PairActed by.0 self.old.first.alive self.new.first.alive self.old.second.alive
+            self.new.second.alive (half_stopped result) (P.view plant.old) (P.view plant.new) }
         ensures gone1 { P.tells → IsGone Ckpt1 self.old.first.alive self.new.first.alive (P.view plant.new) }
         ensures gone2 { P.tells → IsGone Ckpt2 self.old.second.alive self.new.second.alive (P.view plant.new) }
-        ensures during { P.tells → BothMeanwhile (NoMore (disk_now (P.view plant.old) Ckpt1)) (NoMore (disk_now (P.view plant.old) Ckpt2)) (P.view plant.old) (P.view plant.new) }
+        ensures during { P.tells → BothMeanwhile (NoMore (disk_now (P.view plant.old) Ckpt1))
+            (NoMore (disk_now (P.view plant.old) Ckpt2)) (P.view plant.old) (P.view plant.new) }
         ensures copy1 { self.new.first.copy ≡ self.old.first.copy }
         ensures copy2 { self.new.second.copy ≡ self.old.second.copy }
         ensures err { OnErr result (into.new ≡ into.old) }
-        ensures read { OnOk result (P.tells → SomeAlive self.new.first.alive self.new.second.alive → (was : List ℕ) → (self.new.first.alive ≡ true → C.rests self.old.first.copy was (disk_now (P.view plant.old) Ckpt1))
-            → (self.new.first.alive ≡ false → C.rests self.old.second.copy was (disk_now (P.view plant.old) Ckpt2)) → into.new.0 ≡ page_in page was) }
-        ensures none { OnOk result (self.new.first.alive ≡ false → self.new.second.alive ≡ false → into.new ≡ into.old) }
+        ensures read { OnOk result (P.tells → SomeAlive self.new.first.alive self.new.second.alive → (was : List ℕ)
+            → (self.new.first.alive ≡ true → C.rests self.old.first.copy was (disk_now (P.view plant.old) Ckpt1))
+            → (self.new.first.alive ≡ false → C.rests self.old.second.copy was (disk_now (P.view plant.old) Ckpt2))
+            → into.new.0 ≡ page_in page was) }
+        ensures none { OnOk result (self.new.first.alive ≡ false → self.new.second.alive ≡ false
+            → into.new ≡ into.old) }
     {
         self.first.read_page(plant, by, page, into)?;
         if self.first.alive {
@@ -436,18 +579,23 @@ impl<C: Copying + Drop> Pair<C> {
         page: u16,
         into: &mut Page,
     ) -> Result<(), PairNo>
-        requires ready { AreReady C.ready self.old.first.copy self.old.second.copy self.old.first.alive self.old.second.alive (P.view plant.old) }
+        requires ready { AreReady C.ready self.old.first.copy self.old.second.copy self.old.first.alive
+            self.old.second.alive (P.view plant.old) }
         requires page1 { self.old.first.alive ≡ true → page < C.count self.old.first.copy }
         requires page2 { self.old.second.alive ≡ true → page < C.count self.old.second.copy }
-        ensures acted { PairActed by.0 self.old.first.alive self.new.first.alive self.old.second.alive self.new.second.alive (pair_stopped result) (P.view plant.old) (P.view plant.new) }
+        ensures acted { PairActed by.0 self.old.first.alive self.new.first.alive self.old.second.alive
+            self.new.second.alive (pair_stopped result) (P.view plant.old) (P.view plant.new) }
         ensures gone1 { P.tells → IsGone Ckpt1 self.old.first.alive self.new.first.alive (P.view plant.new) }
         ensures gone2 { P.tells → IsGone Ckpt2 self.old.second.alive self.new.second.alive (P.view plant.new) }
-        ensures during { P.tells → BothMeanwhile (NoMore (disk_now (P.view plant.old) Ckpt1)) (NoMore (disk_now (P.view plant.old) Ckpt2)) (P.view plant.old) (P.view plant.new) }
+        ensures during { P.tells → BothMeanwhile (NoMore (disk_now (P.view plant.old) Ckpt1))
+            (NoMore (disk_now (P.view plant.old) Ckpt2)) (P.view plant.old) (P.view plant.new) }
         ensures copy1 { self.new.first.copy ≡ self.old.first.copy }
         ensures copy2 { self.new.second.copy ≡ self.old.second.copy }
         ensures err { OnErr result (into.new ≡ into.old) }
-        ensures read { OnOk result (P.tells → (was : List ℕ) → (self.new.first.alive ≡ true → C.rests self.old.first.copy was (disk_now (P.view plant.old) Ckpt1))
-            → (self.new.first.alive ≡ false → C.rests self.old.second.copy was (disk_now (P.view plant.old) Ckpt2)) → into.new.0 ≡ page_in page was) }
+        ensures read { OnOk result (P.tells → (was : List ℕ)
+            → (self.new.first.alive ≡ true → C.rests self.old.first.copy was (disk_now (P.view plant.old) Ckpt1))
+            → (self.new.first.alive ≡ false → C.rests self.old.second.copy was (disk_now (P.view plant.old) Ckpt2))
+            → into.new.0 ≡ page_in page was) }
         ensures both { IsErrOf result PairNoBothLost → IsBothLost self.new.first.alive self.new.second.alive }
         ensures ok { OnOk result (SomeAlive self.new.first.alive self.new.second.alive) }
     {

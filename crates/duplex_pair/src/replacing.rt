@@ -53,7 +53,9 @@ fn renew_device<P: Plant>(plant: &mut P, dev: Dev) -> Result<(), ReplaceNo>
     ensures failed { OnErr result (Rose ((P.view plant.old).faults (Disk dev)) ((P.view plant.new).faults (Disk dev))) }
     ensures lost { OnErr result ((P.view plant.new).lost (Disk dev) ≡ true) }
     ensures there { OnOk result ((P.view plant.new).lost (Disk dev) ≡ false) }
-    ensures during { P.tells → WhileReplaced dev (IsOrBlank ((P.view plant.old).size dev) (disk_now (P.view plant.old) dev)) (P.view plant.old) (P.view plant.new) }
+    ensures during { P.tells → WhileReplaced dev
+        (IsOrBlank ((P.view plant.old).size dev) (disk_now (P.view plant.old) dev)) (P.view plant.old)
+        (P.view plant.new) }
     ensures blank { OnOk result (P.tells → IsBlank ((P.view plant.old).size dev) (disk_now (P.view plant.new) dev)) }
 {
     match plant.renew(dev) {
@@ -79,11 +81,16 @@ impl<C: Copying + Drop> Half<C> {
         ensures err { OnErr result (self.new ≡ self.old) }
         ensures acted { OnErr result (IsErrOf result Failed ⊎ IsErrOf result ReplaceHalted) }
         ensures replaces { Replaces by.0 dev (replace_stopped result) (P.view plant.old) (P.view plant.new) }
-        ensures failed { IsErrOf result Failed → Rose ((P.view plant.old).faults (Disk dev)) ((P.view plant.new).faults (Disk dev)) }
+        ensures failed { IsErrOf result Failed
+            → Rose ((P.view plant.old).faults (Disk dev)) ((P.view plant.new).faults (Disk dev)) }
         ensures lost { IsErrOf result Failed → (P.view plant.new).lost (Disk dev) ≡ true }
-        ensures ok { OnOk result ((self.new.alive ≡ true) × IsFormed C.count C.room C.room_most C.ready (length pages.now) dev (P.view plant.new) self.new.copy) }
-        ensures during { P.tells → WhileReplaced dev (IsOrForms C.reads (disk_now (P.view plant.old) dev) (bytes_of pages.now)) (P.view plant.old) (P.view plant.new) }
-        ensures formed { OnOk result (P.tells → C.rests self.new.copy (bytes_of pages.now) (disk_now (P.view plant.new) dev)) }
+        ensures ok { OnOk result ((self.new.alive ≡ true)
+            × IsFormed C.count C.room C.room_most C.ready (length pages.now) dev (P.view plant.new) self.new.copy) }
+        ensures during { P.tells → WhileReplaced dev
+            (IsOrForms C.reads (disk_now (P.view plant.old) dev) (bytes_of pages.now)) (P.view plant.old)
+            (P.view plant.new) }
+        ensures formed { OnOk result (P.tells
+            → C.rests self.new.copy (bytes_of pages.now) (disk_now (P.view plant.new) dev)) }
     {
         renew_device(plant, dev)?;
         self.copy.form(plant, by, pages)?;
@@ -108,11 +115,18 @@ impl<C: Copying + Drop> Pair<C> {
         ensures err { OnErr result (pick dev self.new.first self.new.second ≡ pick dev self.old.first self.old.second) }
         ensures acted { OnErr result (IsErrOf result Failed ⊎ IsErrOf result ReplaceHalted) }
         ensures replaces { Replaces by.0 dev (replace_stopped result) (P.view plant.old) (P.view plant.new) }
-        ensures failed { IsErrOf result Failed → Rose ((P.view plant.old).faults (Disk dev)) ((P.view plant.new).faults (Disk dev)) }
+        ensures failed { IsErrOf result Failed
+            → Rose ((P.view plant.old).faults (Disk dev)) ((P.view plant.new).faults (Disk dev)) }
         ensures lost { IsErrOf result Failed → (P.view plant.new).lost (Disk dev) ≡ true }
-        ensures ok { OnOk result (((pick dev self.new.first self.new.second).alive ≡ true) × IsFormed C.count C.room C.room_most C.ready (length pages.now) dev (P.view plant.new) (pick dev self.new.first self.new.second).copy) }
-        ensures during { P.tells → WhileReplaced dev (IsOrForms C.reads (disk_now (P.view plant.old) dev) (bytes_of pages.now)) (P.view plant.old) (P.view plant.new) }
-        ensures formed { OnOk result (P.tells → C.rests (pick dev self.new.first self.new.second).copy (bytes_of pages.now) (disk_now (P.view plant.new) dev)) }
+        ensures ok { OnOk result (((pick dev self.new.first self.new.second).alive ≡ true)
+            × IsFormed C.count C.room C.room_most C.ready (length pages.now) dev (P.view plant.new)
+            (pick dev self.new.first self.new.second).copy) }
+        ensures during { P.tells → WhileReplaced dev
+            (IsOrForms C.reads (disk_now (P.view plant.old) dev) (bytes_of pages.now)) (P.view plant.old)
+            (P.view plant.new) }
+        ensures formed { OnOk result (P.tells
+            → C.rests (pick dev self.new.first self.new.second).copy (bytes_of pages.now)
+            (disk_now (P.view plant.new) dev)) }
     {
         match dev {
             Dev::Ckpt1 => self.first.replace(plant, by, dev, pages),
@@ -124,9 +138,10 @@ impl<C: Copying + Drop> Pair<C> {
     /// Puts another device in the place of a lost one, and makes a copy of these pages on it: those that the other copy
     /// reads. The copy counts as lost up to an Ok, and as alive from then on; the other copy stays as it is.
     ///
-    /// At each moment of the call the device is as it was, or each of its images reads as none or as these pages. After Ok
-    /// each reads as these pages. NotLost comes exactly where the copy counts as alive, and BothLost exactly where neither
-    /// does; then no act is made. After any error the pair is as it was. After Failed the new device is lost too.
+    /// At each moment of the call the device is as it was, or each of its images reads as none or as these pages. After
+    /// Ok each reads as these pages. NotLost comes exactly where the copy counts as alive, and BothLost exactly where
+    /// neither does; then no act is made. After any error the pair is as it was. After Failed the new device is lost
+    /// too.
     pub fn replace<P: Plant>(
         &mut self,
         plant: &mut P,
@@ -141,15 +156,24 @@ impl<C: Copying + Drop> Pair<C> {
         ensures other { other dev self.new.first self.new.second ≡ other dev self.old.first self.old.second }
         ensures err { OnErr result (pick dev self.new.first self.new.second ≡ pick dev self.old.first self.old.second) }
         ensures alive { (pick dev self.old.first self.old.second).alive ≡ true → IsErrOf result NotLost }
-        ensures not_lost { IsErrOf result NotLost → ((pick dev self.old.first self.old.second).alive ≡ true) × (plant.new ≡ plant.old) }
+        ensures not_lost { IsErrOf result NotLost → ((pick dev self.old.first self.old.second).alive ≡ true)
+            × (plant.new ≡ plant.old) }
         ensures dead { IsBothLost self.old.first.alive self.old.second.alive → IsErrOf result BothLost }
-        ensures both { IsErrOf result BothLost → IsBothLost self.old.first.alive self.old.second.alive × (plant.new ≡ plant.old) }
+        ensures both { IsErrOf result BothLost → IsBothLost self.old.first.alive self.old.second.alive
+            × (plant.new ≡ plant.old) }
         ensures replaces { Replaces by.0 dev (replace_stopped result) (P.view plant.old) (P.view plant.new) }
-        ensures failed { IsErrOf result Failed → Rose ((P.view plant.old).faults (Disk dev)) ((P.view plant.new).faults (Disk dev)) }
+        ensures failed { IsErrOf result Failed
+            → Rose ((P.view plant.old).faults (Disk dev)) ((P.view plant.new).faults (Disk dev)) }
         ensures lost { IsErrOf result Failed → (P.view plant.new).lost (Disk dev) ≡ true }
-        ensures ok { OnOk result (((pick dev self.new.first self.new.second).alive ≡ true) × IsFormed C.count C.room C.room_most C.ready (length pages.now) dev (P.view plant.new) (pick dev self.new.first self.new.second).copy) }
-        ensures during { P.tells → WhileReplaced dev (IsOrForms C.reads (disk_now (P.view plant.old) dev) (bytes_of pages.now)) (P.view plant.old) (P.view plant.new) }
-        ensures formed { OnOk result (P.tells → C.rests (pick dev self.new.first self.new.second).copy (bytes_of pages.now) (disk_now (P.view plant.new) dev)) }
+        ensures ok { OnOk result (((pick dev self.new.first self.new.second).alive ≡ true)
+            × IsFormed C.count C.room C.room_most C.ready (length pages.now) dev (P.view plant.new)
+            (pick dev self.new.first self.new.second).copy) }
+        ensures during { P.tells → WhileReplaced dev
+            (IsOrForms C.reads (disk_now (P.view plant.old) dev) (bytes_of pages.now)) (P.view plant.old)
+            (P.view plant.new) }
+        ensures formed { OnOk result (P.tells
+            → C.rests (pick dev self.new.first self.new.second).copy (bytes_of pages.now)
+            (disk_now (P.view plant.new) dev)) }
     {
         if self.alive(dev) {
             return Err(ReplaceNo::NotLost);

@@ -1,5 +1,5 @@
-//! A plant over the files of a folder, and a source over standard input, at work on a folder that isn't there yet. What the
-//! first plant leaves is there for the second.
+//! A plant over the files of a folder, and a source over standard input, at work on a folder that isn't there yet. What
+//! the first plant leaves is there for the second.
 #![tactic(auto)]
 
 mod plants;

@@ -65,7 +65,7 @@ may_same v es out = subst (λ (z : Facts). MayEnd v z) out record {
   marks = later_refl [] v.out.marks;
 }
 
--- nothing was added
+-- a value to which nothing was added may be given back
 pub may_keep : (v : View) (es es' : List Entry) → v.out ≡ diary_facts es → es' ≡ es → MayEnd v (diary_facts es')
 may_keep v es es' out e = may_same v es' (out ∙ ap diary_facts (sym e))
 

@@ -47,7 +47,7 @@ written_joined r a by last n steps above cares mine m low high = dite (ℕ_discr
       (w.1.0, chosen_second [] a.cares a.last.begun r.last.begun m (ap (λ l. marked_at l m) cares ∙ single_else by m ne) ∙ w.1.1),
     ))
 
--- in the end
+-- in the end each member's entries stand in order
 pub stand_in_order : (v : View) (es : List Entry) (members : ℕ) (steps : List ℕ) → members < seats → Meets v (diary_facts es) → HaveWritten v 1 members steps → StandInOrder es members steps
 stand_in_order v es members steps few meets wrote m pos high =
     let w = wrote m (omega arith) high in

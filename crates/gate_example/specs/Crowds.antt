@@ -16,8 +16,10 @@ pub record IsRest (v : View) (next : ℕ) : Type 0 where
 
 -- the pass knows of each of these members that it wrote the entries of its first steps
 abbrev pub HaveWritten : View → ℕ → ℕ → List ℕ → Type 0
-HaveWritten v first last steps = (m : ℕ) → first ≤ m → m ≤ last → (marked_at v.cares m ≡ true) × ((n : ℕ) × (begun_of v.last m ≡ written m (take n steps)))
+HaveWritten v first last steps = (m : ℕ) → first ≤ m → m ≤ last → (marked_at v.cares m ≡ true)
+    × ((n : ℕ) × (begun_of v.last m ≡ written m (take n steps)))
 
 -- of each member the entries of its first steps stand in the one history, each once and in order
 abbrev pub StandInOrder : List Entry → ℕ → List ℕ → Type 0
-StandInOrder entries members steps = (m : ℕ) → 0 < m → m ≤ members → (n : ℕ) × (entries_by m entries ≡ written m (take n steps))
+StandInOrder entries members steps = (m : ℕ) → 0 < m → m ≤ members → (n : ℕ)
+    × (entries_by m entries ≡ written m (take n steps))

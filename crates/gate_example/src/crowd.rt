@@ -73,7 +73,8 @@ fn spread<R: Threads + Wait + Sync>(
     let pass = split_next(gate, &mut root, members, by);
     let above = by + 1;
     let others = move || -> Pass<Diary>
-        requires { IsSync R.row × IsPassOf gate.now root × (members ≡ members_of gate.now) × (members < seats) × (0 < above) × (above ≤ members + 1) × IsRest (view root) above }
+        requires { IsSync R.row × IsPassOf gate.now root × (members ≡ members_of gate.now) × (members < seats)
+            × (0 < above) × (above ≤ members + 1) × IsRest (view root) above }
         ensures own { IsPassOf gate.entry.now result }
         ensures free { (view result).has ≡ false }
         ensures written { HaveWritten (view result) above members steps.entry.now }

@@ -26,7 +26,9 @@ pub fn write_one<R: Wait>(
     ensures own { IsPassOf gate.now pass.new }
     ensures free { (view pass.new).has ≡ false }
     ensures same { IsSame (view pass.old) (view pass.new) }
-    ensures written { MatchBool result (begun_of (view pass.new).last by ≡ begun_of (view pass.old).last by ++ entry by step ∷ []) (begun_of (view pass.new).last by ≡ begun_of (view pass.old).last by) }
+    ensures written { MatchBool result
+        (begun_of (view pass.new).last by ≡ begun_of (view pass.old).last by ++ entry by step ∷ [])
+        (begun_of (view pass.new).last by ≡ begun_of (view pass.old).last by) }
 {
     let mut diary = gate.turn(rt, pass);
     let entry = Entry {

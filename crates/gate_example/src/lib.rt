@@ -1,5 +1,5 @@
-//! A history that members write in turn: the smallest value for a gate, and threads that use it. It stands for no part of
-//! the spool. It shows that a gate's clauses are enough to say of several threads whose entries stand where.
+//! A history that members write in turn: the smallest value for a gate, and threads that use it. It stands for no part
+//! of the spool. It shows that a gate's clauses are enough to say of several threads whose entries stand where.
 #![tactic(auto)]
 
 mod crowd;

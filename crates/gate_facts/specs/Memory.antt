@@ -14,8 +14,8 @@ use Rattle.gate_facts.specs.Values.{StartsWith, marked_at, number_at, begun_of, 
 abbrev pub seats : ℕ
 seats = members_most + 1
 
--- the base; the entries that were kept; of which members it knows the begun entries, the lines and the counts of stops; these, and each
--- member's stop and desk; the marks
+-- the base; the entries that were kept; of which members it knows the begun entries, the lines and the counts of stops;
+-- these, and each member's stop and desk; the marks
 pub record Memory : Type 0 where
   pub base : Queue
   pub seen : List Entry
@@ -26,9 +26,19 @@ pub record Memory : Type 0 where
   pub desk : ℕ → Desk
   pub marks : Marks
 
--- of a value that nobody else can change
+-- the memory of a value that nobody else can change
 abbrev pub memory_of : Facts → Memory
-memory_of f = record { base = f.base; seen = f.kept; cares = replicate seats true; begun = begun_of f; lines = lines_of f; stopped = stopped_of f; desk = desk_of f; marks = f.marks }
+memory_of f = record {
+  base = f.base;
+  seen = f.kept;
+  cares = replicate seats true;
+  begun = begun_of f;
+  lines = lines_of
+      f;
+  stopped = stopped_of f;
+  desk = desk_of f;
+  marks = f.marks;
+}
 
 -- WHAT THE MEMBER KNOWS: what the value may be at a turn of the member m that remembers this
 pub record Knows (m : ℕ) (y : Memory) (is : Facts) : Type 0 where
@@ -38,7 +48,8 @@ pub record Knows (m : ℕ) (y : Memory) (is : Facts) : Type 0 where
   pub lines : (k : ℕ) → marked_at y.cares k ≡ true → lines_of is k ≡ y.lines k
   pub stopped : 0 < m → stopped_of is m ≡ y.stopped m
   pub desk : stopped_of is m ≡ false → Synced (desk_of is m) (y.desk m)
-  pub no_more : stopped_of is m ≡ false → (k : ℕ) (e : Entry) → get_elem? is.kept k ≡ some e → length y.seen ≤ k → e.by.0 ≢ m
+  pub no_more : stopped_of is m ≡ false → (k : ℕ) (e : Entry) → get_elem? is.kept k ≡ some e → length y.seen ≤ k
+      → e.by.0 ≢ m
   pub marks : Later y.cares is.marks y.marks
 
 abbrev pub EachOf : (Entry → Type 0) → List Entry → Type 0
@@ -48,7 +59,8 @@ EachOf P (e ∷ es) = P e × EachOf P es
 -- WHAT IT MAY GIVE BACK: what the value may be that the member m, which cares for these, gives back where it took `was`
 pub record MayGiveBack (m : ℕ) (cares : List Bool) (was is : Facts) : Type 0 where
   pub base : is.base ≡ was.base
-  pub kept : (more : List Entry) × (is.kept ≡ was.kept ++ more) × EachOf (λ e. (e.by.0 ≡ m) ⊎ (stopped_of is e.by.0 ≡ true)) more
+  pub kept : (more : List Entry) × (is.kept ≡ was.kept ++ more)
+      × EachOf (λ e. (e.by.0 ≡ m) ⊎ (stopped_of is e.by.0 ≡ true)) more
   pub still_stopped : (k : ℕ) → stopped_of was k ≡ true → stopped_of is k ≡ true
   pub still_up : (k : ℕ) → k ≢ m → stopped_of was k ≡ false → stopped_of is k ≡ false
   pub begun : (k : ℕ) → marked_at cares k ≡ false → begun_of is k ≡ begun_of was k

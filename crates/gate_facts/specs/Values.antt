@@ -19,7 +19,13 @@ number_at ns k = slice_index_or ns k 0
 
 -- who doesn't hold, has printed and told nothing and has no group
 abbrev pub no_desk : Desk
-no_desk = record { hold = record { locked = false; pages = []; batch = []; logged = []; opened = [] }; printed = 0; told = 0; groups = [] }
+no_desk = record {
+  hold = record { locked = false; pages = []; batch = []; logged = []; opened = [] };
+  printed = 0;
+  told
+      = 0;
+  groups = [];
+}
 
 abbrev pub begun_of : Facts → ℕ → List Entry
 begun_of f m = slice_index_or f.begun m []
@@ -38,12 +44,13 @@ abbrev pub entries_by : ℕ → List Entry → List Entry
 entries_by m [] = []
 entries_by m (e ∷ es) = if nat_eq e.by.0 m then e ∷ entries_by m es else entries_by m es
 
--- the same groups, of which some may have become synced
+-- the first groups are the second, of which some may have become synced
 abbrev pub SyncedGroups : List Group → List Group → Type 0
 SyncedGroups [] [] = Unit {0}
 SyncedGroups [] (h ∷ hs) = ⊥
 SyncedGroups (g ∷ gs) [] = ⊥
-SyncedGroups (g ∷ gs) (h ∷ hs) = (g.number ≡ h.number) × (g.bytes ≡ h.bytes) × (g.unsynced ≡ true → h.unsynced ≡ true) × SyncedGroups gs hs
+SyncedGroups (g ∷ gs) (h ∷ hs) = (g.number ≡ h.number) × (g.bytes ≡ h.bytes) × (g.unsynced ≡ true → h.unsynced ≡ true)
+    × SyncedGroups gs hs
 
 -- the first desk is the second, but that groups in it may have become synced
 pub record Synced (d e : Desk) : Type 0 where
@@ -52,8 +59,8 @@ pub record Synced (d e : Desk) : Type 0 where
   pub told : d.told ≡ e.told
   pub groups : SyncedGroups d.groups e.groups
 
--- The first marks are as late as the second, or later: no count fell, what was lost is lost, and a device was lost by command at most once
--- more, as its copy was lost since. Of the members that are marked the stops are the same
+-- The first marks are as late as the second, or later: no count fell, what was lost is lost, and a device was lost by
+-- command at most once more, as its copy was lost since. Of the members that are marked the stops are the same
 pub record Later (stops_of : List Bool) (a b : Marks) : Type 0 where
   pub since : a.since ≡ b.since
   pub arms : a.arms ≡ b.arms
@@ -61,4 +68,5 @@ pub record Later (stops_of : List Bool) (a b : Marks) : Type 0 where
   pub stops : (m : ℕ) → number_at b.stops m ≤ number_at a.stops m
   pub faults : (k : ℕ) → number_at b.faults k ≤ number_at a.faults k
   pub lost : (d : ℕ) → marked_at b.lost d ≡ true → marked_at a.lost d ≡ true
-  pub loses : (d : ℕ) → (number_at a.loses d ≡ number_at b.loses d) ⊎ ((number_at a.loses d ≡ number_at b.loses d + 1) × (marked_at a.lost d ≡ true) × (marked_at b.lost d ≡ false))
+  pub loses : (d : ℕ) → (number_at a.loses d ≡ number_at b.loses d)
+      ⊎ ((number_at a.loses d ≡ number_at b.loses d + 1) × (marked_at a.lost d ≡ true) × (marked_at b.lost d ≡ false))

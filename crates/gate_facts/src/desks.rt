@@ -3,7 +3,7 @@ use mas_types::{Dev, Entry, GroupNo, List, Page};
 
 /// What a member has of the checkpoint.
 pub struct Hold {
-    /// It holds the lock. Where it doesn't, the rest is empty.
+    /// The member holds the lock. Where it doesn't, the other fields are empty.
     pub locked: bool,
     /// The pages that the good copies without the batch read.
     pub pages: List<Page>,
@@ -17,11 +17,11 @@ pub struct Hold {
 
 /// A track group that the member took for a text to come.
 pub struct Group {
-    /// Which one.
+    /// The group's number.
     pub number: GroupNo,
-    /// Its bytes.
+    /// The group's bytes.
     pub bytes: Page,
-    /// It has bytes that a crash may lose.
+    /// The group has bytes that a crash may lose.
     pub unsynced: bool,
 }
 

@@ -3,8 +3,8 @@ use crate::desks::Desk;
 use crate::marks::Marks;
 use mas_types::{Entry, Lines, List, Queue};
 
-/// A shared value. What is said of each member is a list, with member 0 first; a list that is too short counts as filled
-/// up with what is empty.
+/// A shared value. What is said of each member is a list, with member 0 first; a list that is too short counts as
+/// filled up with what is empty.
 pub struct Facts {
     /// The queue before the history.
     pub base: Queue,

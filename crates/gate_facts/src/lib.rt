@@ -1,6 +1,6 @@
-//! What a value that members share tells of itself, as plain data, and what one who takes turns at it knows: which value may be
-//! found at a turn, and which may be given back. Nothing here runs: the definitions in specs/ are what the contracts of a
-//! gate, and of all that takes turns, speak of.
+//! What a value that members share tells of itself, as plain data, and what one who takes turns at it knows: which
+//! value may be found at a turn, and which may be given back. Nothing here runs: the definitions in specs/ are what the
+//! contracts of a gate, and of all that takes turns, speak of.
 #![tactic(auto)]
 
 mod desks;

@@ -101,7 +101,7 @@ one_more members k lines line ne = filter-append (λ l. speaker members l == k) 
 abbrev pub whole_texts : List Line → List (List ℕ)
 whole_texts lines = map (λ l. l.text) (filter (λ l. l.whole) lines)
 
--- a line behind the others, of which a part at the front is left out
+-- a line after the others, of which a part at the front is left out
 one_behind : (members k n : ℕ) (was : List Line) (l : Line) → n ≤ length was → (l.whole ≡ true → speaker members l.text ≢ k)
     → lines_by members k (whole_texts (drop n (was ++ l ∷ []))) ≡ lines_by members k (whole_texts (drop n was))
 one_behind members k n was l le ne =

@@ -47,7 +47,7 @@ set_true (x ∷ xs) zero (suc j) s d e was = was
 set_true (x ∷ xs) (suc i) zero s d e was = was
 set_true (x ∷ xs) (suc i) (suc j) s d e was = set_true xs i j s d e was
 
--- another member doesn't have what this one has
+-- what one member has another doesn't have
 not_other : (m k : MemberId) → k.0 ≢ m.0 → (is_somebody k && same_member m k) ≡ false
 not_other m k ne = ap (λ z. is_somebody k && z) (ne_eqb m.0 k.0 (λ e. ne (sym e))) ∙ and_false (is_somebody k) where
   and_false : (z : Bool) → (z && false) ≡ false

@@ -68,6 +68,6 @@ locked_desk x told m few has =
     ap (λ (d : Desk). d.hold.locked) (seat_at (desk_in told x) no_desk 0 9 m.0 m few (omega arith))
     ∙ ap (λ z. (if z then whole_hold (pages_had told x) (coming x.current x.reserved) x.first x.second else no_hold).locked) has
 
--- and remembers that it has it
+-- a member that has the lock remembers that it has it
 pub left_locked : (y : Memory) (x : Shown) (m : MemberId) → IsLeft m.0 y (facts_of false x) → m.0 < 9 → has_lock x.book m ≡ true → (y.desk m.0).hold.locked ≡ true
 left_locked y x m left few has = ap (λ (d : Desk). d.hold.locked) left.desk ∙ locked_desk x false m few has

@@ -195,7 +195,7 @@ module _ (per : ℕ) (g : GroupNo) (old new : View) (bytes : Page) (act : Act) (
       quiet_spared per (spools_at old old.now) (spools_at new new.now) h
       (quiet_same (spools_at old old.now (volume_of per h)) (spools_at new new.now (volume_of per h)) (writes.only.others (Spool (volume_of per h)) (λ same. ne (cc same))))
 
-  -- another group on this one
+  -- another group on the volume that was written
   spared_beside : (h : GroupNo) → h.0 ≢ g.0 → volume_of per h ≡ volume_of per g → SparesGroup h
   spared_beside h other same = let within = is_within old per g in ⊎_elim
       (λ (dirtied : DirtiedIn (page_start within (start_of per g)) (length (page_part within bytes.0)) (disk_now old (device_of per g)) (disk_now new (device_of per g))).

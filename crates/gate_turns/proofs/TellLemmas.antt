@@ -75,7 +75,7 @@ decimal_value n small = decimal_by_steps (λ m ds. value_of ds ≡ m)
 digits_value : (width n : ℕ) → n < 2 ^ 64 → value_of (in_digits width n) ≡ n
 digits_value width n small = zeros_value (width - length (decimal n)) (decimal n) ∙ decimal_value n small
 
--- each byte is one of these
+-- each byte is in a range
 abbrev between_all : ℕ → ℕ → List ℕ → Bool
 between_all least most text = list_all (λ b. nat_le least b && nat_le b most) text
 
@@ -99,7 +99,7 @@ digits_between : (width n : ℕ) → n < 2 ^ 64 → between_all 48 57 (in_digits
 digits_between width n small = list_all-append (λ b. nat_le 48 b && nat_le b 57) (replicate (width - length (decimal n)) 48) (decimal n)
     ∙ and_from (between_all 48 57 (replicate (width - length (decimal n)) 48)) (between_all 48 57 (decimal n)) (zeros_between (width - length (decimal n))) (decimal_between n small)
 
--- a byte below them doesn't stand there
+-- a byte below 48 doesn't stand among bytes that aren't
 below_lacks : (by : ℕ) (text : List ℕ) → by < 48 → between_all 48 57 text ≡ true → lacks by text ≡ true
 below_lacks by [] below h = refl
 below_lacks by (b ∷ text) below h =
@@ -165,7 +165,7 @@ output_read n index small few =
     ap (λ ws. reply.Output (job_in (word_at ws 0)) (record { 0 = number_at_word ws 1 })) (output_parts n index small few)
     ∙ (λ i. reply.Output (job_read n small i) (record { 0 = digits_value 2 index few i }))
 
--- nor does a point split a blank's word
+-- no blank stands in the word of an output
 blank_output : (n index : ℕ) → n < 2 ^ 64 → index < 2 ^ 64 → lacks 32 (key_of n ++ 46 ∷ in_digits 2 index) ≡ true
 blank_output n index small few = list_all-append (λ b. not (b == 32)) (key_of n) (46 ∷ in_digits 2 index)
     ∙ and_from (lacks 32 (key_of n)) (lacks 32 (46 ∷ in_digits 2 index)) (blank_key n small) (digits_lack 32 2 index (omega arith) few)
@@ -180,7 +180,7 @@ record Found (end : Closing) : Type 0 where
   there : at < length (closings_of known)
   text : closing_text (slice_index_or (closings_of known) at closing.NotHolder) ≡ closing_text end
 
--- one word behind those that are the same for all
+-- one word after those that are the same for all
 last_word : (w : List ℕ) → lacks 32 w ≡ true → parted_by 32 w ≡ w ∷ []
 last_word w l = part_last 32 w l
 

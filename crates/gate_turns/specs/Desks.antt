@@ -26,7 +26,7 @@ Disks = Dev → Disk
 
 -- THE CHECKPOINT
 
--- so many pages, from a number on
+-- so many pages of bytes, from the page of a number on
 abbrev pub pages_from : ℕ → ℕ → List ℕ → List Page
 pages_from at zero bytes = []
 pages_from at (suc n) bytes = record { 0 = page_in at bytes } ∷ pages_from (at + 1) n bytes
@@ -50,7 +50,8 @@ one_of None None = []
 -- the pages of this level, which those of the good copies read that don't read a batch in flight
 unfoldable pub kept_pages : (List ℕ → Option (List ℕ)) → ℕ → Bool → Bool → Disks → List Page
 kept_pages reads reached first second disks =
-    one_of (if_good first (if_at_level reached (reads (disks Ckpt1).bytes))) (if_good second (if_at_level reached (reads (disks Ckpt2).bytes)))
+    one_of (if_good first (if_at_level reached (reads (disks Ckpt1).bytes)))
+    (if_good second (if_at_level reached (reads (disks Ckpt2).bytes)))
 
 abbrev pub is_logged : Place → Bool
 is_logged Put = true
@@ -66,14 +67,22 @@ no_hold = record { locked = false; pages = []; batch = []; logged = []; opened =
 
 -- a holder's part of the checkpoint
 abbrev pub whole_hold : List Page → List Entry → Place → Place → Hold
-whole_hold pages batch first second = record { locked = true; pages = pages; batch = batch; logged = copies_at is_logged first second; opened = copies_at is_opened first second }
+whole_hold pages batch first second = record {
+  locked = true;
+  pages = pages;
+  batch = batch;
+  logged = copies_at is_logged first second;
+  opened = copies_at
+      is_opened first second;
+}
 
 -- GROUPS
 
 -- the groups that the member has, in ascending number; the first of them all has this number
 abbrev pub groups_from : MemberId → ℕ → List Owner → List GroupNo
 groups_from m at [] = []
-groups_from m at (g ∷ gs) = if is_members m g then record { 0 = at } ∷ groups_from m (at + 1) gs else groups_from m (at + 1) gs
+groups_from m at (g ∷ gs) = if is_members m g then record { 0 = at }
+    ∷ groups_from m (at + 1) gs else groups_from m (at + 1) gs
 
 -- a stretch has a byte of another
 abbrev pub meets : Stretch → Stretch → Bool

@@ -2,7 +2,7 @@
 use Rattle.std.specs.Prelude.{◌≡◌, [], codes}
 use Rattle.gate_turns.specs.Words.{speaker}
 
--- whose a line is, of two members and of one
+-- the member whose line it is, of two members and of one
 abbrev pub LinesAreTheirs : Type 0
 LinesAreTheirs =
     (speaker 2 (codes "SYSB 00001 OK") ≡ 2)

@@ -26,9 +26,10 @@ abbrev pub begun_by : MemberId → List Batch → List Entry
 begun_by m [] = []
 begun_by m (b ∷ bs) = (if same_member b.by m then b.entries else []) ++ begun_by m bs
 
--- what stands whole on the console behind what stood there at a moment
+-- what stands whole on the console after what stood there at a moment
 abbrev pub said_since : ℕ → View → List (List ℕ)
-said_since since v = map (λ l. l.text) (filter (λ l. l.whole) (drop (length (v.world since).console) (v.world v.now).console))
+said_since since v = map (λ l. l.text)
+    (filter (λ l. l.whole) (drop (length (v.world since).console) (v.world v.now).console))
 
 abbrev pub marks_of : Shown → Marks
 marks_of x = record {
@@ -50,15 +51,24 @@ module _ (told : Bool) where
   pages_had x = if told then kept_pages x.reads x.level x.first_alive x.second_alive (disk_now x.view) else []
 
   abbrev pub hold_of : Shown → MemberId → Hold
-  hold_of x m = if has_lock x.book m then whole_hold (pages_had x) (coming x.current x.reserved) x.first x.second else no_hold
+  hold_of x m = if has_lock x.book m then whole_hold (pages_had x) (coming x.current x.reserved) x.first x.second else
+      no_hold
 
   abbrev pub groups_of : Shown → MemberId → List Group
-  groups_of x m = if told then groups_on (disk_now x.view) x.base.config.groups m (run x.base (kept_all x.batches)).owners else []
+  groups_of x m = if told then groups_on (disk_now x.view) x.base.config.groups m
+      (run x.base (kept_all x.batches)).owners else []
 
   abbrev pub desk_in : Shown → MemberId → Desk
-  desk_in x m = record { hold = hold_of x m; printed = counts_of x.printed m; told = told_by m (lines_by x.base.config.members m.0 (said_of x)); groups = groups_of x m }
+  desk_in x m = record {
+    hold = hold_of x m;
+    printed = counts_of x.printed m;
+    told = told_by m
+        (lines_by x.base.config.members m.0 (said_of x));
+    groups = groups_of x m;
+  }
 
-  -- what the value tells: its content only where this is asked for, as a plant that doesn't tell its content says nothing of it
+  -- what the value tells: its content only where this is asked for, as a plant that doesn't tell its content says
+  -- nothing of it
   abbrev pub facts_of : Shown → Facts
   facts_of x = record {
     base = x.base;

@@ -27,39 +27,47 @@ number_at_word ws k = value_of (word_at ws k)
 abbrev pub member_in : List ℕ → MemberId
 member_in word = record { 0 = if bytes_eq word (codes "OPER") then 0 else slice_index_or word 3 64 - 64 }
 
--- the number in a job identifier, behind JOB or J0
+-- the number in a job identifier, after JOB or J0
 abbrev pub job_in : List ℕ → JobNo
 job_in word = record { 0 = value_of (drop (if slice_index_or word 2 0 == 66 then 3 else 2) word) }
 
 -- the reply that names an output: job identifier and index with a point between them
 abbrev pub output_in : List ℕ → Reply
-output_in word = reply.Output (job_in (word_at (parted_by 46 word) 0)) (record { 0 = number_at_word (parted_by 46 word) 1 })
+output_in word = reply.Output (job_in (word_at (parted_by 46 word) 0))
+    (record { 0 = number_at_word (parted_by 46 word) 1 })
 
 abbrev pub phases : List Phase
 phases = phase.Input ∷ phase.Convert ∷ phase.Execute ∷ phase.Output ∷ phase.Hardcopy ∷ phase.Purge ∷ phase.Xmit ∷ []
 
 abbrev pub card_causes : List CardCause
-card_causes = cards.Text ∷ cards.Many ∷ cards.After ∷ cards.First ∷ cards.Name ∷ cards.Operand ∷ cards.Jes ∷ cards.Place ∷ []
+card_causes = cards.Text ∷ cards.Many ∷ cards.After ∷ cards.First ∷ cards.Name ∷ cards.Operand ∷ cards.Jes ∷ cards.Place
+    ∷ []
 
 -- each refusal with the names and numbers that stand among these words
 abbrev pub refusals_of : List (List ℕ) → List Refusal
 refusals_of ws =
-    refusal.JobsFull ∷ refusal.OutputsFull ∷ refusal.SpoolFull ∷ refusal.NoJob ∷ refusal.NoOutput ∷ refusal.Nothing ∷ refusal.NoMember ∷ refusal.NoNode
-    ∷ refusal.InUse (member_in (word_at ws 3)) ∷ refusal.Again (number_at_word ws 2) ∷ refusal.Gap (number_at_word ws 2) (number_at_word ws 3)
+    refusal.JobsFull ∷ refusal.OutputsFull ∷ refusal.SpoolFull ∷ refusal.NoJob ∷ refusal.NoOutput ∷ refusal.Nothing
+    ∷ refusal.NoMember ∷ refusal.NoNode
+    ∷ refusal.InUse (member_in (word_at ws 3)) ∷ refusal.Again (number_at_word ws 2)
+    ∷ refusal.Gap (number_at_word ws 2) (number_at_word ws 3)
     ∷ map refusal.WrongPhase phases
 
 abbrev pub replies_of : List (List ℕ) → List Reply
 replies_of ws =
-    reply.Plain ∷ reply.Job (job_in (word_at ws 1)) ∷ output_in (word_at ws 1) ∷ reply.Count (number_at_word ws 1) ∷ map reply.No (refusals_of ws)
+    reply.Plain ∷ reply.Job (job_in (word_at ws 1)) ∷ output_in (word_at ws 1) ∷ reply.Count (number_at_word ws 1)
+    ∷ map reply.No (refusals_of ws)
 
--- Each closing that tells a step, with the names and numbers that stand among the words of its text. The text of a display that
--- is shown is that of the count of its lines.
+-- Each closing that tells a step, with the names and numbers that stand among the words of its text. The text of a
+-- display that is shown is that of the count of its lines.
 abbrev pub closings_of : List (List ℕ) → List Closing
 closings_of ws =
-    closing.DoneUnits (number_at_word ws 2) ∷ closing.Busy (member_in (word_at ws 1)) ∷ closing.Dormant (number_at_word ws 1)
+    closing.DoneUnits (number_at_word ws 2) ∷ closing.Busy (member_in (word_at ws 1))
+    ∷ closing.Dormant (number_at_word ws 1)
     ∷ closing.Up (member_in (word_at ws 2)) ∷ closing.ResetOf (member_in (word_at ws 1)) ∷ closing.NotHolder
-    ∷ closing.SpoolLost (number_at_word ws 3) ∷ closing.PrinterLost ∷ closing.LineLost (number_at_word ws 3) ∷ closing.NoText (record { 0 = number_at_word ws 2 })
-    ∷ closing.NotLost dev.Ckpt1 ∷ closing.NotLost dev.Ckpt2 ∷ closing.NotLost (dev.Spool (value_of (drop 5 (word_at ws 3))))
+    ∷ closing.SpoolLost (number_at_word ws 3) ∷ closing.PrinterLost ∷ closing.LineLost (number_at_word ws 3)
+    ∷ closing.NoText (record { 0 = number_at_word ws 2 })
+    ∷ closing.NotLost dev.Ckpt1 ∷ closing.NotLost dev.Ckpt2
+    ∷ closing.NotLost (dev.Spool (value_of (drop 5 (word_at ws 3))))
     ∷ closing.Line (number_at_word ws 2) (number_at_word ws 4)
     ∷ map (closing.BadCard (number_at_word ws 3)) card_causes ++ map closing.Reply (replies_of ws)
 

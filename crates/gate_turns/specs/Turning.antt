@@ -7,7 +7,7 @@ use Rattle.mas_complex.specs.Locking.{IsOperatorAway}
 use Rattle.atomic_table.specs.Seated.{TableId}
 use Rattle.mas_complex.specs.Parts.{Shown}
 
--- it holds without the content, and with it where the plant tells it
+-- what is said of a value holds without its content, and with the content where the plant tells it
 pub record EachWay (tells : Type 0) (S : Bool → Type 0) : Type 0 where
   pub bare : S false
   pub told : tells → S true

@@ -24,7 +24,7 @@ abbrev pub named : ℕ → List ℕ → ℕ
 named zero word = 0
 named (suc n) word = if bytes_eq word (member_word (record { 0 = suc n })) then suc n else named n word
 
--- whose the line is: of the member that its first word names, or of member 0
+-- the member whose line it is: the one that the line's first word names, or member 0
 unfoldable pub speaker : ℕ → List ℕ → ℕ
 speaker members line = named members (word_at (words_of line) 0)
 

@@ -26,8 +26,8 @@ pub fn law_of_kept_batches()
     ensures { KeepsMayGoBack }
 {}
 
-/// After each call on the copies, but for one that keeps a batch, the member that holds the lock may give the value back; also after
-/// it reserved a batch.
+/// After each call on the copies, except one that keeps a batch, the member that holds the lock may give the value
+/// back; so it may after it reserved a batch.
 pub fn law_of_copy_calls()
     ensures copy { CopyActsCount }
     ensures pair { PairActsCount }
@@ -38,21 +38,21 @@ pub fn law_of_copy_calls()
     ensures counts { BatchesLeaveCounts }
 {}
 
-/// After the member that holds the lock kept a batch of its own, or gave that of a stopped member its fate, it may give the value
-/// back, where the batch leaves the groups of each other member that isn't stopped. So it does where no entry is of such a member or
-/// resets it.
+/// After the member that holds the lock kept a batch of its own, or gave that of a stopped member its fate, it may give
+/// the value back, where the batch leaves the groups of each other member that isn't stopped. So it does where no entry
+/// is of such a member or resets it.
 pub fn law_of_fates()
     ensures passing { PassingLeavesGroups }
     ensures opens { OpensMayGoBack }
     ensures recovers { RecoversMayGoBack }
 {}
 
-/// After it said a line that begins with its own name a member may give the value back.
+/// A member that said a line which begins with its own name may give the value back.
 pub fn law_of_lines()
     ensures { SaysMayGoBack }
 {}
 
-/// After it printed a line a member may give the value back.
+/// A member that printed a line may give the value back.
 pub fn law_of_prints()
     ensures { PrintsMayGoBack }
 {}
@@ -65,14 +65,16 @@ pub fn law_of_groups()
     ensures unsynced { UnsyncedAsTheyAre }
 {}
 
-/// A value whose plant tells its content began at a moment that is past, and the lines that stood on the console then still do.
+/// A value whose plant tells its content began at a moment that is past, and the lines that stood on the console then
+/// still do.
 pub fn law_of_beginnings<P: Plant + Drop, C: Steady + Drop>(complex: &Complex<P, C>)
     ensures { P.tells → HasBegun (shown_of complex.now) }
 {
     let _complex = complex;
 }
 
-/// The steps that lines tell are read from just the lines with which steps close, but for those of members that were stopped.
+/// The steps that lines tell are read from just the lines with which steps close, except those of members that were
+/// stopped.
 pub fn law_of_told_steps()
     ensures closings { ClosingsTell }
     ensures only { OnlyClosingsTell }

@@ -1,6 +1,6 @@
-//! Taking turns at the shared value. Who takes a turn has the value alone until it is handed back, and what is handed back
-//! leaves to the others what is theirs. One who waits for nobody is the only one at the value, and a pass of a gate can be
-//! another.
+//! Taking turns at the shared value. Who takes a turn has the value alone until it is handed back, and what is handed
+//! back leaves to the others what is theirs. One who waits for nobody is the only one at the value, and a pass of a
+//! gate can be another.
 #![tactic(auto)]
 
 mod laws;

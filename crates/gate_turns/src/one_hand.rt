@@ -23,7 +23,8 @@ impl<V: Telling> OneHand<V> {
     pub fn new(value: V) -> OneHand<V>
         requires { IsAtRest (V.shown value) }
         ensures last { ⟦<OneHand<V> as Turns<V>>⟧.last result ≡ Some value }
-        ensures memory { (told : Bool) → ⟦<OneHand<V> as Turns<V>>⟧.memory result told ≡ memory_of (facts_of told (V.shown value)) }
+        ensures memory { (told : Bool)
+            → ⟦<OneHand<V> as Turns<V>>⟧.memory result told ≡ memory_of (facts_of told (V.shown value)) }
         ensures out { ⟦<OneHand<V> as Turns<V>>⟧.is_out result ≡ false }
     {
         let last = Snapshot::of(&value);
@@ -71,9 +72,14 @@ impl<V: Telling> Turns<V> for OneHand<V> {
         ensures out { is_none self.new.value ≡ true }
         ensures same { self.new.last ≡ self.old.last }
         ensures rest { IsAtRest (V.shown result) }
-        ensures value { EachWay V.tells (λ told. (m : ℕ) → Serves None m → Knows m (memory_of (facts_of told (V.shown self.old.last.value))) (facts_of told (V.shown result))) }
-        ensures taken { EachWay V.tells (λ told. facts_of told (V.shown self.new.last.value) ≡ facts_of told (V.shown result)) }
-        ensures memory { (told : Bool) → memory_of (facts_of told (V.shown self.new.last.value)) ≡ memory_of (facts_of told (V.shown self.old.last.value)) }
+        ensures value { EachWay V.tells
+            (λ told. (m : ℕ) → Serves None m
+            → Knows m (memory_of (facts_of told (V.shown self.old.last.value))) (facts_of told (V.shown result))) }
+        ensures taken { EachWay V.tells
+            (λ told. facts_of told (V.shown self.new.last.value) ≡ facts_of told (V.shown result)) }
+        ensures memory { (told : Bool)
+            → memory_of (facts_of told (V.shown self.new.last.value))
+            ≡ memory_of (facts_of told (V.shown self.old.last.value)) }
     {
         match self.value.take() {
             Some(value) => value,
@@ -86,7 +92,9 @@ impl<V: Telling> Turns<V> for OneHand<V> {
         requires rest { IsAtRest (V.shown value) }
         ensures exact { self.new.last.value ≡ value }
         ensures out { is_none self.new.value ≡ false }
-        ensures left { EachWay V.tells (λ told. (m : ℕ) → Serves None m → IsLeft m (memory_of (facts_of told (V.shown self.new.last.value))) (facts_of told (V.shown value))) }
+        ensures left { EachWay V.tells
+            (λ told. (m : ℕ) → Serves None m
+            → IsLeft m (memory_of (facts_of told (V.shown self.new.last.value))) (facts_of told (V.shown value))) }
     {
         self.last = Snapshot::of(&value);
         match self.value.replace(value) {

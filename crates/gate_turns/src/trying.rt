@@ -11,9 +11,9 @@ use mas_complex::{Complex, Steady};
 use mas_types::MemberId;
 use spool_disk::Plant;
 
-/// One turn in which the member tries at the lock of the checkpoint, inside a step or between two, and which is given back
-/// whether or not it got it. After Ok the member remembers that it has the lock. One that is alone has just the value after
-/// the try, and the answer is the book's.
+/// One turn in which the member tries at the lock of the checkpoint, inside a step or between two, and which is given
+/// back whether or not it got it. After Ok the member remembers that it has the lock. One that is alone has just the
+/// value after the try, and the answer is the book's.
 pub fn try_in_turn<P: Plant + Drop, C: Steady + Drop, T: Turns<Complex<P, C>>>(
     turns: &mut T,
     by: MemberId,
@@ -28,7 +28,8 @@ pub fn try_in_turn<P: Plant + Drop, C: Steady + Drop, T: Turns<Complex<P, C>>>(
     ensures base { (T.memory turns.new false).base ≡ (T.memory turns.old false).base }
     ensures ok { OnOk result (((T.memory turns.new false).desk by.0).hold.locked ≡ true) }
     ensures alone { is_some (T.last turns.new) ≡ is_some (T.last turns.old) }
-    ensures exact { IfSome (T.last turns.old) (λ x. IfSome (T.last turns.new) (λ y. parts_of y ≡ record (parts_of x) { book = after_try x.book by inner })) }
+    ensures exact { IfSome (T.last turns.old)
+        (λ x. IfSome (T.last turns.new) (λ y. parts_of y ≡ record (parts_of x) { book = after_try x.book by inner })) }
     ensures granted { IfSome (T.last turns.old) (λ x. OnOk result (try_refusal x.book by inner ≡ None)) }
     ensures refused { IfSome (T.last turns.old) (λ x. IfErr result (λ why. try_refusal x.book by inner ≡ Some why)) }
 {

@@ -1,8 +1,8 @@
 //! Taking turns, alone or with others.
 use crate::telling::Telling;
 
-/// One who takes turns at a shared value. In a turn it has the value, and between two turns it remembers what it saw and what
-/// it left.
+/// One who takes turns at a shared value. In a turn it has the value, and between two turns it remembers what it saw
+/// and what it left.
 ///
 /// What is said of facts is said of those without the plant's content, and of those with it where the plant tells it.
 pub trait Turns<V: Telling> {
@@ -25,17 +25,20 @@ pub trait Turns<V: Telling> {
     /// The value that was handed back last, for one that is alone at it.
     ghost last: { Self → Option V };
 
-    /// What it remembers, without the content and with it.
+    /// What one who takes turns remembers, without the content and with it.
     ghost memory: { Self → Bool → Memory };
 
     /// What the value told as the turn began.
     ghost taken: { Self → Bool → Facts };
 
-    /// Begins a turn, and takes the value. The operator has no batch in it, and its book is of the members of its configuration.
+    /// Begins a turn, and takes the value. The operator has no batch in it, and its book is of the members of its
+    /// configuration.
     fn turn(&mut self) -> V
         requires { is_out self.old ≡ false }
         ensures out { is_out self.new ≡ true }
-        ensures value { EachWay V.tells (λ told. (m : ℕ) → Serves (bound self.old) m → Knows m (memory self.old told) (facts_of told (V.shown result))) }
+        ensures value { EachWay V.tells
+            (λ told. (m : ℕ) → Serves (bound self.old) m
+            → Knows m (memory self.old told) (facts_of told (V.shown result))) }
         ensures rest { IsAtRest (V.shown result) }
         ensures last { IfSome (last self.old) (λ x. result ≡ x) }
         ensures taken { EachWay V.tells (λ told. taken self.new told ≡ facts_of told (V.shown result)) }
@@ -49,9 +52,13 @@ pub trait Turns<V: Telling> {
     fn back(&mut self, value: V)
         requires out { is_out self.old ≡ true }
         requires rest { IsAtRest (V.shown value) }
-        requires value { EachWay V.tells (λ told. IfSome (bound self.old) (λ m. MayGiveBack m (memory self.old told).cares (taken self.old told) (facts_of told (V.shown value)))) }
+        requires value { EachWay V.tells
+            (λ told. IfSome (bound self.old)
+            (λ m. MayGiveBack m (memory self.old told).cares (taken self.old told) (facts_of told (V.shown value)))) }
         ensures out { is_out self.new ≡ false }
-        ensures left { EachWay V.tells (λ told. (m : ℕ) → Serves (bound self.old) m → IsLeft m (memory self.new told) (facts_of told (V.shown value))) }
+        ensures left { EachWay V.tells
+            (λ told. (m : ℕ) → Serves (bound self.old) m
+            → IsLeft m (memory self.new told) (facts_of told (V.shown value))) }
         ensures last { IfSome (last self.new) (λ x. x ≡ value) }
         ensures alone { is_some (last self.new) ≡ is_some (last self.old) }
         ensures cares { (told : Bool) → (memory self.new told).cares ≡ (memory self.old told).cares }

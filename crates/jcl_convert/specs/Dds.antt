@@ -45,18 +45,21 @@ with_class so_far (Some class) (Some forms) = Some (record so_far { is_given = t
 
 -- `(c,,forms)`
 abbrev pub is_with_forms : List ℕ → Bool
-is_with_forms value = nat_le 5 (length value) && (slice_index value 0 == 40) && (slice_index value 2 == 44) && (slice_index value 3 == 44) && (slice_index value (length value - 1) == 41)
+is_with_forms value = nat_le 5 (length value) && (slice_index value 0 == 40) && (slice_index value 2 == 44) &&
+    (slice_index value 3 == 44) && (slice_index value (length value - 1) == 41)
 
 -- `SYSOUT=c` or `SYSOUT=(c,,forms)`
 abbrev pub sysout_taken : JobFields → SysoutForm → List ℕ → Option SysoutForm
 sysout_taken job so_far value =
     if length value == 1 then with_class so_far (sysout_class job (slice_index value 0)) (Some std)
-    else if is_with_forms value then with_class so_far (sysout_class job (slice_index value 1)) (name8_of (drop 4 (take (length value - 1) value)))
+    else if is_with_forms value then with_class so_far (sysout_class job (slice_index value 1))
+    (name8_of (drop 4 (take (length value - 1) value)))
     else None
 
 -- 1 to 255
 abbrev pub copies_of : List ℕ → Option ℕ
-copies_of value = if is_numeral value && nat_le (value_of value) 255 && nat_le 1 (value_of value) then Some (value_of value) else None
+copies_of value = if is_numeral value && nat_le (value_of value) 255 && nat_le 1 (value_of value) then Some
+    (value_of value) else None
 
 abbrev pub held_of : List ℕ → Option Bool
 held_of value =
@@ -93,11 +96,20 @@ dd_operand_taken job so_far operand =
 
 abbrev pub dd_operands_taken : JobFields → SysoutForm → List (List ℕ) → Option SysoutForm
 dd_operands_taken job so_far [] = Some so_far
-dd_operands_taken job so_far (operand ∷ operands) = option_and_then (λ more. dd_operands_taken job more operands) (dd_operand_taken job so_far operand)
+dd_operands_taken job so_far (operand ∷ operands) = option_and_then (λ more. dd_operands_taken job more operands)
+    (dd_operand_taken job so_far operand)
 
 -- the job's print destination, forms STD, one copy, not held
 abbrev pub no_sysout : JobFields → SysoutForm
-no_sysout job = record { is_given = false; class = job.msgclass; forms = std; dest = job.dest; copies = 1; held = false }
+no_sysout job = record {
+  is_given = false;
+  class = job.msgclass;
+  forms = std;
+  dest = job.dest;
+  copies = 1;
+  held
+      = false;
+}
 
 -- a DD without SYSOUT= has no such form
 abbrev pub with_sysout : Option SysoutForm → Option DdForm
@@ -116,7 +128,8 @@ form_if is f = if is then Some f else None
 -- `*` or `DATA` with DLM=xx, `DUMMY`, or SYSOUT=
 abbrev pub form_of : JobFields → List ℕ → Option DdForm
 form_of job field =
-    if begins_data (first_operand field) then form_if (list_all is_data_operand (tail (operands_of field))) form.InStream
+    if begins_data (first_operand field) then form_if (list_all is_data_operand (tail (operands_of field)))
+    form.InStream
     else if bytes_eq (first_operand field) (codes "DUMMY") then form_if (list_all is_passed_over (tail (operands_of field))) form.Dummy
     else sysout_of job field
 

@@ -67,7 +67,8 @@ line_of job card behind = line_by job (operation_of card) (name_of card) (operan
 
 -- the cards of data behind a statement
 abbrev pub data_of : List ℕ → List (List ℕ) → List (List ℕ)
-data_of card behind = take (statement_data card (operands_from (card ∷ behind)) behind).cards (drop (operands_from (card ∷ behind)).cards behind)
+data_of card behind = take (statement_data card (operands_from (card ∷ behind)) behind).cards
+    (drop (operands_from (card ∷ behind)).cards behind)
 
 -- STEPS
 
@@ -84,7 +85,8 @@ kind_with (form.Sysout sysout) lines = dd.Sysout sysout.class sysout.dest sysout
 
 -- a DD belongs to the last EXEC before it
 abbrev pub with_dd : Dd → List Step → List Step
-with_dd d steps = change_at (length steps - 1) (λ step. record { program = step.program; dds = step.dds ++ d ∷ [] }) steps
+with_dd d steps = change_at (length steps - 1) (λ step. record { program = step.program; dds = step.dds ++ d ∷ [] })
+    steps
 
 abbrev pub nothing_converted : Converted
 nothing_converted = record { steps = []; sysouts = 0 }
@@ -103,7 +105,8 @@ dd_refused so_far sysout =
     else None
 
 abbrev pub dd_added : Converted → Dd → Bool → Converted
-dd_added so_far d sysout = record { steps = with_dd d so_far.steps; sysouts = if sysout then so_far.sysouts + 1 else so_far.sysouts }
+dd_added so_far d sysout = record
+    { steps = with_dd d so_far.steps; sysouts = if sysout then so_far.sysouts + 1 else so_far.sysouts }
 
 abbrev pub dd_added_unless : Option JclCause → Converted → Dd → Bool → Result Converted JclCause
 dd_added_unless None so_far d sysout = Ok (dd_added so_far d sysout)
@@ -113,7 +116,8 @@ dd_added_unless (Some why) so_far d sysout = Err why
 abbrev pub line_added : Converted → Line → List (List ℕ) → Result Converted JclCause
 line_added so_far line.Job lines = Ok so_far
 line_added so_far (line.Exec program) lines = exec_added so_far program
-line_added so_far (line.Dd name is) lines = dd_added_unless (dd_refused so_far (is_sysout is)) so_far (record { name = name; kind = kind_with is lines }) (is_sysout is)
+line_added so_far (line.Dd name is) lines = dd_added_unless (dd_refused so_far (is_sysout is)) so_far
+    (record { name = name; kind = kind_with is lines }) (is_sysout is)
 
 abbrev pub statement_added : Converted → Result Line JclCause → List (List ℕ) → Result Converted JclCause
 statement_added so_far (Err why) lines = Err why
@@ -122,7 +126,8 @@ statement_added so_far (Ok is) lines = line_added so_far is lines
 -- a card that is read by itself: what is neither a statement nor a `/*` card is stray
 abbrev pub card_added : JobFields → Converted → List ℕ → List (List ℕ) → Kind → Result Converted JclCause
 card_added job so_far card behind kind.Stray = Err cause.Stray
-card_added job so_far card behind kind.Statement = statement_added so_far (line_of job card behind) (data_of card behind)
+card_added job so_far card behind kind.Statement = statement_added so_far (line_of job card behind)
+    (data_of card behind)
 card_added job so_far card behind kind.Comment = Ok so_far
 card_added job so_far card behind kind.Null = Ok so_far
 card_added job so_far card behind kind.Delimiter = Ok so_far
@@ -136,11 +141,12 @@ abbrev pub converted_then : (Converted → Result Converted Refused) → Result 
 converted_then next (Err worse) = Err worse
 converted_then next (Ok more) = next more
 
--- all these cards, behind others
+-- the conversion of these cards, after others that were converted
 abbrev pub converted_after : JobFields → Converted → List Item → Result Converted Refused
 converted_after job so_far [] = Ok so_far
 converted_after job so_far (item ∷ items) =
-    converted_then (λ more. converted_after job more items) (at_card item.number (card_added job so_far item.card item.behind (kind_of item.card)))
+    converted_then (λ more. converted_after job more items)
+    (at_card item.number (card_added job so_far item.card item.behind (kind_of item.card)))
 
 -- a text's steps, or the least card that is refused and the first cause that applies to it
 abbrev pub converted : JobFields → List (List ℕ) → Result Converted Refused
@@ -153,11 +159,12 @@ abbrev pub Adds : Option JclCause → Result Converted JclCause → Converted �
 Adds None said after = said ≡ Ok after
 Adds (Some why) said after = said ≡ Err why
 
--- these steps
+-- the answer is these steps, with some number of SYSOUT statements
 abbrev pub Converts : Result Converted Refused → List Step → Type 0
 Converts said steps = (sysouts : ℕ) × (said ≡ Ok (record { steps = steps; sysouts = sysouts }))
 
--- this card, whose number is capped at the greatest of 32 bits, and this cause
+-- the answer refuses this card for this cause; the card's number is capped at the greatest of 32 bits
 abbrev pub Refuses : Result Converted Refused → JclNo → Type 0
-Refuses said (no.JclError card why) = (n : ℕ) × (said ≡ Err (record { card = n; cause = why })) × (card ≡ min n (2 ^ 32 - 1))
+Refuses said (no.JclError card why) = (n : ℕ) × (said ≡ Err (record { card = n; cause = why }))
+    × (card ≡ min n (2 ^ 32 - 1))
 Refuses said no.NoMemory = Unit {0}

@@ -30,7 +30,7 @@ abbrev pub sysouts_among : List Dd → ℕ
 sysouts_among [] = 0
 sysouts_among (d ∷ dds) = (if is_sysout d.kind then 1 else 0) + sysouts_among dds
 
--- the same of all steps
+-- the number of DD statements with SYSOUT in all steps
 abbrev pub sysouts : List Step → ℕ
 sysouts [] = 0
 sysouts (step ∷ steps) = sysouts_among step.dds + sysouts steps

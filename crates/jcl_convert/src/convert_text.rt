@@ -18,7 +18,7 @@ pub enum JclNo {
     /// The least card that is refused, counted from 1, and the first cause that applies to it.
     #[error("card {card} is refused")]
     JclError { card: u32, cause: JclCause },
-    /// There was no memory.
+    /// Out of memory.
     #[error("no memory")]
     NoMemory,
 }
@@ -114,7 +114,8 @@ fn add_line(
     line: Line,
 ) -> Result<Option<JclCause>, NoMemory>
     requires { slice_get text.now at ≡ Some card.now }
-    ensures { IfOk result (λ refused. Adds refused (line_added job.old line (data_of card.now (drop (at + 1) text.now))) job.new) }
+    ensures { IfOk result (λ refused.
+        Adds refused (line_added job.old line (data_of card.now (drop (at + 1) text.now))) job.new) }
 {
     match line {
         Line::Job => Ok(None),
@@ -141,7 +142,8 @@ fn add_card(
     at: usize,
 ) -> Result<Option<JclCause>, NoMemory>
     requires { slice_get text.now at ≡ Some card.now }
-    ensures { IfOk result (λ refused. Adds refused (card_added fields.now job.old card.now (drop (at + 1) text.now) (kind_of_lem card.now)) job.new) }
+    ensures { IfOk result (λ refused.
+        Adds refused (card_added fields.now job.old card.now (drop (at + 1) text.now) (kind_of_lem card.now)) job.new) }
 {
     match kind_of(card) {
         Kind::Stray => Ok(Some(JclCause::Stray)),

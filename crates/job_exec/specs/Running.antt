@@ -97,7 +97,7 @@ code_not_copied = 12
 abbrev pub message_on : List Dd → Option Message
 message_on dds = message_of (dd_named dds (codes "SYSIN   ")) (dd_named dds (codes "SYSUT1  ")) (dd_named dds (codes "SYSUT2  "))
 
--- its line goes to SYSPRINT; where none holds, the cards of SYSUT1 go to SYSUT2
+-- the outputs of a step: a message's line goes to SYSPRINT; without a message the cards of SYSUT1 go to SYSUT2
 abbrev pub outputs_by : Option Message → List Dd → List OutSpec
 outputs_by (Some why) dds = written_to (dd_named dds (codes "SYSPRINT")) (message_text why ∷ [])
 outputs_by None dds = written_to (dd_named dds (codes "SYSUT2  ")) (lines_of (dd_named dds (codes "SYSUT1  ")))

@@ -12,7 +12,8 @@ use std::alloc::Global;
 /// with the job's print destination, forms STD, one copy, not held.
 pub fn listing(alloc: Global, fields: &JobFields, line: &[u8]) -> Result<List<OutSpec>, NoMemory>
     ensures output { IfOk result (λ outputs. outputs ≡ listing_of fields.now line.now ∷ []) }
-    ensures fits { IsJobFields fields.now → length line.now ≤ line_bytes → is_text_line line.now ≡ true → IfOk result AreOutputs }
+    ensures fits { IsJobFields fields.now → length line.now ≤ line_bytes → is_text_line line.now ≡ true
+        → IfOk result AreOutputs }
 {
     let mut text = Lines::new(alloc);
     text.push(line)?;

@@ -49,7 +49,8 @@ fn is_not_empty(dd: &Dd) -> bool
 
 // The first test of IEBGENER that holds, of its SYSIN, SYSUT1 and SYSUT2.
 fn test_of(sysin: Option<&Dd>, sysut1: Option<&Dd>, sysut2: Option<&Dd>) -> Option<Message>
-    ensures { result ≡ message_of (option_copied sysin.entry) (option_copied sysut1.entry) (option_copied sysut2.entry) }
+    ensures { result ≡ message_of (option_copied sysin.entry) (option_copied sysut1.entry)
+        (option_copied sysut2.entry) }
 {
     if let Some(dd) = sysin {
         if is_not_empty(dd) {

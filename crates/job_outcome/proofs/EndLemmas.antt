@@ -102,7 +102,7 @@ module _ (laws : GroupLaws) (m : MemberId) (n : JobNo) where
       ∙ laws.others m (its i) (places_of_outputs n (i + 1) specs) (given m (block i s) gs) (new_All (λ o. is_things (its i) o ≡ false) n (i + 1) specs (λ j p low. index_below n i j (omega arith)))
       ∙ laws.lowest m (its i) (groups_needed s.text) gs none
 
-  -- and the member has the others behind it
+  -- the member keeps its groups after those that the first output gets
   left_over : (i : ℕ) (s : OutSpec) (gs : List Owner) → held_by m (given m (block i s) gs) ≡ drop (groups_needed s.text) (held_by m gs)
   left_over i s gs =
       laws.keeps m (block i s) gs (laws.no_members m (its i) (groups_needed s.text))

@@ -127,7 +127,7 @@ module _ (job : JobFields) (text : List (List ℕ)) (are : AreLines text) where
       (subst (λ (w : JclCause). converted job text ≡ Err (record { card = card; cause = w })) same_word at_card, omega (arith, within, are.few, same))
   card_is no.NoMemory card cause e refuses = absurd (cc)
 
-  -- it ends with its listing, whether it is run or converted
+  -- a job with an error ends with its listing, whether it is run or converted
   pub error_ends : (runs : Bool) (why : JclNo) (card : ℕ) (cause : JclCause) (line : List ℕ) (outputs : List OutSpec) → why ≡ no.JclError card cause → Refuses (converted job text) why
       → line ≡ jcl_error_line card cause → outputs ≡ listing_of job line ∷ [] → outcome.End outputs ≡ outcome_of_text runs job text
   error_ends runs why card cause line outputs is refuses said are_listed =

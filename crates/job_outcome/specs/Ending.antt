@@ -23,7 +23,8 @@ shares [] groups = []
 shares (s ∷ specs) groups = take (groups_needed s.text) groups ∷ shares specs (drop (groups_needed s.text) groups)
 
 -- the text of one of the outputs of a job that ends, and the groups in which it stands
-pub record IsOfOutput (n : JobNo) (specs : List OutSpec) (groups : List GroupNo) (t : Thing) (text : Text) (its : List GroupNo) : Type 0 where
+pub record IsOfOutput (n : JobNo) (specs : List OutSpec) (groups : List GroupNo) (t : Thing) (text : Text)
+    (its : List GroupNo) : Type 0 where
   pub place : ℕ
   pub spec : OutSpec
   pub is : slice_get specs place ≡ Some spec
@@ -31,7 +32,10 @@ pub record IsOfOutput (n : JobNo) (specs : List OutSpec) (groups : List GroupNo)
   pub whole : text ≡ Whole spec.text
   pub there : slice_get (shares specs groups) place ≡ Some its
 
--- each text stands in the groups in which it stood before, or is of one of the outputs, in its share of the member's groups
+-- each text stands in the groups in which it stood before, or is of one of the outputs, in its share of the member's
+-- groups
 abbrev pub EndedBringsTexts : Type 0
-EndedBringsTexts = (Q : Queue) (m : MemberId) (n : JobNo) (specs : List OutSpec) → AreTheirOwn Q → has_output n Q ≡ false
-    → HoldsOfTexts (λ t text gs. IsOfOutput n (outputs_at_end (job_at Q n) specs) (held_by m Q.owners) t text gs ⊎ WasThere Q t text gs) (step Q m (command.Ended n specs)).0
+EndedBringsTexts = (Q : Queue) (m : MemberId) (n : JobNo) (specs : List OutSpec) → AreTheirOwn Q
+    → has_output n Q ≡ false
+    → HoldsOfTexts (λ t text gs. IsOfOutput n (outputs_at_end (job_at Q n) specs) (held_by m Q.owners) t text gs
+    ⊎ WasThere Q t text gs) (step Q m (command.Ended n specs)).0

@@ -21,7 +21,7 @@ abbrev pub outcome_of_text : Bool → JobFields → List (List ℕ) → Outcome
 outcome_of_text true job text = outcome.End (meaning job text)
 outcome_of_text false job text = converted_as job (listed job text)
 
--- of a job that is run, or else converted: without its text the unit is refused
+-- the outcome of a job that is run, or else converted: without its text the unit is refused
 abbrev pub outcome_of : Bool → JobFields → Read → Outcome
 outcome_of runs job (read.Lines text) = outcome_of_text runs job text
 outcome_of runs job (read.Gone group) = outcome.Stop (closing.NoText group)
@@ -33,7 +33,7 @@ IsReadable (read.Lines lines) = AreLines lines
 IsReadable (read.Gone group) = Unit {0}
 IsReadable (read.Lost volume) = Unit {0}
 
--- and so are the outputs with which a job ends
+-- the outputs with which a job ends are within the limits
 abbrev pub AreFitOutputs : Outcome → Type 0
 AreFitOutputs outcome.Convert = Unit {0}
 AreFitOutputs (outcome.End specs) = AreOutputs specs

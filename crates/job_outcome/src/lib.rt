@@ -1,4 +1,5 @@
-//! What becomes of a job whose text was read, how a unit of work ends, and what a job's end leaves of the texts of a queue.
+//! What becomes of a job whose text was read, how a unit of work ends, and what a job's end leaves of the texts of a
+//! queue.
 #![tactic(auto)]
 
 mod laws;

@@ -91,8 +91,9 @@ fn outcome_of_text(
     Ok(Outcome::Convert)
 }
 
-/// What becomes of a job with these fields, which is run, or else converted: with its text it ends with its outputs, those of its steps or
-/// what is listed of an error or a scan, or it is converted; without it the unit is refused. The outputs are within the limits.
+/// What becomes of a job with these fields, which is run, or else converted: with its text it ends with its outputs,
+/// those of its steps or what is listed of an error or a scan, or it is converted; without it the unit is refused. The
+/// outputs are within the limits.
 pub fn outcome_of(
     alloc: Global,
     runs: bool,

@@ -42,7 +42,7 @@ pub free_from-used : (js : List Job) (n more : ℕ) → 0 < more → is_number_u
 free_from-used js n zero some used = absurd (omega arith)
 free_from-used js n (suc more) some used = let e : suc more - 1 ≡ more = omega arith in rw (used, e) refl
 
--- and one that isn't is free
+-- a number that isn't used is the first free one from it on
 pub free_from-free : (js : List Job) (n more : ℕ) → is_number_used js n ≡ false → n ≡ free_from js n more
 free_from-free js n zero free = refl
 free_from-free js n (suc more) free = rw free refl

@@ -22,14 +22,14 @@ pub place_within : (n : ℕ) → n % many < many
 place_within n = mod-lt n (omega arith)
 
 module _ (slots : List (Option JobRec)) where
-  -- before the first slot
+  -- the places before the first slot, where none is taken
   pub no_places : (places : List ℕ) → ((b : ℕ) → get_or places b 0 ≡ 0) → ArePlaces slots 0 places
   no_places places zeros b within = record {
     free = λ is j y low e same. omega arith;
     only = λ i is one j y low e same. absurd (omega arith);
   }
 
-  -- a slot up to the last one is that one or one before it
+  -- a slot up to the last one is the last or one before it
   at_last : (k : ℕ) (s : Option JobRec) → slice_get slots k ≡ Some s → (j : ℕ) (y : JobRec) → j < k + 1 → slice_get slots j ≡ Some (Some y) → (P : Type 0) → (j < k → P) → (j ≡ k → s ≡ Some y → P) → P
   at_last k s is j y within e P early late =
       test_cases (nat_lt j k) P (λ t. early (grind (arith, nat_tests))) (λ t. let same : j ≡ k = grind (arith, nat_tests) in late same (cc))
@@ -58,7 +58,7 @@ module _ (slots : List (Option JobRec)) where
         only = λ i next one. absurd (one refl);
       }))
 
--- one more slot
+-- the places stay with one more slot that is empty
 pub places_stay : (slots : List (Option JobRec)) (k : ℕ) (places : List ℕ) → slice_get slots k ≡ Some None → ArePlaces slots k places → ArePlaces slots (k + 1) places
 places_stay slots k places is old b within = place_stays slots k b (get_or places b 0) None is (λ y e. absurd (cc)) (old b within)
 

@@ -13,13 +13,14 @@ use Rattle.mas_types.specs.Queue.{has_number}
 use Rattle.mas_types.specs.Row.{none_such, wrong_phase, job_not_at}
 use Rattle.job_queue.specs.Jobs.{in_phase}
 
--- it is busy no longer, and in the phase, or in Purge where it is cancelled
+-- the job when its work is done: busy no longer, and in the phase, or in Purge if it is cancelled
 abbrev pub advanced : Phase → Job → Job
 advanced to j = record j { phase = if j.cancelled then phase.Purge else to; busy = nobody }
 
 -- the first refusal of a member that advances a job from a phase
 abbrev pub not_advanced : MemberId → Phase → Option Job → Option Refusal
-not_advanced m from found = first_some (none_such refusal.NoJob found ∷ wrong_phase (in_phase from) found ∷ job_not_at m found ∷ [])
+not_advanced m from found = first_some
+    (none_such refusal.NoJob found ∷ wrong_phase (in_phase from) found ∷ job_not_at m found ∷ [])
 
 -- the refusal of the job of that number among the jobs
 abbrev pub refusal_of : MemberId → JobNo → Phase → List Job → Option Refusal

@@ -19,20 +19,30 @@ unordered r = record r { order = 0 }
 
 -- the record of a job, without an order
 abbrev pub rec_of : Job → JobRec
-rec_of j = record { number = j.number; fields = j.fields; phase = j.phase; cancelled = j.cancelled; busy = j.busy; cards = line_count j.text; order = 0 }
+rec_of j = record {
+  number = j.number;
+  fields = j.fields;
+  phase = j.phase;
+  cancelled = j.cancelled;
+  busy = j.busy;
+  cards
+      = line_count j.text;
+  order = 0;
+}
 
 -- the records by ascending order are those of the jobs
 abbrev pub AreJobs : List (Option JobRec) → List Job → Type 0
 AreJobs slots jobs = Tell order_of unordered rec_of slots jobs
 
--- a slot has the first of the jobs that the test picks; where the slot is written, that job is changed, and where it is emptied,
--- that job is gone
+-- a slot has the first of the jobs that the test picks; where the slot is written, that job is changed, and where it is
+-- emptied, that job is gone
 abbrev pub HasJob : (Job → Bool) → List (Option JobRec) → List Job → ℕ → JobRec → Type 0
 HasJob test slots jobs at x = TellsFirst order_of unordered rec_of test slots jobs at x
 
 -- the record of a new job
 abbrev pub new_rec : MemberId → JobNo → JobFields → ℕ → JobRec
-new_rec m n fields order = record { number = n; fields = fields; phase = phase.Input; cancelled = false; busy = m; cards = 0; order = order }
+new_rec m n fields order = record
+    { number = n; fields = fields; phase = phase.Input; cancelled = false; busy = m; cards = 0; order = order }
 
 -- the test of a phase
 abbrev pub in_phase : Phase → Phase → Bool

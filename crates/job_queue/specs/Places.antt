@@ -8,14 +8,15 @@ use Rattle.lay_bytes.specs.declared.records.JobRec.{JobRec}
 abbrev pub many : ℕ
 many = 4096
 
--- at a place that several jobs share
+-- the number at a place that several jobs share
 abbrev pub several : ℕ
 several = 65535
 
 -- a place of the first k slots
 pub record IsPlace (slots : List (Option JobRec)) (k b place : ℕ) : Type 0 where
   pub free : place ≡ 0 → (j : ℕ) (y : JobRec) → j < k → slice_get slots j ≡ Some (Some y) → y.number.0 % many ≢ b
-  pub only : (i : ℕ) → place ≡ suc i → place ≢ several → (j : ℕ) (y : JobRec) → j < k → slice_get slots j ≡ Some (Some y) → y.number.0 % many ≡ b → j ≡ i
+  pub only : (i : ℕ) → place ≡ suc i → place ≢ several → (j : ℕ) (y : JobRec) → j < k
+      → slice_get slots j ≡ Some (Some y) → y.number.0 % many ≡ b → j ≡ i
 
 abbrev pub ArePlaces : List (Option JobRec) → ℕ → List ℕ → Type 0
 ArePlaces slots k places = (b : ℕ) → b < many → IsPlace slots k b (slice_index places b)

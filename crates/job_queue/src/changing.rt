@@ -51,8 +51,8 @@ pub fn next_number(jobs: &[Option<JobRec>], last: JobNo) -> JobNo
     JobNo(n)
 }
 
-/// A new job in the lowest free slot, with the next number and an order above those of the others: in Input, busy at the member,
-/// with no text. `JobsFull` exactly where no slot is free, and nothing is changed then.
+/// A new job in the lowest free slot, with the next number and an order above those of the others: in Input, busy at
+/// the member, with no text. `JobsFull` exactly where no slot is free, and nothing is changed then.
 pub fn add(
     jobs: &mut [Option<JobRec>],
     last: JobNo,
@@ -64,8 +64,10 @@ pub fn add(
     requires last { last.0 ≤ number_most }
     requires above { All (λ r. r.order < order) (used jobs.old) }
     ensures number { IfOk result (λ n. (js : List Job) → AreJobs jobs.old js → n ≡ next_number_lem js last) }
-    ensures added { IfOk result (λ n. (js : List Job) → AreJobs jobs.old js → AreJobs jobs.new (js ++ new_job by n fields.now ∷ [])) }
-    ensures placed { IfOk result (λ n. (at : ℕ) × (position is_none jobs.old ≡ Some at) × (jobs.new ≡ slice_set jobs.old at (Some (new_rec by n fields.now order)))) }
+    ensures added { IfOk result (λ n. (js : List Job) → AreJobs jobs.old js
+        → AreJobs jobs.new (js ++ new_job by n fields.now ∷ [])) }
+    ensures placed { IfOk result (λ n. (at : ℕ) × (position is_none jobs.old ≡ Some at)
+        × (jobs.new ≡ slice_set jobs.old at (Some (new_rec by n fields.now order)))) }
     ensures small { IfOk result (λ n. n.0 ≤ number_most) }
     ensures room { OnOk result ((js : List Job) → AreJobs jobs.old js → length js < length jobs.old) }
     ensures full { OnErr result ((js : List Job) → AreJobs jobs.old js → length js ≡ length jobs.old) }
@@ -93,9 +95,9 @@ fn new_record(number: JobNo, order: u64, fields: JobFields, by: MemberId) -> Job
     }
 }
 
-/// The job goes on from one phase to another, or to Purge where it is cancelled, and is busy no longer. `NoJob` where none has the
-/// number, `WrongPhase` where it isn't in the first phase, `InUse` where it isn't busy at the member, tried in this order; nothing
-/// is changed then.
+/// The job goes on from one phase to another, or to Purge where it is cancelled, and is busy no longer. `NoJob` where
+/// none has the number, `WrongPhase` where it isn't in the first phase, `InUse` where it isn't busy at the member,
+/// tried in this order; nothing is changed then.
 pub fn advance(
     jobs: &mut [Option<JobRec>],
     by: MemberId,
@@ -103,9 +105,11 @@ pub fn advance(
     from: Phase,
     to: Phase,
 ) -> Result<(), Refusal>
-    ensures moved { OnOk result ((js : List Job) → AreJobs jobs.old js → AreJobs jobs.new (change_first (has_number job) (advanced to) js)) }
+    ensures moved { OnOk result ((js : List Job) → AreJobs jobs.old js
+        → AreJobs jobs.new (change_first (has_number job) (advanced to) js)) }
     ensures allowed { OnOk result ((js : List Job) → AreJobs jobs.old js → refusal_of by job from js ≡ None) }
-    ensures refused { IfErr result (λ why. (js : List Job) → AreJobs jobs.old js → refusal_of by job from js ≡ Some why) }
+    ensures refused { IfErr result
+        (λ why. (js : List Job) → AreJobs jobs.old js → refusal_of by job from js ≡ Some why) }
     ensures unchanged { OnErr result (jobs.new ≡ jobs.old) }
 {
     let Some(found) = find_job(jobs, job) else {
@@ -123,7 +127,8 @@ pub fn advance(
 }
 
 fn advanced_record(old: &JobRec, to: Phase) -> JobRec
-    ensures { result ≡ record old.now { phase = if old.now.cancelled then Phase.Purge else to; busy = record { 0 = 0 } } }
+    ensures { result ≡ record old.now
+        { phase = if old.now.cancelled then Phase.Purge else to; busy = record { 0 = 0 } } }
 {
     JobRec {
         phase: purge_if(old.cancelled, to),

@@ -1,4 +1,5 @@
-//! The jobs of the queue in their slots: each call is the definition's on the list of jobs, which the slots give by ascending order.
+//! The jobs of the queue in their slots: each call is the definition's on the list of jobs, which the slots give by
+//! ascending order.
 #![tactic(auto)]
 
 mod changing;

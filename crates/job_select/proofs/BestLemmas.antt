@@ -100,7 +100,7 @@ module _ {X : Type 0} (number rank : X → ℕ) (picks : X → Bool) where
         let low = before.by_slot level same in let far = led.by_slot (s ∙ sym level) (t ∙ sym same) in omega (arith, low, far);
   }
 
-  -- one more slot
+  -- the best of a chain with one more slot
   pub best_more : (slots : List (Option X)) (chain : List ℕ) (at : ℕ) (best : Option (Found X)) → IsBestIn number rank picks slots chain best
       → IsBestIn number rank picks slots (chain ++ at ∷ []) (better_slot number rank picks best at (slice_get slots at))
   best_more slots chain at best so_far = by (slice_get slots at) refl best so_far
@@ -123,7 +123,7 @@ module _ {X : Type 0} (number rank : X → ℕ) (picks : X → Bool) where
       by (Some None) is (Some f) best = best_stays slots chain at f best (λ y there yes. absurd cc)
       by (Some (Some x)) is o so_far = seen x is o so_far
 
-  -- one more slot that isn't picked
+  -- none of a chain is picked, with one more slot that isn't picked
   pub none_picked_more : (slots : List (Option X)) (chain : List ℕ) (at : ℕ) → NonePicked number rank picks slots chain
       → picks_slot number rank picks (slice_get slots at) ≡ false → NonePicked number rank picks slots (chain ++ at ∷ [])
   none_picked_more slots chain at none not = none_more slots chain at none (λ y there. sym (ap (picks_slot number rank picks) there) ∙ not)

@@ -5,14 +5,14 @@ use Rattle.std.proofs.lemmas.Bool.{eqb-true, eq-eqb}
 use Rattle.queue_slots.proofs.Cases.{test_cases}
 use Rattle.job_select.specs.Chains.{has_slot}
 
--- one more
+-- a slot stands in a chain with one more slot if it stood there, or is that slot
 pub has_slot-push : (xs : List ℕ) (y i : ℕ) → has_slot i (xs ++ y ∷ []) ≡ (has_slot i xs || (y == i))
 has_slot-push [] y i = test_cases (y == i) (has_slot i (y ∷ []) ≡ (y == i)) (λ e. rw e refl) (λ e. rw e refl)
 has_slot-push (x ∷ xs) y i =
     test_cases (x == i) (has_slot i (x ∷ (xs ++ y ∷ [])) ≡ (has_slot i (x ∷ xs) || (y == i)))
     (λ e. rw e refl) (λ e. rw e (has_slot-push xs y i))
 
--- all but one
+-- a slot stands in a chain without one of its slots if it stood there, and isn't that slot
 pub has_slot-without : (xs : List ℕ) (s i : ℕ) → has_slot i (filter (λ x. not (x == s)) xs) ≡ (has_slot i xs && not (i == s))
 has_slot-without [] s i = refl
 has_slot-without (x ∷ xs) s i =

@@ -89,7 +89,7 @@ module _ {S Z : Type 0} (slot : ℕ) (from to : Option ℕ) where
       or_same (has_slot i (slots_of old k)) (is_chain k to) (i == slot)
       (λ b e. ap (λ (j : ℕ). has_slot j (slots_of old k)) (eqb-true i slot e) ∙ stands k ∙ ap (is_chain k) same ∙ b)
 
-  -- and doesn't leave it
+  -- a slot that stays in its chain doesn't leave it
   pub leaves_same : (old : IndexMap ℕ (Vec ℕ Z) S) → from ≡ to → LeavesFor old old slot from to
   leaves_same old same k i =
       leaves_none (has_slot i (slots_of old k)) (is_chain k from) (i == slot)

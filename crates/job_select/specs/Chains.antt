@@ -5,11 +5,11 @@ use Rattle.std.specs.List.{list_any}
 use Rattle.std.specs.declared.vec.Vec.{Vec}
 use Rattle.indexmap.specs.IndexMap.{IndexMap, get}
 
--- the slot is one of those
+-- the slot is one of these slots
 abbrev pub has_slot : ℕ → List ℕ → Bool
 has_slot i slots = list_any (λ j. j == i) slots
 
--- it is that chain
+-- there is a chain, and it has this number
 abbrev pub is_chain : ℕ → Option ℕ → Bool
 is_chain k None = false
 is_chain k (Some l) = l == k

@@ -1,4 +1,5 @@
--- Worked examples: what the contracts of an index say of two jobs, the second of which stands in a lower slot than the first.
+-- Worked examples: what the contracts of an index say of two jobs, the second of which stands in a lower slot than the
+-- first.
 use Rattle.std.specs.Prelude.{◌≡◌, ℕ, Bool, true, false, List, [], ◌∷◌, codes, Option, Some, None, option_map}
 use Rattle.mas_types.specs.declared.ids.Class.{Class}
 use Rattle.mas_types.specs.declared.ids.JobNo.{JobNo}
@@ -46,7 +47,8 @@ abbrev pub queue_of : List Job → Queue
 queue_of jobs = record (empty_queue default_config []) { jobs = jobs }
 
 abbrev pub slots_of : Job → Job → List (Option JobRec)
-slots_of first second = None ∷ Some (record (rec_of second) { order = 2 }) ∷ Some (record (rec_of first) { order = 1 }) ∷ []
+slots_of first second = None ∷ Some (record (rec_of second) { order = 2 }) ∷ Some (record (rec_of first) { order = 1 })
+    ∷ []
 
 -- an index of these two jobs, and no output
 pub record IsOfTwo (first second : Job) (index : Index) : Type 0 where
@@ -57,13 +59,15 @@ pub record IsOfTwo (first second : Job) (index : Index) : Type 0 where
 abbrev pub Converts : Job → Job → ℕ → Type 0
 Converts first second n =
     (index : Index) (answer : Option JobNo) → IsOfTwo first second index
-    → ((Q : Queue) → StandsFor index Q → answer ≡ option_map (λ j. j.number) (for_convert Q)) → answer ≡ Some (record { 0 = n })
+    → ((Q : Queue) → StandsFor index Q → answer ≡ option_map (λ j. j.number) (for_convert Q))
+    → answer ≡ Some (record { 0 = n })
 
 -- whatever answers as `exec` has to for these classes answers this job
 abbrev pub Executes : List Class → Job → Job → ℕ → Type 0
 Executes classes first second n =
     (index : Index) (answer : Option JobNo) → IsOfTwo first second index
-    → ((Q : Queue) → StandsFor index Q → answer ≡ option_map (λ j. j.number) (for_classes classes Q)) → answer ≡ Some (record { 0 = n })
+    → ((Q : Queue) → StandsFor index Q → answer ≡ option_map (λ j. j.number) (for_classes classes Q))
+    → answer ≡ Some (record { 0 = n })
 
 abbrev pub class_a : ℕ
 class_a = 65
@@ -79,4 +83,5 @@ pub record JobsAreSelected : Type 0 where
   pub greatest_priority : Converts (job phase.Convert 1 class_a 5 false) (job phase.Convert 2 class_a 15 false) 2
   pub held : Converts (job phase.Convert 1 class_a 5 false) (job phase.Convert 2 class_a 15 true) 1
   pub first_class : Executes b_before_a (job phase.Execute 1 class_a 15 false) (job phase.Execute 2 class_b 5 false) 2
-  pub greatest_in_class : Executes b_before_a (job phase.Execute 1 class_a 5 false) (job phase.Execute 2 class_a 15 false) 2
+  pub greatest_in_class : Executes b_before_a (job phase.Execute 1 class_a 5 false)
+      (job phase.Execute 2 class_a 15 false) 2

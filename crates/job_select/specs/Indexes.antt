@@ -10,12 +10,12 @@ use Rattle.job_queue.specs.Jobs.{AreJobs}
 use Rattle.output_queue.specs.Outputs.{AreOutputs}
 use Rattle.job_select.specs.declared.index.Index.{Index}
 
--- its slots are the tables'
+-- the slots of the index are those of the tables
 pub record IsOf (index : Index) (t : Tables) : Type 0 where
   pub jobs : index.jobs ≡ t.jobs
   pub outputs : index.outputs ≡ t.outputs
 
--- the records of its slots by ascending order are those of the queue's jobs and outputs
+-- the records in the slots of the index, by ascending order, are those of the queue's jobs and outputs
 pub record StandsFor (index : Index) (Q : Queue) : Type 0 where
   pub jobs : AreJobs index.jobs Q.jobs
   pub outputs : AreOutputs index.outputs Q.outputs

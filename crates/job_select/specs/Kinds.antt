@@ -17,16 +17,18 @@ purge_chain = 257
 abbrev pub ended_chain : ℕ
 ended_chain = 258
 
--- those that a member converts or runs stand in the chain of this number and the member's
+-- this number plus a member's is that of the chain of the jobs that the member converts
 abbrev pub converting_chains : ℕ
 converting_chains = 512
 
+-- this number plus a member's is that of the chain of the jobs that the member runs
 abbrev pub running_chains : ℕ
 running_chains = 768
 
--- in the one chain if nobody works on it, and in a chain of the member if one does
+-- the chain of a job: the member's if one works on it, and otherwise the one in which it waits, unless it is held
 abbrev pub waiting_chain : JobRec → ℕ → ℕ → Option ℕ
-waiting_chain r chain busy = if is_somebody r.busy then Some (busy + r.busy.0) else (if r.fields.held then None else Some chain)
+waiting_chain r chain busy = if is_somebody r.busy then Some (busy + r.busy.0) else
+    (if r.fields.held then None else Some chain)
 
 abbrev pub chain_in_phase : JobRec → Phase → Option ℕ
 chain_in_phase r phase.Convert = waiting_chain r convert_chain converting_chains
@@ -47,4 +49,5 @@ abbrev pub printing_chains : ℕ
 printing_chains = 256
 
 abbrev pub output_chain : OutRec → Option ℕ
-output_chain r = if is_somebody r.busy then Some (printing_chains + r.busy.0) else (if r.held then None else Some r.class.0)
+output_chain r = if is_somebody r.busy then Some (printing_chains + r.busy.0) else
+    (if r.held then None else Some r.class.0)

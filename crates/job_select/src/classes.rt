@@ -22,7 +22,7 @@ pub trait Classed<T>: Choice<T> {
         ensures { result ≡ has_class self.now class item.now };
 }
 
-/// Those that are picked and have one class.
+/// The records that are picked and have one class.
 #[derive(Clone, Copy)]
 struct OfClass<'a, C> {
     choice: &'a C,

@@ -100,7 +100,7 @@ fn move_output(
     Ok(())
 }
 
-/// So many slots in which nothing stands.
+/// As many empty slots as `count` says.
 fn empty_slots<T: Drop>(alloc: Global, count: usize) -> Result<List<Option<T>>, NoMemory>
     ensures { IfOk result (λ slots. slots ≡ replicate count None) }
 {

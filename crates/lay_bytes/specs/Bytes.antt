@@ -14,4 +14,5 @@ are_different (b ∷ bs) = not (list_any (λ c. c == b) bs) && are_different bs
 -- a number from 1 to 36, so many different classes, and zeros
 abbrev pub are_classes : List ℕ → Bool
 are_classes [] = false
-are_classes (n ∷ bs) = nat_le 1 n && nat_le n 36 && list_all is_class_byte (take n bs) && are_different (take n bs) && are_zeros (drop n bs)
+are_classes (n ∷ bs) = nat_le 1 n && nat_le n 36 && list_all is_class_byte (take n bs) && are_different (take n bs) &&
+    are_zeros (drop n bs)

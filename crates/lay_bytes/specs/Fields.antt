@@ -8,7 +8,7 @@ use Rattle.lay_bytes.specs.declared.fields.Field.TheVariants.{Byte, Half, Word, 
 use Rattle.mas_types.specs.Names.{is_name8}
 use Rattle.lay_bytes.specs.Bytes.{are_zeros, are_classes}
 
--- so many bytes from an offset on
+-- the piece of the bytes that begins at an offset and has this width
 abbrev pub piece : ℕ → ℕ → List ℕ → List ℕ
 piece at width bytes = take width (drop at bytes)
 
@@ -44,7 +44,8 @@ may_stand (Zeros count) bytes = are_zeros bytes
 -- the least offset of a field with bytes that may not stand in it
 abbrev pub first_bad : ℕ → List Field → List ℕ → Option ℕ
 first_bad at [] bytes = None
-first_bad at (f ∷ fs) bytes = if may_stand f (piece at (width_of f) bytes) then first_bad (at + width_of f) fs bytes else Some at
+first_bad at (f ∷ fs) bytes = if may_stand f (piece at (width_of f) bytes) then first_bad (at + width_of f) fs bytes
+    else Some at
 
 -- the bytes of each field
 abbrev pub pieces : ℕ → List Field → List ℕ → List (List ℕ)

@@ -76,7 +76,8 @@ phase_number phase.Purge = 6
 phase_number phase.Xmit = 7
 
 abbrev pub phase_of : ℕ → Phase
-phase_of n = if n == 1 then phase.Input else if n == 2 then phase.Convert else if n == 3 then phase.Execute else if n == 4 then phase.Output else if n == 5 then phase.Hardcopy else if n == 6 then phase.Purge else phase.Xmit
+phase_of n = if n == 1 then phase.Input else if n == 2 then phase.Convert else if n == 3 then phase.Execute else if n ==
+    4 then phase.Output else if n == 5 then phase.Hardcopy else if n == 6 then phase.Purge else phase.Xmit
 
 -- a flag of this value
 abbrev pub flag : ℕ → Bool → ℕ
@@ -90,12 +91,15 @@ job_flags j = flag 1 j.fields.held + flag 2 j.cancelled + flag 4 j.fields.restar
 
 -- the fields of a job's slot
 abbrev pub job_fields : List Field
-job_fields = field.Byte 1 7 ∷ field.Class ∷ field.Byte 0 prio_most ∷ field.Byte 0 15 ∷ field.Byte 0 member_most ∷ field.Class ∷ field.Half 0 lines_most ∷ field.Word 1 job_most ∷ field.Long 0 18446744073709551615 ∷ field.Name ∷ field.Name ∷ field.Name ∷ field.Name ∷ field.Zeros 204 ∷ []
+job_fields = field.Byte 1 7 ∷ field.Class ∷ field.Byte 0 prio_most ∷ field.Byte 0 15 ∷ field.Byte 0 member_most
+    ∷ field.Class ∷ field.Half 0 lines_most ∷ field.Word 1 job_most ∷ field.Long 0 18446744073709551615 ∷ field.Name
+    ∷ field.Name ∷ field.Name ∷ field.Name ∷ field.Zeros 204 ∷ []
 
 -- what stands in them
 abbrev pub job_pieces : JobRec → List (List ℕ)
 job_pieces j =
-    (phase_number j.phase ∷ []) ∷ (j.fields.class.0 ∷ []) ∷ (j.fields.prio.0 ∷ []) ∷ (job_flags j ∷ []) ∷ (j.busy.0 ∷ []) ∷ (j.fields.msgclass.0 ∷ [])
+    (phase_number j.phase ∷ []) ∷ (j.fields.class.0 ∷ []) ∷ (j.fields.prio.0 ∷ []) ∷ (job_flags j ∷ [])
+    ∷ (j.busy.0 ∷ []) ∷ (j.fields.msgclass.0 ∷ [])
     ∷ to_be_bytes w16 j.cards ∷ to_be_bytes w32 j.number.0 ∷ to_be_bytes w64 j.order
     ∷ j.fields.name.0 ∷ j.fields.dest.0 ∷ j.fields.node.0 ∷ j.fields.origin.0 ∷ replicate 204 0 ∷ []
 
@@ -111,12 +115,16 @@ bad_field fields slot = if are_zeros slot then None else first_bad 0 fields slot
 -- OUTPUTS
 
 abbrev pub output_fields : List Field
-output_fields = field.Byte 1 1 ∷ field.Class ∷ field.Byte 0 1 ∷ field.Byte 0 member_most ∷ field.Word 1 job_most ∷ field.Byte 1 index_most ∷ field.Byte 1 copies_most ∷ field.Half 1 lines_most ∷ field.Word 0 4294967295 ∷ field.Long 0 18446744073709551615 ∷ field.Name ∷ field.Name ∷ field.Zeros 88 ∷ []
+output_fields = field.Byte 1 1 ∷ field.Class ∷ field.Byte 0 1 ∷ field.Byte 0 member_most ∷ field.Word 1 job_most
+    ∷ field.Byte 1 index_most ∷ field.Byte 1 copies_most ∷ field.Half 1 lines_most ∷ field.Word 0 4294967295
+    ∷ field.Long 0 18446744073709551615 ∷ field.Name ∷ field.Name ∷ field.Zeros 88 ∷ []
 
 abbrev pub output_pieces : OutRec → List (List ℕ)
 output_pieces o =
-    (1 ∷ []) ∷ (o.class.0 ∷ []) ∷ (flag 1 o.held ∷ []) ∷ (o.busy.0 ∷ []) ∷ to_be_bytes w32 o.job.0 ∷ (o.index.0 ∷ []) ∷ (o.copies ∷ [])
-    ∷ to_be_bytes w16 o.lines ∷ to_be_bytes w32 o.mark ∷ to_be_bytes w64 o.order ∷ o.dest.0 ∷ o.forms.0 ∷ replicate 88 0 ∷ []
+    (1 ∷ []) ∷ (o.class.0 ∷ []) ∷ (flag 1 o.held ∷ []) ∷ (o.busy.0 ∷ []) ∷ to_be_bytes w32 o.job.0 ∷ (o.index.0 ∷ [])
+    ∷ (o.copies ∷ [])
+    ∷ to_be_bytes w16 o.lines ∷ to_be_bytes w32 o.mark ∷ to_be_bytes w64 o.order ∷ o.dest.0 ∷ o.forms.0 ∷ replicate 88 0
+    ∷ []
 
 abbrev pub output_slot : Option OutRec → List ℕ
 output_slot None = replicate 128 0
@@ -136,7 +144,8 @@ abbrev pub owner_pieces : Owner → List (List ℕ)
 owner_pieces owner.Free = (0 ∷ []) ∷ (0 ∷ []) ∷ to_be_bytes w16 0 ∷ to_be_bytes w32 0 ∷ []
 owner_pieces (owner.Member m) = (1 ∷ []) ∷ (m.0 ∷ []) ∷ to_be_bytes w16 0 ∷ to_be_bytes w32 0 ∷ []
 owner_pieces (owner.Deck job place) = (2 ∷ []) ∷ (0 ∷ []) ∷ to_be_bytes w16 place ∷ to_be_bytes w32 job.0 ∷ []
-owner_pieces (owner.Output job index place) = (3 ∷ []) ∷ (index.0 ∷ []) ∷ to_be_bytes w16 place ∷ to_be_bytes w32 job.0 ∷ []
+owner_pieces (owner.Output job index place) = (3 ∷ []) ∷ (index.0 ∷ []) ∷ to_be_bytes w16 place ∷ to_be_bytes w32 job.0
+    ∷ []
 
 -- the spelling of a group's entry
 abbrev pub owner_entry : Owner → List ℕ
@@ -213,4 +222,5 @@ owner_of kind who place job =
     else owner.Output (record { 0 = job }) (record { 0 = who }) place
 
 abbrev pub owner_in : List (List ℕ) → Owner
-owner_in ps = owner_of (byte_in ps 0) (byte_in ps 1) (from_be_bytes w16 (piece_at ps 2)) (from_be_bytes w32 (piece_at ps 3))
+owner_in ps = owner_of (byte_in ps 0) (byte_in ps 1) (from_be_bytes w16 (piece_at ps 2))
+    (from_be_bytes w32 (piece_at ps 3))

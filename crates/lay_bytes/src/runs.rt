@@ -8,7 +8,7 @@ use mas_types::Page;
 use mas_types::limits::PAGE_BYTES;
 use std::simd::prelude::*;
 
-/// So many bytes are tested at once.
+/// The number of bytes that are tested at once.
 const LANES: usize = 64;
 
 // Whether the bytes from an offset on are the same.

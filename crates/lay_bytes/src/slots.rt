@@ -228,7 +228,8 @@ fn output_of(slot: &[u8; 128]) -> OutRec
 /// in bytes, of a field that is outside its range; the zeros behind the last field are one field.
 pub fn read_output(slot: &[u8; 128]) -> Result<Option<OutRec>, BadField>
     ensures found { IfOk result (λ output. IfUsed IsOutRec output × (slot.now ≡ output_slot output)) }
-    ensures only { (output : Option TheOutRec) → IfUsed IsOutRec output → slot.now ≡ output_slot output → result ≡ Ok output }
+    ensures only { (output : Option TheOutRec) → IfUsed IsOutRec output → slot.now ≡ output_slot output
+        → result ≡ Ok output }
     ensures bad { IfErr result (λ bad. bad_field output_fields slot.now ≡ Some bad.0) }
 {
     if is_zero(slot) {

@@ -1,6 +1,6 @@
-//! Does one thing as often as it is told: reads and writes pages, reads decks or scripts, gives commands, or plays events on a net. The
-//! first word says which, by its first letter, and numbers behind it how often and of what size. Without such a word it does each
-//! a few times. `bench/layers` takes the time and the memory.
+//! Does one thing as often as it is told: reads and writes pages, reads decks or scripts, gives commands, or plays
+//! events on a net. The first word says which, by its first letter, and numbers behind it how often and of what size.
+//! Without such a word it does each a few times. `bench/layers` takes the time and the memory.
 #![tactic(auto)]
 
 mod decks;
@@ -16,8 +16,8 @@ use std::process::ExitCode;
 /// How often, and of what size.
 type Numbers = [u32; 3];
 
-// The first letter of the first word behind the program's name, and the numbers that the next words are, 0 where one isn't there or is
-// no number.
+// The first letter of the first word behind the program's name, and the numbers that the next words are, 0 where one
+// isn't there or is no number.
 fn words(rt: &HostRuntime) -> (u8, Numbers) {
     let mut letter = 0;
     let mut numbers = [0; 3];

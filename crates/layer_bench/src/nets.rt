@@ -1,5 +1,6 @@
-// Plays random events on a net of 64 nodes. Two nodes whose numbers, counted from 0, differ in one bit are joined by the line
-// of that bit, and a node sends on by the line of the least bit in which it differs from the node that a job is for.
+// Plays random events on a net of 64 nodes. Two nodes whose numbers, counted from 0, differ in one bit are joined by
+// the line of that bit, and a node sends on by the line of the least bit in which it differs from the node that a job
+// is for.
 ghost use Rattle.std.specs.Prelude.{◌<◌, ◌≤◌};
 
 use mas_types::{List, Name8, NoMemory, Route};
@@ -106,7 +107,7 @@ fn event_in(words: &mut Pcg32, given: u32) -> NetEvent {
     }
 }
 
-// So many random events.
+// As many random events as `count` says.
 fn random_events(alloc: Global, count: u32) -> Result<List<NetEvent>, NoMemory> {
     let mut words = Pcg32::new(42, 54);
     let mut events = List::new(alloc);
@@ -152,7 +153,7 @@ fn passed(alloc: Global, net: &Net) -> usize {
     }
 }
 
-// What came of so many events, and how long the path is; none where there is no memory or no net.
+// What came of so many events, and how long the path is; none when out of memory or without a net.
 fn played(alloc: Global, count: u32) -> Option<(Came, usize)> {
     let net = net_of_64(alloc).ok()?;
     let length = passed(alloc, &net);

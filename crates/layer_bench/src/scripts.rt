@@ -50,8 +50,8 @@ fn read_often(alloc: Global, text: &[u8], count: u32) -> Result<usize, ScriptNo>
     Ok(steps)
 }
 
-/// Reads a script as often as the first number says, with cards of as many bytes as the second says, in decks of as many bytes as the
-/// third says, or 16,000.
+/// Reads a script as often as the first number says, with cards of as many bytes as the second says, in decks of as
+/// many bytes as the third says, or 16,000.
 pub fn run(alloc: Global, numbers: [u32; 3]) -> bool {
     let [count, width, bytes] = numbers;
     let cards_bytes = if bytes == 0 {

@@ -17,11 +17,13 @@ use Rattle.layer_examples.specs.Slots.{hello, listing}
 
 -- a job with this number and order in this phase, where a member is busy with it, and with so many cards
 abbrev pub a_job : ℕ → ℕ → Phase → ℕ → ℕ → Option JobRec
-a_job n order at busy cards = Some (record hello { number = job n; order = order; phase = at; busy = member busy; cards = cards })
+a_job n order at busy cards = Some
+    (record hello { number = job n; order = order; phase = at; busy = member busy; cards = cards })
 
 -- the first output of job 1, with this order and mark: two copies of 25 lines
 abbrev pub an_output : ℕ → ℕ → Option OutRec
-an_output order mark = Some (record listing { job = job 1; index = index 1; busy = member 0; order = order; mark = mark; lines = 25 })
+an_output order mark = Some (record listing
+    { job = job 1; index = index 1; busy = member 0; order = order; mark = mark; lines = 25 })
 
 abbrev pub deck : ℕ → ℕ → Owner
 deck n place = owner.Deck (job n) place
@@ -32,12 +34,13 @@ print = owner.Output (job 1) (index 1) 0
 
 -- room for 16 jobs and 32 outputs: two jobs, an output and two groups; the next order is 10
 abbrev pub with_jobs : Option JobRec → Option JobRec → Option OutRec → List Owner → Tables
-with_jobs first second output owners = record (empty_tables (record default_config { jobs = 16; outputs = 32; groups = 2 }) []) {
-  order = 10;
-  jobs = first ∷ second ∷ replicate 14 None;
-  outputs = output ∷ replicate 31 None;
-  owners = owners;
-}
+with_jobs first second output owners = record
+    (empty_tables (record default_config { jobs = 16; outputs = 32; groups = 2 }) []) {
+      order = 10;
+      jobs = first ∷ second ∷ replicate 14 None;
+      outputs = output ∷ replicate 31 None;
+      owners = owners;
+    }
 
 -- the fault where the group 0 is of job 1
 abbrev pub of_jobs : Option JobRec → Option JobRec → Option TableFault

@@ -64,7 +64,8 @@ pub record GroupsAreGiven : Type 0 where
   pub given_away : three_given ≡ deck 7 0 ∷ others ∷ deck 7 1 ∷ owner.Output (job 7) one 0 ∷ mine ∷ owner.Free ∷ []
   pub left : map (λ g. g.0) (held_by first three_given) ≡ 4 ∷ []
   pub count : member_count first three_given ≡ 1
-  pub freed_again : two_freed ≡ owner.Free ∷ others ∷ owner.Free ∷ owner.Output (job 7) one 0 ∷ owner.Free ∷ owner.Free ∷ []
+  pub freed_again : two_freed ≡ owner.Free ∷ others ∷ owner.Free ∷ owner.Output (job 7) one 0 ∷ owner.Free ∷ owner.Free
+      ∷ []
   pub all_but_one : free_count (freed (is_things (Output (job 7) one)) two_freed) ≡ 5
   pub in_order : map (λ g. g.0) (groups_of (Deck (job 1)) two_texts) ≡ 3 ∷ 4 ∷ 1 ∷ []
   pub no_text : groups_of (Output (job 1) one) two_texts ≡ []

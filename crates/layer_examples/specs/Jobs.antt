@@ -63,9 +63,10 @@ converted_of jobs = option_map (λ j. j.number) (for_convert (queue_of jobs [] d
 abbrev pub three_jobs : List Job
 three_jobs = a_job 1 15 66 phase.Execute ∷ a_job 2 5 65 phase.Execute ∷ a_job 3 15 65 phase.Convert ∷ []
 
--- by a member whose initiators run these classes
+-- the job executed by a member whose initiators run these classes
 abbrev pub executed_by : List ℕ → Option JobNo
-executed_by classes = option_map (λ j. j.number) (for_execute (queue_of three_jobs [] (record default_setting { init = classes_of classes })) (member 1))
+executed_by classes = option_map (λ j. j.number)
+    (for_execute (queue_of three_jobs [] (record default_setting { init = classes_of classes })) (member 1))
 
 abbrev pub first_number : (Phase → Bool) → Option JobNo
 first_number test = option_map (λ j. j.number) (first_in test (queue_of three_jobs [] default_setting))
@@ -79,24 +80,25 @@ printed_jobs = a_job 1 5 65 phase.Hardcopy ∷ a_job 2 9 65 phase.Hardcopy ∷ a
 abbrev pub four_outputs : List Output
 four_outputs = an_output 1 1 66 ∷ an_output 1 2 65 ∷ an_output 3 1 65 ∷ an_output 2 1 65 ∷ []
 
--- by a printer that takes these classes and has these forms
+-- the output printed by a printer that takes these classes and has these forms
 abbrev pub printed_by : List ℕ → List ℕ → Option (JobNo × OutNo)
 printed_by classes forms =
     option_map (λ o. (o.job, o.index))
-    (for_printer (queue_of printed_jobs four_outputs (record default_setting { prt = classes_of classes; forms = name forms })) (member 1))
+    (for_printer (queue_of printed_jobs four_outputs
+    (record default_setting { prt = classes_of classes; forms = name forms })) (member 1))
 
 pub record WorkIsSelected : Type 0 where
-  -- the older one, where neither has the greater priority; a held one is passed over
+  -- a member converts the older job if neither has the greater priority; a held job is passed over
   pub by_order : converted_of (older ∷ a_job 2 5 65 phase.Convert ∷ []) ≡ Some (job 1)
   pub by_priority : converted_of (older ∷ raised ∷ []) ≡ Some (job 2)
   pub not_held : converted_of (older ∷ held raised ∷ []) ≡ Some (job 1)
   pub none_waits : converted_of (held older ∷ []) ≡ None
-  -- the first class that a job has, whatever the priority
+  -- a member executes a job of the first of its classes that a job has, whatever the priority
   pub no_class : executed_by (codes "C") ≡ None
   pub by_class : executed_by (codes "CAB") ≡ Some (job 2)
   pub first_executed : first_number in_execute ≡ Some (job 1)
   pub none_purged : first_number in_purge ≡ None
-  -- then the priority of the job; only on the forms that the printer has
+  -- of the outputs of its classes and forms a printer takes the one whose job has the greatest priority
   pub of_class_b : printed_by (codes "B") (codes "STD") ≡ Some (job 1, index 1)
   pub of_class_a : printed_by (codes "A") (codes "STD") ≡ Some (job 2, index 1)
   pub other_forms : printed_by (codes "A") (codes "WIDE") ≡ None

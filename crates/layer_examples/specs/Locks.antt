@@ -10,14 +10,14 @@ use Rattle.lock_cycle.specs.Books.{Book, after_seize, after_spend, after_stop, a
 abbrev pub locked : Book
 locked = after_try (new_book 2 3 0) (member 1) false
 
--- it spends two commands, then two more, and tries again
+-- the holder of the lock spends two commands, then two more, and tries again
 abbrev pub spent : Book
 spent = after_try (after_spend (after_spend locked (member 1) 2) (member 1) 2) (member 1) false
 
 abbrev pub stopped : Book
 stopped = after_stop spent (member 1)
 
--- the second takes the lock over
+-- the second member takes over the lock of the stopped holder
 abbrev pub taken_over : Book
 taken_over = after_seize stopped (member 2) (member 1)
 

@@ -102,12 +102,12 @@ found_in_output at byte = bad_field output_fields (damaged (output_slot (Some li
 abbrev pub tables : Tables
 tables = empty_tables default_config []
 
--- its 36 classes twice, STD and 20 lines
+-- the bytes of a member's settings: 36 classes twice, STD and 20 lines
 abbrev pub setting_bytes : List ℕ
 setting_bytes =
     1 ∷ 36 ∷ (codes "ABCDEFGHIJKLMNOPQRSTUVWXYZ0123456789" ++ 36 ∷ (codes "ABCDEFGHIJKLMNOPQRSTUVWXYZ0123456789STD     " ++ 0 ∷ 20 ∷ replicate 43 0))
 
--- MASCKPT1, level 1, area 1, 2 members, 1 volume, 256 jobs, 512 outputs, 512 groups, a hold of 64
+-- the header: MASCKPT1, level 1, area 1, 2 members, 1 volume, 256 jobs, 512 outputs, 512 groups, a hold of 64
 abbrev pub header_bytes : List ℕ
 header_bytes =
     codes "MASCKPT1" ++ 0 ∷ 0 ∷ 0 ∷ 0 ∷ 0 ∷ 0 ∷ 0 ∷ 1 ∷ 1 ∷ 2 ∷ 1 ∷ 0 ∷ 1 ∷ 0 ∷ 2 ∷ 0 ∷ 2 ∷ 0 ∷ 0 ∷ 64 ∷ replicate 20 0
@@ -119,8 +119,10 @@ pub record SlotsAreSpelled : Type 0 where
   pub output : output_slot (Some listing) ≡ listing_bytes ++ replicate 88 0
   pub no_output : output_slot None ≡ replicate 128 0
   pub owners :
-      map owner_entry (owner.Free ∷ owner.Member (member 3) ∷ owner.Deck (job 1234) 5 ∷ owner.Output (job 1234) (index 7) 300 ∷ [])
-      ≡ (0 ∷ 0 ∷ 0 ∷ 0 ∷ 0 ∷ 0 ∷ 0 ∷ 0 ∷ []) ∷ (1 ∷ 3 ∷ 0 ∷ 0 ∷ 0 ∷ 0 ∷ 0 ∷ 0 ∷ []) ∷ (2 ∷ 0 ∷ 0 ∷ 5 ∷ 0 ∷ 0 ∷ 4 ∷ 210 ∷ [])
+      map owner_entry (owner.Free ∷ owner.Member (member 3) ∷ owner.Deck (job 1234) 5
+      ∷ owner.Output (job 1234) (index 7) 300 ∷ [])
+      ≡ (0 ∷ 0 ∷ 0 ∷ 0 ∷ 0 ∷ 0 ∷ 0 ∷ 0 ∷ []) ∷ (1 ∷ 3 ∷ 0 ∷ 0 ∷ 0 ∷ 0 ∷ 0 ∷ 0 ∷ [])
+      ∷ (2 ∷ 0 ∷ 0 ∷ 5 ∷ 0 ∷ 0 ∷ 4 ∷ 210 ∷ [])
       ∷ (3 ∷ 7 ∷ 1 ∷ 44 ∷ 0 ∷ 0 ∷ 4 ∷ 210 ∷ []) ∷ []
   -- the greatest byte stands first
   pub numbers :
@@ -136,19 +138,25 @@ pub record SlotsAreSpelled : Type 0 where
 pub record DamageIsFound : Type 0 where
   pub phase : found_in_job 0 0 ∷ found_in_job 0 8 ∷ [] ≡ Some 0 ∷ Some 0 ∷ []
   pub bytes :
-      found_in_job 1 97 ∷ found_in_job 2 16 ∷ found_in_job 3 16 ∷ found_in_job 4 9 ∷ found_in_job 5 32 ∷ found_in_job 6 255 ∷ []
+      found_in_job 1 97 ∷ found_in_job 2 16 ∷ found_in_job 3 16 ∷ found_in_job 4 9 ∷ found_in_job 5 32
+      ∷ found_in_job 6 255 ∷ []
       ≡ Some 1 ∷ Some 2 ∷ Some 3 ∷ Some 4 ∷ Some 5 ∷ Some 6 ∷ []
   pub number : found_in_job 8 1 ∷ found_in_job 11 0 ∷ [] ≡ Some 8 ∷ Some 8 ∷ []
   pub names :
-      found_in_job 20 32 ∷ found_in_job 21 32 ∷ found_in_job 27 0 ∷ found_in_job 35 65 ∷ found_in_job 36 45 ∷ found_in_job 51 1 ∷ []
+      found_in_job 20 32 ∷ found_in_job 21 32 ∷ found_in_job 27 0 ∷ found_in_job 35 65 ∷ found_in_job 36 45
+      ∷ found_in_job 51 1 ∷ []
       ≡ Some 20 ∷ Some 20 ∷ Some 20 ∷ Some 28 ∷ Some 36 ∷ Some 44 ∷ []
   pub zeros : found_in_job 52 1 ∷ found_in_job 255 1 ∷ [] ≡ Some 52 ∷ Some 52 ∷ []
   pub output :
-      found_in_output 0 2 ∷ found_in_output 1 0 ∷ found_in_output 2 2 ∷ found_in_output 3 9 ∷ found_in_output 4 1 ∷ found_in_output 8 0
-      ∷ found_in_output 8 33 ∷ found_in_output 9 0 ∷ found_in_output 10 255 ∷ found_in_output 24 0 ∷ found_in_output 39 120
+      found_in_output 0 2 ∷ found_in_output 1 0 ∷ found_in_output 2 2 ∷ found_in_output 3 9 ∷ found_in_output 4 1
+      ∷ found_in_output 8 0
+      ∷ found_in_output 8 33 ∷ found_in_output 9 0 ∷ found_in_output 10 255 ∷ found_in_output 24 0
+      ∷ found_in_output 39 120
       ∷ found_in_output 40 1 ∷ found_in_output 127 1 ∷ []
-      ≡ Some 0 ∷ Some 1 ∷ Some 2 ∷ Some 3 ∷ Some 4 ∷ Some 8 ∷ Some 8 ∷ Some 9 ∷ Some 10 ∷ Some 24 ∷ Some 32 ∷ Some 40 ∷ Some 40 ∷ []
-  pub free : bad_owner_field (0 ∷ 1 ∷ 0 ∷ 0 ∷ 0 ∷ 0 ∷ 0 ∷ 0 ∷ []) ∷ bad_owner_field (0 ∷ 0 ∷ 0 ∷ 0 ∷ 0 ∷ 0 ∷ 0 ∷ 1 ∷ []) ∷ [] ≡ Some 1 ∷ Some 4 ∷ []
+      ≡ Some 0 ∷ Some 1 ∷ Some 2 ∷ Some 3 ∷ Some 4 ∷ Some 8 ∷ Some 8 ∷ Some 9 ∷ Some 10 ∷ Some 24 ∷ Some 32 ∷ Some 40
+      ∷ Some 40 ∷ []
+  pub free : bad_owner_field (0 ∷ 1 ∷ 0 ∷ 0 ∷ 0 ∷ 0 ∷ 0 ∷ 0 ∷ []) ∷ bad_owner_field (0 ∷ 0 ∷ 0 ∷ 0 ∷ 0 ∷ 0 ∷ 0 ∷ 1 ∷ [])
+      ∷ [] ≡ Some 1 ∷ Some 4 ∷ []
   pub member :
       bad_owner_field (1 ∷ 0 ∷ 0 ∷ 0 ∷ 0 ∷ 0 ∷ 0 ∷ 0 ∷ []) ∷ bad_owner_field (1 ∷ 9 ∷ 0 ∷ 0 ∷ 0 ∷ 0 ∷ 0 ∷ 0 ∷ [])
       ∷ bad_owner_field (1 ∷ 3 ∷ 0 ∷ 1 ∷ 0 ∷ 0 ∷ 0 ∷ 0 ∷ []) ∷ []

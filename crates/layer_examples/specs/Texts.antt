@@ -37,13 +37,14 @@ pub record TextsAreRead : Type 0 where
   pub classes :
       map is_class_byte (65 ∷ 90 ∷ 48 ∷ 57 ∷ 64 ∷ 91 ∷ 47 ∷ 58 ∷ 97 ∷ 36 ∷ [])
       ≡ true ∷ true ∷ true ∷ true ∷ false ∷ false ∷ false ∷ false ∷ false ∷ false ∷ []
-  -- at most ten digits, and no sign
+  -- a number has at most ten digits, and no sign
   pub numbers :
       (number_in (codes "0") 0 ∷ number_in (codes "1") 0 ∷ number_in (codes "15") 15 ∷ number_in (codes "16") 15
       ∷ number_in (codes "0000000016") 16 ∷ number_in (codes "00000000016") 16 ∷ number_in (codes "4294967295") 4294967295
       ∷ number_in (codes "4294967296") 4294967295 ∷ number_in (codes "9999999999") 4294967295 ∷ number_in [] 9 ∷ number_in (codes "+1") 9
       ∷ number_in (codes "1 ") 9 ∷ number_in (codes "A") 99 ∷ [])
-      ≡ (Some 0 ∷ None ∷ Some 15 ∷ None ∷ Some 16 ∷ None ∷ Some 4294967295 ∷ None ∷ None ∷ None ∷ None ∷ None ∷ None ∷ [])
+      ≡ (Some 0 ∷ None ∷ Some 15 ∷ None ∷ Some 16 ∷ None ∷ Some 4294967295 ∷ None ∷ None ∷ None ∷ None ∷ None ∷ None
+      ∷ [])
   pub keys : map key_of (1 ∷ 99999 ∷ 100000 ∷ 999999 ∷ []) ≡ codes "JOB00001" ∷ codes "JOB99999" ∷ codes "J0100000" ∷ codes "J0999999" ∷ []
   pub members : map member_text (1 ∷ 8 ∷ []) ≡ codes "SYSA" ∷ codes "SYSH" ∷ []
   pub operator : map (λ m. (member_name (member m)).0) (0 ∷ 1 ∷ 8 ∷ []) ≡ codes "OPER    " ∷ codes "SYSA    " ∷ codes "SYSH    " ∷ []
@@ -51,7 +52,8 @@ pub record TextsAreRead : Type 0 where
   pub statuses :
       map status_code (
       status.Done ∷ status.Words ∷ status.BadLine 1 cause.Text ∷ status.TooLong ∷ status.SourceFault
-      ∷ status.NotFormatted copy.Unread copy.Unread ∷ status.BothLost ∷ status.ConsoleFault ∷ status.DeviceSize (dev.Spool 2) 4096
+      ∷ status.NotFormatted copy.Unread copy.Unread ∷ status.BothLost ∷ status.ConsoleFault
+      ∷ status.DeviceSize (dev.Spool 2) 4096
       ∷ status.NoMemory ∷ [])
       ≡ 0 ∷ 1 ∷ 2 ∷ 2 ∷ 3 ∷ 4 ∷ 5 ∷ 6 ∷ 7 ∷ 8 ∷ []
   -- a blank and a tilde; the bytes next to them
@@ -60,7 +62,8 @@ pub record TextsAreRead : Type 0 where
   pub limits :
       prio_most ∷ classes_most ∷ index_most ∷ wires_most ∷ line_bytes ∷ text_lines_most ∷ printer_lines_most ∷ []
       ≡ 15 ∷ 36 ∷ 32 ∷ 8 ∷ 132 ∷ 9999 ∷ 9999 ∷ []
-  pub queue : length begun.owners ∷ length begun.members ∷ length begun.lines ∷ length begun.jobs ∷ [] ≡ 512 ∷ 2 ∷ 8 ∷ 0 ∷ []
+  pub queue : length begun.owners ∷ length begun.members ∷ length begun.lines ∷ length begun.jobs ∷ []
+      ≡ 512 ∷ 2 ∷ 8 ∷ 0 ∷ []
   pub node : begun.config.node.0 ≡ codes "HERE    "
   pub setting : map (λ c. c.0) default_setting.prt ≡ codes "ABCDEFGHIJKLMNOPQRSTUVWXYZ0123456789"
   pub lines : default_setting.lines ≡ 20

@@ -1,5 +1,5 @@
-//! Worked examples of what the layers' contracts speak of, computed by the check: texts and limits, track groups, slots and pages byte by
-//! byte, faults of tables, which work is selected, what commands are answered, and the lock.
+//! Worked examples of what the layers' contracts speak of, computed by the check: texts and limits, track groups, slots
+//! and pages byte by byte, faults of tables, which work is selected, what commands are answered, and the lock.
 #![tactic(auto)]
 
 ghost use Rattle.layer_examples.specs.Texts.{TextsAreRead};

@@ -25,7 +25,7 @@ pub record IsAwake (b : Book) : Type 0 where
   pub most : b.tick ≤ tick_most
   pub each : (k : ℕ) → Wakes b.tick (get_or b.members k (beginner 0))
 
--- where one standing changes
+-- where one standing changes to one that isn't dormant, none is
 awake_with : (b : Book) (m : MemberId) (s : Standing) → IsAwake b → Wakes b.tick s → IsAwake (with_standing b m s)
 awake_with b m s a w = record {
   dormancy = a.dormancy;

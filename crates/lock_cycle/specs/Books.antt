@@ -9,7 +9,8 @@ use Rattle.lock_cycle.specs.declared.answers.NotHolder.{NotHolder}
 use Rattle.lock_cycle.specs.declared.answers.SeizeNo.{SeizeNo}
 use Rattle.lock_cycle.specs.declared.answers.SeizeNo.TheVariants as seized
 
--- who holds, nobody being member 0; the number of tries that counted; HOLD and DORMANCY; and how each member stands, from member 1 on
+-- who holds, nobody being member 0; the number of tries that counted; HOLD and DORMANCY; and how each member stands,
+-- from member 1 on
 pub record Book : Type 0 where
   pub holder : MemberId
   pub tick : ℕ
@@ -26,7 +27,8 @@ abbrev pub beginner : ℕ → Standing
 beginner hold = record { stopped = false; freed = None; left = hold }
 
 abbrev pub new_book : ℕ → ℕ → ℕ → Book
-new_book count hold dormancy = record { holder = nobody; tick = 0; hold = hold; dormancy = dormancy; members = replicate count (beginner hold) }
+new_book count hold dormancy = record
+    { holder = nobody; tick = 0; hold = hold; dormancy = dormancy; members = replicate count (beginner hold) }
 
 -- a member of the book, counted from 1
 abbrev pub IsMember : Book → MemberId → Type 0

@@ -10,7 +10,7 @@ use Rattle.lock_cycle.specs.Books.{Book, tick_most, new_book, IsMember, standing
 
 -- GRANTS
 
--- the member holds, with a whole hold; the tick is this, and the others stand as they stood
+-- the member holds the lock with a whole hold; the tick is this one, and the other members stand as they stood
 pub record IsGranted (before after : Book) (m : MemberId) (tick : ℕ) : Type 0 where
   pub holder : after.holder ≡ m
   pub left : left_of after m ≡ before.hold
@@ -20,11 +20,13 @@ pub record IsGranted (before after : Book) (m : MemberId) (tick : ℕ) : Type 0 
 -- a member that doesn't hold gets the lock where its try isn't refused
 abbrev pub TriesGrant : Type 0
 TriesGrant = (b : Book) (m : MemberId) (inner : Bool) →
-    IsMember b m → b.holder.0 ≢ m.0 → try_refusal b m inner ≡ None → IsGranted b (after_try b m inner) m (tick_of b.tick inner)
+    IsMember b m → b.holder.0 ≢ m.0 → try_refusal b m inner ≡ None
+    → IsGranted b (after_try b m inner) m (tick_of b.tick inner)
 
 -- a member gets the lock of a stopped holder
 abbrev pub SeizesGrant : Type 0
-SeizesGrant = (b : Book) (m of : MemberId) → IsMember b m → seize_refusal b of ≡ None → IsGranted b (after_seize b m of) m b.tick
+SeizesGrant = (b : Book) (m of : MemberId) → IsMember b m → seize_refusal b of ≡ None
+    → IsGranted b (after_seize b m of) m b.tick
 
 -- a holder that isn't stopped may try again, and nothing changes
 abbrev pub HoldersMayTry : Type 0
@@ -38,16 +40,18 @@ abbrev pub RefusedTriesTick : Type 0
 RefusedTriesTick = (b : Book) (m : MemberId) (inner : Bool) (why : LockNo) →
     try_refusal b m inner ≡ Some why → why ≢ lock.Down → after_try b m inner ≡ ticked b inner
 
--- that of a stopped member changes nothing
+-- a try of a stopped member changes nothing
 abbrev pub StoppedTriesDoNothing : Type 0
 StoppedTriesDoNothing = (b : Book) (m : MemberId) (inner : Bool) →
     is_stopped b m ≡ true → (try_refusal b m inner ≡ Some lock.Down) × (after_try b m inner ≡ b)
 
 abbrev pub RefusedFreesDoNothing : Type 0
-RefusedFreesDoNothing = (b : Book) (m : MemberId) (inner : Bool) (why : NotHolder) → free_refusal b m ≡ Some why → after_free b m inner ≡ b
+RefusedFreesDoNothing = (b : Book) (m : MemberId) (inner : Bool) (why : NotHolder) → free_refusal b m ≡ Some why
+    → after_free b m inner ≡ b
 
 abbrev pub RefusedSeizesDoNothing : Type 0
-RefusedSeizesDoNothing = (b : Book) (m of : MemberId) (why : SeizeNo) → seize_refusal b of ≡ Some why → after_seize b m of ≡ b
+RefusedSeizesDoNothing = (b : Book) (m of : MemberId) (why : SeizeNo) → seize_refusal b of ≡ Some why
+    → after_seize b m of ≡ b
 
 -- DORMANCY
 
@@ -62,9 +66,10 @@ DormantForSoLong = (b : Book) (m : MemberId) (freed : ℕ) →
 abbrev pub InnerTriesAreAwake : Type 0
 InnerTriesAreAwake = (b : Book) (m : MemberId) (until : ℕ) → try_refusal b m true ≢ Some (lock.Dormant until)
 
--- nor at the greatest tick
+-- at the greatest tick nobody is dormant
 abbrev pub LastTriesAreAwake : Type 0
-LastTriesAreAwake = (b : Book) (m : MemberId) (inner : Bool) (until : ℕ) → b.tick ≡ tick_most → try_refusal b m inner ≢ Some (lock.Dormant until)
+LastTriesAreAwake = (b : Book) (m : MemberId) (inner : Bool) (until : ℕ) → b.tick ≡ tick_most
+    → try_refusal b m inner ≢ Some (lock.Dormant until)
 
 -- HISTORIES
 
@@ -88,7 +93,8 @@ abbrev pub moved_by : Book → List Call → Book
 moved_by b [] = b
 moved_by b (c ∷ cs) = moved_by (moved b c) cs
 
--- the lock may pass so: nobody's to one that tries, the holder's to nobody, a stopped holder's to one that takes it over
+-- the lock may pass so: nobody's to one that tries, the holder's to nobody, a stopped holder's to one that takes it
+-- over
 abbrev pub MayPass : Book → Call → MemberId → Type 0
 MayPass b (tries m inner) next = (b.holder.0 ≡ 0) × (next ≡ m)
 MayPass b (frees m inner) next = (b.holder.0 ≡ m.0) × (next ≡ nobody)
@@ -130,11 +136,13 @@ BusyWhileHeld =
     (try_refusal (two 0) first false ≡ None)
     × (try_refusal (moved_by (two 0) (tries first false ∷ [])) second false ≡ Some (lock.Busy first))
     × (free_refusal (moved_by (two 0) (tries first false ∷ tries second false ∷ [])) first ≡ None)
-    × (try_refusal (moved_by (two 0) (tries first false ∷ tries second false ∷ frees first false ∷ [])) second false ≡ None)
+    × (try_refusal (moved_by (two 0) (tries first false ∷ tries second false ∷ frees first false ∷ [])) second false
+    ≡ None)
 
 -- of three steps of the first member, at a dormancy of 2, the second is refused
 abbrev pub DormantOnce : Type 0
 DormantOnce =
     (try_refusal (two 2) first false ≡ None)
     × (try_refusal (moved_by (two 2) (tries first false ∷ frees first false ∷ [])) first false ≡ Some (lock.Dormant 3))
-    × (try_refusal (moved_by (two 2) (tries first false ∷ frees first false ∷ tries first false ∷ [])) first false ≡ None)
+    × (try_refusal (moved_by (two 2) (tries first false ∷ frees first false ∷ tries first false ∷ [])) first false
+    ≡ None)

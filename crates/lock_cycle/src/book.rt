@@ -27,7 +27,13 @@ impl Model for LockBook {
 
     ghost Value = { Book };
 
-    ghost view = { λ b. record { holder = b.holder; tick = b.tick; hold = b.hold; dormancy = b.dormancy; members = take b.members b.standings } };
+    ghost view = { λ b. record {
+      holder = b.holder;
+      tick = b.tick;
+      hold = b.hold;
+      dormancy = b.dormancy;
+      members = take b.members b.standings;
+    } };
 
     ghost invariant = { λ b. b.members ≤ members_most };
 }
@@ -163,7 +169,7 @@ impl LockBook {
         self.standing(by).stopped
     }
 
-    /// The number of outer tries so far, but for those of stopped members and of holders. It stays at the greatest u64.
+    /// The number of outer tries so far, except those of stopped members and of holders. It stays at the greatest u64.
     pub fn tick(&self) -> u64
         ensures { result ≡ self.now.tick }
     {

@@ -33,7 +33,7 @@ module _ (tells : Type 0) (t : Tables) (old new : View) (sound : fault_of t ≡ 
         ∙ ap (λ (f : Option TableFault). answer_of f (lost_volume new t.config.groups t.owners) (wrong_group t (groups_on old t.config.groups t.owners))) (sym sound);
   }
 
-  -- none is lost, and each group of a text was read
+  -- no volume is lost, and each group of a text was read
   pub text_check : (groups : List Group) (text : Option ℕ) → None ≡ lost_volume new t.config.groups t.owners → (tells → lost_volume new t.config.groups t.owners ≡ None → groups ≡ groups_on old t.config.groups t.owners) → text ≡ wrong_group t groups
       → IsCheckOf tells t old new (Ok (text_verdict text))
   text_check groups text none read is = record {

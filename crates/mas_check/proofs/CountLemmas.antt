@@ -37,7 +37,7 @@ records_in-bad b bytes go bad = rw (go, bad) refl
 abbrev pub counted : List ℕ → Option ℕ
 counted bytes = option_map length (records_in bytes)
 
--- so many more than these
+-- the count, with more records added to it
 abbrev pub more : ℕ → Option ℕ → Option ℕ
 more n None = None
 more n (Some m) = Some (n + m)
@@ -70,13 +70,13 @@ count_step page at full inside further fits =
     rw here (ap (option_map length) read ∙ length_one (take b (drop (at + 1) page)) (records_in (drop b (drop (at + 1) page)))) in
     (omega (arith, length-drop (at + 1) page), rw (next, ← drop-drop) same)
 
--- at the byte after the records
+-- no record is counted at the byte after the records
 pub count_end : (page : List ℕ) (at : ℕ) → length page ≡ page_bytes → at < page_bytes → get_or page at 0 ≡ end_byte → counted (drop at page) ≡ Some 0
 count_end page at full inside is =
     let here : drop at page ≡ get_or page at 0 ∷ drop (at + 1) page = drop_here page at (omega arith) in
     rw (here, is) refl
 
--- where no record begins
+-- there is no count where no record begins
 pub count_bad : (page : List ℕ) (at : ℕ) → length page ≡ page_bytes → at < page_bytes → get_or page at 0 ≢ end_byte
     → begins_record (get_or page at 0) (drop (at + 1) page) ≡ false → counted (drop at page) ≡ None
 count_bad page at full inside further bad =
@@ -85,13 +85,13 @@ count_bad page at full inside further bad =
     let go : (b == end_byte) ≡ false = grind (arith, nat_tests) in
     rw here (ap (option_map length) (records_in-bad b (drop (at + 1) page) go bad))
 
--- where no byte is left
+-- there is no count where no byte is left
 pub count_over : (page : List ℕ) (at : ℕ) → length page ≡ page_bytes → page_bytes ≤ at → counted (drop at page) ≡ None
 count_over page at full over =
     let none : drop at page ≡ [] = drop_all at page (omega arith) in
     rw none refl
 
--- where the loop ends
+-- the count so far is the page's if the loop ends at the end of the records; else there is none
 pub count_done : (page : List ℕ) (at count : ℕ) → length page ≡ page_bytes → counted page ≡ more count (counted (drop at page)) → (at < page_bytes → get_or page at 0 ≡ end_byte)
     → (if nat_lt at page_bytes then Some count else None) ≡ counted page
 count_done page at count full so_far ends = ⊎_elim inside outside (either_way page_bytes at) where

@@ -107,7 +107,7 @@ pub record HaveRead (tells : Type 0) (first now : View) (per : ℕ) (owners : Li
   pub held : tells → lost_from now per 0 owners ≡ None → groups ≡ groups_from first per 0 owners
   pub count : length groups ≡ length owners
 
--- one more group
+-- the groups that were read, with one more group
 read_more : (tells : Type 0) (first now new : View) (per : ℕ) (owners : List Owner) (o : Owner) (groups : List Group) (g : Group) → HaveRead tells first now per owners groups → OnlyReads tells now new
     → (tells → lost_from new per (length owners) (o ∷ []) ≡ None → groups_from now per (length owners) (o ∷ []) ≡ g ∷ [])
     → HaveRead tells first new per (owners ++ o ∷ []) (groups ++ g ∷ [])

@@ -105,7 +105,7 @@ module _ (n at : ℕ) (old new : View) (into : List ℕ) (act : Act) (acts : Act
     arms = acts.arms;
   }
 
--- NONE, AND TWO
+-- NO READS, AND READS ONE AFTER ANOTHER
 
 pub reads_none : (tells : Type 0) (v : View) → OnlyReads tells v v
 reads_none tells v = record {

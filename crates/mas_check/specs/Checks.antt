@@ -36,8 +36,8 @@ abbrev pub text_verdict : Option ℕ → Verdict
 text_verdict None = Sound
 text_verdict (Some group) = Fault kind.Text group
 
--- The answer for tables with this fault, where this volume is the least that is lost with a group of a text on it, and this is the
--- first group of a text that holds no records of it.
+-- The answer for tables with this fault, where this volume is the least that is lost with a group of a text on it, and
+-- this is the first group of a text that holds no records of it.
 abbrev pub answer_of : Option TableFault → Option ℕ → Option ℕ → Result Verdict CheckNo
 answer_of (Some f) lost text = Ok (verdict_of f)
 answer_of None (Some volume) text = Err (SpoolLost volume)
@@ -50,7 +50,7 @@ pub record IsCheckOf (tells : Type 0) (t : Tables) (old new : View) (answer : Re
   pub told : tells → text ≡ wrong_group t (groups_on old t.config.groups t.owners)
   pub is : answer ≡ answer_of (fault_of t) (lost_volume new t.config.groups t.owners) text
 
--- or there was no memory for it
+-- the texts of tables were checked by a call that only reads, or it ran out of memory
 abbrev pub IsCheckOrNone : Type 0 → Tables → View → View → Result Verdict CheckNo → Type 0
 IsCheckOrNone tells t old new answer = (answer ≡ Err NoMemory) ⊎ IsCheckOf tells t old new answer
 
@@ -67,9 +67,9 @@ IsAnswer tells pages old new (Ok (Fault kind.Page page)) = IsLeastBad pages page
 IsAnswer tells pages old new (Err NoMemory) = Unit {0}
 IsAnswer tells pages old new answer = IsCheck tells pages old new answer
 
--- ITS LINE
+-- THE LINE OF A CHECK
 
--- none where there was no memory
+-- the line of a check's answer; none where the check ran out of memory
 abbrev pub line_of : Result Verdict CheckNo → Option (List ℕ)
 line_of (Ok verdict) = Some (verdict_line verdict)
 line_of (Err (SpoolLost volume)) = Some (words (codes "SPOOL LOST" ∷ decimal volume ∷ []))

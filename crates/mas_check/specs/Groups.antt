@@ -18,19 +18,19 @@ has_text (owner.Deck job place) = true
 has_text (owner.Output job index place) = true
 has_text _ = false
 
--- both groups are of one text
+-- the two groups are of one text
 abbrev pub same_text : Owner → Owner → Bool
 same_text (owner.Deck n p) (owner.Deck m q) = same_number n m
 same_text (owner.Output n i p) (owner.Output m j q) = same_number n m && same_index i j
 same_text _ _ = false
 
--- both are of one text, and the second stands behind the first
+-- the two groups are of one text, and the second stands after the first
 abbrev pub is_behind : Owner → Owner → Bool
 is_behind (owner.Deck n p) (owner.Deck m q) = same_number n m && nat_lt p q
 is_behind (owner.Output n i p) (owner.Output m j q) = same_number n m && same_index i j && nat_lt p q
 is_behind _ _ = false
 
--- no group of its text stands behind it
+-- the group is the last of its text: no group of the text stands after it
 abbrev pub is_last : List Group → Owner → Bool
 is_last groups o = not (list_any (λ g. is_behind o g.owner) groups)
 
@@ -65,6 +65,6 @@ is_wrong_group t groups g =
     has_text g.owner
     && (not (is_some g.records) || (is_last groups g.owner && not (records_of g.owner groups == lines_of t g.owner)))
 
--- the first such group
+-- the first group that is wrong
 abbrev pub wrong_group : Tables → List Group → Option ℕ
 wrong_group t groups = first_wrong (λ before g. is_wrong_group t groups g) [] 0 groups

@@ -40,7 +40,8 @@ tally_in eq tallies key = unwrap_or (get eq tallies key) no_groups
 -- a group was counted in under a key
 abbrev pub Counts : {K S : Type 0} → (K → K → Bool) → HashMap K Tally S → K → ℕ → ℕ → HashMap K Tally S → Type 0
 Counts {K} eq old key place records new =
-    (q : K) → tally_in eq new q ≡ (if eq key q then with_group (tally_in eq old key) place records else tally_in eq old q)
+    (q : K) → tally_in eq new q ≡ (if eq key q then with_group (tally_in eq old key) place records else tally_in eq old
+    q)
 
 -- a job's number and an output's index
 abbrev pub same_key : ℕ × ℕ → ℕ × ℕ → Bool
@@ -52,7 +53,7 @@ tally_at tallies (owner.Deck n place) = tally_in nat_eq tallies.decks n.0
 tally_at tallies (owner.Output n i place) = tally_in same_key tallies.prints (n.0, i.0)
 tally_at tallies _ = no_groups
 
--- these are the tallies of all texts
+-- the tallies are those of all texts to which the groups belong
 abbrev pub AreTallies : Tallies → List Group → Type 0
 AreTallies tallies groups = (o : Owner) → tally_at tallies o ≡ tally_of o groups
 
@@ -62,10 +63,11 @@ HaveFew count tallies = (o : Owner) → (tally_at tallies o).records ≤ 65535 *
 
 -- A GROUP
 
--- the page of a group of a text holds none, or it is the last group of its text, and the records of the text are not as many as
--- its slot counts
+-- the page of a group of a text holds none, or it is the last group of its text, and the records of the text are not as
+-- many as its slot counts
 abbrev pub is_wrong_group : Tables → Tallies → Group → Bool
 is_wrong_group t tallies g =
     has_text g.owner
     && (not (is_some g.records)
-    || (not (nat_lt (place_of g.owner) (tally_at tallies g.owner).last) && not ((tally_at tallies g.owner).records == lines_of t g.owner)))
+    || (not (nat_lt (place_of g.owner) (tally_at tallies g.owner).last) && not
+    ((tally_at tallies g.owner).records == lines_of t g.owner)))

@@ -14,12 +14,13 @@ use Rattle.mas_check.specs.Groups.{has_text}
 abbrev pub group_at : ℕ → GroupNo
 group_at g = record { 0 = g }
 
--- the number of records on a group's page, where each volume has so many groups. None where the page holds none, or doesn't lie
--- within its volume
+-- the number of records on a group's page, where each volume has so many groups. None where the page holds none, or
+-- doesn't lie within its volume
 abbrev pub records_at : View → ℕ → ℕ → Option ℕ
 records_at v per g =
     if nat_le (start_of per (group_at g) + page_bytes) (v.size (Spool (volume_of per (group_at g))))
-    then option_map length (records_in (slice (start_of per (group_at g)) page_bytes (disk_now v (Spool (volume_of per (group_at g)))).bytes))
+    then option_map length (records_in
+    (slice (start_of per (group_at g)) page_bytes (disk_now v (Spool (volume_of per (group_at g)))).bytes))
     else None
 
 -- the volume on which a group lies is lost
@@ -41,8 +42,8 @@ groups_from v per at (o ∷ owners) =
 abbrev pub groups_on : View → ℕ → List Owner → List Group
 groups_on v per owners = groups_from v per 0 owners
 
--- The volume of the first group of a text that lies on a lost one. Volumes have their groups in ascending order, so it is the least
--- such volume.
+-- The volume of the first group of a text that lies on a lost one. Volumes have their groups in ascending order, so it
+-- is the least such volume.
 abbrev pub lost_from : View → ℕ → ℕ → List Owner → Option ℕ
 lost_from v per at [] = None
 lost_from v per at (o ∷ owners) =

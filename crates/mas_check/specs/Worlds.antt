@@ -23,7 +23,8 @@ pub record IsSameWorld (old new : World) : Type 0 where
 
 -- a read of the volume failed, and it is lost
 abbrev pub HasFailed : ℕ → View → View → Type 0
-HasFailed n old new = (new.lost (DiskPart (Spool n)) ≡ true) × Rose (old.faults (DiskPart (Spool n))) (new.faults (DiskPart (Spool n)))
+HasFailed n old new = (new.lost (DiskPart (Spool n)) ≡ true)
+    × Rose (old.faults (DiskPart (Spool n))) (new.faults (DiskPart (Spool n)))
 
 -- A call that only reads spool volumes. At each moment of it the world is as it was, and nothing is lost but a
 -- volume of which a read failed. It loses no device, stops nobody and arms no stop.

@@ -20,7 +20,7 @@ pub enum CheckNo {
     /// The pages have no fault, and this volume is lost, the least such with a group of a text on it.
     #[error("spool volume {0} is lost")]
     SpoolLost(u8),
-    /// There was no memory.
+    /// Out of memory.
     #[error("no memory")]
     NoMemory,
 }
@@ -107,7 +107,7 @@ fn check_tables<P: Plant>(alloc: Global, plant: &mut P, tables: &Tables) -> Resu
 ///   where the records of the text are not as many as its slot counts.
 ///
 /// SpoolLost comes where the pages have no fault and a group of a deck or an output lies on a volume that is lost at
-/// the end, with the least such volume. NoMemory comes for want of memory alone.
+/// the end, with the least such volume. NoMemory comes only when out of memory.
 ///
 /// Nothing is written, synced, said or printed, and no device is lost by a call. A volume of which a read fails is
 /// lost, as ever.

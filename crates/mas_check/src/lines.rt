@@ -35,7 +35,7 @@ fn push_verdict(line: &mut List<u8>, verdict: &Verdict) -> Result<(), NoMemory>
 }
 
 /// The line that says what a check answered: `SOUND`, `FAULT` with the kind and the place, or `SPOOL LOST` with the
-/// volume. NoMemory comes for want of memory, and where the check had none.
+/// volume. NoMemory comes when out of memory, here or in the check.
 pub fn check_line(alloc: Global, answer: &Result<Verdict, CheckNo>) -> Result<List<u8>, NoMemory>
     ensures { IfOk result (λ line. line_of answer.now ≡ Some line) }
 {

@@ -78,8 +78,10 @@ impl Tallies {
 
     fn add(&mut self, group: &Group) -> Result<(), NoMemory>
         requires { (o : OwnerLem) → (tally_at self.old o).records < 2 ^ 63 }
-        ensures counted { OnOk result ((groups : List GroupLem) → AreTallies self.old groups → AreTallies self.new (groups ++ group.now ∷ [])) }
-        ensures few { OnOk result ((o : OwnerLem) → (tally_at self.new o).records ≤ (tally_at self.old o).records + 65535) }
+        ensures counted { OnOk result ((groups : List GroupLem) → AreTallies self.old groups
+            → AreTallies self.new (groups ++ group.now ∷ [])) }
+        ensures few { OnOk result ((o : OwnerLem)
+            → (tally_at self.new o).records ≤ (tally_at self.old o).records + 65535) }
     {
         let records = group.records.unwrap_or(0);
         match group.owner {

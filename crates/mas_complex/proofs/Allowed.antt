@@ -43,7 +43,7 @@ module _ (base : Queue) (js : List Batch) (printed : List ℕ) where
   mark_begins e n i at o given is some found upto sound =
       ∣ (record { given = given; mark = rw is (mark_right (run base (kept_all js)) e.by (counts_of printed e.by) at n i o some found upto) }, tt) ∣₁
 
--- the same by other names
+-- entries that may begin may begin at an equal base, journal and counts
 pub begins_as : (base base' : Queue) (js js' : List Batch) (printed printed' : List ℕ) (es es' : List Entry) → base' ≡ base → kept_all js' ≡ kept_all js → printed' ≡ printed → es' ≡ es → MayBegin base js printed es → MayBegin base' js' printed' es'
 begins_as base base' js js' printed printed' es es' one two three four may sound =
     ∥∥₁_map (may (subst (λ (Q : Queue). IsSound Q) one sound)) (λ are. rw (one, two, three, four) are)

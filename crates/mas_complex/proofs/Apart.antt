@@ -88,7 +88,7 @@ papers_both P Q old new m t from le = (m.sides t from le).paper
 pub papers_is : (old new : View) → ∥ SamePapers old new ∥₁ → SamePapers old new
 papers_is old new some t from le m = ∥∥₁_elim some (Coded-set (coded_list coded_line) _ _) (λ e. e t from le m)
 
--- these equations need no choice either
+-- what calls on the copies leave as it was needs no choice, since it is equations
 pub on_is : (old new : View) → ∥ OnCopies old new ∥₁ → OnCopies old new
 on_is old new some = record {
   volumes = λ d one two. ∥∥₁_elim some (Coded-set coded_disk _ _) (λ e. e.volumes d one two);

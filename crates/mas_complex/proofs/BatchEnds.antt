@@ -40,7 +40,7 @@ without_last-append [] b = refl
 without_last-append (a ∷ []) b = refl
 without_last-append (a ∷ next ∷ bs) b = ap (λ (ys : List Batch). a ∷ ys) (without_last-append (next ∷ bs) b)
 
--- another last batch leaves as many
+-- a journal with another last batch has as many batches
 pub few_with_last : (b : Batch) (js : List Batch) → length js ≤ journal_most → length (with_last b js) ≤ journal_most
 few_with_last b js few = subst (λ (n : ℕ). n ≤ journal_most) (sym (as_many js)) few where
   as_many : (l : List Batch) → length (with_last b l) ≡ length l

@@ -88,7 +88,7 @@ flying_before b t lt =
     let p : nat_le b.first t ≡ false = grind (arith, nat_tests) in
     ap (λ (c : Bool). if c && (nat_lt t b.last || is_flying b.fate) then b.entries else []) p
 
--- and settled ones with it, from now on
+-- of settled batches and one in flight just the settled ones are kept, from now on
 pub now_kept : (js : List Batch) (c : Option Batch) (now t : ℕ) → AreSettled js now → IsBegun c now → now ≤ t → kept (js ++ in_flight c) t ≡ kept_all js
 now_kept js None now t are begun le = kept_append js [] t ∙ append-nil (kept js t) ∙ settled_kept js now t are le
 now_kept js (Some b) now t are begun le =

@@ -31,7 +31,7 @@ dev21 e = absurd (cc)
 disk_dev : (d e : Dev) → DiskPart d ≡ DiskPart e → d ≡ e
 disk_dev d e same = cc
 
--- once more, or at the greatest count
+-- a copy was lost once more, or its count is the greatest
 more : (was is : Bool) (before after : ℕ) → was ≡ true → is ≡ false → after ≡ next before → before ≤ top → IsLostOnce was is before after
 more was is before after alive dead counted small = ⊎_elim (λ late. inl (omega (arith, counted, small, late))) (λ below. inr (alive, dead, omega (arith, counted, below))) (either_way top before)
 

@@ -75,7 +75,7 @@ image_left true false disk (Some image) there sunk left = left
 image_left false false disk None there sunk left = absurd (true≢false (sym (sunk left)))
 image_left false false disk (Some image) there sunk left = left
 
--- what is handed out, but for what stands on paper
+-- what is handed out, except what stands on paper
 pub record Parts (reads : List ℕ → Option (List ℕ)) (base : Queue) (since : ℕ) (J : Journal) (v : View) : Type 0 where
   pub crash : IsCrashSafe reads base J since v
   pub alike : AreAlwaysAlike reads base J since v
@@ -159,7 +159,7 @@ module _ (reads : List ℕ → Option (List ℕ)) (base : Queue) (since : ℕ) (
           (one_tells Closes (StepIsKept (js ++ in_flight c) t) (said S v t) (whole (closing_line by at end)) (keeps.told t from le) there refl by at (record { end = end; telling = telling; is = refl }));
     }
 
--- and with the journal as it is handed out
+-- the headline of the journal as it is handed out
 module _ (reads : List ℕ → Option (List ℕ)) (base : Queue) (since : ℕ) (reached : ℕ) (first second : Copy) (v : View)
     (most : v.now ≤ top) (lost1 : first.alive ≡ false → v.lost (DiskPart Ckpt1) ≡ true) (lost2 : second.alive ≡ false → v.lost (DiskPart Ckpt2) ≡ true)
     (rests_reads1 : (pages : List ℕ) (d : Disk) → first.rests pages d → AllRead reads pages d) (holds_reads1 : (was next : List ℕ) (d : Disk) → first.holds was next d → AllRead reads was d)

@@ -57,7 +57,7 @@ module _ (S : Setting) (js : List Batch) (b c : Batch) (reached : ℕ) (first se
     (same_first : c.first ≡ b.first) (same_entries : c.entries ≡ b.entries) (last : c.last ≡ v.now)
     (rests_reads1 : (pages : List ℕ) (d : Disk) → first.rests pages d → AllRead S.reads pages d) (holds_reads1 : (was next : List ℕ) (d : Disk) → first.holds was next d → AllRead S.reads was d)
     (rests_reads2 : (pages : List ℕ) (d : Disk) → second.rests pages d → AllRead S.reads pages d) (holds_reads2 : (was next : List ℕ) (d : Disk) → second.holds was next d → AllRead S.reads was d) where
-  -- the kept pages are then these, which each alive copy reads
+  -- the kept pages once the batch in flight has its fate, which each alive copy reads
   at_rest : (reached' : ℕ) (pages : List ℕ) → is_flying c.fate ≡ false → Stands S reached' (kept_all (js ++ c ∷ [])) pages
       → OneCopy S first.rests first.holds pages None Before first.alive v.now (disk_now v Ckpt1) → OneCopy S second.rests second.holds pages None Before second.alive v.now (disk_now v Ckpt2)
       → Keeps S (js ++ c ∷ []) None reached' (copy_of first.rests first.holds first.alive Before) (copy_of second.rests second.holds second.alive Before) v

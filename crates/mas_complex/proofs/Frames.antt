@@ -46,7 +46,7 @@ module _ {P C H : Type 0} (copy : H → C) (alive : H → Bool) (found : H → �
   frame_half plant plant' h1 h2 k1 k2 p1 p2 Ckpt2 ckpt same = cc
   frame_half plant plant' h1 h2 k1 k2 p1 p2 (Spool n) ckpt same = absurd ckpt
 
--- a call after which the copy is lost too
+-- a call after which the copy is lost
 pub frame_lost : {P C : Type 0} (dev : Dev) → IsCkpt dev → (was mid is : Parts P C) → mid ≡ with_copy dev mid was → is ≡ with_half dev is mid → is ≡ with_copy dev is was
 frame_lost {P = P} {C = C} Ckpt1 ckpt was mid is looked loses =
     subst (λ (p : Place). is ≡ record (with_copy Ckpt1 is was) { first = p }) (sym (ap (λ (x : Parts P C). x.first) loses)) (subst (λ (x : Parts P C). is ≡ with_half Ckpt1 is x) looked loses)

@@ -34,7 +34,8 @@ rose_later a b c rose le = omega (arith, rose, le)
 pub rose_earlier : (a b c : ℕ) → a ≤ b → Rose b c → Rose a c
 rose_earlier a b c le rose = omega (arith, rose, le)
 
--- Why a copy that counted as alive doesn't any more: an act on it failed while it was looked at or brought up, or its pages don't fit.
+-- Why a copy that counted as alive doesn't any more: an act on it failed while it was looked at or brought up, or its
+-- pages don't fit.
 pub left_why : (reads : List ℕ → Option (List ℕ)) (bytes : List ℕ) (reached room last : ℕ) (place : Place) (found : List Page) (R : Type 0) (seen : Option (List Page)) (alive : Bool)
     → (seen ≡ None → R) → (alive ≡ true → R) → ReadsSeen reads bytes seen
     → ((pages : List Page) → seen ≡ Some pages → IsAtLevel (level (bytes_of pages)) reached place) → ((pages : List Page) → seen ≡ Some pages → alive ≡ false → IsUnfit seen place room found)

@@ -94,7 +94,7 @@ module _ (S : Setting) (was : List ℕ) (coming : Option (List ℕ)) where
         ⊎_elim (λ b. absurd (clash place' b.0 opened)) (λ o. ⊎_elim (λ e. absurd (o.1 (ap level e ∙ stands.at_level))) (λ e. e)
         (reads_one (disk_now new dev) (bytes_of pages) (rests_reads' (bytes_of pages) (disk_now new dev) (l.found told)) (there l.there) (new_reads (stays l.is_alive)))) f
 
--- which have the next level and stand for the queue with the batch, which has an entry
+-- pages in flight have the next level and stand for the queue with the batch, which has an entry
 pub look_stands : (S : Setting) (js : List Batch) (c : Option Batch) (reached : ℕ) (first second : Copy) (v : View) → (keeps : Keeps S js c reached first second v) → (pages : List ℕ) → keeps.coming ≡ Some pages
     → Stands S (reached + 1) (kept_all js ++ entries_in c) pages × (1 ≤ length (entries_in c))
 look_stands S js c reached first second v keeps pages same =

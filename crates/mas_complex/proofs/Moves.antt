@@ -136,7 +136,7 @@ module _ (S : Setting) (js : List Batch) (b c : Batch) (reached reached' : ℕ) 
       alike_as S (kept (js ++ b ∷ []) t) (flying (js ++ b ∷ []) t) (kept ((js ++ c ∷ []) ++ []) t) (flying ((js ++ c ∷ []) ++ []) t) (disk_at v t Ckpt1) (disk_at v t Ckpt2)
       (fated_kept js b c t fate lt) (fated_flying js b c t fate same_first same_entries lt) crash
 
-  -- the kept pages are then these
+  -- the kept pages once the batch in flight has its fate
   pub fate_keeps : Keeps S js (Some b) reached first second v → is_flying c.fate ≡ false → c.first ≡ b.first → c.entries ≡ b.entries → c.last ≡ v.now
       → (was : List ℕ) → Stands S reached' (kept_all (js ++ c ∷ [])) was
       → (v.now < top → ReadsOne S was None (disk_now v Ckpt1) × ReadsOne S was None (disk_now v Ckpt2))
@@ -177,7 +177,7 @@ module _ (S : Setting) (js : List Batch) (b c : Batch) (reached reached' : ℕ) 
     settled : AreSettled (js ++ c ∷ []) v.now
     settled = settled_push js c v.now keeps.settled fated (omega (arith, same_first, last, keeps.begun.1)) (omega (arith, last))
 
--- another journal that says the same of each moment
+-- what is kept of one journal is kept of another that says the same of each moment
 module _ (S : Setting) (js ks : List Batch) (c : Option Batch) (reached : ℕ) (first second : Copy) (v : View) where
   pub same_keep : Keeps S js c reached first second v → AreSettled ks v.now → ((t : ℕ) → kept (ks ++ in_flight c) t ≡ kept (js ++ in_flight c) t) → ((t : ℕ) → flying (ks ++ in_flight c) t ≡ flying (js ++ in_flight c) t)
       → ((t : ℕ) (m : MemberId) (s : ℕ) → StepIsKept (js ++ in_flight c) t m s → StepIsKept (ks ++ in_flight c) t m s) → kept_all ks ≡ kept_all js

@@ -39,7 +39,7 @@ numbers_increasing page0 reached p (x ∷ xs) = listed (is_found_at page0 reache
       listed true rest above = increasing_cons p (numbers_from page0 reached (p + 1) xs) above rest
       listed false rest above = rest
 
--- they are numbers of pages, the first 0
+-- the numbers found are numbers of pages, the first 0
 pub are_pages : (found : List Page) → 1 ≤ length found → ArePages (length found) (found_numbers found)
 are_pages [] some = absurd (omega arith)
 are_pages (x ∷ xs) some = record {

@@ -106,7 +106,7 @@ module _ {H : Type 0} (alive : H → Bool) where
   fit_was fits Ckpt2 ckpt h1 h2 old first second = second
   fit_was fits (Spool n) ckpt h1 h2 old first second = absurd ckpt
 
-  -- where both count as lost, this one does
+  -- where both copies count as lost, the one of the device does
   pub one_dead : (dev : Dev) → IsCkpt dev → (k1 k2 : H) → IsBothLost (alive k1) (alive k2) → alive (pick dev k1 k2) ≡ false
   one_dead Ckpt1 ckpt k1 k2 both = both.0
   one_dead Ckpt2 ckpt k1 k2 both = both.1

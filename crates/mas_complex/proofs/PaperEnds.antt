@@ -97,7 +97,7 @@ makes_paper base since book v is = record {
   no_count : (m : MemberId) → count_at [] since v v.now m ≡ 0
   no_count m = ap (λ (n : ℕ). length ((v.world v.now).paper m.0) - length ((v.world n).paper m.0)) is ∙ nothing (length ((v.world v.now).paper m.0))
 
-  -- nothing is behind the base's own marks
+  -- no line is after the base's own marks
   no_lines : (t : ℕ) (counts : Counts) → ((m : MemberId) → counts m ≡ 0) → AreLinesOn (IsOnPaper (v.world t).paper) base counts []
   no_lines t counts all n i o found un line low high =
       let found' : mark_of (output_at base n i) ≡ o.mark = rw found refl in
@@ -123,7 +123,7 @@ given_kept base (b ∷ js) t are = All-append (IsGiven base) (kept_of b t) (kept
     given_of true = are.0
     given_of false = All-nil (IsGiven base)
 
--- of a journal with what is in flight at its end
+-- what stands on paper, by a journal with what is in flight at its end
 pub kept_paper : (base : Queue) (since : ℕ) (js : List Batch) (c : Option Batch) (printed : List ℕ) (book : Book) (v : View) → IsSound base → KeepsPaper base since js c printed book v → PaperKept base since (js ++ in_flight c) v
 kept_paper base since js c printed book v sound k = record {
   given = k.given;
@@ -132,7 +132,7 @@ kept_paper base since js c printed book v sound k = record {
   lines = k.lines;
 }
 
--- the journal as it is handed out
+-- what stands on paper, by the journal as it is handed out
 pub ended_paper : (base : Queue) (since : ℕ) (placed : Bool) (js : List Batch) (c : Option Batch) (printed : List ℕ) (book : Book) (v : View) → (IsSome c → placed ≡ true) → HasPlace placed js → IsSound base → KeepsPaper base since js c printed book v
     → PaperKept base since (end_of placed c js) v
 ended_paper base since true js (Some b) printed book v some p sound k =

@@ -117,7 +117,7 @@ module _ (base : Queue) (since : ℕ) (js : List Batch) (c : Option Batch) (prin
   abbrev New : JobNo → OutNo → ℕ → Text → Type 0
   New = IsOnPaper (new.world new.now).paper
 
-  -- a line more, and which counts there are then
+  -- a line more on paper, and which counts there are once it stands
   line_on_paper : (l : Line) (printed' : List ℕ) (book' : Book) → new.now ≡ old.now + 1 → (new.world new.now).paper m.0 ≡ (old.world old.now).paper m.0 ++ l ∷ [] → ((j : ℕ) → j ≢ m.0 → (new.world new.now).paper j ≡ (old.world old.now).paper j)
       → (l.whole ≡ true → l.text ≡ bytes) → AreLinesOn New base (counts_of printed') K → AreLinesOn New base (counts_of printed') (K ++ F)
       → ((j : MemberId) → j.0 < length printed' → is_stopped book' j ≡ false → counts_of printed' j ≡ count_at J since new new.now j) → KeepsPaper base since js c printed' book' new
@@ -177,7 +177,7 @@ module _ (base : Queue) (since : ℕ) (js : List Batch) (c : Option Batch) (prin
       ap (λ (n : ℕ). length ((new.world new.now).paper j.0) - length ((new.world n).paper j.0)) turn
       ∙ count_eq same (ap (λ (w : World). w.paper j.0) (goes.past (turned j J old.now since) (turned_by j J old.now since started)))
 
-  -- one more of this one
+  -- one more printed line of the member
   own_counted : (l : Line) → (new.world new.now).paper m.0 ≡ (old.world old.now).paper m.0 ++ l ∷ [] → count_at J since new new.now m ≡ count_at J since old old.now m + 1
   own_counted l more =
       let turn : turned m J new.now since ≡ turned m J old.now since = turned_later m J old.now new.now since (have_begun js c old.now settled begun) goes.later in

@@ -441,7 +441,7 @@ module _ (base : Queue) (since : ℕ) (js : List Batch) (b : Batch) (printed : L
     both : AreLinesOn On base (counts_after es (counts_of printed)) (kept_all js ++ es) × AreMarksOn On base (kept_all js ++ es)
     both = entries_keep On base (counts_of printed) (kept_all js) es sound (given_kept_all base js (given_front base js [] k.given)) allowed k.kept_lines marked
 
-    -- before it began it doesn't count
+    -- a batch doesn't count before it began
     turned_before : (m : MemberId) (t : ℕ) → t < b.first → turned m (js ++ b ∷ []) t since ≡ turned m (js ++ []) t since
     turned_before m t lt =
         turned_append m js (b ∷ []) t since ∙ no_turn (list_any (begins_anew m) es) b.first t (turned m js t since) lt ∙ ap (λ (l : List Batch). turned m l t since) (sym (append-nil js))

@@ -33,7 +33,7 @@ module _ (was : List ℕ) (coming : Option (List ℕ)) where
   one_found S d e r q (Some one) None left right some = of_first (S.reads one) (r one left)
   one_found S d e r q (Some one) (Some two) left right some = of_both (S.reads one) (S.reads two) (r one left) (q two right)
 
--- which stand for the queue after the kept entries, or with those in flight
+-- the kept pages or those in flight stand for the queue after the kept entries, or with those in flight
 stands_of : (S : Setting) (reached : ℕ) (K F : List Entry) (was : List ℕ) (coming q : Option (List ℕ)) → Stands S reached K was → IsNext S reached K F coming → IsOneOf was coming q → IsFound S K q ⊎ IsFound S (K ++ F) q
 stands_of S reached K F was coming None stands comes is = absurd is
 stands_of S reached K F was coming (Some pages) stands comes (inl e) = inl (subst (λ (p : List ℕ). S.stand (S.run S.base K) p) (sym e) stands.queue)
@@ -46,7 +46,7 @@ pub alike_found : (S : Setting) (K F : List Entry) (d e : Disk) → Alike S K F 
 alike_found S K F d e a one two left right some =
     stands_of S a.reached K F a.was a.coming (found S one two) a.stands a.comes (one_found a.was a.coming S d e a.first a.second one two left right some)
 
--- the same entries by other names
+-- devices that agree on entries agree on equal ones
 pub alike_as : (S : Setting) (K F G H : List Entry) (d e : Disk) → G ≡ K → H ≡ F → Alike S K F d e → Alike S G H d e
 alike_as S K F G H d e k f a = subst (λ (l : List Entry). Alike S l H d e) (sym k) (subst (λ (l : List Entry). Alike S K l d e) (sym f) a)
 
@@ -104,7 +104,7 @@ module _ (S : Setting) (was : List ℕ) where
     copy_reads coming place true now d lt copy = side_reads coming place d (copy.at refl)
     copy_reads coming place false now d lt copy = lost_reads coming d (copy.gone refl lt)
 
-    -- at the greatest moment
+    -- what a copy reads at the greatest moment
     pub top_reads : (coming : Option (List ℕ)) (place : Place) (alive : Bool) (dev : Dev) (v : View) → v.now ≡ top → OneCopy S rests holds was coming place alive v.now (disk_now v dev) → (alive ≡ false → v.lost (DiskPart dev) ≡ true) → ReadsOne S was coming (left_at v v.now dev)
     top_reads coming place true dev v last copy lost = less_reads coming ((v.now == top) && v.lost (DiskPart dev)) (disk_now v dev) (side_reads coming place (disk_now v dev) (copy.at refl))
     top_reads coming place false dev v last copy lost = lost_reads coming (left_at v v.now dev) (ap (λ (b : Bool). (lost_if b (disk_now v dev)).lost) (and_from (v.now == top) (v.lost (DiskPart dev)) (eq-eqb v.now top last) (lost refl)))

@@ -16,7 +16,7 @@ pub run_append : (Q : Queue) (xs ys : List Entry) → run Q (xs ++ ys) ≡ run (
 run_append Q [] ys = refl
 run_append Q (e ∷ xs) ys = run_append (step Q e.by e.command).0 xs ys
 
--- the queue after a batch and the kept ones behind it
+-- the queue after a batch and the kept ones after it
 after_is : (Q : Queue) (b : Batch) (bs : List Batch) → run Q (kept_all (b ∷ bs)) ≡ run (after_batch Q b) (kept_all bs)
 after_is Q b bs = by_fate (is_kept b.fate) where
   by_fate : (c : Bool) → run Q ((if c then b.entries else []) ++ kept_all bs) ≡ run (if c then run Q b.entries else Q) (kept_all bs)
@@ -54,7 +54,7 @@ with_replied Q J ks c p are have =
     subst (λ (l : List Batch). AreReplied Q l) (sym (ap (with_last c) p.is ∙ with_last-append c p.before p.place))
     (replied_both Q p.before (c ∷ []) (replied_front Q p.before (p.place ∷ []) front) (subst (λ (es : List Entry). HaveReplies (run Q es) c.entries) all have, tt))
 
--- with nothing in flight behind it
+-- the replies of a journal after which nothing is in flight
 pub and_none : (Q : Queue) (js : List Batch) → AreReplied Q js → AreReplied Q (js ++ [])
 and_none Q js are = subst (λ (l : List Batch). AreReplied Q l) (sym (append-nil js)) are
 
@@ -63,7 +63,7 @@ pub fated_replied : (Q : Queue) (J : List Batch) (b c : Batch) → EndsInPlace J
 fated_replied Q J b c p are same =
     and_none Q (with_last c J) (with_replied Q J (b ∷ []) c p are (subst (λ (es : List Entry). HaveReplies (run Q (kept_all J)) es) (sym same) (replied_rest Q J (b ∷ []) are).0))
 
--- the journal as it is handed out
+-- the journal as it is handed out has its replies
 pub ended_replied : (Q : Queue) (placed : Bool) (c : Option Batch) (J : List Batch) → (IsSome c → placed ≡ true) → HasPlace placed J → AreReplied Q (J ++ in_flight c) → AreReplied Q (end_of placed c J)
 ended_replied Q true (Some b) J some p are = with_replied Q J (b ∷ []) b p are (replied_rest Q J (b ∷ []) are).0
 ended_replied Q true None J some p are =

@@ -165,7 +165,7 @@ lose_side S was coming dev old new rests rests' holds holds' place place' alive 
     synced = λ s avoids. is.synced s (subst (λ u. Avoids u s) (sym so.unsynced) avoids) ∙ ap (slice s.from s.len) so.bytes;
   }
 
--- the other copy stays as it is
+-- a copy whose device stays as it is stays at its place
 pub moved : (S : Setting) (rests : List ℕ → Disk → Type 0) (holds : List ℕ → List ℕ → Disk → Type 0) (was : List ℕ) (coming : Option (List ℕ)) (place : Place) (alive : Bool) (now later : ℕ) (d e : Disk) → now ≤ later → e ≡ d
     → OneCopy S rests holds was coming place alive now d → OneCopy S rests holds was coming place alive later e
 moved S rests holds was coming place alive now later d e le same copy = record {

@@ -22,14 +22,14 @@ module _ (S : Setting) (gone : ℕ → Bool) where
   Has w es = HasTexts gone (λ n. w.disk (Spool n)) S.base.config.groups (S.run S.base es)
 
 module _ (S : Setting) (v : View) where
-  -- the same of another journal that says the same of a moment
+  -- the texts of one journal are those of another that says the same of a moment
   pub texts_as : (J K : List Batch) (t : ℕ) → kept K t ≡ kept J t → flying K t ≡ flying J t → TextsAt S J v t → TextsAt S K v t
   texts_as J K t same_kept same_flying at = record {
     after_kept = subst (λ (l : List Entry). Has S (lost_now v) (v.world t) l) (sym same_kept) at.after_kept;
     after_coming = subst (λ (l : List Entry). Has S (lost_now v) (v.world t) (l ++ flying K t)) (sym same_kept) (subst (λ (l : List Entry). Has S (lost_now v) (v.world t) (kept J t ++ l)) (sym same_flying) at.after_coming);
   }
 
-  -- the queue after these entries, and with those
+  -- the texts of the queue after these entries, and of the queue with those in flight
   texts_of : (J : List Batch) (t : ℕ) (K F : List Entry) → kept J t ≡ K → flying J t ≡ F → Has S (lost_now v) (v.world t) K → Has S (lost_now v) (v.world t) (K ++ F) → TextsAt S J v t
   texts_of J t K F same_kept same_flying one two = record {
     after_kept = subst (λ (l : List Entry). Has S (lost_now v) (v.world t) l) (sym same_kept) one;
@@ -43,11 +43,11 @@ module _ (S : Setting) (v : View) where
   coming_of_texts J t K F same_kept same_flying at =
       subst (λ (l : List Entry). Has S (lost_now v) (v.world t) (K ++ l)) same_flying (subst (λ (l : List Entry). Has S (lost_now v) (v.world t) (l ++ flying J t)) same_kept at.after_coming)
 
-  -- those of the kept entries stand now
+  -- the texts of the kept entries stand now
   pub stand_now : (js : List Batch) (c : Option Batch) → AreSettled js v.now → IsBegun c v.now → S.since ≤ v.now → KeepsTexts S (js ++ in_flight c) v → Has S (lost_now v) (v.world v.now) (kept_all js)
   stand_now js c settled begun started keeps = kept_of_texts (js ++ in_flight c) v.now (kept_all js) (now_kept js c v.now v.now settled begun (omega arith)) (keeps v.now started (omega arith))
 
-  -- and so do those with the entries in flight
+  -- the texts of the kept entries with those in flight stand now
   pub stand_coming : (js : List Batch) (c : Option Batch) → AreSettled js v.now → IsBegun c v.now → S.since ≤ v.now → KeepsTexts S (js ++ in_flight c) v → Has S (lost_now v) (v.world v.now) (kept_all js ++ entries_in c)
   stand_coming js c settled begun started keeps =
       coming_of_texts (js ++ in_flight c) v.now (kept_all js) (entries_in c) (now_kept js c v.now v.now settled begun (omega arith)) (now_flying js c v.now v.now settled begun (omega arith)) (keeps v.now started (omega arith))
@@ -145,7 +145,7 @@ module _ (S : Setting) (js : List Batch) (b c : Batch) (v : View) (settled : Are
       (λ (h : t < v.now). texts_as S v (js ++ b ∷ []) ((js ++ c ∷ []) ++ []) t (fated_kept js b c t begun.0 (omega (arith, last))) (fated_flying js b c t begun.0 same_first same_entries (omega (arith, last))) (keeps t from le))
       (either_way v.now t)
 
--- another journal that says the same of each moment
+-- the texts of one journal are those of another that says the same of each moment
 pub same_texts : (S : Setting) (J K : List Batch) (v : View) → ((t : ℕ) → kept K t ≡ kept J t) → ((t : ℕ) → flying K t ≡ flying J t) → KeepsTexts S J v → KeepsTexts S K v
 same_texts S J K v same_kept same_flying keeps t from le = texts_as S v J K t (same_kept t) (same_flying t) (keeps t from le)
 

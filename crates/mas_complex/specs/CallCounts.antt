@@ -5,12 +5,13 @@ use Rattle.mas_types.specs.declared.ids.Dev.TheVariants.{Ckpt1, Ckpt2}
 use Rattle.spool_disk.specs.View.{View}
 use Rattle.spool_disk.specs.Acts.{Goes}
 
--- the calls that lost a copy's device: as many as before, or one more where the copy counted as alive and doesn't any more
+-- the calls that lost a copy's device: as many as before, or one more where the copy counted as alive and doesn't any
+-- more
 abbrev pub IsLostOnce : Bool → Bool → ℕ → ℕ → Type 0
 IsLostOnce was is before after = (after ≡ before) ⊎ ((was ≡ true) × (is ≡ false) × (after ≡ before + 1))
 
--- Which copies counted as alive before the call and count so after it, and whether the member was stopped in it: nobody else is
--- stopped, nothing is armed, and no device is lost by a call but that of a copy, once.
+-- Which copies counted as alive before the call and count so after it, and whether the member was stopped in it: nobody
+-- else is stopped, nothing is armed, and no device is lost by a call but that of a copy, once.
 pub record KeepsCounts (by : ℕ) (was1 is1 was2 is2 stopped : Bool) (old new : View) : Type 0 where
   pub goes : Goes old new
   pub alive1 : is1 ≡ true → was1 ≡ true

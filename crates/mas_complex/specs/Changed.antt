@@ -2,6 +2,6 @@
 use Rattle.std.specs.Prelude.{◌≡◌, ◌≢◌, ◌⊎◌, ℕ, List, All}
 use Rattle.ckpt_copy.specs.Pages.{page_in}
 
--- each of these numbers is 0 or that of a page that isn't as it was
+-- each of the numbers is 0 or that of a page that isn't as it was
 abbrev pub NamesOnly : List ℕ → List ℕ → List ℕ → Type 0
 NamesOnly numbers was pages = All (λ p. (p ≡ 0) ⊎ (page_in p pages ≢ page_in p was)) numbers

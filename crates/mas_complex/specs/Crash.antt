@@ -63,7 +63,7 @@ IsFound S entries (Some pages) = S.stand (S.run S.base entries) pages
 abbrev pub IsAfter : Setting → List Batch → ℕ → Option (List ℕ) → Type 0
 IsAfter S J t pages = IsFound S (kept J t) pages ⊎ IsFound S (kept J t ++ flying J t) pages
 
--- these pages, of an image, are the kept ones or those in flight
+-- the pages that an image reads as are the kept ones or those in flight
 abbrev pub IsOneOf : List ℕ → Option (List ℕ) → Option (List ℕ) → Type 0
 IsOneOf was coming None = ⊥
 IsOneOf was coming (Some pages) = (pages ≡ was) ⊎ (coming ≡ Some pages)
@@ -94,14 +94,15 @@ pub record Alike (S : Setting) (K F : List Entry) (one two : Disk) : Type 0 wher
   pub first : ReadsOne S was coming one
   pub second : ReadsOne S was coming two
 
--- so do the two copies at a moment
+-- the two copies agree at a moment
 abbrev pub CrashAt : Setting → List Batch → View → ℕ → Type 0
 CrashAt S J v t = Alike S (kept J t) (flying J t) (disk_at v t Ckpt1) (disk_at v t Ckpt2)
 
--- the whole lines tell only such steps
+-- the whole lines tell only steps of which P holds
 abbrev pub EachTells : (List ℕ → MemberId → ℕ → Type 0) → List Line → (MemberId → ℕ → Type 0) → Type 0
 EachTells closes [] P = Unit {0}
-EachTells closes (line ∷ lines) P = (line.whole ≡ true → (m : MemberId) (s : ℕ) → closes line.text m s → P m s) × EachTells closes lines P
+EachTells closes (line ∷ lines) P = (line.whole ≡ true → (m : MemberId) (s : ℕ) → closes line.text m s → P m s)
+    × EachTells closes lines P
 
 -- the lines said since the value began
 abbrev pub said : Setting → View → ℕ → List Line
@@ -126,14 +127,16 @@ OnComing None P = ⊥
 OnComing (Some pages) P = P pages
 
 -- an alive copy at its place
-abbrev pub IsAt : Setting → (List ℕ → Disk → Type 0) → (List ℕ → List ℕ → Disk → Type 0) → List ℕ → Option (List ℕ) → Place → Disk → Type 0
+abbrev pub IsAt : Setting → (List ℕ → Disk → Type 0) → (List ℕ → List ℕ → Disk → Type 0) → List ℕ → Option (List ℕ)
+    → Place → Disk → Type 0
 IsAt S rests holds was coming Before disk = rests was disk
 IsAt S rests holds was coming Put disk = OnComing coming (λ pages. holds was pages disk)
 IsAt S rests holds was coming Opened disk = OnComing coming (λ pages. rests pages disk)
 IsAt S rests holds was coming Unsure disk = ReadsOne S was coming disk
 
 -- a copy, alive or lost
-pub record OneCopy (S : Setting) (rests : List ℕ → Disk → Type 0) (holds : List ℕ → List ℕ → Disk → Type 0) (was : List ℕ) (coming : Option (List ℕ)) (place : Place) (alive : Bool) (now : ℕ) (disk : Disk) : Type 0 where
+pub record OneCopy (S : Setting) (rests : List ℕ → Disk → Type 0) (holds : List ℕ → List ℕ → Disk → Type 0)
+    (was : List ℕ) (coming : Option (List ℕ)) (place : Place) (alive : Bool) (now : ℕ) (disk : Disk) : Type 0 where
   pub at : alive ≡ true → IsAt S rests holds was coming place disk
   pub gone : alive ≡ false → now < top → disk.lost ≡ true
 
@@ -151,15 +154,16 @@ abbrev pub copy_of : (List ℕ → Disk → Type 0) → (List ℕ → List ℕ �
 copy_of rests holds alive place = record { rests = rests; holds = holds; alive = alive; place = place }
 
 abbrev pub setting : (List ℕ → Option (List ℕ)) → Queue → ℕ → Setting
-setting reads base since = record { reads = reads; stand = StandFor; run = run; closes = Closes; base = base; since = since }
+setting reads base since = record
+    { reads = reads; stand = StandFor; run = run; closes = Closes; base = base; since = since }
 
 -- The texts that stand on the spool volumes at a moment: those of the queue after the kept entries, and those of the
--- queue with the entries in flight, but for texts with a group on a volume that is lost now.
+-- queue with the entries in flight, except texts with a group on a volume that is lost now.
 pub record TextsAt (S : Setting) (J : List Batch) (v : View) (t : ℕ) : Type 0 where
   pub after_kept : HasTexts (lost_now v) (spools_at v t) S.base.config.groups (S.run S.base (kept J t))
   pub after_coming : HasTexts (lost_now v) (spools_at v t) S.base.config.groups (S.run S.base (kept J t ++ flying J t))
 
--- so at each moment
+-- the texts stand on the spool volumes at each moment
 abbrev pub KeepsTexts : Setting → List Batch → View → Type 0
 KeepsTexts S J v = (t : ℕ) → S.since ≤ t → t ≤ v.now → TextsAt S J v t
 
@@ -169,7 +173,8 @@ AreSunk S v = (t : ℕ) → S.since ≤ t → t ≤ v.now → (n : ℕ) → (spo
 
 -- What the shared value keeps of its past, and of its present below the greatest moment: the pages of the kept entries,
 -- and those in flight, are the same for both copies.
-pub record Keeps (S : Setting) (js : List Batch) (current : Option Batch) (reached : ℕ) (first second : Copy) (v : View) : Type 0 where
+pub record Keeps (S : Setting) (js : List Batch) (current : Option Batch) (reached : ℕ) (first second : Copy)
+    (v : View) : Type 0 where
   pub started : S.since ≤ v.now
   pub settled : AreSettled js v.now
   pub begun : IsBegun current v.now

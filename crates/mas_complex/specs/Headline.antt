@@ -36,24 +36,28 @@ IsCrashSafe reads base J since v = (t : ℕ) → since ≤ t → t ≤ v.now
     → IsAfterKept base J t (best (read_left reads one) (read_left reads two))
 
 -- What the two copies of a moment hold: there are pages that stand for the queue after the kept entries, and maybe ones
--- of the next level that stand for it with those in flight, and each image of each device reads as one of these. Where no
--- entry is in flight each image reads as the first.
-pub record AreAlike (reads : List ℕ → Option (List ℕ)) (base : Queue) (J : Journal) (t : ℕ) (one two : Disk) : Type 0 where
-  pub was : List ℕ
-  pub coming : Option (List ℕ)
-  pub stands : StandFor (run base (kept_at J t)) was
-  pub comes : IfSome coming (λ pages. (level pages ≡ level was + 1) × StandFor (run base (kept_at J t ++ flying_at J t)) pages)
-  pub none : flying_at J t ≡ [] → coming ≡ None
-  pub first : LeavesOnly one (λ image. IsOneOf was coming (reads image))
-  pub second : LeavesOnly two (λ image. IsOneOf was coming (reads image))
+-- of the next level that stand for it with those in flight, and each image of each device reads as one of these. Where
+-- no entry is in flight each image reads as the first.
+pub record AreAlike (reads : List ℕ → Option (List ℕ)) (base : Queue) (J : Journal) (t : ℕ) (one two : Disk) : Type 0
+  where
+    pub was : List ℕ
+    pub coming : Option (List ℕ)
+    pub stands : StandFor (run base (kept_at J t)) was
+    pub comes : IfSome coming (λ pages. (level pages ≡ level was + 1)
+        × StandFor (run base (kept_at J t ++ flying_at J t)) pages)
+    pub none : flying_at J t ≡ [] → coming ≡ None
+    pub first : LeavesOnly one (λ image. IsOneOf was coming (reads image))
+    pub second : LeavesOnly two (λ image. IsOneOf was coming (reads image))
 
--- at each moment
+-- what the two copies hold is alike at each moment
 abbrev pub AreAlwaysAlike : (List ℕ → Option (List ℕ)) → Queue → Journal → ℕ → View → Type 0
-AreAlwaysAlike reads base J since v = (t : ℕ) → since ≤ t → t ≤ v.now → AreAlike reads base J t (left_at v t Ckpt1) (left_at v t Ckpt2)
+AreAlwaysAlike reads base J since v = (t : ℕ) → since ≤ t → t ≤ v.now
+    → AreAlike reads base J t (left_at v t Ckpt1) (left_at v t Ckpt2)
 
 -- at a moment, for each choice of images of which one is left, the pages that a start finds stand for the queue itself
 abbrev pub LeavesQueue : (List ℕ → Option (List ℕ)) → Queue → ℕ → View → Type 0
-LeavesQueue reads Q t v = (one two : Option (List ℕ)) → IsLeft (left_at v t Ckpt1) one → IsLeft (left_at v t Ckpt2) two → SomeLeft one two
+LeavesQueue reads Q t v = (one two : Option (List ℕ)) → IsLeft (left_at v t Ckpt1) one → IsLeft (left_at v t Ckpt2) two
+    → SomeLeft one two
     → FoundFor Q (best (read_left reads one) (read_left reads two))
 
 abbrev pub whole : List ℕ → Line
@@ -63,7 +67,7 @@ whole text = record { text = text; whole = true }
 abbrev pub IsStepKept : Journal → ℕ → MemberId → ℕ → Type 0
 IsStepKept J t by at = All (λ b. has_step by at b.entries ≡ true → (b.fate ≡ Kept) × (b.last ≤ t)) J.batches
 
--- what stands on the console behind what stood there at first, at a moment
+-- what stands on the console after what stood there at first, at a moment
 abbrev pub added : View → ℕ → ℕ → List Line
 added v since t = drop (length (v.world since).console) (v.world t).console
 
@@ -73,16 +77,19 @@ AreToldKept J since v = Throughout since v.now (λ t.
     (by : MemberId) (at : ℕ) (end : Closing) → is_telling end ≡ true
     → Contains (added v since t) (whole (closing_line by at end)) → IsStepKept J t by at)
 
--- At each moment, whatever a crash leaves of the spool volumes: each text of the queue after the kept entries is read from
--- it, and each of the queue with those in flight, unless one of its groups lies on a volume that is lost now.
+-- At each moment, whatever a crash leaves of the spool volumes: each text of the queue after the kept entries is read
+-- from it, and each of the queue with those in flight, unless one of its groups lies on a volume that is lost now.
 abbrev pub AreTextsLeft : Queue → ℕ → Journal → View → Type 0
-AreTextsLeft base since J v = (t : ℕ) → since ≤ t → t ≤ v.now → (volumes : Volumes) → ((n : ℕ) → IsLeft (left_at v t (Spool n)) (volumes n))
-    → GivesTexts (lost_now v) volumes base.config.groups (run base (kept_at J t)) × GivesTexts (lost_now v) volumes base.config.groups (run base (kept_at J t ++ flying_at J t))
+AreTextsLeft base since J v = (t : ℕ) → since ≤ t → t ≤ v.now → (volumes : Volumes)
+    → ((n : ℕ) → IsLeft (left_at v t (Spool n)) (volumes n))
+    → GivesTexts (lost_now v) volumes base.config.groups (run base (kept_at J t))
+    × GivesTexts (lost_now v) volumes base.config.groups (run base (kept_at J t ++ flying_at J t))
 
--- all of it, and where the base has the sound parts what stands on paper
-pub record Headline (reads : List ℕ → Option (List ℕ)) (base : Queue) (since : ℕ) (J : Journal) (v : View) : Type 0 where
-  pub crash : IsCrashSafe reads base J since v
-  pub alike : AreAlwaysAlike reads base J since v
-  pub texts : AreTextsLeft base since J v
-  pub told : AreToldKept J since v
-  pub paper : IsSound base → ∥ PaperKept base since J.batches v ∥₁
+-- the whole headline: what stands on paper is in it only where the base has the sound parts
+pub record Headline (reads : List ℕ → Option (List ℕ)) (base : Queue) (since : ℕ) (J : Journal) (v : View) : Type 0
+  where
+    pub crash : IsCrashSafe reads base J since v
+    pub alike : AreAlwaysAlike reads base J since v
+    pub texts : AreTextsLeft base since J v
+    pub told : AreToldKept J since v
+    pub paper : IsSound base → ∥ PaperKept base since J.batches v ∥₁

@@ -88,7 +88,7 @@ pub record IsPlace (b : Batch) : Type 0 where
   pub empty : b.entries ≡ []
   pub dropped : b.fate ≡ Dropped
 
--- the journal ends in such a place
+-- the journal ends in the place of a batch to come
 pub record EndsInPlace (batches : List Batch) : Type 0 where
   pub before : List Batch
   pub place : Batch

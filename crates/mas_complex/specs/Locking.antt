@@ -26,7 +26,7 @@ abbrev pub IsOfOther : Option Batch → MemberId → Type 0
 IsOfOther None m = Unit {0}
 IsOfOther (Some b) m = b.by ≢ m
 
--- or of this one
+-- a batch in flight is of this member
 abbrev pub IsOwn : Option Batch → MemberId → Type 0
 IsOwn None m = Unit {0}
 IsOwn (Some b) m = b.by ≡ m
@@ -40,7 +40,7 @@ abbrev pub is_of_member : MemberId → List Entry → Bool
 is_of_member by [] = false
 is_of_member by (entry ∷ entries) = same_member entry.by by
 
--- it goes where it is of this member
+-- a reserved batch goes where it is of the member that stopped
 abbrev pub reserved_after_stop : MemberId → Option (List Entry) → Option (List Entry)
 reserved_after_stop by None = None
 reserved_after_stop by (Some entries) = if is_of_member by entries then None else Some entries

@@ -12,8 +12,9 @@ use Rattle.queue_tables.specs.Telling.{PagesTell}
 pub use Rattle.mas_types.specs.Run.{run, replies}
 pub use Rattle.mas_types.specs.Step.{step}
 
--- The bytes are the pages of a checkpoint, whose tables tell the queue: all of it but its texts, of which they tell the numbers
--- of lines. This is the one place where the pages are compared with a queue; which texts it has is said of the spool volumes.
+-- The bytes are the pages of a checkpoint, whose tables tell the queue: all of it but its texts, of which they tell the
+-- numbers of lines. This is the one place where the pages are compared with a queue; which texts it has is said of the
+-- spool volumes.
 pub record StandFor (Q : Queue) (bytes : List ℕ) : Type 0 where
   pub pages : List Page
   pub level : ℕ

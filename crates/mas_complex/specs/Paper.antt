@@ -33,7 +33,7 @@ pub record Stands (papers : Papers) (bytes : List ℕ) : Type 0 where
   pub printer : ℕ
   pub there : Contains (papers printer) (record { text = bytes; whole = true })
 
--- so does this line of an output with this text, counted from 1 over all copies
+-- this line of an output with this text, counted from 1 over all copies, stands whole on a printer
 pub record IsOnPaper (papers : Papers) (n : JobNo) (i : OutNo) (line : ℕ) (text : Text) : Type 0 where
   pub lines : List (List ℕ)
   pub is : text ≡ Whole lines
@@ -45,30 +45,32 @@ SamePapers old new = Throughout old.now new.now (λ t. (m : ℕ) → (new.world 
 
 -- WHAT A MARK ANSWERED
 
--- At a moment, at each place of the kept entries and those in flight: of each output that no Forward has touched by then each line from behind its mark
--- in the base (0 if it is new) up to its mark stands on paper.
+-- At a moment, at each place of the kept entries and those in flight: of each output that no Forward has touched by
+-- then each line after its mark in the base (0 if it is new) up to its mark stands on paper.
 abbrev pub MarksAt : Queue → List Batch → View → ℕ → Type 0
 MarksAt base J v t = AreMarksOn (IsOnPaper (v.world t).paper) base (kept J t ++ flying J t)
 
 -- WHICH LINES ARE PRINTED
 
--- the moment since which a member counts its printed lines: the first one of its last batch with a Pick, Mark, Back or Forward that began by this moment
+-- the moment since which a member counts its printed lines: the first one of its last batch with a Pick, Mark, Back or
+-- Forward that began by this moment
 abbrev pub turned : MemberId → List Batch → ℕ → ℕ → ℕ
 turned m [] t since = since
-turned m (b ∷ bs) t since = turned m bs t (if list_any (begins_anew m) b.entries && nat_le b.first t then max since b.first else since)
+turned m (b ∷ bs) t since = turned m bs t
+    (if list_any (begins_anew m) b.entries && nat_le b.first t then max since b.first else since)
 
--- the lines that it has printed since then
+-- how many lines a member has printed since the moment from which it counts
 abbrev pub count_at : List Batch → ℕ → View → ℕ → Counts
 count_at J since v t m = length ((v.world t).paper m.0) - length ((v.world (turned m J t since)).paper m.0)
 
--- A line more stands on the member's printer at the next moment. A whole one is the line behind those that the member has printed of the output that is
--- busy at it after the kept entries.
+-- A line more stands on the member's printer at the next moment. A whole one is the line after those that the member
+-- has printed of the output that is busy at it after the kept entries.
 pub record IsPrintedAt (base : Queue) (J : List Batch) (since : ℕ) (v : View) (t : ℕ) (m : MemberId) : Type 0 where
   pub line : Line
   pub more : (v.world (t + 1)).paper m.0 ≡ (v.world t).paper m.0 ++ line ∷ []
   pub next : line.whole ≡ true → IsNextLine (run base (kept J t)) m (count_at J since v t m) line.text
 
--- between two moments a member's printer keeps its lines, or has one such line more
+-- between two moments a member's printer keeps its lines, or has one more: the next one, or a torn one
 abbrev pub LineAt : Queue → List Batch → ℕ → View → ℕ → MemberId → Type 0
 LineAt base J since v t m = ((v.world (t + 1)).paper m.0 ≡ (v.world t).paper m.0) ⊎ IsPrintedAt base J since v t m
 
@@ -86,8 +88,8 @@ no_counts = replicate (members_most + 1) 0
 abbrev pub printed_after : MemberId → List Entry → List ℕ → List ℕ
 printed_after by entries printed = if list_any (begins_anew by) entries then slice_set printed by.0 0 else printed
 
--- A batch of these entries may begin after the kept ones: each is within the limits and given by a member that may give it, and a Mark is one of what its
--- member has printed. This is asked where the base has the sound parts.
+-- A batch of these entries may begin after the kept ones: each is within the limits and given by a member that may give
+-- it, and a Mark is one of what its member has printed. This is asked where the base has the sound parts.
 abbrev pub MayBegin : Queue → List Batch → List ℕ → List Entry → Type 0
 MayBegin base js printed es = IsSound base → ∥ AreAllowed base (run base (kept_all js)) (counts_of printed) es ∥₁
 
@@ -115,20 +117,24 @@ abbrev pub IsOfItsMember : Option Batch → Type 0
 IsOfItsMember None = Unit {0}
 IsOfItsMember (Some b) = All (λ e. e.by ≡ b.by) b.entries
 
-pub record KeepsPaper (base : Queue) (since : ℕ) (js : List Batch) (current : Option Batch) (printed : List ℕ) (book : Book) (v : View) : Type 0 where
+pub record KeepsPaper (base : Queue) (since : ℕ) (js : List Batch) (current : Option Batch) (printed : List ℕ)
+    (book : Book) (v : View) : Type 0 where
   pub given : AreGivenIn base (js ++ in_flight current)
   pub own : IsOfItsMember current
   pub marks : (t : ℕ) → since ≤ t → t ≤ v.now → MarksAt base (js ++ in_flight current) v t
   pub lines : (t : ℕ) → since ≤ t → t < v.now → (m : MemberId) → LineAt base (js ++ in_flight current) since v t m
   pub kept_lines : AreLinesOn (IsOnPaper (v.world v.now).paper) base (counts_of printed) (kept_all js)
-  pub coming_lines : AreLinesOn (IsOnPaper (v.world v.now).paper) base (counts_of printed) (kept_all js ++ entries_in current)
-  pub counted : (m : MemberId) → m.0 < length printed → is_stopped book m ≡ false → counts_of printed m ≡ count_at (js ++ in_flight current) since v v.now m
+  pub coming_lines : AreLinesOn (IsOnPaper (v.world v.now).paper) base (counts_of printed)
+      (kept_all js ++ entries_in current)
+  pub counted : (m : MemberId) → m.0 < length printed → is_stopped book m ≡ false
+      → counts_of printed m ≡ count_at (js ++ in_flight current) since v v.now m
 
 -- WHAT IT HANDS OUT
 
--- At each moment since the first: where a Mark among the kept entries answered a count, the lines of its output from behind its mark in the base (0 if it is
--- new) up to that stand on paper, where no Forward has touched it. And from each moment to the next each printer keeps its lines, or has one more: the
--- next one of the output that is busy at its member. Each entry is within the limits, and of a member that may give it.
+-- At each moment since the first: where a Mark among the kept entries answered a count, the lines of its output from
+-- after its mark in the base (0 if it is new) up to that stand on paper, where no Forward has touched it. And from
+-- each moment to the next each printer keeps its lines, or has one more: the next one of the output that is busy at its
+-- member. Each entry is within the limits, and of a member that may give it.
 pub record PaperKept (base : Queue) (since : ℕ) (J : List Batch) (v : View) : Type 0 where
   pub given : AreGivenIn base J
   pub marks : (t : ℕ) → since ≤ t → t ≤ v.now → AreMarkedLinesOn (IsOnPaper (v.world t).paper) base (kept J t)

@@ -19,7 +19,8 @@ use Rattle.mas_complex.specs.declared.places.Place.TheVariants.{Before}
 use Rattle.ckpt_form.specs.declared.steady.Steady.{Ghosts as SteadyGhosts}
 use Rattle.mas_complex.specs.declared.complex.Complex.{Complex}
 
--- all of them: the plant; each copy, whether it counts as alive, and the level that was found on it last; the rest as it stands
+-- all of them: the plant; each copy, whether it counts as alive, and the level that was found on it last; the rest as
+-- it stands
 pub record Parts (P C : Type 0) : Type 0 where
   pub plant : P
   pub first_copy : C
@@ -102,9 +103,8 @@ module _ {P C : Type 0} {plants : PlantGhosts P} {steadies : SteadyGhosts C} {co
   abbrev pub shown_of : Complex P C plants steadies copies → Shown
   shown_of x = shows copies.reads plants.view (parts_of x)
 
--- WHAT A CALL CHANGES
--- Each of these takes the parts as they are after a call, or what the call was given, and the parts before it. What it names is as
--- it is after the call, and all else as it was.
+-- WHAT A CALL CHANGES Each of these takes the parts as they are after a call, or what the call was given, and the parts
+-- before it. What it names is as it is after the call, and all else as it was.
 
 -- the plant, and the copy on one device
 abbrev pub with_half : {P C : Type 0} → Dev → Parts P C → Parts P C → Parts P C
@@ -118,9 +118,10 @@ with_half dev is was = record was {
   second_found = other dev is.second_found was.second_found;
 }
 
--- and how far the batch in flight has come on it
+-- the plant, the copy on one device, and how far the batch in flight has come on it
 abbrev pub with_copy : {P C : Type 0} → Dev → Parts P C → Parts P C → Parts P C
-with_copy dev is was = record (with_half dev is was) { first = pick dev is.first was.first; second = other dev is.second was.second }
+with_copy dev is was = record (with_half dev is was)
+    { first = pick dev is.first was.first; second = other dev is.second was.second }
 
 -- the plant, and both copies
 abbrev pub with_pair : {P C : Type 0} → Parts P C → Parts P C → Parts P C
@@ -134,18 +135,20 @@ with_pair is was = record was {
   second_found = is.second_found;
 }
 
--- and how far the batch in flight has come on each
+-- the plant, both copies, and how far the batch in flight has come on each
 abbrev pub with_copies : {P C : Type 0} → Parts P C → Parts P C → Parts P C
 with_copies is was = record (with_pair is was) { first = is.first; second = is.second }
 
--- the batches with the place of one to come, at a moment, where they have none
+-- the batches with the place of a batch to come, at a moment, unless they have one
 abbrev pub placed_at : ℕ → Bool → List Batch → List Batch
 placed_at now true batches = batches
-placed_at now false batches = batches ++ record { first = now; last = now; by = record { 0 = 0 }; fate = Dropped; entries = [] } ∷ []
+placed_at now false batches = batches
+    ++ record { first = now; last = now; by = record { 0 = 0 }; fate = Dropped; entries = [] } ∷ []
 
--- these entries are reserved at a moment, in their place
+-- entries are reserved at a moment, in the place of a batch to come
 abbrev pub reserved_in : {P C : Type 0} → ℕ → List Entry → Parts P C → Parts P C
-reserved_in now entries was = record was { batches = placed_at now was.placed was.batches; reserved = Some entries; placed = true }
+reserved_in now entries was = record was
+    { batches = placed_at now was.placed was.batches; reserved = Some entries; placed = true }
 
 -- the batch in flight, or the reserved one, which begins at a moment
 abbrev pub flying_from : ℕ → MemberId → Option Batch → Option (List Entry) → Option Batch
@@ -186,6 +189,13 @@ kept_same_in now by was = record was {
   placed = false;
 }
 
--- or it is dropped
+-- the batch in flight is dropped at a moment
 abbrev pub dropped_in : {P C : Type 0} → ℕ → Parts P C → Parts P C
-dropped_in now was = record was { batches = ended_at Dropped now was.current was.batches; current = None; placed = false; first = Before; second = Before }
+dropped_in now was = record was {
+  batches = ended_at Dropped now was.current was.batches;
+  current = None;
+  placed = false;
+  first = Before;
+  second
+      = Before;
+}

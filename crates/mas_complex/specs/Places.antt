@@ -20,7 +20,8 @@ is_opened _ = false
 
 -- each copy that counts as alive has opened its gate
 abbrev pub all_open : Bool → Bool → Place → Place → Bool
-all_open first_alive second_alive first second = (not first_alive || is_opened first) && (not second_alive || is_opened second)
+all_open first_alive second_alive first second = (not first_alive || is_opened first) &&
+    (not second_alive || is_opened second)
 
 -- The copy has no other pages of the batch in flight than these: what waits behind its gate, or what it reads.
 abbrev pub HasNoOther : Place → List ℕ → Option (List ℕ) → List ℕ → Type 0

@@ -7,7 +7,7 @@ use Rattle.duplex_pair.specs.declared.errors.LookNo.TheVariants.{Halted as LookH
 use Rattle.mas_complex.specs.declared.recover.RecoverNo.{RecoverNo}
 use Rattle.mas_complex.specs.declared.recover.RecoverNo.TheVariants.{BothLost, Halted, NoMemory}
 
--- where a look was answered so
+-- the answer of a recovery where a look had this answer
 abbrev pub recover_no_seen : LookNo → RecoverNo
 recover_no_seen LookHalted = Halted
 recover_no_seen LookNoMemory = NoMemory
@@ -19,7 +19,7 @@ recover_stopped (Err BothLost) = false
 recover_stopped (Err Halted) = true
 recover_stopped (Err NoMemory) = false
 
--- where a call on the pair was
+-- the answer of a recovery where a call on the pair had this error
 abbrev pub recover_no : PairNo → RecoverNo
 recover_no PairBothLost = BothLost
 recover_no PairHalted = Halted

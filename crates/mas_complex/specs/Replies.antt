@@ -15,7 +15,7 @@ HaveReplies Q (e ∷ es) = (e.reply ≡ (step Q e.by e.command).1) × HaveReplie
 abbrev pub after_batch : Queue → Batch → Queue
 after_batch Q b = if is_kept b.fate then run Q b.entries else Q
 
--- so have the entries of each batch, after the kept batches before it
+-- the entries of each batch have their replies, after the kept batches before it
 abbrev pub AreReplied : Queue → List Batch → Type 0
 AreReplied Q [] = Unit {0}
 AreReplied Q (b ∷ bs) = HaveReplies Q b.entries × AreReplied (after_batch Q b) bs

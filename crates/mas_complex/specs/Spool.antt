@@ -38,7 +38,8 @@ device_of per group = Spool (volume_of per group)
 abbrev pub is_within : View → ℕ → GroupNo → Bool
 is_within v per group = nat_le (start_of per group + page_bytes) (v.size (device_of per group))
 
--- Where an act on a page goes, and with which bytes: on a volume that is too small for the page, from 0 on with no bytes.
+-- Where an act on a page goes, and with which bytes: on a volume that is too small for the page, from 0 on with no
+-- bytes.
 abbrev pub page_start : Bool → ℕ → ℕ
 page_start within start = if within then start else 0
 
@@ -48,9 +49,11 @@ page_part within bytes = if within then bytes else []
 -- the page of a group is read
 abbrev pub ReadsGroup : ℕ → GroupNo → View → View → Page → Act → Type 0
 ReadsGroup per group old new into result =
-    Reads (device_of per group) (page_start (is_within old per group) (start_of per group)) old new (page_part (is_within old per group) into.0) result
+    Reads (device_of per group) (page_start (is_within old per group) (start_of per group)) old new
+    (page_part (is_within old per group) into.0) result
 
 -- the page of a group is written
 abbrev pub WritesGroup : ℕ → GroupNo → View → View → Page → Act → Type 0
 WritesGroup per group old new bytes result =
-    Writes (device_of per group) (page_start (is_within old per group) (start_of per group)) (page_part (is_within old per group) bytes.0) old new result
+    Writes (device_of per group) (page_start (is_within old per group) (start_of per group))
+    (page_part (is_within old per group) bytes.0) old new result

@@ -22,7 +22,7 @@ pub record WorkedTexts : Type 0 where
   pub groups : groups_of (Deck (record { 0 = 2 })) two_decks ≡ group 1 ∷ []
   pub volume : volume_of 1 (group 1) ≡ 2
   pub start : start_of 1 (group 1) ≡ 0
-  -- with SPOOL2 lost it is left out, and the first job's is not
+  -- with SPOOL2 lost the second job's deck is left out, and the first job's is not
   pub second : lies_on (λ n. n == 2) 1 (group 1 ∷ []) ≡ true
   pub first : lies_on (λ n. n == 2) 1 (group 0 ∷ []) ≡ false
   -- a text without lines takes a group without records; one that was never entered has no group

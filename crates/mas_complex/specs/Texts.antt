@@ -29,7 +29,7 @@ bytes_on disks n = Some (disks n).bytes
 abbrev pub lost_now : View → ℕ → Bool
 lost_now v n = v.lost (DiskPart (Spool n))
 
--- one of the groups lies on such a volume, where each volume has so many groups
+-- one of the groups lies on a volume that is gone, where each volume has so many groups
 abbrev pub lies_on : (ℕ → Bool) → ℕ → List GroupNo → Bool
 lies_on gone per groups = list_any (λ g. gone (volume_of per g)) groups
 
@@ -43,20 +43,21 @@ pub record IsThere (disks : Spools) (per : ℕ) (text : Text) (groups : List Gro
   pub is : text_of (records_on (bytes_on disks) per) (line_count text) groups ≡ text
   pub synced : All (IsSynced disks per) groups
 
--- unless one of the groups lies on a volume that is gone
+-- a text stands in its groups, unless one of them lies on a volume that is gone
 abbrev pub IsThereUnless : (ℕ → Bool) → Spools → ℕ → Text → List GroupNo → Type 0
 IsThereUnless gone disks per text groups = lies_on gone per groups ≡ false → IsThere disks per text groups
 
--- a queue's texts so stand in the groups that the queue gives them
+-- a queue's texts stand in the groups that the queue gives them, except those with a group on a volume that is gone
 pub record HasTexts (gone : ℕ → Bool) (disks : Spools) (per : ℕ) (Q : Queue) : Type 0 where
   pub decks : All (λ j. IsThereUnless gone disks per j.text (groups_of (Deck j.number) Q.owners)) Q.jobs
   pub outputs : All (λ o. IsThereUnless gone disks per o.text (groups_of (Output o.job o.index) Q.owners)) Q.outputs
 
 -- a text is read from what is left of the volumes, unless one of its groups lies on a volume that is gone
 abbrev pub IsReadUnless : (ℕ → Bool) → Volumes → ℕ → Text → List GroupNo → Type 0
-IsReadUnless gone volumes per text groups = lies_on gone per groups ≡ false → text_of (records_on volumes per) (line_count text) groups ≡ text
+IsReadUnless gone volumes per text groups = lies_on gone per groups ≡ false
+    → text_of (records_on volumes per) (line_count text) groups ≡ text
 
--- so are a queue's texts
+-- a queue's texts are read from what is left of the volumes, except those with a group on a volume that is gone
 pub record GivesTexts (gone : ℕ → Bool) (volumes : Volumes) (per : ℕ) (Q : Queue) : Type 0 where
   pub decks : All (λ j. IsReadUnless gone volumes per j.text (groups_of (Deck j.number) Q.owners)) Q.jobs
   pub outputs : All (λ o. IsReadUnless gone volumes per o.text (groups_of (Output o.job o.index) Q.owners)) Q.outputs

@@ -25,14 +25,18 @@ use spool_disk::Plant;
 use std::alloc::Global;
 
 impl<P: Plant + Drop, C: Steady + Drop> Complex<P, C> {
-    /// A shared value of a plant and the two copies on it. Each copy that counts as alive is at rest with the same pages, of
-    /// this level, which stand for the base, and the device of one that counts as lost is lost. Nobody holds the lock.
+    /// A shared value of a plant and the two copies on it. Each copy that counts as alive is at rest with the same
+    /// pages, of this level, which stand for the base, and the device of one that counts as lost is lost. Nobody holds
+    /// the lock.
     pub fn make(alloc: Global, plant: P, pair: Pair<C>, base: Queue, level: u64) -> Complex<P, C>
         requires ready1 { pair.first.alive ≡ true → C.ready pair.first.copy (P.view plant) }
         requires ready2 { pair.second.alive ≡ true → C.ready pair.second.copy (P.view plant) }
         requires lost1 { pair.first.alive ≡ false → (P.view plant).lost (Disk Ckpt1) ≡ true }
         requires lost2 { pair.second.alive ≡ false → (P.view plant).lost (Disk Ckpt2) ≡ true }
-        requires begins { P.tells → ∥ BeginsWith (setting C.reads base (P.view plant).now) level (copy_of (C.rests pair.first.copy) (C.holds pair.first.copy) pair.first.alive AtBefore) (copy_of (C.rests pair.second.copy) (C.holds pair.second.copy) pair.second.alive AtBefore) (P.view plant) ∥₁ }
+        requires begins { P.tells → ∥ BeginsWith (setting C.reads base (P.view plant).now) level
+            (copy_of (C.rests pair.first.copy) (C.holds pair.first.copy) pair.first.alive AtBefore)
+            (copy_of (C.rests pair.second.copy) (C.holds pair.second.copy) pair.second.alive AtBefore) (P.view plant)
+            ∥₁ }
         ensures plant { result.plant ≡ plant }
         ensures pair { result.pair ≡ pair }
         ensures base { result.base ≡ base }
@@ -45,7 +49,8 @@ impl<P: Plant + Drop, C: Steady + Drop> Complex<P, C> {
         ensures places { (result.first ≡ AtBefore) × (result.second ≡ AtBefore) }
         ensures printed { result.printed ≡ no_counts }
         ensures level { result.level ≡ level }
-        ensures fresh { P.tells → ∥ ((later : View) → Goes (P.view plant) later → LeavesQueue C.reads base (P.view plant).now later) ∥₁ }
+        ensures fresh { P.tells → ∥ ((later : View) → Goes (P.view plant) later
+            → LeavesQueue C.reads base (P.view plant).now later) ∥₁ }
     {
         let since = moment_of(&plant);
         let book = new_book_of(&base.config);
@@ -68,14 +73,15 @@ impl<P: Plant + Drop, C: Steady + Drop> Complex<P, C> {
         }
     }
 
-    /// Hands out the plant, the base, the first moment and the journal, of which the headline holds, and whose entries have
-    /// their replies.
+    /// Hands out the plant, the base, the first moment and the journal, of which the headline holds, and whose entries
+    /// have their replies.
     pub fn end(self) -> Ended<P>
         ensures plant { result.plant ≡ self.plant }
         ensures base { result.base ≡ self.base }
         ensures since { result.since ≡ self.since }
         ensures journal { result.journal.batches ≡ end_of self.placed self.current self.journal.batches }
-        ensures headline { P.tells → ∥ Headline C.reads result.base result.since result.journal (P.view result.plant) ∥₁ }
+        ensures headline { P.tells → ∥ Headline C.reads result.base result.since result.journal (P.view result.plant)
+            ∥₁ }
         ensures replied { P.tells → ∥ AreReplied result.base result.journal.batches ∥₁ }
     {
         let Complex {

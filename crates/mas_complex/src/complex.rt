@@ -26,8 +26,8 @@ pub struct Ended<P: Plant + Drop> {
     pub journal: Journal,
 }
 
-/// A plant with two copies of the checkpoint, which stand for a queue, and the journal of what was done since `since`, when
-/// they stood for `base`.
+/// A plant with two copies of the checkpoint, which stand for a queue, and the journal of what was done since `since`,
+/// when they stood for `base`.
 #[derive(Drop)]
 pub struct Complex<P: Plant + Drop, C: Steady + Drop> {
     pub plant: P,
@@ -50,17 +50,21 @@ pub struct Complex<P: Plant + Drop, C: Steady + Drop> {
     pub second: Place,
     /// The level of the kept pages.
     pub level: u64,
-    /// The lines that each member has printed since its last Pick, Mark, Back or Forward, from the operator on, which prints none.
+    /// The lines that each member has printed since its last Pick, Mark, Back or Forward, from the operator on, which
+    /// prints none.
     pub printed: [u32; COUNTS],
 
     /// What a crash leaves and the console tells at each moment since then, and where each copy stands now.
-    ghost kept: { P.tells → ∥ Keeps (setting C.reads base since) journal.batches current level (copy_of (C.rests pair.first.copy) (C.holds pair.first.copy) pair.first.alive first) (copy_of (C.rests pair.second.copy) (C.holds pair.second.copy) pair.second.alive second) (P.view plant) ∥₁ },
+    ghost kept: { P.tells → ∥ Keeps (setting C.reads base since) journal.batches current level
+        (copy_of (C.rests pair.first.copy) (C.holds pair.first.copy) pair.first.alive first)
+        (copy_of (C.rests pair.second.copy) (C.holds pair.second.copy) pair.second.alive second) (P.view plant) ∥₁ },
 
     /// Each entry has the reply that the commands give at its place.
     ghost replied: { P.tells → ∥ AreReplied base (journal.batches ++ in_flight current) ∥₁ },
 
     /// What stands on paper at each moment since then, where the base has the sound parts.
-    ghost paper: { P.tells → IsSound base → ∥ KeepsPaper base since journal.batches current printed book (P.view plant) ∥₁ },
+    ghost paper: { P.tells → IsSound base
+        → ∥ KeepsPaper base since journal.batches current printed book (P.view plant) ∥₁ },
 
     /// A copy that counts as alive is ready.
     ghost first_ready: { pair.first.alive ≡ true → C.fits pair.first.copy (P.view plant) ≡ true },

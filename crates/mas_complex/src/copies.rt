@@ -32,12 +32,15 @@ impl<P: Plant + Drop, C: Steady + Drop> Complex<P, C> {
     pub(crate) fn lose_copy(&mut self, dev: Dev)
         requires ckpt { IsCkpt dev }
         ensures frame { parts_of self.new ≡ with_half dev (parts_of self.new) (parts_of self.old) }
-        ensures other { other dev self.new.pair.first self.new.pair.second ≡ other dev self.old.pair.first self.old.pair.second }
+        ensures other { other dev self.new.pair.first self.new.pair.second
+            ≡ other dev self.old.pair.first self.old.pair.second }
         ensures dead { (pick dev self.new.pair.first self.new.pair.second).alive ≡ false }
-        ensures copy { (pick dev self.new.pair.first self.new.pair.second).copy ≡ (pick dev self.old.pair.first self.old.pair.second).copy }
+        ensures copy { (pick dev self.new.pair.first self.new.pair.second).copy
+            ≡ (pick dev self.old.pair.first self.old.pair.second).copy }
         ensures loses { Loses (Disk dev) (P.view self.old.plant) (P.view self.new.plant) }
         ensures elsewhere { P.tells → Elsewhere dev (P.view self.old.plant) (P.view self.new.plant) }
-        ensures bytes { P.tells → (d : Dev) → (disk_now (P.view self.new.plant) d).bytes ≡ (disk_now (P.view self.old.plant) d).bytes }
+        ensures bytes { P.tells → (d : Dev)
+            → (disk_now (P.view self.new.plant) d).bytes ≡ (disk_now (P.view self.old.plant) d).bytes }
     {
         self.pair.lose(&mut self.plant, dev);
     }
@@ -47,12 +50,14 @@ impl<P: Plant + Drop, C: Steady + Drop> Complex<P, C> {
         ensures frame { parts_of self.new ≡ record (parts_of self.old) { plant = self.new.plant } }
         ensures loses { Loses (Disk (Spool volume)) (P.view self.old.plant) (P.view self.new.plant) }
         ensures elsewhere { P.tells → Elsewhere (Spool volume) (P.view self.old.plant) (P.view self.new.plant) }
-        ensures bytes { P.tells → (d : Dev) → (disk_now (P.view self.new.plant) d).bytes ≡ (disk_now (P.view self.old.plant) d).bytes }
+        ensures bytes { P.tells → (d : Dev)
+            → (disk_now (P.view self.new.plant) d).bytes ≡ (disk_now (P.view self.old.plant) d).bytes }
     {
         self.plant.lose(Dev::Spool(volume));
     }
 
-    /// A device is lost, and the copy on it with it. A text with a group on a volume that is lost need not stand any more.
+    /// A device is lost, and the copy on it with it. A text with a group on a volume that is lost need not stand any
+    /// more.
     pub fn lose(&mut self, dev: Dev)
         ensures base { self.new.base ≡ self.old.base }
         ensures since { self.new.since ≡ self.old.since }
@@ -67,11 +72,14 @@ impl<P: Plant + Drop, C: Steady + Drop> Complex<P, C> {
         ensures level { self.new.level ≡ self.old.level }
         ensures dead { IsCkpt dev → (pick dev self.new.pair.first self.new.pair.second).alive ≡ false }
         ensures volume { (n : ℕ) → dev ≡ Spool n → self.new.pair ≡ self.old.pair }
-        ensures copy { (pick dev self.new.pair.first self.new.pair.second).copy ≡ (pick dev self.old.pair.first self.old.pair.second).copy }
-        ensures other { other dev self.new.pair.first self.new.pair.second ≡ other dev self.old.pair.first self.old.pair.second }
+        ensures copy { (pick dev self.new.pair.first self.new.pair.second).copy
+            ≡ (pick dev self.old.pair.first self.old.pair.second).copy }
+        ensures other { other dev self.new.pair.first self.new.pair.second
+            ≡ other dev self.old.pair.first self.old.pair.second }
         ensures loses { Loses (Disk dev) (P.view self.old.plant) (P.view self.new.plant) }
         ensures elsewhere { P.tells → Elsewhere dev (P.view self.old.plant) (P.view self.new.plant) }
-        ensures bytes { P.tells → (d : Dev) → (disk_now (P.view self.new.plant) d).bytes ≡ (disk_now (P.view self.old.plant) d).bytes }
+        ensures bytes { P.tells → (d : Dev)
+            → (disk_now (P.view self.new.plant) d).bytes ≡ (disk_now (P.view self.old.plant) d).bytes }
         ensures frame { parts_of self.new ≡ with_half dev (parts_of self.new) (parts_of self.old) }
     {
         match dev {
@@ -80,8 +88,8 @@ impl<P: Plant + Drop, C: Steady + Drop> Complex<P, C> {
         }
     }
 
-    /// Makes room for puts again on each copy that counts as alive. The member holds the lock and isn't stopped, nothing may be
-    /// in flight, and the pages are those that these copies read, and read afterwards.
+    /// Makes room for puts again on each copy that counts as alive. The member holds the lock and isn't stopped,
+    /// nothing may be in flight, and the pages are those that these copies read, and read afterwards.
     pub fn settle(&mut self, by: MemberId, pages: &[Page]) -> Result<(), PairNo>
         requires may { MayAct self.old.book by }
         requires none { self.old.current ≡ None }
@@ -89,8 +97,10 @@ impl<P: Plant + Drop, C: Steady + Drop> Complex<P, C> {
         requires second { self.old.pair.second.alive ≡ true → self.old.second ≡ AtBefore }
         requires as_many1 { self.old.pair.first.alive ≡ true → length pages.now ≡ C.count self.old.pair.first.copy }
         requires as_many2 { self.old.pair.second.alive ≡ true → length pages.now ≡ C.count self.old.pair.second.copy }
-        requires reads1 { P.tells → self.old.pair.first.alive ≡ true → C.reads (disk_now (P.view self.old.plant) Ckpt1).bytes ≡ Some (bytes_of pages.now) }
-        requires reads2 { P.tells → self.old.pair.second.alive ≡ true → C.reads (disk_now (P.view self.old.plant) Ckpt2).bytes ≡ Some (bytes_of pages.now) }
+        requires reads1 { P.tells → self.old.pair.first.alive ≡ true
+            → C.reads (disk_now (P.view self.old.plant) Ckpt1).bytes ≡ Some (bytes_of pages.now) }
+        requires reads2 { P.tells → self.old.pair.second.alive ≡ true
+            → C.reads (disk_now (P.view self.old.plant) Ckpt2).bytes ≡ Some (bytes_of pages.now) }
         ensures base { self.new.base ≡ self.old.base }
         ensures since { self.new.since ≡ self.old.since }
         ensures printed { self.new.printed ≡ self.old.printed }
@@ -105,10 +115,14 @@ impl<P: Plant + Drop, C: Steady + Drop> Complex<P, C> {
         ensures count1 { C.count self.new.pair.first.copy ≡ C.count self.old.pair.first.copy }
         ensures count2 { C.count self.new.pair.second.copy ≡ C.count self.old.pair.second.copy }
         ensures room1 { OnOk result (self.new.pair.first.alive ≡ true → C.room self.new.pair.first.copy ≡ C.room_most) }
-        ensures room2 { OnOk result (self.new.pair.second.alive ≡ true → C.room self.new.pair.second.copy ≡ C.room_most) }
-        ensures still1 { OnOk result (P.tells → self.new.pair.first.alive ≡ true → C.reads (disk_now (P.view self.new.plant) Ckpt1).bytes ≡ Some (bytes_of pages.now)) }
-        ensures still2 { OnOk result (P.tells → self.new.pair.second.alive ≡ true → C.reads (disk_now (P.view self.new.plant) Ckpt2).bytes ≡ Some (bytes_of pages.now)) }
-        ensures acted { PairActed by.0 self.old.pair.first.alive self.new.pair.first.alive self.old.pair.second.alive self.new.pair.second.alive (pair_stopped result) (P.view self.old.plant) (P.view self.new.plant) }
+        ensures room2 { OnOk result (self.new.pair.second.alive ≡ true
+            → C.room self.new.pair.second.copy ≡ C.room_most) }
+        ensures still1 { OnOk result (P.tells → self.new.pair.first.alive ≡ true
+            → C.reads (disk_now (P.view self.new.plant) Ckpt1).bytes ≡ Some (bytes_of pages.now)) }
+        ensures still2 { OnOk result (P.tells → self.new.pair.second.alive ≡ true
+            → C.reads (disk_now (P.view self.new.plant) Ckpt2).bytes ≡ Some (bytes_of pages.now)) }
+        ensures acted { PairActed by.0 self.old.pair.first.alive self.new.pair.first.alive self.old.pair.second.alive
+            self.new.pair.second.alive (pair_stopped result) (P.view self.old.plant) (P.view self.new.plant) }
         ensures apart { P.tells → OnCopies (P.view self.old.plant) (P.view self.new.plant) }
         ensures throughout { P.tells → OnlyOnCopies (P.view self.old.plant) (P.view self.new.plant) }
         ensures papers { P.tells → SamePapers (P.view self.old.plant) (P.view self.new.plant) }
@@ -122,8 +136,8 @@ impl<P: Plant + Drop, C: Steady + Drop> Complex<P, C> {
         done
     }
 
-    /// Reads a page of the checkpoint for the member that holds the lock and isn't stopped, from CKPT1 while its copy counts as
-    /// alive, else from CKPT2.
+    /// Reads a page of the checkpoint for the member that holds the lock and isn't stopped, from CKPT1 while its copy
+    /// counts as alive, else from CKPT2.
     pub fn read_page(&mut self, by: MemberId, page: u16, into: &mut Page) -> Result<(), PairNo>
         requires may { MayAct self.old.book by }
         requires page1 { self.old.pair.first.alive ≡ true → page < C.count self.old.pair.first.copy }
@@ -142,10 +156,16 @@ impl<P: Plant + Drop, C: Steady + Drop> Complex<P, C> {
         ensures copy1 { self.new.pair.first.copy ≡ self.old.pair.first.copy }
         ensures copy2 { self.new.pair.second.copy ≡ self.old.pair.second.copy }
         ensures err { OnErr result (into.new ≡ into.old) }
-        ensures bytes { P.tells → (d : Dev) → (disk_now (P.view self.new.plant) d).bytes ≡ (disk_now (P.view self.old.plant) d).bytes }
-        ensures read { OnOk result (P.tells → (was : List ℕ) → (self.new.pair.first.alive ≡ true → C.rests self.old.pair.first.copy was (disk_now (P.view self.old.plant) Ckpt1))
-            → (self.new.pair.first.alive ≡ false → C.rests self.old.pair.second.copy was (disk_now (P.view self.old.plant) Ckpt2)) → into.new.0 ≡ page_in page was) }
-        ensures acted { PairActed by.0 self.old.pair.first.alive self.new.pair.first.alive self.old.pair.second.alive self.new.pair.second.alive (pair_stopped result) (P.view self.old.plant) (P.view self.new.plant) }
+        ensures bytes { P.tells → (d : Dev)
+            → (disk_now (P.view self.new.plant) d).bytes ≡ (disk_now (P.view self.old.plant) d).bytes }
+        ensures read { OnOk result (P.tells → (was : List ℕ)
+            → (self.new.pair.first.alive ≡ true
+            → C.rests self.old.pair.first.copy was (disk_now (P.view self.old.plant) Ckpt1))
+            → (self.new.pair.first.alive ≡ false
+            → C.rests self.old.pair.second.copy was (disk_now (P.view self.old.plant) Ckpt2))
+            → into.new.0 ≡ page_in page was) }
+        ensures acted { PairActed by.0 self.old.pair.first.alive self.new.pair.first.alive self.old.pair.second.alive
+            self.new.pair.second.alive (pair_stopped result) (P.view self.old.plant) (P.view self.new.plant) }
         ensures apart { P.tells → OnCopies (P.view self.old.plant) (P.view self.new.plant) }
         ensures throughout { P.tells → OnlyOnCopies (P.view self.old.plant) (P.view self.new.plant) }
         ensures papers { P.tells → SamePapers (P.view self.old.plant) (P.view self.new.plant) }
@@ -156,10 +176,13 @@ impl<P: Plant + Drop, C: Steady + Drop> Complex<P, C> {
         self.pair.read_page(&mut self.plant, by, page, into)
     }
 
-    /// There are pages of the level reached that stand for the queue after the kept batches. Each copy that counts as alive, and is
-    /// as before any batch, is at rest with them: so what is read of the one, of the other, or of both, are these pages.
+    /// There are pages of the level reached that stand for the queue after the kept batches. Each copy that counts as
+    /// alive, and is as before any batch, is at rest with them: so what is read of the one, of the other, or of both,
+    /// are these pages.
     pub fn kept_pages(&self)
-        ensures { P.tells → ∥ HaveKept (run self.now.base (kept_all self.now.journal.batches)) self.now.level (C.rests self.now.pair.first.copy) (C.rests self.now.pair.second.copy)
-            self.now.pair.first.alive self.now.pair.second.alive self.now.first self.now.second (disk_now (P.view self.now.plant) Ckpt1) (disk_now (P.view self.now.plant) Ckpt2) ∥₁ }
+        ensures { P.tells → ∥ HaveKept (run self.now.base (kept_all self.now.journal.batches)) self.now.level
+            (C.rests self.now.pair.first.copy) (C.rests self.now.pair.second.copy) self.now.pair.first.alive
+            self.now.pair.second.alive self.now.first self.now.second (disk_now (P.view self.now.plant) Ckpt1)
+            (disk_now (P.view self.now.plant) Ckpt2) ∥₁ }
     {}
 }

@@ -9,7 +9,7 @@ use mas_types::{Command, Entry, MEMBERS_MOST, MemberId};
 /// A count for the operator, and one for each member.
 pub const COUNTS: usize = MEMBERS_MOST as usize + 1;
 
-// With these commands a member begins to count anew.
+// Whether a member begins to count anew with the command.
 fn is_anew(command: &Command) -> bool
     ensures { result ≡ counts_anew command.now }
 {
@@ -19,14 +19,14 @@ fn is_anew(command: &Command) -> bool
     )
 }
 
-// The entry is such a command of the member.
+// Whether the member begins to count anew with the entry.
 fn is_anew_of(entry: &Entry, by: MemberId) -> bool
     ensures { result ≡ begins_anew by entry.now }
 {
     entry.by == by && is_anew(&entry.command)
 }
 
-// One of the entries is such a command of the member.
+// Whether the member begins to count anew with one of the entries.
 fn has_anew(entries: &[Entry], by: MemberId) -> bool
     ensures { result ≡ list_any (begins_anew by) entries.now }
 {

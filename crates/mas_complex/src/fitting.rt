@@ -27,7 +27,7 @@ pub fn same_pages(found: &[Page], other: &[Page]) -> bool
     true
 }
 
-// They differ only in pages of this level, as the first of them gives it.
+// The pages of two copies differ only in those of this level, as the first page found gives it.
 fn differ_only_at(found: &[Page], other: &[Page], reached: u64) -> bool
     requires few { length found.now ≤ pages_most }
     ensures { result ≡ differ_at (first_page found.now) reached 0 found.now other.now }
@@ -45,9 +45,9 @@ fn differ_only_at(found: &[Page], other: &[Page], reached: u64) -> bool
     true
 }
 
-/// Whether another copy's pages fit those that were found: they are the same, or their level is one less, they differ only
-/// in pages that have the found level, and the copy has room for a put. A copy that doesn't fit counts as one that can't
-/// be read.
+/// Whether another copy's pages fit those that were found: they are the same, or their level is one less, they differ
+/// only in pages that have the found level, and the copy has room for a put. A copy that doesn't fit counts as one that
+/// can't be read.
 pub fn fits(found: &[Page], other: &[Page], room: u8) -> bool
     requires few { length found.now ≤ pages_most }
     ensures { result ≡ fits_spec found.now other.now room }
@@ -60,7 +60,7 @@ pub fn fits(found: &[Page], other: &[Page], room: u8) -> bool
     reached > 0 && lower == reached - 1 && room >= 1 && differ_only_at(found, other, reached)
 }
 
-// Adds a number behind the first of them, where it is asked for. Answers how many there are then.
+// Adds a number after the first `count`, where it is asked for. Answers how many there are then.
 fn note(numbers: &mut [u16; NUMBERS], count: usize, number: u16, asked: bool) -> usize
     requires { count < pages_most }
     ensures few { result ≤ count + 1 }
@@ -73,7 +73,8 @@ fn note(numbers: &mut [u16; NUMBERS], count: usize, number: u16, asked: bool) ->
     count
 }
 
-/// Lays down the numbers of page 0 and of the pages that have the level found, as page 0 gives it. Answers how many they are.
+/// Lays down the numbers of page 0 and of the pages that have the level found, as page 0 gives it. Answers how many
+/// they are.
 pub(crate) fn list_found(found: &[Page], numbers: &mut [u16; NUMBERS]) -> usize
     requires few { length found.now ≤ pages_most }
     ensures few { result ≤ length found.now }

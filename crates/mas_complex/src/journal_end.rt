@@ -9,7 +9,8 @@ use std::alloc::Global;
 // A journal has at most so many batches.
 const JOURNAL_MOST: usize = 1 << 40;
 
-// The place of a batch to come stands last. NoMemory comes where there is none, or the journal has as many batches as it may.
+// The place of a batch to come stands last. NoMemory comes where there is none, or the journal has as many batches as
+// it may.
 pub(crate) fn push_place(batches: &mut List<Batch>, place: Batch) -> Result<(), NoMemory>
     requires few { length batches.old ≤ journal_most }
     ensures ok { OnOk result (batches.new ≡ batches.old ++ place ∷ []) }

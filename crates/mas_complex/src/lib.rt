@@ -1,7 +1,7 @@
 //! The shared value: a plant, the two copies of the checkpoint on it, and the journal of what was done with them.
 //!
-//! Its type keeps, for each moment since it was made and whichever copy was lost when, what a crash at that moment leaves,
-//! what the console tells at it, and what stands on paper. `Complex::end` hands all of it out.
+//! Its type keeps, for each moment since it was made and whichever copy was lost when, what a crash at that moment
+//! leaves, what the console tells at it, and what stands on paper. `Complex::end` hands all of it out.
 #![tactic(auto)]
 
 mod begin_end;

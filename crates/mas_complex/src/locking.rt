@@ -82,10 +82,10 @@ impl<P: Plant + Drop, C: Steady + Drop> Complex<P, C> {
         entries_kept(self.journal.batches.as_slice())
     }
 
-    /// A try of the member at the lock of the checkpoint, as its book says. An `inner` try is one in the middle of a step.
-    /// Down comes exactly where the member is stopped, Busy exactly where it isn't and another one holds, Dormant exactly
-    /// where it isn't stopped, nobody holds and it leaves the lock to others. The member holds after Ok. The operator may have
-    /// nothing reserved or in flight.
+    /// A try of the member at the lock of the checkpoint, as its book says. An `inner` try is one in the middle of a
+    /// step. Down comes exactly where the member is stopped, Busy exactly where it isn't and another one holds, Dormant
+    /// exactly where it isn't stopped, nobody holds and it leaves the lock to others. The member holds after Ok. The
+    /// operator may have nothing reserved or in flight.
     pub fn try_lock(&mut self, by: MemberId, inner: bool) -> Result<(), LockNo>
         requires member { IsMember self.old.book by }
         requires away { IsOperatorAway self.old.book self.old.reserved self.old.current }
@@ -109,9 +109,8 @@ impl<P: Plant + Drop, C: Steady + Drop> Complex<P, C> {
         self.book.try_lock(by, inner)
     }
 
-    /// The member gives the lock up, and a batch that is reserved and hasn't begun. Where it holds nothing may be in flight, and
-    /// it isn't stopped.
-    /// NotHolder comes exactly where it doesn't hold, and nothing is changed then.
+    /// The member gives the lock up, and a batch that is reserved and hasn't begun. Where it holds nothing may be in
+    /// flight, and it isn't stopped. NotHolder comes exactly where it doesn't hold, and nothing is changed then.
     pub fn free(&mut self, by: MemberId, inner: bool) -> Result<(), NotHolder>
         requires member { IsMember self.old.book by }
         requires none { is_holder self.old.book by ≡ true → self.old.current ≡ None }
@@ -132,14 +131,15 @@ impl<P: Plant + Drop, C: Steady + Drop> Complex<P, C> {
         ensures ok { OnOk result (free_refusal self.old.book by ≡ None) }
         ensures err { IfErr result (λ e. free_refusal self.old.book by ≡ Some e) }
         ensures err_reserved { OnErr result (self.new.reserved ≡ self.old.reserved) }
-        ensures frame { OnOk result (parts_of self.new ≡ record (parts_of self.old) { book = after_free self.old.book by inner; reserved = None }) }
+        ensures frame { OnOk result (parts_of self.new
+            ≡ record (parts_of self.old) { book = after_free self.old.book by inner; reserved = None }) }
         ensures none { OnErr result (parts_of self.new ≡ parts_of self.old) }
     {
         give_up_after_free(&mut self.book, &mut self.reserved, by, inner)
     }
 
-    /// The member that holds the lock leaves it in the middle of a step, for acts beside it. A batch that is reserved and hasn't begun
-    /// is given up. Nothing may be in flight.
+    /// The member that holds the lock leaves it in the middle of a step, for acts beside it. A batch that is reserved
+    /// and hasn't begun is given up. Nothing may be in flight.
     pub fn leave_lock(&mut self, by: MemberId)
         requires may { MayAct self.old.book by }
         requires member { IsMember self.old.book by }
@@ -157,14 +157,15 @@ impl<P: Plant + Drop, C: Steady + Drop> Complex<P, C> {
         ensures level { self.new.level ≡ self.old.level }
         ensures reserved { self.new.reserved ≡ None }
         ensures book { self.new.book ≡ after_free self.old.book by true }
-        ensures frame { parts_of self.new ≡ record (parts_of self.old) { book = after_free self.old.book by true; reserved = None } }
+        ensures frame { parts_of self.new
+            ≡ record (parts_of self.old) { book = after_free self.old.book by true; reserved = None } }
     {
         self.reserved = None;
         let _freed = self.book.free(by, true);
     }
 
-    /// The member takes the lock again that it left in the middle of a step. Nothing refuses it, and the operator may have nothing
-    /// reserved or in flight.
+    /// The member takes the lock again that it left in the middle of a step. Nothing refuses it, and the operator may
+    /// have nothing reserved or in flight.
     pub fn retake_lock(&mut self, by: MemberId)
         requires member { IsMember self.old.book by }
         requires away { IsOperatorAway self.old.book self.old.reserved self.old.current }
@@ -203,13 +204,17 @@ impl<P: Plant + Drop, C: Steady + Drop> Complex<P, C> {
         ensures level { self.new.level ≡ self.old.level }
         ensures reserved { self.new.reserved ≡ reserved_after_stop by self.old.reserved }
         ensures book { self.new.book ≡ after_stop self.old.book by }
-        ensures frame { parts_of self.new ≡ record (parts_of self.old) { book = after_stop self.old.book by; reserved = reserved_after_stop by self.old.reserved } }
+        ensures frame { parts_of self.new
+            ≡ record (parts_of self.old) {
+              book = after_stop self.old.book by;
+              reserved = reserved_after_stop by self.old.reserved;
+            } }
     {
         give_up_after_stop(&mut self.book, &mut self.reserved, by);
     }
 
-    /// The member takes over the lock that the stopped member `of` holds. StillUp comes exactly where `of` isn't stopped,
-    /// NotHolder exactly where it is stopped and doesn't hold; nothing is changed then.
+    /// The member takes over the lock that the stopped member `of` holds. StillUp comes exactly where `of` isn't
+    /// stopped, NotHolder exactly where it is stopped and doesn't hold; nothing is changed then.
     pub fn seize(&mut self, by: MemberId, of: MemberId) -> Result<(), SeizeNo>
         requires by { IsMember self.old.book by }
         requires of { IsMember self.old.book of }
@@ -250,7 +255,8 @@ impl<P: Plant + Drop, C: Steady + Drop> Complex<P, C> {
         ensures level { self.new.level ≡ self.old.level }
         ensures reserved { self.new.reserved ≡ self.old.reserved }
         ensures book { self.new.book ≡ after_spend self.old.book by commands }
-        ensures frame { parts_of self.new ≡ record (parts_of self.old) { book = after_spend self.old.book by commands } }
+        ensures frame { parts_of self.new
+            ≡ record (parts_of self.old) { book = after_spend self.old.book by commands } }
     {
         self.book.spend(by, commands);
     }

@@ -47,19 +47,23 @@ fn stop_halted(book: &mut LockBook, reserved: &mut Option<List<Entry>>, by: Memb
 }
 
 impl<P: Plant + Drop, C: Steady + Drop> Complex<P, C> {
-    /// Prints a line on the printer of a member that isn't stopped. It needs no lock, but a batch in flight is of another member. The line is the
-    /// next one behind those that the member has printed since its last Pick, Mark, Back or Forward: of the output that is busy at it, in the queue after
-    /// the kept entries and in the one with those in flight; and the member's limit isn't reached.
+    /// Prints a line on the printer of a member that isn't stopped. It needs no lock, but a batch in flight is of
+    /// another member. The line is the next one after those that the member has printed since its last Pick, Mark,
+    /// Back or Forward: of the output that is busy at it, in the queue after the kept entries and in the one with those
+    /// in flight; and the member's limit isn't reached.
     ///
-    /// Done counts the line. Failed comes only where the printer's faults rose, and it is lost then. Halted comes only where the member was stopped
-    /// in it: then it is stopped in the book, and a batch of it that is reserved is given up. The line may stand then, whole or torn.
+    /// Done counts the line. Failed comes only where the printer's faults rose, and it is lost then. Halted comes only
+    /// where the member was stopped in it: then it is stopped in the book, and a batch of it that is reserved is given
+    /// up. The line may stand then, whole or torn.
     pub fn print(&mut self, by: MemberId, line: &[u8]) -> Act
         requires member { IsMember self.old.book by }
         requires few { by.0 ≤ members_most }
         requires up { is_stopped self.old.book by ≡ false }
         requires other { IsOfOther self.old.current by }
         requires most { counts_of self.old.printed by < printer_lines_most }
-        requires next { P.tells → IsSound self.old.base → ∥ MayPrint self.old.base (kept_all self.old.journal.batches) (entries_in self.old.current) by (counts_of self.old.printed by) line.now ∥₁ }
+        requires next { P.tells → IsSound self.old.base
+            → ∥ MayPrint self.old.base (kept_all self.old.journal.batches) (entries_in self.old.current) by
+            (counts_of self.old.printed by) line.now ∥₁ }
         ensures pair { self.new.pair ≡ self.old.pair }
         ensures base { self.new.base ≡ self.old.base }
         ensures since { self.new.since ≡ self.old.since }
@@ -88,16 +92,20 @@ impl<P: Plant + Drop, C: Steady + Drop> Complex<P, C> {
         done
     }
 
-    /// The lines that the member has printed since its last Pick, Mark, Back or Forward; of the output that is busy at it they stand on paper.
+    /// The lines that the member has printed since its last Pick, Mark, Back or Forward; of the output that is busy at
+    /// it they stand on paper.
     pub fn printed_lines(&self, by: MemberId) -> u32
         requires few { by.0 ≤ members_most }
         ensures count { result ≡ counts_of self.now.printed by }
-        ensures paper { P.tells → IsSound self.now.base → ∥ AreLinesOn (IsOnPaper ((P.view self.now.plant).world (P.view self.now.plant).now).paper) self.now.base (counts_of self.now.printed) (kept_all self.now.journal.batches) ∥₁ }
+        ensures paper { P.tells → IsSound self.now.base
+            → ∥ AreLinesOn (IsOnPaper ((P.view self.now.plant).world (P.view self.now.plant).now).paper) self.now.base
+            (counts_of self.now.printed) (kept_all self.now.journal.batches) ∥₁ }
     {
         self.printed[by.0 as usize]
     }
 
-    /// Each entry of the batches that have their fates is within the limits, and of a member of the base that may give it.
+    /// Each entry of the batches that have their fates is within the limits, and of a member of the base that may give
+    /// it.
     pub fn kept_given(&self)
         ensures given { P.tells → IsSound self.now.base → ∥ AreGivenIn self.now.base self.now.journal.batches ∥₁ }
     {}

@@ -71,7 +71,8 @@ impl From<PairNo> for RecoverNo {
     }
 }
 
-// A copy with these pages, which isn't lost, stays beside those found: it has them, or is one batch behind and has room.
+// A copy with these pages, which isn't lost, stays beside those found: it has them, or is one batch behind and has
+// room.
 #[tactic(auto, using(crate::proofs::Fitted::fits_many))]
 fn may_stay(place: Place, room: u8, found: &[Page], other: &[Page]) -> bool
     requires few { length found.now ≤ pages_most }
@@ -91,14 +92,21 @@ impl<P: Plant + Drop, C: Steady + Drop> Complex<P, C> {
         requires ckpt { IsCkpt dev }
         requires alive { (pick dev self.old.pair.first self.old.pair.second).alive ≡ true }
         ensures frame { parts_of self.new ≡ with_half dev (parts_of self.new) (parts_of self.old) }
-        ensures other { other dev self.new.pair.first self.new.pair.second ≡ other dev self.old.pair.first self.old.pair.second }
+        ensures other { other dev self.new.pair.first self.new.pair.second
+            ≡ other dev self.old.pair.first self.old.pair.second }
         ensures lost { stays ≡ false → (pick dev self.new.pair.first self.new.pair.second).alive ≡ false }
-        ensures stays { stays ≡ true → pick dev self.new.pair.first self.new.pair.second ≡ pick dev self.old.pair.first self.old.pair.second }
-        ensures copy { (pick dev self.new.pair.first self.new.pair.second).copy ≡ (pick dev self.old.pair.first self.old.pair.second).copy }
-        ensures only { (pick dev self.old.pair.first self.old.pair.second).alive ≡ true → (pick dev self.new.pair.first self.new.pair.second).alive ≡ false → stays ≡ false }
+        ensures stays { stays ≡ true → pick dev self.new.pair.first self.new.pair.second
+            ≡ pick dev self.old.pair.first self.old.pair.second }
+        ensures copy { (pick dev self.new.pair.first self.new.pair.second).copy
+            ≡ (pick dev self.old.pair.first self.old.pair.second).copy }
+        ensures only { (pick dev self.old.pair.first self.old.pair.second).alive ≡ true
+            → (pick dev self.new.pair.first self.new.pair.second).alive ≡ false → stays ≡ false }
         ensures goes { Goes (P.view self.old.plant) (P.view self.new.plant) }
-        ensures counts { (by : ℕ) → KeepsCounts by self.old.pair.first.alive self.new.pair.first.alive self.old.pair.second.alive self.new.pair.second.alive false (P.view self.old.plant) (P.view self.new.plant) }
-        ensures bytes { P.tells → (d : Dev) → (disk_now (P.view self.new.plant) d).bytes ≡ (disk_now (P.view self.old.plant) d).bytes }
+        ensures counts { (by : ℕ) → KeepsCounts by self.old.pair.first.alive self.new.pair.first.alive
+            self.old.pair.second.alive self.new.pair.second.alive false (P.view self.old.plant)
+            (P.view self.new.plant) }
+        ensures bytes { P.tells → (d : Dev)
+            → (disk_now (P.view self.new.plant) d).bytes ≡ (disk_now (P.view self.old.plant) d).bytes }
         ensures apart { P.tells → OnCopies (P.view self.old.plant) (P.view self.new.plant) }
     {
         if !stays {
@@ -108,20 +116,34 @@ impl<P: Plant + Drop, C: Steady + Drop> Complex<P, C> {
 
     // The pages of greater level, those of CKPT1 on a tie. The other copy is lost where it may not stay beside them.
     fn choose(&mut self, first: List<Page>, second: List<Page>) -> List<Page>
-        requires first { IsOneSeen (run self.old.base (kept_all self.old.journal.batches ++ entries_in self.old.current)) (entries_in self.old.current) P.tells self.old.level self.old.pair.first.alive (C.count self.old.pair.first.copy) self.old.first (Some first) }
-        requires second { IsOneSeen (run self.old.base (kept_all self.old.journal.batches ++ entries_in self.old.current)) (entries_in self.old.current) P.tells self.old.level self.old.pair.second.alive (C.count self.old.pair.second.copy) self.old.second (Some second) }
+        requires first { IsOneSeen (run self.old.base
+            (kept_all self.old.journal.batches ++ entries_in self.old.current)) (entries_in self.old.current) P.tells
+            self.old.level self.old.pair.first.alive (C.count self.old.pair.first.copy) self.old.first (Some first) }
+        requires second { IsOneSeen (run self.old.base
+            (kept_all self.old.journal.batches ++ entries_in self.old.current)) (entries_in self.old.current) P.tells
+            self.old.level self.old.pair.second.alive (C.count self.old.pair.second.copy) self.old.second
+            (Some second) }
         requires reads1 { P.tells → ReadsSeen C.reads (disk_now (P.view self.old.plant) Ckpt1).bytes (Some first) }
         requires reads2 { P.tells → ReadsSeen C.reads (disk_now (P.view self.old.plant) Ckpt2).bytes (Some second) }
         ensures frame { parts_of self.new ≡ with_pair (parts_of self.new) (parts_of self.old) }
         ensures goes { Goes (P.view self.old.plant) (P.view self.new.plant) }
         ensures apart { P.tells → OnCopies (P.view self.old.plant) (P.view self.new.plant) }
-        ensures counts { (by : ℕ) → KeepsCounts by self.old.pair.first.alive self.new.pair.first.alive self.old.pair.second.alive self.new.pair.second.alive false (P.view self.old.plant) (P.view self.new.plant) }
-        ensures chosen { Chosen C.reads P.tells (run self.old.base (kept_all self.old.journal.batches ++ entries_in self.old.current)) (entries_in self.old.current) self.old.level self.new.pair.first.alive (C.count self.new.pair.first.copy) (C.room self.new.pair.first.copy) self.new.first (disk_now (P.view self.new.plant) Ckpt1).bytes self.new.pair.second.alive (C.count self.new.pair.second.copy) (C.room self.new.pair.second.copy) self.new.second (disk_now (P.view self.new.plant) Ckpt2).bytes result }
+        ensures counts { (by : ℕ) → KeepsCounts by self.old.pair.first.alive self.new.pair.first.alive
+            self.old.pair.second.alive self.new.pair.second.alive false (P.view self.old.plant)
+            (P.view self.new.plant) }
+        ensures chosen { Chosen C.reads P.tells
+            (run self.old.base (kept_all self.old.journal.batches ++ entries_in self.old.current))
+            (entries_in self.old.current) self.old.level self.new.pair.first.alive (C.count self.new.pair.first.copy)
+            (C.room self.new.pair.first.copy) self.new.first (disk_now (P.view self.new.plant) Ckpt1).bytes
+            self.new.pair.second.alive (C.count self.new.pair.second.copy) (C.room self.new.pair.second.copy)
+            self.new.second (disk_now (P.view self.new.plant) Ckpt2).bytes result }
         ensures copy1 { self.new.pair.first.copy ≡ self.old.pair.first.copy }
         ensures copy2 { self.new.pair.second.copy ≡ self.old.pair.second.copy }
         ensures greater { IsGreater (Some first) (Some second) result }
-        ensures unfit1 { self.new.pair.first.alive ≡ false → can_stay self.old.first (C.room self.old.pair.first.copy) result first ≡ false }
-        ensures unfit2 { self.new.pair.second.alive ≡ false → can_stay self.old.second (C.room self.old.pair.second.copy) result second ≡ false }
+        ensures unfit1 { self.new.pair.first.alive ≡ false
+            → can_stay self.old.first (C.room self.old.pair.first.copy) result first ≡ false }
+        ensures unfit2 { self.new.pair.second.alive ≡ false
+            → can_stay self.old.second (C.room self.old.pair.second.copy) result second ≡ false }
     {
         if pages_level(first.as_slice()) < pages_level(second.as_slice()) {
             let room = self.pair.first.copy.room();
@@ -142,24 +164,40 @@ impl<P: Plant + Drop, C: Steady + Drop> Complex<P, C> {
         first: Option<List<Page>>,
         second: Option<List<Page>>,
     ) -> Option<List<Page>>
-        requires first { IsOneSeen (run self.old.base (kept_all self.old.journal.batches ++ entries_in self.old.current)) (entries_in self.old.current) P.tells self.old.level self.old.pair.first.alive (C.count self.old.pair.first.copy) self.old.first first }
-        requires second { IsOneSeen (run self.old.base (kept_all self.old.journal.batches ++ entries_in self.old.current)) (entries_in self.old.current) P.tells self.old.level self.old.pair.second.alive (C.count self.old.pair.second.copy) self.old.second second }
+        requires first { IsOneSeen (run self.old.base
+            (kept_all self.old.journal.batches ++ entries_in self.old.current)) (entries_in self.old.current) P.tells
+            self.old.level self.old.pair.first.alive (C.count self.old.pair.first.copy) self.old.first first }
+        requires second { IsOneSeen (run self.old.base
+            (kept_all self.old.journal.batches ++ entries_in self.old.current)) (entries_in self.old.current) P.tells
+            self.old.level self.old.pair.second.alive (C.count self.old.pair.second.copy) self.old.second second }
         requires reads1 { P.tells → ReadsSeen C.reads (disk_now (P.view self.old.plant) Ckpt1).bytes first }
         requires reads2 { P.tells → ReadsSeen C.reads (disk_now (P.view self.old.plant) Ckpt2).bytes second }
         ensures frame { parts_of self.new ≡ with_pair (parts_of self.new) (parts_of self.old) }
         ensures goes { Goes (P.view self.old.plant) (P.view self.new.plant) }
         ensures apart { P.tells → OnCopies (P.view self.old.plant) (P.view self.new.plant) }
-        ensures counts { (by : ℕ) → KeepsCounts by self.old.pair.first.alive self.new.pair.first.alive self.old.pair.second.alive self.new.pair.second.alive false (P.view self.old.plant) (P.view self.new.plant) }
+        ensures counts { (by : ℕ) → KeepsCounts by self.old.pair.first.alive self.new.pair.first.alive
+            self.old.pair.second.alive self.new.pair.second.alive false (P.view self.old.plant)
+            (P.view self.new.plant) }
         ensures none { result ≡ None → IsBothLost self.new.pair.first.alive self.new.pair.second.alive }
         ensures neither { result ≡ None → (first ≡ None) × (second ≡ None) }
         ensures greater { IfSome result (IsGreater first second) }
-        ensures chosen { IfSome result (λ found. Chosen C.reads P.tells (run self.old.base (kept_all self.old.journal.batches ++ entries_in self.old.current)) (entries_in self.old.current) self.old.level self.new.pair.first.alive (C.count self.new.pair.first.copy) (C.room self.new.pair.first.copy) self.new.first (disk_now (P.view self.new.plant) Ckpt1).bytes self.new.pair.second.alive (C.count self.new.pair.second.copy) (C.room self.new.pair.second.copy) self.new.second (disk_now (P.view self.new.plant) Ckpt2).bytes found) }
+        ensures chosen { IfSome result
+            (λ found. Chosen C.reads P.tells
+            (run self.old.base (kept_all self.old.journal.batches ++ entries_in self.old.current))
+            (entries_in self.old.current) self.old.level self.new.pair.first.alive (C.count self.new.pair.first.copy)
+            (C.room self.new.pair.first.copy) self.new.first (disk_now (P.view self.new.plant) Ckpt1).bytes
+            self.new.pair.second.alive (C.count self.new.pair.second.copy) (C.room self.new.pair.second.copy)
+            self.new.second (disk_now (P.view self.new.plant) Ckpt2).bytes found) }
         ensures copy1 { self.new.pair.first.copy ≡ self.old.pair.first.copy }
         ensures copy2 { self.new.pair.second.copy ≡ self.old.pair.second.copy }
         ensures alive1 { self.new.pair.first.alive ≡ true → self.old.pair.first.alive ≡ true }
         ensures alive2 { self.new.pair.second.alive ≡ true → self.old.pair.second.alive ≡ true }
-        ensures unfit1 { IfSome result (λ found. self.old.pair.first.alive ≡ true → self.new.pair.first.alive ≡ false → IsUnfit first self.old.first (C.room self.old.pair.first.copy) found) }
-        ensures unfit2 { IfSome result (λ found. self.old.pair.second.alive ≡ true → self.new.pair.second.alive ≡ false → IsUnfit second self.old.second (C.room self.old.pair.second.copy) found) }
+        ensures unfit1 { IfSome result
+            (λ found. self.old.pair.first.alive ≡ true → self.new.pair.first.alive ≡ false
+            → IsUnfit first self.old.first (C.room self.old.pair.first.copy) found) }
+        ensures unfit2 { IfSome result
+            (λ found. self.old.pair.second.alive ≡ true → self.new.pair.second.alive ≡ false
+            → IsUnfit second self.old.second (C.room self.old.pair.second.copy) found) }
     {
         match (first, second) {
             (Some(first), Some(second)) => Some(self.choose(first, second)),
@@ -177,18 +215,29 @@ impl<P: Plant + Drop, C: Steady + Drop> Complex<P, C> {
         requires as_many { length found.now ≡ C.count (pick dev self.old.pair.first self.old.pair.second).copy }
         requires some { 1 ≤ length found.now }
         requires few { length found.now ≤ pages_most }
-        requires next { P.tells → IsNextOr (run self.old.base (kept_all self.old.journal.batches ++ entries_in self.old.current)) (entries_in self.old.current) self.old.level found.now }
+        requires next { P.tells → IsNextOr
+            (run self.old.base (kept_all self.old.journal.batches ++ entries_in self.old.current))
+            (entries_in self.old.current) self.old.level found.now }
         requires level { level (bytes_of found.now) ≡ self.old.level + 1 }
-        requires differs { P.tells → (was : List ℕ) → C.reads (disk_now (P.view self.old.plant) dev).bytes ≡ Some was → DiffersAtFound was found.now }
-        requires same { P.tells → (other dev self.old.pair.first self.old.pair.second).alive ≡ true → (other dev self.old.first self.old.second ≡ AtOpened) × (C.reads (disk_now (P.view self.old.plant) (other dev Ckpt1 Ckpt2)).bytes ≡ Some (bytes_of found.now)) }
+        requires differs { P.tells → (was : List ℕ) → C.reads (disk_now (P.view self.old.plant) dev).bytes ≡ Some was
+            → DiffersAtFound was found.now }
+        requires same { P.tells → (other dev self.old.pair.first self.old.pair.second).alive ≡ true
+            → (other dev self.old.first self.old.second ≡ AtOpened)
+            × (C.reads (disk_now (P.view self.old.plant) (other dev Ckpt1 Ckpt2)).bytes ≡ Some (bytes_of found.now)) }
         ensures frame { parts_of self.new ≡ with_copy dev (parts_of self.new) (parts_of self.old) }
-        ensures acted { Acted by.0 dev (pick dev self.old.pair.first self.old.pair.second).alive (pick dev self.new.pair.first self.new.pair.second).alive (pair_stopped result) (P.view self.old.plant) (P.view self.new.plant) }
+        ensures acted { Acted by.0 dev (pick dev self.old.pair.first self.old.pair.second).alive
+            (pick dev self.new.pair.first self.new.pair.second).alive (pair_stopped result) (P.view self.old.plant)
+            (P.view self.new.plant) }
         ensures other_place { other dev self.new.first self.new.second ≡ other dev self.old.first self.old.second }
-        ensures other { other dev self.new.pair.first self.new.pair.second ≡ other dev self.old.pair.first self.old.pair.second }
-        ensures count { C.count (pick dev self.new.pair.first self.new.pair.second).copy ≡ C.count (pick dev self.old.pair.first self.old.pair.second).copy }
+        ensures other { other dev self.new.pair.first self.new.pair.second
+            ≡ other dev self.old.pair.first self.old.pair.second }
+        ensures count { C.count (pick dev self.new.pair.first self.new.pair.second).copy
+            ≡ C.count (pick dev self.old.pair.first self.old.pair.second).copy }
         ensures place { OnOk result (pick dev self.new.first self.new.second ≡ AtOpened) }
-        ensures reads { OnOk result (P.tells → (pick dev self.new.pair.first self.new.pair.second).alive ≡ true → C.reads (disk_now (P.view self.new.plant) dev).bytes ≡ Some (bytes_of found.now)) }
-        ensures others { P.tells → (d : Dev) → d ≢ dev → (disk_now (P.view self.new.plant) d).bytes ≡ (disk_now (P.view self.old.plant) d).bytes }
+        ensures reads { OnOk result (P.tells → (pick dev self.new.pair.first self.new.pair.second).alive ≡ true
+            → C.reads (disk_now (P.view self.new.plant) dev).bytes ≡ Some (bytes_of found.now)) }
+        ensures others { P.tells → (d : Dev) → d ≢ dev
+            → (disk_now (P.view self.new.plant) d).bytes ≡ (disk_now (P.view self.old.plant) d).bytes }
         ensures apart { P.tells → OnCopies (P.view self.old.plant) (P.view self.new.plant) }
         ensures both { IsErrOf result PairNoBothLost → IsBothLost self.new.pair.first.alive self.new.pair.second.alive }
         ensures ok { OnOk result (SomeAlive self.new.pair.first.alive self.new.pair.second.alive) }
@@ -202,23 +251,38 @@ impl<P: Plant + Drop, C: Steady + Drop> Complex<P, C> {
     // Each copy that counts as alive gets the pages found.
     #[tactic(auto, using(crate::proofs::Counted::counts_none, crate::proofs::Counted::counts_first, crate::proofs::Counted::counts_second, crate::proofs::Apart::on_none))]
     fn bring(&mut self, by: MemberId, found: &[Page]) -> Result<(), PairNo>
-        requires chosen { Chosen C.reads P.tells (run self.old.base (kept_all self.old.journal.batches ++ entries_in self.old.current)) (entries_in self.old.current) self.old.level self.old.pair.first.alive (C.count self.old.pair.first.copy) (C.room self.old.pair.first.copy) self.old.first (disk_now (P.view self.old.plant) Ckpt1).bytes self.old.pair.second.alive (C.count self.old.pair.second.copy) (C.room self.old.pair.second.copy) self.old.second (disk_now (P.view self.old.plant) Ckpt2).bytes found.now }
+        requires chosen { Chosen C.reads P.tells
+            (run self.old.base (kept_all self.old.journal.batches ++ entries_in self.old.current))
+            (entries_in self.old.current) self.old.level self.old.pair.first.alive (C.count self.old.pair.first.copy)
+            (C.room self.old.pair.first.copy) self.old.first (disk_now (P.view self.old.plant) Ckpt1).bytes
+            self.old.pair.second.alive (C.count self.old.pair.second.copy) (C.room self.old.pair.second.copy)
+            self.old.second (disk_now (P.view self.old.plant) Ckpt2).bytes found.now }
         ensures frame { parts_of self.new ≡ with_copies (parts_of self.new) (parts_of self.old) }
         ensures goes { Goes (P.view self.old.plant) (P.view self.new.plant) }
         ensures apart { P.tells → OnCopies (P.view self.old.plant) (P.view self.new.plant) }
-        ensures counts { KeepsCounts by.0 self.old.pair.first.alive self.new.pair.first.alive self.old.pair.second.alive self.new.pair.second.alive (pair_stopped result) (P.view self.old.plant) (P.view self.new.plant) }
-        ensures halted { IsErrOf result PairNoHalted → Rose ((P.view self.old.plant).stops by.0) ((P.view self.new.plant).stops by.0) }
+        ensures counts { KeepsCounts by.0 self.old.pair.first.alive self.new.pair.first.alive self.old.pair.second.alive
+            self.new.pair.second.alive (pair_stopped result) (P.view self.old.plant) (P.view self.new.plant) }
+        ensures halted { IsErrOf result PairNoHalted
+            → Rose ((P.view self.old.plant).stops by.0) ((P.view self.new.plant).stops by.0) }
         ensures both { IsErrOf result PairNoBothLost → IsBothLost self.new.pair.first.alive self.new.pair.second.alive }
         ensures ok { OnOk result (SomeAlive self.new.pair.first.alive self.new.pair.second.alive) }
         ensures as_many1 { self.new.pair.first.alive ≡ true → length found.now ≡ C.count self.new.pair.first.copy }
         ensures as_many2 { self.new.pair.second.alive ≡ true → length found.now ≡ C.count self.new.pair.second.copy }
-        ensures first { OnOk result (self.new.pair.first.alive ≡ true → HasFound C.reads P.tells self.old.level self.new.first (disk_now (P.view self.new.plant) Ckpt1).bytes found.now) }
-        ensures second { OnOk result (self.new.pair.second.alive ≡ true → HasFound C.reads P.tells self.old.level self.new.second (disk_now (P.view self.new.plant) Ckpt2).bytes found.now) }
+        ensures first { OnOk result (self.new.pair.first.alive ≡ true
+            → HasFound C.reads P.tells self.old.level self.new.first (disk_now (P.view self.new.plant) Ckpt1).bytes
+            found.now) }
+        ensures second { OnOk result (self.new.pair.second.alive ≡ true
+            → HasFound C.reads P.tells self.old.level self.new.second (disk_now (P.view self.new.plant) Ckpt2).bytes
+            found.now) }
         ensures not_both { IsErrOf result PairNoBothLost → ⊥ }
-        ensures room1 { self.new.pair.first.alive ≡ false → self.old.pair.first.alive ≡ false → self.new.pair.first.copy ≡ self.old.pair.first.copy }
-        ensures room2 { self.new.pair.second.alive ≡ false → self.old.pair.second.alive ≡ false → self.new.pair.second.copy ≡ self.old.pair.second.copy }
-        ensures failed1 { self.old.pair.first.alive ≡ true → self.new.pair.first.alive ≡ false → Rose ((P.view self.old.plant).faults (Disk Ckpt1)) ((P.view self.new.plant).faults (Disk Ckpt1)) }
-        ensures failed2 { self.old.pair.second.alive ≡ true → self.new.pair.second.alive ≡ false → Rose ((P.view self.old.plant).faults (Disk Ckpt2)) ((P.view self.new.plant).faults (Disk Ckpt2)) }
+        ensures room1 { self.new.pair.first.alive ≡ false → self.old.pair.first.alive ≡ false
+            → self.new.pair.first.copy ≡ self.old.pair.first.copy }
+        ensures room2 { self.new.pair.second.alive ≡ false → self.old.pair.second.alive ≡ false
+            → self.new.pair.second.copy ≡ self.old.pair.second.copy }
+        ensures failed1 { self.old.pair.first.alive ≡ true → self.new.pair.first.alive ≡ false
+            → Rose ((P.view self.old.plant).faults (Disk Ckpt1)) ((P.view self.new.plant).faults (Disk Ckpt1)) }
+        ensures failed2 { self.old.pair.second.alive ≡ true → self.new.pair.second.alive ≡ false
+            → Rose ((P.view self.old.plant).faults (Disk Ckpt2)) ((P.view self.new.plant).faults (Disk Ckpt2)) }
     {
         if pages_level(found) == self.level {
             return Ok(());
@@ -239,7 +303,8 @@ impl<P: Plant + Drop, C: Steady + Drop> Complex<P, C> {
         requires next { P.tells → reached ≡ self.old.level + 1 }
         requires first { self.old.pair.first.alive ≡ true → self.old.first ≡ AtOpened }
         requires second { self.old.pair.second.alive ≡ true → self.old.second ≡ AtOpened }
-        ensures { parts_of self.new ≡ record (parts_of self.old) { first = AtBefore; second = AtBefore; level = reached } }
+        ensures { parts_of self.new ≡ record (parts_of self.old)
+            { first = AtBefore; second = AtBefore; level = reached } }
     {
         self.first = Place::Before;
         self.second = Place::Before;
@@ -262,7 +327,8 @@ impl<P: Plant + Drop, C: Steady + Drop> Complex<P, C> {
         } }
         ensures unplaced { IsSome self.old.current → self.new.placed ≡ false }
         ensures still_placed { self.old.current ≡ None → self.new.placed ≡ self.old.placed }
-        ensures fated { IsFatedBy reached self.old.level (P.view self.old.plant).now self.old.current self.old.journal.batches self.new.journal.batches }
+        ensures fated { IsFatedBy reached self.old.level (P.view self.old.plant).now self.old.current
+            self.old.journal.batches self.new.journal.batches }
         ensures first { self.new.pair.first.alive ≡ true → self.new.first ≡ AtBefore }
         ensures second { self.new.pair.second.alive ≡ true → self.new.second ≡ AtBefore }
     {
@@ -275,16 +341,16 @@ impl<P: Plant + Drop, C: Steady + Drop> Complex<P, C> {
         }
     }
 
-    /// Finds out what became of a batch in flight, which is of another member than the one that holds the lock and isn't
-    /// stopped: syncs and reads both copies, brings the one that lags up to the other, and hands back the pages that both then
-    /// have. The batch is kept where the pages have it, and else it is dropped; one that is reserved and hasn't begun is given
-    /// up. The pages are those of greatest level, those of CKPT1 on a tie. A copy that can't be read, or whose pages don't fit
-    /// them, is lost.
+    /// Finds out what became of a batch in flight, which is of another member than the one that holds the lock and
+    /// isn't stopped: syncs and reads both copies, brings the one that lags up to the other, and hands back the pages
+    /// that both then have. The batch is kept where the pages have it, and else it is dropped; one that is reserved and
+    /// hasn't begun is given up. The pages are those of greatest level, those of CKPT1 on a tie. A copy that can't be
+    /// read, or whose pages don't fit them, is lost.
     ///
     /// A batch that was in flight has no place after that; without one the place of a batch to come stays.
     ///
-    /// BothLost comes only where both copies count as lost at the end of the call, Halted only where the member was stopped
-    /// in it. After an error a batch in flight still is, in its place.
+    /// BothLost comes only where both copies count as lost at the end of the call, Halted only where the member was
+    /// stopped in it. After an error a batch in flight still is, in its place.
     pub fn recover(&mut self, alloc: Global, by: MemberId) -> Result<List<Page>, RecoverNo>
         requires may { MayAct self.old.book by }
         requires others { IsOfOther self.old.current by }
@@ -295,30 +361,53 @@ impl<P: Plant + Drop, C: Steady + Drop> Complex<P, C> {
         ensures reserved { self.new.reserved ≡ None }
         ensures goes { Goes (P.view self.old.plant) (P.view self.new.plant) }
         ensures apart { P.tells → OnCopies (P.view self.old.plant) (P.view self.new.plant) }
-        ensures counts { KeepsCounts by.0 self.old.pair.first.alive self.new.pair.first.alive self.old.pair.second.alive self.new.pair.second.alive (recover_stopped result) (P.view self.old.plant) (P.view self.new.plant) }
-        ensures halted { IsErrOf result RecoverNoHalted → Rose ((P.view self.old.plant).stops by.0) ((P.view self.new.plant).stops by.0) }
-        ensures both { IsErrOf result RecoverNoBothLost → IsBothLost self.new.pair.first.alive self.new.pair.second.alive }
-        ensures err { OnErr result ((self.new.journal ≡ self.old.journal) × (self.new.current ≡ self.old.current) × (self.new.level ≡ self.old.level)) }
+        ensures counts { KeepsCounts by.0 self.old.pair.first.alive self.new.pair.first.alive self.old.pair.second.alive
+            self.new.pair.second.alive (recover_stopped result) (P.view self.old.plant) (P.view self.new.plant) }
+        ensures halted { IsErrOf result RecoverNoHalted
+            → Rose ((P.view self.old.plant).stops by.0) ((P.view self.new.plant).stops by.0) }
+        ensures both { IsErrOf result RecoverNoBothLost
+            → IsBothLost self.new.pair.first.alive self.new.pair.second.alive }
+        ensures err { OnErr result ((self.new.journal ≡ self.old.journal) × (self.new.current ≡ self.old.current)
+            × (self.new.level ≡ self.old.level)) }
         ensures ok { OnOk result (SomeAlive self.new.pair.first.alive self.new.pair.second.alive) }
         ensures none { OnOk result (self.new.current ≡ None) }
-        ensures fated { IfOk result (λ found. IsFatedBy (level (bytes_of found)) self.old.level (P.view self.new.plant).now self.old.current self.old.journal.batches self.new.journal.batches) }
+        ensures fated { IfOk result (λ found.
+            IsFatedBy (level (bytes_of found)) self.old.level (P.view self.new.plant).now self.old.current
+            self.old.journal.batches self.new.journal.batches) }
         ensures level { IfOk result (λ found. self.new.level ≡ level (bytes_of found)) }
         ensures first { OnOk result (self.new.pair.first.alive ≡ true → self.new.first ≡ AtBefore) }
         ensures second { OnOk result (self.new.pair.second.alive ≡ true → self.new.second ≡ AtBefore) }
-        ensures as_many1 { IfOk result (λ found. self.new.pair.first.alive ≡ true → length found ≡ C.count self.new.pair.first.copy) }
-        ensures as_many2 { IfOk result (λ found. self.new.pair.second.alive ≡ true → length found ≡ C.count self.new.pair.second.copy) }
-        ensures reads1 { IfOk result (λ found. P.tells → self.new.pair.first.alive ≡ true → C.reads (disk_now (P.view self.new.plant) Ckpt1).bytes ≡ Some (bytes_of found)) }
-        ensures reads2 { IfOk result (λ found. P.tells → self.new.pair.second.alive ≡ true → C.reads (disk_now (P.view self.new.plant) Ckpt2).bytes ≡ Some (bytes_of found)) }
-        ensures stands { IfOk result (λ found. P.tells → ∥ StandFor (run self.new.base (kept_all self.new.journal.batches)) (bytes_of found) ∥₁) }
-        ensures picked { IfOk result (λ found. P.tells → IsPicked C.reads (disk_now (P.view self.old.plant) Ckpt1).bytes (disk_now (P.view self.old.plant) Ckpt2).bytes
-            (self.old.pair.first.alive ≡ true → Rose ((P.view self.old.plant).faults (Disk Ckpt1)) ((P.view self.new.plant).faults (Disk Ckpt1)))
-            (self.old.pair.second.alive ≡ true → Rose ((P.view self.old.plant).faults (Disk Ckpt2)) ((P.view self.new.plant).faults (Disk Ckpt2))) found) }
-        ensures left1 { IfOk result (λ found. P.tells → self.old.pair.first.alive ≡ true → self.new.pair.first.alive ≡ false
-            → Rose ((P.view self.old.plant).faults (Disk Ckpt1)) ((P.view self.new.plant).faults (Disk Ckpt1)) ⊎ WasUnfit C.reads (disk_now (P.view self.old.plant) Ckpt1).bytes self.old.level (C.room self.new.pair.first.copy) found) }
-        ensures left2 { IfOk result (λ found. P.tells → self.old.pair.second.alive ≡ true → self.new.pair.second.alive ≡ false
-            → Rose ((P.view self.old.plant).faults (Disk Ckpt2)) ((P.view self.new.plant).faults (Disk Ckpt2)) ⊎ WasUnfit C.reads (disk_now (P.view self.old.plant) Ckpt2).bytes self.old.level (C.room self.new.pair.second.copy) found) }
-        ensures both_failed1 { IsErrOf result RecoverNoBothLost → P.tells → self.old.pair.first.alive ≡ true → Rose ((P.view self.old.plant).faults (Disk Ckpt1)) ((P.view self.new.plant).faults (Disk Ckpt1)) }
-        ensures both_failed2 { IsErrOf result RecoverNoBothLost → P.tells → self.old.pair.second.alive ≡ true → Rose ((P.view self.old.plant).faults (Disk Ckpt2)) ((P.view self.new.plant).faults (Disk Ckpt2)) }
+        ensures as_many1 { IfOk result
+            (λ found. self.new.pair.first.alive ≡ true → length found ≡ C.count self.new.pair.first.copy) }
+        ensures as_many2 { IfOk result
+            (λ found. self.new.pair.second.alive ≡ true → length found ≡ C.count self.new.pair.second.copy) }
+        ensures reads1 { IfOk result (λ found. P.tells → self.new.pair.first.alive ≡ true
+            → C.reads (disk_now (P.view self.new.plant) Ckpt1).bytes ≡ Some (bytes_of found)) }
+        ensures reads2 { IfOk result (λ found. P.tells → self.new.pair.second.alive ≡ true
+            → C.reads (disk_now (P.view self.new.plant) Ckpt2).bytes ≡ Some (bytes_of found)) }
+        ensures stands { IfOk result (λ found. P.tells
+            → ∥ StandFor (run self.new.base (kept_all self.new.journal.batches)) (bytes_of found) ∥₁) }
+        ensures picked { IfOk result (λ found. P.tells
+            → IsPicked C.reads (disk_now (P.view self.old.plant) Ckpt1).bytes
+            (disk_now (P.view self.old.plant) Ckpt2).bytes
+            (self.old.pair.first.alive ≡ true
+            → Rose ((P.view self.old.plant).faults (Disk Ckpt1)) ((P.view self.new.plant).faults (Disk Ckpt1)))
+            (self.old.pair.second.alive ≡ true
+            → Rose ((P.view self.old.plant).faults (Disk Ckpt2)) ((P.view self.new.plant).faults (Disk Ckpt2))) found) }
+        ensures left1 { IfOk result (λ found. P.tells → self.old.pair.first.alive ≡ true
+            → self.new.pair.first.alive ≡ false
+            → Rose ((P.view self.old.plant).faults (Disk Ckpt1)) ((P.view self.new.plant).faults (Disk Ckpt1))
+            ⊎ WasUnfit C.reads (disk_now (P.view self.old.plant) Ckpt1).bytes self.old.level
+            (C.room self.new.pair.first.copy) found) }
+        ensures left2 { IfOk result (λ found. P.tells → self.old.pair.second.alive ≡ true
+            → self.new.pair.second.alive ≡ false
+            → Rose ((P.view self.old.plant).faults (Disk Ckpt2)) ((P.view self.new.plant).faults (Disk Ckpt2))
+            ⊎ WasUnfit C.reads (disk_now (P.view self.old.plant) Ckpt2).bytes self.old.level
+            (C.room self.new.pair.second.copy) found) }
+        ensures both_failed1 { IsErrOf result RecoverNoBothLost → P.tells → self.old.pair.first.alive ≡ true
+            → Rose ((P.view self.old.plant).faults (Disk Ckpt1)) ((P.view self.new.plant).faults (Disk Ckpt1)) }
+        ensures both_failed2 { IsErrOf result RecoverNoBothLost → P.tells → self.old.pair.second.alive ≡ true
+            → Rose ((P.view self.old.plant).faults (Disk Ckpt2)) ((P.view self.new.plant).faults (Disk Ckpt2)) }
         ensures frame { OnOk result (parts_of self.new ≡ record (with_copies (parts_of self.new) (parts_of self.old)) {
           batches = self.new.journal.batches;
           current = None;
@@ -326,7 +415,8 @@ impl<P: Plant + Drop, C: Steady + Drop> Complex<P, C> {
           placed = self.new.placed;
           level = self.new.level;
         }) }
-        ensures frame_err { OnErr result (parts_of self.new ≡ record (with_copies (parts_of self.new) (parts_of self.old)) { reserved = None }) }
+        ensures frame_err { OnErr result
+            (parts_of self.new ≡ record (with_copies (parts_of self.new) (parts_of self.old)) { reserved = None }) }
         ensures unplaced { OnOk result (IsSome self.old.current → self.new.placed ≡ false) }
         ensures still_placed { OnOk result (self.old.current ≡ None → self.new.placed ≡ self.old.placed) }
     {

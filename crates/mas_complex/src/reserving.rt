@@ -27,10 +27,15 @@ impl<P: Plant + Drop, C: Steady + Drop> Complex<P, C> {
     fn add_place(&mut self, alloc: Global) -> Result<(), NoMemory>
         requires none { self.old.placed ≡ false }
         ensures pair { self.new.pair ≡ self.old.pair }
-        ensures placed { OnOk result (parts_of self.new ≡ record (parts_of self.old) { batches = placed_at (P.view self.old.plant).now false self.old.journal.batches; placed = true }) }
+        ensures placed { OnOk result (parts_of self.new
+            ≡ record (parts_of self.old) {
+              batches = placed_at (P.view self.old.plant).now false self.old.journal.batches;
+              placed = true;
+            }) }
         ensures none { OnErr result (parts_of self.new ≡ parts_of self.old) }
         ensures kept { kept_all self.new.journal.batches ≡ kept_all self.old.journal.batches }
-        ensures grown { OnOk result ((place : Batch) × (self.new.journal.batches ≡ self.old.journal.batches ++ place ∷ []) × IsPlace place) }
+        ensures grown { OnOk result ((place : Batch)
+            × (self.new.journal.batches ≡ self.old.journal.batches ++ place ∷ []) × IsPlace place) }
     {
         let place = empty_place(alloc, self.plant.now());
         push_place(&mut self.journal.batches, place)?;
@@ -38,9 +43,9 @@ impl<P: Plant + Drop, C: Steady + Drop> Complex<P, C> {
         Ok(())
     }
 
-    /// The batch to come gets its place in the journal. It has an entry, each is of the member that holds the lock, or of the
-    /// operator where nobody does, and nothing may be in flight. A batch that was reserved before and hasn't begun is given
-    /// up.
+    /// The batch to come gets its place in the journal. It has an entry, each is of the member that holds the lock, or
+    /// of the operator where nobody does, and nothing may be in flight. A batch that was reserved before and hasn't
+    /// begun is given up.
     ///
     /// NoMemory comes where the place can't be had, also where the journal has 2^40 batches; the value is as it was.
     pub fn reserve(&mut self, alloc: Global, entries: List<Entry>) -> Result<(), NoMemory>
@@ -61,10 +66,12 @@ impl<P: Plant + Drop, C: Steady + Drop> Complex<P, C> {
         ensures err { OnErr result ((self.new.journal ≡ self.old.journal) × (self.new.reserved ≡ self.old.reserved)) }
         ensures reserved { OnOk result (self.new.reserved ≡ Some entries) }
         ensures placed { OnOk result (self.new.placed ≡ true) }
-        ensures grown { OnOk result (self.old.placed ≡ false → (place : Batch) × (self.new.journal.batches ≡ self.old.journal.batches ++ place ∷ []) × IsPlace place) }
+        ensures grown { OnOk result (self.old.placed ≡ false → (place : Batch)
+            × (self.new.journal.batches ≡ self.old.journal.batches ++ place ∷ []) × IsPlace place) }
         ensures same { self.old.placed ≡ true → self.new.journal ≡ self.old.journal }
         ensures unplaced { OnErr result (self.new.placed ≡ self.old.placed) }
-        ensures frame { OnOk result (parts_of self.new ≡ reserved_in (P.view self.old.plant).now entries (parts_of self.old)) }
+        ensures frame { OnOk result (parts_of self.new
+            ≡ reserved_in (P.view self.old.plant).now entries (parts_of self.old)) }
         ensures none { OnErr result (parts_of self.new ≡ parts_of self.old) }
     {
         if !self.placed {
@@ -77,13 +84,18 @@ impl<P: Plant + Drop, C: Steady + Drop> Complex<P, C> {
     // The reserved batch begins.
     fn begin(&mut self, by: MemberId)
         requires none { self.old.current ≡ None }
-        requires replied { P.tells → ∥ HaveReplies (run self.old.base (kept_all self.old.journal.batches)) (entries_reserved self.old.reserved) ∥₁ }
+        requires replied { P.tells → ∥ HaveReplies (run self.old.base (kept_all self.old.journal.batches))
+            (entries_reserved self.old.reserved) ∥₁ }
         requires own { All (λ e. e.by ≡ by) (entries_reserved self.old.reserved) }
-        requires allowed { P.tells → MayBegin self.old.base self.old.journal.batches self.old.printed (entries_reserved self.old.reserved) }
+        requires allowed { P.tells → MayBegin self.old.base self.old.journal.batches self.old.printed
+            (entries_reserved self.old.reserved) }
         requires first { self.old.pair.first.alive ≡ true → self.old.first ≡ AtBefore }
         requires second { self.old.pair.second.alive ≡ true → self.old.second ≡ AtBefore }
-        requires untold { P.tells → IsUntold (setting C.reads self.old.base self.old.since) (P.view self.old.plant) (entries_reserved self.old.reserved) }
-        requires texts { P.tells → ∥ HasTexts (lost_now (P.view self.old.plant)) (spools_at (P.view self.old.plant) (P.view self.old.plant).now) self.old.base.config.groups (run self.old.base (kept_all self.old.journal.batches ++ entries_reserved self.old.reserved)) ∥₁ }
+        requires untold { P.tells → IsUntold (setting C.reads self.old.base self.old.since) (P.view self.old.plant)
+            (entries_reserved self.old.reserved) }
+        requires texts { P.tells → ∥ HasTexts (lost_now (P.view self.old.plant))
+            (spools_at (P.view self.old.plant) (P.view self.old.plant).now) self.old.base.config.groups
+            (run self.old.base (kept_all self.old.journal.batches ++ entries_reserved self.old.reserved)) ∥₁ }
         ensures { parts_of self.new ≡ begun_in (P.view self.old.plant).now by (parts_of self.old) }
     {
         let first = self.plant.now();
@@ -103,11 +115,19 @@ impl<P: Plant + Drop, C: Steady + Drop> Complex<P, C> {
     pub(crate) fn begin_first(&mut self, by: MemberId)
         requires first { self.old.current ≡ None → self.old.pair.first.alive ≡ true → self.old.first ≡ AtBefore }
         requires second { self.old.current ≡ None → self.old.pair.second.alive ≡ true → self.old.second ≡ AtBefore }
-        requires replied { P.tells → self.old.current ≡ None → ∥ HaveReplies (run self.old.base (kept_all self.old.journal.batches)) (entries_reserved self.old.reserved) ∥₁ }
+        requires replied { P.tells → self.old.current ≡ None
+            → ∥ HaveReplies (run self.old.base (kept_all self.old.journal.batches)) (entries_reserved self.old.reserved)
+            ∥₁ }
         requires own { self.old.current ≡ None → All (λ e. e.by ≡ by) (entries_reserved self.old.reserved) }
-        requires allowed { P.tells → self.old.current ≡ None → MayBegin self.old.base self.old.journal.batches self.old.printed (entries_reserved self.old.reserved) }
-        requires untold { P.tells → self.old.current ≡ None → IsUntold (setting C.reads self.old.base self.old.since) (P.view self.old.plant) (entries_reserved self.old.reserved) }
-        requires texts { P.tells → self.old.current ≡ None → ∥ HasTexts (lost_now (P.view self.old.plant)) (spools_at (P.view self.old.plant) (P.view self.old.plant).now) self.old.base.config.groups (run self.old.base (kept_all self.old.journal.batches ++ entries_reserved self.old.reserved)) ∥₁ }
+        requires allowed { P.tells → self.old.current ≡ None
+            → MayBegin self.old.base self.old.journal.batches self.old.printed (entries_reserved self.old.reserved) }
+        requires untold { P.tells → self.old.current ≡ None
+            → IsUntold (setting C.reads self.old.base self.old.since) (P.view self.old.plant)
+            (entries_reserved self.old.reserved) }
+        requires texts { P.tells → self.old.current ≡ None
+            → ∥ HasTexts (lost_now (P.view self.old.plant))
+            (spools_at (P.view self.old.plant) (P.view self.old.plant).now) self.old.base.config.groups
+            (run self.old.base (kept_all self.old.journal.batches ++ entries_reserved self.old.reserved)) ∥₁ }
         ensures { parts_of self.new ≡ begun_in (P.view self.old.plant).now by (parts_of self.old) }
     {
         if self.current.is_some() {
@@ -116,20 +136,27 @@ impl<P: Plant + Drop, C: Steady + Drop> Complex<P, C> {
         self.begin(by);
     }
 
-    /// Keeps the reserved batch without a write: pages that stand for the queue stand for it with the batch too, whose texts stand on
-    /// the spool volumes as `log` asks it, and its entries, each of the member that acts, have their replies.
+    /// Keeps the reserved batch without a write: pages that stand for the queue stand for it with the batch too, whose
+    /// texts stand on the spool volumes as `log` asks it, and its entries, each of the member that acts, have their
+    /// replies.
     pub fn keep_same(&mut self, by: MemberId)
         requires may { MayAct self.old.book by }
         requires own { All (λ e. e.by ≡ by) (entries_reserved self.old.reserved) }
         requires none { self.old.current ≡ None }
         requires reserved { IsSome self.old.reserved }
-        requires replied { P.tells → ∥ HaveReplies (run self.old.base (kept_all self.old.journal.batches)) (entries_reserved self.old.reserved) ∥₁ }
-        requires allowed { P.tells → MayBegin self.old.base self.old.journal.batches self.old.printed (entries_reserved self.old.reserved) }
+        requires replied { P.tells → ∥ HaveReplies (run self.old.base (kept_all self.old.journal.batches))
+            (entries_reserved self.old.reserved) ∥₁ }
+        requires allowed { P.tells → MayBegin self.old.base self.old.journal.batches self.old.printed
+            (entries_reserved self.old.reserved) }
         requires first { self.old.pair.first.alive ≡ true → self.old.first ≡ AtBefore }
         requires second { self.old.pair.second.alive ≡ true → self.old.second ≡ AtBefore }
-        requires untold { P.tells → IsUntold (setting C.reads self.old.base self.old.since) (P.view self.old.plant) (entries_reserved self.old.reserved) }
-        requires texts { P.tells → ∥ HasTexts (lost_now (P.view self.old.plant)) (spools_at (P.view self.old.plant) (P.view self.old.plant).now) self.old.base.config.groups (run self.old.base (kept_all self.old.journal.batches ++ entries_reserved self.old.reserved)) ∥₁ }
-        requires queue { P.tells → ∥ AreToldAlike (run self.old.base (kept_all self.old.journal.batches)) (run self.old.base (kept_all self.old.journal.batches ++ entries_reserved self.old.reserved)) ∥₁ }
+        requires untold { P.tells → IsUntold (setting C.reads self.old.base self.old.since) (P.view self.old.plant)
+            (entries_reserved self.old.reserved) }
+        requires texts { P.tells → ∥ HasTexts (lost_now (P.view self.old.plant))
+            (spools_at (P.view self.old.plant) (P.view self.old.plant).now) self.old.base.config.groups
+            (run self.old.base (kept_all self.old.journal.batches ++ entries_reserved self.old.reserved)) ∥₁ }
+        requires queue { P.tells → ∥ AreToldAlike (run self.old.base (kept_all self.old.journal.batches))
+            (run self.old.base (kept_all self.old.journal.batches ++ entries_reserved self.old.reserved)) ∥₁ }
         ensures plant { self.new.plant ≡ self.old.plant }
         ensures pair { self.new.pair ≡ self.old.pair }
         ensures base { self.new.base ≡ self.old.base }
@@ -140,7 +167,10 @@ impl<P: Plant + Drop, C: Steady + Drop> Complex<P, C> {
         ensures first { self.new.first ≡ self.old.first }
         ensures second { self.new.second ≡ self.old.second }
         ensures level { self.new.level ≡ self.old.level }
-        ensures fated { (entries : List Entry) → self.old.reserved ≡ Some entries → self.new.journal.batches ≡ with_last (fated FateKept (P.view self.old.plant).now (begun (P.view self.old.plant).now by entries)) self.old.journal.batches }
+        ensures fated { (entries : List Entry) → self.old.reserved ≡ Some entries
+            → self.new.journal.batches ≡ with_last
+            (fated FateKept (P.view self.old.plant).now (begun (P.view self.old.plant).now by entries))
+            self.old.journal.batches }
         ensures none { self.new.reserved ≡ None }
         ensures unplaced { self.new.placed ≡ false }
         ensures frame { parts_of self.new ≡ kept_same_in (P.view self.old.plant).now by (parts_of self.old) }

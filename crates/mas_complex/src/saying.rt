@@ -16,11 +16,12 @@ use mas_types::MemberId;
 use spool_disk::{Act, Plant};
 
 impl<P: Plant + Drop, C: Steady + Drop> Complex<P, C> {
-    /// Says a line on the console, of a member that isn't stopped. One that tells a step may be said once each entry of the
-    /// step is kept.
+    /// Says a line on the console, of a member that isn't stopped. One that tells a step may be said once each entry of
+    /// the step is kept.
     pub fn say(&mut self, by: MemberId, line: &[u8]) -> Act
         requires up { IsUp self.old.book by }
-        requires told { P.tells → (m : MemberId) (s : ℕ) → Closes line.now m s → StepIsKept (self.old.journal.batches ++ in_flight self.old.current) (P.view self.old.plant).now m s }
+        requires told { P.tells → (m : MemberId) (s : ℕ) → Closes line.now m s
+            → StepIsKept (self.old.journal.batches ++ in_flight self.old.current) (P.view self.old.plant).now m s }
         ensures pair { self.new.pair ≡ self.old.pair }
         ensures base { self.new.base ≡ self.old.base }
         ensures since { self.new.since ≡ self.old.since }

@@ -28,13 +28,23 @@ impl<P: Plant + Drop, C: Steady + Drop> Complex<P, C> {
     fn look_on(&mut self, alloc: Global, by: MemberId, dev: Dev) -> Result<Look, LookNo>
         requires ckpt { IsCkpt dev }
         ensures frame { parts_of self.new ≡ with_copy dev (parts_of self.new) (parts_of self.old) }
-        ensures other { other dev self.new.pair.first self.new.pair.second ≡ other dev self.old.pair.first self.old.pair.second }
+        ensures other { other dev self.new.pair.first self.new.pair.second
+            ≡ other dev self.old.pair.first self.old.pair.second }
         ensures other_place { other dev self.new.first self.new.second ≡ other dev self.old.first self.old.second }
-        ensures acted { Acted by.0 dev (pick dev self.old.pair.first self.old.pair.second).alive (pick dev self.new.pair.first self.new.pair.second).alive (look_stopped result) (P.view self.old.plant) (P.view self.new.plant) }
+        ensures acted { Acted by.0 dev (pick dev self.old.pair.first self.old.pair.second).alive
+            (pick dev self.new.pair.first self.new.pair.second).alive (look_stopped result) (P.view self.old.plant)
+            (P.view self.new.plant) }
         ensures place { IsPlaceSeen result self.old.level (pick dev self.new.first self.new.second) }
-        ensures seen { IfOk result (λ look. WasSeen C.count C.room C.room_most C.ready C.reads C.rests P.tells dev (P.view self.new.plant) (pick dev self.old.pair.first self.old.pair.second).copy (pick dev self.new.pair.first self.new.pair.second).copy (pick dev self.new.pair.first self.new.pair.second).alive look) }
-        ensures next { IfOk result (λ look. P.tells → HasNext (run self.old.base (kept_all self.old.journal.batches ++ entries_in self.old.current)) (entries_in self.old.current) self.old.level (pick dev self.new.first self.new.second) look) }
-        ensures bytes { P.tells → (d : Dev) → (disk_now (P.view self.new.plant) d).bytes ≡ (disk_now (P.view self.old.plant) d).bytes }
+        ensures seen { IfOk result (λ look.
+            WasSeen C.count C.room C.room_most C.ready C.reads C.rests P.tells dev (P.view self.new.plant)
+            (pick dev self.old.pair.first self.old.pair.second).copy
+            (pick dev self.new.pair.first self.new.pair.second).copy
+            (pick dev self.new.pair.first self.new.pair.second).alive look) }
+        ensures next { IfOk result (λ look. P.tells
+            → HasNext (run self.old.base (kept_all self.old.journal.batches ++ entries_in self.old.current))
+            (entries_in self.old.current) self.old.level (pick dev self.new.first self.new.second) look) }
+        ensures bytes { P.tells → (d : Dev)
+            → (disk_now (P.view self.new.plant) d).bytes ≡ (disk_now (P.view self.old.plant) d).bytes }
         ensures apart { P.tells → OnCopies (P.view self.old.plant) (P.view self.new.plant) }
     {
         let done = self.pair.look(alloc, &mut self.plant, by, dev);
@@ -53,15 +63,28 @@ impl<P: Plant + Drop, C: Steady + Drop> Complex<P, C> {
     ) -> Result<Option<List<Page>>, LookNo>
         requires ckpt { IsCkpt dev }
         ensures frame { parts_of self.new ≡ with_copy dev (parts_of self.new) (parts_of self.old) }
-        ensures other { other dev self.new.pair.first self.new.pair.second ≡ other dev self.old.pair.first self.old.pair.second }
+        ensures other { other dev self.new.pair.first self.new.pair.second
+            ≡ other dev self.old.pair.first self.old.pair.second }
         ensures goes { Goes (P.view self.old.plant) (P.view self.new.plant) }
-        ensures halted { IsErrOf result LookNoHalted → Rose ((P.view self.old.plant).stops by.0) ((P.view self.new.plant).stops by.0) }
-        ensures seen { IfOk result (λ pages. IsOneSeen (run self.old.base (kept_all self.old.journal.batches ++ entries_in self.old.current)) (entries_in self.old.current) P.tells self.old.level (pick dev self.new.pair.first self.new.pair.second).alive (C.count (pick dev self.new.pair.first self.new.pair.second).copy) (pick dev self.new.first self.new.second) pages) }
-        ensures reads { IfOk result (λ pages. P.tells → ReadsSeen C.reads (disk_now (P.view self.new.plant) dev).bytes pages) }
-        ensures unseen { IfOk result (λ pages. P.tells → pages ≡ None → (pick dev self.old.pair.first self.old.pair.second).alive ≡ true → Rose ((P.view self.old.plant).faults (Disk dev)) ((P.view self.new.plant).faults (Disk dev))) }
-        ensures was_alive { (pick dev self.new.pair.first self.new.pair.second).alive ≡ true → (pick dev self.old.pair.first self.old.pair.second).alive ≡ true }
-        ensures counts { KeepsCounts by.0 self.old.pair.first.alive self.new.pair.first.alive self.old.pair.second.alive self.new.pair.second.alive (look_stopped result) (P.view self.old.plant) (P.view self.new.plant) }
-        ensures bytes { P.tells → (d : Dev) → (disk_now (P.view self.new.plant) d).bytes ≡ (disk_now (P.view self.old.plant) d).bytes }
+        ensures halted { IsErrOf result LookNoHalted
+            → Rose ((P.view self.old.plant).stops by.0) ((P.view self.new.plant).stops by.0) }
+        ensures seen { IfOk result (λ pages.
+            IsOneSeen (run self.old.base (kept_all self.old.journal.batches ++ entries_in self.old.current))
+            (entries_in self.old.current) P.tells self.old.level
+            (pick dev self.new.pair.first self.new.pair.second).alive
+            (C.count (pick dev self.new.pair.first self.new.pair.second).copy) (pick dev self.new.first self.new.second)
+            pages) }
+        ensures reads { IfOk result (λ pages. P.tells
+            → ReadsSeen C.reads (disk_now (P.view self.new.plant) dev).bytes pages) }
+        ensures unseen { IfOk result (λ pages. P.tells → pages ≡ None
+            → (pick dev self.old.pair.first self.old.pair.second).alive ≡ true
+            → Rose ((P.view self.old.plant).faults (Disk dev)) ((P.view self.new.plant).faults (Disk dev))) }
+        ensures was_alive { (pick dev self.new.pair.first self.new.pair.second).alive ≡ true
+            → (pick dev self.old.pair.first self.old.pair.second).alive ≡ true }
+        ensures counts { KeepsCounts by.0 self.old.pair.first.alive self.new.pair.first.alive self.old.pair.second.alive
+            self.new.pair.second.alive (look_stopped result) (P.view self.old.plant) (P.view self.new.plant) }
+        ensures bytes { P.tells → (d : Dev)
+            → (disk_now (P.view self.new.plant) d).bytes ≡ (disk_now (P.view self.old.plant) d).bytes }
         ensures apart { P.tells → OnCopies (P.view self.old.plant) (P.view self.new.plant) }
     {
         match self.look_on(alloc, by, dev)? {

@@ -93,10 +93,11 @@ fn write_group<P: Plant>(
 }
 
 impl<P: Plant + Drop, C: Steady + Drop> Complex<P, C> {
-    /// Reads the page of a group of the configuration, for a member that isn't stopped. It needs no lock. Where the page
-    /// doesn't lie within its volume, the act is one of no bytes at the volume's start, and `into` is as it was.
+    /// Reads the page of a group of the configuration, for a member that isn't stopped. It needs no lock. Where the
+    /// page doesn't lie within its volume, the act is one of no bytes at the volume's start, and `into` is as it was.
     ///
-    /// Failed comes only where the volume's faults rose, and it is lost then; Halted only where the member was stopped in it.
+    /// Failed comes only where the volume's faults rose, and it is lost then; Halted only where the member was stopped
+    /// in it.
     pub fn spool_read(&mut self, by: MemberId, group: GroupNo, into: &mut Page) -> Act
         requires up { IsUp self.old.book by }
         requires group { IsGroupOf self.old.base.config group }
@@ -112,9 +113,12 @@ impl<P: Plant + Drop, C: Steady + Drop> Complex<P, C> {
         ensures first { self.new.first ≡ self.old.first }
         ensures second { self.new.second ≡ self.old.second }
         ensures level { self.new.level ≡ self.old.level }
-        ensures acts { Acts by.0 (Disk (device_of self.old.base.config.groups group)) (P.view self.old.plant) (P.view self.new.plant) result }
-        ensures content { P.tells → ReadsGroup self.old.base.config.groups group (P.view self.old.plant) (P.view self.new.plant) into.new result }
-        ensures nowhere { is_within (P.view self.old.plant) self.old.base.config.groups group ≡ false → into.new ≡ into.old }
+        ensures acts { Acts by.0 (Disk (device_of self.old.base.config.groups group)) (P.view self.old.plant)
+            (P.view self.new.plant) result }
+        ensures content { P.tells → ReadsGroup self.old.base.config.groups group (P.view self.old.plant)
+            (P.view self.new.plant) into.new result }
+        ensures nowhere { is_within (P.view self.old.plant) self.old.base.config.groups group ≡ false
+            → into.new ≡ into.old }
         ensures frame { parts_of self.new ≡ record (parts_of self.old) { plant = self.new.plant } }
     {
         read_group(
@@ -127,17 +131,19 @@ impl<P: Plant + Drop, C: Steady + Drop> Complex<P, C> {
         )
     }
 
-    /// Writes the page of a group of the configuration, for a member that isn't stopped. It needs no lock. The group is the
-    /// member's, in the queue after the kept entries and in the one with those in flight, so no text of a deck or an output
-    /// stands in it. The page is unsynced until the volume is synced. Where it doesn't lie within its volume, the act is one
-    /// of no bytes at the volume's start.
+    /// Writes the page of a group of the configuration, for a member that isn't stopped. It needs no lock. The group is
+    /// the member's, in the queue after the kept entries and in the one with those in flight, so no text of a deck or
+    /// an output stands in it. The page is unsynced until the volume is synced. Where it doesn't lie within its volume,
+    /// the act is one of no bytes at the volume's start.
     ///
-    /// Failed comes only where the volume's faults rose, and it is lost then; Halted only where the member was stopped in it.
+    /// Failed comes only where the volume's faults rose, and it is lost then; Halted only where the member was stopped
+    /// in it.
     pub fn spool_write(&mut self, by: MemberId, group: GroupNo, bytes: &Page) -> Act
         requires up { IsUp self.old.book by }
         requires group { IsGroupOf self.old.base.config group }
         requires kept { P.tells → IsHeldBy by group (run self.old.base (kept_all self.old.journal.batches)) }
-        requires flying { P.tells → IsHeldBy by group (run self.old.base (kept_all self.old.journal.batches ++ entries_in self.old.current)) }
+        requires flying { P.tells → IsHeldBy by group
+            (run self.old.base (kept_all self.old.journal.batches ++ entries_in self.old.current)) }
         ensures pair { self.new.pair ≡ self.old.pair }
         ensures base { self.new.base ≡ self.old.base }
         ensures since { self.new.since ≡ self.old.since }
@@ -150,8 +156,10 @@ impl<P: Plant + Drop, C: Steady + Drop> Complex<P, C> {
         ensures first { self.new.first ≡ self.old.first }
         ensures second { self.new.second ≡ self.old.second }
         ensures level { self.new.level ≡ self.old.level }
-        ensures acts { Acts by.0 (Disk (device_of self.old.base.config.groups group)) (P.view self.old.plant) (P.view self.new.plant) result }
-        ensures content { P.tells → WritesGroup self.old.base.config.groups group (P.view self.old.plant) (P.view self.new.plant) bytes.now result }
+        ensures acts { Acts by.0 (Disk (device_of self.old.base.config.groups group)) (P.view self.old.plant)
+            (P.view self.new.plant) result }
+        ensures content { P.tells → WritesGroup self.old.base.config.groups group (P.view self.old.plant)
+            (P.view self.new.plant) bytes.now result }
         ensures frame { parts_of self.new ≡ record (parts_of self.old) { plant = self.new.plant } }
     {
         law_of_places();
@@ -165,10 +173,11 @@ impl<P: Plant + Drop, C: Steady + Drop> Complex<P, C> {
         )
     }
 
-    /// Syncs a spool volume of the configuration, or the one of the stream, for a member that isn't stopped. Nothing on it
-    /// is unsynced once that is done.
+    /// Syncs a spool volume of the configuration, or the one of the stream, for a member that isn't stopped. Nothing on
+    /// it is unsynced once that is done.
     ///
-    /// Failed comes only where the volume's faults rose, and it is lost then; Halted only where the member was stopped in it.
+    /// Failed comes only where the volume's faults rose, and it is lost then; Halted only where the member was stopped
+    /// in it.
     pub fn spool_sync(&mut self, by: MemberId, volume: u8) -> Act
         requires up { IsUp self.old.book by }
         requires volume { IsVolumeOf self.old.base.config volume }
@@ -191,10 +200,14 @@ impl<P: Plant + Drop, C: Steady + Drop> Complex<P, C> {
         self.plant.sync(by, Dev::Spool(volume))
     }
 
-    /// The texts of the queue after the kept batches stand on the spool volumes, all of them synced, but for those with a group on a
-    /// volume that is lost; and so do those of the queue with the batch in flight.
+    /// The texts of the queue after the kept batches stand on the spool volumes, all of them synced, except those with
+    /// a group on a volume that is lost; and so do those of the queue with the batch in flight.
     pub fn kept_texts(&self)
-        ensures kept { P.tells → ∥ HasTexts (lost_now (P.view self.now.plant)) (spools_at (P.view self.now.plant) (P.view self.now.plant).now) self.now.base.config.groups (run self.now.base (kept_all self.now.journal.batches)) ∥₁ }
-        ensures coming { P.tells → ∥ HasTexts (lost_now (P.view self.now.plant)) (spools_at (P.view self.now.plant) (P.view self.now.plant).now) self.now.base.config.groups (run self.now.base (kept_all self.now.journal.batches ++ entries_in self.now.current)) ∥₁ }
+        ensures kept { P.tells → ∥ HasTexts (lost_now (P.view self.now.plant))
+            (spools_at (P.view self.now.plant) (P.view self.now.plant).now) self.now.base.config.groups
+            (run self.now.base (kept_all self.now.journal.batches)) ∥₁ }
+        ensures coming { P.tells → ∥ HasTexts (lost_now (P.view self.now.plant))
+            (spools_at (P.view self.now.plant) (P.view self.now.plant).now) self.now.base.config.groups
+            (run self.now.base (kept_all self.now.journal.batches ++ entries_in self.now.current)) ∥₁ }
     {}
 }

@@ -40,26 +40,46 @@ impl<P: Plant + Drop, C: Steady + Drop> Complex<P, C> {
         changed: &[u16],
     ) -> Result<(), PairNo>
         requires ckpt { IsCkpt dev }
-        requires place { (pick dev self.old.pair.first self.old.pair.second).alive ≡ true → pick dev self.old.first self.old.second ≡ AtBefore }
-        requires room { (pick dev self.old.pair.first self.old.pair.second).alive ≡ true → 1 ≤ C.room (pick dev self.old.pair.first self.old.pair.second).copy }
-        requires as_many { (pick dev self.old.pair.first self.old.pair.second).alive ≡ true → length pages.now ≡ C.count (pick dev self.old.pair.first self.old.pair.second).copy }
-        requires changed { (pick dev self.old.pair.first self.old.pair.second).alive ≡ true → ArePages (C.count (pick dev self.old.pair.first self.old.pair.second).copy) changed.now }
-        requires covered { P.tells → (pick dev self.old.pair.first self.old.pair.second).alive ≡ true → (was : List ℕ) → C.reads (disk_now (P.view self.old.plant) dev).bytes ≡ Some was → Covers (C.count (pick dev self.old.pair.first self.old.pair.second).copy) changed.now was (bytes_of pages.now) }
+        requires place { (pick dev self.old.pair.first self.old.pair.second).alive ≡ true
+            → pick dev self.old.first self.old.second ≡ AtBefore }
+        requires room { (pick dev self.old.pair.first self.old.pair.second).alive ≡ true
+            → 1 ≤ C.room (pick dev self.old.pair.first self.old.pair.second).copy }
+        requires as_many { (pick dev self.old.pair.first self.old.pair.second).alive ≡ true
+            → length pages.now ≡ C.count (pick dev self.old.pair.first self.old.pair.second).copy }
+        requires changed { (pick dev self.old.pair.first self.old.pair.second).alive ≡ true
+            → ArePages (C.count (pick dev self.old.pair.first self.old.pair.second).copy) changed.now }
+        requires covered { P.tells → (pick dev self.old.pair.first self.old.pair.second).alive ≡ true → (was : List ℕ)
+            → C.reads (disk_now (P.view self.old.plant) dev).bytes ≡ Some was
+            → Covers (C.count (pick dev self.old.pair.first self.old.pair.second).copy) changed.now was
+            (bytes_of pages.now) }
         requires level { P.tells → level (bytes_of pages.now) ≡ self.old.level + 1 }
-        requires queue { P.tells → ∥ StandFor (run self.old.base (kept_all self.old.journal.batches ++ entries_in self.old.current)) (bytes_of pages.now) ∥₁ }
+        requires queue { P.tells → ∥ StandFor
+            (run self.old.base (kept_all self.old.journal.batches ++ entries_in self.old.current)) (bytes_of pages.now)
+            ∥₁ }
         requires some { P.tells → 1 ≤ length (entries_in self.old.current) }
-        requires same { P.tells → (other dev self.old.pair.first self.old.pair.second).alive ≡ true → HasNoOther (other dev self.old.first self.old.second) (C.behind (other dev self.old.pair.first self.old.pair.second).copy (disk_now (P.view self.old.plant) (other dev Ckpt1 Ckpt2)).bytes) (C.reads (disk_now (P.view self.old.plant) (other dev Ckpt1 Ckpt2)).bytes) (bytes_of pages.now) }
+        requires same { P.tells → (other dev self.old.pair.first self.old.pair.second).alive ≡ true
+            → HasNoOther (other dev self.old.first self.old.second)
+            (C.behind (other dev self.old.pair.first self.old.pair.second).copy
+            (disk_now (P.view self.old.plant) (other dev Ckpt1 Ckpt2)).bytes)
+            (C.reads (disk_now (P.view self.old.plant) (other dev Ckpt1 Ckpt2)).bytes) (bytes_of pages.now) }
         ensures frame { parts_of self.new ≡ with_copy dev (parts_of self.new) (parts_of self.old) }
         ensures place { IsPlaceAfter result AtPut (pick dev self.new.first self.new.second) }
         ensures other_place { other dev self.new.first self.new.second ≡ other dev self.old.first self.old.second }
-        ensures other { other dev self.new.pair.first self.new.pair.second ≡ other dev self.old.pair.first self.old.pair.second }
-        ensures count { C.count (pick dev self.new.pair.first self.new.pair.second).copy ≡ C.count (pick dev self.old.pair.first self.old.pair.second).copy }
-        ensures room { C.room (pick dev self.new.pair.first self.new.pair.second).copy ≡ C.room (pick dev self.old.pair.first self.old.pair.second).copy }
-        ensures acted { Acted by.0 dev (pick dev self.old.pair.first self.old.pair.second).alive (pick dev self.new.pair.first self.new.pair.second).alive (pair_stopped result) (P.view self.old.plant) (P.view self.new.plant) }
+        ensures other { other dev self.new.pair.first self.new.pair.second
+            ≡ other dev self.old.pair.first self.old.pair.second }
+        ensures count { C.count (pick dev self.new.pair.first self.new.pair.second).copy
+            ≡ C.count (pick dev self.old.pair.first self.old.pair.second).copy }
+        ensures room { C.room (pick dev self.new.pair.first self.new.pair.second).copy
+            ≡ C.room (pick dev self.old.pair.first self.old.pair.second).copy }
+        ensures acted { Acted by.0 dev (pick dev self.old.pair.first self.old.pair.second).alive
+            (pick dev self.new.pair.first self.new.pair.second).alive (pair_stopped result) (P.view self.old.plant)
+            (P.view self.new.plant) }
         ensures both { IsErrOf result PairNoBothLost → IsBothLost self.new.pair.first.alive self.new.pair.second.alive }
         ensures ok { OnOk result (SomeAlive self.new.pair.first.alive self.new.pair.second.alive) }
         ensures elsewhere { P.tells → Elsewhere dev (P.view self.old.plant) (P.view self.new.plant) }
-        ensures behind { OnOk result (P.tells → (pick dev self.new.pair.first self.new.pair.second).alive ≡ true → C.behind (pick dev self.new.pair.first self.new.pair.second).copy (disk_now (P.view self.new.plant) dev).bytes ≡ bytes_of pages.now) }
+        ensures behind { OnOk result (P.tells → (pick dev self.new.pair.first self.new.pair.second).alive ≡ true
+            → C.behind (pick dev self.new.pair.first self.new.pair.second).copy
+            (disk_now (P.view self.new.plant) dev).bytes ≡ bytes_of pages.now) }
     {
         let done = self.pair.put(&mut self.plant, by, dev, pages, changed);
         let place = place_after(&done, Place::Put);
@@ -70,19 +90,30 @@ impl<P: Plant + Drop, C: Steady + Drop> Complex<P, C> {
     // The gate before the pages that wait on one copy.
     pub(crate) fn open_on(&mut self, by: MemberId, dev: Dev) -> Result<(), PairNo>
         requires ckpt { IsCkpt dev }
-        requires place { (pick dev self.old.pair.first self.old.pair.second).alive ≡ true → pick dev self.old.first self.old.second ≡ AtPut }
-        requires room { (pick dev self.old.pair.first self.old.pair.second).alive ≡ true → 1 ≤ C.room (pick dev self.old.pair.first self.old.pair.second).copy }
+        requires place { (pick dev self.old.pair.first self.old.pair.second).alive ≡ true
+            → pick dev self.old.first self.old.second ≡ AtPut }
+        requires room { (pick dev self.old.pair.first self.old.pair.second).alive ≡ true
+            → 1 ≤ C.room (pick dev self.old.pair.first self.old.pair.second).copy }
         ensures frame { parts_of self.new ≡ with_copy dev (parts_of self.new) (parts_of self.old) }
         ensures place { IsPlaceAfter result AtOpened (pick dev self.new.first self.new.second) }
         ensures other_place { other dev self.new.first self.new.second ≡ other dev self.old.first self.old.second }
-        ensures other { other dev self.new.pair.first self.new.pair.second ≡ other dev self.old.pair.first self.old.pair.second }
-        ensures count { C.count (pick dev self.new.pair.first self.new.pair.second).copy ≡ C.count (pick dev self.old.pair.first self.old.pair.second).copy }
-        ensures room { OnOk result ((pick dev self.new.pair.first self.new.pair.second).alive ≡ true → C.room (pick dev self.new.pair.first self.new.pair.second).copy ≡ C.room_after (C.room (pick dev self.old.pair.first self.old.pair.second).copy)) }
-        ensures acted { Acted by.0 dev (pick dev self.old.pair.first self.old.pair.second).alive (pick dev self.new.pair.first self.new.pair.second).alive (pair_stopped result) (P.view self.old.plant) (P.view self.new.plant) }
+        ensures other { other dev self.new.pair.first self.new.pair.second
+            ≡ other dev self.old.pair.first self.old.pair.second }
+        ensures count { C.count (pick dev self.new.pair.first self.new.pair.second).copy
+            ≡ C.count (pick dev self.old.pair.first self.old.pair.second).copy }
+        ensures room { OnOk result ((pick dev self.new.pair.first self.new.pair.second).alive ≡ true
+            → C.room (pick dev self.new.pair.first self.new.pair.second).copy
+            ≡ C.room_after (C.room (pick dev self.old.pair.first self.old.pair.second).copy)) }
+        ensures acted { Acted by.0 dev (pick dev self.old.pair.first self.old.pair.second).alive
+            (pick dev self.new.pair.first self.new.pair.second).alive (pair_stopped result) (P.view self.old.plant)
+            (P.view self.new.plant) }
         ensures both { IsErrOf result PairNoBothLost → IsBothLost self.new.pair.first.alive self.new.pair.second.alive }
         ensures ok { OnOk result (SomeAlive self.new.pair.first.alive self.new.pair.second.alive) }
         ensures elsewhere { P.tells → Elsewhere dev (P.view self.old.plant) (P.view self.new.plant) }
-        ensures reads { OnOk result (P.tells → (pick dev self.new.pair.first self.new.pair.second).alive ≡ true → C.reads (disk_now (P.view self.new.plant) dev).bytes ≡ Some (C.behind (pick dev self.old.pair.first self.old.pair.second).copy (disk_now (P.view self.old.plant) dev).bytes)) }
+        ensures reads { OnOk result (P.tells → (pick dev self.new.pair.first self.new.pair.second).alive ≡ true
+            → C.reads (disk_now (P.view self.new.plant) dev).bytes
+            ≡ Some (C.behind (pick dev self.old.pair.first self.old.pair.second).copy
+            (disk_now (P.view self.old.plant) dev).bytes)) }
     {
         let done = self.pair.open_copy(&mut self.plant, by, dev);
         let place = place_after(&done, Place::Opened);
@@ -90,17 +121,18 @@ impl<P: Plant + Drop, C: Steady + Drop> Complex<P, C> {
         done
     }
 
-    /// Writes the pages of the batch to come, or in flight, behind the closed gate of one copy. The first call for a batch
-    /// begins it: it is in flight from the moment before the call on. On a copy that counts as lost nothing is written.
-    /// The member holds the lock, or is the operator while nobody does, and isn't stopped; the batch is its own.
+    /// Writes the pages of the batch to come, or in flight, behind the closed gate of one copy. The first call for a
+    /// batch begins it: it is in flight from the moment before the call on. On a copy that counts as lost nothing is
+    /// written. The member holds the lock, or is the operator while nobody does, and isn't stopped; the batch is its
+    /// own.
     ///
-    /// The entries have the replies that the commands give at their places, after the kept ones. Where the base has the sound parts each is within
-    /// the limits and of a member that may give it, and a Mark is at most at what its member has printed. With a Pick, Mark, Back or Forward the
-    /// member begins to count anew.
-    /// The pages stand for the queue with the batch, which has an entry, and have the level after the one of the kept pages.
-    /// The texts of that queue stand on the spool volumes, all of them synced, but for those with a group on a volume that is lost.
-    /// `changed` are the numbers of page 0 and of just those that differ from what the copy reads. Both copies are given the same pages: where
-    /// the other one counts as alive, these wait behind its gate if others than the kept ones do.
+    /// The entries have the replies that the commands give at their places, after the kept ones. Where the base has the
+    /// sound parts each is within the limits and of a member that may give it, and a Mark is at most at what its member
+    /// has printed. With a Pick, Mark, Back or Forward the member begins to count anew. The pages stand for the queue
+    /// with the batch, which has an entry, and have the level after the one of the kept pages. The texts of that queue
+    /// stand on the spool volumes, all of them synced, except those with a group on a volume that is lost. `changed`
+    /// are the numbers of page 0 and of just those that differ from what the copy reads. Both copies are given the same
+    /// pages: where the other one counts as alive, these wait behind its gate if others than the kept ones do.
     pub fn log(
         &mut self,
         by: MemberId,
@@ -112,22 +144,45 @@ impl<P: Plant + Drop, C: Steady + Drop> Complex<P, C> {
         requires own { self.old.current ≡ None → All (λ e. e.by ≡ by) (entries_reserved self.old.reserved) }
         requires own_flying { IsOwn self.old.current by }
         requires ckpt { IsCkpt dev }
-        requires place { (pick dev self.old.pair.first self.old.pair.second).alive ≡ true → pick dev self.old.first self.old.second ≡ AtBefore }
-        requires room { (pick dev self.old.pair.first self.old.pair.second).alive ≡ true → 1 ≤ C.room (pick dev self.old.pair.first self.old.pair.second).copy }
-        requires as_many { (pick dev self.old.pair.first self.old.pair.second).alive ≡ true → length pages.now ≡ C.count (pick dev self.old.pair.first self.old.pair.second).copy }
-        requires changed { (pick dev self.old.pair.first self.old.pair.second).alive ≡ true → ArePages (C.count (pick dev self.old.pair.first self.old.pair.second).copy) changed.now }
-        requires covered { P.tells → (pick dev self.old.pair.first self.old.pair.second).alive ≡ true → (was : List ℕ) → C.reads (disk_now (P.view self.old.plant) dev).bytes ≡ Some was → Covers (C.count (pick dev self.old.pair.first self.old.pair.second).copy) changed.now was (bytes_of pages.now) }
-        requires exact { P.tells → (pick dev self.old.pair.first self.old.pair.second).alive ≡ true → (was : List ℕ) → C.reads (disk_now (P.view self.old.plant) dev).bytes ≡ Some was → NamesOnly changed.now was (bytes_of pages.now) }
+        requires place { (pick dev self.old.pair.first self.old.pair.second).alive ≡ true
+            → pick dev self.old.first self.old.second ≡ AtBefore }
+        requires room { (pick dev self.old.pair.first self.old.pair.second).alive ≡ true
+            → 1 ≤ C.room (pick dev self.old.pair.first self.old.pair.second).copy }
+        requires as_many { (pick dev self.old.pair.first self.old.pair.second).alive ≡ true
+            → length pages.now ≡ C.count (pick dev self.old.pair.first self.old.pair.second).copy }
+        requires changed { (pick dev self.old.pair.first self.old.pair.second).alive ≡ true
+            → ArePages (C.count (pick dev self.old.pair.first self.old.pair.second).copy) changed.now }
+        requires covered { P.tells → (pick dev self.old.pair.first self.old.pair.second).alive ≡ true → (was : List ℕ)
+            → C.reads (disk_now (P.view self.old.plant) dev).bytes ≡ Some was
+            → Covers (C.count (pick dev self.old.pair.first self.old.pair.second).copy) changed.now was
+            (bytes_of pages.now) }
+        requires exact { P.tells → (pick dev self.old.pair.first self.old.pair.second).alive ≡ true → (was : List ℕ)
+            → C.reads (disk_now (P.view self.old.plant) dev).bytes ≡ Some was
+            → NamesOnly changed.now was (bytes_of pages.now) }
         requires level { P.tells → level (bytes_of pages.now) ≡ self.old.level + 1 }
         requires first { self.old.current ≡ None → self.old.pair.first.alive ≡ true → self.old.first ≡ AtBefore }
         requires second { self.old.current ≡ None → self.old.pair.second.alive ≡ true → self.old.second ≡ AtBefore }
-        requires untold { P.tells → self.old.current ≡ None → IsUntold (setting C.reads self.old.base self.old.since) (P.view self.old.plant) (entries_reserved self.old.reserved) }
-        requires texts { P.tells → self.old.current ≡ None → ∥ HasTexts (lost_now (P.view self.old.plant)) (spools_at (P.view self.old.plant) (P.view self.old.plant).now) self.old.base.config.groups (run self.old.base (kept_all self.old.journal.batches ++ entries_reserved self.old.reserved)) ∥₁ }
-        requires queue { P.tells → ∥ StandFor (run self.old.base (kept_all self.old.journal.batches ++ coming self.old.current self.old.reserved)) (bytes_of pages.now) ∥₁ }
+        requires untold { P.tells → self.old.current ≡ None
+            → IsUntold (setting C.reads self.old.base self.old.since) (P.view self.old.plant)
+            (entries_reserved self.old.reserved) }
+        requires texts { P.tells → self.old.current ≡ None
+            → ∥ HasTexts (lost_now (P.view self.old.plant))
+            (spools_at (P.view self.old.plant) (P.view self.old.plant).now) self.old.base.config.groups
+            (run self.old.base (kept_all self.old.journal.batches ++ entries_reserved self.old.reserved)) ∥₁ }
+        requires queue { P.tells → ∥ StandFor
+            (run self.old.base (kept_all self.old.journal.batches ++ coming self.old.current self.old.reserved))
+            (bytes_of pages.now) ∥₁ }
         requires some { 1 ≤ length (coming self.old.current self.old.reserved) }
-        requires replied { P.tells → self.old.current ≡ None → ∥ HaveReplies (run self.old.base (kept_all self.old.journal.batches)) (entries_reserved self.old.reserved) ∥₁ }
-        requires allowed { P.tells → self.old.current ≡ None → MayBegin self.old.base self.old.journal.batches self.old.printed (entries_reserved self.old.reserved) }
-        requires same { P.tells → (other dev self.old.pair.first self.old.pair.second).alive ≡ true → HasNoOther (other dev self.old.first self.old.second) (C.behind (other dev self.old.pair.first self.old.pair.second).copy (disk_now (P.view self.old.plant) (other dev Ckpt1 Ckpt2)).bytes) (C.reads (disk_now (P.view self.old.plant) (other dev Ckpt1 Ckpt2)).bytes) (bytes_of pages.now) }
+        requires replied { P.tells → self.old.current ≡ None
+            → ∥ HaveReplies (run self.old.base (kept_all self.old.journal.batches)) (entries_reserved self.old.reserved)
+            ∥₁ }
+        requires allowed { P.tells → self.old.current ≡ None
+            → MayBegin self.old.base self.old.journal.batches self.old.printed (entries_reserved self.old.reserved) }
+        requires same { P.tells → (other dev self.old.pair.first self.old.pair.second).alive ≡ true
+            → HasNoOther (other dev self.old.first self.old.second)
+            (C.behind (other dev self.old.pair.first self.old.pair.second).copy
+            (disk_now (P.view self.old.plant) (other dev Ckpt1 Ckpt2)).bytes)
+            (C.reads (disk_now (P.view self.old.plant) (other dev Ckpt1 Ckpt2)).bytes) (bytes_of pages.now) }
         ensures base { self.new.base ≡ self.old.base }
         ensures since { self.new.since ≡ self.old.since }
         ensures printed { self.new.printed ≡ printed_after by (entries_reserved self.old.reserved) self.old.printed }
@@ -136,43 +191,57 @@ impl<P: Plant + Drop, C: Steady + Drop> Complex<P, C> {
         ensures placed { self.new.placed ≡ self.old.placed }
         ensures level { self.new.level ≡ self.old.level }
         ensures coming { entries_in self.new.current ≡ coming self.old.current self.old.reserved }
-        ensures begun { self.old.current ≡ None → (entries : List Entry) → self.old.reserved ≡ Some entries → self.new.current ≡ Some (begun (P.view self.old.plant).now by entries) }
+        ensures begun { self.old.current ≡ None → (entries : List Entry) → self.old.reserved ≡ Some entries
+            → self.new.current ≡ Some (begun (P.view self.old.plant).now by entries) }
         ensures stays { IsSome self.old.current → self.new.current ≡ self.old.current }
         ensures unreserved { self.new.reserved ≡ None }
         ensures place { IsPlaceAfter result AtPut (pick dev self.new.first self.new.second) }
         ensures other_place { other dev self.new.first self.new.second ≡ other dev self.old.first self.old.second }
-        ensures other { other dev self.new.pair.first self.new.pair.second ≡ other dev self.old.pair.first self.old.pair.second }
-        ensures count { C.count (pick dev self.new.pair.first self.new.pair.second).copy ≡ C.count (pick dev self.old.pair.first self.old.pair.second).copy }
-        ensures room { C.room (pick dev self.new.pair.first self.new.pair.second).copy ≡ C.room (pick dev self.old.pair.first self.old.pair.second).copy }
-        ensures acted { Acted by.0 dev (pick dev self.old.pair.first self.old.pair.second).alive (pick dev self.new.pair.first self.new.pair.second).alive (pair_stopped result) (P.view self.old.plant) (P.view self.new.plant) }
+        ensures other { other dev self.new.pair.first self.new.pair.second
+            ≡ other dev self.old.pair.first self.old.pair.second }
+        ensures count { C.count (pick dev self.new.pair.first self.new.pair.second).copy
+            ≡ C.count (pick dev self.old.pair.first self.old.pair.second).copy }
+        ensures room { C.room (pick dev self.new.pair.first self.new.pair.second).copy
+            ≡ C.room (pick dev self.old.pair.first self.old.pair.second).copy }
+        ensures acted { Acted by.0 dev (pick dev self.old.pair.first self.old.pair.second).alive
+            (pick dev self.new.pair.first self.new.pair.second).alive (pair_stopped result) (P.view self.old.plant)
+            (P.view self.new.plant) }
         ensures both { IsErrOf result PairNoBothLost → IsBothLost self.new.pair.first.alive self.new.pair.second.alive }
         ensures ok { OnOk result (SomeAlive self.new.pair.first.alive self.new.pair.second.alive) }
-        ensures others { P.tells → (d : Dev) → d ≢ dev → (disk_now (P.view self.new.plant) d).bytes ≡ (disk_now (P.view self.old.plant) d).bytes }
+        ensures others { P.tells → (d : Dev) → d ≢ dev
+            → (disk_now (P.view self.new.plant) d).bytes ≡ (disk_now (P.view self.old.plant) d).bytes }
         ensures elsewhere { P.tells → Elsewhere dev (P.view self.old.plant) (P.view self.new.plant) }
-        ensures behind { OnOk result (P.tells → (pick dev self.new.pair.first self.new.pair.second).alive ≡ true → C.behind (pick dev self.new.pair.first self.new.pair.second).copy (disk_now (P.view self.new.plant) dev).bytes ≡ bytes_of pages.now) }
-        ensures frame { parts_of self.new ≡ with_copy dev (parts_of self.new) (begun_in (P.view self.old.plant).now by (parts_of self.old)) }
+        ensures behind { OnOk result (P.tells → (pick dev self.new.pair.first self.new.pair.second).alive ≡ true
+            → C.behind (pick dev self.new.pair.first self.new.pair.second).copy
+            (disk_now (P.view self.new.plant) dev).bytes ≡ bytes_of pages.now) }
+        ensures frame { parts_of self.new
+            ≡ with_copy dev (parts_of self.new) (begun_in (P.view self.old.plant).now by (parts_of self.old)) }
     {
         self.begin_first(by);
         self.put_on(by, dev, pages, changed)
     }
 
     fn all_opened(&self) -> bool
-        ensures all { result ≡ all_open self.now.pair.first.alive self.now.pair.second.alive self.now.first self.now.second }
-        ensures opened { result ≡ true → (self.now.pair.first.alive ≡ true → self.now.first ≡ AtOpened) × (self.now.pair.second.alive ≡ true → self.now.second ≡ AtOpened) }
+        ensures all { result ≡ all_open self.now.pair.first.alive self.now.pair.second.alive self.now.first
+            self.now.second }
+        ensures opened { result ≡ true → (self.now.pair.first.alive ≡ true → self.now.first ≡ AtOpened)
+            × (self.now.pair.second.alive ≡ true → self.now.second ≡ AtOpened) }
     {
         (!self.pair.first.alive || matches!(self.first, Place::Opened))
             && (!self.pair.second.alive || matches!(self.second, Place::Opened))
     }
 
-    /// Opens the gate before the pages that one copy was given. The batch is kept by the call after which each copy that counts
-    /// as alive has opened its gate: from then on no copy is as before it. The batch is one of the member that holds the lock, or
-    /// of the operator while nobody does, and that isn't stopped.
+    /// Opens the gate before the pages that one copy was given. The batch is kept by the call after which each copy
+    /// that counts as alive has opened its gate: from then on no copy is as before it. The batch is one of the member
+    /// that holds the lock, or of the operator while nobody does, and that isn't stopped.
     pub fn open_copy(&mut self, by: MemberId, dev: Dev) -> Result<(), PairNo>
         requires may { MayAct self.old.book by }
         requires own_flying { IsOwn self.old.current by }
         requires ckpt { IsCkpt dev }
-        requires place { (pick dev self.old.pair.first self.old.pair.second).alive ≡ true → pick dev self.old.first self.old.second ≡ AtPut }
-        requires room { (pick dev self.old.pair.first self.old.pair.second).alive ≡ true → 1 ≤ C.room (pick dev self.old.pair.first self.old.pair.second).copy }
+        requires place { (pick dev self.old.pair.first self.old.pair.second).alive ≡ true
+            → pick dev self.old.first self.old.second ≡ AtPut }
+        requires room { (pick dev self.old.pair.first self.old.pair.second).alive ≡ true
+            → 1 ≤ C.room (pick dev self.old.pair.first self.old.pair.second).copy }
         requires current { IsSome self.old.current }
         requires level { self.old.level < top }
         ensures base { self.new.base ≡ self.old.base }
@@ -180,24 +249,51 @@ impl<P: Plant + Drop, C: Steady + Drop> Complex<P, C> {
         ensures printed { self.new.printed ≡ self.old.printed }
         ensures book { self.new.book ≡ self.old.book }
         ensures reserved { self.new.reserved ≡ self.old.reserved }
-        ensures other { other dev self.new.pair.first self.new.pair.second ≡ other dev self.old.pair.first self.old.pair.second }
-        ensures count { C.count (pick dev self.new.pair.first self.new.pair.second).copy ≡ C.count (pick dev self.old.pair.first self.old.pair.second).copy }
-        ensures room { OnOk result ((pick dev self.new.pair.first self.new.pair.second).alive ≡ true → C.room (pick dev self.new.pair.first self.new.pair.second).copy ≡ C.room_after (C.room (pick dev self.old.pair.first self.old.pair.second).copy)) }
-        ensures acted { Acted by.0 dev (pick dev self.old.pair.first self.old.pair.second).alive (pick dev self.new.pair.first self.new.pair.second).alive (pair_stopped result) (P.view self.old.plant) (P.view self.new.plant) }
+        ensures other { other dev self.new.pair.first self.new.pair.second
+            ≡ other dev self.old.pair.first self.old.pair.second }
+        ensures count { C.count (pick dev self.new.pair.first self.new.pair.second).copy
+            ≡ C.count (pick dev self.old.pair.first self.old.pair.second).copy }
+        ensures room { OnOk result ((pick dev self.new.pair.first self.new.pair.second).alive ≡ true
+            → C.room (pick dev self.new.pair.first self.new.pair.second).copy
+            ≡ C.room_after (C.room (pick dev self.old.pair.first self.old.pair.second).copy)) }
+        ensures acted { Acted by.0 dev (pick dev self.old.pair.first self.old.pair.second).alive
+            (pick dev self.new.pair.first self.new.pair.second).alive (pair_stopped result) (P.view self.old.plant)
+            (P.view self.new.plant) }
         ensures both { IsErrOf result PairNoBothLost → IsBothLost self.new.pair.first.alive self.new.pair.second.alive }
         ensures ok { OnOk result (SomeAlive self.new.pair.first.alive self.new.pair.second.alive) }
-        ensures others { P.tells → (d : Dev) → d ≢ dev → (disk_now (P.view self.new.plant) d).bytes ≡ (disk_now (P.view self.old.plant) d).bytes }
+        ensures others { P.tells → (d : Dev) → d ≢ dev
+            → (disk_now (P.view self.new.plant) d).bytes ≡ (disk_now (P.view self.old.plant) d).bytes }
         ensures elsewhere { P.tells → Elsewhere dev (P.view self.old.plant) (P.view self.new.plant) }
-        ensures reads { OnOk result (P.tells → (pick dev self.new.pair.first self.new.pair.second).alive ≡ true → C.reads (disk_now (P.view self.new.plant) dev).bytes ≡ Some (C.behind (pick dev self.old.pair.first self.old.pair.second).copy (disk_now (P.view self.old.plant) dev).bytes)) }
-        ensures kept { OnOk result (((other dev self.new.pair.first self.new.pair.second).alive ≡ true → other dev self.old.first self.old.second ≡ AtOpened) → IsKeptAt self.old.current (P.view self.new.plant).now self.old.journal.batches self.new.journal.batches × (self.new.current ≡ None) × (self.new.level ≡ self.old.level + 1) × (self.new.first ≡ AtBefore) × (self.new.second ≡ AtBefore)) }
-        ensures flying { OnOk result ((other dev self.new.pair.first self.new.pair.second).alive ≡ true → other dev self.old.first self.old.second ≢ AtOpened → (self.new.journal ≡ self.old.journal) × (self.new.current ≡ self.old.current) × (self.new.level ≡ self.old.level) × (pick dev self.new.first self.new.second ≡ AtOpened) × (other dev self.new.first self.new.second ≡ other dev self.old.first self.old.second)) }
-        ensures err { OnErr result ((self.new.journal ≡ self.old.journal) × (self.new.current ≡ self.old.current) × (self.new.level ≡ self.old.level)) }
-        ensures unplaced { OnOk result (((other dev self.new.pair.first self.new.pair.second).alive ≡ true → other dev self.old.first self.old.second ≡ AtOpened) → self.new.placed ≡ false) }
-        ensures still_placed { OnOk result ((other dev self.new.pair.first self.new.pair.second).alive ≡ true → other dev self.old.first self.old.second ≢ AtOpened → self.new.placed ≡ self.old.placed) }
+        ensures reads { OnOk result (P.tells → (pick dev self.new.pair.first self.new.pair.second).alive ≡ true
+            → C.reads (disk_now (P.view self.new.plant) dev).bytes
+            ≡ Some (C.behind (pick dev self.old.pair.first self.old.pair.second).copy
+            (disk_now (P.view self.old.plant) dev).bytes)) }
+        ensures kept { OnOk result (((other dev self.new.pair.first self.new.pair.second).alive ≡ true
+            → other dev self.old.first self.old.second ≡ AtOpened)
+            → IsKeptAt self.old.current (P.view self.new.plant).now self.old.journal.batches self.new.journal.batches
+            × (self.new.current ≡ None) × (self.new.level ≡ self.old.level + 1) × (self.new.first ≡ AtBefore)
+            × (self.new.second ≡ AtBefore)) }
+        ensures flying { OnOk result ((other dev self.new.pair.first self.new.pair.second).alive ≡ true
+            → other dev self.old.first self.old.second ≢ AtOpened → (self.new.journal ≡ self.old.journal)
+            × (self.new.current ≡ self.old.current) × (self.new.level ≡ self.old.level)
+            × (pick dev self.new.first self.new.second ≡ AtOpened)
+            × (other dev self.new.first self.new.second ≡ other dev self.old.first self.old.second)) }
+        ensures err { OnErr result ((self.new.journal ≡ self.old.journal) × (self.new.current ≡ self.old.current)
+            × (self.new.level ≡ self.old.level)) }
+        ensures unplaced { OnOk result
+            (((other dev self.new.pair.first self.new.pair.second).alive ≡ true
+            → other dev self.old.first self.old.second ≡ AtOpened) → self.new.placed ≡ false) }
+        ensures still_placed { OnOk result
+            ((other dev self.new.pair.first self.new.pair.second).alive ≡ true
+            → other dev self.old.first self.old.second ≢ AtOpened → self.new.placed ≡ self.old.placed) }
         ensures err_placed { OnErr result (self.new.placed ≡ self.old.placed) }
-        ensures frame { OnOk result (((other dev self.new.pair.first self.new.pair.second).alive ≡ true → other dev self.old.first self.old.second ≡ AtOpened)
-            → parts_of self.new ≡ kept_in (P.view self.new.plant).now (with_copy dev (parts_of self.new) (parts_of self.old))) }
-        ensures frame_flying { OnOk result ((other dev self.new.pair.first self.new.pair.second).alive ≡ true → other dev self.old.first self.old.second ≢ AtOpened
+        ensures frame { OnOk result (((other dev self.new.pair.first self.new.pair.second).alive ≡ true
+            → other dev self.old.first self.old.second ≡ AtOpened)
+            → parts_of self.new ≡ kept_in (P.view self.new.plant).now
+            (with_copy dev (parts_of self.new) (parts_of self.old))) }
+        ensures frame_flying { OnOk result
+            ((other dev self.new.pair.first self.new.pair.second).alive ≡ true
+            → other dev self.old.first self.old.second ≢ AtOpened
             → parts_of self.new ≡ with_copy dev (parts_of self.new) (parts_of self.old)) }
         ensures frame_err { OnErr result (parts_of self.new ≡ with_copy dev (parts_of self.new) (parts_of self.old)) }
         ensures err_place { OnErr result (IsPlaceAfter result AtOpened (pick dev self.new.first self.new.second)) }
@@ -216,7 +312,8 @@ impl<P: Plant + Drop, C: Steady + Drop> Complex<P, C> {
         requires first { self.old.pair.first.alive ≡ true → self.old.first ≡ AtOpened }
         requires second { self.old.pair.second.alive ≡ true → self.old.second ≡ AtOpened }
         requires next { P.tells → reached ≡ self.old.level + 1 }
-        ensures { parts_of self.new ≡ record (kept_in (P.view self.old.plant).now (parts_of self.old)) { level = reached } }
+        ensures { parts_of self.new ≡ record (kept_in (P.view self.old.plant).now (parts_of self.old))
+            { level = reached } }
     {
         let last = self.plant.now();
         if let Some(batch) = self.current.take() {

@@ -37,7 +37,8 @@ impl From<FolderError> for Ending {
     }
 }
 
-/// The exit code: 9 where another run holds the folder, 10 where the folder can't be opened, and 11 where a stream is closed.
+/// The exit code: 9 where another run holds the folder, 10 where the folder can't be opened, and 11 where a stream is
+/// closed.
 pub fn code_of(ending: &Ending) -> u8
     ensures { result ≡ ending_code ending.now }
 {
@@ -71,8 +72,8 @@ fn write_text<W: Write>(error: &mut W, line: &[u8]) -> io::Result<()> {
     error.write_all(b"\n")
 }
 
-/// Writes the line of an ending to standard error; none where every step has closed. Where that is a pipe whose reader has ended
-/// it fails; the program ignores the signal of it, so the exit code stays.
+/// Writes the line of an ending to standard error; none where every step has closed. Where that is a pipe whose reader
+/// has ended it fails; the program ignores the signal of it, so the exit code stays.
 pub fn write_line_of(rt: &HostRuntime, ending: &Ending) -> io::Result<()> {
     let mut error = rt.stderr();
     match ending {

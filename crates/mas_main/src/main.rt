@@ -1,4 +1,5 @@
-//! `mas`: does what its words ask for, on the devices of a folder. Standard input is the script, standard output the console.
+//! `mas`: does what its words ask for, on the devices of a folder. Standard input is the script, standard output the
+//! console.
 #![tactic(auto)]
 
 ghost use Rattle.std.specs.Prelude.{◌≡◌};

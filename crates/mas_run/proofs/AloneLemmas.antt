@@ -80,7 +80,7 @@ module _ (d : Dev) (n : ℕ) where
   step_same is config why seen ask.Stop other = unplayed_same is
   step_same is config why seen (ask.StopIn fuse k) other = unplayed_same is
 
--- nor do the first of them
+-- the first steps of a script never lose this copy by a call, if none of its steps asks for that
 steps_same : (d : Dev) → (d ≡ Ckpt1) ⊎ (d ≡ Ckpt2) → (config : Config) (b : Book) (seen : List Sight) (steps : List Step) (k n : ℕ) → All (λ (s : Step). s.what ≢ ask.Lose d) steps
     → loses_after d (take k (turns_from config b seen steps)) n ≡ n
 steps_same d is config b seen [] zero n others = refl
@@ -141,17 +141,17 @@ Alone dev steps old new = IsLeftAlone dev steps old new
 by_calls : (dev : Dev) (steps : List Step) (old new : View) → Alone dev steps old new → WasLost dev old new → Rose (old.loses dev) (new.loses dev)
 by_calls dev steps old new alone lost = ⊎_elim (λ f. absurd (alone.failed f)) (λ r. r) lost
 
--- a run that hasn't begun, where no call lost it
+-- a copy that was left alone isn't lost in a run that hasn't begun, where no call lost it
 unlost : (dev : Dev) (steps : List Step) (old new : View) → Alone dev steps old new → new.loses dev ≡ old.loses dev → WasLost dev old new → ⊥
 unlost dev steps old new alone same lost = not_risen (old.loses dev) (new.loses dev) same alone.counted (by_calls dev steps old new alone lost)
 
--- a warm one
+-- a copy that was left alone is there for a warm run
 unstarted_alone : (steps : List Step) (old new : View) → AreLeftAlone steps old new → NoneOrFailed old new → ⊥
 unstarted_alone steps old new (inl (one, (inl two))) failed = ⊎_elim (λ both. clash (old.lost (Disk Ckpt1)) both.0 one.there) (λ some. ⊎_elim (λ f. one.failed f.1) (λ f. two.failed f.1) some) failed
 unstarted_alone steps old new (inl (one, (inr lost))) failed = ⊎_elim (λ both. clash (old.lost (Disk Ckpt1)) both.0 one.there) (λ some. ⊎_elim (λ f. one.failed f.1) (λ f. clash (old.lost (Disk Ckpt2)) lost f.0) some) failed
 unstarted_alone steps old new (inr (two, lost)) failed = ⊎_elim (λ both. clash (old.lost (Disk Ckpt2)) both.1 two.there) (λ some. ⊎_elim (λ f. clash (old.lost (Disk Ckpt1)) lost f.0) (λ f. two.failed f.1) some) failed
 
--- in a run no call loses it but before the first step
+-- in a run no call loses a copy that was left alone, except before the first step
 module _ (tells : Type 0) (told : tells) (script : Script) (answer : Status) (base : Queue) (J : Journal) (since : ℕ) (old new : View) where
   unrisen : (cold : Bool) (r : IsRun cold tells script answer base J since old new) (d : Dev) → (d ≡ Ckpt1) ⊎ (d ≡ Ckpt2) → Alone d script.steps old new → r.first d ≡ old.loses d → WasLost d old new → ⊥
   unrisen cold r d is alone same lost =

@@ -30,7 +30,7 @@ module _ (by : MemberId) where
       let same : b.last ≤ b.last = omega arith in
       (batch_later es sooner from now later b one two all.0, all_later b.last b.last now later ess bs same two all.1)
 
-  -- and others behind them
+  -- two lists of batches, of which the second follows the first, are all kept if those of each list are
   pub all_join : (from mid now : ℕ) (ess more : List (List Entry)) (bs cs : List Batch) → from ≤ mid → mid ≤ now → AreAll by from mid ess bs → AreAll by mid now more cs → AreAll by from now (ess ++ more) (bs ++ cs)
   all_join from mid now [] more [] cs one two all others = all_later from mid now now more cs one (let same : now ≤ now = omega arith in same) others
   all_join from mid now [] more (b ∷ bs) cs one two all others = absurd all
@@ -78,7 +78,7 @@ module _ (by : MemberId) where
       clash : Flying ≡ Kept → ⊥
       clash e = absurd (cc)
 
-  -- the first ones of them, with the first entries of the next one perhaps
+  -- the first batches of a step, with the first entries of the next one perhaps
   pub some_cut : (from now : ℕ) (ess : List (List Entry)) (bs : List Batch) → AreSome by from now ess bs → AreCut by from now ess bs
   some_cut from now [] bs some = some
   some_cut from now (es ∷ ess) [] some = tt

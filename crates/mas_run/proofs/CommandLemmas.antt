@@ -18,12 +18,12 @@ use Rattle.member_decks.specs.Steps.{AreOf}
 use Rattle.queue_commands.specs.Given.{IsGiver, is_plain}
 use Rattle.mas_run.specs.Turns.{resets}
 
--- it is no Mark
+-- a command that a script may give is no Mark
 pub typed_unmarked : (c : Command) → is_typed c ≡ true → is_mark c ≡ false
 typed_unmarked (command.Mark job index at) is = absurd (cc)
 typed_unmarked _ is = refl
 
--- it is plain, and SYSA may give it
+-- a command that a script may give and that is no Reset is plain, and SYSA may give it
 pub played : (c : Command) → is_typed c ≡ true → resets c ≡ None → (is_plain c ≡ true) × IsGiver sysa c
 played (command.Hold job) is none = (refl, (omega arith, omega arith))
 played (command.Release job) is none = (refl, (omega arith, omega arith))
@@ -60,7 +60,7 @@ played (command.Got line number job text) is none = absurd (cc)
 sysa_is_there : (Q : Queue) → 1 ≤ Q.config.members → is_member Q.config sysa ≡ true
 sysa_is_there Q some = let le : nat_le 1 Q.config.members ≡ true = grind (arith, nat_tests, some) in le
 
--- and where there is a member, it may give it
+-- where there is a member, SYSA may give each command that a script may give and that is no Reset
 pub may_played : (Q : Queue) (c : Command) → is_typed c ≡ true → resets c ≡ None → 1 ≤ Q.config.members → may_give Q sysa c ≡ true
 may_played Q (command.Hold job) is none some = sysa_is_there Q some
 may_played Q (command.Release job) is none some = sysa_is_there Q some

@@ -58,7 +58,7 @@ module _ {T : Type 0} (told : Type 0) (Q : Queue) (per at : ℕ) (front batches 
       (λ is. command_step_of told given Q per at front batches a a' b b' old new result (got_so is))
       (λ why is. denied_step_of told why Q per at front batches a a' b b' old new result (refused_so why is))
 
-  -- and of a deck
+  -- what the member's call says of a deck, by whether it was refused the lock
   deck_by_try : (r : Option LockNo) (fields : JobFields) (text : List (List ℕ))
       → (r ≡ None → IsDeckStep told sysa at per Q fields text front batches a a' b b' old new result) → ((why : LockNo) → r ≡ Some why → IsDenial told sysa.0 (denied_lines sysa at why) front batches a a' b b' old new result)
       → (seen : Sight) × IsStepOf told (task_turn r (Reads fields text seen.lost)) Q per at front batches a a' b b' old new result
@@ -83,7 +83,7 @@ module _ {T : Type 0} (told : Type 0) (Q : Queue) (per at : ℕ) (front batches 
       (subst (λ (m : MemberId). (fields : JobFields) (why : LockNo) → read_as own cards ≡ Ok fields → try_refusal k m false ≡ Some why → IsDenial told m.0 (denied_lines m at why) front batches a a' b b' old new result) same denied)
       (subst (λ (m : MemberId). (card : ℕ) (why : CardCause) → read_as own cards ≡ Err (bad card why) → IsDenial told m.0 (closing_line m at (BadCard card why) ∷ []) front batches a a' b b' old new result) same refused)
 
-  -- and of work
+  -- what the member's call says of work, by whether it was refused the lock
   work_by_try : (r : Option LockNo) (n : ℕ)
       → (r ≡ None → IsWorkStep told sysa at per n Q front batches a a' b b' old new result) → ((why : LockNo) → r ≡ Some why → IsDenial told sysa.0 (denied_lines sysa at why) front batches a a' b b' old new result)
       → (seen : Sight) × IsStepOf told (task_turn r (Works n seen.looks)) Q per at front batches a a' b b' old new result
@@ -98,7 +98,7 @@ module _ {T : Type 0} (told : Type 0) (Q : Queue) (per at : ℕ) (front batches 
       (subst (λ (m : MemberId). try_refusal k m false ≡ None → IsWorkStep told m at per n Q front batches a a' b b' old new result) same got)
       (subst (λ (m : MemberId). (why : LockNo) → try_refusal k m false ≡ Some why → IsDenial told m.0 (denied_lines m at why) front batches a a' b b' old new result) same denied)
 
--- a task for which memory wants before its try
+-- a task that is out of memory before its try
 pub unplayed_task : {T : Type 0} (told : Type 0) (r : Option LockNo) (given : Command) (Q : Queue) (per at : ℕ) (front batches : List Batch) (a b : Bool) (v : View) → batches ≡ front
     → IsStepOf {T = T} told (task_turn r (Gives given)) Q per at front batches a a b b v v (Err no_node.NoMemory)
 unplayed_task told None given Q per at front batches a b v same = unplayed_step_of told (Granted (Gives given)) Q per at front batches a b v same (λ d n. granted_counts d (Gives given) n) tt

@@ -73,7 +73,7 @@ module _ (run : Run) (only : run.only ≡ true) where
     by_length true f = no_script no.TooLong script f
     by_length false f = none_from 1 start (lines_of bytes) script (record { deck = refl; steps = refl }) f
 
-  -- nor as it is read
+  -- a script that is read for a run that only formats has no steps
   pub none_read : (bytes : List ℕ) (script : Script) → read_as run bytes ≡ Ok script → script.steps ≡ []
   none_read bytes script e = by_said (said run bytes) refl e where
     by_place : (numbers : List ℕ) (place : Option ℕ) (s : Script) → s.steps ≡ [] → unless_unbuilt numbers place s ≡ Ok script → script.steps ≡ []

@@ -14,11 +14,11 @@ papers_at old new goes t from to m =
     let le : old.now ≤ old.now = omega arith in
     ap (λ (n : ℕ). (new.world n).paper m) same ∙ ap (λ (w : World). w.paper m) (goes.past old.now le)
 
--- what they were up to a moment, they are later
+-- printers' lines that were kept up to a moment are kept up to it as seen later too
 pub papers_past : (until : ℕ) (v0 v1 v2 : View) → until ≤ v1.now → Goes v1 v2 → ArePapersKeptUntil until v0 v1 → ArePapersKeptUntil until v0 v2
 papers_past until v0 v1 v2 le goes kept t from to m = ap (λ (w : World). w.paper m) (goes.past t (omega arith)) ∙ kept t from to m
 
--- and on
+-- printers' lines that stayed, and were then kept up to a moment, are kept up to it from the beginning
 pub papers_then : (until : ℕ) (v0 v1 v2 : View) → v0.now ≤ v1.now → Goes v1 v2 → SamePapers v0 v1 → ArePapersKeptUntil until v1 v2 → ArePapersKeptUntil until v0 v2
 papers_then until v0 v1 v2 later goes one two t from to m = ⊎_elim
     (λ before. ap (λ (w : World). w.paper m) (goes.past t before) ∙ one t from before m)

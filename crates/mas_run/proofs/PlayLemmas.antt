@@ -48,7 +48,7 @@ use Rattle.mas_run.proofs.WorkLemmas.{given_of, work_few, work_of}
 
 -- ONE STEP MORE
 
--- what the table gives for steps, and for others behind them
+-- what the table gives for steps, and for others after them
 outcomes_join : (Q : Queue) (at : ℕ) (xs ys : List Turn) → outcomes_from Q at (xs ++ ys) ≡ outcomes_from Q at xs ++ outcomes_from (queue_after Q at xs) (at + length xs) ys
 outcomes_join Q at [] ys = let e : at + 0 ≡ at = omega arith in ap (λ (n : ℕ). outcomes_from Q n ys) (sym e)
 outcomes_join Q at (x ∷ xs) ys =
@@ -112,7 +112,7 @@ deck_shape Q at fields text lost =
       (closing_reply (all_entries (deck_batches Q sysa at fields text lost)), refl),
     )
 
--- and so for any step
+-- what the table gives for any step has the shape that the step asks for
 pub shape_of : (Q : Queue) (at : ℕ) (s : Turn) → IsOutcome at s (outcome_of Q at s)
 shape_of Q at (Granted (Reads fields text lost)) = deck_shape Q at fields text lost
 shape_of Q at (Granted (Gives given)) = (reply_to Q sysa given, refl, refl)
@@ -128,7 +128,7 @@ shapes_of Q at (s ∷ steps) = (shape_of Q at s, shapes_of (after_step Q at s) (
 
 -- WHAT IS KNOWN OF EACH STEP
 
--- of more steps, each of the first ones among those that are closed
+-- more steps have passed if the first ones have, each among those that are closed
 module _ (told : Type 0) (per j k : ℕ) (v v' : View) (later : List Batch) (ys : List Turn) (ps : List Outcome) where
   pass_join : (Q : Queue) (at : ℕ) (v0 : View) (xs : List Turn) (os : List Outcome) (bs : List Batch) → at + length xs ≤ j + 1 → ArePassed told v0 v per Q at j bs xs os
       → ArePassed told v v' per (queue_after Q at xs) (at + length xs) k later ys ps → ArePassed told v0 v' per Q at k (bs ++ later) (xs ++ ys) (os ++ ps)
@@ -168,7 +168,7 @@ finds_at told old new per Q R at n (Closed end) o same number found = tt
 finds_at told old new per Q R at n (Loss dev) o same number found = tt
 finds_at told old new per Q R at n Unplayed o same number found = tt
 
--- of all steps, the first ones and those behind them
+-- of all steps, the first ones and those after them
 all_front : (P : Turn → Type 0) (xs ys : List Turn) → All P (xs ++ ys) → All P xs
 all_front P [] ys all = All-nil P
 all_front P (x ∷ xs) ys all = All-cons P x xs (All-head P x (xs ++ ys) all) (all_front P xs ys (All-tail P x (xs ++ ys) all))
@@ -191,7 +191,7 @@ map_append : (xs ys : List (List ℕ)) → map whole (xs ++ ys) ≡ map whole xs
 map_append [] ys = refl
 map_append (x ∷ xs) ys = ap (λ (ls : List Line). whole x ∷ ls) (map_append xs ys)
 
--- THE LINES OF A STEP, BEHIND THOSE OF THE STEPS BEFORE IT
+-- THE LINES OF A STEP, AFTER THOSE OF THE STEPS BEFORE IT
 
 module _ (closed lines kept : List (List ℕ)) (are : kept ≡ closed ++ lines) (was mid now : List Line) (before : mid ≡ was ++ map whole closed) where
   many_lines : length kept ≡ length closed + length lines
@@ -214,7 +214,7 @@ module _ (closed lines kept : List (List ℕ)) (are : kept ≡ closed ++ lines) 
       more)
       breaks
 
--- ONE STEP BEHIND OTHERS
+-- ONE STEP AFTER OTHERS
 
 module _ (told : Type 0) (base : Queue) (per : ℕ) (steps : List Turn) (s : Turn) (rest : List Batch) (a0 a a' b0 b b' : Bool) (v0 v v' : View)
     (played : HavePlayed told base per steps rest a0 a b0 b v0 v) (Q : Queue) (at : ℕ) (here : told → Q ≡ queue_after base 1 steps) (numbered : at ≡ 1 + length steps) where
@@ -276,7 +276,7 @@ module _ (told : Type 0) (base : Queue) (per : ℕ) (steps : List Turn) (s : Tur
     loses = λ t le. absurd (omega (arith, le));
   }
 
-  -- the steps behind it, which aren't played
+  -- the steps after the one that is played, which aren't played
   module _ (goes : Goes v v') (later : List Turn) where
     passed_now : (closed : ℕ) (os : List Outcome) → ((R : Queue) (n : ℕ) → at + 1 ≡ n → ArePassed told v' v' per R n closed [] later os) → (o : Outcome) (more : List Batch) → Passes closed o more
         → ArePassed told v0 v' per base 1 closed (rest ++ more) (steps ++ s ∷ later) (played.did ++ o ∷ os)
@@ -323,7 +323,7 @@ module _ (told : Type 0) (base : Queue) (per : ℕ) (steps : List Turn) (s : Tur
     here_on : drop (length steps) (steps ++ s ∷ later) ≡ s ∷ later
     here_on = drop-append_seam steps (s ∷ later)
 
-    -- it isn't kept as a whole, or it works
+    -- the step that ends the run isn't kept as a whole, or it works
     unclosed : (begun : List Batch) → IsUnclosed (steps ++ s ∷ later) (length steps) (length steps) begun
     unclosed begun = inl refl
 
@@ -343,7 +343,7 @@ module _ (told : Type 0) (base : Queue) (per : ℕ) (steps : List Turn) (s : Tur
       next_is : next_in (length steps) (all_did o) ≡ o.batches
       next_is = ap first_in (subst (λ (n : ℕ). drop n (all_did o) ≡ o ∷ outcomes_from (after_step Q at s) (at + 1) later) many_did (drop-append_seam played.did (o ∷ outcomes_from (after_step Q at s) (at + 1) later)))
 
-      -- none, or some of its batches
+      -- the step that ends the run leaves none of its batches, or some
       settled_next : (more : List Batch) → IsSettled o.batches v.now v'.now more → IsSettled (next_in (length steps) (all_did o)) v.now v'.now more
       settled_next more settled = subst (λ (ess : List (List Entry)). IsSettled ess v.now v'.now more) (sym next_is) settled
 
@@ -355,7 +355,7 @@ module _ (told : Type 0) (base : Queue) (per : ℕ) (steps : List Turn) (s : Tur
       uncut_with_it = inl (inl refl)
 
       module _ (more : List Batch) (goes : Goes v v') where
-        -- it isn't kept as a whole
+        -- the step that ends the run isn't kept as a whole
         unkept_history : IsSettled o.batches v.now v'.now more ⊎ OneFlies sysa v.now v'.now o.batches more → IsHistory (all_did o) (length steps) v0.now v'.now (rest ++ more)
         unkept_history next = record {
           front = rest;
@@ -367,7 +367,7 @@ module _ (told : Type 0) (base : Queue) (per : ℕ) (steps : List Turn) (s : Tur
           next = subst (λ (ess : List (List Entry)). IsSettled ess v.now v'.now more ⊎ OneFlies sysa v.now v'.now ess more) (sym next_is) next;
         }
 
-        -- or it is
+        -- the step that ends the run is kept as a whole
         kept_history : AreAll sysa v.now v'.now o.batches more → IsHistory (all_did o) (length steps + 1) v0.now v'.now (rest ++ more)
         kept_history all = record {
           front = rest ++ more;
@@ -604,9 +604,9 @@ played_none told base per batches a b v none some = record {
   said = λ t. sym (append-nil (console_now v));
 }
 
--- BEHIND BATCHES THAT STOOD THERE BEFORE
+-- AFTER BATCHES THAT STOOD THERE BEFORE
 
--- the queue behind steps that have been played
+-- the queue after steps that have been played
 pub queue_played : (told : Type 0) (base : Queue) (per : ℕ) (steps : List Turn) (rest : List Batch) (a0 a b0 b : Bool) (v0 v : View) → HavePlayed told base per steps rest a0 a b0 b v0 v → told → run base (kept_all rest) ≡ queue_after base 1 steps
 queue_played told base per steps rest a0 a b0 b v0 v played t =
     ap (run base) (kept_entries sysa v0.now v.now (batches_in played.did) rest played.kept) ∙ ap (λ (os : List Outcome). run base (all_entries (batches_in os))) (played.are t) ∙ run_outcomes base 1 steps
@@ -653,6 +653,6 @@ pub all_kept_behind : (opening rest batches : List Batch) (now later : ℕ) → 
 all_kept_behind opening rest batches now later le are one two =
     subst (λ (bs : List Batch). AreAllKept bs later) (sym are) (All-append (λ (b : Batch). (b.fate ≡ Kept) × (b.last ≤ later)) opening rest (kept_before opening now later le one) two)
 
--- batches behind those that stood there, behind the ones before them
+-- batches after those that stood there, after the ones before them
 pub behind : (opening rest more batches now : List Batch) → batches ≡ opening ++ rest → now ≡ batches ++ more → now ≡ opening ++ (rest ++ more)
 behind opening rest more batches now are is = is ∙ ap (λ (bs : List Batch). bs ++ more) are ∙ append_assoc opening rest more

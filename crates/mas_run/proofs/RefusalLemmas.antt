@@ -69,14 +69,14 @@ module _ (v : View) where
     first_small n (suc more) k from to fit there lt =
         small_at n more k from fit there lt (λ before. first_small (n + 1) more k (omega arith) (omega arith) (λ m at less. fit m (omega arith) less) there lt) (nat_lt n k) refl
 
-  -- none is
+  -- no device is too small
   pub all_large : (config : Config) → bytes_needed config ≤ v.size Ckpt1 → bytes_needed config ≤ v.size Ckpt2 → AreRoomy v config → first_some (refused_devices config v) ≡ None
   all_large config one two roomy =
       let a : refused_copy v (bytes_needed config) Ckpt1 ≡ None = copy_large (bytes_needed config) Ckpt1 one in
       let b : refused_copy v (bytes_needed config) Ckpt2 ≡ None = copy_large (bytes_needed config) Ckpt2 two in
       rw (a, b) (volumes_fit config.groups 1 config.volumes (λ k from to there. roomy k from (omega arith) there))
 
-  -- the first that is
+  -- the first device that is too small
   pub some_small : (config : Config) (why : StartNo) → IsSmallAt (bytes_needed config) config v why → first_some (refused_devices config v) ≡ Some (status_of_start why)
   some_small config (no_start.DeviceSize Ckpt1 size) small =
       let a : refused_copy v (bytes_needed config) Ckpt1 ≡ Some (status.DeviceSize Ckpt1 (v.size Ckpt1)) = copy_small (bytes_needed config) Ckpt1 (subst (λ (n : ℕ). n < bytes_needed config) small.0 small.1) in
@@ -126,7 +126,7 @@ pub free_answer : (cold : Bool) (why : Option Status) (answer : Status) → (ans
 free_answer cold None answer free = ⊎_elim (λ is. ap (is_refusal cold) is) (λ is. ap (is_refusal cold) is) free
 free_answer cold (Some why) answer free = inr free
 
--- a warm run's status is no refusal but by what it reads
+-- a warm run's status is no refusal except by what it reads
 pub warm_free : (answer : Status) → is_of_text answer ≡ false → is_refusal false answer ≡ false
 warm_free status.Done e = refl
 warm_free status.NoMemory e = refl

@@ -65,7 +65,7 @@ pub none_untold : (reads : List ℕ → Option (List ℕ)) (base : Queue) (since
 none_untold reads base since v entries is =
     subst (λ (t : ℕ). EachTells Closes (drop (length (v.world t).console) (v.world v.now).console) (λ m s. has_step m s entries ≡ false)) (sym is) (none_said Closes (v.world v.now).console (λ m s. has_step m s entries ≡ false))
 
--- nor later, where the console is as it was then
+-- no entries are told since this moment, if the console is still as it was then
 pub none_untold_later : (reads : List ℕ → Option (List ℕ)) (base : Queue) (since : ℕ) (old v : View) (entries : List Entry) → since ≡ old.now → Goes old v → console_now v ≡ console_now old → IsUntold (setting reads base since) v entries
 none_untold_later reads base since old v entries is goes same =
     let first : (v.world since).console ≡ (v.world v.now).console = ap (λ (t : ℕ). (v.world t).console) is ∙ ap (λ (w : World). w.console) (goes.past old.now (omega arith)) ∙ sym same in
@@ -76,40 +76,40 @@ pub ok_then : {T E A B : Type 0} (r : Result T E) → (A → B) → OnOk r A →
 ok_then (Ok done) f a = f a
 ok_then (Err why) f a = tt
 
--- BEFORE IT
+-- BEFORE RESTART
 
 pub tell_none : (t : Tables) (base : Queue) (batches : List Batch) → batches ≡ [] → Tell t base → Tell t (run base (kept_all batches))
 tell_none t base batches none told = subst (λ (bs : List Batch). Tell t (run base (kept_all bs))) (sym none) told
 
--- nothing is done yet
+-- before Restart nothing is done yet
 pub reset_done : (base : Queue) (batches : List Batch) (batch : List Entry) (k : Checkpoint) → batches ≡ [] → batch ≡ [] → AreDrawn k.tables k.level k.levels k.pages → AreFit k.tables → HaveOrders k.tables → Tell k.tables base → HasDone (run base (kept_all batches)) batch k
 reset_done base batches batch k none nothing drawn fit orders told = subst (λ (es : List Entry). HasDone (run base (kept_all batches)) es k) (sym nothing) (nothing_done (run base (kept_all batches)) k drawn fit orders (tell_none k.tables base batches none told))
 
--- WHAT IT LEAVES
+-- WHAT RESTART LEAVES
 
--- its batch stands in the journal
+-- the journal in which Restart's batch is kept isn't empty
 pub some_kept : (front was batches : List Batch) (place b : Batch) → was ≡ front ++ place ∷ [] → batches ≡ with_last b was → 1 ≤ length batches
 some_kept front was batches place b grown kept =
     let same = ap (λ (bs : List Batch). length bs) (journal_kept front was batches place b grown kept) ∙ length-append front (b ∷ []) in
     omega (arith, same)
 
--- its orders are those of a run's first batch
+-- after Restart the tables' orders are those of a run's first batch
 pub low_first : (t : Tables) (was batches : ℕ) → AreFit t → was < 2 ^ 62 → t.order ≤ was + 32 → 1 ≤ batches → AreLow t.config batches t
 low_first t was batches fit small le some = record { same = refl; fit = fit; order = omega (arith, small, le, some) }
 
 some_left : (was1 is1 was2 is2 : Bool) → SomeAlive was1 was2 → IsLeft was1 is1 was2 is2 → SomeAlive is1 is2
 some_left was1 is1 was2 is2 some is = ⊎_elim (λ here. here) (λ same. subst (λ (x : Bool). SomeAlive x is2) (sym same.0) (subst (λ (y : Bool). SomeAlive was1 y) (sym same.1) some)) is
 
--- nothing is done where room isn't wanting
+-- nothing is done if there is room already
 pub settle_none : (told : Type 0) (is1 is2 : Bool) (v : View) → SomeAlive is1 is2 → IsSettle {T = Unit {0}} told 0 is1 is1 is2 is2 v v (Ok tt)
 settle_none told is1 is2 v some = record { course = course_none is1 is2 v; cause = some; spares = spares_none 0 v; loses = λ d. refl; apart = λ t. record { others = only_none v; console = refl; papers = papers_none v } }
 
 module _ (told : Type 0) (batches : List Batch) (was1 m1 was2 m2 : Bool) (old mid : View) where
-  -- there was no memory for it, after room was made
+  -- there was no memory for Restart's batch, after room was made
   pub reset_none : IsSettle {T = Unit {0}} told 0 was1 m1 was2 m2 old mid (Ok tt) → batches ≡ [] → HasReset {T = Unit {0}} told batches was1 m1 was2 m2 old mid (Err no_node.NoMemory)
   reset_none s none = record { course = s.course; loses = s.loses; ends = (none, s.cause); apart = s.apart }
 
-  -- room wasn't made
+  -- room for Restart's batch wasn't made
   pub reset_unsettled : (r : Result (Unit {0}) NodeNo) (why : NodeNo) → r ≡ Err why → (r ≡ Err no_node.Halted → ⊥) → IsSettle told 0 was1 m1 was2 m2 old mid r → batches ≡ [] → HasReset told batches was1 m1 was2 m2 old mid r
   reset_unsettled (Ok done) why is goes_on s none = absurd (cc)
   reset_unsettled (Err no_node.NoMemory) why is goes_on s none = absurd s.cause
@@ -136,17 +136,17 @@ module _ (told : Type 0) (batches : List Batch) (was1 m1 was2 m2 : Bool) (old mi
   reset_written is1 is2 new (Err no_node.ConsoleFault) goes_on s write = absurd write.cause
   reset_written is1 is2 new (Err no_node.Halted) goes_on s write = absurd (goes_on refl)
 
--- it may begin: it is no Mark
+-- Restart may begin a batch: it is no Mark
 pub restart_begins : (base : Queue) (js : List Batch) (printed : List ℕ) (es : List Entry) → es ≡ restart_entries → MayBegin base js printed es
 restart_begins base js printed es are =
     subst (λ (l : List Entry). MayBegin base js printed l) (sym are)
     (one_begins base js printed (record { by = nobody; step = 0; command = Restart; reply = Plain }) (record { by = refl; fit = tt }) refl)
 
--- its entry is the operator's
+-- the entry of Restart is the operator's
 pub restart_own : (es : List Entry) (m : MemberId) → es ≡ restart_entries → m ≡ nobody → All (λ (e : Entry). e.by ≡ m) es
 restart_own es m are same = subst (All (λ (e : Entry). e.by ≡ m)) (sym are) (All-cons (λ (e : Entry). e.by ≡ m) _ [] (sym same) (All-nil (λ (e : Entry). e.by ≡ m)))
 
--- a batch that was empty has it
+-- a batch that was empty has the entry of Restart
 pub restart_entry : (batch more : List Entry) (Q : Queue) (m : MemberId) → batch ≡ [] → m ≡ nobody → more ≡ batch ++ record { by = m; step = 0; command = Restart; reply = (step Q m Restart).1 } ∷ [] → more ≡ restart_entries
 restart_entry batch more Q m none same is =
     is ∙ ap (λ (es : List Entry). es ++ record { by = m; step = 0; command = Restart; reply = (step Q m Restart).1 } ∷ []) none
@@ -177,7 +177,7 @@ pub reset_ended : {T : Type 0} (tells : Type 0) (config : Config) (book : Book) 
 reset_ended {T = T} tells config book steps base journal since old new a a' c c' why base_sound is some there1 there2 head r =
     ([], reset_left tells (turns_from config book [] steps) base journal since old new a a' c c' base_sound is some there1 there2 head (λ opening. none_passed tells new base.config.groups 0 config book steps (run base (kept_all opening)) (run base (kept_all opening)) 1 1 refl (omega arith)) {T = T} why r)
 
--- it ends as a run that has begun does
+-- a run that ends at Restart ends as one that has begun does
 pub err_plays : (T : Type 0) (why : NodeNo) → is_of_play (status_of {T = T} (Err why)) ≡ true
 err_plays T no_node.NoMemory = refl
 err_plays T no_node.BothLost = refl

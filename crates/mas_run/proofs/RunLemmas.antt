@@ -379,7 +379,7 @@ caused_formed by a b stopped entry new formed both = record {
   console = λ d. absurd (cc);
 }
 
--- the operator is never stopped in it
+-- the operator is never stopped in the formatting
 pub caused_unformed : (T : Type 0) (a b : Bool) (why : PairNo) (entry new : View) → PairActed 0 true a true b (pair_stopped {T = T} (Err why)) entry new → (why ≡ pair_no.BothLost → IsBothLost a b) → IsCaused status.BothLost entry new
 caused_unformed T a b pair_no.BothLost entry new formed both = caused_formed 0 a b false entry new formed (both refl)
 caused_unformed T a b pair_no.Halted entry new formed both = let some = formed.not_operator refl in absurd (omega (arith, some))
@@ -390,7 +390,7 @@ pub formed_copy : (base : Queue) (now : ℕ) (rests : List ℕ → Disk → Type
     → (alive ≡ true → rests pages disk) → (alive ≡ false → now < top → disk.lost ≡ true) → CopyAt (setting form_reads base now) pages None (copy_of rests holds alive Before) now disk
 formed_copy base now rests holds alive disk pages rested gone = record { at = rested; gone = gone }
 
--- what its images read as later
+-- what the images of a copy read as later
 pub formed_images : (dev : Dev) (rests : List ℕ → Disk → Type 0) (pages : List ℕ) (alive : Bool) (v w : View) → Goes v w → ((d : Disk) → rests pages d → AllRead form_reads pages d)
     → (alive ≡ true → rests pages (disk_now v dev)) → (alive ≡ false → v.now < top → (disk_now v dev).lost ≡ true) → v.now < top → AllRead form_reads pages (disk_at w v.now dev)
 formed_images dev rests pages alive v w goes read rested gone lt =
@@ -430,15 +430,15 @@ module _ (config : Config) (routes : List Route) (t : Tables) (is : t ≡ empty_
   pub sound_empty : IsConfig config → length routes ≤ routes_most → Tell (empty_tables config routes) (empty_queue config routes) → TellSound t
   sound_empty fits few told = subst TellSound (sym is) (record { queue = empty_queue config routes; told = told; sound = empty_queue-sound config routes fits few })
 
--- it has the sound parts
+-- an empty queue has the sound parts
 pub sound_base : (config : Config) (routes : List Route) (Q : Queue) → Q ≡ empty_queue config routes → IsConfig config → length routes ≤ routes_most → IsSound Q
 sound_base config routes Q is fits few = subst IsSound (sym is) (empty_queue-sound config routes fits few)
 
--- it has members
+-- an empty queue has members
 pub begun_empty : (config : Config) (routes : List Route) (Q : Queue) → Q ≡ empty_queue config routes → IsConfig config → has_begun Q ≡ true
 begun_empty config routes Q is fits = let some = fits.members.0 in let e : nat_lt 0 config.members ≡ true = grind (arith, nat_tests, some) in ap has_begun is ∙ e
 
--- it has no texts
+-- an empty queue has no texts
 pub empty_texts : (config : Config) (routes : List Route) (gone : ℕ → Bool) (disks : Spools) (Q : Queue) → Q ≡ empty_queue config routes → HasTexts gone disks Q.config.groups Q
 empty_texts config routes gone disks Q is = subst (λ (R : Queue). HasTexts gone disks R.config.groups R) (sym is) (record { decks = All-nil _; outputs = All-nil _ })
 

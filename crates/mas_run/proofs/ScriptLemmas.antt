@@ -70,7 +70,7 @@ module _ (told : Type 0) (from : Queue) (config : Config) (book : Book) (asked :
   kept_here before = all_kept_behind opening play.rest batches v0.now v.now play.played.course.goes.later play.batches_are before
       (kept_played told from config.groups (turns_from config book play.seen (take i asked)) play.rest a0 a b0 b v0 v play.played)
 
-  -- each step has so many of them at most
+  -- each step has so many batches at most
   pub few_here : All IsPlayed asked → length batches ≤ length opening + batches_most * i
   few_here may =
       let e = ap length play.batches_are ∙ length-append opening play.rest in
@@ -135,7 +135,7 @@ module _ (told : Type 0) (from : Queue) (config : Config) (book : Book) (asked :
               (turns_from config (book_after config c s.what) [] (drop (suc i) asked)) (λ R n e. none_passed told v' config.groups (length (turns_from config book play.seen (take i asked))) config (book_after config c s.what) (drop (suc i) asked) R (after_step (run base (kept_all batches)) k (turn_at config c x s.what)) n (k + 1) e (omega (arith, e, number_here))) batches now why step);
         }
 
-  -- all of them have been played
+  -- all steps of the script have been played
   pub play_done : {T : Type 0} (done : T) (now : List Batch) → now ≡ batches → length asked ≤ i → HasPlay told from config book asked opening now a0 a b0 b v0 v (Ok done)
   play_done done now same all = record {
     seen = play.seen;
@@ -145,7 +145,7 @@ module _ (told : Type 0) (from : Queue) (config : Config) (book : Book) (asked :
         (subst (λ (steps : List Step). HavePlayed told from config.groups (turns_from config book play.seen steps) play.rest a0 a b0 b v0 v) (take_all i asked all) play.played);
   }
 
--- none has
+-- no step of the script has been played
 pub play_none : (told : Type 0) (from : Queue) (config : Config) (book : Book) (asked : List Step) (opening : List Batch) (a b : Bool) (v : View) → SomeAlive a b → HavePlay told from config book asked 0 opening opening a a b b v v
 play_none told from config book asked opening a b v some = record {
   seen = [];

@@ -309,7 +309,7 @@ module _ (told : Type 0) (fields : JobFields) (text : List (List ℕ)) (Q : Queu
     deck_is : told → deck_did ≡ outcome_of Q at (Granted (Reads fields text step.lost))
     deck_is t = outcome_is step.gave (deck_batches Q sysa at fields text step.lost) step.lines (deck_lines Q sysa at fields text step.lost) (step.is t).batches (step.is t).lines_are
 
-    -- the batches behind those before it are its own
+    -- the batches after those before the step are its own
     own_batches : HasAll sysa v.now v'.now step.gave front batches → AreAll sysa v.now v'.now step.gave step.rest
     own_batches all = subst (AreAll sysa v.now v'.now step.gave) (append_cancel_left front all.0 step.rest (sym all.1 ∙ step.batches_are)) all.2
 
@@ -606,7 +606,7 @@ loss_step_of done told dev Q per at front batches a a' b b' v v' course left los
   console = λ t. console t ∙ sym (append-nil (console_now v));
 }
 
--- A STEP FOR WHICH MEMORY WANTS, BEFORE ANYTHING IS DONE
+-- A STEP THAT IS OUT OF MEMORY BEFORE ANYTHING IS DONE
 
 pub unplayed_step_of : {T : Type 0} (told : Type 0) (turn : Turn) (Q : Queue) (per at : ℕ) (front batches : List Batch) (a b : Bool) (v : View) → batches ≡ front → ((d : Dev) (n : ℕ) → loses_after_step d turn n ≡ n) → FindsLost told v v per Q at turn (outcome_of Q at turn)
     → IsStepOf {T = T} told turn Q per at front batches a a b b v v (Err no_node.NoMemory)

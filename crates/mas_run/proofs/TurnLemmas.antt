@@ -46,7 +46,7 @@ use Rattle.mas_run.proofs.LockLemmas.{begins_open}
 
 -- ONE STEP MORE
 
--- the book behind steps
+-- the book after steps
 abbrev pub book_behind : Config → Book → List Step → Book
 book_behind config b [] = b
 book_behind config b (s ∷ steps) = book_behind config (book_after config b s.what) steps
@@ -55,7 +55,7 @@ pub book_more : (config : Config) (b : Book) (xs : List Step) (s : Step) → boo
 book_more config b [] s = refl
 book_more config b (x ∷ xs) s = book_more config (book_after config b x.what) xs s
 
--- the steps before this one, this one, and those behind it, which are played as if no deck found a volume lost
+-- the steps before this one, this one, and those after it, which are played as if no deck found a volume lost
 pub turns_split : (config : Config) (b : Book) (lost : List Sight) (x : Sight) (xs : List Step) (s : Step) (ys : List Step) → length lost ≡ length xs
     → turns_from config b (lost ++ x ∷ []) (xs ++ s ∷ ys)
     ≡ turns_from config b lost xs ++ turn_at config (book_behind config b xs) x s.what ∷ turns_from config (book_after config (book_behind config b xs) s.what) [] ys
@@ -68,7 +68,7 @@ pub turns_length : (config : Config) (b : Book) (lost : List Sight) (steps : Lis
 turns_length config b lost [] = refl
 turns_length config b lost (s ∷ steps) = ap (λ (n : ℕ). suc n) (turns_length config (book_after config b s.what) (drop 1 lost) steps)
 
--- steps, by one of them
+-- a list of steps, by one of them
 pub steps_split : (steps : List Step) (i : ℕ) (s : Step) → s ≡ get_or steps i s → i < length steps → steps ≡ take i steps ++ s ∷ drop (suc i) steps
 steps_split steps i s here lt =
     sym (take-append-drop i steps) ∙ ap (λ (l : List Step). take i steps ++ l) (drop-cons steps i s lt ∙ ap (λ (x : Step). x ∷ drop (suc i) steps) (sym here))
@@ -175,7 +175,7 @@ module _ (told : Type 0) (old new : View) (per : ℕ) (tells : told) (sound : No
     outcome_none config why seen ask.Stop found = refl
     outcome_none config why seen (ask.StopIn fuse n) found = refl
 
--- nor in a part of it
+-- no volume failed in a part of a run if none failed in the whole
 module _ (old mid new : View) (first : Goes old mid) (then_too : Goes mid new) where
   less1 : NoVolumeFailed old new → NoVolumeFailed old mid
   less1 sound v rose = sound v (rose_more (old.faults (Disk (Spool v))) (mid.faults (Disk (Spool v))) (new.faults (Disk (Spool v))) rose (then_too.faults (Disk (Spool v))))
@@ -299,7 +299,7 @@ module _ (told : Type 0) (new : View) (per : ℕ) (R Q : Queue) (n at : ℕ) (nu
   turn_found config why ask.Stop = tt
   turn_found config why (ask.StopIn fuse k) = tt
 
--- steps that aren't played, behind the last that is closed
+-- steps that aren't played, after the last that is closed
 pub none_passed : (told : Type 0) (new : View) (per closed : ℕ) (config : Config) (b : Book) (steps : List Step) (R Q : Queue) (n at : ℕ) → at ≡ n → closed < n
     → ArePassed told new new per R n closed [] (turns_from config b [] steps) (outcomes_from Q at (turns_from config b [] steps))
 none_passed told new per closed config b [] R Q n at numbered few = (refl, refl)

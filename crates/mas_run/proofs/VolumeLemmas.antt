@@ -24,7 +24,7 @@ more_then x y z one two = record {
   there = λ e. one.there (two.there e);
 }
 
--- where every device but the copies stays as it was
+-- where every device except the copies stays as it was
 pub kept_on : (old new : View) → IsOnlyOn old new → AreVolumesKept old new
 kept_on old new only t from le n = subst (NoMore (disk_now old (Spool n))) (sym (only t from le (Spool n) (λ e. absurd (cc)) (λ e. absurd (cc)))) (no_more (disk_now old (Spool n)))
 
@@ -33,11 +33,11 @@ kept_none v t from le n =
     let same : t ≡ v.now = omega arith in
     subst (λ (m : ℕ). NoMore (disk_now v (Spool n)) ((v.world m).disk (Spool n))) (sym same) (no_more (disk_now v (Spool n)))
 
--- what they were up to a moment, they are later
+-- volumes that were kept up to a moment are kept up to it as seen later too
 pub kept_past : (until : ℕ) (v0 v1 v2 : View) → until ≤ v1.now → Goes v1 v2 → AreVolumesKeptUntil until v0 v1 → AreVolumesKeptUntil until v0 v2
 kept_past until v0 v1 v2 le goes kept t from to n = subst (λ (w : World). NoMore (disk_now v0 (Spool n)) (w.disk (Spool n))) (sym (goes.past t (omega arith))) (kept t from to n)
 
--- and on
+-- volumes that were kept, and were then kept up to a moment, are kept up to it from the beginning
 pub kept_then : (until : ℕ) (v0 v1 v2 : View) → v0.now ≤ v1.now → Goes v1 v2 → AreVolumesKept v0 v1 → AreVolumesKeptUntil until v1 v2 → AreVolumesKeptUntil until v0 v2
 kept_then until v0 v1 v2 later goes one two t from to n = ⊎_elim
     (λ before. kept_past v1.now v0 v1 v2 (let same : v1.now ≤ v1.now = omega arith in same) goes one t from before n)

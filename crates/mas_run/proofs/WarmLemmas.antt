@@ -50,7 +50,7 @@ found_drawn pages t levels at are sized leveled is =
     let lists : levels ≡ c.levels = leveled ∙ their_levels pages t c in
     subst (λ (n : ℕ). AreDrawn t n levels pages) (sym same) (subst (λ (ls : List ℕ). AreDrawn t c.level ls pages) (sym lists) drawn)
 
--- its queue has members
+-- the queue that a copy's pages stand for has members
 pub found_begun : (pages : List Page) (t : Tables) (base : Queue) → AreOf pages t → Tell t base → has_begun base ≡ true
 found_begun pages t base are told = ap (λ (c : Config). nat_lt 0 c.members) told.config ∙ some t.config.members are.0.fit.shape.config.members.0 where
   some : (n : ℕ) → 1 ≤ n → nat_lt 0 n ≡ true
@@ -178,7 +178,8 @@ held_until v0 v1 v2 found goes held = record {
   second = λ t from le. subst (λ (w : World). IsHeld form_reads (disk_now v0 Ckpt2) found (w.disk Ckpt2)) (sym (goes.past t le)) (held.second t from le);
 }
 
--- texts that stood on the volumes at a moment still stood there then, but for those with a group on a volume that is lost since
+-- texts that stood on the volumes at a moment still stood there then, except those with a group on a volume that is
+-- lost since
 lost_more_of : (gone later : ℕ → Bool) → ((n : ℕ) → gone n ≡ true → later n ≡ true) → (per : ℕ) (groups : List GroupNo) → lies_on later per groups ≡ false → lies_on gone per groups ≡ false
 lost_more_of gone later more per [] none = refl
 lost_more_of gone later more per (g ∷ groups) none =

@@ -12,8 +12,12 @@ use Rattle.script_input.specs.Played.{sysa}
 use Rattle.mas_run.specs.Steps.{ArePassed, Outcome, outcomes_of}
 use Rattle.mas_run.specs.Turns.{Sight, turns_of}
 
--- where content is told, what the steps of a run do is what they do where nothing is found lost, whatever is said to have been found
+-- where content is told, what the steps of a run do is what they do where nothing is found lost, whatever is said to
+-- have been found
 abbrev pub FindNone : Type 0 → Type 0
-FindNone told = (config : Config) (seen : List Sight) (steps : List Step) (did : List Outcome) (old entry new : View) (per closed : ℕ) (batches : List Batch) (Q : Queue) → told → Goes old entry
-    → ((volume : ℕ) → Rose (old.faults (Disk (Spool volume))) (new.faults (Disk (Spool volume))) → ⊥) → (Rose (old.faults (Printer sysa)) (new.faults (Printer sysa)) → ⊥)
-    → ArePassed told entry new per Q 1 closed batches (turns_of config seen steps) did → outcomes_of Q (turns_of config seen steps) ≡ outcomes_of Q (turns_of config [] steps)
+FindNone told = (config : Config) (seen : List Sight) (steps : List Step) (did : List Outcome) (old entry new : View)
+    (per closed : ℕ) (batches : List Batch) (Q : Queue) → told → Goes old entry
+    → ((volume : ℕ) → Rose (old.faults (Disk (Spool volume))) (new.faults (Disk (Spool volume))) → ⊥)
+    → (Rose (old.faults (Printer sysa)) (new.faults (Printer sysa)) → ⊥)
+    → ArePassed told entry new per Q 1 closed batches (turns_of config seen steps) did
+    → outcomes_of Q (turns_of config seen steps) ≡ outcomes_of Q (turns_of config [] steps)

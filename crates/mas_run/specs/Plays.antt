@@ -23,9 +23,10 @@ use Rattle.mas_run.specs.Statuses.{status_of}
 use Rattle.mas_run.specs.Volumes.{AreVolumesKept}
 use Rattle.mas_types.specs.declared.answers.Status.TheVariants as status
 
--- These steps have been played since the plant showed `old`; each volume has so many groups. Where content is told each did what the table
--- of commands gives.
-pub record HavePlayed (told : Type 0) (base : Queue) (per : ℕ) (steps : List Turn) (batches : List Batch) (was1 is1 was2 is2 : Bool) (old new : View) : Type 0 where
+-- These steps have been played since the plant showed `old`; each volume has so many groups. Where content is told each
+-- did what the table of commands gives.
+pub record HavePlayed (told : Type 0) (base : Queue) (per : ℕ) (steps : List Turn) (batches : List Batch)
+    (was1 is1 was2 is2 : Bool) (old new : View) : Type 0 where
   pub did : List Outcome
   pub shaped : AreOutcomes 1 steps did
   pub are : told → did ≡ outcomes_of base steps
@@ -37,12 +38,18 @@ pub record HavePlayed (told : Type 0) (base : Queue) (per : ℕ) (steps : List T
   pub volumes : told → All LeavesVolumes steps → AreVolumesKept old new
   pub said : told → console_now new ≡ console_now old ++ map whole (lines_in did)
 
--- what an answer says: how many steps are kept and closed, which batches of the next one were begun, whether one is in flight, and why
-abbrev pub Ends : {T : Type 0} → Result T NodeNo → List Turn → ℕ → ℕ → List Batch → Type 0 → Type 0 → Bool → Bool → View → View → Type 0
-Ends (Ok done) asked kept closed begun settled uncut one two old new = (kept ≡ length asked) × (closed ≡ length asked) × (begun ≡ [])
-Ends (Err no_node.NoMemory) asked kept closed begun settled uncut one two old new = IsUnclosed asked kept closed begun × settled
-Ends (Err no_node.BothLost) asked kept closed begun settled uncut one two old new = IsUnclosed asked kept closed begun × IsBothLost one two × uncut
-Ends (Err no_node.ConsoleFault) asked kept closed begun settled uncut one two old new = (kept ≡ closed + 1) × (begun ≡ []) × Rose (old.faults Console) (new.faults Console)
+-- what an answer says: how many steps are kept and closed, which batches of the next one were begun, whether one is in
+-- flight, and why
+abbrev pub Ends : {T : Type 0} → Result T NodeNo → List Turn → ℕ → ℕ → List Batch → Type 0 → Type 0 → Bool → Bool → View
+    → View → Type 0
+Ends (Ok done) asked kept closed begun settled uncut one two old new = (kept ≡ length asked) × (closed ≡ length asked)
+    × (begun ≡ [])
+Ends (Err no_node.NoMemory) asked kept closed begun settled uncut one two old new = IsUnclosed asked kept closed begun
+    × settled
+Ends (Err no_node.BothLost) asked kept closed begun settled uncut one two old new = IsUnclosed asked kept closed begun
+    × IsBothLost one two × uncut
+Ends (Err no_node.ConsoleFault) asked kept closed begun settled uncut one two old new = (kept ≡ closed + 1)
+    × (begun ≡ []) × Rose (old.faults Console) (new.faults Console)
 Ends (Err no_node.Halted) asked kept closed begun settled uncut one two old new = IsStopped old new × uncut
 
 abbrev pub IfNotLost : {T : Type 0} → Result T NodeNo → Type 0 → Type 0
@@ -50,7 +57,8 @@ IfNotLost (Err no_node.BothLost) P = Unit {0}
 IfNotLost _ P = P
 
 -- The steps were played up to the end, or to one that ends the run.
-pub record ArePlayed {T : Type 0} (told : Type 0) (base : Queue) (per : ℕ) (asked : List Turn) (batches : List Batch) (was1 is1 was2 is2 : Bool) (old new : View) (result : Result T NodeNo) : Type 0 where
+pub record ArePlayed {T : Type 0} (told : Type 0) (base : Queue) (per : ℕ) (asked : List Turn) (batches : List Batch)
+    (was1 is1 was2 is2 : Bool) (old new : View) (result : Result T NodeNo) : Type 0 where
   pub did : List Outcome
   pub shaped : AreOutcomes 1 asked did
   pub are : told → did ≡ outcomes_of base asked
@@ -60,23 +68,31 @@ pub record ArePlayed {T : Type 0} (told : Type 0) (base : Queue) (per : ℕ) (as
   pub course : Course was1 is1 was2 is2 old new
   pub left : IfNotLost result (SomeAlive is1 is2 ⊎ HasLost old new)
   pub history : IsHistory did kept old.now new.now batches
-  pub ends : Ends result asked kept closed history.begun (IsSettled (next_in kept did) history.between new.now history.begun) (IsUncut (drop kept asked) (next_in kept did) history.between new.now history.begun) is1 is2 old new
+  pub ends : Ends result asked kept closed history.begun
+      (IsSettled (next_in kept did) history.between new.now history.begun)
+      (IsUncut (drop kept asked) (next_in kept did) history.between new.now history.begun) is1 is2 old new
   pub loses : told → (d : Dev) → new.loses d ≡ loses_after d (take kept asked) (old.loses d)
   pub passed : ArePassed told old new per base 1 closed batches asked did
   pub volumes : told → All LeavesVolumes asked → AreVolumesKept old new
-  pub said : told → Adds (lines_in (take closed did)) (lines_in (take kept did)) (console_now old) (console_now new) (status_of result ≡ status.ConsoleFault) (IsStopped old new)
+  pub said : told → Adds (lines_in (take closed did)) (lines_in (take kept did)) (console_now old) (console_now new)
+      (status_of result ≡ status.ConsoleFault) (IsStopped old new)
 
--- They are the steps of a script, from a book of the lock on, and were played over a journal that had these batches, and has so many now.
-pub record HasPlay {T : Type 0} (told : Type 0) (base : Queue) (config : Config) (book : Book) (steps : List Step) (front batches : List Batch) (was1 is1 was2 is2 : Bool) (old new : View) (result : Result T NodeNo) : Type 0 where
+-- The steps of a script have been played, from a book of the lock on, over a journal that had these batches, and has so
+-- many now.
+pub record HasPlay {T : Type 0} (told : Type 0) (base : Queue) (config : Config) (book : Book) (steps : List Step)
+    (front batches : List Batch) (was1 is1 was2 is2 : Bool) (old new : View) (result : Result T NodeNo) : Type 0 where
   pub seen : List Sight
   pub rest : List Batch
   pub batches_are : batches ≡ front ++ rest
-  pub played : ArePlayed told base config.groups (turns_from config book seen steps) rest was1 is1 was2 is2 old new result
+  pub played : ArePlayed told base config.groups (turns_from config book seen steps) rest was1 is1 was2 is2 old new
+      result
 
--- And these first ones of them have been played.
-pub record HavePlay (told : Type 0) (base : Queue) (config : Config) (book : Book) (steps : List Step) (count : ℕ) (front batches : List Batch) (was1 is1 was2 is2 : Bool) (old new : View) : Type 0 where
+-- So many of a script's steps, from the first on, have been played.
+pub record HavePlay (told : Type 0) (base : Queue) (config : Config) (book : Book) (steps : List Step) (count : ℕ)
+    (front batches : List Batch) (was1 is1 was2 is2 : Bool) (old new : View) : Type 0 where
   pub seen : List Sight
   pub many : length seen ≡ count
   pub rest : List Batch
   pub batches_are : batches ≡ front ++ rest
-  pub played : HavePlayed told base config.groups (turns_from config book seen (take count steps)) rest was1 is1 was2 is2 old new
+  pub played : HavePlayed told base config.groups (turns_from config book seen (take count steps)) rest was1 is1 was2
+      is2 old new

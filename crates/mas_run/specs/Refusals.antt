@@ -28,7 +28,7 @@ calm cold only = record { cold = cold; race = false; only = only }
 abbrev pub said_by : Bool → Bool → List ℕ → Said
 said_by cold only script = read_as (calm cold only) script
 
--- the steps that it says: none where a line is refused
+-- the steps that a script's bytes say: none where a line is refused
 abbrev pub steps_of : Said → List Step
 steps_of (Ok script) = script.steps
 steps_of (Err why) = []
@@ -40,24 +40,27 @@ bytes_needed config = form_needs (page_count config)
 abbrev pub refused_where : Bool → Status → Option Status
 refused_where holds why = if holds then Some why else None
 
--- a checkpoint device that is smaller than this
+-- the refusal of a checkpoint device that has fewer bytes than are needed
 abbrev pub refused_copy : View → ℕ → Dev → Option Status
 refused_copy v needed dev = refused_where (nat_lt (v.size dev) needed) (status.DeviceSize dev (v.size dev))
 
--- a volume that isn't lost and has no room for so many groups
+-- the refusal of a volume that isn't lost and has no room for so many groups
 abbrev pub refused_volume : View → ℕ → ℕ → Option Status
-refused_volume v per n = refused_where (not (v.lost (Disk (Spool n))) && nat_lt (v.size (Spool n)) (page_bytes * per)) (status.DeviceSize (Spool n) (v.size (Spool n)))
+refused_volume v per n = refused_where (not (v.lost (Disk (Spool n))) && nat_lt (v.size (Spool n)) (page_bytes * per))
+    (status.DeviceSize (Spool n) (v.size (Spool n)))
 
--- so many volumes, from this number on
+-- the refusals of so many volumes, from this number on
 abbrev pub refused_volumes : View → ℕ → ℕ → ℕ → List (Option Status)
 refused_volumes v per n zero = []
 refused_volumes v per n (suc more) = refused_volume v per n ∷ refused_volumes v per (n + 1) more
 
 -- the devices of a configuration that are too small: CKPT1, CKPT2, and then the volumes in their order
 abbrev pub refused_devices : Config → View → List (Option Status)
-refused_devices config v = refused_copy v (bytes_needed config) Ckpt1 ∷ refused_copy v (bytes_needed config) Ckpt2 ∷ refused_volumes v config.groups 1 config.volumes
+refused_devices config v = refused_copy v (bytes_needed config) Ckpt1 ∷ refused_copy v (bytes_needed config) Ckpt2
+    ∷ refused_volumes v config.groups 1 config.volumes
 
--- the devices that a script's configuration needs are known before a cold run; what a warm run needs stands on the copies
+-- the devices that a script's configuration needs are known before a cold run; what a warm run needs stands on the
+-- copies
 abbrev pub refused_sizes : Bool → Config → View → List (Option Status)
 refused_sizes cold config v = if cold then refused_devices config v else []
 
@@ -92,7 +95,7 @@ is_refusal cold status.Words = true
 is_refusal cold (status.BadLine line cause) = true
 is_refusal cold status.TooLong = true
 
--- A refusal is answered, but where the source failed or memory was wanting.
+-- A refusal is answered, except where the source failed or the run is out of memory.
 abbrev pub Answers : Bool → Option Status → Status → Type 0
 Answers cold None answer = is_refusal cold answer ≡ false
 Answers cold (Some why) answer = (answer ≡ why) ⊎ ((answer ≡ status.SourceFault) ⊎ (answer ≡ status.NoMemory))
@@ -109,12 +112,12 @@ is_of_script _ = false
 abbrev pub IsTakenFrom : List ℕ → List ℕ → Type 0
 IsTakenFrom left rest = TakesAtMost (script_bytes + 1) left rest
 
--- a script that says this
+-- these bytes say just this script
 abbrev pub IsSaid : Bool → Bool → List ℕ → Script → Type 0
 IsSaid cold only bytes script = said_by cold only bytes ≡ Ok script
 
--- how a run ends that nothing hinders: with Done, or for want of memory; a warm one also where it finds no queue, or a device is
--- too small for what it finds
+-- how a run ends that nothing hinders: with Done, or for want of memory; a warm one also where it finds no queue, or a
+-- device is too small for what it finds
 abbrev pub IsPlayedOut : Bool → Status → Type 0
 IsPlayedOut cold status.Done = Unit {0}
 IsPlayedOut cold status.NoMemory = Unit {0}

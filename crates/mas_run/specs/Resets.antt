@@ -18,21 +18,24 @@ use Rattle.member_node.specs.Calls.{Apart, Course}
 abbrev pub restart_entries : List Entry
 restart_entries = record { by = nobody; step = 0; command = Restart; reply = Plain } ∷ []
 
--- its batch, in flight since this moment
+-- Restart's batch, in flight since this moment
 abbrev pub restart_at : ℕ → Batch
 restart_at first = begun first nobody restart_entries
 
--- It is kept, or both copies were lost in it and it is in flight, or while room was made for it, or there was no memory for it. It
--- begins after so many acts.
+-- Restart's batch is kept; or both copies were lost in it and it is in flight, or while room was made for it; or there
+-- was no memory for it. It begins after so many acts.
 abbrev pub ResetsTo : {T : Type 0} → Result T NodeNo → List Batch → Bool → Bool → ℕ → ℕ → Type 0
-ResetsTo (Ok done) batches is1 is2 from now = ((first last : ℕ) × (from ≤ first) × (first ≤ last) × (last ≤ now) × (batches ≡ fated Kept last (restart_at first) ∷ [])) × SomeAlive is1 is2
+ResetsTo (Ok done) batches is1 is2 from now = ((first last : ℕ) × (from ≤ first) × (first ≤ last) × (last ≤ now)
+    × (batches ≡ fated Kept last (restart_at first) ∷ [])) × SomeAlive is1 is2
 ResetsTo (Err no_node.NoMemory) batches is1 is2 from now = (batches ≡ []) × SomeAlive is1 is2
-ResetsTo (Err no_node.BothLost) batches is1 is2 from now = ((batches ≡ []) ⊎ ((first : ℕ) × (from ≤ first) × (batches ≡ restart_at first ∷ []))) × IsBothLost is1 is2
+ResetsTo (Err no_node.BothLost) batches is1 is2 from now = ((batches ≡ [])
+    ⊎ ((first : ℕ) × (from ≤ first) × (batches ≡ restart_at first ∷ []))) × IsBothLost is1 is2
 ResetsTo (Err no_node.ConsoleFault) batches is1 is2 from now = ⊥
 ResetsTo (Err no_node.Halted) batches is1 is2 from now = ⊥
 
 -- Restart as the first batch, and what it leaves as it was.
-pub record HasReset {T : Type 0} (told : Type 0) (batches : List Batch) (was1 is1 was2 is2 : Bool) (old new : View) (result : Result T NodeNo) : Type 0 where
+pub record HasReset {T : Type 0} (told : Type 0) (batches : List Batch) (was1 is1 was2 is2 : Bool) (old new : View)
+    (result : Result T NodeNo) : Type 0 where
   pub course : Course was1 is1 was2 is2 old new
   pub loses : (d : Dev) → new.loses d ≡ old.loses d
   pub ends : ResetsTo result batches is1 is2 old.now new.now

@@ -74,12 +74,12 @@ AreSidesKept old new = SameSides (old.world old.now) (new.world new.now)
 abbrev pub IsSettled : List (List Entry) → ℕ → ℕ → List Batch → Type 0
 IsSettled next from now begun = (begun ≡ []) ⊎ AreCut sysa from now next begun
 
--- some batches of the next step, if any, each with all its entries, and behind them perhaps one in flight
+-- some batches of the next step, if any, each with all its entries, and after them perhaps one in flight
 abbrev pub IsBegun : List (List Entry) → ℕ → ℕ → List Batch → Type 0
 IsBegun next from now begun = (begun ≡ []) ⊎ AreSome sysa from now next begun ⊎ OneFlies sysa from now next begun
 
--- So many steps, which did this, are kept, from the first on. Behind their batches stand none, or the first ones of the next step, of which
--- the last may be in flight, or have its first entries alone.
+-- So many steps, which did this, are kept, from the first on. After their batches stand none, or the first ones of the
+-- next step, of which the last may be in flight, or have its first entries alone.
 pub record IsHistory (did : List Outcome) (kept : ℕ) (since now : ℕ) (batches : List Batch) : Type 0 where
   pub front : List Batch
   pub begun : List Batch
@@ -89,25 +89,27 @@ pub record IsHistory (did : List Outcome) (kept : ℕ) (since now : ℕ) (batche
   pub are_kept : AreAll sysa since between (batches_in (take kept did)) front
   pub next : IsSettled (next_in kept did) between now begun ⊎ OneFlies sysa between now (next_in kept did) begun
 
--- only the first entries of one are kept without the rest where the step works
+-- of the next step's batches only the first entries of one are kept without the rest where the step works
 abbrev pub IsUncut : List Turn → List (List Entry) → ℕ → ℕ → List Batch → Type 0
 IsUncut asked next from now begun = IsBegun next from now begun ⊎ (BeginsWork asked × AreCut sysa from now next begun)
 
--- The step behind those that are closed isn't kept as a whole; or it works, and all of it is kept, and nothing behind it was begun.
+-- The step after those that are closed isn't kept as a whole; or it works, and all of it is kept, and nothing after
+-- it was begun.
 abbrev pub IsUnclosed : List Turn → ℕ → ℕ → List Batch → Type 0
 IsUnclosed asked kept closed begun = (kept ≡ closed) ⊎ (BeginsWork (drop closed asked) × (begun ≡ []))
 
 -- THE CONSOLE
 
--- What a run adds, where these are the lines of the steps that are known to be closed, and these those of all that are kept: the first
--- ones, or where the console failed or the member was stopped perhaps some more of these, and where it was stopped perhaps a torn line
--- behind them.
+-- What a run adds, where these are the lines of the steps that are known to be closed, and these those of all that are
+-- kept: the first ones, or where the console failed or the member was stopped perhaps some more of these, and where it
+-- was stopped perhaps a torn line after them.
 abbrev pub Adds : List (List ℕ) → List (List ℕ) → List Line → List Line → Type 0 → Type 0 → Type 0
 Adds closed kept was now failed stopped =
     (now ≡ was ++ map whole closed)
     ⊎ ((n : ℕ) × (length closed ≤ n) × (n < length kept) × (now ≡ was ++ map whole (take n kept)) × failed)
     ⊎ ((n : ℕ) × (length closed ≤ n) × (n ≤ length kept) × (now ≡ was ++ map whole (take n kept)) × stopped)
-    ⊎ ((n : ℕ) × (text : List ℕ) × (length closed ≤ n) × (n < length kept) × (now ≡ (was ++ map whole (take n kept)) ++ torn text ∷ []) × stopped)
+    ⊎ ((n : ℕ) × (text : List ℕ) × (length closed ≤ n) × (n < length kept)
+    × (now ≡ (was ++ map whole (take n kept)) ++ torn text ∷ []) × stopped)
 
 -- THE RUN
 
@@ -130,12 +132,14 @@ pub record IsRestart (since : ℕ) (b : Batch) : Type 0 where
   pub entries : b.entries ≡ restart_entries
   pub began : since ≤ b.first
 
--- A warm run begins with Restart, which is kept before its steps begin. Or both copies were lost in it, and it is in flight to
--- the end; or there was no memory for it, or both copies were lost while room was made for it: then no step is played.
+-- A warm run begins with Restart, which is kept before its steps begin. Or both copies were lost in it, and it is in
+-- flight to the end; or there was no memory for it, or both copies were lost while room was made for it: then no step
+-- is played.
 abbrev pub IsReset : Status → ℕ → ℕ → List Batch → ℕ → List Batch → Type 0
 IsReset answer since at opening kept rest =
     ((b : Batch) × (opening ≡ b ∷ []) × IsRestart since b × (b.fate ≡ Kept) × (b.first ≤ b.last) × (b.last ≤ at))
-    ⊎ ((b : Batch) × (opening ≡ b ∷ []) × IsRestart since b × (b.fate ≡ Flying) × (b.last ≡ top) × (answer ≡ status.BothLost) × (kept ≡ 0) × (rest ≡ []))
+    ⊎ ((b : Batch) × (opening ≡ b ∷ []) × IsRestart since b × (b.fate ≡ Flying) × (b.last ≡ top)
+    × (answer ≡ status.BothLost) × (kept ≡ 0) × (rest ≡ []))
     ⊎ ((opening ≡ []) × ((answer ≡ status.NoMemory) ⊎ (answer ≡ status.BothLost)) × (kept ≡ 0) × (rest ≡ []))
 
 -- what stands in the journal before the steps: nothing in a cold run
@@ -143,7 +147,8 @@ abbrev pub IsOpened : Bool → Status → ℕ → ℕ → List Batch → ℕ →
 IsOpened true answer since at opening kept rest = (opening ≡ []) × (at ≡ since)
 IsOpened false answer since at opening kept rest = IsReset answer since at opening kept rest
 
--- up to a warm run's first moment an image of a copy is one of the entry, or reads as the copy did or as the pages found
+-- up to a warm run's first moment an image of a copy is one of the entry, or reads as the copy did or as the pages
+-- found
 pub record IsHeldUntil (since : ℕ) (found : List ℕ) (old new : View) : Type 0 where
   pub first : Throughout old.now since (λ t. IsHeld form_reads (disk_now old Ckpt1) found (disk_at new t Ckpt1))
   pub second : Throughout old.now since (λ t. IsHeld form_reads (disk_now old Ckpt2) found (disk_at new t Ckpt2))
@@ -152,11 +157,11 @@ pub record IsHeldUntil (since : ℕ) (found : List ℕ) (old new : View) : Type 
 abbrev pub begins_at : ℕ → (Dev → ℕ) → Mark
 begins_at since first = record { at = since; loses = first }
 
--- The queue of the pages that a warm run finds: their tables tell it, and its texts stood on the spool volumes at the run's first
--- moment, all of them synced, but for those with a group on a volume that is lost. Where no volume is lost in the run, each text is
--- what the volumes gave at the entry: one with a group on a lost volume is gone, and names the first such group. A copy had been
--- lost by a call before the steps only where it may not stay beside these pages, and not both had. Up to the first moment a crash
--- leaves of a copy what was there, or these pages.
+-- The queue of the pages that a warm run finds: their tables tell it, and its texts stood on the spool volumes at the
+-- run's first moment, all of them synced, except those with a group on a volume that is lost. Where no volume is lost
+-- in the run, each text is what the volumes gave at the entry: one with a group on a lost volume is gone, and names the
+-- first such group. A copy had been lost by a call before the steps only where it may not stay beside these pages, and
+-- not both had. Up to the first moment a crash leaves of a copy what was there, or these pages.
 pub record IsFoundQueue (tells : Type 0) (old new : View) (since : ℕ) (first : Dev → ℕ) (base : Queue) : Type 0 where
   pub pages : List Page
   pub tables : Tables
@@ -167,8 +172,10 @@ pub record IsFoundQueue (tells : Type 0) (old new : View) (since : ℕ) (first :
   pub given : tells → IsSteady old new → AreGiven old base.config.groups base
   pub found : tells → IsFound form_reads old new (begins_at since first) (bytes_of pages)
   pub one : (first Ckpt1 ≡ old.loses Ckpt1) ⊎ (first Ckpt2 ≡ old.loses Ckpt2)
-  pub kept1 : tells → (first Ckpt1 ≡ old.loses Ckpt1) ⊎ IsUnfit form_reads Ckpt1 old new (begins_at since first) (form_room (disk_now old Ckpt1).bytes) pages
-  pub kept2 : tells → (first Ckpt2 ≡ old.loses Ckpt2) ⊎ IsUnfit form_reads Ckpt2 old new (begins_at since first) (form_room (disk_now old Ckpt2).bytes) pages
+  pub kept1 : tells → (first Ckpt1 ≡ old.loses Ckpt1)
+      ⊎ IsUnfit form_reads Ckpt1 old new (begins_at since first) (form_room (disk_now old Ckpt1).bytes) pages
+  pub kept2 : tells → (first Ckpt2 ≡ old.loses Ckpt2)
+      ⊎ IsUnfit form_reads Ckpt2 old new (begins_at since first) (form_room (disk_now old Ckpt2).bytes) pages
   pub held : tells → IsHeldUntil since (bytes_of pages) old new
 
 -- a cold run begins with the empty queue of the script's configuration and routes, a warm one with the queue found
@@ -176,8 +183,9 @@ abbrev pub HasBase : Bool → Type 0 → Script → View → View → ℕ → (D
 HasBase true tells script old new since first base = base ≡ empty_queue script.config script.routes
 HasBase false tells script old new since first base = IsFoundQueue tells old new since first base
 
--- At a cold run's first moment whatever a crash leaves of a copy reads as pages of level 1, which spell the empty tables of its configuration
--- and routes, so that their next order is 0. At the greatest moment, at which the world stays while acts fail, no more is said.
+-- At a cold run's first moment whatever a crash leaves of a copy reads as pages of level 1, which spell the empty
+-- tables of its configuration and routes, so that their next order is 0. At the greatest moment, at which the world
+-- stays while acts fail, no more is said.
 pub record IsFormatted (config : Config) (routes : List Route) (since : ℕ) (v : View) : Type 0 where
   pub pages : List Page
   pub spell : IsCheckpoint pages (empty_tables config routes)
@@ -196,38 +204,45 @@ LosesFirst false (Spool n) was is = is ≡ was
 -- THE STEPS
 
 -- The steps of a run, on a plant that showed `old` when they began, from a queue on: what is known of them at its end.
-pub record HavePassed (tells : Type 0) (asked : List Turn) (answer : Status) (from : Queue) (per at : ℕ) (rest : List Batch) (first : Dev → ℕ) (old new : View) : Type 0 where
-  -- what they did, or would have done: where content is told it is what the table of commands gives for each, at its queue
+pub record HavePassed (tells : Type 0) (asked : List Turn) (answer : Status) (from : Queue) (per at : ℕ)
+    (rest : List Batch) (first : Dev → ℕ) (old new : View) : Type 0 where
+  -- what the steps did, or would have done: where content is told it is what the table of commands gives for each, at
+  -- its queue
   pub did : List Outcome
   pub shaped : AreOutcomes 1 asked did
   pub are : tells → did ≡ outcomes_of from asked
-  -- so many of its steps are kept, from the first on, and so many of these are known to be closed
+  -- so many of the steps are kept, from the first on, and so many of the kept ones are known to be closed
   pub kept : ℕ
   pub closed : ℕ
   pub few : (closed ≤ kept) × (kept ≤ closed + 1) × (kept ≤ length asked)
   pub history : IsHistory did kept at new.now rest
-  pub settled : answer ≢ status.BothLost → IsSettled (next_in kept did) history.between new.now history.begun ⊎ IsStopped old new
-  -- but for work only where memory wanted what was done of a batch is kept without the rest
-  pub uncut : answer ≢ status.NoMemory → IsUncut (drop kept asked) (next_in kept did) history.between new.now history.begun
+  pub settled : answer ≢ status.BothLost → IsSettled (next_in kept did) history.between new.now history.begun
+      ⊎ IsStopped old new
+  -- except for work, what was done of a batch is kept without the rest only if the run is out of memory
+  pub uncut : answer ≢ status.NoMemory
+      → IsUncut (drop kept asked) (next_in kept did) history.between new.now history.begun
   pub done : answer ≡ status.Done → (closed ≡ length asked) ⊎ IsStopped old new
   pub unsaid : answer ≡ status.ConsoleFault → (kept ≡ closed + 1) × (history.begun ≡ [])
   pub unplayed : answer ≡ status.NoMemory → IsUnclosed asked kept closed history.begun
   pub unkept : answer ≡ status.BothLost → IsUnclosed asked kept closed history.begun
-  -- its lines are those of the steps that are closed
-  pub said : tells → Adds (lines_in (take closed did)) (lines_in (take kept did)) (console_now old) (console_now new) (answer ≡ status.ConsoleFault) (IsStopped old new)
+  -- the lines that the run said are those of the steps that are closed
+  pub said : tells → Adds (lines_in (take closed did)) (lines_in (take kept did)) (console_now old) (console_now new)
+      (answer ≡ status.ConsoleFault) (IsStopped old new)
   -- a device is lost by a call as often as a step that was played says so
   pub loses : tells → (d : Dev) → new.loses d ≡ loses_after d (take kept asked) (first d)
-  -- this is what the plant showed when the first step began, and what each step did of all this: a deck or work finds only a volume or
-  -- printer lost that failed in that step, and no step but work prints a line
+  -- what the plant showed when the first step began, and what each step did from then on: a deck or work finds lost
+  -- only a volume or printer that failed in that step, and no step except work prints a line
   pub entry : View
   pub entered : (entry.now ≡ at) × Goes old entry
   pub passed : ArePassed tells entry new per from 1 closed rest asked did
-  -- a copy is left but where both are lost
-  pub there : answer ≢ status.BothLost → ((new.lost (Disk Ckpt1) ≡ false) ⊎ (new.lost (Disk Ckpt2) ≡ false)) ⊎ HasLostSince first new
+  -- a copy is left, except where both are lost
+  pub there : answer ≢ status.BothLost → ((new.lost (Disk Ckpt1) ≡ false) ⊎ (new.lost (Disk Ckpt2) ≡ false))
+      ⊎ HasLostSince first new
 
--- What holds at each moment from a run's first on: a crash leaves the queue after what was kept, both copies read the same pages or
--- those on either side of the batch in flight, each text is left, and what is told is kept; the lines that each kept Mark answered stand
--- on paper, and each line that a printer has more is the next one of the output that is busy at its member.
+-- What holds at each moment from a run's first on: a crash leaves the queue after what was kept, both copies read the
+-- same pages or those on either side of the batch in flight, each text is left, and what is told is kept; the lines
+-- that each kept Mark answered stand on paper, and each line that a printer has more is the next one of the output that
+-- is busy at its member.
 pub record IsSafe (tells : Type 0) (base : Queue) (journal : Journal) (since : ℕ) (new : View) : Type 0 where
   pub crash : tells → ∥ IsCrashSafe form_reads base journal since new ∥₁
   pub alike : tells → ∥ AreAlwaysAlike form_reads base journal since new ∥₁
@@ -235,19 +250,22 @@ pub record IsSafe (tells : Type 0) (base : Queue) (journal : Journal) (since : �
   pub told : tells → AreToldKept journal since new
   pub paper : tells → ∥ PaperKept base since journal.batches new ∥₁
 
--- What was played, by a run on a base, whose journal had these batches then, on a plant that showed `old` before and `new`
--- after it.
-pub record IsPlay (tells : Type 0) (asked : List Turn) (answer : Status) (base : Queue) (front : List Batch) (journal : Journal) (since : ℕ) (old new : View) : Type 0 where
+-- What was played, by a run on a base, whose journal had these batches then, on a plant that showed `old` before and
+-- `new` after it.
+pub record IsPlay (tells : Type 0) (asked : List Turn) (answer : Status) (base : Queue) (front : List Batch)
+    (journal : Journal) (since : ℕ) (old new : View) : Type 0 where
   pub rest : List Batch
   pub batches : journal.batches ≡ front ++ rest
-  pub played : HavePassed tells asked answer (run base (kept_all front)) base.config.groups old.now rest old.loses old new
+  pub played : HavePassed tells asked answer (run base (kept_all front)) base.config.groups old.now rest old.loses old
+      new
   pub volumes : tells → All LeavesVolumes asked → AreVolumesKept old new
   pub safe : IsSafe tells base journal since new
 
--- The steps of a run, cold or warm, from its first moment on. Before them stands its opening, and each device had been lost so
--- often by a call.
-pub record HasSteps (cold : Bool) (tells : Type 0) (asked : List Turn) (answer : Status) (base : Queue) (journal : Journal) (since : ℕ) (first : Dev → ℕ) (old new : View) : Type 0 where
-  -- its journal is that of its opening and of the steps, which began at a moment
+-- The steps of a run, cold or warm, from its first moment on. Before them stands its opening, and each device had been
+-- lost so often by a call.
+pub record HasSteps (cold : Bool) (tells : Type 0) (asked : List Turn) (answer : Status) (base : Queue)
+    (journal : Journal) (since : ℕ) (first : Dev → ℕ) (old new : View) : Type 0 where
+  -- the journal of the run is that of its opening and of the steps, which began at a moment
   pub opening : List Batch
   pub rest : List Batch
   pub batches : journal.batches ≡ opening ++ rest
@@ -255,27 +273,30 @@ pub record HasSteps (cold : Bool) (tells : Type 0) (asked : List Turn) (answer :
   pub began : (since ≤ at) × (at ≤ new.now)
   pub played : HavePassed tells asked answer (run base (kept_all opening)) base.config.groups at rest first old new
   pub opened : IsOpened cold answer since at opening played.kept rest
-  -- no byte of a volume changed before they began, nor in steps that leave the volumes as they are; and no line was printed before
+  -- no byte of a volume changed before they began, nor in steps that leave the volumes as they are; and no line was
+  -- printed before
   pub before : tells → AreVolumesKeptUntil at old new
   pub dry : tells → ArePapersKeptUntil at old new
   pub volumes : tells → All LeavesVolumes asked → AreVolumesKept old new
   pub safe : IsSafe tells base journal since new
 
--- A run that has begun, cold or warm, of a script with these steps, on a plant that showed `old` before and `new` after it. What it says
--- of contents is said of a plant that tells.
-pub record IsRun (cold : Bool) (tells : Type 0) (script : Script) (answer : Status) (base : Queue) (journal : Journal) (since : ℕ) (old new : View) : Type 0 where
-  -- before its first moment a device had been lost so often by a call: a warm start may have lost a copy once
+-- A run that has begun, cold or warm, of a script with these steps, on a plant that showed `old` before and `new` after
+-- it. What it says of contents is said of a plant that tells.
+pub record IsRun (cold : Bool) (tells : Type 0) (script : Script) (answer : Status) (base : Queue) (journal : Journal)
+    (since : ℕ) (old new : View) : Type 0 where
+  -- before the run's first moment a device had been lost so often by a call: a warm start may have lost a copy once
   pub first : Dev → ℕ
   pub before : (d : Dev) → LosesFirst cold d (old.loses d) (first d)
-  -- it began with its base, which has the sound parts, and which the copies had then, and nothing was said before
+  -- the run began with its base, which has the sound parts, and which the copies had then, and nothing was said before
   pub queue : HasBase cold tells script old new since first base
   pub sound : IsSound base
   pub moment : (old.now ≤ since) × (since ≤ new.now)
   pub fresh : tells → ∥ LeavesQueue form_reads base since new ∥₁
   pub formatted : cold ≡ true → tells → IsFormatted script.config script.routes since new
   pub quiet : tells → (new.world since).console ≡ console_now old
-  -- nor printed, nor taken or given on a wire
+  -- nothing was printed before the run's first moment, nor taken or given on a wire
   pub dry : tells → SameSides (old.world old.now) (new.world since)
-  -- and then its steps were played, each where the book of the lock gives it to the member; to the first ones the volumes gave this
+  -- the steps of the run were played after its opening, each where the book of the lock gives it to the member; to the
+  -- first ones the volumes gave this
   pub seen : List Sight
   pub steps : HasSteps cold tells (turns_of base.config seen script.steps) answer base journal since first old new

@@ -20,21 +20,22 @@ pub record IsCaused (answer : Status) (old new : View) : Type 0 where
   pub failed2 : answer ≡ status.BothLost → WasLost Ckpt2 old new
   pub console : answer ≡ status.ConsoleFault → Rose (old.faults Console) (new.faults Console)
 
--- a copy that was there, and that was lost by calls less often than can be counted; no act on it failed, and no step loses it
+-- a copy that was there, and that was lost by calls less often than can be counted; no act on it failed, and no step
+-- loses it
 pub record IsLeftAlone (dev : Dev) (steps : List Step) (old new : View) : Type 0 where
   pub there : old.lost (Disk dev) ≡ false
   pub counted : old.loses dev < top
   pub failed : Rose (old.faults (Disk dev)) (new.faults (Disk dev)) → ⊥
   pub unasked : All (λ (s : Step). s.what ≢ ask.Lose dev) steps
 
--- so is one of the copies, and the other one too, unless it was lost before
+-- one of the copies is left alone, and the other one too, unless it was lost before
 abbrev pub AreLeftAlone : List Step → View → View → Type 0
 AreLeftAlone steps old new =
     (IsLeftAlone Ckpt1 steps old new × (IsLeftAlone Ckpt2 steps old new ⊎ (old.lost (Disk Ckpt2) ≡ true)))
     ⊎ (IsLeftAlone Ckpt2 steps old new × (old.lost (Disk Ckpt1) ≡ true))
 
--- No fault of the source or of the console rose; and the copies were left alone by their devices and by the script's steps, where content is
--- told, or not both were lost, whoever lost them.
+-- No fault of the source or of the console rose; and the copies were left alone by their devices and by the script's
+-- steps, where content is told, or not both were lost, whoever lost them.
 pub record IsStill (tells : Type 0) (steps : List Step) (before after : ℕ) (old new : View) : Type 0 where
   pub source : Rose before after → ⊥
   pub disks : (tells × AreLeftAlone steps old new) ⊎ (WasLost Ckpt1 old new → WasLost Ckpt2 old new → ⊥)
@@ -68,7 +69,7 @@ abbrev pub is_unplayed : Status → Bool
 is_unplayed status.SourceFault = true
 is_unplayed answer = is_of_text answer
 
--- the same over a part of a run, where these copies counted as alive before it
+-- the causes of an answer over a stretch of a run, where these copies counted as alive before it
 pub record IsCausedFrom (one two : Bool) (answer : Status) (old new : View) : Type 0 where
   pub lost : answer ≡ status.BothLost → (new.lost (Disk Ckpt1) ≡ true) × (new.lost (Disk Ckpt2) ≡ true)
   pub failed1 : answer ≡ status.BothLost → one ≡ true → WasLost Ckpt1 old new

@@ -1,6 +1,6 @@
--- What the steps of a script give, one after another: each its batches, the lines with which it closes, and how often a device was
--- lost. A step whose member doesn't get the lock, or that closes before any try, has no batch, and its line says why; a step that
--- loses a device has no batch and no line.
+-- What the steps of a script give, one after another: each its batches, the lines with which it closes, and how often a
+-- device was lost. A step whose member doesn't get the lock, or that closes before any try, has no batch, and its line
+-- says why; a step that loses a device has no batch and no line.
 use Rattle.std.specs.Prelude.{◌≡◌, ℕ, ◌+◌, ◌≤◌, ◌==◌, if◌then◌else◌, List, [], ◌∷◌, ◌++◌, drop, length, map, All}
 use Rattle.mas_types.specs.declared.answers.Closing.{Closing}
 use Rattle.mas_types.specs.declared.commands.Reply.{Reply}
@@ -38,7 +38,7 @@ task_batches Q at (Reads fields text lost) = deck_batches Q sysa at fields text 
 task_batches Q at (Gives given) = (command_step.entry_of Q sysa at given ∷ []) ∷ []
 task_batches Q at (Works n looks) = work_batches Q sysa at n looks
 
--- the lines with which it closes: of a display its lines first, and behind them the closing line
+-- the lines with which a step closes: of a display its lines first, and after them the closing line
 abbrev pub task_lines : Queue → ℕ → Task → List (List ℕ)
 task_lines Q at (Reads fields text lost) = deck_lines Q sysa at fields text lost
 task_lines Q at (Gives given) = command_step.step_lines Q sysa at given
@@ -62,7 +62,7 @@ step_lines Q at Unplayed = []
 abbrev pub after_step : Queue → ℕ → Turn → Queue
 after_step Q at turn = run Q (all_entries (step_batches Q at turn))
 
--- ONE AFTER ANOTHER
+-- STEPS ONE AFTER ANOTHER
 
 -- the queue after steps, of which the first has this number
 abbrev pub queue_after : Queue → ℕ → List Turn → Queue
@@ -78,7 +78,7 @@ pub record Outcome : Type 0 where
 abbrev pub outcome_of : Queue → ℕ → Turn → Outcome
 outcome_of Q at turn = record { batches = step_batches Q at turn; lines = step_lines Q at turn }
 
--- and for steps one after another, of which the first has this number
+-- what the table of commands gives for steps one after another, of which the first has this number
 abbrev pub outcomes_from : Queue → ℕ → List Turn → List Outcome
 outcomes_from Q at [] = []
 outcomes_from Q at (turn ∷ steps) = outcome_of Q at turn ∷ outcomes_from (after_step Q at turn) (at + 1) steps
@@ -96,7 +96,7 @@ abbrev pub lines_in : List Outcome → List (List ℕ)
 lines_in [] = []
 lines_in (o ∷ os) = o.lines ++ lines_in os
 
--- the batches of the first of some steps, and those of the step behind so many
+-- the batches of the first of some steps, and those of the step after so many
 abbrev pub first_in : List Outcome → List (List Entry)
 first_in [] = []
 first_in (o ∷ os) = o.batches
@@ -108,14 +108,17 @@ next_in kept os = first_in (drop kept os)
 abbrev pub batches_most : ℕ
 batches_most = levels_in units_most
 
--- What is known of a step's outcome even where nothing is told of what the copies hold, so that the replies may be others than the
--- table's: a command's batch is that command with a reply, and its lines are those of this reply; a deck's batches are of its step, and
--- its lines those of a reply or of a lost volume; the batches of work are of its step, at most three a unit and one more, and it has
--- a closing line; every other step has no batch, and its own line.
+-- What is known of a step's outcome even where nothing is told of what the copies hold, so that the replies may be
+-- others than the table's: a command's batch is that command with a reply, and its lines are those of this reply; a
+-- deck's batches are of its step, and its lines those of a reply or of a lost volume; the batches of work are of its
+-- step, at most three a unit and one more, and it has a closing line; every other step has no batch, and its own line.
 abbrev pub IsOutcome : ℕ → Turn → Outcome → Type 0
-IsOutcome at (Granted (Reads fields text lost)) o = All (AreOf sysa at) o.batches × (length o.batches ≤ 2) × ((r : Reply) × (o.lines ≡ lines_by sysa at lost r))
-IsOutcome at (Granted (Gives given)) o = (r : Reply) × (o.batches ≡ (command_step.entry_with sysa at given r ∷ []) ∷ []) × (o.lines ≡ reply_lines sysa at r)
-IsOutcome at (Granted (Works n looks)) o = All (AreOf sysa at) o.batches × (length o.batches ≤ levels_in n) × ((end : Closing) × (o.lines ≡ closing_line sysa at end ∷ []))
+IsOutcome at (Granted (Reads fields text lost)) o = All (AreOf sysa at) o.batches × (length o.batches ≤ 2)
+    × ((r : Reply) × (o.lines ≡ lines_by sysa at lost r))
+IsOutcome at (Granted (Gives given)) o = (r : Reply) × (o.batches ≡ (command_step.entry_with sysa at given r ∷ []) ∷ [])
+    × (o.lines ≡ reply_lines sysa at r)
+IsOutcome at (Granted (Works n looks)) o = All (AreOf sysa at) o.batches × (length o.batches ≤ levels_in n)
+    × ((end : Closing) × (o.lines ≡ closing_line sysa at end ∷ []))
 IsOutcome at (Denied why) o = (o.batches ≡ []) × (o.lines ≡ denied_lines sysa at why)
 IsOutcome at (Closed end) o = (o.batches ≡ []) × (o.lines ≡ closing_line sysa at end ∷ [])
 IsOutcome at (Loss dev) o = (o.batches ≡ []) × (o.lines ≡ [])
@@ -164,23 +167,26 @@ loses_after_step Ckpt2 (Loss Ckpt2) loses = next loses
 loses_after_step (Spool n) (Loss (Spool volume)) loses = if n == volume then next loses else loses
 loses_after_step _ _ loses = loses
 
--- and after steps
+-- how often a device was lost by a call, after steps
 abbrev pub loses_after : Dev → List Turn → ℕ → ℕ
 loses_after d [] loses = loses
 loses_after d (turn ∷ steps) loses = loses_after d steps (loses_after_step d turn loses)
 
--- Work of so many units closes with these lines: how many units are done, a refusal, or a text that is gone; or a volume or printer that
--- was lost, which failed.
+-- Work of so many units closes with these lines: how many units are done, a refusal, or a text that is gone; or a
+-- volume or printer that was lost, which failed.
 abbrev pub ClosesAs : View → View → ℕ → ℕ → List (List ℕ) → Type 0
 ClosesAs old new n at lines = (end : Closing) × (lines ≡ closing_line sysa at end ∷ []) × MayClose n sysa end old new
 
--- A deck that found a volume lost had its groups, one of which lies on it, and the volume failed and is lost; each volume has so many
--- groups. Work found what the volumes may give its units, and closed with a cause. What is said of the groups and of units is said where
--- content is told.
+-- A deck that found a volume lost had its groups, one of which lies on it, and the volume failed and is lost; each
+-- volume has so many groups. Work found what the volumes may give its units, and closed with a cause. What is said of
+-- the groups and of units is said where content is told.
 abbrev pub FindsLost : Type 0 → View → View → ℕ → Queue → ℕ → Turn → Outcome → Type 0
-FindsLost told old new per Q at (Granted (Reads fields text lost)) o = IsFoundLost lost old new × (told → LiesOn (ends_as Q sysa fields (groups_needed text)) per (opened_queue Q sysa at fields text) sysa text lost)
+FindsLost told old new per Q at (Granted (Reads fields text lost)) o = IsFoundLost lost old new
+    × (told → LiesOn (ends_as Q sysa fields (groups_needed text)) per (opened_queue Q sysa at fields text) sysa text
+    lost)
 FindsLost told old new per Q at (Granted (Gives given)) o = Unit {0}
-FindsLost told old new per Q at (Granted (Works n looks)) o = ClosesAs old new n at o.lines × (told → All (IsRound told per sysa at old new) (rounds n Q sysa at looks))
+FindsLost told old new per Q at (Granted (Works n looks)) o = ClosesAs old new n at o.lines
+    × (told → All (IsRound told per sysa at old new) (rounds n Q sysa at looks))
 FindsLost told old new per Q at (Denied why) o = Unit {0}
 FindsLost told old new per Q at (Closed end) o = Unit {0}
 FindsLost told old new per Q at (Loss dev) o = Unit {0}
@@ -196,11 +202,12 @@ PrintsNone (Closed end) = Unit {0}
 PrintsNone (Loss dev) = Unit {0}
 PrintsNone Unplayed = Unit {0}
 
--- A step of this number, with these batches of the journal, on a plant that showed `old` before it and `new` behind it. It finds lost what
--- failed in itself, and but for work each printer keeps its lines at each of its moments. Where it is among the first so many, which are
--- known to be closed, its batches are these, begun and kept in it; its lines were added to the console, and no others; and a device was lost
--- by a call as often more as it says.
-pub record IsPassed (told : Type 0) (old new : View) (per : ℕ) (Q : Queue) (at closed : ℕ) (turn : Turn) (o : Outcome) (own : List Batch) : Type 0 where
+-- A step of this number, with these batches of the journal, on a plant that showed `old` before it and `new` after it.
+-- It finds lost what failed in itself, and except for work each printer keeps its lines at each of its moments. Where
+-- it is among the first so many, which are known to be closed, its batches are these, begun and kept in it; its lines
+-- were added to the console, and no others; and a device was lost by a call as often more as it says.
+pub record IsPassed (told : Type 0) (old new : View) (per : ℕ) (Q : Queue) (at closed : ℕ) (turn : Turn) (o : Outcome)
+    (own : List Batch) : Type 0 where
   pub goes : Goes old new
   pub found : FindsLost told old new per Q at turn o
   pub papers : told → PrintsNone turn → SamePapers old new
@@ -208,15 +215,16 @@ pub record IsPassed (told : Type 0) (old new : View) (per : ℕ) (Q : Queue) (at
   pub said : told → at ≤ closed → console_now new ≡ console_now old ++ map whole o.lines
   pub loses : told → at ≤ closed → (d : Dev) → new.loses d ≡ loses_after_step d turn (old.loses d)
 
--- Each of the steps, played one after another: each between what the plant showed behind the one before it and what it showed behind this
--- one, with its own part of these batches.
+-- Each of the steps, played one after another: each between what the plant showed after the one before it and what it
+-- showed after this one, with its own part of these batches.
 abbrev pub ArePassed : Type 0 → View → View → ℕ → Queue → ℕ → ℕ → List Batch → List Turn → List Outcome → Type 0
 ArePassed told old new per Q at closed batches [] [] = (new ≡ old) × (batches ≡ [])
 ArePassed told old new per Q at closed batches [] (o ∷ os) = ⊥
 ArePassed told old new per Q at closed batches (turn ∷ steps) [] = ⊥
 ArePassed told old new per Q at closed batches (turn ∷ steps) (o ∷ os) =
     (mid : View) × (own : List Batch) × (more : List Batch) × (batches ≡ own ++ more)
-    × IsPassed told old mid per Q at closed turn o own × ArePassed told mid new per (after_step Q at turn) (at + 1) closed more steps os
+    × IsPassed told old mid per Q at closed turn o own
+    × ArePassed told mid new per (after_step Q at turn) (at + 1) closed more steps os
 
 -- a step that leaves the volumes as they are: it reads no deck, doesn't work, and loses no volume
 abbrev pub LeavesVolumes : Turn → Type 0

@@ -1,6 +1,6 @@
--- What becomes of a script's steps. A deck with a wrong card closes with that, and so does a reset that can't be. Every other deck or
--- command, and work, takes the lock of the checkpoint by a try, and gives it up at its end; where the try is refused nothing is played,
--- and the step closes with why.
+-- What becomes of a script's steps. A deck with a wrong card closes with that, and so does a reset that can't be. Every
+-- other deck or command, and work, takes the lock of the checkpoint by a try, and gives it up at its end; where the try
+-- is refused nothing is played, and the step closes with why.
 use Rattle.std.specs.Prelude.{◌≡◌, ◌<◌, ℕ, false, if◌then◌else◌, List, [], ◌∷◌, drop, get_or, Option, Some, None, Result, Ok, Err}
 use Rattle.mas_types.specs.declared.answers.Closing.{Closing}
 use Rattle.mas_types.specs.declared.answers.Closing.TheVariants as closing
@@ -24,7 +24,8 @@ use Rattle.script_lang.specs.declared.types.Step.{Step}
 use Rattle.mas_complex.specs.Locking.{book_of}
 use Rattle.member_work.specs.Looks.{Look}
 
--- what the spool volumes and the printer gave a step: the volume that its deck found lost, if one, and what each unit of its work found
+-- what the spool volumes and the printer gave a step: the volume that its deck found lost, if one, and what each unit
+-- of its work found
 pub record Sight : Type 0 where
   pub lost : Option ℕ
   pub looks : List Look
@@ -33,15 +34,15 @@ pub record Sight : Type 0 where
 abbrev pub clear : Sight
 clear = record { lost = None; looks = [] }
 
--- what SYSA does in a step: it reads a deck of a job with this text, of which it found this volume lost, if one; or it gives an
--- operator's command; or it works, at most so many units, which found this
+-- what SYSA does in a step: it reads a deck of a job with this text, of which it found this volume lost, if one; or it
+-- gives an operator's command; or it works, at most so many units, which found this
 pub data Task : Type 0 where
   Reads : JobFields → List (List ℕ) → Option ℕ → Task
   Gives : Command → Task
   Works : ℕ → List Look → Task
 
--- A step as it comes to be played: one whose member gets the lock, one whose member doesn't, one that closes before any try, or the
--- loss of a device. A step of another kind isn't played, and no script with one is.
+-- A step as it comes to be played: one whose member gets the lock, one whose member doesn't, one that closes before any
+-- try, or the loss of a device. A step of another kind isn't played, and no script with one is.
 pub data Turn : Type 0 where
   Granted : Task → Turn
   Denied : LockNo → Turn
@@ -110,10 +111,12 @@ book_after config b (ask.Command given) = after_command b (resets given)
 book_after config b (ask.Work n) = after_tried b
 book_after config b _ = b
 
--- Steps one after another, from a book on, to each of which volumes and printer gave this; those behind them found nothing lost.
+-- Steps one after another, from a book on, to each of which volumes and printer gave this; those after them found
+-- nothing lost.
 abbrev pub turns_from : Config → Book → List Sight → List Step → List Turn
 turns_from config b seen [] = []
-turns_from config b seen (step ∷ steps) = turn_at config b (get_or seen 0 clear) step.what ∷ turns_from config (book_after config b step.what) (drop 1 seen) steps
+turns_from config b seen (step ∷ steps) = turn_at config b (get_or seen 0 clear) step.what
+    ∷ turns_from config (book_after config b step.what) (drop 1 seen) steps
 
 -- the steps of a run with this configuration
 abbrev pub turns_of : Config → List Sight → List Step → List Turn
@@ -124,8 +127,10 @@ turns_of config seen steps = turns_from config (book_of config) seen steps
 -- steps that get the lock
 abbrev pub granted_all : Config → List Sight → List Step → List Turn
 granted_all config seen [] = []
-granted_all config seen (step ∷ steps) = turn_by config None (get_or seen 0 clear) step.what ∷ granted_all config (drop 1 seen) steps
+granted_all config seen (step ∷ steps) = turn_by config None (get_or seen 0 clear) step.what
+    ∷ granted_all config (drop 1 seen) steps
 
 -- Where there is no dormancy each try gets the lock, as in a run with the default configuration.
 abbrev pub AreAwake : Type 0
-AreAwake = (config : Config) (seen : List Sight) (steps : List Step) → 0 < config.members → config.dormancy ≡ 0 → turns_of config seen steps ≡ granted_all config seen steps
+AreAwake = (config : Config) (seen : List Sight) (steps : List Step) → 0 < config.members → config.dormancy ≡ 0
+    → turns_of config seen steps ≡ granted_all config seen steps

@@ -21,11 +21,12 @@ pub record StartCauses (tells : Type 0) (why : StartNo) (old new : View) : Type 
   pub alive2 : Bool
   pub cause : IsCauseOf form_reads tells form_needs old new alive1 alive2 why
 
--- The cause of a warm run's status where it hasn't begun. No copy can be used where it is NotFormatted; both are lost where it
--- is BothLost, and an act on one of them failed: at most one was lost by a call, and that one may not stay beside the pages found; what
--- a crash leaves of a copy at any moment is what was there, or these pages.
+-- The cause of a warm run's status where it hasn't begun. No copy can be used where it is NotFormatted; both are lost
+-- where it is BothLost, and an act on one of them failed: at most one was lost by a call, and that one may not stay
+-- beside the pages found; what a crash leaves of a copy at any moment is what was there, or these pages.
 abbrev pub IsNotStarted : Type 0 → Status → View → View → Type 0
-IsNotStarted tells (status.NotFormatted first second) old new = StartCauses tells (no_start.NotFormatted first second) old new
+IsNotStarted tells (status.NotFormatted first second) old new = StartCauses tells (no_start.NotFormatted first second)
+    old new
 IsNotStarted tells (status.DeviceSize dev size) old new = StartCauses tells (no_start.DeviceSize dev size) old new
 IsNotStarted tells status.BothLost old new = LosesBoth old new × (tells → HeldBack form_reads form_room old new)
 IsNotStarted tells _ old new = Unit {0}

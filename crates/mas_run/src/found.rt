@@ -79,8 +79,12 @@ fn play_reset<P: Plant + Drop>(
     requires fit { AreFit found.tables }
     requires orders { HaveOrders found.tables }
     requires sound { TellSound found.tables }
-    requires rests1 { RestsAt P.tells found.complex.pair.first.alive found.complex.first (⟦<CopyForm as Copying>⟧.count found.complex.pair.first.copy) found.pages (form_reads (disk_now (P.view found.complex.plant) Ckpt1).bytes) }
-    requires rests2 { RestsAt P.tells found.complex.pair.second.alive found.complex.second (⟦<CopyForm as Copying>⟧.count found.complex.pair.second.copy) found.pages (form_reads (disk_now (P.view found.complex.plant) Ckpt2).bytes) }
+    requires rests1 { RestsAt P.tells found.complex.pair.first.alive found.complex.first
+        (⟦<CopyForm as Copying>⟧.count found.complex.pair.first.copy) found.pages
+        (form_reads (disk_now (P.view found.complex.plant) Ckpt1).bytes) }
+    requires rests2 { RestsAt P.tells found.complex.pair.second.alive found.complex.second
+        (⟦<CopyForm as Copying>⟧.count found.complex.pair.second.copy) found.pages
+        (form_reads (disk_now (P.view found.complex.plant) Ckpt2).bytes) }
     requires order { found.tables.order < 2 ^ 62 }
     requires level { found.complex.level < 2 ^ 62 }
     requires journal { found.complex.journal.batches ≡ [] }
@@ -93,8 +97,12 @@ fn play_reset<P: Plant + Drop>(
     ensures kind { is_of_play result.status ≡ true }
     ensures goes { Goes (P.view found.complex.plant) (P.view result.plant) }
     ensures grow { (d : Dev) → Grows ((P.view found.complex.plant).loses d) ((P.view result.plant).loses d) }
-    ensures cause { IsCausedFrom found.complex.pair.first.alive found.complex.pair.second.alive result.status (P.view found.complex.plant) (P.view result.plant) }
-    ensures steps { (seen : ListOf Sight) × HasSteps false P.tells (turns_from result.base.config found.complex.book seen asked.now) result.status result.base result.journal result.since (P.view found.complex.plant).loses (P.view found.complex.plant) (P.view result.plant) }
+    ensures cause { IsCausedFrom found.complex.pair.first.alive found.complex.pair.second.alive result.status
+        (P.view found.complex.plant) (P.view result.plant) }
+    ensures steps { (seen : ListOf Sight)
+        × HasSteps false P.tells (turns_from result.base.config found.complex.book seen asked.now) result.status
+        result.base result.journal result.since (P.view found.complex.plant).loses (P.view found.complex.plant)
+        (P.view result.plant) }
 {
     let Started {
         complex,
@@ -127,19 +135,28 @@ pub(crate) fn play_warm<P: Plant + Drop>(alloc: Global, script: &Script, plant: 
     requires plays { All IsPlayed script.now.steps }
     ensures no_source { result.status ≡ Status.SourceFault → ⊥ }
     ensures no_text { is_of_text result.status ≡ false }
-    ensures unstarted { has_begun result.base ≡ false → IsNotStarted P.tells result.status (P.view plant) (P.view result.plant) }
+    ensures unstarted { has_begun result.base ≡ false
+        → IsNotStarted P.tells result.status (P.view plant) (P.view result.plant) }
     ensures cause { IsCaused result.status (P.view plant) (P.view result.plant) }
     ensures begun { Begins result.status result.base }
-    ensures unbegun { has_begun result.base ≡ false → IsUnbegun result.base result.journal result.since (P.view result.plant).now }
-    ensures untouched { has_begun result.base ≡ false → (result.status ≡ Status.BothLost) ⊎ (P.tells → OnlyLookedAtAll (P.view plant) (P.view result.plant)) }
-    ensures unsaid { P.tells → has_begun result.base ≡ false → console_now (P.view result.plant) ≡ console_now (P.view plant) }
+    ensures unbegun { has_begun result.base ≡ false
+        → IsUnbegun result.base result.journal result.since (P.view result.plant).now }
+    ensures untouched { has_begun result.base ≡ false → (result.status ≡ Status.BothLost)
+        ⊎ (P.tells → OnlyLookedAtAll (P.view plant) (P.view result.plant)) }
+    ensures unsaid { P.tells → has_begun result.base ≡ false
+        → console_now (P.view result.plant) ≡ console_now (P.view plant) }
     ensures unprinted { P.tells → has_begun result.base ≡ false → AreSidesKept (P.view plant) (P.view result.plant) }
     ensures goes { Goes (P.view plant) (P.view result.plant) }
-    ensures loses { has_begun result.base ≡ false → result.status ≢ Status.BothLost → (d : Dev) → (P.view result.plant).loses d ≡ (P.view plant).loses d }
+    ensures loses { has_begun result.base ≡ false → result.status ≢ Status.BothLost → (d : Dev)
+        → (P.view result.plant).loses d ≡ (P.view plant).loses d }
     ensures volumes { P.tells → has_begun result.base ≡ false → AreVolumesKept (P.view plant) (P.view result.plant) }
-    ensures room { has_begun result.base ≡ true → (form_needs (page_count result.base.config) ≤ (P.view plant).size Ckpt1) × (form_needs (page_count result.base.config) ≤ (P.view plant).size Ckpt2) }
+    ensures room { has_begun result.base ≡ true
+        → (form_needs (page_count result.base.config) ≤ (P.view plant).size Ckpt1)
+        × (form_needs (page_count result.base.config) ≤ (P.view plant).size Ckpt2) }
     ensures roomy { has_begun result.base ≡ true → AreRoomy (P.view result.plant) result.base.config }
-    ensures run { has_begun result.base ≡ true → IsRun false P.tells script.now result.status result.base result.journal result.since (P.view plant) (P.view result.plant) }
+    ensures run { has_begun result.base ≡ true
+        → IsRun false P.tells script.now result.status result.base result.journal result.since (P.view plant)
+        (P.view result.plant) }
 {
     let pair = Pair::new(
         CopyForm::new(Dev::Ckpt1, PAGES),

@@ -9,8 +9,8 @@ pub fn law_of_awake_runs()
     ensures { AreAwake }
 {}
 
-/// Where neither a volume nor the printer failed in a run, no step found one lost: what becomes of its steps, and so its commands and
-/// lines, follows from its script and the queue that it began with.
+/// Where neither a volume nor the printer failed in a run, no step found one lost: what becomes of its steps, and so
+/// its commands and lines, follows from its script and the queue that it began with.
 pub fn law_of_sound_volumes<P: Plant>()
     ensures { FindNone P.tells }
 {}

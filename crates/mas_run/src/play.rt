@@ -99,7 +99,8 @@ pub(crate) fn ended<P: Plant + Drop>(status: Status, complex: Complex<P, CopyFor
     ensures since { result.since ≡ complex.since }
     ensures plant { result.plant ≡ complex.plant }
     ensures journal { result.journal.batches ≡ end_of complex.placed complex.current complex.journal.batches }
-    ensures headline { P.tells → ∥ Headline form_reads result.base result.since result.journal (P.view result.plant) ∥₁ }
+    ensures headline { P.tells → ∥ Headline form_reads result.base result.since result.journal (P.view result.plant)
+        ∥₁ }
 {
     let end = complex.end();
     Ended {
@@ -124,18 +125,24 @@ pub(crate) fn play_asked<P: Plant + Drop>(
     requires base_sound { IsSound run.complex.base }
     requires may { All IsPlayed asked.now }
     requires roomy { P.tells → AreRoomy (P.view run.complex.plant) run.complex.base.config }
-    requires at_lock { IsAtLock run.complex.current run.complex.placed run.member.batch run.member.checkpoint run.member.room }
-    requires calm1 { IsCalm run.complex.pair.first.alive run.complex.first (⟦<CopyForm as Copying>⟧.count run.complex.pair.first.copy) (length run.member.room) }
-    requires calm2 { IsCalm run.complex.pair.second.alive run.complex.second (⟦<CopyForm as Copying>⟧.count run.complex.pair.second.copy) (length run.member.room) }
-    requires low1 { ReadsLow P.tells run.complex.pair.first.alive run.member.checkpoint.tables.config (length run.complex.journal.batches) (form_reads (disk_now (P.view run.complex.plant) Ckpt1).bytes) }
-    requires low2 { ReadsLow P.tells run.complex.pair.second.alive run.member.checkpoint.tables.config (length run.complex.journal.batches) (form_reads (disk_now (P.view run.complex.plant) Ckpt2).bytes) }
+    requires at_lock { IsAtLock run.complex.current run.complex.placed run.member.batch run.member.checkpoint
+        run.member.room }
+    requires calm1 { IsCalm run.complex.pair.first.alive run.complex.first
+        (⟦<CopyForm as Copying>⟧.count run.complex.pair.first.copy) (length run.member.room) }
+    requires calm2 { IsCalm run.complex.pair.second.alive run.complex.second
+        (⟦<CopyForm as Copying>⟧.count run.complex.pair.second.copy) (length run.member.room) }
+    requires low1 { ReadsLow P.tells run.complex.pair.first.alive run.member.checkpoint.tables.config
+        (length run.complex.journal.batches) (form_reads (disk_now (P.view run.complex.plant) Ckpt1).bytes) }
+    requires low2 { ReadsLow P.tells run.complex.pair.second.alive run.member.checkpoint.tables.config
+        (length run.complex.journal.batches) (form_reads (disk_now (P.view run.complex.plant) Ckpt2).bytes) }
     requires sound { P.tells → IsToldSound (run_of run.complex.base (kept_all run.complex.journal.batches)) }
     requires own { run.complex.base.config ≡ run.member.checkpoint.tables.config }
     requires fresh { length run.complex.journal.batches ≤ 1 }
     requires level { run.complex.level < 2 ^ 62 + 64 }
     requires kept { AreAllKept run.complex.journal.batches (P.view run.complex.plant).now }
     requires since { run.complex.since ≤ (P.view run.complex.plant).now }
-    requires quiet { P.tells → ((P.view run.complex.plant).world run.complex.since).console ≡ console_now (P.view run.complex.plant) }
+    requires quiet { P.tells → ((P.view run.complex.plant).world run.complex.since).console
+        ≡ console_now (P.view run.complex.plant) }
     requires some { SomeAlive run.complex.pair.first.alive run.complex.pair.second.alive }
     requires there1 { run.complex.pair.first.alive ≡ true → (P.view run.complex.plant).lost (Disk Ckpt1) ≡ false }
     requires there2 { run.complex.pair.second.alive ≡ true → (P.view run.complex.plant).lost (Disk Ckpt2) ≡ false }
@@ -144,8 +151,11 @@ pub(crate) fn play_asked<P: Plant + Drop>(
     ensures kind { is_of_play result.status ≡ true }
     ensures goes { Goes (P.view run.complex.plant) (P.view result.plant) }
     ensures grow { (d : Dev) → Grows ((P.view run.complex.plant).loses d) ((P.view result.plant).loses d) }
-    ensures cause { IsCausedFrom run.complex.pair.first.alive run.complex.pair.second.alive result.status (P.view run.complex.plant) (P.view result.plant) }
-    ensures play { (seen : ListOf Sight) × IsPlay P.tells (turns_from result.base.config run.complex.book seen asked.now) result.status result.base run.complex.journal.batches result.journal result.since (P.view run.complex.plant) (P.view result.plant) }
+    ensures cause { IsCausedFrom run.complex.pair.first.alive run.complex.pair.second.alive result.status
+        (P.view run.complex.plant) (P.view result.plant) }
+    ensures play { (seen : ListOf Sight)
+        × IsPlay P.tells (turns_from result.base.config run.complex.book seen asked.now) result.status result.base
+        run.complex.journal.batches result.journal result.since (P.view run.complex.plant) (P.view result.plant) }
 {
     let mut run = run;
     let answer = run.play_steps(alloc, asked);
@@ -163,7 +173,9 @@ fn start(alloc: Global, config: &Config, routes: &List<Route>) -> Result<(Queue,
     ensures room { IfOk result (λ start. length start.1.room ≡ length start.1.checkpoint.pages) }
     ensures tables { IfOk result (λ start. start.1.checkpoint.tables ≡ empty_tables config.now routes.now) }
     ensures level { IfOk result (λ start. start.1.checkpoint.level ≡ 1) }
-    ensures drawn { IfOk result (λ start. AreDrawn start.1.checkpoint.tables start.1.checkpoint.level start.1.checkpoint.levels start.1.checkpoint.pages) }
+    ensures drawn { IfOk result (λ start.
+        AreDrawn start.1.checkpoint.tables start.1.checkpoint.level start.1.checkpoint.levels
+        start.1.checkpoint.pages) }
 {
     let base = empty_queue(alloc, config, routes)?;
     let checkpoint = blank(alloc, config, routes)?;
@@ -182,11 +194,13 @@ fn bytes_for(config: &Config) -> u64
 // Refuses the first device that is too small for a configuration.
 fn refuse_devices<P: Plant>(plant: &P, config: &Config) -> Result<(), Status>
     requires { IsConfig config.now }
-    ensures refused { IfErr result (λ status. first_some (refused_devices config.now (P.view plant.now)) ≡ Some status) }
+    ensures refused { IfErr result
+        (λ status. first_some (refused_devices config.now (P.view plant.now)) ≡ Some status) }
     ensures small { IfErr result (λ status. IsDeviceSize config.now status (P.view plant.now)) }
     ensures no_text { IfErr result (λ status. is_of_text status ≡ false) }
     ensures none { OnOk result (first_some (refused_devices config.now (P.view plant.now)) ≡ None) }
-    ensures large { OnOk result ((bytes_needed config.now ≤ (P.view plant.now).size Ckpt1) × (bytes_needed config.now ≤ (P.view plant.now).size Ckpt2)) }
+    ensures large { OnOk result ((bytes_needed config.now ≤ (P.view plant.now).size Ckpt1)
+        × (bytes_needed config.now ≤ (P.view plant.now).size Ckpt2)) }
     ensures roomy { OnOk result (AreRoomy (P.view plant.now) config.now) }
 {
     let needed = bytes_for(config);
@@ -196,28 +210,35 @@ fn refuse_devices<P: Plant>(plant: &P, config: &Config) -> Result<(), Status>
     }
 }
 
-/// Formats both copies with the empty queue of the script's configuration and routes, and plays its steps. A copy that fails is left out.
+/// Formats both copies with the empty queue of the script's configuration and routes, and plays its steps. A copy that
+/// fails is left out.
 pub(crate) fn play_cold<P: Plant + Drop>(alloc: Global, script: &Script, plant: P) -> Ended<P>
     requires fits { IsScript script.now }
     requires plays { All IsPlayed script.now.steps }
     ensures refused { Answers true (first_some (refused_devices script.now.config (P.view plant))) result.status }
-    ensures device { (dev : Dev) (size : ℕ) → result.status ≡ Status.DeviceSize dev size → IsTooSmall script.now.config dev size (P.view plant) }
+    ensures device { (dev : Dev) (size : ℕ) → result.status ≡ Status.DeviceSize dev size
+        → IsTooSmall script.now.config dev size (P.view plant) }
     ensures no_source { result.status ≡ Status.SourceFault → ⊥ }
     ensures no_text { is_of_text result.status ≡ false }
     ensures formatted { (first second : CopyState) → result.status ≡ Status.NotFormatted first second → ⊥ }
     ensures cause { IsCaused result.status (P.view plant) (P.view result.plant) }
     ensures begun { Begins result.status result.base }
-    ensures unbegun { has_begun result.base ≡ false → IsUnbegun result.base result.journal result.since (P.view result.plant).now }
+    ensures unbegun { has_begun result.base ≡ false
+        → IsUnbegun result.base result.journal result.since (P.view result.plant).now }
     ensures untouched { has_begun result.base ≡ false → (result.status ≡ Status.BothLost) ⊎ (result.plant ≡ plant) }
-    ensures unsaid { P.tells → has_begun result.base ≡ false → console_now (P.view result.plant) ≡ console_now (P.view plant) }
+    ensures unsaid { P.tells → has_begun result.base ≡ false
+        → console_now (P.view result.plant) ≡ console_now (P.view plant) }
     ensures unprinted { P.tells → has_begun result.base ≡ false → AreSidesKept (P.view plant) (P.view result.plant) }
     ensures goes { Goes (P.view plant) (P.view result.plant) }
     ensures loses { has_begun result.base ≡ false → (d : Dev) → (P.view result.plant).loses d ≡ (P.view plant).loses d }
     ensures volumes { P.tells → has_begun result.base ≡ false → AreVolumesKept (P.view plant) (P.view result.plant) }
-    ensures room { has_begun result.base ≡ true → (bytes_needed script.now.config ≤ (P.view plant).size Ckpt1) × (bytes_needed script.now.config ≤ (P.view plant).size Ckpt2) }
+    ensures room { has_begun result.base ≡ true → (bytes_needed script.now.config ≤ (P.view plant).size Ckpt1)
+        × (bytes_needed script.now.config ≤ (P.view plant).size Ckpt2) }
     ensures roomy { has_begun result.base ≡ true → AreRoomy (P.view result.plant) result.base.config }
     ensures config { has_begun result.base ≡ true → result.base.config ≡ script.now.config }
-    ensures run { has_begun result.base ≡ true → IsRun true P.tells script.now result.status result.base result.journal result.since (P.view plant) (P.view result.plant) }
+    ensures run { has_begun result.base ≡ true
+        → IsRun true P.tells script.now result.status result.base result.journal result.since (P.view plant)
+        (P.view result.plant) }
 {
     let config = &script.config;
     if let Err(status) = refuse_devices(&plant, config) {

@@ -78,12 +78,19 @@ impl<P: Plant + Drop, C: Steady + Drop> Running<P, C> {
         requires config { IsConfig self.old.complex.base.config }
         requires since { self.old.complex.since ≤ (P.view self.old.complex.plant).now }
         requires roomy { P.tells → AreRoomy (P.view self.old.complex.plant) self.old.complex.base.config }
-        requires untold { P.tells → (es : List Entry) → AreOf sysa step es → IsUntold (setting C.reads self.old.complex.base self.old.complex.since) (P.view self.old.complex.plant) es }
-        requires at_lock { IsAtLock self.old.complex.current self.old.complex.placed self.old.member.batch self.old.member.checkpoint self.old.member.room }
-        requires calm1 { IsCalm self.old.complex.pair.first.alive self.old.complex.first (C.count self.old.complex.pair.first.copy) (length self.old.member.room) }
-        requires calm2 { IsCalm self.old.complex.pair.second.alive self.old.complex.second (C.count self.old.complex.pair.second.copy) (length self.old.member.room) }
-        requires low1 { ReadsLow P.tells self.old.complex.pair.first.alive self.old.member.checkpoint.tables.config (length self.old.complex.journal.batches) (C.reads (disk_now (P.view self.old.complex.plant) Ckpt1).bytes) }
-        requires low2 { ReadsLow P.tells self.old.complex.pair.second.alive self.old.member.checkpoint.tables.config (length self.old.complex.journal.batches) (C.reads (disk_now (P.view self.old.complex.plant) Ckpt2).bytes) }
+        requires untold { P.tells → (es : List Entry) → AreOf sysa step es
+            → IsUntold (setting C.reads self.old.complex.base self.old.complex.since) (P.view self.old.complex.plant)
+            es }
+        requires at_lock { IsAtLock self.old.complex.current self.old.complex.placed self.old.member.batch
+            self.old.member.checkpoint self.old.member.room }
+        requires calm1 { IsCalm self.old.complex.pair.first.alive self.old.complex.first
+            (C.count self.old.complex.pair.first.copy) (length self.old.member.room) }
+        requires calm2 { IsCalm self.old.complex.pair.second.alive self.old.complex.second
+            (C.count self.old.complex.pair.second.copy) (length self.old.member.room) }
+        requires low1 { ReadsLow P.tells self.old.complex.pair.first.alive self.old.member.checkpoint.tables.config
+            (length self.old.complex.journal.batches) (C.reads (disk_now (P.view self.old.complex.plant) Ckpt1).bytes) }
+        requires low2 { ReadsLow P.tells self.old.complex.pair.second.alive self.old.member.checkpoint.tables.config
+            (length self.old.complex.journal.batches) (C.reads (disk_now (P.view self.old.complex.plant) Ckpt2).bytes) }
         requires sound { P.tells → IsToldSound (run self.old.complex.base (kept_all self.old.complex.journal.batches)) }
         requires own { self.old.complex.base.config ≡ self.old.member.checkpoint.tables.config }
         requires most { 1 ≤ C.room_most }
@@ -92,27 +99,40 @@ impl<P: Plant + Drop, C: Steady + Drop> Running<P, C> {
         ensures base { self.new.complex.base ≡ self.old.complex.base }
         ensures since { self.new.complex.since ≡ self.old.complex.since }
         ensures id { self.new.member.id ≡ self.old.member.id }
-        ensures step { (seen : Sight) × IsStepOf P.tells (deck_turn (try_refusal self.old.complex.book sysa false) (text_of cards.now) seen.lost (read_as self.old.complex.base.config.node cards.now))
-            (run self.old.complex.base (kept_all self.old.complex.journal.batches)) self.old.complex.base.config.groups step
-            self.old.complex.journal.batches (end_of self.new.complex.placed self.new.complex.current self.new.complex.journal.batches)
-            self.old.complex.pair.first.alive self.new.complex.pair.first.alive self.old.complex.pair.second.alive self.new.complex.pair.second.alive
-            (P.view self.old.complex.plant) (P.view self.new.complex.plant) result }
-        ensures at_lock { OnOk result (IsAtLock self.new.complex.current self.new.complex.placed self.new.member.batch self.new.member.checkpoint self.new.member.room) }
-        ensures calm1 { OnOk result (IsCalm self.new.complex.pair.first.alive self.new.complex.first (C.count self.new.complex.pair.first.copy) (length self.new.member.room)) }
-        ensures calm2 { OnOk result (IsCalm self.new.complex.pair.second.alive self.new.complex.second (C.count self.new.complex.pair.second.copy) (length self.new.member.room)) }
-        ensures low1 { OnOk result (ReadsLow P.tells self.new.complex.pair.first.alive self.old.member.checkpoint.tables.config (length self.new.complex.journal.batches) (C.reads (disk_now (P.view self.new.complex.plant) Ckpt1).bytes)) }
-        ensures low2 { OnOk result (ReadsLow P.tells self.new.complex.pair.second.alive self.old.member.checkpoint.tables.config (length self.new.complex.journal.batches) (C.reads (disk_now (P.view self.new.complex.plant) Ckpt2).bytes)) }
-        ensures sound { OnOk result (P.tells → IsToldSound (run self.new.complex.base (kept_all self.new.complex.journal.batches))) }
-        ensures own { OnOk result (self.new.member.checkpoint.tables.config ≡ self.old.member.checkpoint.tables.config) }
+        ensures step { (seen : Sight) × IsStepOf P.tells
+            (deck_turn (try_refusal self.old.complex.book sysa false) (text_of cards.now) seen.lost
+            (read_as self.old.complex.base.config.node cards.now))
+            (run self.old.complex.base (kept_all self.old.complex.journal.batches)) self.old.complex.base.config.groups
+            step self.old.complex.journal.batches
+            (end_of self.new.complex.placed self.new.complex.current self.new.complex.journal.batches)
+            self.old.complex.pair.first.alive self.new.complex.pair.first.alive self.old.complex.pair.second.alive
+            self.new.complex.pair.second.alive (P.view self.old.complex.plant) (P.view self.new.complex.plant) result }
+        ensures at_lock { OnOk result (IsAtLock self.new.complex.current self.new.complex.placed self.new.member.batch
+            self.new.member.checkpoint self.new.member.room) }
+        ensures calm1 { OnOk result (IsCalm self.new.complex.pair.first.alive self.new.complex.first
+            (C.count self.new.complex.pair.first.copy) (length self.new.member.room)) }
+        ensures calm2 { OnOk result (IsCalm self.new.complex.pair.second.alive self.new.complex.second
+            (C.count self.new.complex.pair.second.copy) (length self.new.member.room)) }
+        ensures low1 { OnOk result (ReadsLow P.tells self.new.complex.pair.first.alive
+            self.old.member.checkpoint.tables.config (length self.new.complex.journal.batches)
+            (C.reads (disk_now (P.view self.new.complex.plant) Ckpt1).bytes)) }
+        ensures low2 { OnOk result (ReadsLow P.tells self.new.complex.pair.second.alive
+            self.old.member.checkpoint.tables.config (length self.new.complex.journal.batches)
+            (C.reads (disk_now (P.view self.new.complex.plant) Ckpt2).bytes)) }
+        ensures sound { OnOk result (P.tells
+            → IsToldSound (run self.new.complex.base (kept_all self.new.complex.journal.batches))) }
+        ensures own { OnOk result (self.new.member.checkpoint.tables.config
+            ≡ self.old.member.checkpoint.tables.config) }
         ensures level { OnOk result (self.new.complex.level ≤ self.old.complex.level + 2) }
         ensures lock { OnOk result (IsOpenTo self.new.complex.book self.new.complex.reserved sysa) }
-        ensures book { OnOk result (self.new.complex.book ≡ after_deck self.old.complex.book (read_as self.old.complex.base.config.node cards.now)) }
+        ensures book { OnOk result (self.new.complex.book
+            ≡ after_deck self.old.complex.book (read_as self.old.complex.base.config.node cards.now)) }
     {
         let own = self.complex.base.config.node;
         play_locked_deck(&mut self.member, alloc, &mut self.complex, step, own, cards)
     }
 
-    // Works, at most so many units.
+    // Plays work of the member, at most so many units.
     fn play_work(&mut self, alloc: Global, step: u32, units: u32) -> Result<(), NodeNo>
         requires id { self.old.member.id ≡ sysa }
         requires lock { IsOpenTo self.old.complex.book self.old.complex.reserved sysa }
@@ -121,12 +141,19 @@ impl<P: Plant + Drop, C: Steady + Drop> Running<P, C> {
         requires base_sound { IsSound self.old.complex.base }
         requires since { self.old.complex.since ≤ (P.view self.old.complex.plant).now }
         requires roomy { P.tells → AreRoomy (P.view self.old.complex.plant) self.old.complex.base.config }
-        requires untold { P.tells → (es : List Entry) → AreOf sysa step es → IsUntold (setting C.reads self.old.complex.base self.old.complex.since) (P.view self.old.complex.plant) es }
-        requires at_lock { IsAtLock self.old.complex.current self.old.complex.placed self.old.member.batch self.old.member.checkpoint self.old.member.room }
-        requires calm1 { IsCalm self.old.complex.pair.first.alive self.old.complex.first (C.count self.old.complex.pair.first.copy) (length self.old.member.room) }
-        requires calm2 { IsCalm self.old.complex.pair.second.alive self.old.complex.second (C.count self.old.complex.pair.second.copy) (length self.old.member.room) }
-        requires low1 { ReadsLow P.tells self.old.complex.pair.first.alive self.old.member.checkpoint.tables.config (length self.old.complex.journal.batches) (C.reads (disk_now (P.view self.old.complex.plant) Ckpt1).bytes) }
-        requires low2 { ReadsLow P.tells self.old.complex.pair.second.alive self.old.member.checkpoint.tables.config (length self.old.complex.journal.batches) (C.reads (disk_now (P.view self.old.complex.plant) Ckpt2).bytes) }
+        requires untold { P.tells → (es : List Entry) → AreOf sysa step es
+            → IsUntold (setting C.reads self.old.complex.base self.old.complex.since) (P.view self.old.complex.plant)
+            es }
+        requires at_lock { IsAtLock self.old.complex.current self.old.complex.placed self.old.member.batch
+            self.old.member.checkpoint self.old.member.room }
+        requires calm1 { IsCalm self.old.complex.pair.first.alive self.old.complex.first
+            (C.count self.old.complex.pair.first.copy) (length self.old.member.room) }
+        requires calm2 { IsCalm self.old.complex.pair.second.alive self.old.complex.second
+            (C.count self.old.complex.pair.second.copy) (length self.old.member.room) }
+        requires low1 { ReadsLow P.tells self.old.complex.pair.first.alive self.old.member.checkpoint.tables.config
+            (length self.old.complex.journal.batches) (C.reads (disk_now (P.view self.old.complex.plant) Ckpt1).bytes) }
+        requires low2 { ReadsLow P.tells self.old.complex.pair.second.alive self.old.member.checkpoint.tables.config
+            (length self.old.complex.journal.batches) (C.reads (disk_now (P.view self.old.complex.plant) Ckpt2).bytes) }
         requires sound { P.tells → IsToldSound (run self.old.complex.base (kept_all self.old.complex.journal.batches)) }
         requires own { self.old.complex.base.config ≡ self.old.member.checkpoint.tables.config }
         requires most { 1 ≤ C.room_most }
@@ -135,18 +162,29 @@ impl<P: Plant + Drop, C: Steady + Drop> Running<P, C> {
         ensures base { self.new.complex.base ≡ self.old.complex.base }
         ensures since { self.new.complex.since ≡ self.old.complex.since }
         ensures id { self.new.member.id ≡ self.old.member.id }
-        ensures step { (seen : Sight) × IsStepOf P.tells (task_turn (try_refusal self.old.complex.book sysa false) (Works units seen.looks))
-            (run self.old.complex.base (kept_all self.old.complex.journal.batches)) self.old.complex.base.config.groups step
-            self.old.complex.journal.batches (end_of self.new.complex.placed self.new.complex.current self.new.complex.journal.batches)
-            self.old.complex.pair.first.alive self.new.complex.pair.first.alive self.old.complex.pair.second.alive self.new.complex.pair.second.alive
-            (P.view self.old.complex.plant) (P.view self.new.complex.plant) result }
-        ensures at_lock { OnOk result (IsAtLock self.new.complex.current self.new.complex.placed self.new.member.batch self.new.member.checkpoint self.new.member.room) }
-        ensures calm1 { OnOk result (IsCalm self.new.complex.pair.first.alive self.new.complex.first (C.count self.new.complex.pair.first.copy) (length self.new.member.room)) }
-        ensures calm2 { OnOk result (IsCalm self.new.complex.pair.second.alive self.new.complex.second (C.count self.new.complex.pair.second.copy) (length self.new.member.room)) }
-        ensures low1 { OnOk result (ReadsLow P.tells self.new.complex.pair.first.alive self.old.member.checkpoint.tables.config (length self.new.complex.journal.batches) (C.reads (disk_now (P.view self.new.complex.plant) Ckpt1).bytes)) }
-        ensures low2 { OnOk result (ReadsLow P.tells self.new.complex.pair.second.alive self.old.member.checkpoint.tables.config (length self.new.complex.journal.batches) (C.reads (disk_now (P.view self.new.complex.plant) Ckpt2).bytes)) }
-        ensures sound { OnOk result (P.tells → IsToldSound (run self.new.complex.base (kept_all self.new.complex.journal.batches))) }
-        ensures own { OnOk result (self.new.member.checkpoint.tables.config ≡ self.old.member.checkpoint.tables.config) }
+        ensures step { (seen : Sight) × IsStepOf P.tells
+            (task_turn (try_refusal self.old.complex.book sysa false) (Works units seen.looks))
+            (run self.old.complex.base (kept_all self.old.complex.journal.batches)) self.old.complex.base.config.groups
+            step self.old.complex.journal.batches
+            (end_of self.new.complex.placed self.new.complex.current self.new.complex.journal.batches)
+            self.old.complex.pair.first.alive self.new.complex.pair.first.alive self.old.complex.pair.second.alive
+            self.new.complex.pair.second.alive (P.view self.old.complex.plant) (P.view self.new.complex.plant) result }
+        ensures at_lock { OnOk result (IsAtLock self.new.complex.current self.new.complex.placed self.new.member.batch
+            self.new.member.checkpoint self.new.member.room) }
+        ensures calm1 { OnOk result (IsCalm self.new.complex.pair.first.alive self.new.complex.first
+            (C.count self.new.complex.pair.first.copy) (length self.new.member.room)) }
+        ensures calm2 { OnOk result (IsCalm self.new.complex.pair.second.alive self.new.complex.second
+            (C.count self.new.complex.pair.second.copy) (length self.new.member.room)) }
+        ensures low1 { OnOk result (ReadsLow P.tells self.new.complex.pair.first.alive
+            self.old.member.checkpoint.tables.config (length self.new.complex.journal.batches)
+            (C.reads (disk_now (P.view self.new.complex.plant) Ckpt1).bytes)) }
+        ensures low2 { OnOk result (ReadsLow P.tells self.new.complex.pair.second.alive
+            self.old.member.checkpoint.tables.config (length self.new.complex.journal.batches)
+            (C.reads (disk_now (P.view self.new.complex.plant) Ckpt2).bytes)) }
+        ensures sound { OnOk result (P.tells
+            → IsToldSound (run self.new.complex.base (kept_all self.new.complex.journal.batches))) }
+        ensures own { OnOk result (self.new.member.checkpoint.tables.config
+            ≡ self.old.member.checkpoint.tables.config) }
         ensures level { OnOk result (self.new.complex.level ≤ self.old.complex.level + levels_in units) }
         ensures lock { OnOk result (IsOpenTo self.new.complex.book self.new.complex.reserved sysa) }
         ensures book { OnOk result (self.new.complex.book ≡ after_tried self.old.complex.book) }
@@ -164,12 +202,19 @@ impl<P: Plant + Drop, C: Steady + Drop> Running<P, C> {
         requires no_reset { resets given.now ≡ None }
         requires since { self.old.complex.since ≤ (P.view self.old.complex.plant).now }
         requires roomy { P.tells → AreRoomy (P.view self.old.complex.plant) self.old.complex.base.config }
-        requires untold { P.tells → (es : List Entry) → AreOf sysa step es → IsUntold (setting C.reads self.old.complex.base self.old.complex.since) (P.view self.old.complex.plant) es }
-        requires at_lock { IsAtLock self.old.complex.current self.old.complex.placed self.old.member.batch self.old.member.checkpoint self.old.member.room }
-        requires calm1 { IsCalm self.old.complex.pair.first.alive self.old.complex.first (C.count self.old.complex.pair.first.copy) (length self.old.member.room) }
-        requires calm2 { IsCalm self.old.complex.pair.second.alive self.old.complex.second (C.count self.old.complex.pair.second.copy) (length self.old.member.room) }
-        requires low1 { ReadsLow P.tells self.old.complex.pair.first.alive self.old.member.checkpoint.tables.config (length self.old.complex.journal.batches) (C.reads (disk_now (P.view self.old.complex.plant) Ckpt1).bytes) }
-        requires low2 { ReadsLow P.tells self.old.complex.pair.second.alive self.old.member.checkpoint.tables.config (length self.old.complex.journal.batches) (C.reads (disk_now (P.view self.old.complex.plant) Ckpt2).bytes) }
+        requires untold { P.tells → (es : List Entry) → AreOf sysa step es
+            → IsUntold (setting C.reads self.old.complex.base self.old.complex.since) (P.view self.old.complex.plant)
+            es }
+        requires at_lock { IsAtLock self.old.complex.current self.old.complex.placed self.old.member.batch
+            self.old.member.checkpoint self.old.member.room }
+        requires calm1 { IsCalm self.old.complex.pair.first.alive self.old.complex.first
+            (C.count self.old.complex.pair.first.copy) (length self.old.member.room) }
+        requires calm2 { IsCalm self.old.complex.pair.second.alive self.old.complex.second
+            (C.count self.old.complex.pair.second.copy) (length self.old.member.room) }
+        requires low1 { ReadsLow P.tells self.old.complex.pair.first.alive self.old.member.checkpoint.tables.config
+            (length self.old.complex.journal.batches) (C.reads (disk_now (P.view self.old.complex.plant) Ckpt1).bytes) }
+        requires low2 { ReadsLow P.tells self.old.complex.pair.second.alive self.old.member.checkpoint.tables.config
+            (length self.old.complex.journal.batches) (C.reads (disk_now (P.view self.old.complex.plant) Ckpt2).bytes) }
         requires sound { P.tells → IsToldSound (run self.old.complex.base (kept_all self.old.complex.journal.batches)) }
         requires own { self.old.complex.base.config ≡ self.old.member.checkpoint.tables.config }
         requires most { 1 ≤ C.room_most }
@@ -178,18 +223,29 @@ impl<P: Plant + Drop, C: Steady + Drop> Running<P, C> {
         ensures base { self.new.complex.base ≡ self.old.complex.base }
         ensures since { self.new.complex.since ≡ self.old.complex.since }
         ensures id { self.new.member.id ≡ self.old.member.id }
-        ensures step { (seen : Sight) × IsStepOf P.tells (task_turn (try_refusal self.old.complex.book sysa false) (Gives given.now))
-            (run self.old.complex.base (kept_all self.old.complex.journal.batches)) self.old.complex.base.config.groups step
-            self.old.complex.journal.batches (end_of self.new.complex.placed self.new.complex.current self.new.complex.journal.batches)
-            self.old.complex.pair.first.alive self.new.complex.pair.first.alive self.old.complex.pair.second.alive self.new.complex.pair.second.alive
-            (P.view self.old.complex.plant) (P.view self.new.complex.plant) result }
-        ensures at_lock { OnOk result (IsAtLock self.new.complex.current self.new.complex.placed self.new.member.batch self.new.member.checkpoint self.new.member.room) }
-        ensures calm1 { OnOk result (IsCalm self.new.complex.pair.first.alive self.new.complex.first (C.count self.new.complex.pair.first.copy) (length self.new.member.room)) }
-        ensures calm2 { OnOk result (IsCalm self.new.complex.pair.second.alive self.new.complex.second (C.count self.new.complex.pair.second.copy) (length self.new.member.room)) }
-        ensures low1 { OnOk result (ReadsLow P.tells self.new.complex.pair.first.alive self.old.member.checkpoint.tables.config (length self.new.complex.journal.batches) (C.reads (disk_now (P.view self.new.complex.plant) Ckpt1).bytes)) }
-        ensures low2 { OnOk result (ReadsLow P.tells self.new.complex.pair.second.alive self.old.member.checkpoint.tables.config (length self.new.complex.journal.batches) (C.reads (disk_now (P.view self.new.complex.plant) Ckpt2).bytes)) }
-        ensures sound { OnOk result (P.tells → IsToldSound (run self.new.complex.base (kept_all self.new.complex.journal.batches))) }
-        ensures own { OnOk result (self.new.member.checkpoint.tables.config ≡ self.old.member.checkpoint.tables.config) }
+        ensures step { (seen : Sight) × IsStepOf P.tells
+            (task_turn (try_refusal self.old.complex.book sysa false) (Gives given.now))
+            (run self.old.complex.base (kept_all self.old.complex.journal.batches)) self.old.complex.base.config.groups
+            step self.old.complex.journal.batches
+            (end_of self.new.complex.placed self.new.complex.current self.new.complex.journal.batches)
+            self.old.complex.pair.first.alive self.new.complex.pair.first.alive self.old.complex.pair.second.alive
+            self.new.complex.pair.second.alive (P.view self.old.complex.plant) (P.view self.new.complex.plant) result }
+        ensures at_lock { OnOk result (IsAtLock self.new.complex.current self.new.complex.placed self.new.member.batch
+            self.new.member.checkpoint self.new.member.room) }
+        ensures calm1 { OnOk result (IsCalm self.new.complex.pair.first.alive self.new.complex.first
+            (C.count self.new.complex.pair.first.copy) (length self.new.member.room)) }
+        ensures calm2 { OnOk result (IsCalm self.new.complex.pair.second.alive self.new.complex.second
+            (C.count self.new.complex.pair.second.copy) (length self.new.member.room)) }
+        ensures low1 { OnOk result (ReadsLow P.tells self.new.complex.pair.first.alive
+            self.old.member.checkpoint.tables.config (length self.new.complex.journal.batches)
+            (C.reads (disk_now (P.view self.new.complex.plant) Ckpt1).bytes)) }
+        ensures low2 { OnOk result (ReadsLow P.tells self.new.complex.pair.second.alive
+            self.old.member.checkpoint.tables.config (length self.new.complex.journal.batches)
+            (C.reads (disk_now (P.view self.new.complex.plant) Ckpt2).bytes)) }
+        ensures sound { OnOk result (P.tells
+            → IsToldSound (run self.new.complex.base (kept_all self.new.complex.journal.batches))) }
+        ensures own { OnOk result (self.new.member.checkpoint.tables.config
+            ≡ self.old.member.checkpoint.tables.config) }
         ensures level { OnOk result (self.new.complex.level ≤ self.old.complex.level + 2) }
         ensures lock { OnOk result (IsOpenTo self.new.complex.book self.new.complex.reserved sysa) }
         ensures book { OnOk result (self.new.complex.book ≡ after_tried self.old.complex.book) }
@@ -207,12 +263,19 @@ impl<P: Plant + Drop, C: Steady + Drop> Running<P, C> {
         requires config { IsConfig self.old.complex.base.config }
         requires since { self.old.complex.since ≤ (P.view self.old.complex.plant).now }
         requires roomy { P.tells → AreRoomy (P.view self.old.complex.plant) self.old.complex.base.config }
-        requires untold { P.tells → (es : List Entry) → AreOf sysa step es → IsUntold (setting C.reads self.old.complex.base self.old.complex.since) (P.view self.old.complex.plant) es }
-        requires at_lock { IsAtLock self.old.complex.current self.old.complex.placed self.old.member.batch self.old.member.checkpoint self.old.member.room }
-        requires calm1 { IsCalm self.old.complex.pair.first.alive self.old.complex.first (C.count self.old.complex.pair.first.copy) (length self.old.member.room) }
-        requires calm2 { IsCalm self.old.complex.pair.second.alive self.old.complex.second (C.count self.old.complex.pair.second.copy) (length self.old.member.room) }
-        requires low1 { ReadsLow P.tells self.old.complex.pair.first.alive self.old.member.checkpoint.tables.config (length self.old.complex.journal.batches) (C.reads (disk_now (P.view self.old.complex.plant) Ckpt1).bytes) }
-        requires low2 { ReadsLow P.tells self.old.complex.pair.second.alive self.old.member.checkpoint.tables.config (length self.old.complex.journal.batches) (C.reads (disk_now (P.view self.old.complex.plant) Ckpt2).bytes) }
+        requires untold { P.tells → (es : List Entry) → AreOf sysa step es
+            → IsUntold (setting C.reads self.old.complex.base self.old.complex.since) (P.view self.old.complex.plant)
+            es }
+        requires at_lock { IsAtLock self.old.complex.current self.old.complex.placed self.old.member.batch
+            self.old.member.checkpoint self.old.member.room }
+        requires calm1 { IsCalm self.old.complex.pair.first.alive self.old.complex.first
+            (C.count self.old.complex.pair.first.copy) (length self.old.member.room) }
+        requires calm2 { IsCalm self.old.complex.pair.second.alive self.old.complex.second
+            (C.count self.old.complex.pair.second.copy) (length self.old.member.room) }
+        requires low1 { ReadsLow P.tells self.old.complex.pair.first.alive self.old.member.checkpoint.tables.config
+            (length self.old.complex.journal.batches) (C.reads (disk_now (P.view self.old.complex.plant) Ckpt1).bytes) }
+        requires low2 { ReadsLow P.tells self.old.complex.pair.second.alive self.old.member.checkpoint.tables.config
+            (length self.old.complex.journal.batches) (C.reads (disk_now (P.view self.old.complex.plant) Ckpt2).bytes) }
         requires sound { P.tells → IsToldSound (run self.old.complex.base (kept_all self.old.complex.journal.batches)) }
         requires own { self.old.complex.base.config ≡ self.old.member.checkpoint.tables.config }
         requires most { 1 ≤ C.room_most }
@@ -222,17 +285,27 @@ impl<P: Plant + Drop, C: Steady + Drop> Running<P, C> {
         ensures since { self.new.complex.since ≡ self.old.complex.since }
         ensures id { self.new.member.id ≡ self.old.member.id }
         ensures step { (seen : Sight) × IsStepOf P.tells (Closed (no_reset_lem self.old.complex.base.config of))
-            (run self.old.complex.base (kept_all self.old.complex.journal.batches)) self.old.complex.base.config.groups step
-            self.old.complex.journal.batches (end_of self.new.complex.placed self.new.complex.current self.new.complex.journal.batches)
-            self.old.complex.pair.first.alive self.new.complex.pair.first.alive self.old.complex.pair.second.alive self.new.complex.pair.second.alive
-            (P.view self.old.complex.plant) (P.view self.new.complex.plant) result }
-        ensures at_lock { OnOk result (IsAtLock self.new.complex.current self.new.complex.placed self.new.member.batch self.new.member.checkpoint self.new.member.room) }
-        ensures calm1 { OnOk result (IsCalm self.new.complex.pair.first.alive self.new.complex.first (C.count self.new.complex.pair.first.copy) (length self.new.member.room)) }
-        ensures calm2 { OnOk result (IsCalm self.new.complex.pair.second.alive self.new.complex.second (C.count self.new.complex.pair.second.copy) (length self.new.member.room)) }
-        ensures low1 { OnOk result (ReadsLow P.tells self.new.complex.pair.first.alive self.old.member.checkpoint.tables.config (length self.new.complex.journal.batches) (C.reads (disk_now (P.view self.new.complex.plant) Ckpt1).bytes)) }
-        ensures low2 { OnOk result (ReadsLow P.tells self.new.complex.pair.second.alive self.old.member.checkpoint.tables.config (length self.new.complex.journal.batches) (C.reads (disk_now (P.view self.new.complex.plant) Ckpt2).bytes)) }
-        ensures sound { OnOk result (P.tells → IsToldSound (run self.new.complex.base (kept_all self.new.complex.journal.batches))) }
-        ensures own { OnOk result (self.new.member.checkpoint.tables.config ≡ self.old.member.checkpoint.tables.config) }
+            (run self.old.complex.base (kept_all self.old.complex.journal.batches)) self.old.complex.base.config.groups
+            step self.old.complex.journal.batches
+            (end_of self.new.complex.placed self.new.complex.current self.new.complex.journal.batches)
+            self.old.complex.pair.first.alive self.new.complex.pair.first.alive self.old.complex.pair.second.alive
+            self.new.complex.pair.second.alive (P.view self.old.complex.plant) (P.view self.new.complex.plant) result }
+        ensures at_lock { OnOk result (IsAtLock self.new.complex.current self.new.complex.placed self.new.member.batch
+            self.new.member.checkpoint self.new.member.room) }
+        ensures calm1 { OnOk result (IsCalm self.new.complex.pair.first.alive self.new.complex.first
+            (C.count self.new.complex.pair.first.copy) (length self.new.member.room)) }
+        ensures calm2 { OnOk result (IsCalm self.new.complex.pair.second.alive self.new.complex.second
+            (C.count self.new.complex.pair.second.copy) (length self.new.member.room)) }
+        ensures low1 { OnOk result (ReadsLow P.tells self.new.complex.pair.first.alive
+            self.old.member.checkpoint.tables.config (length self.new.complex.journal.batches)
+            (C.reads (disk_now (P.view self.new.complex.plant) Ckpt1).bytes)) }
+        ensures low2 { OnOk result (ReadsLow P.tells self.new.complex.pair.second.alive
+            self.old.member.checkpoint.tables.config (length self.new.complex.journal.batches)
+            (C.reads (disk_now (P.view self.new.complex.plant) Ckpt2).bytes)) }
+        ensures sound { OnOk result (P.tells
+            → IsToldSound (run self.new.complex.base (kept_all self.new.complex.journal.batches))) }
+        ensures own { OnOk result (self.new.member.checkpoint.tables.config
+            ≡ self.old.member.checkpoint.tables.config) }
         ensures level { OnOk result (self.new.complex.level ≤ self.old.complex.level + 2) }
         ensures lock { OnOk result (IsOpenTo self.new.complex.book self.new.complex.reserved sysa) }
         ensures book { OnOk result (self.new.complex.book ≡ self.old.complex.book) }
@@ -250,12 +323,19 @@ impl<P: Plant + Drop, C: Steady + Drop> Running<P, C> {
         requires fit { IsFit given.now }
         requires since { self.old.complex.since ≤ (P.view self.old.complex.plant).now }
         requires roomy { P.tells → AreRoomy (P.view self.old.complex.plant) self.old.complex.base.config }
-        requires untold { P.tells → (es : List Entry) → AreOf sysa step es → IsUntold (setting C.reads self.old.complex.base self.old.complex.since) (P.view self.old.complex.plant) es }
-        requires at_lock { IsAtLock self.old.complex.current self.old.complex.placed self.old.member.batch self.old.member.checkpoint self.old.member.room }
-        requires calm1 { IsCalm self.old.complex.pair.first.alive self.old.complex.first (C.count self.old.complex.pair.first.copy) (length self.old.member.room) }
-        requires calm2 { IsCalm self.old.complex.pair.second.alive self.old.complex.second (C.count self.old.complex.pair.second.copy) (length self.old.member.room) }
-        requires low1 { ReadsLow P.tells self.old.complex.pair.first.alive self.old.member.checkpoint.tables.config (length self.old.complex.journal.batches) (C.reads (disk_now (P.view self.old.complex.plant) Ckpt1).bytes) }
-        requires low2 { ReadsLow P.tells self.old.complex.pair.second.alive self.old.member.checkpoint.tables.config (length self.old.complex.journal.batches) (C.reads (disk_now (P.view self.old.complex.plant) Ckpt2).bytes) }
+        requires untold { P.tells → (es : List Entry) → AreOf sysa step es
+            → IsUntold (setting C.reads self.old.complex.base self.old.complex.since) (P.view self.old.complex.plant)
+            es }
+        requires at_lock { IsAtLock self.old.complex.current self.old.complex.placed self.old.member.batch
+            self.old.member.checkpoint self.old.member.room }
+        requires calm1 { IsCalm self.old.complex.pair.first.alive self.old.complex.first
+            (C.count self.old.complex.pair.first.copy) (length self.old.member.room) }
+        requires calm2 { IsCalm self.old.complex.pair.second.alive self.old.complex.second
+            (C.count self.old.complex.pair.second.copy) (length self.old.member.room) }
+        requires low1 { ReadsLow P.tells self.old.complex.pair.first.alive self.old.member.checkpoint.tables.config
+            (length self.old.complex.journal.batches) (C.reads (disk_now (P.view self.old.complex.plant) Ckpt1).bytes) }
+        requires low2 { ReadsLow P.tells self.old.complex.pair.second.alive self.old.member.checkpoint.tables.config
+            (length self.old.complex.journal.batches) (C.reads (disk_now (P.view self.old.complex.plant) Ckpt2).bytes) }
         requires sound { P.tells → IsToldSound (run self.old.complex.base (kept_all self.old.complex.journal.batches)) }
         requires own { self.old.complex.base.config ≡ self.old.member.checkpoint.tables.config }
         requires most { 1 ≤ C.room_most }
@@ -264,18 +344,29 @@ impl<P: Plant + Drop, C: Steady + Drop> Running<P, C> {
         ensures base { self.new.complex.base ≡ self.old.complex.base }
         ensures since { self.new.complex.since ≡ self.old.complex.since }
         ensures id { self.new.member.id ≡ self.old.member.id }
-        ensures step { (seen : Sight) × IsStepOf P.tells (command_turn self.old.complex.base.config (try_refusal self.old.complex.book sysa false) given.now (resets given.now))
-            (run self.old.complex.base (kept_all self.old.complex.journal.batches)) self.old.complex.base.config.groups step
-            self.old.complex.journal.batches (end_of self.new.complex.placed self.new.complex.current self.new.complex.journal.batches)
-            self.old.complex.pair.first.alive self.new.complex.pair.first.alive self.old.complex.pair.second.alive self.new.complex.pair.second.alive
-            (P.view self.old.complex.plant) (P.view self.new.complex.plant) result }
-        ensures at_lock { OnOk result (IsAtLock self.new.complex.current self.new.complex.placed self.new.member.batch self.new.member.checkpoint self.new.member.room) }
-        ensures calm1 { OnOk result (IsCalm self.new.complex.pair.first.alive self.new.complex.first (C.count self.new.complex.pair.first.copy) (length self.new.member.room)) }
-        ensures calm2 { OnOk result (IsCalm self.new.complex.pair.second.alive self.new.complex.second (C.count self.new.complex.pair.second.copy) (length self.new.member.room)) }
-        ensures low1 { OnOk result (ReadsLow P.tells self.new.complex.pair.first.alive self.old.member.checkpoint.tables.config (length self.new.complex.journal.batches) (C.reads (disk_now (P.view self.new.complex.plant) Ckpt1).bytes)) }
-        ensures low2 { OnOk result (ReadsLow P.tells self.new.complex.pair.second.alive self.old.member.checkpoint.tables.config (length self.new.complex.journal.batches) (C.reads (disk_now (P.view self.new.complex.plant) Ckpt2).bytes)) }
-        ensures sound { OnOk result (P.tells → IsToldSound (run self.new.complex.base (kept_all self.new.complex.journal.batches))) }
-        ensures own { OnOk result (self.new.member.checkpoint.tables.config ≡ self.old.member.checkpoint.tables.config) }
+        ensures step { (seen : Sight) × IsStepOf P.tells
+            (command_turn self.old.complex.base.config (try_refusal self.old.complex.book sysa false) given.now
+            (resets given.now)) (run self.old.complex.base (kept_all self.old.complex.journal.batches))
+            self.old.complex.base.config.groups step self.old.complex.journal.batches
+            (end_of self.new.complex.placed self.new.complex.current self.new.complex.journal.batches)
+            self.old.complex.pair.first.alive self.new.complex.pair.first.alive self.old.complex.pair.second.alive
+            self.new.complex.pair.second.alive (P.view self.old.complex.plant) (P.view self.new.complex.plant) result }
+        ensures at_lock { OnOk result (IsAtLock self.new.complex.current self.new.complex.placed self.new.member.batch
+            self.new.member.checkpoint self.new.member.room) }
+        ensures calm1 { OnOk result (IsCalm self.new.complex.pair.first.alive self.new.complex.first
+            (C.count self.new.complex.pair.first.copy) (length self.new.member.room)) }
+        ensures calm2 { OnOk result (IsCalm self.new.complex.pair.second.alive self.new.complex.second
+            (C.count self.new.complex.pair.second.copy) (length self.new.member.room)) }
+        ensures low1 { OnOk result (ReadsLow P.tells self.new.complex.pair.first.alive
+            self.old.member.checkpoint.tables.config (length self.new.complex.journal.batches)
+            (C.reads (disk_now (P.view self.new.complex.plant) Ckpt1).bytes)) }
+        ensures low2 { OnOk result (ReadsLow P.tells self.new.complex.pair.second.alive
+            self.old.member.checkpoint.tables.config (length self.new.complex.journal.batches)
+            (C.reads (disk_now (P.view self.new.complex.plant) Ckpt2).bytes)) }
+        ensures sound { OnOk result (P.tells
+            → IsToldSound (run self.new.complex.base (kept_all self.new.complex.journal.batches))) }
+        ensures own { OnOk result (self.new.member.checkpoint.tables.config
+            ≡ self.old.member.checkpoint.tables.config) }
         ensures level { OnOk result (self.new.complex.level ≤ self.old.complex.level + 2) }
         ensures lock { OnOk result (IsOpenTo self.new.complex.book self.new.complex.reserved sysa) }
         ensures book { OnOk result (self.new.complex.book ≡ after_command self.old.complex.book (resets given.now)) }
@@ -293,12 +384,19 @@ impl<P: Plant + Drop, C: Steady + Drop> Running<P, C> {
         requires config { IsConfig self.old.complex.base.config }
         requires since { self.old.complex.since ≤ (P.view self.old.complex.plant).now }
         requires roomy { P.tells → AreRoomy (P.view self.old.complex.plant) self.old.complex.base.config }
-        requires untold { P.tells → (es : List Entry) → AreOf sysa step es → IsUntold (setting C.reads self.old.complex.base self.old.complex.since) (P.view self.old.complex.plant) es }
-        requires at_lock { IsAtLock self.old.complex.current self.old.complex.placed self.old.member.batch self.old.member.checkpoint self.old.member.room }
-        requires calm1 { IsCalm self.old.complex.pair.first.alive self.old.complex.first (C.count self.old.complex.pair.first.copy) (length self.old.member.room) }
-        requires calm2 { IsCalm self.old.complex.pair.second.alive self.old.complex.second (C.count self.old.complex.pair.second.copy) (length self.old.member.room) }
-        requires low1 { ReadsLow P.tells self.old.complex.pair.first.alive self.old.member.checkpoint.tables.config (length self.old.complex.journal.batches) (C.reads (disk_now (P.view self.old.complex.plant) Ckpt1).bytes) }
-        requires low2 { ReadsLow P.tells self.old.complex.pair.second.alive self.old.member.checkpoint.tables.config (length self.old.complex.journal.batches) (C.reads (disk_now (P.view self.old.complex.plant) Ckpt2).bytes) }
+        requires untold { P.tells → (es : List Entry) → AreOf sysa step es
+            → IsUntold (setting C.reads self.old.complex.base self.old.complex.since) (P.view self.old.complex.plant)
+            es }
+        requires at_lock { IsAtLock self.old.complex.current self.old.complex.placed self.old.member.batch
+            self.old.member.checkpoint self.old.member.room }
+        requires calm1 { IsCalm self.old.complex.pair.first.alive self.old.complex.first
+            (C.count self.old.complex.pair.first.copy) (length self.old.member.room) }
+        requires calm2 { IsCalm self.old.complex.pair.second.alive self.old.complex.second
+            (C.count self.old.complex.pair.second.copy) (length self.old.member.room) }
+        requires low1 { ReadsLow P.tells self.old.complex.pair.first.alive self.old.member.checkpoint.tables.config
+            (length self.old.complex.journal.batches) (C.reads (disk_now (P.view self.old.complex.plant) Ckpt1).bytes) }
+        requires low2 { ReadsLow P.tells self.old.complex.pair.second.alive self.old.member.checkpoint.tables.config
+            (length self.old.complex.journal.batches) (C.reads (disk_now (P.view self.old.complex.plant) Ckpt2).bytes) }
         requires sound { P.tells → IsToldSound (run self.old.complex.base (kept_all self.old.complex.journal.batches)) }
         requires own { self.old.complex.base.config ≡ self.old.member.checkpoint.tables.config }
         requires most { 1 ≤ C.room_most }
@@ -308,17 +406,27 @@ impl<P: Plant + Drop, C: Steady + Drop> Running<P, C> {
         ensures since { self.new.complex.since ≡ self.old.complex.since }
         ensures id { self.new.member.id ≡ self.old.member.id }
         ensures step { (seen : Sight) × IsStepOf P.tells (Loss dev)
-            (run self.old.complex.base (kept_all self.old.complex.journal.batches)) self.old.complex.base.config.groups step
-            self.old.complex.journal.batches (end_of self.new.complex.placed self.new.complex.current self.new.complex.journal.batches)
-            self.old.complex.pair.first.alive self.new.complex.pair.first.alive self.old.complex.pair.second.alive self.new.complex.pair.second.alive
-            (P.view self.old.complex.plant) (P.view self.new.complex.plant) result }
-        ensures at_lock { OnOk result (IsAtLock self.new.complex.current self.new.complex.placed self.new.member.batch self.new.member.checkpoint self.new.member.room) }
-        ensures calm1 { OnOk result (IsCalm self.new.complex.pair.first.alive self.new.complex.first (C.count self.new.complex.pair.first.copy) (length self.new.member.room)) }
-        ensures calm2 { OnOk result (IsCalm self.new.complex.pair.second.alive self.new.complex.second (C.count self.new.complex.pair.second.copy) (length self.new.member.room)) }
-        ensures low1 { OnOk result (ReadsLow P.tells self.new.complex.pair.first.alive self.old.member.checkpoint.tables.config (length self.new.complex.journal.batches) (C.reads (disk_now (P.view self.new.complex.plant) Ckpt1).bytes)) }
-        ensures low2 { OnOk result (ReadsLow P.tells self.new.complex.pair.second.alive self.old.member.checkpoint.tables.config (length self.new.complex.journal.batches) (C.reads (disk_now (P.view self.new.complex.plant) Ckpt2).bytes)) }
-        ensures sound { OnOk result (P.tells → IsToldSound (run self.new.complex.base (kept_all self.new.complex.journal.batches))) }
-        ensures own { OnOk result (self.new.member.checkpoint.tables.config ≡ self.old.member.checkpoint.tables.config) }
+            (run self.old.complex.base (kept_all self.old.complex.journal.batches)) self.old.complex.base.config.groups
+            step self.old.complex.journal.batches
+            (end_of self.new.complex.placed self.new.complex.current self.new.complex.journal.batches)
+            self.old.complex.pair.first.alive self.new.complex.pair.first.alive self.old.complex.pair.second.alive
+            self.new.complex.pair.second.alive (P.view self.old.complex.plant) (P.view self.new.complex.plant) result }
+        ensures at_lock { OnOk result (IsAtLock self.new.complex.current self.new.complex.placed self.new.member.batch
+            self.new.member.checkpoint self.new.member.room) }
+        ensures calm1 { OnOk result (IsCalm self.new.complex.pair.first.alive self.new.complex.first
+            (C.count self.new.complex.pair.first.copy) (length self.new.member.room)) }
+        ensures calm2 { OnOk result (IsCalm self.new.complex.pair.second.alive self.new.complex.second
+            (C.count self.new.complex.pair.second.copy) (length self.new.member.room)) }
+        ensures low1 { OnOk result (ReadsLow P.tells self.new.complex.pair.first.alive
+            self.old.member.checkpoint.tables.config (length self.new.complex.journal.batches)
+            (C.reads (disk_now (P.view self.new.complex.plant) Ckpt1).bytes)) }
+        ensures low2 { OnOk result (ReadsLow P.tells self.new.complex.pair.second.alive
+            self.old.member.checkpoint.tables.config (length self.new.complex.journal.batches)
+            (C.reads (disk_now (P.view self.new.complex.plant) Ckpt2).bytes)) }
+        ensures sound { OnOk result (P.tells
+            → IsToldSound (run self.new.complex.base (kept_all self.new.complex.journal.batches))) }
+        ensures own { OnOk result (self.new.member.checkpoint.tables.config
+            ≡ self.old.member.checkpoint.tables.config) }
         ensures level { OnOk result (self.new.complex.level ≤ self.old.complex.level + 2) }
         ensures lock { OnOk result (IsOpenTo self.new.complex.book self.new.complex.reserved sysa) }
         ensures book { OnOk result (self.new.complex.book ≡ self.old.complex.book) }
@@ -336,12 +444,19 @@ impl<P: Plant + Drop, C: Steady + Drop> Running<P, C> {
         requires may { IsPlayed asked.now }
         requires since { self.old.complex.since ≤ (P.view self.old.complex.plant).now }
         requires roomy { P.tells → AreRoomy (P.view self.old.complex.plant) self.old.complex.base.config }
-        requires untold { P.tells → (es : List Entry) → AreOf sysa step es → IsUntold (setting C.reads self.old.complex.base self.old.complex.since) (P.view self.old.complex.plant) es }
-        requires at_lock { IsAtLock self.old.complex.current self.old.complex.placed self.old.member.batch self.old.member.checkpoint self.old.member.room }
-        requires calm1 { IsCalm self.old.complex.pair.first.alive self.old.complex.first (C.count self.old.complex.pair.first.copy) (length self.old.member.room) }
-        requires calm2 { IsCalm self.old.complex.pair.second.alive self.old.complex.second (C.count self.old.complex.pair.second.copy) (length self.old.member.room) }
-        requires low1 { ReadsLow P.tells self.old.complex.pair.first.alive self.old.member.checkpoint.tables.config (length self.old.complex.journal.batches) (C.reads (disk_now (P.view self.old.complex.plant) Ckpt1).bytes) }
-        requires low2 { ReadsLow P.tells self.old.complex.pair.second.alive self.old.member.checkpoint.tables.config (length self.old.complex.journal.batches) (C.reads (disk_now (P.view self.old.complex.plant) Ckpt2).bytes) }
+        requires untold { P.tells → (es : List Entry) → AreOf sysa step es
+            → IsUntold (setting C.reads self.old.complex.base self.old.complex.since) (P.view self.old.complex.plant)
+            es }
+        requires at_lock { IsAtLock self.old.complex.current self.old.complex.placed self.old.member.batch
+            self.old.member.checkpoint self.old.member.room }
+        requires calm1 { IsCalm self.old.complex.pair.first.alive self.old.complex.first
+            (C.count self.old.complex.pair.first.copy) (length self.old.member.room) }
+        requires calm2 { IsCalm self.old.complex.pair.second.alive self.old.complex.second
+            (C.count self.old.complex.pair.second.copy) (length self.old.member.room) }
+        requires low1 { ReadsLow P.tells self.old.complex.pair.first.alive self.old.member.checkpoint.tables.config
+            (length self.old.complex.journal.batches) (C.reads (disk_now (P.view self.old.complex.plant) Ckpt1).bytes) }
+        requires low2 { ReadsLow P.tells self.old.complex.pair.second.alive self.old.member.checkpoint.tables.config
+            (length self.old.complex.journal.batches) (C.reads (disk_now (P.view self.old.complex.plant) Ckpt2).bytes) }
         requires sound { P.tells → IsToldSound (run self.old.complex.base (kept_all self.old.complex.journal.batches)) }
         requires own { self.old.complex.base.config ≡ self.old.member.checkpoint.tables.config }
         requires most { 1 ≤ C.room_most }
@@ -350,21 +465,33 @@ impl<P: Plant + Drop, C: Steady + Drop> Running<P, C> {
         ensures base { self.new.complex.base ≡ self.old.complex.base }
         ensures since { self.new.complex.since ≡ self.old.complex.since }
         ensures id { self.new.member.id ≡ self.old.member.id }
-        ensures step { (seen : Sight) × IsStepOf P.tells (turn_at self.old.complex.base.config self.old.complex.book seen asked.now.what)
-            (run self.old.complex.base (kept_all self.old.complex.journal.batches)) self.old.complex.base.config.groups step
-            self.old.complex.journal.batches (end_of self.new.complex.placed self.new.complex.current self.new.complex.journal.batches)
-            self.old.complex.pair.first.alive self.new.complex.pair.first.alive self.old.complex.pair.second.alive self.new.complex.pair.second.alive
-            (P.view self.old.complex.plant) (P.view self.new.complex.plant) result }
-        ensures at_lock { OnOk result (IsAtLock self.new.complex.current self.new.complex.placed self.new.member.batch self.new.member.checkpoint self.new.member.room) }
-        ensures calm1 { OnOk result (IsCalm self.new.complex.pair.first.alive self.new.complex.first (C.count self.new.complex.pair.first.copy) (length self.new.member.room)) }
-        ensures calm2 { OnOk result (IsCalm self.new.complex.pair.second.alive self.new.complex.second (C.count self.new.complex.pair.second.copy) (length self.new.member.room)) }
-        ensures low1 { OnOk result (ReadsLow P.tells self.new.complex.pair.first.alive self.old.member.checkpoint.tables.config (length self.new.complex.journal.batches) (C.reads (disk_now (P.view self.new.complex.plant) Ckpt1).bytes)) }
-        ensures low2 { OnOk result (ReadsLow P.tells self.new.complex.pair.second.alive self.old.member.checkpoint.tables.config (length self.new.complex.journal.batches) (C.reads (disk_now (P.view self.new.complex.plant) Ckpt2).bytes)) }
-        ensures sound { OnOk result (P.tells → IsToldSound (run self.new.complex.base (kept_all self.new.complex.journal.batches))) }
-        ensures own { OnOk result (self.new.member.checkpoint.tables.config ≡ self.old.member.checkpoint.tables.config) }
+        ensures step { (seen : Sight) × IsStepOf P.tells
+            (turn_at self.old.complex.base.config self.old.complex.book seen asked.now.what)
+            (run self.old.complex.base (kept_all self.old.complex.journal.batches)) self.old.complex.base.config.groups
+            step self.old.complex.journal.batches
+            (end_of self.new.complex.placed self.new.complex.current self.new.complex.journal.batches)
+            self.old.complex.pair.first.alive self.new.complex.pair.first.alive self.old.complex.pair.second.alive
+            self.new.complex.pair.second.alive (P.view self.old.complex.plant) (P.view self.new.complex.plant) result }
+        ensures at_lock { OnOk result (IsAtLock self.new.complex.current self.new.complex.placed self.new.member.batch
+            self.new.member.checkpoint self.new.member.room) }
+        ensures calm1 { OnOk result (IsCalm self.new.complex.pair.first.alive self.new.complex.first
+            (C.count self.new.complex.pair.first.copy) (length self.new.member.room)) }
+        ensures calm2 { OnOk result (IsCalm self.new.complex.pair.second.alive self.new.complex.second
+            (C.count self.new.complex.pair.second.copy) (length self.new.member.room)) }
+        ensures low1 { OnOk result (ReadsLow P.tells self.new.complex.pair.first.alive
+            self.old.member.checkpoint.tables.config (length self.new.complex.journal.batches)
+            (C.reads (disk_now (P.view self.new.complex.plant) Ckpt1).bytes)) }
+        ensures low2 { OnOk result (ReadsLow P.tells self.new.complex.pair.second.alive
+            self.old.member.checkpoint.tables.config (length self.new.complex.journal.batches)
+            (C.reads (disk_now (P.view self.new.complex.plant) Ckpt2).bytes)) }
+        ensures sound { OnOk result (P.tells
+            → IsToldSound (run self.new.complex.base (kept_all self.new.complex.journal.batches))) }
+        ensures own { OnOk result (self.new.member.checkpoint.tables.config
+            ≡ self.old.member.checkpoint.tables.config) }
         ensures level { OnOk result (self.new.complex.level ≤ self.old.complex.level + batches_most) }
         ensures lock { OnOk result (IsOpenTo self.new.complex.book self.new.complex.reserved sysa) }
-        ensures book { OnOk result (self.new.complex.book ≡ book_after self.old.complex.base.config self.old.complex.book asked.now.what) }
+        ensures book { OnOk result (self.new.complex.book
+            ≡ book_after self.old.complex.base.config self.old.complex.book asked.now.what) }
     {
         match &asked.what {
             Ask::Deck(cards) => self.play_deck(alloc, step, cards),
@@ -384,25 +511,33 @@ impl<P: Plant + Drop, C: Steady + Drop> Running<P, C> {
         requires base_sound { IsSound self.old.complex.base }
         requires may { All IsPlayed asked.now }
         requires since { self.old.complex.since ≤ (P.view self.old.complex.plant).now }
-        requires quiet { P.tells → ((P.view self.old.complex.plant).world self.old.complex.since).console ≡ console_now (P.view self.old.complex.plant) }
+        requires quiet { P.tells → ((P.view self.old.complex.plant).world self.old.complex.since).console
+            ≡ console_now (P.view self.old.complex.plant) }
         requires roomy { P.tells → AreRoomy (P.view self.old.complex.plant) self.old.complex.base.config }
         requires kept { AreAllKept self.old.complex.journal.batches (P.view self.old.complex.plant).now }
         requires some { SomeAlive self.old.complex.pair.first.alive self.old.complex.pair.second.alive }
         requires fresh { length self.old.complex.journal.batches ≤ 1 }
         requires level { self.old.complex.level < 2 ^ 62 + 64 }
-        requires at_lock { IsAtLock self.old.complex.current self.old.complex.placed self.old.member.batch self.old.member.checkpoint self.old.member.room }
-        requires calm1 { IsCalm self.old.complex.pair.first.alive self.old.complex.first (C.count self.old.complex.pair.first.copy) (length self.old.member.room) }
-        requires calm2 { IsCalm self.old.complex.pair.second.alive self.old.complex.second (C.count self.old.complex.pair.second.copy) (length self.old.member.room) }
-        requires low1 { ReadsLow P.tells self.old.complex.pair.first.alive self.old.member.checkpoint.tables.config (length self.old.complex.journal.batches) (C.reads (disk_now (P.view self.old.complex.plant) Ckpt1).bytes) }
-        requires low2 { ReadsLow P.tells self.old.complex.pair.second.alive self.old.member.checkpoint.tables.config (length self.old.complex.journal.batches) (C.reads (disk_now (P.view self.old.complex.plant) Ckpt2).bytes) }
+        requires at_lock { IsAtLock self.old.complex.current self.old.complex.placed self.old.member.batch
+            self.old.member.checkpoint self.old.member.room }
+        requires calm1 { IsCalm self.old.complex.pair.first.alive self.old.complex.first
+            (C.count self.old.complex.pair.first.copy) (length self.old.member.room) }
+        requires calm2 { IsCalm self.old.complex.pair.second.alive self.old.complex.second
+            (C.count self.old.complex.pair.second.copy) (length self.old.member.room) }
+        requires low1 { ReadsLow P.tells self.old.complex.pair.first.alive self.old.member.checkpoint.tables.config
+            (length self.old.complex.journal.batches) (C.reads (disk_now (P.view self.old.complex.plant) Ckpt1).bytes) }
+        requires low2 { ReadsLow P.tells self.old.complex.pair.second.alive self.old.member.checkpoint.tables.config
+            (length self.old.complex.journal.batches) (C.reads (disk_now (P.view self.old.complex.plant) Ckpt2).bytes) }
         requires sound { P.tells → IsToldSound (run self.old.complex.base (kept_all self.old.complex.journal.batches)) }
         requires own { self.old.complex.base.config ≡ self.old.member.checkpoint.tables.config }
         requires most { 1 ≤ C.room_most }
         ensures base { self.new.complex.base ≡ self.old.complex.base }
         ensures since { self.new.complex.since ≡ self.old.complex.since }
-        ensures played { HasPlay P.tells (run self.old.complex.base (kept_all self.old.complex.journal.batches)) self.old.complex.base.config self.old.complex.book asked.now self.old.complex.journal.batches (end_of self.new.complex.placed self.new.complex.current self.new.complex.journal.batches)
-            self.old.complex.pair.first.alive self.new.complex.pair.first.alive self.old.complex.pair.second.alive self.new.complex.pair.second.alive
-            (P.view self.old.complex.plant) (P.view self.new.complex.plant) result }
+        ensures played { HasPlay P.tells (run self.old.complex.base (kept_all self.old.complex.journal.batches))
+            self.old.complex.base.config self.old.complex.book asked.now self.old.complex.journal.batches
+            (end_of self.new.complex.placed self.new.complex.current self.new.complex.journal.batches)
+            self.old.complex.pair.first.alive self.new.complex.pair.first.alive self.old.complex.pair.second.alive
+            self.new.complex.pair.second.alive (P.view self.old.complex.plant) (P.view self.new.complex.plant) result }
     {
         let mut number = 0;
         for step in asked {

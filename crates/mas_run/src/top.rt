@@ -43,7 +43,8 @@ fn read_all<S: Source>(
     ensures read { S.tells → OnOk result (S.left source.new ≡ []) }
     ensures taken { S.tells → IsTakenFrom (S.left source.old) (S.left source.new) }
     ensures kind { IfErr result (λ status. is_of_script status ≡ true) }
-    ensures refused { S.tells → IfErr result (λ status. (v : View) → Answers cold (refusal_before_play cold only (S.left source.old) v) status) }
+    ensures refused { S.tells → IfErr result
+        (λ status. (v : View) → Answers cold (refusal_before_play cold only (S.left source.old) v) status) }
     ensures source { IsErrOf result Status.SourceFault → Rose (S.faults source.old) (S.faults source.new) }
 {
     let bytes = match read_source(alloc, source) {
@@ -65,23 +66,35 @@ pub fn play_steps<P: Plant + Drop>(alloc: Global, cold: bool, script: Script, pl
     requires fits { IsScript script }
     requires plays { All IsPlayed script.steps }
     ensures refused { Answers cold (first_some (refused_sizes cold script.config (P.view plant))) result.status }
-    ensures device { cold ≡ true → (dev : Dev) (size : ℕ) → result.status ≡ Status.DeviceSize dev size → IsTooSmall script.config dev size (P.view plant) }
+    ensures device { cold ≡ true → (dev : Dev) (size : ℕ) → result.status ≡ Status.DeviceSize dev size
+        → IsTooSmall script.config dev size (P.view plant) }
     ensures no_source { result.status ≡ Status.SourceFault → ⊥ }
     ensures no_text { is_of_text result.status ≡ false }
-    ensures formatted { cold ≡ true → (first second : CopyState) → result.status ≡ Status.NotFormatted first second → ⊥ }
-    ensures unstarted { cold ≡ false → has_begun result.base ≡ false → IsNotStarted P.tells result.status (P.view plant) (P.view result.plant) }
+    ensures formatted { cold ≡ true → (first second : CopyState) → result.status ≡ Status.NotFormatted first second
+        → ⊥ }
+    ensures unstarted { cold ≡ false → has_begun result.base ≡ false
+        → IsNotStarted P.tells result.status (P.view plant) (P.view result.plant) }
     ensures cause { IsCaused result.status (P.view plant) (P.view result.plant) }
     ensures begun { Begins result.status result.base }
-    ensures unbegun { has_begun result.base ≡ false → IsUnbegun result.base result.journal result.since (P.view result.plant).now }
-    ensures untouched { has_begun result.base ≡ false → (result.status ≡ Status.BothLost) ⊎ ((result.plant ≡ plant) ⊎ ((cold ≡ false) × (P.tells → OnlyLookedAtAll (P.view plant) (P.view result.plant)))) }
-    ensures unsaid { P.tells → has_begun result.base ≡ false → console_now (P.view result.plant) ≡ console_now (P.view plant) }
+    ensures unbegun { has_begun result.base ≡ false
+        → IsUnbegun result.base result.journal result.since (P.view result.plant).now }
+    ensures untouched { has_begun result.base ≡ false → (result.status ≡ Status.BothLost)
+        ⊎ ((result.plant ≡ plant) ⊎ ((cold ≡ false)
+        × (P.tells → OnlyLookedAtAll (P.view plant) (P.view result.plant)))) }
+    ensures unsaid { P.tells → has_begun result.base ≡ false
+        → console_now (P.view result.plant) ≡ console_now (P.view plant) }
     ensures unprinted { P.tells → has_begun result.base ≡ false → AreSidesKept (P.view plant) (P.view result.plant) }
     ensures goes { Goes (P.view plant) (P.view result.plant) }
-    ensures loses { has_begun result.base ≡ false → (result.status ≢ Status.BothLost) ⊎ (cold ≡ true) → (d : Dev) → (P.view result.plant).loses d ≡ (P.view plant).loses d }
+    ensures loses { has_begun result.base ≡ false → (result.status ≢ Status.BothLost) ⊎ (cold ≡ true) → (d : Dev)
+        → (P.view result.plant).loses d ≡ (P.view plant).loses d }
     ensures volumes { P.tells → has_begun result.base ≡ false → AreVolumesKept (P.view plant) (P.view result.plant) }
-    ensures room { has_begun result.base ≡ true → (form_needs (page_count result.base.config) ≤ (P.view plant).size Ckpt1) × (form_needs (page_count result.base.config) ≤ (P.view plant).size Ckpt2) }
+    ensures room { has_begun result.base ≡ true
+        → (form_needs (page_count result.base.config) ≤ (P.view plant).size Ckpt1)
+        × (form_needs (page_count result.base.config) ≤ (P.view plant).size Ckpt2) }
     ensures roomy { has_begun result.base ≡ true → AreRoomy (P.view result.plant) result.base.config }
-    ensures run { has_begun result.base ≡ true → IsRun cold P.tells script result.status result.base result.journal result.since (P.view plant) (P.view result.plant) }
+    ensures run { has_begun result.base ≡ true
+        → IsRun cold P.tells script result.status result.base result.journal result.since (P.view plant)
+        (P.view result.plant) }
     ensures stepless { script.steps ≡ [] → P.tells → AreVolumesKept (P.view plant) (P.view result.plant) }
 {
     if cold {
@@ -91,25 +104,29 @@ pub fn play_steps<P: Plant + Drop>(alloc: Global, cold: bool, script: Script, pl
     }
 }
 
-/// Plays a script on a plant: cold from an empty queue, for which CKPT1 and CKPT2 are formatted, and else warm, from the queue
-/// that is found on them. A run that `only` formats refuses every step.
+/// Plays a script on a plant: cold from an empty queue, for which CKPT1 and CKPT2 are formatted, and else warm, from
+/// the queue that is found on them. A run that `only` formats refuses every step.
 ///
-/// The script is read to its end before anything is played. Its steps are decks, operator's commands and work at SYSA, and losses of a device.
-/// A cold run refuses the first device that is too small for the script's configuration, CKPT1, CKPT2, and then each spool volume that
-/// isn't lost, and formats both copies with the empty queue of the script's configuration and routes. A warm run looks at
-/// both, takes the usable one of greater level, CKPT1 on a tie, refuses a device that is too small for it in the same order, syncs the
-/// volumes and reads the texts, loses the other copy where it can't be used or doesn't fit and else brings it up, and
-/// gives Restart as its first batch; its jobs are at the node of the configuration that is found. Then the steps are
-/// played one after another. A deck whose cards are wrong closes with BAD CARD. Else its job begins and gets the groups that its text
-/// needs, in a batch; the text is written into them and synced; and the job is entered, in a second batch. After a refused Take, or where
-/// a volume of one of the groups failed, the job is dropped. A command is done in one batch; the reset of a member is refused, as each is
-/// up. Work does at most so many units, one after another, up to one that is refused or to where none applies; what it did is kept before a
-/// text is read or written, where the lock's hold is spent, and at its end. The lines of an output are printed from its mark on, in their
-/// order, and then marked. A batch is kept once each copy that is left has it, and the lines of its step are said then, those of a display first and the
-/// closing line last. A step takes the lock of the checkpoint and gives it up at its end. Where the configuration has a dormancy, a step that comes too early
-/// closes with DORMANT and changes nothing. A copy that fails or is lost is left out, and the run goes on with the other.
+/// The script is read to its end before anything is played. Its steps are decks, operator's commands and work at SYSA,
+/// and losses of a device. A cold run refuses the first device that is too small for the script's configuration, CKPT1,
+/// CKPT2, and then each spool volume that isn't lost, and formats both copies with the empty queue of the script's
+/// configuration and routes. A warm run looks at both, takes the usable one of greater level, CKPT1 on a tie, refuses a
+/// device that is too small for it in the same order, syncs the volumes and reads the texts, loses the other copy where
+/// it can't be used or doesn't fit and else brings it up, and gives Restart as its first batch; its jobs are at the
+/// node of the configuration that is found. Then the steps are played one after another. A deck whose cards are wrong
+/// closes with BAD CARD. Else its job begins and gets the groups that its text needs, in a batch; the text is written
+/// into them and synced; and the job is entered, in a second batch. After a refused Take, or where a volume of one of
+/// the groups failed, the job is dropped. A command is done in one batch; the reset of a member is refused, as each is
+/// up. Work does at most so many units, one after another, up to one that is refused or to where none applies; what it
+/// did is kept before a text is read or written, where the lock's hold is spent, and at its end. The lines of an output
+/// are printed from its mark on, in their order, and then marked. A batch is kept once each copy that is left has it,
+/// and the lines of its step are said then, those of a display first and the closing line last. A step takes the lock
+/// of the checkpoint and gives it up at its end. Where the configuration has a dormancy, a step that comes too early
+/// closes with DORMANT and changes nothing. A copy that fails or is lost is left out, and the run goes on with the
+/// other.
 ///
-/// A stop of the member inside an act ends the run with Done, and no further line is said. The status Words never comes.
+/// A stop of the member inside an act ends the run with Done, and no further line is said. The status Words never
+/// comes.
 pub fn play_script<P: Plant + Drop, S: Source>(
     alloc: Global,
     cold: bool,
@@ -118,27 +135,36 @@ pub fn play_script<P: Plant + Drop, S: Source>(
     plant: P,
 ) -> Ended<P>
     // What is refused before play, and why else a run ends.
-    ensures refused { S.tells → Answers cold (refusal_before_play cold only (S.left script.old) (P.view plant)) result.status }
+    ensures refused { S.tells → Answers cold (refusal_before_play cold only (S.left script.old) (P.view plant))
+        result.status }
     ensures words { result.status ≢ Status.Words }
     ensures device { cold ≡ true → (dev : Dev) (size : ℕ) → result.status ≡ Status.DeviceSize dev size
-        → ((read : ScriptLem) × (S.tells → IsSaid cold only (S.left script.old) read) × IsTooSmall read.config dev size (P.view plant)) }
-    ensures formatted { cold ≡ true → (first second : CopyState) → result.status ≡ Status.NotFormatted first second → ⊥ }
-    ensures unstarted { cold ≡ false → has_begun result.base ≡ false → IsNotStarted P.tells result.status (P.view plant) (P.view result.plant) }
+        → ((read : ScriptLem) × (S.tells → IsSaid cold only (S.left script.old) read)
+        × IsTooSmall read.config dev size (P.view plant)) }
+    ensures formatted { cold ≡ true → (first second : CopyState) → result.status ≡ Status.NotFormatted first second
+        → ⊥ }
+    ensures unstarted { cold ≡ false → has_begun result.base ≡ false
+        → IsNotStarted P.tells result.status (P.view plant) (P.view result.plant) }
     ensures source { result.status ≡ Status.SourceFault → Rose (S.faults script.old) (S.faults script.new) }
     ensures cause { IsCaused result.status (P.view plant) (P.view result.plant) }
     ensures begun { Begins result.status result.base }
 
-    // A run that has not begun leaves all as it was, but where both copies were lost in the formatting or the start. A warm
-    // one looked at the copies.
-    ensures unbegun { has_begun result.base ≡ false → IsUnbegun result.base result.journal result.since (P.view result.plant).now }
-    ensures untouched { has_begun result.base ≡ false → (result.status ≡ Status.BothLost) ⊎ ((result.plant ≡ plant) ⊎ ((cold ≡ false) × (P.tells → OnlyLookedAtAll (P.view plant) (P.view result.plant)))) }
-    ensures unsaid { P.tells → has_begun result.base ≡ false → console_now (P.view result.plant) ≡ console_now (P.view plant) }
+    // A run that has not begun leaves all as it was, except where both copies were lost in the formatting or the start.
+    // A warm one looked at the copies.
+    ensures unbegun { has_begun result.base ≡ false
+        → IsUnbegun result.base result.journal result.since (P.view result.plant).now }
+    ensures untouched { has_begun result.base ≡ false → (result.status ≡ Status.BothLost)
+        ⊎ ((result.plant ≡ plant) ⊎ ((cold ≡ false)
+        × (P.tells → OnlyLookedAtAll (P.view plant) (P.view result.plant)))) }
+    ensures unsaid { P.tells → has_begun result.base ≡ false
+        → console_now (P.view result.plant) ≡ console_now (P.view plant) }
     ensures unprinted { P.tells → has_begun result.base ≡ false → AreSidesKept (P.view plant) (P.view result.plant) }
     ensures volumes { P.tells → has_begun result.base ≡ false → AreVolumesKept (P.view plant) (P.view result.plant) }
 
-    // No run loses a device by a call but by a step that says so, or a copy that a warm start doesn't take.
+    // No run loses a device by a call except by a step that says so, or a copy that a warm start doesn't take.
     ensures goes { Goes (P.view plant) (P.view result.plant) }
-    ensures loses { has_begun result.base ≡ false → (result.status ≢ Status.BothLost) ⊎ (cold ≡ true) → (d : Dev) → (P.view result.plant).loses d ≡ (P.view plant).loses d }
+    ensures loses { has_begun result.base ≡ false → (result.status ≢ Status.BothLost) ⊎ (cold ≡ true) → (d : Dev)
+        → (P.view result.plant).loses d ≡ (P.view plant).loses d }
 
     // At most one byte more than a script may have is taken from its source.
     ensures taken { S.tells → IsTakenFrom (S.left script.old) (S.left script.new) }
@@ -147,18 +173,22 @@ pub fn play_script<P: Plant + Drop, S: Source>(
     ensures idle { is_unplayed result.status ≡ true → result.plant ≡ plant }
 
     // A run that has begun plays what its script asks for.
-    ensures room { has_begun result.base ≡ true → (form_needs (page_count result.base.config) ≤ (P.view plant).size Ckpt1) × (form_needs (page_count result.base.config) ≤ (P.view plant).size Ckpt2) }
+    ensures room { has_begun result.base ≡ true
+        → (form_needs (page_count result.base.config) ≤ (P.view plant).size Ckpt1)
+        × (form_needs (page_count result.base.config) ≤ (P.view plant).size Ckpt2) }
     ensures roomy { has_begun result.base ≡ true → AreRoomy (P.view result.plant) result.base.config }
     ensures read { S.tells → has_begun result.base ≡ true → S.left script.new ≡ [] }
-    ensures run { has_begun result.base ≡ true → ((read : ScriptLem) × (S.tells → IsSaid cold only (S.left script.old) read)
-        × IsRun cold P.tells read result.status result.base result.journal result.since (P.view plant) (P.view result.plant)) }
+    ensures run { has_begun result.base ≡ true
+        → ((read : ScriptLem) × (S.tells → IsSaid cold only (S.left script.old) read)
+        × IsRun cold P.tells read result.status result.base result.journal result.since (P.view plant)
+        (P.view result.plant)) }
     ensures formats { only ≡ true → P.tells → AreVolumesKept (P.view plant) (P.view result.plant) }
 
-    // What neither a fault nor a line that loses a copy hinders is played to its end, where a warm run finds a queue and its devices are
-    // large enough for it.
+    // What neither a fault nor a line that loses a copy hinders is played to its end, where a warm run finds a queue
+    // and its devices are large enough for it.
     ensures complete { S.tells → refusal_before_play cold only (S.left script.old) (P.view plant) ≡ None
-        → IsStill P.tells (steps_of (said_by cold only (S.left script.old))) (S.faults script.old) (S.faults script.new) (P.view plant) (P.view result.plant)
-        → IsPlayedOut cold result.status }
+        → IsStill P.tells (steps_of (said_by cold only (S.left script.old))) (S.faults script.old) (S.faults script.new)
+        (P.view plant) (P.view result.plant) → IsPlayedOut cold result.status }
 {
     match read_all(alloc, cold, only, script) {
         Ok(script) => play_steps(alloc, cold, script, plant),

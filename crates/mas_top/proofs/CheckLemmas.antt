@@ -155,7 +155,7 @@ gone_read tells v0 v1 v2 looked d told x =
     gone_on_to d v0 v1 v2 looked.goes (looked.loses d)
     (λ lt. lost_stays (disk_now v1 d).lost (disk_now v2 d).lost ((looked.worlds told v2.now looked.goes.later (omega arith)).disks d).there (x.gone (omega (arith, looked.goes.later, lt)))) x
 
--- and after a line on the console
+-- a copy that had gone has gone after a line on the console
 pub gone_said : (tells : Type 0) (lines : List (List ℕ)) (v0 v2 v3 : View) → Adds tells lines v2 v3 → (d : Dev) → tells → HasGone d v0 v2 (mark_of v2) → HasGone d v0 v3 (mark_of v3)
 gone_said tells lines v0 v2 v3 adds d told x =
     gone_on_to d v0 v2 v3 adds.goes (adds.loses d)
@@ -217,7 +217,7 @@ module _ (tells : Type 0) (pages : List Page) (v0 v1 v2 v3 : View) (sizes : (n :
 -- THE RUN
 
 module _ (tells : Type 0) (v0 v1 : View) (looks : Looks tells v0 v1) where
-  -- there are no pages
+  -- a check that finds no pages
   pub no_pages : (why : StartNo) → SeesNone form_reads tells v0 v1 why → IsCheckRun tells (status_of_start why) v0 v1
   no_pages why none = record { devices = looked_on tells v0 v1 v1 looks (reads_none tells v1); checked = by_cause why none } where
     unsaid : tells → console_now v1 ≡ console_now v0
@@ -230,7 +230,7 @@ module _ (tells : Type 0) (v0 v1 : View) (looks : Looks tells v0 v1) where
     by_cause no_start.NoMemory none = record { why = no_start.NoMemory; is = refl; cause = tt; unsaid = unsaid }
 
   module _ (v2 : View) (looked : OnlyReads tells v1 v2) where
-    -- there was no memory for the answer
+    -- a check that runs out of memory for its answer
     pub no_answer : IsCheckRun tells status.NoMemory v0 v2
     no_answer = record {
       devices = looked_on tells v0 v1 v2 looks looked;
@@ -286,7 +286,7 @@ module _ (tells : Type 0) (v0 v1 : View) (looks : Looks tells v0 v1) where
       said_check (status.DeviceSize dev size) said = absurd said
       said_check status.NoMemory said = absurd said
 
--- there was no memory for the words
+-- a check that runs out of memory for its words
 pub not_checked : (tells : Type 0) (v : View) → IsCheckRun tells status.NoMemory v v
 not_checked tells v = no_answer tells v v (looks_none tells v) v (reads_none tells v)
 

@@ -45,7 +45,7 @@ script_caused answer old new is = record {
   console = λ e. absurd (no_of answer status.ConsoleFault is refl e);
 }
 
--- for what its script lacks, its source, or want of memory
+-- the script is refused for what it or its source lacks, or out of memory
 pub not_played : (cold only : Bool) (source : Sourced) (tells same : Type 0) (answer : Status) (base : Queue) (journal : Journal) (since : ℕ) (old new : View)
     → base ≡ no_queue → same → new ≡ old → (source.tells → Answers cold (refusal_before_play cold only source.left old) answer) → is_of_script answer ≡ true → (answer ≡ status.SourceFault → Rose source.before source.after) → (source.tells → IsTakenFrom source.left source.rest)
     → IsPlayed cold only source tells same answer base journal since old new

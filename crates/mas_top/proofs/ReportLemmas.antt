@@ -241,6 +241,6 @@ looks_none tells v = record {
   else_lost = λ p one two. refl;
 }
 
--- there was no memory for it
+-- a report that runs out of memory
 pub not_reported : (tells : Type 0) (base : Queue) (journal : Journal) (since : ℕ) (v : View) → base ≡ no_queue → IsReport tells status.NoMemory base journal since v v
 not_reported tells base journal since v is = none_report tells status.NoMemory no_start.NoMemory base journal since v v (looks_none tells v) (ap has_begun is) refl tt

@@ -22,13 +22,14 @@ use Rattle.warm_start.specs.Inspecting.{HasFailed, HasLooked, SeesNone}
 use Rattle.member_node.specs.Calls.{console_now}
 use Rattle.mas_run.specs.Unstarted.{status_of_start}
 
--- At each moment no byte of a device has changed, the same ranges of a volume are unsynced and no more of a copy, and each printer
--- has the lines that it had; no device is lost but one of which an act failed.
+-- At each moment no byte of a device has changed, the same ranges of a volume are unsynced and no more of a copy, and
+-- each printer has the lines that it had; no device is lost but one of which an act failed.
 pub record KeepsDevices (tells : Type 0) (old new : View) : Type 0 where
   pub goes : Goes old new
   pub first : tells → Throughout old.now new.now (λ t. NoMore (disk_now old Ckpt1) (disk_at new t Ckpt1))
   pub second : tells → Throughout old.now new.now (λ t. NoMore (disk_now old Ckpt2) (disk_at new t Ckpt2))
-  pub volumes : tells → Throughout old.now new.now (λ t. (n : ℕ) → IsSameDisk (disk_now old (Spool n)) (disk_at new t (Spool n)))
+  pub volumes : tells → Throughout old.now new.now
+      (λ t. (n : ℕ) → IsSameDisk (disk_now old (Spool n)) (disk_at new t (Spool n)))
   pub papers : tells → SamePapers old new
   pub loses : (d : Dev) → new.loses d ≡ old.loses d
   pub stops : (m : ℕ) → new.stops m ≡ old.stops m
@@ -44,7 +45,8 @@ pub record AreLinesOf (answer : Result Verdict CheckNo) (lines : List (List ℕ)
 -- the line stands on the console behind those of before; or it couldn't be said, and nothing was
 abbrev pub SaysLine : Type 0 → Status → List ℕ → View → View → Type 0
 SaysLine tells status.Done line old new = tells → console_now new ≡ console_now old ++ whole line ∷ []
-SaysLine tells status.ConsoleFault line old new = (tells → console_now new ≡ console_now old) × Rose (old.faults Console) (new.faults Console)
+SaysLine tells status.ConsoleFault line old new = (tells → console_now new ≡ console_now old)
+    × Rose (old.faults Console) (new.faults Console)
 SaysLine tells _ line old new = ⊥
 
 -- The pages of greatest level were checked, with their texts, and the answer was said.
@@ -57,14 +59,14 @@ pub record HasChecked (tells : Type 0) (answer : Status) (old new : View) : Type
   pub of : line_of verdict ≡ Some line
   pub said : SaysLine tells answer line old new
 
--- Nothing was said: there are no pages, or there was no memory.
+-- Nothing was said: there are no pages, or the check ran out of memory.
 pub record ChecksNone (tells : Type 0) (answer : Status) (old new : View) : Type 0 where
   pub why : StartNo
   pub is : answer ≡ status_of_start why
   pub cause : SeesNone form_reads tells old new why
   pub unsaid : tells → console_now new ≡ console_now old
 
--- with these statuses a line was to be said
+-- the pages were checked if the status is Done or ConsoleFault; with any other status nothing was said
 abbrev pub IsChecked : Type 0 → Status → View → View → Type 0
 IsChecked tells status.Done old new = HasChecked tells status.Done old new
 IsChecked tells status.ConsoleFault old new = HasChecked tells status.ConsoleFault old new

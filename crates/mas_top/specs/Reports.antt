@@ -21,12 +21,13 @@ use Rattle.mas_run.specs.Runs.{has_begun}
 use Rattle.member_node.specs.Calls.{console_now}
 use Rattle.mas_run.specs.Unstarted.{status_of_start}
 
--- At each moment no byte of a device has changed, and each printer has the lines that it had; no device is lost but a copy of the
--- checkpoint on which an act failed.
+-- At each moment no byte of a device has changed, and each printer has the lines that it had; no device is lost but a
+-- copy of the checkpoint on which an act failed.
 pub record ChangesNoDevice (tells : Type 0) (old new : View) : Type 0 where
   pub first : tells → Throughout old.now new.now (λ t. NoMore (disk_now old Ckpt1) (disk_at new t Ckpt1))
   pub second : tells → Throughout old.now new.now (λ t. NoMore (disk_now old Ckpt2) (disk_at new t Ckpt2))
-  pub others : tells → Throughout old.now new.now (λ t. (d : Dev) → d ≢ Ckpt1 → d ≢ Ckpt2 → disk_at new t d ≡ disk_now old d)
+  pub others : tells → Throughout old.now new.now
+      (λ t. (d : Dev) → d ≢ Ckpt1 → d ≢ Ckpt2 → disk_at new t d ≡ disk_now old d)
   pub papers : tells → SamePapers old new
   pub loses : (d : Dev) → new.loses d ≡ old.loses d
   pub stops : (m : ℕ) → new.stops m ≡ old.stops m
@@ -48,20 +49,22 @@ SaysQueue tells status.ConsoleFault Q old new = SaysSome tells (report_lines Q) 
 SaysQueue tells _ Q old new = ⊥
 
 -- A report that found a queue: the one that a start would find. Nothing is given to it.
-pub record HasReported (tells : Type 0) (answer : Status) (base : Queue) (journal : Journal) (since : ℕ) (old new : View) : Type 0 where
+pub record HasReported (tells : Type 0) (answer : Status) (base : Queue) (journal : Journal) (since : ℕ)
+    (old new : View) : Type 0 where
   pub found : HasFound form_reads tells form_needs old new base
   pub batches : journal.batches ≡ []
   pub moment : since ≡ old.now
   pub said : SaysQueue tells answer base old new
 
--- A report that says nothing, and why: there is no queue to be found, or there was no memory.
+-- A report that says nothing, and why: there is no queue to be found, or it ran out of memory.
 pub record ReportsNone (tells : Type 0) (answer : Status) (old new : View) : Type 0 where
   pub why : StartNo
   pub is : answer ≡ status_of_start why
   pub cause : FindsNone form_reads tells form_needs old new why
 
 -- A report, on a plant that showed `old` before and `new` after it.
-pub record IsReport (tells : Type 0) (answer : Status) (base : Queue) (journal : Journal) (since : ℕ) (old new : View) : Type 0 where
+pub record IsReport (tells : Type 0) (answer : Status) (base : Queue) (journal : Journal) (since : ℕ)
+    (old new : View) : Type 0 where
   pub devices : ChangesNoDevice tells old new
   pub reported : has_begun base ≡ true → HasReported tells answer base journal since old new
   pub unfound : has_begun base ≡ false → ReportsNone tells answer old new

@@ -32,8 +32,8 @@ fn say_answer<P: Plant + Drop>(alloc: Global, lines: &Lines, plant: P) -> Ended<
     unbegun(alloc, status, plant)
 }
 
-/// Says what is wrong with the pages of greatest level that a copy reads as, those of CKPT1 on a tie, and with their texts:
-/// one line. A run doesn't begin, and no byte of a device is changed.
+/// Says what is wrong with the pages of greatest level that a copy reads as, those of CKPT1 on a tie, and with their
+/// texts: one line. A run doesn't begin, and no byte of a device is changed.
 pub(crate) fn check_found<P: Plant + Drop>(alloc: Global, plant: P) -> Ended<P>
     ensures check { IsCheckRun P.tells result.status (P.view plant) (P.view result.plant) }
     ensures unbegun { IsUnbegun result.base result.journal result.since (P.view result.plant).now }

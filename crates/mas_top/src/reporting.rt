@@ -48,15 +48,18 @@ fn said<P: Plant + Drop>(
     }
 }
 
-/// Says the queue that a start would find: the displays of its jobs, outputs, volumes and members, and then `END`. Both copies
-/// are looked at, and none is changed or lost by a call.
+/// Says the queue that a start would find: the displays of its jobs, outputs, volumes and members, and then `END`. Both
+/// copies are looked at, and none is changed or lost by a call.
 pub(crate) fn report_queue<P: Plant + Drop>(alloc: Global, plant: P) -> Ended<P>
-    ensures report { IsReport P.tells result.status result.base result.journal result.since (P.view plant) (P.view result.plant) }
+    ensures report { IsReport P.tells result.status result.base result.journal result.since (P.view plant)
+        (P.view result.plant) }
     ensures words { result.status ≢ Status.Words }
     ensures cause { IsCaused result.status (P.view plant) (P.view result.plant) }
     ensures begun { Begins result.status result.base }
-    ensures unbegun { has_begun result.base ≡ false → IsUnbegun result.base result.journal result.since (P.view result.plant).now }
-    ensures unsaid { P.tells → has_begun result.base ≡ false → console_now (P.view result.plant) ≡ console_now (P.view plant) }
+    ensures unbegun { has_begun result.base ≡ false
+        → IsUnbegun result.base result.journal result.since (P.view result.plant).now }
+    ensures unsaid { P.tells → has_begun result.base ≡ false
+        → console_now (P.view result.plant) ≡ console_now (P.view plant) }
     ensures goes { Goes (P.view plant) (P.view result.plant) }
     ensures elsewhere { P.tells → IsOnlyOn (P.view plant) (P.view result.plant) }
 {

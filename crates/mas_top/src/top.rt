@@ -20,39 +20,48 @@ use std::alloc::Global;
 
 /// Does on a plant what the words behind the program's name ask for.
 ///
-/// `play` plays a script, with `--cold` from an empty queue and else from the queue that is found, as `play_script` does.
-/// `report` says the queue that a start would find, a line for each job, output, volume and member and then `END`; it reads no
-/// script, and changes and loses no device. `format` reads a script that has no steps, and formats CKPT1 and CKPT2 with the
-/// empty queue of its configuration and routes, as a cold run does. `check` says one line: what is wrong with the pages of greatest
-/// level that a copy reads as and with the texts of their queue, if anything; it reads no script, and changes and loses no device.
-/// Where the words are none of the program's, or ask for what isn't built yet, the status is Words, and nothing is touched.
+/// `play` plays a script, with `--cold` from an empty queue and else from the queue that is found, as `play_script`
+/// does. `report` says the queue that a start would find, a line for each job, output, volume and member and then
+/// `END`; it reads no script, and changes and loses no device. `format` reads a script that has no steps, and formats
+/// CKPT1 and CKPT2 with the empty queue of its configuration and routes, as a cold run does. `check` says one line:
+/// what is wrong with the pages of greatest level that a copy reads as and with the texts of their queue, if anything;
+/// it reads no script, and changes and loses no device. Where the words are none of the program's, or ask for what
+/// isn't built yet, the status is Words, and nothing is touched.
 pub fn calm_top<P: Plant + Drop, S: Source>(
     alloc: Global,
     words: &[String],
     script: &mut S,
     plant: P,
 ) -> Ended<P>
-    // Wrong words are refused, but for want of memory, and no others; then nothing is touched.
+    // Wrong words are refused, unless out of memory, and no others; then nothing is touched.
     ensures words { result.status ≡ Status.Words → task_asked (map string_bytes words.now) ≡ None }
-    ensures refused { task_asked (map string_bytes words.now) ≡ None → (result.status ≡ Status.Words) ⊎ (result.status ≡ Status.NoMemory) }
-    ensures unread { task_asked (map string_bytes words.now) ≡ None → (script.new ≡ script.old) × (result.plant ≡ plant) × (has_begun result.base ≡ false) }
+    ensures refused { task_asked (map string_bytes words.now) ≡ None → (result.status ≡ Status.Words)
+        ⊎ (result.status ≡ Status.NoMemory) }
+    ensures unread { task_asked (map string_bytes words.now) ≡ None → (script.new ≡ script.old) × (result.plant ≡ plant)
+        × (has_begun result.base ≡ false) }
 
     // What the words ask for.
     ensures play { (cold : Bool) → task_asked (map string_bytes words.now) ≡ Some (Task.Play cold)
-        → IsPlayed cold false (source_of S.tells (S.faults script.old) (S.faults script.new) (S.left script.old) (S.left script.new)) P.tells (result.plant ≡ plant) result.status result.base result.journal result.since (P.view plant) (P.view result.plant) }
-    ensures report { task_asked (map string_bytes words.now) ≡ Some Task.Report
-        → (script.new ≡ script.old) × IsReport P.tells result.status result.base result.journal result.since (P.view plant) (P.view result.plant) }
+        → IsPlayed cold false (source_of S.tells (S.faults script.old) (S.faults script.new) (S.left script.old)
+        (S.left script.new)) P.tells (result.plant ≡ plant) result.status result.base result.journal result.since
+        (P.view plant) (P.view result.plant) }
+    ensures report { task_asked (map string_bytes words.now) ≡ Some Task.Report → (script.new ≡ script.old)
+        × IsReport P.tells result.status result.base result.journal result.since (P.view plant) (P.view result.plant) }
     ensures format { task_asked (map string_bytes words.now) ≡ Some Task.Format
-        → IsPlayed true true (source_of S.tells (S.faults script.old) (S.faults script.new) (S.left script.old) (S.left script.new)) P.tells (result.plant ≡ plant) result.status result.base result.journal result.since (P.view plant) (P.view result.plant) }
-    ensures check { task_asked (map string_bytes words.now) ≡ Some Task.Check
-        → (script.new ≡ script.old) × (has_begun result.base ≡ false) × IsCheckRun P.tells result.status (P.view plant) (P.view result.plant) }
+        → IsPlayed true true (source_of S.tells (S.faults script.old) (S.faults script.new) (S.left script.old)
+        (S.left script.new)) P.tells (result.plant ≡ plant) result.status result.base result.journal result.since
+        (P.view plant) (P.view result.plant) }
+    ensures check { task_asked (map string_bytes words.now) ≡ Some Task.Check → (script.new ≡ script.old)
+        × (has_begun result.base ≡ false) × IsCheckRun P.tells result.status (P.view plant) (P.view result.plant) }
 
-    // In every run: why it ends, and whether it has begun, which a check never does. Unless it has begun it changes no byte of a
-    // volume, and says nothing but the line of a check.
+    // In every run: why it ends, and whether it has begun, which a check never does. Unless it has begun it changes no
+    // byte of a volume, and says nothing but the line of a check.
     ensures cause { IsCaused result.status (P.view plant) (P.view result.plant) }
     ensures begun { task_asked (map string_bytes words.now) ≢ Some Task.Check → Begins result.status result.base }
-    ensures unbegun { has_begun result.base ≡ false → IsUnbegun result.base result.journal result.since (P.view result.plant).now }
-    ensures unsaid { P.tells → task_asked (map string_bytes words.now) ≢ Some Task.Check → has_begun result.base ≡ false → console_now (P.view result.plant) ≡ console_now (P.view plant) }
+    ensures unbegun { has_begun result.base ≡ false
+        → IsUnbegun result.base result.journal result.since (P.view result.plant).now }
+    ensures unsaid { P.tells → task_asked (map string_bytes words.now) ≢ Some Task.Check → has_begun result.base ≡ false
+        → console_now (P.view result.plant) ≡ console_now (P.view plant) }
     ensures goes { Goes (P.view plant) (P.view result.plant) }
     ensures volumes { P.tells → has_begun result.base ≡ false → AreVolumesKept (P.view plant) (P.view result.plant) }
 {

@@ -126,7 +126,7 @@ module _ {X : Type 0} (key : X → ℕ) where
       same_ties : (t : X) (zs : List X) → filter (tied t) zs ≡ filter (ties (λ x y. is_lt (nat_cmp (key x) (key y))) t) zs
       same_ties t zs = filter_agree (tied t) (ties (λ x y. is_lt (nat_cmp (key x) (key y))) t) (λ x. grind (arith, nat_tests)) zs
 
-  -- the same from the clauses of `sort_by_key`, where each call gives the number of the item
+  -- the clauses of `sort_by_key` give the list in order, where each call gives the number of the item
   pub in_order_from_sort_by_key : {F : Type 0} {g : Mut F (Bor X × Unit {0}) ℕ} {f : F} (xs ys : List X)
       → IsSortedByKeyClosure g nat_cmp f ys → IsStableByKeyClosure g nat_cmp f xs ys
       → ((a : Bor X × Unit {0}) (r : ℕ) (f' : F) → Called g f a r f' → (r ≡ key a.0.now) × (f' ≡ f)) → ys ≡ in_order key xs

@@ -72,7 +72,8 @@ abbrev pub ClosingsAreWritten : Type 0
 ClosingsAreWritten =
     map closing_text (
     closing.Reply reply.Plain ∷ closing.Reply (reply.Job (job 1)) ∷ closing.Reply (reply.Output (job 12) (index 3))
-    ∷ closing.Reply (reply.Count 25) ∷ closing.Reply (reply.Shown ([] ∷ [] ∷ [])) ∷ closing.Reply (reply.No refusal.NoJob)
+    ∷ closing.Reply (reply.Count 25) ∷ closing.Reply (reply.Shown ([] ∷ [] ∷ []))
+    ∷ closing.Reply (reply.No refusal.NoJob)
     ∷ closing.DoneUnits 9 ∷ closing.Busy sysa ∷ closing.Dormant 3 ∷ closing.Down ∷ closing.Stopped
     ∷ closing.Up sysh ∷ closing.ResetOf sysa ∷ closing.NotHolder ∷ closing.BadCard 1 cards.Name ∷ closing.SpoolLost 1
     ∷ closing.PrinterLost ∷ closing.LineLost 8 ∷ closing.NoText (record { 0 = 511 }) ∷ closing.NotLost dev.Ckpt2
@@ -193,7 +194,8 @@ abbrev pub StatusesAreWritten : Type 0
 StatusesAreWritten =
     map status_line (
     status.Done ∷ status.Words ∷ status.BadLine 7 cause.Command ∷ status.TooLong ∷ status.SourceFault
-    ∷ status.NotFormatted copy.Unread copy.Unsound ∷ status.BothLost ∷ status.ConsoleFault ∷ status.DeviceSize (dev.Spool 2) 4096
+    ∷ status.NotFormatted copy.Unread copy.Unsound ∷ status.BothLost ∷ status.ConsoleFault
+    ∷ status.DeviceSize (dev.Spool 2) 4096
     ∷ status.NoMemory ∷ [])
     ≡ (
     None ∷ Some (codes "MAS WORDS") ∷ Some (codes "MAS LINE 7 COMMAND") ∷ Some (codes "MAS SCRIPT TOO LONG") ∷ Some (codes "MAS SOURCE FAULT")
@@ -203,7 +205,8 @@ StatusesAreWritten =
 abbrev pub LineCausesAreWritten : Type 0
 LineCausesAreWritten =
     map line_cause_word (
-    cause.Text ∷ cause.Late ∷ cause.Warm ∷ cause.Config ∷ cause.Only ∷ cause.Member ∷ cause.Race ∷ cause.Verb ∷ cause.Number
+    cause.Text ∷ cause.Late ∷ cause.Warm ∷ cause.Config ∷ cause.Only ∷ cause.Member ∷ cause.Race ∷ cause.Verb
+    ∷ cause.Number
     ∷ cause.Command ∷ cause.End ∷ cause.Steps ∷ cause.NotBuilt ∷ [])
     ≡ (
     codes "TEXT" ∷ codes "LATE" ∷ codes "WARM" ∷ codes "CONFIG" ∷ codes "ONLY" ∷ codes "MEMBER" ∷ codes "RACE" ∷ codes "VERB" ∷ codes "NUMBER"
@@ -212,7 +215,8 @@ LineCausesAreWritten =
 abbrev pub VerdictsAreWritten : Type 0
 VerdictsAreWritten =
     map verdict_line (
-    verdict.Sound ∷ verdict.Fault fault.Page 0 ∷ verdict.Fault fault.Number 1 ∷ verdict.Fault fault.Owner 2 ∷ verdict.Fault fault.Place 3
+    verdict.Sound ∷ verdict.Fault fault.Page 0 ∷ verdict.Fault fault.Number 1 ∷ verdict.Fault fault.Owner 2
+    ∷ verdict.Fault fault.Place 3
     ∷ verdict.Fault fault.Text 4 ∷ [])
     ≡ (
     codes "SOUND" ∷ codes "FAULT PAGE 0" ∷ codes "FAULT NUMBER 1" ∷ codes "FAULT OWNER 2" ∷ codes "FAULT PLACE 3"
@@ -223,7 +227,8 @@ VerdictsAreWritten =
 abbrev pub RecordsAreRead : Type 0
 RecordsAreRead =
     map records_in (
-    (2 ∷ 65 ∷ 66 ∷ 0 ∷ 255 ∷ 0 ∷ 0 ∷ []) ∷ (255 ∷ 133 ∷ []) ∷ (133 ∷ 255 ∷ []) ∷ (2 ∷ 65 ∷ []) ∷ (1 ∷ 10 ∷ 255 ∷ []) ∷ (1 ∷ 65 ∷ []) ∷ [])
+    (2 ∷ 65 ∷ 66 ∷ 0 ∷ 255 ∷ 0 ∷ 0 ∷ []) ∷ (255 ∷ 133 ∷ []) ∷ (133 ∷ 255 ∷ []) ∷ (2 ∷ 65 ∷ []) ∷ (1 ∷ 10 ∷ 255 ∷ [])
+    ∷ (1 ∷ 65 ∷ []) ∷ [])
     ≡ (Some (codes "AB" ∷ [] ∷ []) ∷ Some [] ∷ None ∷ None ∷ None ∷ None ∷ [])
 
 -- ALL OF THEM

@@ -65,7 +65,7 @@ is_text_byte b = nat_le 32 b && nat_le b 126
 abbrev pub is_text_line : List ℕ → Bool
 is_text_line line = list_all is_text_byte line
 
--- at most 9,999 lines of at most 132 text bytes
+-- the lines of a text: at most 9,999 lines of at most 132 text bytes
 pub record AreLines (lines : List (List ℕ)) : Type 0 where
   pub few : length lines ≤ text_lines_most
   pub short : All (λ line. length line ≤ line_bytes) lines

@@ -37,7 +37,7 @@ behind_line bytes = drop (first_length bytes) (drop (length_size bytes) bytes)
 abbrev pub HasLine : List ℕ → Type 0
 HasLine bytes = length_size bytes + first_length bytes ≤ length bytes
 
--- so many lines
+-- the lines with which the bytes begin, as many as are counted
 abbrev pub lines_in : ℕ → List ℕ → List (List ℕ)
 lines_in zero bytes = []
 lines_in (suc count) bytes = first_line bytes ∷ lines_in count (behind_line bytes)
@@ -49,7 +49,8 @@ AreShort (line ∷ lines) = (length line < 2 ^ 32) × AreShort lines
 
 -- each mark says where the bytes of one line of 32 begin, from the first on
 abbrev pub AreMarks : List (List ℕ) → List ℕ → Type 0
-AreMarks lines marks = (k mark : ℕ) → slice_get marks k ≡ Some mark → (32 * k ≤ length lines) × (mark ≡ length (lines_bytes (take (32 * k) lines)))
+AreMarks lines marks = (k mark : ℕ) → slice_get marks k ≡ Some mark → (32 * k ≤ length lines)
+    × (mark ≡ length (lines_bytes (take (32 * k) lines)))
 
 -- the marks with that of the next line, where that is one of 32 and has none yet
 abbrev pub with_mark : ℕ → ℕ → List ℕ → List ℕ
@@ -57,4 +58,5 @@ with_mark count place marks = if count / 32 == length marks then marks ++ place 
 
 -- the bytes are those of so many lines, and each line that is there has its mark
 abbrev pub AreKept : ℕ → List ℕ → List ℕ → Type 0
-AreKept count bytes marks = (bytes ≡ lines_bytes (lines_in count bytes)) × AreShort (lines_in count bytes) × AreMarks (lines_in count bytes) marks × (count ≤ 32 * length marks)
+AreKept count bytes marks = (bytes ≡ lines_bytes (lines_in count bytes)) × AreShort (lines_in count bytes)
+    × AreMarks (lines_in count bytes) marks × (count ≤ 32 * length marks)

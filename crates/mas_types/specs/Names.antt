@@ -9,7 +9,7 @@ use Rattle.mas_types.specs.Limits.{name_bytes}
 abbrev pub is_name_byte : ℕ → Bool
 is_name_byte b = (nat_le 65 b && nat_le b 90) || (nat_le 48 b && nat_le b 57) || (b == 64) || (b == 35) || (b == 36)
 
--- 1 to 8 such bytes
+-- a text that may be a name: 1 to 8 bytes of names
 abbrev pub is_name_text : List ℕ → Bool
 is_name_text text = nat_le 1 (length text) && nat_le (length text) name_bytes && list_all is_name_byte text
 
@@ -46,6 +46,6 @@ local_name = record { 0 = codes "LOCAL   " }
 abbrev pub member_text : ℕ → List ℕ
 member_text m = 83 ∷ 89 ∷ 83 ∷ (m + 64) ∷ []
 
--- the same as a name, and OPER for 0
+-- a member's name: SYSA for 1, SYSB for 2 and so on, and OPER for 0
 abbrev pub member_name : MemberId → Name8
 member_name m = record { 0 = padded (if m.0 == 0 then codes "OPER" else member_text m.0) }

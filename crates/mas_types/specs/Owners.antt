@@ -62,7 +62,7 @@ handed_out m new (g ∷ gs) =
     if is_members m g then unwrap_or (head new) owner.Free ∷ handed_out m (tail new) gs
     else g ∷ handed_out m new gs
 
--- so many places of a thing, in order from the first place
+-- consecutive places of a deck or an output, as many as are counted, from the first of them on
 abbrev pub places : (ℕ → Owner) → ℕ → ℕ → List Owner
 places at place zero = []
 places at place (suc n) = at place ∷ places at (place + 1) n

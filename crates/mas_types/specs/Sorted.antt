@@ -1,7 +1,7 @@
 -- Lists in ascending number.
 use Rattle.std.specs.Prelude.{ℕ, nat_le, if◌then◌else◌, List, [], ◌∷◌}
 
--- before the first item with no lesser number
+-- the list with the item put in before the first item with no lesser number
 abbrev pub insert_by : {X : Type 0} → (X → ℕ) → X → List X → List X
 insert_by number x [] = x ∷ []
 insert_by number x (y ∷ ys) = if nat_le (number x) (number y) then x ∷ y ∷ ys else y ∷ insert_by number x ys

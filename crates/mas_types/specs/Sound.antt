@@ -83,7 +83,7 @@ is_owner_there config jobs outputs (owner.Member m) = is_member config m
 is_owner_there config jobs outputs (owner.Deck n place) = is_there (λ j. not (in_input j.phase)) jobs n
 is_owner_there config jobs outputs (owner.Output n i place) = is_some (find (has_key n i) outputs)
 
--- the same place of the same thing
+-- the two owners are one place of one deck or output
 abbrev pub same_place : Owner → Owner → Bool
 same_place (owner.Deck n p) (owner.Deck n' p') = same_number n n' && (p == p')
 same_place (owner.Output n i p) (owner.Output n' i' p') = same_number n n' && same_index i i' && (p == p')

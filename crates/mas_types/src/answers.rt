@@ -91,7 +91,7 @@ pub enum CopyState {
 /// How a run ends.
 #[derive(Clone, Copy, PartialEq, Eq)]
 pub enum Status {
-    /// Every step has closed, but for those whose member stopped.
+    /// Every step has closed, except those whose member stopped.
     Done,
     /// The words are none of the program's.
     Words,
@@ -124,7 +124,7 @@ pub enum Status {
         /// Its size in bytes.
         size: u64,
     },
-    /// There was no memory.
+    /// Out of memory.
     NoMemory,
 }
 

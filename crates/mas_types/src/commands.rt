@@ -33,8 +33,8 @@ pub enum Command {
         /// How many, or all that are Free where they are fewer.
         want: u32,
     },
-    /// The member's groups become Free, and the job goes. Answers Plain. NoJob, WrongPhase where the job isn't in Input,
-    /// InUse where it isn't busy at the member.
+    /// The member's groups become Free, and the job goes. Answers Plain. NoJob, WrongPhase where the job isn't in
+    /// Input, InUse where it isn't busy at the member.
     Drop {
         /// The job, 0 for none.
         job: JobNo,
@@ -68,11 +68,11 @@ pub enum Command {
         /// Its outputs, at most 32.
         outputs: List<OutSpec>,
     },
-    /// The first job in Output goes to Hardcopy, or to Purge where it has no output. Answers Job. Nothing where there is
-    /// none.
+    /// The first job in Output goes to Hardcopy, or to Purge where it has no output. Answers Job. Nothing where there
+    /// is none.
     Gather,
-    /// The output selected for the member's printer becomes busy at the member. Answers Output. InUse where an output is
-    /// busy at the member, Nothing where none is selected.
+    /// The output selected for the member's printer becomes busy at the member. Answers Output. InUse where an output
+    /// is busy at the member, Nothing where none is selected.
     Pick,
     /// The output's mark becomes `at`, but no more than its total. Answers the Count of the mark. NoOutput, InUse where
     /// the output isn't busy at the member.
@@ -104,9 +104,9 @@ pub enum Command {
         /// The job.
         job: JobNo,
     },
-    /// A busy job becomes cancelled; any other loses its outputs and their groups and goes to Purge. Answers Job. NoJob,
-    /// WrongPhase where it is in Purge or is being sent over a line, InUse where one of its outputs is busy at another
-    /// member.
+    /// A busy job becomes cancelled; any other loses its outputs and their groups and goes to Purge. Answers Job.
+    /// NoJob, WrongPhase where it is in Purge or is being sent over a line, InUse where one of its outputs is busy at
+    /// another member.
     Cancel {
         /// The job.
         job: JobNo,
@@ -130,7 +130,8 @@ pub enum Command {
         /// The job.
         job: JobNo,
     },
-    /// The output goes, as with Done, printed or not. Answers Output. NoOutput, InUse where it is busy at another member.
+    /// The output goes, as with Done, printed or not. Answers Output. NoOutput, InUse where it is busy at another
+    /// member.
     CancelOut {
         /// The output's job.
         job: JobNo,
@@ -177,8 +178,9 @@ pub enum Command {
         /// By how many lines, up to the total at most.
         lines: u32,
     },
-    /// What is busy at a member becomes free of it, and its groups become Free. Of its jobs those in Input, the cancelled
-    /// ones and those in Execute that may not run again go to Purge. Answers Plain. NoMember where there is none.
+    /// What is busy at a member becomes free of it, and its groups become Free. Of its jobs those in Input, the
+    /// cancelled ones and those in Execute that may not run again go to Purge. Answers Plain. NoMember where there is
+    /// none.
     Reset {
         /// The member.
         of: MemberId,
@@ -199,8 +201,8 @@ pub enum Command {
         /// The job's number on the line.
         number: u32,
     },
-    /// As Enter, for a job that came over the line. Again where the number is at most the last one, Gap where it is more
-    /// than the next, then as Enter.
+    /// As Enter, for a job that came over the line. Again where the number is at most the last one, Gap where it is
+    /// more than the next, then as Enter.
     Got {
         /// The line.
         line: u8,

@@ -3,7 +3,7 @@ use crate::limits::PAGE_BYTES;
 use std::alloc::AllocError;
 use thiserror::Error;
 
-/// There was no memory. What the call was lent is as it was.
+/// Out of memory. What the call was lent is as it was.
 #[derive(Clone, Copy, Debug, PartialEq, Eq, Error)]
 #[error("no memory")]
 pub struct NoMemory;
@@ -26,7 +26,8 @@ pub struct JobNo(pub u32);
 #[derive(Clone, Copy, PartialEq, Eq)]
 pub struct OutNo(pub u8);
 
-/// A track group, counted from 0 over all volumes: volume v has the groups from (v - 1) times the groups of a volume on.
+/// A track group, counted from 0 over all volumes: volume v has the groups from (v - 1) times the groups of a volume
+/// on.
 #[derive(Clone, Copy, PartialEq, Eq)]
 pub struct GroupNo(pub u32);
 

@@ -35,7 +35,8 @@ pub fn purge_if(cancelled: bool, other: Phase) -> Phase
 pub enum Text {
     /// All its lines.
     Whole(Lines),
-    /// The text is gone: the first of its groups that lies on a lost volume or holds no records, and its number of lines.
+    /// The text is gone: the first of its groups that lies on a lost volume or holds no records, and its number of
+    /// lines.
     Gone(GroupNo, u16),
 }
 
@@ -69,7 +70,7 @@ pub struct JobFields {
 pub struct Job {
     /// Its number, by which commands name it.
     pub number: JobNo,
-    /// What its deck says, but for what commands changed of it.
+    /// What its deck says, except what commands changed of it.
     pub fields: JobFields,
     /// Where it is on its way.
     pub phase: Phase,

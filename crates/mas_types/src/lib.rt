@@ -1,7 +1,8 @@
-//! The plain data of a multi-access spool after JES2: its queue, its commands and replies, its journal, and how its steps
-//! and runs end. The definitions in specs/ say what each command does to the queue, which job is selected, what a history
-//! comes to and how each line is written; every layer above is proved against them. The terms are those of JES2
-//! (z/OS JES2 Initialization and Tuning Guide, z/OS JES2 Commands); all layouts, texts and limits are this project's own.
+//! The plain data of a multi-access spool after JES2: its queue, its commands and replies, its journal, and how its
+//! steps and runs end. The definitions in specs/ say what each command does to the queue, which job is selected, what a
+//! history comes to and how each line is written; every layer above is proved against them. The terms are those of JES2
+//! (z/OS JES2 Initialization and Tuning Guide, z/OS JES2 Commands); all layouts, texts and limits are this project's
+//! own.
 #![tactic(auto)]
 
 pub mod answers;

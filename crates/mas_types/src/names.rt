@@ -65,8 +65,8 @@ pub fn read_class(byte: u8) -> Result<Class, BadClass>
     }
 }
 
-/// Reads a number of 1 to 10 decimal digits that is at most `max`; leading zeros are accepted. `BadNumber` exactly where
-/// the text is no such number.
+/// Reads a number of 1 to 10 decimal digits that is at most `max`; leading zeros are accepted. `BadNumber` exactly
+/// where the text is no such number.
 pub fn read_number(text: &[u8], max: u32) -> Result<u32, BadNumber>
     ensures ok { IsOk result ↔ IsTrue (is_numeral text.now && nat_le (value_of text.now) max) }
     ensures value { IfOk result (λ number. number ≡ value_of text.now) }

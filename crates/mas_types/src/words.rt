@@ -1,5 +1,5 @@
-//! Words and numbers at the end of a line: the pieces of which console lines and lines on paper are made. Each call adds
-//! its text at the end of the line. After want of memory a front of the text may stand there.
+//! Words and numbers at the end of a line: the pieces of which console lines and lines on paper are made. Each call
+//! adds its text at the end of the line. After want of memory a front of the text may stand there.
 ghost use Rattle.std.specs.Prelude.{◌≡◌, ◌≤◌, ◌++◌, ◌%◌, ◌+◌, decimal, OnOk};
 ghost use Rattle.std.specs.List.{list_all};
 ghost use Rattle.mas_types.specs.Closings.{device_word};

@@ -155,7 +155,7 @@ found_says f c d n rows found = record {
     cold_set true = refl
     cold_set false = refl
 
--- with the default of `--cold`
+-- what rows say is the same with the default of `--cold`
 pub default_says : (d n : Option Text) (rows : List Row) → Found colds false d n rows
     → Says colds false d n (with_values (codes "cold") AsWritten DefaultValue (codes "false" ∷ []) rows)
 default_says d n rows found =

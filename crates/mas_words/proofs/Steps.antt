@@ -145,7 +145,7 @@ module _ {X : Type 0} (name : Text) (take : List Row → Option X) (rows : List 
     step_stray colds x some free plain = rw (free, plain.passes colds rows p, plain.met colds rows p idle) refl
     step_stray numbers x some free plain = rw (some refl, free, plain.passes numbers rows p, plain.met numbers rows p idle) refl
 
--- behind `--dir`
+-- the walk's steps after `--dir`
 module _ {X : Type 0} (name : Text) (take : List Row → Option X) (rows : List Row) (has_number : Bool) where
   pub due_end : (f : Form) → reads f name take (due_at rows has_number) [] ≡ None
   unfolding reads

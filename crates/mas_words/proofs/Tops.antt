@@ -228,11 +228,11 @@ dashes_refused (x ∷ rest) e = elim (or_cases (bytes_eq x dashes) (list_any (λ
     go None h = refl
     go (Some k) h = with_dashes k rest nothing h
 
--- where `clap` takes the words
+-- where `clap` takes the words, they are the command that was met
 pub ok_read : (words : List Text) → NoDashes words → fault_of program_app words ≡ [] → words_of words ≡ met_of words
 ok_read words free clear = sym (all_read words free) ∙ ap (λ (fs : Kinds). at_clear fs (met_of words)) clear
 
--- where it doesn't
+-- where `clap` refuses the words, they are no command
 pub err_read : (words : List Text) → NoDashes words → (e : ErrorKind) → IsAmong e (fault_of program_app words) → words_of words ≡ None
 err_read words free e among = sym (all_read words free) ∙ go (fault_of program_app words) among
   where

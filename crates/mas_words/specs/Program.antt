@@ -90,6 +90,6 @@ words_by command rows = words_with command (given_by command rows)
 abbrev pub verb_by : Command → List Row → Option Verb
 verb_by command rows = verb_of command (given_by command rows).number
 
--- of the subcommand that was met, with its matches
+-- the words of the subcommand that was met, with its matches
 abbrev pub words_met : Text → List Row → Option Words
 words_met name rows = option_and_then (λ command. words_by command rows) (command_of name)

@@ -53,7 +53,7 @@ with_dir dir g = if is_some g.dir then None else Some (record g { dir = Some dir
 abbrev pub with_number : Text → Given → Option Given
 with_number text g = if is_some g.number then None else Some (record g { number = Some text })
 
--- one more word; what is no option stands for the number
+-- what was given, with one more word; a word that is no option stands for the number
 abbrev pub with_word : Text → Given → Option Given
 with_word word g =
     if g.is_due then with_dir word g
@@ -66,12 +66,12 @@ abbrev pub with_words : Given → List Text → Option Given
 with_words g [] = Some g
 with_words g (word ∷ rest) = option_and_then (λ next. with_words next rest) (with_word word g)
 
--- not empty, and no hyphen (45) at its head
+-- the name of a folder is not empty, and has no hyphen (45) at its head
 abbrev pub is_folder : Text → Bool
 is_folder [] = false
 is_folder (byte ∷ rest) = not (nat_eq byte 45)
 
--- so many decks at most are generated, and so many digits at most say how many
+-- the most decks that are generated, and the most digits with which their number is written
 abbrev pub decks_most : ℕ
 decks_most = 1000
 
@@ -80,7 +80,8 @@ digits_most = 4
 
 -- 1 to 4 digits of value 1 to 1,000
 abbrev pub is_number : Text → Bool
-is_number text = is_numeral text && nat_le (length text) digits_most && nat_le 1 (value_of text) && nat_le (value_of text) decks_most
+is_number text = is_numeral text && nat_le (length text) digits_most && nat_le 1 (value_of text) && nat_le
+    (value_of text) decks_most
 
 -- only `generate` takes a number, and wants one
 abbrev pub verb_of : Command → Option Text → Option Verb

@@ -76,7 +76,8 @@ fn number(given: Option<&str>) -> Result<u32, WordsNo>
 }
 
 fn verb(name: &str, matches: &ArgMatches<'_>) -> Result<Verb, WordsNo>
-    ensures { Reads (option_and_then (λ command. verb_by command (rows_of (found_of matches.now))) (command_of name.now)) result }
+    ensures { Reads (option_and_then (λ command. verb_by command (rows_of (found_of matches.now)))
+        (command_of name.now)) result }
 {
     match name {
         "play" => Ok(Verb::Play),
@@ -129,10 +130,10 @@ fn words_met(alloc: Global, matches: &ArgMatches<'_>) -> Result<Words, WordsNo>
     }
 }
 
-/// Reads the words behind the program's name. They are a command (`play`, `race`, `format`, `report`, `check`, or `generate`
-/// with a number of 1 to 4 digits and value 1 to 1,000) and behind it, in any order, `--dir D` or `--dir=D` once at most,
-/// where D is not empty and begins with no hyphen, and for `play` and `race` `--cold` once at most. `WordsNo::Words`
-/// exactly where they are not, but that `WordsNo::NoMemory` may come at any time.
+/// Reads the words behind the program's name. They are a command (`play`, `race`, `format`, `report`, `check`, or
+/// `generate` with a number of 1 to 4 digits and value 1 to 1,000) and behind it, in any order, `--dir D` or `--dir=D`
+/// once at most, where D is not empty and begins with no hyphen, and for `play` and `race` `--cold` once at most.
+/// `WordsNo::Words` exactly where they are not, but that `WordsNo::NoMemory` may come at any time.
 pub fn read_words(alloc: Global, words: &[String]) -> Result<Words, WordsNo>
     ensures { Reads (words_of (map string_bytes words.now)) result }
 {

@@ -38,7 +38,7 @@ pub enum WordsNo {
     /// They spell no command with its options.
     #[error("the words are none of the program's")]
     Words,
-    /// There was no memory.
+    /// Out of memory.
     #[error("no memory")]
     NoMemory,
 }

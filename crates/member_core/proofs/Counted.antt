@@ -23,7 +23,7 @@ use Rattle.member_core.proofs.Basics.{test_cases, all_weaker}
 pub below_more : (b c : ℕ) (xs : List MemberAt) → b ≤ c → AreStepsBelow b xs → AreStepsBelow c xs
 below_more b c xs more all = all_weaker (λ (a : MemberAt). a.step < b) (λ (a : MemberAt). a.step < c) (λ x low. omega arith) xs all
 
--- also of a member that isn't there
+-- a member's step is below the bound, even if the member isn't there
 pub step_below : (b : ℕ) (members : List MemberAt) (m : MemberId) → 0 < b → AreStepsBelow b members → (member_in members m).step < b
 step_below b members m some all = at m.0 members all
   where
@@ -97,7 +97,7 @@ runs_more w was es i e inside is so_far =
     ap (λ (v : World). moved v e) so_far ∙ sym (ap (runs w) more ∙ runs_push w (take i es) e)
 
 module _ (w new : World) (e : Event) (r : Result Bool NoMemory) where
-  -- the world after an event, or the same one where there was no memory
+  -- the world after an event, or the same world when out of memory
   either_way : (P : World → Type 0) → P w → P (moved w e) → OnOk r (new ≡ moved w e) → OnErr r (new ≡ w) → P new
   either_way P same other moves stays = go r moves stays
     where

@@ -53,7 +53,7 @@ fallen m members =
     le_add : (n : ℕ) → n ≤ n + 1
     le_add n = omega arith
 
--- a member that rose, but for member 0
+-- a member that rose, except member 0
 record HasRisen (x y : MemberAt) : Type 0 where
   stage : y.stage ≡ at.Away
   batch : y.batch ≡ []

@@ -202,7 +202,7 @@ module _ (base : Queue) (bs : List Batch) (a b : CopyAt) (holder : MemberId) (me
 
   -- TELL
 
-  -- another step, another count of printed lines
+  -- a member's stage is right also with another step and another count of printed lines
   pub stage_with : (m : MemberId) (k n : ℕ) (s : At) (x : MemberAt) → IsAt s base m K F a b x → (is_ready s ≡ true → AllByRecursion (λ e. is_of m k e ≡ true) x.batch) → IsAt s base m K F a b (record x { step = k; printed = n })
   stage_with m k n at.Away x h mine = h
   stage_with m k n at.Locked x h mine = h

@@ -63,7 +63,8 @@ start base = record {
 -- LOCK, FREE, SEIZE
 
 abbrev pub can_lock : World → MemberId → Bool
-can_lock w m = is_up w m && (is_away (member_at w m).stage && (not (is_somebody w.holder) && is_away (member_at w nobody).stage))
+can_lock w m = is_up w m && (is_away (member_at w m).stage &&
+    (not (is_somebody w.holder) && is_away (member_at w nobody).stage))
 
 abbrev pub lock : World → MemberId → World
 lock w m = record w { holder = m; members = on_member m (to_stage at.Locked) w.members }
@@ -76,7 +77,8 @@ free w m = record w { holder = nobody; members = on_member m (to_stage at.Away) 
 
 abbrev pub can_seize : World → MemberId → MemberId → Bool
 can_seize w by of_member =
-    is_up w by && (is_away (member_at w by).stage && (is_somebody of_member && (not (member_at w of_member).up && same_member w.holder of_member)))
+    is_up w by && (is_away (member_at w by).stage &&
+    (is_somebody of_member && (not (member_at w of_member).up && same_member w.holder of_member)))
 
 abbrev pub seize : World → MemberId → World
 seize w by = record w { holder = by; members = on_member by (to_stage at.Locked) w.members }
@@ -90,7 +92,11 @@ abbrev pub made_sure : CopyAt → CopyAt
 made_sure c = record c { sure = true }
 
 abbrev pub read_first : World → MemberId → World
-read_first w m = record w { copies = on_copies made_sure made_sure w.copies; members = on_member m (to_stage at.Read1) w.members }
+read_first w m = record w {
+  copies = on_copies made_sure made_sure w.copies;
+  members = on_member m (to_stage at.Read1)
+      w.members;
+}
 
 abbrev pub is_any_good : List CopyAt → Bool
 is_any_good copies = (first_copy copies).good || (second_copy copies).good
@@ -137,7 +143,8 @@ primary w m = record w {
 abbrev pub allowed : World → MemberId → Command → Bool
 allowed w m (command.Reset of_member) = not (is_up w of_member)
 allowed w m command.Restart = false
-allowed w m (command.Mark job index n) = may_mark m (member_at w m).printed n (output_at (run w.base (member_at w m).own) job index)
+allowed w m (command.Mark job index n) = may_mark m (member_at w m).printed n
+    (output_at (run w.base (member_at w m).own) job index)
 allowed w m _ = true
 
 abbrev pub can_do : World → MemberId → Command → Bool
@@ -174,8 +181,11 @@ abbrev pub is_synced : Queue → List GroupNo → Bool
 is_synced Q unsynced = list_all (λ g. not (is_thing_at Q g)) unsynced
 
 abbrev pub can_log : World → MemberId → Dev → Bool
-can_log w m dev.Ckpt1 = acts w m && (is_ready (member_at w m).stage && (not (is_nil (member_at w m).batch) && is_synced (run w.base (member_at w m).own) w.unsynced))
-can_log w m dev.Ckpt2 = acts w m && (is_logged1 (member_at w m).stage && is_synced (run w.base (member_at w m).own) w.unsynced)
+can_log w m dev.Ckpt1 = acts w m &&
+    (is_ready (member_at w m).stage &&
+    (not (is_nil (member_at w m).batch) && is_synced (run w.base (member_at w m).own) w.unsynced))
+can_log w m dev.Ckpt2 = acts w m &&
+    (is_logged1 (member_at w m).stage && is_synced (run w.base (member_at w m).own) w.unsynced)
 can_log w m (dev.Spool v) = false
 
 abbrev pub next_if : Bool → List Entry → Option (List Entry) → Option (List Entry)
@@ -224,7 +234,8 @@ all_read own copies = reads_so_many (length own) (first_copy copies) && reads_so
 
 abbrev pub open_first : World → MemberId → World
 open_first w m = record w {
-  journal = with_batches (kept_once (all_read (member_at w m).own (on_copies (opened (member_at w m).own) same_copy w.copies)) w.journal.batches);
+  journal = with_batches (kept_once
+      (all_read (member_at w m).own (on_copies (opened (member_at w m).own) same_copy w.copies)) w.journal.batches);
   copies = on_copies (opened (member_at w m).own) same_copy w.copies;
   members = on_member m (to_stage at.Opened1) w.members;
 }
@@ -238,7 +249,8 @@ has_written s a = record a { stage = s; batch = [] }
 
 abbrev pub open_second : World → MemberId → World
 open_second w m = record w {
-  journal = with_batches (kept_once (all_read (member_at w m).own (on_copies same_copy (opened (member_at w m).own) w.copies)) w.journal.batches);
+  journal = with_batches (kept_once
+      (all_read (member_at w m).own (on_copies same_copy (opened (member_at w m).own) w.copies)) w.journal.batches);
   copies = on_copies same_copy (opened (member_at w m).own) w.copies;
   members = on_member m (has_written (written_stage m)) w.members;
 }
@@ -268,7 +280,8 @@ abbrev pub is_members_at : Queue → MemberId → GroupNo → Bool
 is_members_at Q m g = is_members m (at_or owner.Free g.0 Q.owners)
 
 abbrev pub can_write : World → MemberId → GroupNo → Bool
-can_write w m g = is_up w m && (is_members_at (run w.base (kept w)) m g && is_members_at (run w.base (kept w ++ flying w)) m g)
+can_write w m g = is_up w m &&
+    (is_members_at (run w.base (kept w)) m g && is_members_at (run w.base (kept w ++ flying w)) m g)
 
 abbrev pub spool_write : World → GroupNo → World
 spool_write w g = record w { unsynced = w.unsynced ++ g ∷ [] }
@@ -369,14 +382,16 @@ after_crash l kept opens c =
 
 -- whether the next event of the holder, or of member 0, opens the first copy, the second
 abbrev pub anyone_opens : (At → List Entry → Bool) → World → Bool
-anyone_opens opens w = (is_up w w.holder && opens (member_at w w.holder).stage (member_at w w.holder).own) || opens (member_at w nobody).stage (member_at w nobody).own
+anyone_opens opens w = (is_up w w.holder && opens (member_at w w.holder).stage (member_at w w.holder).own) || opens
+    (member_at w nobody).stage (member_at w nobody).own
 
 abbrev pub has_fallen : MemberAt → MemberAt
 has_fallen a = record a { up = false; stage = at.Away; batch = []; step = a.step + 1 }
 
 abbrev pub crash : World → Left → World
 crash w l = record w {
-  copies = on_copies (after_crash l (kept w) (anyone_opens (opens_first (kept w)) w)) (after_crash l (kept w) (anyone_opens (opens_second (kept w)) w)) w.copies;
+  copies = on_copies (after_crash l (kept w) (anyone_opens (opens_first (kept w)) w))
+      (after_crash l (kept w) (anyone_opens (opens_second (kept w)) w)) w.copies;
   holder = nobody;
   members = map has_fallen w.members;
 }
@@ -394,7 +409,15 @@ has_risen a = record a { up = true; stage = at.Away; batch = [] }
 
 -- member 0 with the batch Restart
 abbrev pub restarting : List Entry → Entry → MemberAt → MemberAt
-restarting own e a = record { up = false; stage = at.Ready; own = own ++ e ∷ []; batch = e ∷ []; printed = a.printed; step = 0 }
+restarting own e a = record {
+  up = false;
+  stage = at.Ready;
+  own = own
+      ++ e ∷ [];
+  batch = e ∷ [];
+  printed = a.printed;
+  step = 0;
+}
 
 abbrev pub risen : List Entry → Entry → List MemberAt → List MemberAt
 risen own e [] = []
@@ -409,7 +432,8 @@ after_start found own c = after_primary found own (made_sure c)
 abbrev pub restart : World → World
 restart w = record w {
   journal = with_batches (settled (fate_by (has_flying w (longest w.copies))) w.journal.batches);
-  copies = on_copies (after_start (has_flying w (longest w.copies)) (longest w.copies)) (after_start (has_flying w (longest w.copies)) (longest w.copies)) w.copies;
+  copies = on_copies (after_start (has_flying w (longest w.copies)) (longest w.copies))
+      (after_start (has_flying w (longest w.copies)) (longest w.copies)) w.copies;
   holder = nobody;
   members = risen (longest w.copies) (restart_entry (run w.base (longest w.copies))) w.members;
   unsynced = [];

@@ -40,7 +40,7 @@ pub record IsCopy (K F : List Entry) (c : CopyAt) : Type 0 where
 abbrev pub IsAhead : List Entry → List Entry → CopyAt → Type 0
 IsAhead K F c = (c.good ≡ true) × ((c.reads ≡ K ++ F) ⊎ (c.sure ≡ false))
 
--- where it is good and reads the kept entries alone, it has the longer list as next
+-- a good copy that reads the kept entries alone has the longer list as next
 abbrev pub IsPending : List Entry → List Entry → CopyAt → Type 0
 IsPending K F c = c.good ≡ true → c.reads ≡ K → c.next ≡ Some (K ++ F)
 
@@ -125,11 +125,13 @@ AreStages base K F a b members =
 
 -- of member 0 and the members that are up only the holder works
 abbrev pub IsAlone : MemberId → List MemberAt → Type 0
-IsAlone holder members = (m : MemberId) → acts_in members m ≡ true → is_away (member_in members m).stage ≡ false → holder.0 ≡ m.0
+IsAlone holder members = (m : MemberId) → acts_in members m ≡ true → is_away (member_in members m).stage ≡ false
+    → holder.0 ≡ m.0
 
 -- the holder works, where it is up
 abbrev pub IsHolderAtWork : MemberId → List MemberAt → Type 0
-IsHolderAtWork holder members = (m : MemberId) → is_up_in members m ≡ true → holder.0 ≡ m.0 → is_away (member_in members m).stage ≡ false
+IsHolderAtWork holder members = (m : MemberId) → is_up_in members m ≡ true → holder.0 ≡ m.0
+    → is_away (member_in members m).stage ≡ false
 
 -- WHO WRITES
 
@@ -146,7 +148,8 @@ IsNoneBy m es = AllByRecursion (λ e. same_member e.by m ≡ false) es
 
 -- what is in flight is by none that is up and doesn't write
 abbrev pub IsByWriter : List Entry → List MemberAt → Type 0
-IsByWriter F members = (m : MemberId) → is_up_in members m ≡ true → is_writing (member_in members m).stage ≡ false → IsNoneBy m F
+IsByWriter F members = (m : MemberId) → is_up_in members m ≡ true → is_writing (member_in members m).stage ≡ false
+    → IsNoneBy m F
 
 -- LINES PRINTED
 
@@ -160,7 +163,8 @@ is_inked n i line inked = list_any (is_line n i line) inked
 abbrev pub AreLinesInked : Queue → List Inked → (MemberId → ℕ) → List Entry → Type 0
 AreLinesInked base inked counts es =
     (n : JobNo) (i : OutNo) (o : Output) → output_at (run base es) n i ≡ Some o → touched base es n i ≡ false
-    → (line : ℕ) → mark_of (output_at base n i) < line → line ≤ o.mark + printed_at counts o.busy → is_inked n i line inked ≡ true
+    → (line : ℕ) → mark_of (output_at base n i) < line → line ≤ o.mark + printed_at counts o.busy
+    → is_inked n i line inked ≡ true
 
 abbrev pub printed_in : List MemberAt → MemberId → ℕ
 printed_in members m = (member_in members m).printed
@@ -168,7 +172,8 @@ printed_in members m = (member_in members m).printed
 abbrev pub IsPaper : Queue → List Inked → List Entry → List Entry → List MemberAt → Type 0
 IsPaper base inked K F members =
     AreLinesInked base inked (printed_in members) K × (AreLinesInked base inked (printed_in members) (K ++ F)
-    × ((m : MemberId) → acts_in members m ≡ true → is_ready (member_in members m).stage ≡ true → AreLinesInked base inked (printed_in members) (member_in members m).own))
+    × ((m : MemberId) → acts_in members m ≡ true → is_ready (member_in members m).stage ≡ true
+    → AreLinesInked base inked (printed_in members) (member_in members m).own))
 
 -- THE JOURNAL
 
@@ -203,17 +208,20 @@ IsNoUpReset members es = AllByRecursion (λ e. resets_up members e.command ≡ f
 
 abbrev pub AreResetsRight : List MemberAt → List Entry → Type 0
 AreResetsRight members F =
-    IsNoUpReset members F × ((m : MemberId) → acts_in members m ≡ true → is_ready (member_in members m).stage ≡ true → IsNoUpReset members (member_in members m).batch)
+    IsNoUpReset members F × ((m : MemberId) → acts_in members m ≡ true → is_ready (member_in members m).stage ≡ true
+    → IsNoUpReset members (member_in members m).batch)
 
 -- WHAT WAS TOLD
 
 -- no batch that isn't kept has an entry of the step, and the member is past it
 abbrev pub IsTold : List Batch → List MemberAt → Said → Type 0
-IsTold batches members s = (has_unkept batches s.by s.step ≡ false) × ((is_somebody s.by ≡ true) × (s.step < (member_in members s.by).step))
+IsTold batches members s = (has_unkept batches s.by s.step ≡ false)
+    × ((is_somebody s.by ≡ true) × (s.step < (member_in members s.by).step))
 
 -- ALL OF IT
 
-pub record HoldsOf (base : Queue) (batches : List Batch) (a b : CopyAt) (holder : MemberId) (members : List MemberAt) (inked : List Inked) (unsynced : List GroupNo) (told : List Said) : Type 0 where
+pub record HoldsOf (base : Queue) (batches : List Batch) (a b : CopyAt) (holder : MemberId) (members : List MemberAt)
+    (inked : List Inked) (unsynced : List GroupNo) (told : List Said) : Type 0 where
   pub sound : IsSound base
   pub fit : length members ≡ suc base.config.members
   pub journal : IsJournal batches
@@ -227,7 +235,8 @@ pub record HoldsOf (base : Queue) (batches : List Batch) (a b : CopyAt) (holder 
   pub at_work : IsHolderAtWork holder members
   pub writer : IsByWriter (flying_in batches) members
   pub tells : AllByRecursion (IsTold batches members) told
-  pub synced : (is_synced (run base (kept_in batches)) unsynced ≡ true) × (is_synced (run base (kept_in batches ++ flying_in batches)) unsynced ≡ true)
+  pub synced : (is_synced (run base (kept_in batches)) unsynced ≡ true)
+      × (is_synced (run base (kept_in batches ++ flying_in batches)) unsynced ≡ true)
   pub paper : IsPaper base inked (kept_in batches) (flying_in batches) members
 
 abbrev pub has_two : List CopyAt → Bool
@@ -236,4 +245,5 @@ has_two _ = false
 
 pub record Holds (w : World) : Type 0 where
   pub two : has_two w.copies ≡ true
-  pub all : HoldsOf w.base w.journal.batches (first_copy w.copies) (second_copy w.copies) w.holder w.members w.printed w.unsynced w.told
+  pub all : HoldsOf w.base w.journal.batches (first_copy w.copies) (second_copy w.copies) w.holder w.members w.printed
+      w.unsynced w.told

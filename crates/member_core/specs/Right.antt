@@ -36,37 +36,47 @@ IsOwn _ K F x = Unit {0}
 
 pub record IsRight (w : World) : Type 0 where
   -- a good copy reads the kept entries, or those and the ones in flight
-  pub reads : OfCopies w (λ c. c.good ≡ true → (c.reads ≡ kept w) ⊎ ((is_nil (flying w) ≡ false) × (c.reads ≡ kept w ++ flying w)))
+  pub reads : OfCopies w (λ c. c.good ≡ true → (c.reads ≡ kept w)
+      ⊎ ((is_nil (flying w) ≡ false) × (c.reads ≡ kept w ++ flying w)))
   -- once a good copy may read the longer list, each good one has it as next
-  pub ahead : is_nil (flying w) ≡ false → IsAhead (kept w) (flying w) (first_copy w.copies) ⊎ IsAhead (kept w) (flying w) (second_copy w.copies) → OfCopies w (IsPending (kept w) (flying w))
+  pub ahead : is_nil (flying w) ≡ false → IsAhead (kept w) (flying w) (first_copy w.copies)
+      ⊎ IsAhead (kept w) (flying w) (second_copy w.copies) → OfCopies w (IsPending (kept w) (flying w))
   -- a gate is unsure only so
   pub unsure : OfCopies w (λ c. c.sure ≡ false → (c.next ≡ Some (kept w ++ flying w)) × ((is_nil (flying w) ≡ false)
-      × (((member_at w nobody).stage ≡ at.Away) × (is_up w w.holder ≡ true → (member_at w w.holder).stage ≡ at.Locked))))
+      × (((member_at w nobody).stage ≡ at.Away)
+      × (is_up w w.holder ≡ true → (member_at w w.holder).stage ≡ at.Locked))))
   -- one member works at a time, and its own list is known
   pub alone : (m : MemberId) → is_up w m ≡ true → same_member w.holder m ≡ false → (member_at w m).stage ≡ at.Away
   pub zero : is_somebody w.holder ≡ true → (member_at w nobody).stage ≡ at.Away
   pub own : (m : MemberId) → acts w m ≡ true → IsOwn (member_at w m).stage (kept w) (flying w) (member_at w m)
   -- what was told is kept
-  pub told : (s : Said) (b : Batch) (e : Entry) → Contains w.told s → Contains w.journal.batches b → Contains b.entries e → is_of s.by s.step e ≡ true → b.fate ≡ fate.Kept
+  pub told : (s : Said) (b : Batch) (e : Entry) → Contains w.told s → Contains w.journal.batches b
+      → Contains b.entries e → is_of s.by s.step e ≡ true → b.fate ≡ fate.Kept
   -- a batch's entries are by its member, and Restart stands in batches of member 0, alone, and nowhere else
   pub by : (b : Batch) (e : Entry) → Contains w.journal.batches b → Contains b.entries e → e.by ≡ b.by
-  pub restart : (b : Batch) (e : Entry) → Contains w.journal.batches b → Contains b.entries e → is_restart e.command ≡ not (is_somebody b.by)
+  pub restart : (b : Batch) (e : Entry) → Contains w.journal.batches b → Contains b.entries e
+      → is_restart e.command ≡ not (is_somebody b.by)
   pub single : (b : Batch) → Contains w.journal.batches b → is_somebody b.by ≡ false → length b.entries ≡ 1
   -- no group of a deck or an output is unsynced
-  pub synced : (is_synced (run w.base (kept w)) w.unsynced ≡ true) × (is_synced (run w.base (kept w ++ flying w)) w.unsynced ≡ true)
+  pub synced : (is_synced (run w.base (kept w)) w.unsynced ≡ true)
+      × (is_synced (run w.base (kept w ++ flying w)) w.unsynced ≡ true)
   -- the lines up to each mark were printed
   pub lines_kept : AreLinesInked w.base w.printed (printed_in w.members) (kept w)
   pub lines_both : AreLinesInked w.base w.printed (printed_in w.members) (kept w ++ flying w)
-  pub lines_own : (m : MemberId) → acts w m ≡ true → is_nil (member_at w m).batch ≡ false → AreLinesInked w.base w.printed (printed_in w.members) (member_at w m).own
+  pub lines_own : (m : MemberId) → acts w m ≡ true → is_nil (member_at w m).batch ≡ false
+      → AreLinesInked w.base w.printed (printed_in w.members) (member_at w m).own
   -- what holds in each stage
-  pub stages : (m : MemberId) → acts w m ≡ true → IsAt (member_at w m).stage w.base m (kept w) (flying w) (first_copy w.copies) (second_copy w.copies) (member_at w m)
+  pub stages : (m : MemberId) → acts w m ≡ true
+      → IsAt (member_at w m).stage w.base m (kept w) (flying w) (first_copy w.copies) (second_copy w.copies)
+      (member_at w m)
 
--- what a start would find: the entries that are kept, or those and the ones in flight, all that was told among them, and so
--- the queue after these
+-- what a start would find: the entries that are kept, or those and the ones in flight, all that was told among them,
+-- and so the queue after these
 pub record Finds (w : World) (found : List Entry) : Type 0 where
   pub entries : (found ≡ kept w) ⊎ (found ≡ kept w ++ flying w)
   pub queue : (run w.base found ≡ run w.base (kept w)) ⊎ (run w.base found ≡ run w.base (kept w ++ flying w))
-  pub told : (s : Said) (b : Batch) (e : Entry) → Contains w.told s → Contains w.journal.batches b → Contains b.entries e → is_of s.by s.step e ≡ true → Contains found e
+  pub told : (s : Said) (b : Batch) (e : Entry) → Contains w.told s → Contains w.journal.batches b
+      → Contains b.entries e → is_of s.by s.step e ≡ true → Contains found e
 
 -- where a copy is good a start finds so
 abbrev pub FindsRight : World → Type 0
@@ -74,4 +84,5 @@ FindsRight w = is_any_good w.copies ≡ true → Finds w (longest w.copies)
 
 -- over a sound base every list of events leaves a right world, whose copies are found right
 abbrev pub EveryRunIsRight : Type 0
-EveryRunIsRight = (base : Queue) (events : List Event) → IsSound base → AllByRecursion IsFitEvent events → IsRight (runs (start base) events) × FindsRight (runs (start base) events)
+EveryRunIsRight = (base : Queue) (events : List Event) → IsSound base → AllByRecursion IsFitEvent events
+    → IsRight (runs (start base) events) × FindsRight (runs (start base) events)

@@ -79,8 +79,8 @@ fn is_members_at(queue: &Queue, m: MemberId, group: GroupNo) -> bool
     is_members(*queue.owners.item(group.0 as usize), m)
 }
 
-/// A member writes a group that is its own, with the batch in flight and without it. False where it can't. Without memory
-/// the world stays.
+/// A member writes a group that is its own, with the batch in flight and without it. False where it can't. Without
+/// memory the world stays.
 pub fn spool_write(
     world: &mut World,
     short: &Queue,

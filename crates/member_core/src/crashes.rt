@@ -76,7 +76,8 @@ fn stopped_reads(
     at: usize,
     left: Left,
 ) -> Result<List<Entry>, NoMemory>
-    ensures { IfOk result (λ reads. at < length copies.now → reads ≡ left_of_lem left (at_or no_copy at copies.now).reads (at_or no_copy at copies.now).next) }
+    ensures { IfOk result (λ reads. at < length copies.now
+        → reads ≡ left_of_lem left (at_or no_copy at copies.now).reads (at_or no_copy at copies.now).next) }
 {
     if at >= copies.len() {
         return Ok(List::new(alloc));
@@ -95,7 +96,9 @@ fn stop_copy(copy: &mut CopyAt, opens: bool, reads: List<Entry>)
 }
 
 fn stop_at(copies: &mut List<CopyAt>, at: usize, opens: bool, reads: List<Entry>)
-    ensures { (l : Left) → (at < length copies.old → reads ≡ left_of_lem l (at_or no_copy at copies.old).reads (at_or no_copy at copies.old).next) → copies.new ≡ change_at at (after_stop l opens) copies.old }
+    ensures { (l : Left) → (at < length copies.old
+        → reads ≡ left_of_lem l (at_or no_copy at copies.old).reads (at_or no_copy at copies.old).next)
+        → copies.new ≡ change_at at (after_stop l opens) copies.old }
 {
     if at < copies.len() {
         stop_copy(copies.item_mut(at), opens, reads);
@@ -132,7 +135,8 @@ fn put_stopped(members: &mut List<MemberAt>, m: MemberId)
     }
 }
 
-/// A member stops in its next act, which left an old gate or a new one. False where it isn't up. Without memory the world stays.
+/// A member stops in its next act, which left an old gate or a new one. False where it isn't up. Without memory the
+/// world stays.
 pub fn stop(alloc: Global, world: &mut World, m: MemberId, left: Left) -> Result<bool, NoMemory>
     requires { (member_at world.old m).step < 4294967295 }
     ensures answer { IfOk result (λ done. done ≡ possible world.old (event.Stop m left)) }
@@ -188,7 +192,8 @@ fn crashed_reads(
     kept: &List<Entry>,
     left: Left,
 ) -> Result<List<Entry>, NoMemory>
-    ensures { IfOk result (λ reads. at < length copies.now → reads ≡ crash_reads left kept.now (at_or no_copy at copies.now)) }
+    ensures { IfOk result (λ reads. at < length copies.now
+        → reads ≡ crash_reads left kept.now (at_or no_copy at copies.now)) }
 {
     if at >= copies.len() {
         return Ok(List::new(alloc));
@@ -197,7 +202,8 @@ fn crashed_reads(
 }
 
 fn crash_copy(copy: &mut CopyAt, opens: bool, reads: List<Entry>)
-    ensures { (l : Left) (kept : List Entry) → reads ≡ crash_reads l kept copy.old → copy.new ≡ after_crash l kept opens copy.old }
+    ensures { (l : Left) (kept : List Entry) → reads ≡ crash_reads l kept copy.old
+        → copy.new ≡ after_crash l kept opens copy.old }
 {
     if copy.sure {
         if is_hit(copy, opens) {
@@ -210,7 +216,9 @@ fn crash_copy(copy: &mut CopyAt, opens: bool, reads: List<Entry>)
 }
 
 fn crash_at(copies: &mut List<CopyAt>, at: usize, opens: bool, reads: List<Entry>)
-    ensures { (l : Left) (kept : List Entry) → (at < length copies.old → reads ≡ crash_reads l kept (at_or no_copy at copies.old)) → copies.new ≡ change_at at (after_crash l kept opens) copies.old }
+    ensures { (l : Left) (kept : List Entry)
+        → (at < length copies.old → reads ≡ crash_reads l kept (at_or no_copy at copies.old))
+        → copies.new ≡ change_at at (after_crash l kept opens) copies.old }
 {
     if at < copies.len() {
         crash_copy(copies.item_mut(at), opens, reads);
@@ -226,7 +234,8 @@ fn crash_copies(
     second: bool,
     left: Left,
 ) -> Result<(), NoMemory>
-    ensures ok { OnOk result (copies.new ≡ on_copies (after_crash left kept.now first) (after_crash left kept.now second) copies.old) }
+    ensures ok { OnOk result (copies.new
+        ≡ on_copies (after_crash left kept.now first) (after_crash left kept.now second) copies.old) }
     ensures err { OnErr result (copies.new ≡ copies.old) }
 {
     let first_reads = crashed_reads(alloc, copies, 0, kept, left)?;
@@ -256,7 +265,8 @@ fn fall_all(alloc: Global, members: &mut [MemberAt])
     }
 }
 
-/// All members crash, and the act in hand left an old gate or a new one. It is always possible. Without memory the world stays.
+/// All members crash, and the act in hand left an old gate or a new one. It is always possible. Without memory the
+/// world stays.
 pub fn crash(alloc: Global, world: &mut World, left: Left) -> Result<bool, NoMemory>
     requires { AreStepsBelow 4294967295 world.old.members }
     ensures answer { IfOk result (λ done. done ≡ possible world.old (event.Crash left)) }

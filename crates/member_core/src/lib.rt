@@ -26,8 +26,8 @@ pub fn every_run_holds()
     ensures { EveryRunHolds }
 {}
 
-/// Over a sound base every list of events leaves a right world: no copy reads anything but the kept entries, or those and
-/// the ones in flight, and all that was told is kept.
+/// Over a sound base every list of events leaves a right world: no copy reads anything but the kept entries, or those
+/// and the ones in flight, and all that was told is kept.
 pub fn every_run_is_right()
     ensures { EveryRunIsRight }
 {}

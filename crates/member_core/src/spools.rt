@@ -74,11 +74,13 @@ fn is_busy_in(queue: &Queue, m: MemberId, output: &Output) -> bool
     }
 }
 
-/// The line that the member prints next of an output that it prints, where the output is busy there in the other queue too.
+/// The line that the member prints next of an output that it prints, where the output is busy there in the other queue
+/// too.
 fn line_of(long: &Queue, by: MemberId, printed: u32, output: &Output) -> Option<Inked>
     requires { line_count output.now.text ≤ text_lines_most }
     ensures none { IfNone result (has_line long.now by printed (Some output.now) ≡ false) }
-    ensures some { IfSome result (λ line. (has_line long.now by printed (Some output.now) ≡ true) × (next_line_lem printed (Some output.now) ≡ line ∷ [])) }
+    ensures some { IfSome result (λ line. (has_line long.now by printed (Some output.now) ≡ true)
+        × (next_line_lem printed (Some output.now) ≡ line ∷ [])) }
     ensures small { IfSome result (λ line. printed < 4294967295) }
 {
     let total = total(output);
@@ -96,7 +98,8 @@ fn line_of(long: &Queue, by: MemberId, printed: u32, output: &Output) -> Option<
 fn next_line(short: &Queue, long: &Queue, by: MemberId, printed: u32) -> Option<Inked>
     requires { IsSound short.now }
     ensures none { IfNone result (has_line long.now by printed (printing_at_lem short.now by) ≡ false) }
-    ensures some { IfSome result (λ line. (has_line long.now by printed (printing_at_lem short.now by) ≡ true) × (next_line_lem printed (printing_at_lem short.now by) ≡ line ∷ [])) }
+    ensures some { IfSome result (λ line. (has_line long.now by printed (printing_at_lem short.now by) ≡ true)
+        × (next_line_lem printed (printing_at_lem short.now by) ≡ line ∷ [])) }
     ensures small { IfSome result (λ line. printed < 4294967295) }
 {
     match printing_at(short, by) {
@@ -115,8 +118,8 @@ fn put_printed(members: &mut List<MemberAt>, m: MemberId)
     }
 }
 
-/// A member prints the next line of its output, by the queue without the batch in flight and the queue with it. False where it
-/// can't. Without memory the world stays.
+/// A member prints the next line of its output, by the queue without the batch in flight and the queue with it. False
+/// where it can't. Without memory the world stays.
 pub fn print_line(
     world: &mut World,
     short: &Queue,

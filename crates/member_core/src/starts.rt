@@ -154,7 +154,15 @@ fn rise_all(alloc: Global, members: &mut [MemberAt])
 }
 
 fn begin_restart(member: &mut MemberAt, own: List<Entry>, batch: List<Entry>)
-    ensures { member.new ≡ record { up = false; stage = At.Ready; own = own; batch = batch; printed = member.old.printed; step = 0 } }
+    ensures { member.new ≡ record {
+      up = false;
+      stage = At.Ready;
+      own = own;
+      batch = batch;
+      printed
+          = member.old.printed;
+      step = 0;
+    } }
 {
     member.up = false;
     member.stage = At::Ready;
@@ -165,7 +173,8 @@ fn begin_restart(member: &mut MemberAt, own: List<Entry>, batch: List<Entry>)
 
 /// The members after a start: member 0 has the batch Restart, the others are up and away.
 fn rise_members(alloc: Global, members: &mut List<MemberAt>, own: List<Entry>, batch: List<Entry>)
-    ensures { (found : List Entry) (e : Entry) → own ≡ found ++ e ∷ [] → batch ≡ e ∷ [] → members.new ≡ risen found e members.old }
+    ensures { (found : List Entry) (e : Entry) → own ≡ found ++ e ∷ [] → batch ≡ e ∷ []
+        → members.new ≡ risen found e members.old }
 {
     rise_all(alloc, members.as_mut_slice());
     if members.len() > 0 {
@@ -185,7 +194,8 @@ fn restart_entry() -> Entry
 }
 
 fn start_copies(copies: &mut List<CopyAt>, found: bool, first: List<Entry>, second: List<Entry>)
-    ensures { (own : List Entry) → first ≡ own → second ≡ own → copies.new ≡ on_copies (after_start found own) (after_start found own) copies.old }
+    ensures { (own : List Entry) → first ≡ own → second ≡ own
+        → copies.new ≡ on_copies (after_start found own) (after_start found own) copies.old }
 {
     start_at(copies, 0, found, first);
     start_at(copies, 1, found, second);
@@ -199,8 +209,9 @@ fn end_start(alloc: Global, world: &mut World)
     world.unsynced = List::new(alloc);
 }
 
-/// A start: where no member is up and a copy is good, the longest list that a good copy reads counts, the batch in flight has its
-/// fate by it, and member 0 has the batch Restart. False where that isn't so. Without memory the world stays.
+/// A start: where no member is up and a copy is good, the longest list that a good copy reads counts, the batch in
+/// flight has its fate by it, and member 0 has the batch Restart. False where that isn't so. Without memory the world
+/// stays.
 pub fn start_again(alloc: Global, world: &mut World) -> Result<bool, NoMemory>
     ensures answer { IfOk result (λ done. done ≡ possible world.old event.Start) }
     ensures moves { OnOk result (world.new ≡ moved world.old event.Start) }

@@ -186,8 +186,8 @@ pub fn print(alloc: Global, world: &mut World, by: MemberId) -> Result<bool, NoM
     print_line(world, &short, &long, by)
 }
 
-/// One event: false exactly where it isn't possible, and then nothing changes. Without memory the world stays. Each member's
-/// step is below the greatest u32, and none grows by more than one.
+/// One event: false exactly where it isn't possible, and then nothing changes. Without memory the world stays. Each
+/// member's step is below the greatest u32, and none grows by more than one.
 pub fn world_step(alloc: Global, world: &mut World, event: &Event) -> Result<bool, NoMemory>
     requires holds { Holds world.old }
     requires fit { IsFitEvent event.now }
@@ -230,8 +230,9 @@ fn happen(alloc: Global, world: &mut World, event: &Event) -> Result<bool, NoMem
     }
 }
 
-/// Runs the events over a base, those skipped that aren't possible. Whatever they are, the world is right: where a copy is good,
-/// what a start would find is the run of the kept entries, with or without the batch in flight, and holds all that was told.
+/// Runs the events over a base, those skipped that aren't possible. Whatever they are, the world is right: where a copy
+/// is good, what a start would find is the run of the kept entries, with or without the batch in flight, and holds all
+/// that was told.
 pub fn no_run_loses(alloc: Global, base: &Queue, events: &List<Event>) -> Result<World, NoMemory>
     requires sound { IsSound base.now }
     requires fit { AllByRecursion IsFitEvent events.now }

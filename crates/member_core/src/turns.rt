@@ -91,8 +91,8 @@ fn put_read(members: &mut List<MemberAt>, m: MemberId, own: List<Entry>)
     }
 }
 
-/// The second read: the member has the longest list that a good copy reads. False where it can't. Without memory the world
-/// stays.
+/// The second read: the member has the longest list that a good copy reads. False where it can't. Without memory the
+/// world stays.
 pub fn read_second(alloc: Global, world: &mut World, by: MemberId) -> Result<bool, NoMemory>
     ensures answer { IfOk result (λ done. done ≡ possible world.old (event.SecondRead by)) }
     ensures moves { OnOk result (world.new ≡ moved world.old (event.SecondRead by)) }

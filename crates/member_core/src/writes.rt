@@ -120,8 +120,8 @@ fn do_in(
     do_at(alloc, members.item_mut(m.0 as usize), command, entry)
 }
 
-/// A member gives a command, with its reply on the queue after its own list. False where it can't. Without memory the world
-/// stays.
+/// A member gives a command, with its reply on the queue after its own list. False where it can't. Without memory the
+/// world stays.
 pub fn do_command(
     alloc: Global,
     world: &mut World,
@@ -279,8 +279,8 @@ fn put_written(alloc: Global, members: &mut List<MemberAt>, m: MemberId)
     }
 }
 
-/// A member, or member 0, opens the second copy, and its batch is written. False where it can't. Without memory the world
-/// stays.
+/// A member, or member 0, opens the second copy, and its batch is written. False where it can't. Without memory the
+/// world stays.
 pub fn open_copy2(alloc: Global, world: &mut World, by: MemberId) -> Result<bool, NoMemory>
     ensures answer { IfOk result (λ done. done ≡ possible world.old (event.OpenCopy by dev.Ckpt2)) }
     ensures moves { OnOk result (world.new ≡ moved world.old (event.OpenCopy by dev.Ckpt2)) }

@@ -9,7 +9,7 @@ use Rattle.member_node.specs.declared.member.NodeNo.{NodeNo}
 use Rattle.member_node.specs.declared.member.NodeNo.TheVariants.{BothLost, Halted, ConsoleFault, NoMemory}
 use Rattle.member_decks.specs.Batches.{AreAll, AreCut, AreSome, BatchesLeave, IsCut, IsFlyingBatch, IsKeptBatch, OneFlies}
 
--- entries that aren't all of them are others
+-- the first entries of a batch, if they aren't all, are others than its entries
 pub cut_short : (cut es : List Entry) → IsCut cut es → es ≡ cut → ⊥
 cut_short cut es is same =
     let long : length es ≡ length cut + length is.1.0 = ap length is.1.1 ∙ length-append cut is.1.0 in
@@ -52,7 +52,7 @@ module _ (by : MemberId) where
       (λ behind. inr (kept_sooner es sooner from now b le behind.0, behind.1))
       flies
 
-  -- BEHIND ONE THAT IS KEPT
+  -- AFTER A BATCH THAT IS KEPT
 
   pub leaves_next : (r : Result (Unit {0}) NodeNo) (from now next : ℕ) (es : List Entry) (ess : List (List Entry)) (b : Batch) (bs : List Batch) → IsKeptBatch by es from now b → b.last ≤ next → BatchesLeave r by next now ess bs → BatchesLeave r by from now (es ∷ ess) (b ∷ bs)
   leaves_next (Ok done) from now next es ess b bs k le all = (k, all_sooner b.last next now ess bs le all)

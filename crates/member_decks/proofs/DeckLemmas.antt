@@ -29,7 +29,7 @@ pub given_append : (by : MemberId) (at : ℕ) (cs ds : List Command) (Q : Queue)
 given_append by at [] ds Q = refl
 given_append by at (c ∷ cs) ds Q = ap (λ (es : List Entry). entry_of Q by at c ∷ es) (given_append by at cs ds (step Q by c).0)
 
--- are of the member's step
+-- commands that a member gives in a step are of that step
 pub given_of : (by : MemberId) (at : ℕ) (cs : List Command) (Q : Queue) → All (λ (e : Entry). (e.by ≡ by) × (e.step ≡ at)) (given_in Q by at cs)
 given_of by at [] Q = All-nil (λ (e : Entry). (e.by ≡ by) × (e.step ≡ at))
 given_of by at (c ∷ cs) Q = All-cons (λ (e : Entry). (e.by ≡ by) × (e.step ≡ at)) (entry_of Q by at c) (given_in (step Q by c).0 by at cs) (refl, refl) (given_of by at cs (step Q by c).0)
@@ -120,7 +120,7 @@ module _ (m : MemberId) where
   count_taken want (owner.Output n i p ∷ gs) = beside want (owner.Output n i p) gs refl (count_taken want gs)
 
   module _ (at : ℕ) where
-    -- as many as were missing
+    -- Takes that aren't refused give as many groups as were missing
     takes_enough : (times missing : ℕ) (Q : Queue) → missing ≤ times → are_refused times Q m missing ≡ false → missing + member_count m Q.owners ≤ member_count m (run Q (given_in Q m at (takes times Q m missing))).owners
     takes_enough zero missing Q le all = omega (arith, le)
     takes_enough (suc times) zero Q le all = omega arith

@@ -33,7 +33,7 @@ use Rattle.paper_laws.specs.Counts.{is_mark}
 use Rattle.member_decks.specs.Decks.{finishing, given_in}
 use Rattle.member_decks.specs.Keeping.{IsFinish}
 
--- WHAT IT ASKS
+-- WHAT A STEP'S LAST COMMAND ASKS
 
 pub finishing_fit : (lost : Option ℕ) (n : JobNo) (text : List (List ℕ)) → AreLines text → IsFit (finishing lost n text)
 finishing_fit None n text are = are
@@ -58,11 +58,11 @@ finishing_may (Some volume) n text Q m = refl
 pub one_named : (es : List Entry) (e : Entry) → es ≡ e ∷ [] → IsReplyNamed e.reply → All (λ (f : Entry). IsReplyNamed f.reply) es
 one_named es e is named = subst (All (λ (f : Entry). IsReplyNamed f.reply)) (sym is) (All-cons (λ (f : Entry). IsReplyNamed f.reply) e [] named (All-nil (λ (f : Entry). IsReplyNamed f.reply)))
 
--- its one entry is of the step
+-- entries that are just one of a member's step are all of that step
 pub one_of : (es : List Entry) (e : Entry) (by : MemberId) (at : ℕ) → es ≡ e ∷ [] → e.by ≡ by → e.step ≡ at → All (λ (f : Entry). (f.by ≡ by) × (f.step ≡ at)) es
 one_of es e by at is one two = subst (All (λ (f : Entry). (f.by ≡ by) × (f.step ≡ at))) (sym is) (All-cons (λ (f : Entry). (f.by ≡ by) × (f.step ≡ at)) e [] (one, two) (All-nil (λ (f : Entry). (f.by ≡ by) × (f.step ≡ at))))
 
--- THE TEXTS AFTER IT
+-- THE TEXTS AFTER A STEP'S LAST COMMAND
 
 module _ (gone : ℕ → Bool) (disks : Spools) (per : ℕ) (Q : Queue) (m : MemberId) (at : ℕ) (own : AreTheirOwn Q) (has : HasTexts gone disks per Q) where
   abbrev StandsIn : Thing → Text → List GroupNo → Type 0

@@ -41,7 +41,7 @@ module _ (test : Owner → Bool) where
       (λ e. first_least at (groups_where test (at + 1) gs) g (λ j behind. where_least (at + 1) gs j g behind) k (rw e at here))
       (λ e. let more = where_least (at + 1) gs k g (rw e at here) in omega (arith, more))
 
-  -- and rise
+  -- groups that pass a test are listed by rising numbers
   where_rise : (at : ℕ) (gs : List Owner) (i j : ℕ) (g h : GroupNo) → i < j → slice_get (groups_where test at gs) i ≡ Some g → slice_get (groups_where test at gs) j ≡ Some h → g.0 < h.0
   where_rise at [] i j g h less at_i at_j = absurd (cc)
   where_rise at (o ∷ gs) i j g h less at_i at_j =

@@ -26,7 +26,7 @@ module _ (b : Book) (m : MemberId) (holds : b.holder ≡ m) where
   freed : after_free b m true ≡ with_holder b nobody
   freed = rw holder refl
 
-  -- and may take it again
+  -- a member that gave the lock up may take it again
   module _ (some : 0 < m.0) (up : is_stopped b m ≡ false) where
     abbrev open_book : Book
     open_book = with_holder b nobody
@@ -46,14 +46,14 @@ module _ (b : Book) (m : MemberId) (holds : b.holder ≡ m) where
     taken_open : after_try open_book m true ≡ granted (ticked open_book true) m
     taken_open = subst (λ (r : Option LockNo). answered r ≡ granted (ticked open_book true) m) (sym gets_open) (rw (up, not_holder) refl)
 
-    -- and acts again
+    -- a member that takes the lock again may act
     pub acts_again : m.0 ≤ length b.members → MayAct (after_try (after_free b m true) m true) m
     acts_again member = subst (λ (c : Book). MayAct c m) (sym (ap (λ (c : Book). after_try c m true) freed ∙ taken_open)) (record {
       holds = refl;
       up = λ positive. ap (λ (s : Standing). s.stopped) (get_or-set_same b.members (m.0 - 1) (record (standing b m) { left = b.hold }) (beginner 0) (omega (arith, some, member))) ∙ up;
     })
 
-    -- with its whole hold: the book is as it was
+    -- a member that gives up its whole hold and takes the lock again leaves the book as it was
     its_own : left_of b m ≡ b.hold → slice_set b.members (m.0 - 1) (record (standing b m) { left = b.hold }) ≡ b.members
     its_own whole = ap (λ (l : ℕ). slice_set b.members (m.0 - 1) (record (standing b m) { left = l })) (sym whole) ∙ set-get_or b.members (m.0 - 1) (beginner 0)
 
@@ -66,7 +66,7 @@ module _ (b : Book) (m : MemberId) (holds : b.holder ≡ m) where
 -- A GRANTED TRY
 
 module _ (b : Book) (m : MemberId) (member : IsMember b m) where
-  -- has the whole hold left
+  -- a member whose try is granted has the whole hold left
   pub whole_hold : left_of (granted b m) m ≡ (granted b m).hold
   whole_hold = ap (λ (s : Standing). s.left) (get_or-set_same b.members (m.0 - 1) (record (standing b m) { left = b.hold }) (beginner 0) (omega (arith, member.0, member.1)))
 
@@ -84,7 +84,7 @@ module _ (b : Book) (m : MemberId) (member : IsMember b m) (free : b.holder ≡ 
   pub whole_after : left_of (after_try b m false) m ≡ (after_try b m false).hold
   whole_after = subst (λ (c : Book). left_of c m ≡ c.hold) (sym tried) (whole_hold (ticked b false) m member)
 
--- the same book and the same member have the same left
+-- what is left of a hold is whole by other names of the same book and member too
 pub book_by : (b c : Book) (m i : MemberId) → c ≡ b → i ≡ m → left_of b m ≡ b.hold → left_of c i ≡ c.hold
 book_by b c m i one two whole = subst (λ (k : MemberId). left_of c k ≡ c.hold) (sym two) (subst (λ (d : Book). left_of d m ≡ d.hold) (sym one) whole)
 
@@ -109,7 +109,7 @@ pub holds_named : {T : Type 0} (r : Result T NodeNo) (by by' : MemberId) (held h
 holds_named (Ok done) by by' held held' is one two still = tt
 holds_named (Err e) by by' held held' is one two still = holds_as e by by' held held' is one two still
 
--- and of a step that tried the lock
+-- the lock after an error in a step that tried it
 pub leaves_all : (e : NodeNo) (by : MemberId) (was is : Book) → HoldsStill e by (after_try was by false) is → LeavesLock e by was is
 leaves_all BothLost by was is still = still
 leaves_all ConsoleFault by was is still = still

@@ -17,7 +17,7 @@ use Rattle.member_steps.specs.Steps.{IsBetween, StepLeaves}
 use Rattle.member_steps.proofs.ReadLemmas.{HasBegun, cause_settle, low_more, one_batch}
 use Rattle.member_decks.specs.Keeping.{CopyCauses, IsOnCopies}
 
--- it couldn't
+-- a member that has the lock couldn't take in what the copies have
 pub held_not : (told : Type 0) (by : ℕ) (a a' b b' : Bool) (v w : View) (e : NodeNo) → HasBegun told by (is_stop e) a a' b b' v w → ReadInCauses {T = Unit {0}} (Err e) by a' b' v w → IsOnCopies {T = Unit {0}} told by a a' b b' v w (Err e)
 held_not told by a a' b b' v w e acts cause = record { course = acts.course; loses = acts.loses; cause = causes e cause; spares = acts.spares; apart = acts.apart } where
   causes : (e : NodeNo) → ReadInCauses {T = Unit {0}} (Err e) by a' b' v w → CopyCauses {T = Unit {0}} (Err e) by a a' b b' v w
@@ -26,7 +26,7 @@ held_not told by a a' b b' v w e acts cause = record { course = acts.course; los
   causes NoMemory c = inl c
   causes ConsoleFault c = absurd c
 
--- both parts by the settle's answer
+-- the reads of the copies and the settle after them, by the settle's answer
 pub held_by_settle : (told : Type 0) (by : ℕ) (a a' b b' : Bool) (v0 v1 v2 : View) (r : Result (Unit {0}) NodeNo) (m1 m2 : Bool) → HasBegun told by (stopped_in r) a a' b b' v0 v2 → HasBegun told by false a m1 b m2 v0 v1 → IsSettle told by m1 a' m2 b' v1 v2 r → IsOnCopies told by a a' b b' v0 v2 r
 held_by_settle told by a a' b b' v0 v1 v2 (Ok done) m1 m2 acts read settle = record { course = acts.course; loses = acts.loses; cause = inl settle.cause; spares = acts.spares; apart = acts.apart }
 held_by_settle told by a a' b b' v0 v1 v2 (Err e) m1 m2 acts read settle = held_not told by a a' b b' v0 v2 e acts (cause_settle by a' b' v0 v1 v2 e read.course.goes settle.cause)
@@ -50,7 +50,7 @@ low_finished told (Ok done) config config' many front batches placed current b n
     (low_more config' many (length batches) k.tables n.tables (low t) two between.fit order (one_batch front batches placed current b now between.unplaced between.none leaves ∙ ap (λ (i : ℕ). i + 1) long))
 low_finished told (Err e) config config' many front batches placed current b now base level batch k n leaves between long low one two order = tt
 
--- and after the only batch of a deck's step
+-- tables are low after the only batch of a deck's step
 pub low_opened : (told : Type 0) (r : Result (Unit {0}) NodeNo) (config : Config) (front batches : List Batch) (placed : Bool) (current : Option Batch) (b : Batch) (now : ℕ) (base : Queue) (level : ℕ) (batch : List Entry) (k n : Checkpoint) (groups : ℕ)
     → StepLeaves r front (end_of placed current batches) b now → OnOk r (IsBetween told base batches current placed level batch n) → (told → AreLow config (length front) k.tables) → n.tables.config ≡ k.tables.config → n.tables.order ≤ k.tables.order + 32 * (groups + 2) → groups ≤ 10000
     → OnOk r (told → AreLow config (length batches) n.tables)

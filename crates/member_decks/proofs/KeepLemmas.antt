@@ -44,7 +44,7 @@ module _ (told : Type 0) (by : ℕ) (b : Batch) (front batches : List Batch) (wa
   keep_unwritten ConsoleFault write = absurd write.journal
   keep_unwritten NoMemory write = absurd write.journal
 
--- WHERE MEMORY WANTED BEFORE
+-- OUT OF MEMORY EARLIER IN THE STEP
 
 module _ (front batches : List Batch) (b : Batch) (now : ℕ) (some : 1 ≤ length b.entries) where
   pub up_kept : KeepLeaves {T = Unit {0}} (Ok tt) front batches b now → GivesUpLeaves NoMemory front batches b now
@@ -56,7 +56,7 @@ module _ (front batches : List Batch) (b : Batch) (now : ℕ) (some : 1 ≤ leng
   up_unkept Halted flies = (some, flies)
   up_unkept ConsoleFault never = absurd never
 
--- the answer of such a step is that memory wanted
+-- the acts on the copies of a step that ends out of memory
 pub up_copies : (told : Type 0) (by : ℕ) (a a' b b' : Bool) (v w : View) → IsOnCopies {T = Unit {0}} told by a a' b b' v w (Ok tt) → IsOnCopies {T = Unit {0}} told by a a' b b' v w (Err NoMemory)
 up_copies told by a a' b b' v w acts = record { course = acts.course; loses = acts.loses; cause = acts.cause; spares = acts.spares; apart = acts.apart }
 

@@ -26,7 +26,7 @@ one_fault r x y p q = let both = sym p ∙ q in cc
 pub reads_or_not : {A : Type 0} (r : Result JobFields Refused) (x : JobFields) (y : Refused) → r ≡ Ok x → r ≡ Err y → A
 reads_or_not r x y p q = absurd (let both = sym p ∙ q in cc)
 
--- the line names that card
+-- the line of a bad card names that card
 pub card_line : (by : MemberId) (at : ℕ) (card card' : ℕ) (why why' : CardCause) → bad card why ≡ bad card' why' → closing_line by at (BadCard card why) ∷ [] ≡ closing_line by at (BadCard card' why') ∷ []
 card_line by at card card' why why' same =
     ap (λ (r : Refused). closing_line by at (BadCard r.card r.cause) ∷ []) same

@@ -86,7 +86,7 @@ module _ (Q : Queue) (by : MemberId) (at missing : ℕ) (some : 1 ≤ missing) w
   abbrev e : Entry
   e = entry_of Q by at (command.Take missing)
 
-  -- a Take, and those behind it
+  -- a Take, and the Takes after it
   module _ (n : ℕ) (got : (step Q by (command.Take missing)).1 ≡ reply.Count n) where
     part_more : {T E : Type 0} (r : Result T E) (times : ℕ) (gave : List Entry) → missing ≤ suc times → IsPart r gave (given_in Q1 by at (takes times Q1 by (missing - n))) → IsPart r (e ∷ gave) (given_in Q by at (takes (suc times) Q by missing))
     part_more (Ok done) times gave le part = ap (λ (es : List Entry). e ∷ es) part ∙ sym (takes_more Q by at times missing n some le got)
@@ -141,7 +141,7 @@ module _ (Q : Queue) (by : MemberId) (at missing : ℕ) (some : 1 ≤ missing) w
     all_last zero le = absurd (omega (arith, some, le))
     all_last (suc times) le = ap not (sym (refused_last Q by times missing some (none_left (step Q by (command.Take missing)).1 not_count)))
 
--- a Take for which memory wants
+-- a Take for which there is no memory
 some_taken : (Q : Queue) (by : MemberId) (at times missing : ℕ) → 1 ≤ missing → missing ≤ times → 1 ≤ length (given_in Q by at (takes times Q by missing))
 some_taken Q by at zero missing some le = absurd (omega (arith, some, le))
 some_taken Q by at (suc times) zero some le = absurd (omega (arith, some))
@@ -169,7 +169,7 @@ pub is_not : (b : Bool) → not b ≡ false → b ≡ true
 is_not true is = refl
 is_not false is = absurd (cc)
 
--- begun from these tables
+-- a deck that is begun from these tables
 module _ (others : OthersLeaveTexts) (own : ToldAreTheirOwn) (by : MemberId) (at : ℕ) (fields : JobFields) (groups : ℕ) (Q : Queue) (t : Tables) (told : Tell t Q) where
   abbrev begun : Queue
   begun = (step Q by (command.Begin fields)).0
@@ -189,7 +189,7 @@ module _ (others : OthersLeaveTexts) (own : ToldAreTheirOwn) (by : MemberId) (at
   named_so : {T E : Type 0} (u : Tables) (es is : List Entry) (r : Result T E) → is ≡ es → IsOpening Q by at groups fields t u es r → IsOpening Q by at groups fields t u is r
   named_so u es is r same o = subst (λ (l : List Entry). IsOpening Q by at groups fields t u l r) (sym same) o
 
-  -- memory wanted for Begin
+  -- out of memory for Begin
   pub opening_wanted : {T E : Type 0} (u : Tables) (is : List Entry) (e : E) → u ≡ t → is ≡ [] → IsOpening {T = T} Q by at groups fields t u is (Err e)
   opening_wanted {T} {E} u is e same none = named_so u [] is (let r : Result T E = Err e in r) none (record {
     part = (All_of, refl, omega arith);
@@ -197,7 +197,7 @@ module _ (others : OthersLeaveTexts) (own : ToldAreTheirOwn) (by : MemberId) (at
     texts = λ s gone disks per has. has;
   })
 
-  -- it was refused
+  -- Begin was refused
   pub opening_refused : {T E : Type 0} (u : Tables) (is : List Entry) (x : T) → ((n : JobNo) → begin.reply ≡ reply.Job n → ⊥) → is ≡ begin ∷ [] → Tell u begun → IsOpening {E = E} Q by at groups fields t u is (Ok x)
   opening_refused {T} {E} u is x other one after = named_so u (begin ∷ []) is (let r : Result T E = Ok x in r) one (record {
     part = sym (opening_alone by at fields groups Q other);
@@ -228,11 +228,11 @@ module _ (others : OthersLeaveTexts) (own : ToldAreTheirOwn) (by : MemberId) (at
       refused_by : (b : Bool) → are_refused groups begun by' groups ≡ b → are_refused groups begun by groups ≡ b
       refused_by b is_so = subst (λ (m : MemberId). are_refused groups begun m groups ≡ b) same_by is_so
 
-      -- the batch behind the Takes
+      -- the batch after the Takes
       behind_takes : {T E : Type 0} (r : Result T E) (k : IsTaking begun by at groups groups u v mid is r) → is ≡ begin ∷ k.gave
       behind_takes r k = k.batch ∙ ap (λ (es : List Entry). es ++ k.gave) one
 
-      -- memory wanted for one of them
+      -- out of memory for one of the Takes
       pub opening_cut : {T A E : Type 0} (e : E) → IsTaking {T = A} begun by' at groups groups u v mid is (Err e) → IsOpening {T = T} Q by at groups fields t v is (Err e)
       opening_cut {T} {A} {E} e k' = let k = by_it (let r : Result A E = Err e in r) k' in named_so v (begin ∷ k.gave) is (let r : Result T E = Err e in r) (behind_takes (let r : Result A E = Err e in r) k) (record {
         part = (
@@ -276,7 +276,7 @@ module _ (others : OthersLeaveTexts) (own : ToldAreTheirOwn) (by : MemberId) (at
           HasTextsAfter : List Entry → Type 0
           HasTextsAfter es = HasTexts gone disks per (run begun es)
 
-        -- a Take was refused, and memory wanted for Drop
+        -- a Take was refused, and out of memory for Drop
         pub opening_undropped : {T F : Type 0} (w : Tables) (last : List Entry) (e : F) → w ≡ v → last ≡ is → IsOpening {T = T} Q by at groups fields t w last (Err e)
         opening_undropped {T} {F} w last e same none = named_so w (begin ∷ taking) last (let r : Result T F = Err e in r) (none ∙ taken_is) (record {
           part = (drop_it ∷ [], all_dropped, omega arith);
@@ -284,7 +284,7 @@ module _ (others : OthersLeaveTexts) (own : ToldAreTheirOwn) (by : MemberId) (at
           texts = taken_texts;
         })
 
-        -- and the job is dropped
+        -- a Take was refused, and the job is dropped
         pub opening_dropped : {T F : Type 0} (w : Tables) (last : List Entry) (x : T) → (TellSound u → TellSound v) → last ≡ is ++ drop_it ∷ [] → Tell w (step (run begun taking) by (command.Drop n)).0 → IsOpening {E = F} Q by at groups fields t w last (Ok x)
         opening_dropped {T} {F} w last x still then_dropped after = named_so w (begin ∷ (taking ++ drop_it ∷ [])) last (let r : Result T F = Ok x in r) (then_dropped ∙ ap (λ (es : List Entry). es ++ drop_it ∷ []) taken_is) (record {
           part = sym all_dropped;

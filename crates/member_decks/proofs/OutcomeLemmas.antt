@@ -77,7 +77,7 @@ found_within (Some volume) v0 v1 v2 v3 before after found =
     let part = DiskPart (Spool volume) in
     (after.lost part found.0, rose_later (v0.faults part) (v1.faults part) (v3.faults part) (before.faults part) (rose_more (v1.faults part) (v2.faults part) (v3.faults part) found.1 (after.faults part)))
 
--- an answer's cause, behind another part
+-- an answer's cause, after another part
 pub causes_then : (r : Result (Unit {0}) NodeNo) (by : ℕ) (a a' a'' b b' b'' : Bool) (v0 v1 v2 : View) → IsLeft a a' b b' → Goes v0 v1 → StepCauses r by a' a'' b' b'' v1 v2 → StepCauses r by a a'' b b'' v0 v2
 causes_then (Ok done) by a a' a'' b b' b'' v0 v1 v2 left goes cause = left_then a a' a'' b b' b'' left cause
 causes_then (Err NoMemory) by a a' a'' b b' b'' v0 v1 v2 left goes cause = left_then a a' a'' b b' b'' left cause
@@ -85,7 +85,7 @@ causes_then (Err BothLost) by a a' a'' b b' b'' v0 v1 v2 left goes cause = cause
 causes_then (Err ConsoleFault) by a a' a'' b b' b'' v0 v1 v2 left goes cause = (left_then a a' a'' b b' b'' left cause.0, rose_later (v0.faults Console) (v1.faults Console) (v2.faults Console) (goes.faults Console) cause.1)
 causes_then (Err Halted) by a a' a'' b b' b'' v0 v1 v2 left goes cause = (left_then a a' a'' b b' b'' left cause.0, rose_later (v0.stops by) (v1.stops by) (v2.stops by) (goes.stops by) cause.1)
 
--- that of acts on the copies
+-- the cause of an answer of acts on the copies
 pub copy_causes : (r : Result (Unit {0}) NodeNo) (by : ℕ) (a a' b b' : Bool) (v w : View) → CopyCauses r by a a' b b' v w → StepCauses r by a a' b b' v w
 copy_causes (Ok done) by a a' b b' v w cause = cause
 copy_causes (Err NoMemory) by a a' b b' v w cause = cause
@@ -93,7 +93,7 @@ copy_causes (Err BothLost) by a a' b b' v w cause = cause
 copy_causes (Err Halted) by a a' b b' v w cause = cause
 copy_causes (Err ConsoleFault) by a a' b b' v w cause = absurd cause
 
--- what is said behind a part in which nothing was
+-- what is said after a part in which nothing was said
 pub tells_then : (r : Result (Unit {0}) NodeNo) (lines : List (List ℕ)) (A B : Type 0) (v0 v1 v2 : View) → console_now v1 ≡ console_now v0 → (A → B) → StepTells r lines A (console_now v1) (console_now v2) → StepTells r lines B (console_now v0) (console_now v2)
 tells_then (Ok done) lines A B v0 v1 v2 same to tells = tells ∙ ap (λ (l : List Line). l ++ map whole lines) same
 tells_then (Err NoMemory) lines A B v0 v1 v2 same to tells = tells ∙ same
@@ -143,7 +143,7 @@ module _ (told : Type 0) (by : MemberId) (lines : List (List ℕ)) (es : List En
   abbrev OneStep : Result (Unit {0}) NodeNo → Type 0
   OneStep r = IsStep told by.0 lines (begun old.now by es) front batches was1 is1 was2 is2 old new r
 
-  -- what it leaves
+  -- what a step of one batch leaves
   pub record OneLeaves (r : Result (Unit {0}) NodeNo) : Type 0 where
     pub rest : List Batch
     pub are : batches ≡ front ++ rest
@@ -217,9 +217,9 @@ module _ (told : Type 0) (by : MemberId) (at per : ℕ) (n : JobNo) (text : List
     console = λ t. tells_none e (lines_by by at None (closing_reply (last_of None (reply_at None)))) (HasAll by v0.now v1.now (last_of None (reply_at None) ∷ []) front batches) v0 v1 (spool_never e v0 v1 stops) (acts.console t);
   }
 
-  -- it was, or a volume was found lost
+  -- the text was spooled, or a volume was found lost
   module _ (lost : Option ℕ) (a b : Bool) (v0 v1 : View) (acts : OnVolumes told by.0 v0 v1) (free : Spares by.0 false v0 v1) (found : IsFoundLost lost v0 v1) (lies : told → LiesOn (opened.Ready n) per Q by text lost) where
-    -- but the copies weren't taken in
+    -- the copies weren't taken in after the text was spooled
     pub rest_unheld : (batches : List Batch) (a' b' : Bool) (v2 : View) (e : NodeNo) → batches ≡ front → IsOnCopies {T = Unit {0}} told by.0 a a' b b' v1 v2 (Err e) → RestOf batches a a' b b' v0 v2 (Err e)
     rest_unheld batches a' b' v2 e none hold = record {
       lost = lost;
@@ -238,7 +238,7 @@ module _ (told : Type 0) (by : MemberId) (at per : ℕ) (n : JobNo) (text : List
           ((hold.apart t).console ∙ acts.console t);
     }
 
-    -- and the last command was given
+    -- the copies were taken in after the text was spooled, and the last command was given
     pub rest_finished : (batches : List Batch) (a' a'' b' b'' : Bool) (v2 v3 : View) (r : Result (Unit {0}) NodeNo) → IsOnCopies {T = Unit {0}} told by.0 a a' b b' v1 v2 (Ok tt) → IsFinish told by at n text lost Q front batches a' a'' b' b'' v2 v3 r → RestOf batches a a'' b b'' v0 v3 r
     rest_finished batches a' a'' b' b'' v2 v3 r hold f =
         let lines = lines_by by at lost (closing_reply (last_of lost f.reply)) in
@@ -273,7 +273,7 @@ lines_last : (by : MemberId) (at : ℕ) (c : Command) (r : Reply) (lost : Option
 lines_last by at c r (Some volume) n text es is = refl
 lines_last by at c r None n text es is = rw is (ap (λ (l : List Entry). lines_by by at None (reply_in (find closes l))) (reverse-append es (entry_with by at (command.Enter n text) r ∷ [])))
 
--- what stands behind the first entries
+-- what stands after the first entries of a list
 abbrev strip : List Entry → List Entry → List Entry
 strip [] l = l
 strip (x ∷ xs) [] = []
@@ -288,7 +288,7 @@ all_strip P [] l all = all
 all_strip P (x ∷ xs) [] all = all
 all_strip P (x ∷ xs) (y ∷ l) all = all_strip P xs l (All-tail P y l all)
 
--- or this, where nothing does
+-- entries, or this one alone where there are none
 abbrev padded : Entry → List Entry → List Entry
 padded e [] = e ∷ []
 padded e (x ∷ xs) = x ∷ xs
@@ -338,7 +338,7 @@ module _ (told : Type 0) (by : MemberId) (at per : ℕ) (Q : Queue) (fields : Jo
   few_behind R opened.Closed = omega arith
   few_behind R (opened.Ready n) = omega arith
 
-  -- BEFORE ITS FIRST BATCH
+  -- BEFORE THE FIRST BATCH OF A DECK
 
   abbrev Behind : List (List Entry)
   Behind = batches_behind Q1 by at text None Ends
@@ -364,7 +364,7 @@ module _ (told : Type 0) (by : MemberId) (at per : ℕ) (Q : Queue) (fields : Jo
     console = λ t. tells_none e (deck_lines Q by at fields text None) (HasAll by v.now w.now (First ∷ Behind) front batches) v w (never_console e by.0 a a' b b' v w acts.cause) ((acts.apart t).console);
   }
 
-  -- BEHIND READS, AND ROOM FOR A PUT
+  -- AFTER READS, AND ROOM FOR A PUT
 
   pub deck_behind : (batches : List Batch) (a a' a'' b b' b'' : Bool) (v w x : View) (r : Result (Unit {0}) NodeNo) → IsOnCopies {T = Unit {0}} told by.0 a a' b b' v w (Ok tt) → DeckStep batches a' a'' b' b'' w x r → DeckStep batches a a'' b b'' v x r
   deck_behind batches a a' a'' b b' b'' v w x r acts s =
@@ -390,7 +390,7 @@ module _ (told : Type 0) (by : MemberId) (at per : ℕ) (Q : Queue) (fields : Jo
         console = λ t. tells_then r s.lines (HasAll by w.now x.now s.gave front batches) (HasAll by v.now x.now s.gave front batches) v w x ((acts.apart t).console) sooner (s.console t);
       }
 
-  -- MEMORY WANTED IN THE MIDDLE OF THE FIRST BATCH
+  -- OUT OF MEMORY IN THE MIDDLE OF THE FIRST BATCH
 
   module _ (es : List Entry) (own : Of es) where
     abbrev dummy : Entry
@@ -411,7 +411,7 @@ module _ (told : Type 0) (by : MemberId) (at per : ℕ) (Q : Queue) (fields : Jo
         ap (λ (l : List Entry). es ++ l) tail ∙ sym are
 
     module _ (batches : List Batch) (a a' b b' : Bool) (v w : View) where
-      -- what it leaves
+      -- what a step leaves that is out of memory in its first batch
       pub record CutLeaves (r : Result (Unit {0}) NodeNo) : Type 0 where
         pub rest : List Batch
         pub are : batches ≡ front ++ rest
@@ -533,7 +533,7 @@ module _ (told : Type 0) (by : MemberId) (at per : ℕ) (Q : Queue) (fields : Jo
                 ∙ ap (λ (ess : List (List Entry)). lines_by by at lost (closing_reply (all_entries ess))) both;
           }
 
-      -- the first one wasn't kept
+      -- the first of two batches wasn't kept
       first_leaves : (batches : List Batch) (v w : View) (e : NodeNo) (ess : List (List Entry)) → v.now ≤ w.now → KeepLeaves {T = Unit {0}} (Err e) front batches (begun v.now by es) w.now → (rest : List Batch) × (batches ≡ front ++ rest) × BatchesLeave {T = Unit {0}} (Err e) by v.now w.now (es ∷ ess) rest
       first_leaves batches v w NoMemory ess later leaves = ([], leaves ∙ sym (append-nil front), tt)
       first_leaves batches v w ConsoleFault ess later leaves = absurd leaves
@@ -564,7 +564,7 @@ module _ (told : Type 0) (by : MemberId) (at per : ℕ) (Q : Queue) (fields : Jo
             console = λ t. tells_none e (Last None r) (HasAll by v.now w.now (es ∷ Second None r ∷ []) front batches) v w (never_console e by.0 a a' b b' v w acts.cause) ((acts.apart t).console);
           }
 
-      -- it was
+      -- the first of two batches was kept, and the rest of the step follows
       pub deck_joined : (mid batches : List Batch) (a a' a'' b b' b'' : Bool) (v w x : View) (r : Result (Unit {0}) NodeNo) (R : Queue) → R ≡ run Q es → IsOnCopies {T = Unit {0}} told by.0 a a' b b' v w (Ok tt)
           → HasKept front mid (begun v.now by es) w.now → IsRest told by at per n text R mid batches a' a'' b' b'' w x r → DeckStep batches a a'' b b'' v x r
       deck_joined mid batches a a' a'' b b' b'' v w x r R same acts k s =

@@ -85,7 +85,7 @@ some_groups : (volumes groups n : ℕ) → n < volumes * groups → 1 ≤ groups
 some_groups volumes zero n lt = absurd (omega (arith, lt))
 some_groups volumes (suc groups) n lt = omega arith
 
--- it lies within its volume
+-- a group of the configuration lies within its volume, if that isn't lost
 within : (v : View) (config : Config) (g : GroupNo) → IsGroupOf config g → AreRoomy v config → v.lost (DiskPart (device_of config.groups g)) ≡ false → is_within v config.groups g ≡ true
 within v config g is roomy there =
     let some : 1 ≤ config.groups = some_groups config.volumes config.groups g.0 is in
@@ -100,7 +100,7 @@ within v config g is roomy there =
     fits : (r per size : ℕ) → r < per → page_bytes * per ≤ size → nat_le (page_bytes * r + page_bytes) size ≡ true
     fits r per size below le = grind (arith, nat_tests, below, le)
 
--- once it is written it is there
+-- once a page is written it is there
 pub stands : (v w : View) (config : Config) (g : GroupNo) (bytes : Page) (by : ℕ) → length bytes.0 ≡ page_bytes → IsGroupOf config g → AreRoomy v config
     → Acts by (DiskPart (device_of config.groups g)) v w Done → WritesGroup config.groups g v w bytes Done → page_in (spools_at w w.now) config.groups g ≡ bytes.0
 stands v w config g bytes by long is roomy acts writes =
@@ -193,13 +193,13 @@ quiet_sync v old new r syncs n =
     let quiet = each_quiet v old new (sync_quiet (disk_now old (Spool v)) (disk_now new (Spool v)) r syncs.disk) syncs.only n in
     record { bytes = quiet.bytes; synced = quiet.unsynced }
 
--- once the volume is synced, each group on it is
+-- once a volume is synced, each group on it is
 pub synced_there : (per v : ℕ) (old new : View) (g : GroupNo) → Syncs (Spool v) old new Done → volume_of per g ≡ v → IsSynced (spools_at new new.now) per g
 synced_there per v old new g syncs on =
     subst (λ (n : ℕ). Avoids (spools_at new new.now n).unsynced (record { from = start_of per g; len = page_bytes })) (sym on)
     (subst (λ (u : List Stretch). Avoids u (record { from = start_of per g; len = page_bytes })) (sym syncs.disk.1) tt)
 
--- no group lies there
+-- none of the groups lies on the volume
 pub not_there : (per v : ℕ) (groups : List GroupNo) (k : ℕ) (g : GroupNo) → lies_there per v groups ≡ false → slice_get groups k ≡ Some g → volume_of per g ≡ v → ⊥
 not_there per v groups k g none here on =
     let there = lies_among per v groups k g here (subst (λ (n : ℕ). lies_there per n (g ∷ []) ≡ true) on (lies_alone per g)) in

@@ -59,11 +59,11 @@ pub of_front : (Q : Queue) (by : MemberId) (at : ℕ) (cs : List Command) (es : 
 of_front Q by at cs es part =
     all_front (λ (e : Entry). (e.by ≡ by) × (e.step ≡ at)) es part.0 (subst (All (λ (e : Entry). (e.by ≡ by) × (e.step ≡ at))) part.1 (given_of by at cs Q))
 
--- are the member's
+-- the entries of a member's step are the member's
 pub own_by : (by i : MemberId) (at : ℕ) (es : List Entry) → i ≡ by → AreOf by at es → All (λ (e : Entry). e.by ≡ i) es
 own_by by i at es same of = All-weaker (λ (e : Entry). (e.by ≡ by) × (e.step ≡ at)) (λ (e : Entry). e.by ≡ i) (λ e it. it.0 ∙ sym same) es of
 
--- the queue once they are kept
+-- the queue once a batch of these entries is kept
 pub queue_next : (base base1 Q : Queue) (front batches : List Batch) (placed : Bool) (current : Option Batch) (now0 now1 : ℕ) (by : MemberId) (es : List Entry) → HasKept front (end_of placed current batches) (begun now0 by es) now1
     → placed ≡ false → current ≡ None → base1 ≡ base → Q ≡ run base (kept_all front) → run Q es ≡ run base1 (kept_all batches)
 queue_next base base1 Q front batches placed current now0 now1 by es k unplaced none same is =

@@ -27,7 +27,7 @@ module _ (Q : Queue) (by : MemberId) where
       least : (free : ℕ) → (free == 0) ≡ false → min want free ≡ n → (1 ≤ n) × (n ≤ want)
       least free e same = let there : 1 ≤ free = grind (arith, nat_tests) in (omega (arith, some, there, same), omega (arith, same))
 
-  -- the first Take, and those behind it
+  -- the first Take, and the Takes after it
   pub takes_more : (at times missing n : ℕ) → 1 ≤ missing → missing ≤ suc times → (step Q by (command.Take missing)).1 ≡ reply.Count n
       → given_in Q by at (takes (suc times) Q by missing) ≡ entry_of Q by at (command.Take missing) ∷ given_in (step Q by (command.Take missing)).0 by at (takes times (step Q by (command.Take missing)).0 by (missing - n))
   takes_more at times zero n some le is = absurd (omega (arith, some))

@@ -15,7 +15,7 @@ pub record IsKeptBatch (by : MemberId) (es : List Entry) (from now : ℕ) (b : B
   pub kept : b.fate ≡ Kept
   pub moments : (from ≤ b.first) × (b.first ≤ b.last) × (b.last ≤ now)
 
--- the same, in flight to the end
+-- the member's batch with these entries, begun from a moment on, and in flight to the end
 pub record IsFlyingBatch (by : MemberId) (es : List Entry) (from now : ℕ) (b : Batch) : Type 0 where
   pub by_it : b.by ≡ by
   pub entries : b.entries ≡ es
@@ -29,7 +29,7 @@ AreAll by from now [] (b ∷ bs) = ⊥
 AreAll by from now (es ∷ ess) [] = ⊥
 AreAll by from now (es ∷ ess) (b ∷ bs) = IsKeptBatch by es from now b × AreAll by b.last now ess bs
 
--- behind others come just these
+-- after the batches of the front come just those with these entries, each kept before the next began
 abbrev pub HasAll : MemberId → ℕ → ℕ → List (List Entry) → List Batch → List Batch → Type 0
 HasAll by from now ess front batches = (rest : List Batch) × (batches ≡ front ++ rest) × AreAll by from now ess rest
 
@@ -39,7 +39,7 @@ HasAll by from now ess front batches = (rest : List Batch) × (batches ≡ front
 abbrev pub IsFront : List Entry → List Entry → Type 0
 IsFront es all = (1 ≤ length es) × ((rest : List Entry) × (all ≡ es ++ rest))
 
--- the first ones, but not all
+-- the first entries of a batch, but not all
 abbrev pub IsCut : List Entry → List Entry → Type 0
 IsCut es all = (1 ≤ length es) × ((rest : List Entry) × (all ≡ es ++ rest) × (1 ≤ length rest))
 
@@ -49,24 +49,30 @@ AreSome by from now [] bs = ⊥
 AreSome by from now (es ∷ ess) [] = Unit {0}
 AreSome by from now (es ∷ ess) (b ∷ bs) = IsKeptBatch by es from now b × AreSome by b.last now ess bs
 
--- the first ones of them, but not all, and behind these perhaps a batch with the first entries of the next one
+-- the first batches of a step, but not all, and after them perhaps one with the first entries of the next batch
 abbrev pub AreCut : MemberId → ℕ → ℕ → List (List Entry) → List Batch → Type 0
 AreCut by from now [] bs = ⊥
 AreCut by from now (es ∷ ess) [] = Unit {0}
-AreCut by from now (es ∷ ess) (b ∷ bs) = ((bs ≡ []) × ((cut : List Entry) × IsCut cut es × IsKeptBatch by cut from now b)) ⊎ (IsKeptBatch by es from now b × AreCut by b.last now ess bs)
+AreCut by from now (es ∷ ess) (b ∷ bs) = ((bs ≡ [])
+    × ((cut : List Entry) × IsCut cut es × IsKeptBatch by cut from now b))
+    ⊎ (IsKeptBatch by es from now b × AreCut by b.last now ess bs)
 
--- the first ones of them, and behind these the next one in flight, or a batch with its first entries
+-- the first batches of a step, and after them the next one in flight, or a batch with its first entries
 abbrev pub OneFlies : MemberId → ℕ → ℕ → List (List Entry) → List Batch → Type 0
 OneFlies by from now [] bs = ⊥
 OneFlies by from now (es ∷ ess) [] = ⊥
-OneFlies by from now (es ∷ ess) (b ∷ bs) = ((bs ≡ []) × ((cut : List Entry) × IsFront cut es × IsFlyingBatch by cut from now b)) ⊎ (IsKeptBatch by es from now b × OneFlies by b.last now ess bs)
+OneFlies by from now (es ∷ ess) (b ∷ bs) = ((bs ≡ [])
+    × ((cut : List Entry) × IsFront cut es × IsFlyingBatch by cut from now b))
+    ⊎ (IsKeptBatch by es from now b × OneFlies by b.last now ess bs)
 
--- All are kept where the lines are said, or where the console failed at one. Where memory wanted not all were begun, and what was done of the
--- next one may be kept without the rest. Where both copies were lost one is in flight, perhaps with the first entries alone since memory
--- wanted before, or none was begun since; where the member was stopped it is one of these, or all are kept.
+-- All batches are kept where the lines are said, or where the console failed at one. Out of memory, not all were begun,
+-- and what was done of the next one may be kept without the rest. Where both copies were lost one is in flight, perhaps
+-- with the first entries alone since memory was out before, or none was begun since; where the member was stopped it is
+-- one of these, or all are kept.
 abbrev pub BatchesLeave : {T : Type 0} → Result T NodeNo → MemberId → ℕ → ℕ → List (List Entry) → List Batch → Type 0
 BatchesLeave (Ok done) by from now ess bs = AreAll by from now ess bs
 BatchesLeave (Err NoMemory) by from now ess bs = AreCut by from now ess bs
 BatchesLeave (Err BothLost) by from now ess bs = AreSome by from now ess bs ⊎ OneFlies by from now ess bs
 BatchesLeave (Err ConsoleFault) by from now ess bs = AreAll by from now ess bs
-BatchesLeave (Err Halted) by from now ess bs = AreSome by from now ess bs ⊎ OneFlies by from now ess bs ⊎ AreAll by from now ess bs
+BatchesLeave (Err Halted) by from now ess bs = AreSome by from now ess bs ⊎ OneFlies by from now ess bs
+    ⊎ AreAll by from now ess bs

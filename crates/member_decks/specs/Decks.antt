@@ -1,5 +1,5 @@
--- What a deck's step gives: Begin, then Take of what is still missing until the text's groups are there, and then Enter; or Drop of
--- the job after a refused Take, or where a volume of a group taken for it is lost.
+-- What a deck's step gives: Begin, then Take of what is still missing until the text's groups are there, and then
+-- Enter; or Drop of the job after a refused Take, or where a volume of a group taken for it is lost.
 use Rattle.std.specs.Prelude.{ℕ, zero, suc, ◌-◌, Bool, true, false, not, if◌then◌else◌, List, [], ◌∷◌, ◌++◌, reverse, Option, Some, None}
 use Rattle.std.specs.List.{find}
 use Rattle.std.specs.Option.{option_map_or}
@@ -32,8 +32,8 @@ abbrev pub left_after : ℕ → Reply → Option ℕ
 left_after missing (reply.Count n) = Some (missing - n)
 left_after missing _ = None
 
--- Take of what is missing, as often as needed, at most so many times, or up to one that is refused. Each that isn't refused takes
--- at least one, so as many times as groups are missing are enough.
+-- Take of what is missing, as often as needed, at most so many times, or up to one that is refused. Each that isn't
+-- refused takes at least one, so as many times as groups are missing are enough.
 abbrev pub takes : ℕ → Queue → MemberId → ℕ → List Command
 takes zero Q by missing = []
 takes (suc times) Q by zero = []
@@ -41,7 +41,7 @@ takes (suc times) Q by (suc missing) =
     let c = command.Take (suc missing) in
     c ∷ option_map_or (λ left. takes times (step Q by c).0 by left) (left_after (suc missing) (step Q by c).1) []
 
--- whether one of them is refused
+-- whether one of the Takes is refused
 abbrev pub are_refused : ℕ → Queue → MemberId → ℕ → Bool
 are_refused zero Q by missing = false
 are_refused (suc times) Q by zero = false
@@ -53,13 +53,14 @@ are_refused (suc times) Q by (suc missing) =
 
 -- the commands that follow Begin, by its reply
 abbrev pub behind_begin : Queue → MemberId → ℕ → Reply → List Command
-behind_begin Q by groups (reply.Job n) = takes groups Q by groups ++ (if are_refused groups Q by groups then command.Drop n ∷ [] else [])
+behind_begin Q by groups (reply.Job n) = takes groups Q by groups
+    ++ (if are_refused groups Q by groups then command.Drop n ∷ [] else [])
 behind_begin Q by groups _ = []
 
 abbrev pub opening : Queue → MemberId → JobFields → ℕ → List Command
 opening Q by fields groups = let c = command.Begin fields in c ∷ behind_begin (step Q by c).0 by groups (step Q by c).1
 
--- how it ends: with the groups of this job, or the step closes
+-- how a deck's first batch ends: with the groups of this job, or the step closes
 abbrev pub ends_begun : Queue → MemberId → ℕ → Reply → Opened
 ends_begun Q by groups (reply.Job n) = if are_refused groups Q by groups then opened.Closed else opened.Ready n
 ends_begun Q by groups _ = opened.Closed
@@ -85,7 +86,7 @@ deck_batches Q by at fields text lost =
     let first = given_in Q by at (opening Q by fields (groups_needed text)) in
     first ∷ batches_behind (run Q first) by at text lost (ends_as Q by fields (groups_needed text))
 
--- a step closes with the reply to its last command, but for Drop
+-- a step closes with the reply to its last command, except for Drop
 abbrev pub is_drop : Command → Bool
 is_drop (command.Drop n) = true
 is_drop _ = false
@@ -110,4 +111,5 @@ lines_by by at None answer = reply_lines by at answer
 lines_by by at (Some volume) answer = closing_line by at (closing.SpoolLost volume) ∷ []
 
 abbrev pub deck_lines : Queue → MemberId → ℕ → JobFields → List (List ℕ) → Option ℕ → List (List ℕ)
-deck_lines Q by at fields text lost = lines_by by at lost (closing_reply (all_entries (deck_batches Q by at fields text lost)))
+deck_lines Q by at fields text lost = lines_by by at lost
+    (closing_reply (all_entries (deck_batches Q by at fields text lost)))

@@ -30,15 +30,18 @@ CopyCauses (Err BothLost) by was1 is1 was2 is2 old new = IsBothLost is1 is2
 CopyCauses (Err Halted) by was1 is1 was2 is2 old new = IsLeft was1 is1 was2 is2 × Rose (old.stops by) (new.stops by)
 CopyCauses (Err ConsoleFault) by was1 is1 was2 is2 old new = ⊥
 
--- Acts on the copies: where content is told the volumes, the console and the printers are as they were, and no copy is lost by a call.
-pub record IsOnCopies {T : Type 0} (told : Type 0) (by : ℕ) (was1 is1 was2 is2 : Bool) (old new : View) (result : Result T NodeNo) : Type 0 where
+-- Acts on the copies: where content is told the volumes, the console and the printers are as they were, and no copy is
+-- lost by a call.
+pub record IsOnCopies {T : Type 0} (told : Type 0) (by : ℕ) (was1 is1 was2 is2 : Bool) (old new : View)
+    (result : Result T NodeNo) : Type 0 where
   pub course : Course was1 is1 was2 is2 old new
   pub loses : told → (d : Dev) → new.loses d ≡ old.loses d
   pub cause : CopyCauses result by was1 is1 was2 is2 old new
   pub spares : Spares by (stopped_in result) old new
   pub apart : told → Apart old new
 
--- the batch is kept, or in flight where both copies were lost or the member was stopped, or where memory wanted it isn't begun
+-- the batch is kept, or in flight where both copies were lost or the member was stopped; out of memory, it
+-- isn't begun
 abbrev pub KeepLeaves : {T : Type 0} → Result T NodeNo → List Batch → List Batch → Batch → ℕ → Type 0
 KeepLeaves (Ok done) front batches b now = HasKept front batches b now
 KeepLeaves (Err NoMemory) front batches b now = batches ≡ front
@@ -46,8 +49,8 @@ KeepLeaves (Err BothLost) front batches b now = HasFlying front batches b
 KeepLeaves (Err Halted) front batches b now = HasFlying front batches b
 KeepLeaves (Err ConsoleFault) front batches b now = ⊥
 
--- What was done before memory wanted, if anything, is kept, or in flight where both copies were lost or the member was stopped, or where
--- memory wanted for it too it isn't begun.
+-- What was done before memory was out, if anything, is kept, or in flight where both copies were lost or the member was
+-- stopped; out of memory for it too, it isn't begun.
 abbrev pub GivesUpLeaves : NodeNo → List Batch → List Batch → Batch → ℕ → Type 0
 GivesUpLeaves NoMemory front batches b now = (batches ≡ front) ⊎ ((1 ≤ length b.entries) × HasKept front batches b now)
 GivesUpLeaves BothLost front batches b now = (1 ≤ length b.entries) × HasFlying front batches b
@@ -55,13 +58,20 @@ GivesUpLeaves Halted front batches b now = (1 ≤ length b.entries) × HasFlying
 GivesUpLeaves ConsoleFault front batches b now = ⊥
 
 -- The last command of a deck's step, with a reply that is the command's where content is told.
-pub record IsFinish {T : Type 0} (told : Type 0) (by : MemberId) (at : ℕ) (n : JobNo) (text : List (List ℕ)) (lost : Option ℕ) (Q : Queue) (front batches : List Batch) (was1 is1 was2 is2 : Bool) (old new : View) (result : Result T NodeNo) : Type 0 where
+pub record IsFinish {T : Type 0} (told : Type 0) (by : MemberId) (at : ℕ) (n : JobNo) (text : List (List ℕ))
+    (lost : Option ℕ) (Q : Queue) (front batches : List Batch) (was1 is1 was2 is2 : Bool) (old new : View)
+    (result : Result T NodeNo) : Type 0 where
   pub reply : Reply
   pub is : told → reply ≡ reply_to Q by (finishing lost n text)
-  pub step : IsStep told by.0 (lines_by by at lost (closing_reply (entry_with by at (finishing lost n text) reply ∷ []))) (begun old.now by (entry_with by at (finishing lost n text) reply ∷ [])) front batches was1 is1 was2 is2 old new result
+  pub step : IsStep told by.0 (lines_by by at lost
+      (closing_reply (entry_with by at (finishing lost n text) reply ∷ [])))
+      (begun old.now by (entry_with by at (finishing lost n text) reply ∷ [])) front batches was1 is1 was2 is2 old new
+      result
 
 -- What follows the first batch of a deck's step whose job has its groups: at most one batch, with the last command.
-pub record IsRest {T : Type 0} (told : Type 0) (by : MemberId) (at per : ℕ) (n : JobNo) (text : List (List ℕ)) (Q : Queue) (front batches : List Batch) (was1 is1 was2 is2 : Bool) (old new : View) (result : Result T NodeNo) : Type 0 where
+pub record IsRest {T : Type 0} (told : Type 0) (by : MemberId) (at per : ℕ) (n : JobNo) (text : List (List ℕ))
+    (Q : Queue) (front batches : List Batch) (was1 is1 was2 is2 : Bool) (old new : View)
+    (result : Result T NodeNo) : Type 0 where
   pub lost : Option ℕ
   pub found : IsFoundLost lost old new
   pub reply : Reply
@@ -74,4 +84,7 @@ pub record IsRest {T : Type 0} (told : Type 0) (by : MemberId) (at per : ℕ) (n
   pub rest : List Batch
   pub batches_are : batches ≡ front ++ rest
   pub journal : BatchesLeave result by old.now new.now ((entry_with by at (finishing lost n text) reply ∷ []) ∷ []) rest
-  pub console : told → StepTells result (lines_by by at lost (closing_reply (entry_with by at (finishing lost n text) reply ∷ []))) (HasAll by old.now new.now ((entry_with by at (finishing lost n text) reply ∷ []) ∷ []) front batches) (console_now old) (console_now new)
+  pub console : told → StepTells result
+      (lines_by by at lost (closing_reply (entry_with by at (finishing lost n text) reply ∷ [])))
+      (HasAll by old.now new.now ((entry_with by at (finishing lost n text) reply ∷ []) ∷ []) front batches)
+      (console_now old) (console_now new)

@@ -28,7 +28,8 @@ page_in disks per g = slice (start_of per g) page_bytes (disks (volume_of per g)
 
 -- the pages at the places below this one stand in the groups at these places, synced or not
 abbrev pub StandBelow : ℕ → Spools → ℕ → List (List ℕ) → List GroupNo → Type 0
-StandBelow most disks per pages groups = (k : ℕ) (g : GroupNo) → k < most → slice_get groups k ≡ Some g → slice_get pages k ≡ Some (page_in disks per g)
+StandBelow most disks per pages groups = (k : ℕ) (g : GroupNo) → k < most → slice_get groups k ≡ Some g
+    → slice_get pages k ≡ Some (page_in disks per g)
 
 -- no byte of a volume differs, and what was synced still is
 pub record IsQuiet (old new : Disk) : Type 0 where
@@ -42,8 +43,8 @@ AreQuiet old new = (n : ℕ) → IsQuiet (old n) (new n)
 abbrev pub lies_there : ℕ → ℕ → List GroupNo → Bool
 lies_there per volume groups = list_any (λ g. volume_of per g == volume) groups
 
--- Acts of a member on spool volumes: no other part is lost, nobody else is stopped, nor the operator, and where content is told, the
--- copies, the console and at each moment the printers are as they were.
+-- Acts of a member on spool volumes: no other part is lost, nobody else is stopped, nor the operator, and where content
+-- is told, the copies, the console and at each moment the printers are as they were.
 pub record OnVolumes (told : Type 0) (by : ℕ) (old new : View) : Type 0 where
   pub goes : Goes old new
   pub else_lost : (p : Part) → ((n : ℕ) → p ≢ DiskPart (Spool n)) → new.lost p ≡ old.lost p
@@ -58,7 +59,9 @@ pub record OnVolumes (told : Type 0) (by : ℕ) (old new : View) : Type 0 where
 -- why it stopped: a volume on which a group lies failed and is lost, or the member was stopped. Else nobody was.
 abbrev pub SpoolCauses : {T : Type 0} → Result T SpoolError → ℕ → ℕ → List GroupNo → View → View → Type 0
 SpoolCauses (Ok done) by per groups old new = Spares by false old new
-SpoolCauses (Err (Lost v)) by per groups old new = (lies_there per v groups ≡ true) × (new.lost (DiskPart (Spool v)) ≡ true) × Rose (old.faults (DiskPart (Spool v))) (new.faults (DiskPart (Spool v))) × Spares by false old new
+SpoolCauses (Err (Lost v)) by per groups old new = (lies_there per v groups ≡ true)
+    × (new.lost (DiskPart (Spool v)) ≡ true) × Rose (old.faults (DiskPart (Spool v))) (new.faults (DiskPart (Spool v)))
+    × Spares by false old new
 SpoolCauses (Err Halted) by per groups old new = (0 < by) × Rose (old.stops by) (new.stops by) × Spares by true old new
 
 -- the answer of an act on a volume

@@ -34,28 +34,33 @@ opened_queue Q by at fields text = run Q (given_in Q by at (opening Q by fields 
 -- a volume that was found lost: it failed in the step, and is lost
 abbrev pub IsFoundLost : Option ℕ → View → View → Type 0
 IsFoundLost None old new = Unit {0}
-IsFoundLost (Some volume) old new = (new.lost (DiskPart (Spool volume)) ≡ true) × Rose (old.faults (DiskPart (Spool volume))) (new.faults (DiskPart (Spool volume)))
+IsFoundLost (Some volume) old new = (new.lost (DiskPart (Spool volume)) ≡ true)
+    × Rose (old.faults (DiskPart (Spool volume))) (new.faults (DiskPart (Spool volume)))
 
--- and one of the groups that a job got lies on it
+-- the volume that was found lost has one of the groups that a job got
 abbrev pub LiesOn : Opened → ℕ → Queue → MemberId → List (List ℕ) → Option ℕ → Type 0
 LiesOn ends per Q by text None = Unit {0}
 LiesOn opened.Closed per Q by text (Some volume) = ⊥
-LiesOn (opened.Ready n) per Q by text (Some volume) = lies_there per volume (take (groups_needed text) (held_by by Q.owners)) ≡ true
+LiesOn (opened.Ready n) per Q by text (Some volume) = lies_there per volume
+    (take (groups_needed text) (held_by by Q.owners)) ≡ true
 
 -- the entries are of this member's step
 abbrev pub AreOf : MemberId → ℕ → List Entry → Type 0
 AreOf by at es = All (λ e. (e.by ≡ by) × (e.step ≡ at)) es
 
 -- What a deck's step gives at a queue: its batches, and the lines with which it closes.
-pub record IsDeckOf (by : MemberId) (at per : ℕ) (Q : Queue) (fields : JobFields) (text : List (List ℕ)) (lost : Option ℕ) (gave : List (List Entry)) (lines : List (List ℕ)) : Type 0 where
+pub record IsDeckOf (by : MemberId) (at per : ℕ) (Q : Queue) (fields : JobFields) (text : List (List ℕ))
+    (lost : Option ℕ) (gave : List (List Entry)) (lines : List (List ℕ)) : Type 0 where
   pub lies : LiesOn (ends_as Q by fields (groups_needed text)) per (opened_queue Q by at fields text) by text lost
   pub batches : gave ≡ deck_batches Q by at fields text lost
   pub lines_are : lines ≡ deck_lines Q by at fields text lost
 
--- A deck's step, over a journal with these batches before it, from the queue Q on: at most two batches of entries of the step, whatever
--- their replies are, and the lines that a reply or a lost volume makes. Where content is told they are those that the deck gives at Q, and
--- nothing is printed.
-pub record IsDeckStep {T : Type 0} (told : Type 0) (by : MemberId) (at per : ℕ) (Q : Queue) (fields : JobFields) (text : List (List ℕ)) (front batches : List Batch) (was1 is1 was2 is2 : Bool) (old new : View) (result : Result T NodeNo) : Type 0 where
+-- A deck's step, over a journal with these batches before it, from the queue Q on: at most two batches of entries of
+-- the step, whatever their replies are, and the lines that a reply or a lost volume makes. Where content is told they
+-- are those that the deck gives at Q, and nothing is printed.
+pub record IsDeckStep {T : Type 0} (told : Type 0) (by : MemberId) (at per : ℕ) (Q : Queue) (fields : JobFields)
+    (text : List (List ℕ)) (front batches : List Batch) (was1 is1 was2 is2 : Bool) (old new : View)
+    (result : Result T NodeNo) : Type 0 where
   pub lost : Option ℕ
   pub found : IsFoundLost lost old new
   pub gave : List (List Entry)
@@ -72,17 +77,19 @@ pub record IsDeckStep {T : Type 0} (told : Type 0) (by : MemberId) (at per : ℕ
   pub rest : List Batch
   pub batches_are : batches ≡ front ++ rest
   pub journal : BatchesLeave result by old.now new.now gave rest
-  pub console : told → StepTells result lines (HasAll by old.now new.now gave front batches) (console_now old) (console_now new)
+  pub console : told → StepTells result lines (HasAll by old.now new.now gave front batches) (console_now old)
+      (console_now new)
 
--- Who holds the lock after an error, in a step that held it with this book: the member still, unless it was stopped amid acts on the
--- volumes, for which it had given the lock up.
+-- Who holds the lock after an error, in a step that held it with this book: the member still, unless it was stopped
+-- amid acts on the volumes, for which it had given the lock up.
 abbrev pub HoldsStill : NodeNo → MemberId → Book → Book → Type 0
 HoldsStill Halted by held is = (is ≡ held) ⊎ (is ≡ after_free held by true)
 HoldsStill BothLost by held is = is ≡ held
 HoldsStill ConsoleFault by held is = is ≡ held
 HoldsStill NoMemory by held is = is ≡ held
 
--- the same of a step that tries the lock itself, with this book before the try; memory may have wanted before
+-- the lock after an error in a step that tries it itself, with this book before the try; the step may be out of memory
+-- before it tries
 abbrev pub LeavesLock : NodeNo → MemberId → Book → Book → Type 0
 LeavesLock NoMemory by was is = (is ≡ was) ⊎ (is ≡ after_try was by false)
 LeavesLock BothLost by was is = is ≡ after_try was by false
@@ -93,7 +100,7 @@ LeavesLock Halted by was is = HoldsStill Halted by (after_try was by false) is
 abbrev pub orders_most : ℕ
 orders_most = 2 ^ 19
 
--- why acts beside the copies ended a step: memory wanted, or the member was stopped. Else nobody was.
+-- why acts beside the copies ended a step: out of memory, or the member was stopped. Else nobody was.
 abbrev pub SpoolStops : {T : Type 0} → Result T NodeNo → ℕ → View → View → Type 0
 SpoolStops (Ok done) by old new = Spares by false old new
 SpoolStops (Err NoMemory) by old new = Spares by false old new

@@ -36,7 +36,7 @@ fn closes(entry: &Entry) -> bool
     !matches!(entry.command, Command::Drop { .. })
 }
 
-// The last one of such.
+// The last of the entries with whose reply a step may close.
 fn last_closing(entries: &[Entry]) -> Option<&Entry>
     ensures { option_copied result ≡ find closes_lem (reverse entries.now) }
 {
@@ -89,8 +89,8 @@ pub fn finishing(job: JobNo, text: Lines, lost: Option<u8>) -> Command
 
 /// Keeps the member's batch, one of several of a step: nothing is said.
 ///
-/// BothLost comes only where both copies count as lost at the end of the call, Halted only where the member was stopped in it: the batch is
-/// in flight then. NoMemory leaves it unbegun.
+/// BothLost comes only where both copies count as lost at the end of the call, Halted only where the member was stopped
+/// in it: the batch is in flight then. NoMemory leaves it unbegun.
 pub fn keep_batch<P: Plant + Drop, C: Steady + Drop>(
     member: &mut Member,
     alloc: Global,
@@ -105,14 +105,23 @@ pub fn keep_batch<P: Plant + Drop, C: Steady + Drop>(
     requires draws { CanDraw member.old.checkpoint }
     requires fit { AreFit member.old.checkpoint.tables }
     requires same_level { P.tells → complex.old.level ≡ member.old.checkpoint.level }
-    requires done { P.tells → HasDone (run complex.old.base (kept_all complex.old.journal.batches)) member.old.batch member.old.checkpoint }
+    requires done { P.tells → HasDone (run complex.old.base (kept_all complex.old.journal.batches)) member.old.batch
+        member.old.checkpoint }
     requires small { complex.old.level + 1 < 2 ^ 63 }
-    requires rests1 { RestsAt P.tells complex.old.pair.first.alive complex.old.first (C.count complex.old.pair.first.copy) member.old.checkpoint.pages (C.reads (disk_now (P.view complex.old.plant) Ckpt1).bytes) }
-    requires rests2 { RestsAt P.tells complex.old.pair.second.alive complex.old.second (C.count complex.old.pair.second.copy) member.old.checkpoint.pages (C.reads (disk_now (P.view complex.old.plant) Ckpt2).bytes) }
+    requires rests1 { RestsAt P.tells complex.old.pair.first.alive complex.old.first
+        (C.count complex.old.pair.first.copy) member.old.checkpoint.pages
+        (C.reads (disk_now (P.view complex.old.plant) Ckpt1).bytes) }
+    requires rests2 { RestsAt P.tells complex.old.pair.second.alive complex.old.second
+        (C.count complex.old.pair.second.copy) member.old.checkpoint.pages
+        (C.reads (disk_now (P.view complex.old.plant) Ckpt2).bytes) }
     requires kept { AreAllKept complex.old.journal.batches (P.view complex.old.plant).now }
-    requires untold { P.tells → IsUntold (setting C.reads complex.old.base complex.old.since) (P.view complex.old.plant) member.old.batch }
-    requires allowed { P.tells → MayBegin complex.old.base complex.old.journal.batches complex.old.printed member.old.batch }
-    requires texts { P.tells → ∥ HasTexts (lost_now (P.view complex.old.plant)) (spools_at (P.view complex.old.plant) (P.view complex.old.plant).now) complex.old.base.config.groups (run complex.old.base (kept_all complex.old.journal.batches ++ member.old.batch)) ∥₁ }
+    requires untold { P.tells → IsUntold (setting C.reads complex.old.base complex.old.since) (P.view complex.old.plant)
+        member.old.batch }
+    requires allowed { P.tells → MayBegin complex.old.base complex.old.journal.batches complex.old.printed
+        member.old.batch }
+    requires texts { P.tells → ∥ HasTexts (lost_now (P.view complex.old.plant))
+        (spools_at (P.view complex.old.plant) (P.view complex.old.plant).now) complex.old.base.config.groups
+        (run complex.old.base (kept_all complex.old.journal.batches ++ member.old.batch)) ∥₁ }
     requires sound { P.tells → TellSound member.old.checkpoint.tables }
     requires level { member.old.checkpoint.level + 1 < 2 ^ 63 }
     requires room1 { complex.old.pair.first.alive ≡ true → 1 ≤ C.room complex.old.pair.first.copy }
@@ -124,15 +133,23 @@ pub fn keep_batch<P: Plant + Drop, C: Steady + Drop>(
     ensures room { member.new.room ≡ member.old.room }
     ensures here { member.new.behind ≡ false }
     ensures tables { member.new.checkpoint.tables ≡ member.old.checkpoint.tables }
-    ensures acts { IsOnCopies P.tells member.old.id.0 complex.old.pair.first.alive complex.new.pair.first.alive complex.old.pair.second.alive complex.new.pair.second.alive
-        (P.view complex.old.plant) (P.view complex.new.plant) result }
-    ensures leaves { KeepLeaves result complex.old.journal.batches (end_of complex.new.placed complex.new.current complex.new.journal.batches)
+    ensures acts { IsOnCopies P.tells member.old.id.0 complex.old.pair.first.alive complex.new.pair.first.alive
+        complex.old.pair.second.alive complex.new.pair.second.alive (P.view complex.old.plant)
+        (P.view complex.new.plant) result }
+    ensures leaves { KeepLeaves result complex.old.journal.batches
+        (end_of complex.new.placed complex.new.current complex.new.journal.batches)
         (begun (P.view complex.old.plant).now member.old.id member.old.batch) (P.view complex.new.plant).now }
-    ensures printed { OnOk result (complex.new.printed ≡ printed_after member.old.id member.old.batch complex.old.printed) }
+    ensures printed { OnOk result (complex.new.printed
+        ≡ printed_after member.old.id member.old.batch complex.old.printed) }
     ensures unreserved { OnOk result (complex.new.reserved ≡ None) }
-    ensures between { OnOk result (IsBetween P.tells complex.new.base complex.new.journal.batches complex.new.current complex.new.placed complex.new.level member.new.batch member.new.checkpoint) }
-    ensures rests1 { OnOk result (RestsAt P.tells complex.new.pair.first.alive complex.new.first (C.count complex.new.pair.first.copy) member.new.checkpoint.pages (C.reads (disk_now (P.view complex.new.plant) Ckpt1).bytes)) }
-    ensures rests2 { OnOk result (RestsAt P.tells complex.new.pair.second.alive complex.new.second (C.count complex.new.pair.second.copy) member.new.checkpoint.pages (C.reads (disk_now (P.view complex.new.plant) Ckpt2).bytes)) }
+    ensures between { OnOk result (IsBetween P.tells complex.new.base complex.new.journal.batches complex.new.current
+        complex.new.placed complex.new.level member.new.batch member.new.checkpoint) }
+    ensures rests1 { OnOk result (RestsAt P.tells complex.new.pair.first.alive complex.new.first
+        (C.count complex.new.pair.first.copy) member.new.checkpoint.pages
+        (C.reads (disk_now (P.view complex.new.plant) Ckpt1).bytes)) }
+    ensures rests2 { OnOk result (RestsAt P.tells complex.new.pair.second.alive complex.new.second
+        (C.count complex.new.pair.second.copy) member.new.checkpoint.pages
+        (C.reads (disk_now (P.view complex.new.plant) Ckpt2).bytes)) }
     ensures kept { OnOk result (AreAllKept complex.new.journal.batches (P.view complex.new.plant).now) }
     ensures level { OnOk result (member.new.checkpoint.level ≤ member.old.checkpoint.level + 1) }
     ensures reached { OnOk result (complex.new.level ≤ complex.old.level + 1) }
@@ -144,7 +161,8 @@ pub fn keep_batch<P: Plant + Drop, C: Steady + Drop>(
     Ok(())
 }
 
-/// Ends a step in which memory wanted: what was done before is kept, where there is memory for that. Answers how the step ends.
+/// Ends a step that is out of memory: what was done before is kept, if there is memory for that. Answers how the
+/// step ends.
 pub fn give_up<P: Plant + Drop, C: Steady + Drop>(
     member: &mut Member,
     alloc: Global,
@@ -158,14 +176,23 @@ pub fn give_up<P: Plant + Drop, C: Steady + Drop>(
     requires draws { CanDraw member.old.checkpoint }
     requires fit { AreFit member.old.checkpoint.tables }
     requires same_level { P.tells → complex.old.level ≡ member.old.checkpoint.level }
-    requires done { P.tells → HasDone (run complex.old.base (kept_all complex.old.journal.batches)) member.old.batch member.old.checkpoint }
+    requires done { P.tells → HasDone (run complex.old.base (kept_all complex.old.journal.batches)) member.old.batch
+        member.old.checkpoint }
     requires small { complex.old.level + 1 < 2 ^ 63 }
-    requires rests1 { RestsAt P.tells complex.old.pair.first.alive complex.old.first (C.count complex.old.pair.first.copy) member.old.checkpoint.pages (C.reads (disk_now (P.view complex.old.plant) Ckpt1).bytes) }
-    requires rests2 { RestsAt P.tells complex.old.pair.second.alive complex.old.second (C.count complex.old.pair.second.copy) member.old.checkpoint.pages (C.reads (disk_now (P.view complex.old.plant) Ckpt2).bytes) }
+    requires rests1 { RestsAt P.tells complex.old.pair.first.alive complex.old.first
+        (C.count complex.old.pair.first.copy) member.old.checkpoint.pages
+        (C.reads (disk_now (P.view complex.old.plant) Ckpt1).bytes) }
+    requires rests2 { RestsAt P.tells complex.old.pair.second.alive complex.old.second
+        (C.count complex.old.pair.second.copy) member.old.checkpoint.pages
+        (C.reads (disk_now (P.view complex.old.plant) Ckpt2).bytes) }
     requires kept { AreAllKept complex.old.journal.batches (P.view complex.old.plant).now }
-    requires untold { P.tells → IsUntold (setting C.reads complex.old.base complex.old.since) (P.view complex.old.plant) member.old.batch }
-    requires allowed { P.tells → MayBegin complex.old.base complex.old.journal.batches complex.old.printed member.old.batch }
-    requires texts { P.tells → ∥ HasTexts (lost_now (P.view complex.old.plant)) (spools_at (P.view complex.old.plant) (P.view complex.old.plant).now) complex.old.base.config.groups (run complex.old.base (kept_all complex.old.journal.batches ++ member.old.batch)) ∥₁ }
+    requires untold { P.tells → IsUntold (setting C.reads complex.old.base complex.old.since) (P.view complex.old.plant)
+        member.old.batch }
+    requires allowed { P.tells → MayBegin complex.old.base complex.old.journal.batches complex.old.printed
+        member.old.batch }
+    requires texts { P.tells → ∥ HasTexts (lost_now (P.view complex.old.plant))
+        (spools_at (P.view complex.old.plant) (P.view complex.old.plant).now) complex.old.base.config.groups
+        (run complex.old.base (kept_all complex.old.journal.batches ++ member.old.batch)) ∥₁ }
     requires sound { P.tells → TellSound member.old.checkpoint.tables }
     requires level { member.old.checkpoint.level + 1 < 2 ^ 63 }
     requires room1 { complex.old.pair.first.alive ≡ true → 1 ≤ C.room complex.old.pair.first.copy }
@@ -174,9 +201,11 @@ pub fn give_up<P: Plant + Drop, C: Steady + Drop>(
     ensures since { complex.new.since ≡ complex.old.since }
     ensures book { complex.new.book ≡ complex.old.book }
     ensures id { member.new.id ≡ member.old.id }
-    ensures acts { IsOnCopies {T = Unit {0}} P.tells member.old.id.0 complex.old.pair.first.alive complex.new.pair.first.alive complex.old.pair.second.alive complex.new.pair.second.alive
+    ensures acts { IsOnCopies {T = Unit {0}} P.tells member.old.id.0 complex.old.pair.first.alive
+        complex.new.pair.first.alive complex.old.pair.second.alive complex.new.pair.second.alive
         (P.view complex.old.plant) (P.view complex.new.plant) (Err result) }
-    ensures leaves { GivesUpLeaves result complex.old.journal.batches (end_of complex.new.placed complex.new.current complex.new.journal.batches)
+    ensures leaves { GivesUpLeaves result complex.old.journal.batches
+        (end_of complex.new.placed complex.new.current complex.new.journal.batches)
         (begun (P.view complex.old.plant).now member.old.id member.old.batch) (P.view complex.new.plant).now }
 {
     if member.batch.len() == 0 {
@@ -207,14 +236,23 @@ pub(crate) fn close_deck<P: Plant + Drop, C: Steady + Drop>(
     requires draws { CanDraw member.old.checkpoint }
     requires fit { AreFit member.old.checkpoint.tables }
     requires same_level { P.tells → complex.old.level ≡ member.old.checkpoint.level }
-    requires done { P.tells → HasDone (run complex.old.base (kept_all complex.old.journal.batches)) member.old.batch member.old.checkpoint }
+    requires done { P.tells → HasDone (run complex.old.base (kept_all complex.old.journal.batches)) member.old.batch
+        member.old.checkpoint }
     requires small { complex.old.level + 1 < 2 ^ 63 }
-    requires rests1 { RestsAt P.tells complex.old.pair.first.alive complex.old.first (C.count complex.old.pair.first.copy) member.old.checkpoint.pages (C.reads (disk_now (P.view complex.old.plant) Ckpt1).bytes) }
-    requires rests2 { RestsAt P.tells complex.old.pair.second.alive complex.old.second (C.count complex.old.pair.second.copy) member.old.checkpoint.pages (C.reads (disk_now (P.view complex.old.plant) Ckpt2).bytes) }
+    requires rests1 { RestsAt P.tells complex.old.pair.first.alive complex.old.first
+        (C.count complex.old.pair.first.copy) member.old.checkpoint.pages
+        (C.reads (disk_now (P.view complex.old.plant) Ckpt1).bytes) }
+    requires rests2 { RestsAt P.tells complex.old.pair.second.alive complex.old.second
+        (C.count complex.old.pair.second.copy) member.old.checkpoint.pages
+        (C.reads (disk_now (P.view complex.old.plant) Ckpt2).bytes) }
     requires kept { AreAllKept complex.old.journal.batches (P.view complex.old.plant).now }
-    requires untold { P.tells → IsUntold (setting C.reads complex.old.base complex.old.since) (P.view complex.old.plant) member.old.batch }
-    requires allowed { P.tells → MayBegin complex.old.base complex.old.journal.batches complex.old.printed member.old.batch }
-    requires texts { P.tells → ∥ HasTexts (lost_now (P.view complex.old.plant)) (spools_at (P.view complex.old.plant) (P.view complex.old.plant).now) complex.old.base.config.groups (run complex.old.base (kept_all complex.old.journal.batches ++ member.old.batch)) ∥₁ }
+    requires untold { P.tells → IsUntold (setting C.reads complex.old.base complex.old.since) (P.view complex.old.plant)
+        member.old.batch }
+    requires allowed { P.tells → MayBegin complex.old.base complex.old.journal.batches complex.old.printed
+        member.old.batch }
+    requires texts { P.tells → ∥ HasTexts (lost_now (P.view complex.old.plant))
+        (spools_at (P.view complex.old.plant) (P.view complex.old.plant).now) complex.old.base.config.groups
+        (run complex.old.base (kept_all complex.old.journal.batches ++ member.old.batch)) ∥₁ }
     requires sound { P.tells → TellSound member.old.checkpoint.tables }
     requires level { member.old.checkpoint.level + 1 < 2 ^ 63 }
     requires room1 { complex.old.pair.first.alive ≡ true → 1 ≤ C.room complex.old.pair.first.copy }
@@ -226,14 +264,20 @@ pub(crate) fn close_deck<P: Plant + Drop, C: Steady + Drop>(
     ensures room { member.new.room ≡ member.old.room }
     ensures here { member.new.behind ≡ false }
     ensures tables { member.new.checkpoint.tables ≡ member.old.checkpoint.tables }
-    ensures step { IsStep P.tells member.old.id.0 (lines_by member.old.id step lost (closing_reply member.old.batch)) (begun (P.view complex.old.plant).now member.old.id member.old.batch)
-        complex.old.journal.batches (end_of complex.new.placed complex.new.current complex.new.journal.batches)
-        complex.old.pair.first.alive complex.new.pair.first.alive complex.old.pair.second.alive complex.new.pair.second.alive
+    ensures step { IsStep P.tells member.old.id.0 (lines_by member.old.id step lost (closing_reply member.old.batch))
+        (begun (P.view complex.old.plant).now member.old.id member.old.batch) complex.old.journal.batches
+        (end_of complex.new.placed complex.new.current complex.new.journal.batches) complex.old.pair.first.alive
+        complex.new.pair.first.alive complex.old.pair.second.alive complex.new.pair.second.alive
         (P.view complex.old.plant) (P.view complex.new.plant) result }
     ensures unreserved { OnOk result (complex.new.reserved ≡ None) }
-    ensures between { OnOk result (IsBetween P.tells complex.new.base complex.new.journal.batches complex.new.current complex.new.placed complex.new.level member.new.batch member.new.checkpoint) }
-    ensures rests1 { OnOk result (RestsAt P.tells complex.new.pair.first.alive complex.new.first (C.count complex.new.pair.first.copy) member.new.checkpoint.pages (C.reads (disk_now (P.view complex.new.plant) Ckpt1).bytes)) }
-    ensures rests2 { OnOk result (RestsAt P.tells complex.new.pair.second.alive complex.new.second (C.count complex.new.pair.second.copy) member.new.checkpoint.pages (C.reads (disk_now (P.view complex.new.plant) Ckpt2).bytes)) }
+    ensures between { OnOk result (IsBetween P.tells complex.new.base complex.new.journal.batches complex.new.current
+        complex.new.placed complex.new.level member.new.batch member.new.checkpoint) }
+    ensures rests1 { OnOk result (RestsAt P.tells complex.new.pair.first.alive complex.new.first
+        (C.count complex.new.pair.first.copy) member.new.checkpoint.pages
+        (C.reads (disk_now (P.view complex.new.plant) Ckpt1).bytes)) }
+    ensures rests2 { OnOk result (RestsAt P.tells complex.new.pair.second.alive complex.new.second
+        (C.count complex.new.pair.second.copy) member.new.checkpoint.pages
+        (C.reads (disk_now (P.view complex.new.plant) Ckpt2).bytes)) }
     ensures kept { OnOk result (AreAllKept complex.new.journal.batches (P.view complex.new.plant).now) }
     ensures level { OnOk result (member.new.checkpoint.level ≤ member.old.checkpoint.level + 1) }
     ensures reached { OnOk result (complex.new.level ≤ complex.old.level + 1) }

@@ -26,8 +26,8 @@ pub enum Opened {
     Ready(JobNo),
 }
 
-/// Takes what is missing of the groups for a text, as often as needed; false where a Take is refused. Each command is done on the
-/// member's tables and has its entry in the batch. No text is touched.
+/// Takes what is missing of the groups for a text, as often as needed; false where a Take is refused. Each command is
+/// done on the member's tables and has its entry in the batch. No text is touched.
 ///
 /// After NoMemory the tables and the batch have the Takes that were done before.
 pub fn take_groups(
@@ -50,10 +50,14 @@ pub fn take_groups(
     ensures levels { member.new.checkpoint.levels ≡ member.old.checkpoint.levels }
     ensures pages { member.new.checkpoint.pages ≡ member.old.checkpoint.pages }
     ensures taking { (Q : Queue) (times : ℕ) → missing ≤ times → Tell member.old.checkpoint.tables Q
-        → IsTaking Q member.old.id step times missing member.old.checkpoint.tables member.new.checkpoint.tables member.old.batch member.new.batch result }
-    ensures all { IfOk result (λ all. (Q : Queue) (times : ℕ) → missing ≤ times → Tell member.old.checkpoint.tables Q → all ≡ not (are_refused times Q member.old.id missing)) }
-    ensures named { All (λ e. IsReplyNamed e.reply) member.old.batch → All (λ e. IsReplyNamed e.reply) member.new.batch }
-    ensures done { (Q : Queue) → HasDone Q member.old.batch member.old.checkpoint → HasDone Q member.new.batch member.new.checkpoint }
+        → IsTaking Q member.old.id step times missing member.old.checkpoint.tables member.new.checkpoint.tables
+        member.old.batch member.new.batch result }
+    ensures all { IfOk result (λ all. (Q : Queue) (times : ℕ) → missing ≤ times → Tell member.old.checkpoint.tables Q
+        → all ≡ not (are_refused times Q member.old.id missing)) }
+    ensures named { All (λ e. IsReplyNamed e.reply) member.old.batch
+        → All (λ e. IsReplyNamed e.reply) member.new.batch }
+    ensures done { (Q : Queue) → HasDone Q member.old.batch member.old.checkpoint
+        → HasDone Q member.new.batch member.new.checkpoint }
     ensures sound { TellSound member.old.checkpoint.tables → TellSound member.new.checkpoint.tables }
     ensures spelling { HasSpelling member.new.checkpoint.tables }
     ensures fit { AreFit member.new.checkpoint.tables }
@@ -74,8 +78,8 @@ pub fn take_groups(
     }
 }
 
-/// Begins a job and takes so many groups for its text; after a refused Take the job is dropped. Each command is done on the member's
-/// tables and has its entry in the batch, which was empty.
+/// Begins a job and takes so many groups for its text; after a refused Take the job is dropped. Each command is done on
+/// the member's tables and has its entry in the batch, which was empty.
 ///
 /// After NoMemory the tables and the batch have the commands that were done before.
 pub fn open_deck(
@@ -100,8 +104,11 @@ pub fn open_deck(
     ensures level { member.new.checkpoint.level ≡ member.old.checkpoint.level }
     ensures levels { member.new.checkpoint.levels ≡ member.old.checkpoint.levels }
     ensures pages { member.new.checkpoint.pages ≡ member.old.checkpoint.pages }
-    ensures opening { (Q : Queue) → Tell member.old.checkpoint.tables Q → IsOpening Q member.old.id step groups fields member.old.checkpoint.tables member.new.checkpoint.tables member.new.batch result }
-    ensures opened { IfOk result (λ opened. (Q : Queue) → Tell member.old.checkpoint.tables Q → opened ≡ ends_as Q member.old.id fields groups) }
+    ensures opening { (Q : Queue) → Tell member.old.checkpoint.tables Q
+        → IsOpening Q member.old.id step groups fields member.old.checkpoint.tables member.new.checkpoint.tables
+        member.new.batch result }
+    ensures opened { IfOk result (λ opened. (Q : Queue) → Tell member.old.checkpoint.tables Q
+        → opened ≡ ends_as Q member.old.id fields groups) }
     ensures named { All (λ e. IsReplyNamed e.reply) member.new.batch }
     ensures done { (Q : Queue) → HasDone Q [] member.old.checkpoint → HasDone Q member.new.batch member.new.checkpoint }
     ensures sound { TellSound member.old.checkpoint.tables → TellSound member.new.checkpoint.tables }

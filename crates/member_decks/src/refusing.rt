@@ -17,7 +17,8 @@ use member_steps::tell_lines;
 use spool_disk::Plant;
 use std::alloc::Global;
 
-/// Closes a member's step that gives no command and makes no try of the lock: its line says how it closes, and nothing else is done.
+/// Closes a member's step that gives no command and makes no try of the lock: its line says how it closes, and nothing
+/// else is done.
 pub fn refuse<P: Plant + Drop, C: Steady + Drop>(
     member: &Member,
     alloc: Global,
@@ -43,10 +44,12 @@ pub fn refuse<P: Plant + Drop, C: Steady + Drop>(
     ensures second { complex.new.second ≡ complex.old.second }
     ensures level { complex.new.level ≡ complex.old.level }
     ensures later { (P.view complex.old.plant).now ≤ (P.view complex.new.plant).now }
-    ensures disks { P.tells → (d : Dev) → disk_now (P.view complex.new.plant) d ≡ disk_now (P.view complex.old.plant) d }
-    ensures denial { IsDenial P.tells member.now.id.0 (closing_line member.now.id step end.now ∷ []) complex.old.journal.batches (end_of complex.new.placed complex.new.current complex.new.journal.batches)
-        complex.old.pair.first.alive complex.new.pair.first.alive complex.old.pair.second.alive complex.new.pair.second.alive
-        (P.view complex.old.plant) (P.view complex.new.plant) result }
+    ensures disks { P.tells → (d : Dev)
+        → disk_now (P.view complex.new.plant) d ≡ disk_now (P.view complex.old.plant) d }
+    ensures denial { IsDenial P.tells member.now.id.0 (closing_line member.now.id step end.now ∷ [])
+        complex.old.journal.batches (end_of complex.new.placed complex.new.current complex.new.journal.batches)
+        complex.old.pair.first.alive complex.new.pair.first.alive complex.old.pair.second.alive
+        complex.new.pair.second.alive (P.view complex.old.plant) (P.view complex.new.plant) result }
 {
     let Ok(lines) = one_line(alloc, member.id, step, end) else {
         return Err(NodeNo::NoMemory);

@@ -82,9 +82,16 @@ fn write_page<P: Plant + Drop, C: Steady + Drop>(
     ensures pair { complex.new.pair ≡ complex.old.pair }
     ensures frame { parts_of complex.new ≡ record (parts_of complex.old) { plant = complex.new.plant } }
     ensures acts { OnVolumes P.tells by.0 (P.view complex.old.plant) (P.view complex.new.plant) }
-    ensures cause { SpoolCauses result by.0 complex.old.base.config.groups (group ∷ []) (P.view complex.old.plant) (P.view complex.new.plant) }
-    ensures stands { OnOk result (P.tells → AreRoomy (P.view complex.old.plant) complex.old.base.config → slice_get (packed text.now) place ≡ Some (page_in (spools_at (P.view complex.new.plant) (P.view complex.new.plant).now) complex.old.base.config.groups group)) }
-    ensures spares { P.tells → (h : GroupNo) → h.0 ≢ group.0 → page_in (spools_at (P.view complex.new.plant) (P.view complex.new.plant).now) complex.old.base.config.groups h ≡ page_in (spools_at (P.view complex.old.plant) (P.view complex.old.plant).now) complex.old.base.config.groups h }
+    ensures cause { SpoolCauses result by.0 complex.old.base.config.groups (group ∷ []) (P.view complex.old.plant)
+        (P.view complex.new.plant) }
+    ensures stands { OnOk result (P.tells → AreRoomy (P.view complex.old.plant) complex.old.base.config
+        → slice_get (packed text.now) place
+        ≡ Some (page_in (spools_at (P.view complex.new.plant) (P.view complex.new.plant).now)
+        complex.old.base.config.groups group)) }
+    ensures spares { P.tells → (h : GroupNo) → h.0 ≢ group.0
+        → page_in (spools_at (P.view complex.new.plant) (P.view complex.new.plant).now) complex.old.base.config.groups h
+        ≡ page_in (spools_at (P.view complex.old.plant) (P.view complex.old.plant).now) complex.old.base.config.groups
+        h }
 {
     law_of_groups();
     let mut page = Page([0; 4096]);
@@ -94,8 +101,8 @@ fn write_page<P: Plant + Drop, C: Steady + Drop>(
     answer(complex.spool_write(by, group, &page), volume)
 }
 
-/// Writes each page of a text into the group at its place, a group of the member: once this is done each stands there, synced or not, and
-/// other groups hold what they held.
+/// Writes each page of a text into the group at its place, a group of the member: once this is done each stands there,
+/// synced or not, and other groups hold what they held.
 pub fn write_pages<P: Plant + Drop, C: Steady + Drop>(
     complex: &mut Complex<P, C>,
     by: MemberId,
@@ -109,13 +116,20 @@ pub fn write_pages<P: Plant + Drop, C: Steady + Drop>(
     requires as_many { length groups.now ≡ groups_needed text.now }
     requires rise { Rise groups.now }
     requires within { All (IsGroupOf complex.old.base.config) groups.now }
-    requires held { P.tells → All (λ g. IsHeldBy by g (run complex.old.base (kept_all complex.old.journal.batches))) groups.now }
+    requires held { P.tells → All (λ g. IsHeldBy by g (run complex.old.base (kept_all complex.old.journal.batches)))
+        groups.now }
     ensures pair { complex.new.pair ≡ complex.old.pair }
     ensures frame { parts_of complex.new ≡ record (parts_of complex.old) { plant = complex.new.plant } }
     ensures acts { OnVolumes P.tells by.0 (P.view complex.old.plant) (P.view complex.new.plant) }
-    ensures cause { SpoolCauses result by.0 complex.old.base.config.groups groups.now (P.view complex.old.plant) (P.view complex.new.plant) }
-    ensures stand { OnOk result (P.tells → AreRoomy (P.view complex.old.plant) complex.old.base.config → StandBelow (length groups.now) (spools_at (P.view complex.new.plant) (P.view complex.new.plant).now) complex.old.base.config.groups (packed text.now) groups.now) }
-    ensures spares { P.tells → (h : GroupNo) → All (λ g. h.0 ≢ g.0) groups.now → page_in (spools_at (P.view complex.new.plant) (P.view complex.new.plant).now) complex.old.base.config.groups h ≡ page_in (spools_at (P.view complex.old.plant) (P.view complex.old.plant).now) complex.old.base.config.groups h }
+    ensures cause { SpoolCauses result by.0 complex.old.base.config.groups groups.now (P.view complex.old.plant)
+        (P.view complex.new.plant) }
+    ensures stand { OnOk result (P.tells → AreRoomy (P.view complex.old.plant) complex.old.base.config
+        → StandBelow (length groups.now) (spools_at (P.view complex.new.plant) (P.view complex.new.plant).now)
+        complex.old.base.config.groups (packed text.now) groups.now) }
+    ensures spares { P.tells → (h : GroupNo) → All (λ g. h.0 ≢ g.0) groups.now
+        → page_in (spools_at (P.view complex.new.plant) (P.view complex.new.plant).now) complex.old.base.config.groups h
+        ≡ page_in (spools_at (P.view complex.old.plant) (P.view complex.old.plant).now) complex.old.base.config.groups
+        h }
 {
     for place in 0..groups.len() {
         write_page(complex, by, group_at(groups, place), text, place as u32)?;
@@ -136,9 +150,14 @@ fn sync_volume<P: Plant + Drop, C: Steady + Drop>(
     ensures pair { complex.new.pair ≡ complex.old.pair }
     ensures frame { parts_of complex.new ≡ record (parts_of complex.old) { plant = complex.new.plant } }
     ensures acts { OnVolumes P.tells by.0 (P.view complex.old.plant) (P.view complex.new.plant) }
-    ensures cause { SpoolCauses result by.0 complex.old.base.config.groups groups.now (P.view complex.old.plant) (P.view complex.new.plant) }
-    ensures synced { OnOk result (P.tells → (k : ℕ) (g : GroupNo) → slice_get groups.now k ≡ Some g → volume_of_lem complex.old.base.config.groups g ≡ volume → IsSynced (spools_at (P.view complex.new.plant) (P.view complex.new.plant).now) complex.old.base.config.groups g) }
-    ensures quiet { P.tells → AreQuiet (spools_at (P.view complex.old.plant) (P.view complex.old.plant).now) (spools_at (P.view complex.new.plant) (P.view complex.new.plant).now) }
+    ensures cause { SpoolCauses result by.0 complex.old.base.config.groups groups.now (P.view complex.old.plant)
+        (P.view complex.new.plant) }
+    ensures synced { OnOk result (P.tells → (k : ℕ) (g : GroupNo) → slice_get groups.now k ≡ Some g
+        → volume_of_lem complex.old.base.config.groups g ≡ volume
+        → IsSynced (spools_at (P.view complex.new.plant) (P.view complex.new.plant).now) complex.old.base.config.groups
+        g) }
+    ensures quiet { P.tells → AreQuiet (spools_at (P.view complex.old.plant) (P.view complex.old.plant).now)
+        (spools_at (P.view complex.new.plant) (P.view complex.new.plant).now) }
 {
     if !lies_there(complex.base.config.groups as u32, volume, groups) {
         return Ok(());
@@ -158,9 +177,13 @@ pub fn sync_volumes<P: Plant + Drop, C: Steady + Drop>(
     ensures pair { complex.new.pair ≡ complex.old.pair }
     ensures frame { parts_of complex.new ≡ record (parts_of complex.old) { plant = complex.new.plant } }
     ensures acts { OnVolumes P.tells by.0 (P.view complex.old.plant) (P.view complex.new.plant) }
-    ensures cause { SpoolCauses result by.0 complex.old.base.config.groups groups.now (P.view complex.old.plant) (P.view complex.new.plant) }
-    ensures synced { OnOk result (P.tells → All (IsSynced (spools_at (P.view complex.new.plant) (P.view complex.new.plant).now) complex.old.base.config.groups) groups.now) }
-    ensures quiet { P.tells → AreQuiet (spools_at (P.view complex.old.plant) (P.view complex.old.plant).now) (spools_at (P.view complex.new.plant) (P.view complex.new.plant).now) }
+    ensures cause { SpoolCauses result by.0 complex.old.base.config.groups groups.now (P.view complex.old.plant)
+        (P.view complex.new.plant) }
+    ensures synced { OnOk result (P.tells
+        → All (IsSynced (spools_at (P.view complex.new.plant) (P.view complex.new.plant).now)
+        complex.old.base.config.groups) groups.now) }
+    ensures quiet { P.tells → AreQuiet (spools_at (P.view complex.old.plant) (P.view complex.old.plant).now)
+        (spools_at (P.view complex.new.plant) (P.view complex.new.plant).now) }
 {
     for before in 0..complex.base.config.volumes {
         sync_volume(complex, by, groups, before + 1)?;
@@ -168,11 +191,12 @@ pub fn sync_volumes<P: Plant + Drop, C: Steady + Drop>(
     Ok(())
 }
 
-/// Writes a text into groups of the member, of which there are as many as it needs, in their order, and syncs the volumes on which they
-/// lie. It needs no lock: no text of a deck or an output stands in a group of a member. Once this is done the text stands in the groups,
-/// all of it synced.
+/// Writes a text into groups of the member, of which there are as many as it needs, in their order, and syncs the
+/// volumes on which they lie. It needs no lock: no text of a deck or an output stands in a group of a member. Once this
+/// is done the text stands in the groups, all of it synced.
 ///
-/// Lost comes only where the faults of a volume rose on which one of the groups lies, Halted only where the member was stopped.
+/// Lost comes only where the faults of a volume rose on which one of the groups lies, Halted only where the member was
+/// stopped.
 pub fn spool_text<P: Plant + Drop, C: Steady + Drop>(
     complex: &mut Complex<P, C>,
     by: MemberId,
@@ -187,12 +211,16 @@ pub fn spool_text<P: Plant + Drop, C: Steady + Drop>(
     requires rise { Rise groups.now }
     requires some { 1 ≤ complex.old.base.config.groups }
     requires within { All (IsGroupOf complex.old.base.config) groups.now }
-    requires held { P.tells → All (λ g. IsHeldBy by g (run complex.old.base (kept_all complex.old.journal.batches))) groups.now }
+    requires held { P.tells → All (λ g. IsHeldBy by g (run complex.old.base (kept_all complex.old.journal.batches)))
+        groups.now }
     ensures pair { complex.new.pair ≡ complex.old.pair }
     ensures frame { parts_of complex.new ≡ record (parts_of complex.old) { plant = complex.new.plant } }
     ensures acts { OnVolumes P.tells by.0 (P.view complex.old.plant) (P.view complex.new.plant) }
-    ensures cause { SpoolCauses result by.0 complex.old.base.config.groups groups.now (P.view complex.old.plant) (P.view complex.new.plant) }
-    ensures there { OnOk result (P.tells → AreRoomy (P.view complex.old.plant) complex.old.base.config → IsThere (spools_at (P.view complex.new.plant) (P.view complex.new.plant).now) complex.old.base.config.groups (Whole text.now) groups.now) }
+    ensures cause { SpoolCauses result by.0 complex.old.base.config.groups groups.now (P.view complex.old.plant)
+        (P.view complex.new.plant) }
+    ensures there { OnOk result (P.tells → AreRoomy (P.view complex.old.plant) complex.old.base.config
+        → IsThere (spools_at (P.view complex.new.plant) (P.view complex.new.plant).now) complex.old.base.config.groups
+        (Whole text.now) groups.now) }
 {
     write_pages(complex, by, groups, text)?;
     sync_volumes(complex, by, groups)?;

@@ -74,7 +74,7 @@ marked_after vs id v w k m at own holds (j, u, atj, o, h) = dite (ℕ_discrete j
     (id, w, set_has vs id v w at, own (subst (λ (z : View). marked_at z.own k ≡ true) same o), holds (subst (λ (z : View). marked_at z.holds m ≡ true) same h)))
     (λ ne. (j, u, set_else vs id j w ne ∙ atj, o, h))
 
--- a view changes, but for its marks, and the value does not
+-- a view changes, except its marks, and the value does not
 pub quiet : (is : Facts) (vs : List View) (id : ℕ) (v w : View) → Has vs id v → Shape is vs → Fits is w → w.own ≡ v.own → w.cares ≡ v.cares → w.holds ≡ v.holds → w.given ≡ v.given → w.root ≡ v.root → Shape is (set vs id w)
 quiet is vs id v w at s fit own cares holds given root = record {
   each = set_fits vs id w is is (λ j u atj ne. s.each j u atj) fit;

@@ -87,7 +87,7 @@ module _ {V : Type 0} (facts : V → Facts) where
       let same : u ≡ v = one_view vs j id u v atj at (sym e) in
       (ap suc (sym memj ∙ ap (λ (z : View). z.member) same), ap (λ (z : View). z.out) (sym same) ∙ outj, (λ o. openj (ap (λ (z : View). z.opening) same ∙ o)), λ k w atk hask. alone k w atk hask ∙ sym e)
 
-  -- its view changes, and it keeps the turn
+  -- the view of the seat with the turn changes, and the seat keeps the turn
   place_turn : (hs hs' : List Cell) (vs : List View) (is is' : Facts) (turn id : ℕ) (v w : View) → Place facts hs vs is turn → Has vs id v → v.has ≡ true → w.has ≡ true → w.member ≡ v.member → w.out ≡ is' → w.opening ≡ false → Place facts hs' (set vs id w) is' turn
   place_turn hs hs' vs is is' turn id v w place at has has' member out begun =
       let t = turn_of hs vs is turn id v place at has in

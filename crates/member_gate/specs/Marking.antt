@@ -52,7 +52,7 @@ abbrev pub tail_of : {A : Type 0} → List A → List A
 tail_of [] = []
 tail_of (x ∷ xs) = xs
 
--- at the marked places the first list, elsewhere the second
+-- the first list at the marked places, and the second elsewhere
 abbrev pub chosen : {A : Type 0} → A → List Bool → List A → List A → List A
 chosen d [] xs ys = ys
 chosen d (true ∷ bs) xs ys = head_or d xs ∷ chosen d bs (tail_of xs) (tail_of ys)

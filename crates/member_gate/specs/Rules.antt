@@ -41,14 +41,18 @@ pub record Shape (is : Facts) (vs : List View) : Type 0 where
   pub distinct : (i j : ℕ) (v w : View) → Has vs i v → Has vs j w → i ≢ j → Distinct v w
   pub mines : (k : ℕ) (e : Entry) → get_elem? is.kept k ≡ some e → 0 < e.by.0 → stopped_of is e.by.0 ≡ false
       → (id : ℕ) × (v : View) × Has vs id v × (marked_at v.own k ≡ true) × (marked_at v.holds e.by.0 ≡ true)
-  pub never : (m : ℕ) → 0 < m → NoneHolds vs m → (stopped_of is m ≡ false) × ((k : ℕ) (e : Entry) → get_elem? is.kept k ≡ some e → e.by.0 ≢ m) × (desk_of is m ≡ no_desk)
-  pub fresh : (id : ℕ) (v : View) → Has vs id v → v.root ≡ true → (m : ℕ) → 0 < m → m < seats → marked_at v.given m ≡ false → (marked_at v.cares m ≡ true) × NoneHolds vs m
+  pub never : (m : ℕ) → 0 < m → NoneHolds vs m → (stopped_of is m ≡ false)
+      × ((k : ℕ) (e : Entry) → get_elem? is.kept k ≡ some e → e.by.0 ≢ m) × (desk_of is m ≡ no_desk)
+  pub fresh : (id : ℕ) (v : View) → Has vs id v → v.root ≡ true → (m : ℕ) → 0 < m → m < seats
+      → marked_at v.given m ≡ false → (marked_at v.cares m ≡ true) × NoneHolds vs m
 
 module _ {V : Type 0} (facts : V → Facts) where
   -- the value is at home, or the one seat that has the turn has it
   abbrev pub Place : List (maybe.Option (Option V)) → List View → Facts → ℕ → Type 0
-  Place homes views is zero = (x : V) × (homes ≡ some (Some x) ∷ []) × (facts x ≡ is) × ((id : ℕ) (v : View) → Has views id v → v.has ≡ false)
-  Place homes views is (suc m) = (id : ℕ) × (v : View) × Has views id v × (v.has ≡ true) × (v.member ≡ m) × (v.out ≡ is) × (v.opening ≡ true → homes ≡ some None ∷ [])
+  Place homes views is zero = (x : V) × (homes ≡ some (Some x) ∷ []) × (facts x ≡ is)
+      × ((id : ℕ) (v : View) → Has views id v → v.has ≡ false)
+  Place homes views is (suc m) = (id : ℕ) × (v : View) × Has views id v × (v.has ≡ true) × (v.member ≡ m) × (v.out ≡ is)
+      × (v.opening ≡ true → homes ≡ some None ∷ [])
       × ((j : ℕ) (w : View) → Has views j w → w.has ≡ true → j ≡ id)
 
   pub record Ruled (s : State (Option V) View) : Type 0 where
@@ -60,12 +64,15 @@ module _ {V : Type 0} (facts : V → Facts) where
 
   -- a compare and exchange of the turn word
   abbrev pub tried : Step (Option V) → Me (Option V) View → ℕ → Me (Option V) View → Type 0
-  tried st m found m' = (found ≤ seats) × (found ≡ 0 → (x : V) × Meets m.0 (facts x) × HasAll m.0 (facts x) × (m' ≡ (taking m.0 (m.0.tries + 1) (facts x), (0, Some x) ∷ [])))
+  tried st m found m' = (found ≤ seats)
+      × (found ≡ 0 → (x : V) × Meets m.0 (facts x) × HasAll m.0 (facts x)
+      × (m' ≡ (taking m.0 (m.0.tries + 1) (facts x), (0, Some x) ∷ [])))
       × (found ≢ 0 → m' ≡ (refused m.0 found, m.1))
 
   -- a store of the count word
   abbrev pub counted : Facts → Step (Option V) → Me (Option V) View → ℕ → Me (Option V) View → Type 0
-  counted is st m n m' = (m' ≡ (counting m.0 is, m.1)) × ((more : List Entry) → is.kept ≡ m.0.out.kept ++ more → mine m'.0 ≡ mine m.0 ++ more)
+  counted is st m n m' = (m' ≡ (counting m.0 is, m.1))
+      × ((more : List Entry) → is.kept ≡ m.0.out.kept ++ more → mine m'.0 ≡ mine m.0 ++ more)
 
   -- a store of the turn word
   abbrev pub ended : Step (Option V) → Me (Option V) View → ℕ → Me (Option V) View → Type 0

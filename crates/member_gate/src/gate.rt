@@ -1,5 +1,5 @@
-//! The calls of the gate. The table under it has two words and one slot: the turn word, which is one more than the member that
-//! has the turn, or 0; the number of entries that are kept; and the value, while nobody has it.
+//! The calls of the gate. The table under it has two words and one slot: the turn word, which is one more than the
+//! member that has the turn, or 0; the number of entries that are kept; and the value, while nobody has it.
 ghost use Rattle.std.specs.Prelude.{◌≡◌, ℕ, ◌+◌, ◌<◌, ◌≤◌, ◌++◌, true, false, List, IfOk, IfErr};
 ghost use Rattle.mas_types.specs.declared.journals.Entry.{Entry};
 ghost use Rattle.gate_facts.specs.Values.{marked_at};
@@ -18,12 +18,13 @@ use std::sync::Wait;
 use std::thread;
 
 impl<V: Kept> Gate<V> {
-    /// A gate with this value, for so many members, and the pass of member 0, from which the others are split. The value
-    /// is handed back where there is no memory.
+    /// A gate with this value, for so many members, and the pass of member 0, from which the others are split. The
+    /// value is handed back when out of memory.
     pub fn make(alloc: Global, value: V, members: u8) -> Result<(Gate<V>, Pass<V>), V>
         requires value { MayBegin (V.facts value) }
         requires few { members ≤ MEMBERS_MOST }
-        ensures ok { IfOk result (λ r. IsPassOf r.0 r.1 × (members_of r.0 ≡ members) × (view r.1 ≡ ending (opened (opener (V.facts value))))) }
+        ensures ok { IfOk result (λ r. IsPassOf r.0 r.1 × (members_of r.0 ≡ members)
+            × (view r.1 ≡ ending (opened (opener (V.facts value))))) }
         ensures err { IfErr result (λ v. v ≡ value) }
     {
         let count = value.kept_count();
@@ -40,8 +41,8 @@ impl<V: Kept> Gate<V> {
         Ok((gate, Pass { seat, by: 0 }))
     }
 
-    /// A pass for a member, split from the one that came with the gate, which has split none for it yet. The old pass hands
-    /// over what it knows of the member.
+    /// A pass for a member, split from the one that came with the gate, which has split none for it yet. The old pass
+    /// hands over what it knows of the member.
     pub fn split(&self, pass: &mut Pass<V>, by: MemberId) -> Pass<V>
         requires own { IsPassOf self.now pass.old }
         requires free { (view pass.old).has ≡ false }
@@ -68,13 +69,14 @@ impl<V: Kept> Gate<V> {
         Pass { seat, by }
     }
 
-    /// Takes the turn, and the value with it, where nobody has the turn. `Held` comes only where this call's look at the
-    /// turn word found that member in it.
+    /// Takes the turn, and the value with it, where nobody has the turn. `Held` comes only where this call's look at
+    /// the turn word found that member in it.
     pub fn try_turn(&self, pass: &mut Pass<V>) -> Result<V, Held>
         requires own { IsPassOf self.now pass.old }
         requires free { (view pass.old).has ≡ false }
         ensures same { IsPassOf self.now pass.new }
-        ensures ok { IfOk result (λ x. Meets (view pass.old) (V.facts x) × HasAll (view pass.old) (V.facts x) × (view pass.new ≡ taking (view pass.old) ((view pass.old).tries + 1) (V.facts x))) }
+        ensures ok { IfOk result (λ x. Meets (view pass.old) (V.facts x) × HasAll (view pass.old) (V.facts x)
+            × (view pass.new ≡ taking (view pass.old) ((view pass.old).tries + 1) (V.facts x))) }
         ensures err { IfErr result (λ h. view pass.new ≡ refused (view pass.old) (h.0.0 + 1)) }
     {
         let taken = pass.by as u64 + 1;
@@ -117,7 +119,8 @@ impl<V: Kept> Gate<V> {
         ensures same { IsPassOf self.now pass.new }
         ensures view { view pass.new ≡ ending (counting (view pass.old) (V.facts value)) }
         ensures left { IsLeft (view pass.new).member (memory_in (view pass.new)) (V.facts value) }
-        ensures mine { (more : List Entry) → (V.facts value).kept ≡ (view pass.old).out.kept ++ more → mine (view pass.new) ≡ mine (view pass.old) ++ more }
+        ensures mine { (more : List Entry) → (V.facts value).kept ≡ (view pass.old).out.kept ++ more
+            → mine (view pass.new) ≡ mine (view pass.old) ++ more }
     {
         self.count_up::<Brand>(pass, &value);
         match self.table.shared.exchange(&mut pass.seat, 0, Some(value)) {
@@ -135,7 +138,8 @@ impl<V: Kept> Gate<V> {
         requires value { MayEnd (view pass.old) (V.facts value.now) }
         ensures own { IsPassOf self.now pass.new }
         ensures view { view pass.new ≡ counting (view pass.old) (V.facts value.now) }
-        ensures mine { (more : List Entry) → (V.facts value.now).kept ≡ (view pass.old).out.kept ++ more → mine (view pass.new) ≡ mine (view pass.old) ++ more }
+        ensures mine { (more : List Entry) → (V.facts value.now).kept ≡ (view pass.old).out.kept ++ more
+            → mine (view pass.new) ≡ mine (view pass.old) ++ more }
     {
         let count = value.kept_count();
         self.table

@@ -2,8 +2,8 @@
 use gate_facts::{Desk, Facts};
 use mas_types::List;
 
-/// What a pass knows. The lists of truth values are marks: of places of the kept list, or of members, with member 0 first; one
-/// that is too short counts as filled up with false.
+/// What a pass knows. The lists of truth values are marks: of places of the kept list, or of members, with member 0
+/// first; one that is too short counts as filled up with false.
 pub struct View {
     /// No other pass took it in.
     pub live: bool,

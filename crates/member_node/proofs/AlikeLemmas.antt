@@ -23,7 +23,7 @@ own_checkpoint t at levels pages d = record { level = at; levels = levels; fit =
 pub own_spell : (k : Checkpoint) → AreDrawn k.tables k.level k.levels k.pages → SpellSome k.pages
 own_spell k d = (k.tables, own_checkpoint k.tables k.level k.levels k.pages d)
 
--- and so are pages that are alike to them
+-- pages that are alike to drawn ones are the checkpoint of the same tables
 pub alike_checkpoint : (room : List Page) (k : Checkpoint) → AreDrawn k.tables k.level k.levels k.pages → are_same room k.pages ≡ true → IsCheckpoint room k.tables
 alike_checkpoint room k d same =
     subst (λ (ps : List Page). IsCheckpoint ps k.tables) (sym (alike_same room k.pages same)) (own_checkpoint k.tables k.level k.levels k.pages d)

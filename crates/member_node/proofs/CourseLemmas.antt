@@ -127,7 +127,7 @@ course_line by a b v1 v2 said act = record {
   grow = λ d. inl (act.loses d);
 }
 
--- and a line was said then
+-- acts on the copies, and a line that was said after them
 pub course_said : (by : ℕ) (a a' b b' : Bool) (v0 v1 v2 : View) (said : Act) → Course a a' b b' v0 v1 → Acts by Console v1 v2 said → Course a a' b b' v0 v2
 course_said by a a' b b' v0 v1 v2 said course act = course_then a a' a' b b' b' v0 v1 v2 course (course_line by a' b' v1 v2 said act)
 
@@ -207,7 +207,7 @@ only_none v t from le d one two = let now : t ≡ v.now = omega arith in ap (λ 
 after_act : (v1 v2 : View) (t : ℕ) → v2.now ≡ next v1.now → v1.now ≤ t → t ≤ v2.now → (t ≡ v1.now) ⊎ (t ≡ v2.now)
 after_act v1 v2 t time from le = ⊎_elim (λ h. inl (omega arith)) (λ h. inr (omega (arith, time))) (either_way t v1.now)
 
--- so the printers
+-- two calls one after the other that keep the printers' lines
 pub papers_on : (entry old new : View) → entry.now ≤ old.now → Goes old new → SamePapers entry old → SamePapers old new → SamePapers entry new
 papers_on entry old new later goes before after t from le m = ⊎_elim
     (λ early. ap (λ (w : World). w.paper m) (goes.past t early) ∙ before t from early m)
@@ -217,7 +217,7 @@ papers_on entry old new later goes before after t from le m = ⊎_elim
 pub papers_none : (v : View) → SamePapers v v
 papers_none v t from le m = let now : t ≡ v.now = omega arith in ap (λ (n : ℕ). (v.world n).paper m) now
 
--- and through one act that keeps their lines
+-- one act that keeps the printers' lines
 pub papers_act : (v1 v2 : View) → Goes v1 v2 → v2.now ≡ next v1.now → SamePaper v1 v2 → SamePapers v1 v2
 papers_act v1 v2 goes time same t from le m = ⊎_elim
     (λ e. ap (λ (n : ℕ). (v2.world n).paper m) e ∙ ap (λ (w : World). w.paper m) (goes.past v1.now (omega arith)))

@@ -52,7 +52,7 @@ pub spelled_alike : (t : Tables) (levels : List ℕ) (was drawn : List Page) →
 spelled_alike t levels was drawn spelled too =
     alike was drawn (too.count ∙ sym spelled.count) (λ p lt. too.each p lt ∙ sym (spelled.each p (omega (arith, lt, too.count, spelled.count))))
 
--- so not where they differ
+-- pages that differ from those that spell tables don't spell the same tables
 pub not_spelled : (t : Tables) (levels : List ℕ) (was drawn : List Page) → Spell t levels drawn → are_same was drawn ≡ false → Spell t levels was → ⊥
 not_spelled t levels was drawn spelled differ too =
     let same : are_same was drawn ≡ true = spelled_alike t levels was drawn spelled too in cc

@@ -237,7 +237,7 @@ spelled_again t levels levels' (x ∷ xs) first spelled is = record { count = sp
   each zero lt = is
   each (suc p) lt = spelled.each (suc p) lt ∙ other_page t levels levels' (suc p) (grind (arith, nat_tests))
 
--- all pages but those that differ read as before
+-- all pages except those that differ read as before
 pub covered_again : (old new : List Page) (first : Page) → length old ≡ length new → All (λ page. length page.0 ≡ page_bytes) old → All (λ page. length page.0 ≡ page_bytes) (slice_set new 0 first)
     → Covers (length old) (differing old new) (bytes_of old) (bytes_of (slice_set new 0 first))
 covered_again [] new first same sized sized' p lt = absurd (omega arith)
@@ -251,7 +251,7 @@ covered_again (x ∷ xs) (y ∷ ys) first same sized sized' (suc p) lt =
           → Contains (differing (x ∷ xs) (y ∷ ys)) (suc p) ⊎ (page_in (y ∷ ys) (suc p) ≡ page_in (x ∷ xs) (suc p))
       shown h = let e : 0 + suc p ≡ suc p = omega arith in rw e at h
 
--- and only such pages are listed
+-- only pages that differ are listed
 pub only_again : (old new : List Page) (first : Page) → length old ≡ length new → All (λ page. length page.0 ≡ page_bytes) old → All (λ page. length page.0 ≡ page_bytes) (slice_set new 0 first)
     → NamesOnly (differing old new) (bytes_of old) (bytes_of (slice_set new 0 first))
 only_again old new first same sized sized' = λ k d lt. named (get_or (differing old new) k d) (differing_only 0 old new k d lt) (differing_within 0 old new k d lt) where

@@ -36,7 +36,7 @@ set_last (x ∷ xs) p e (suc n) is = let rest = set_last xs p e n (omega (arith,
 pub given_entry : (batch more done : List Entry) (place e : Entry) (at : ℕ) → more ≡ batch ++ place ∷ [] → at ≡ length batch → done ≡ slice_set more at e → done ≡ batch ++ e ∷ []
 given_entry batch more done place e at one two three = three ∙ ap (λ (l : List Entry). slice_set l at e) one ∙ set_last batch place e at two
 
--- and one that is taken away
+-- a place that is added and then taken away
 pub taken_entry : (batch more done : List Entry) (place : Entry) (at : ℕ) → more ≡ batch ++ place ∷ [] → at ≡ length batch → done ≡ remove more at → done ≡ batch
 taken_entry batch more done place at one two three =
     let here : at - length batch ≡ 0 = omega (arith, two) in

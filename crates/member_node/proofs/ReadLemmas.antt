@@ -150,7 +150,8 @@ one_page page was kept into same is = is ∙ ap (page_of_bytes page) same
 some_same : (a b : List ℕ) (read : Option (List ℕ)) → read ≡ Some a → read ≡ Some b → a ≡ b
 some_same a b read x y = cc
 
--- A page that was read, where pages are kept with which each copy that counts as alive rests: it is the page of what these copies read.
+-- A page that was read, where pages are kept with which each copy that counts as alive rests: it is the page of what
+-- these copies read.
 module _ (rests1 rests2 : List ℕ → Type 0) (read1 read2 : Option (List ℕ)) (reads1 : (w : List ℕ) → rests1 w → read1 ≡ Some w) (reads2 : (w : List ℕ) → rests2 w → read2 ≡ Some w)
     (page : ℕ) (into was kept : List ℕ) where
   pub page_by : (alive1 alive2 : Bool) → (alive1 ≡ true → rests1 kept) → (alive2 ≡ true → rests2 kept) → (alive1 ≡ true → read1 ≡ Some was) → (alive2 ≡ true → read2 ≡ Some was)
@@ -263,7 +264,7 @@ read_lost told a a' b b' old new untold course = record { course = course; loses
 pub reads_earlier : (told : Type 0) (alive alive' : Bool) (read read' : Option (List ℕ)) (was : List ℕ) → (alive' ≡ true → alive ≡ true) → (told → read' ≡ read) → ReadsAs told alive read was → ReadsAs told alive' read' was
 reads_earlier told alive alive' read read' was alives same reads t on = same t ∙ reads t (alives on)
 
--- and the copies read the same by their bytes
+-- the copies read the same by their bytes after calls that only read
 pub reads_kept : (told : Type 0) (a a' b b' : Bool) (old new : View) (reads : List ℕ → Option (List ℕ)) (was : List ℕ) → HasRead told a a' b b' old new
     → (ReadsAs told a (reads (disk_now old Ckpt1).bytes) was → ReadsAs told a' (reads (disk_now new Ckpt1).bytes) was)
     × (ReadsAs told b (reads (disk_now old Ckpt2).bytes) was → ReadsAs told b' (reads (disk_now new Ckpt2).bytes) was)
@@ -305,7 +306,7 @@ read_more told by a a' a'' b b' b'' v0 v1 v2 reads first page room now into x le
 
 -- BOTH READS
 
--- page 0 stood there, and the pages behind it were read
+-- page 0 stood there, and the pages after it were read
 pub read_whole : (told : Type 0) (Q : Queue) (reached : ℕ) (a a' b b' : Bool) (v0 v1 : View) (reads : List ℕ → Option (List ℕ)) (room now : List Page) → HasRead told a a' b b' v0 v1 → told
     → (was : List ℕ) → level was ≡ reached → StandFor Q was → (a ≡ true → reads (disk_now v0 Ckpt1).bytes ≡ Some was) → (b ≡ true → reads (disk_now v0 Ckpt2).bytes ≡ Some was)
     → ((w : List ℕ) → ReadsAs told a (reads (disk_now v0 Ckpt1).bytes) w → ReadsAs told b (reads (disk_now v0 Ckpt2).bytes) w → ArePagesOf 0 1 w room)
@@ -336,7 +337,7 @@ whole_stands Q reached alive1 alive2 read1 read2 room many w = room_stands Q w.w
 pub whole_bytes : (Q : Queue) (reached : ℕ) (alive1 alive2 : Bool) (read1 read2 : Option (List ℕ)) (room : List Page) → page_count Q.config ≡ length room → (w : IsReadWhole Q reached alive1 alive2 read1 read2 room) → bytes_of room ≡ w.was
 whole_bytes Q reached alive1 alive2 read1 read2 room many w = room_bytes Q w.was w.queue room many w.pages
 
--- the answer of a read that comes behind others
+-- the answer of a read that comes after others
 pub cause_later : {T : Type 0} (r : Result T NodeNo) (by : ℕ) (is1 is2 : Bool) (v0 v1 v2 : View) → v0.stops by ≤ v1.stops by → ReadCauses r by is1 is2 v1 v2 → ReadCauses r by is1 is2 v0 v2
 cause_later (Ok done) by is1 is2 v0 v1 v2 le cause = cause
 cause_later (Err node.BothLost) by is1 is2 v0 v1 v2 le cause = cause
@@ -344,7 +345,7 @@ cause_later (Err node.Halted) by is1 is2 v0 v1 v2 le cause = (cause.0, rose_late
 cause_later (Err node.ConsoleFault) by is1 is2 v0 v1 v2 le cause = cause
 cause_later (Err node.NoMemory) by is1 is2 v0 v1 v2 le cause = cause
 
--- of an error it is the same whatever the answer would have been
+-- the cause of an error is the same whatever the answer would have been
 pub cause_as : (T U : Type 0) (e : NodeNo) (by : ℕ) (is1 is2 : Bool) (v0 v1 : View) → ReadCauses {T = T} (Err e) by is1 is2 v0 v1 → ReadCauses {T = U} (Err e) by is1 is2 v0 v1
 cause_as T U node.BothLost by is1 is2 v0 v1 cause = cause
 cause_as T U node.Halted by is1 is2 v0 v1 cause = cause
@@ -357,7 +358,7 @@ cause_in T U node.Halted by is1 is2 v0 v1 cause = cause
 cause_in T U node.ConsoleFault by is1 is2 v0 v1 cause = cause
 cause_in T U node.NoMemory by is1 is2 v0 v1 cause = absurd cause
 
--- an error behind other reads
+-- an error after other reads
 pub error_later : (T U : Type 0) (told : Type 0) (by : ℕ) (a a' a'' b b' b'' : Bool) (v0 v1 v2 : View) (e : NodeNo) → HasRead told a a' b b' v0 v1 → Spares by false v0 v1 → IsRead {T = T} told by a' a'' b' b'' v1 v2 (Err e) → IsRead {T = U} told by a a'' b b'' v0 v2 (Err e)
 error_later T U told by a a' a'' b b' b'' v0 v1 v2 e x spares y = record {
   acts = read_then told a a' a'' b b' b'' v0 v1 v2 x y.acts;
@@ -365,14 +366,14 @@ error_later T U told by a a' a'' b b' b'' v0 v1 v2 e x spares y = record {
   spares = spares_then by (is_stop e) v0 v1 v2 spares y.spares;
 }
 
--- and a copy that was lost then, as the last one
+-- the last copy was lost after other reads
 pub lost_later_read : (U : Type 0) (told : Type 0) (by : ℕ) (a a' a'' b b' b'' : Bool) (v0 v1 v2 : View) (e : NodeNo) → HasRead told a a' b b' v0 v1 → Spares by false v0 v1 → e ≡ node.BothLost → IsRead {T = Unit {0}} told 0 a' a'' b' b'' v1 v2 (Err e) → IsRead {T = U} told by a a'' b b'' v0 v2 (Err e)
 lost_later_read U told by a a' a'' b b' b'' v0 v1 v2 node.BothLost x spares is y = record { acts = read_then told a a' a'' b b' b'' v0 v1 v2 x y.acts; cause = y.cause; spares = spares_then by false v0 v1 v2 spares (spares_for by 0 v1 v2 y.spares) }
 lost_later_read U told by a a' a'' b b' b'' v0 v1 v2 node.Halted x spares is y = absurd (cc)
 lost_later_read U told by a a' a'' b b' b'' v0 v1 v2 node.ConsoleFault x spares is y = absurd (cc)
 lost_later_read U told by a a' a'' b b' b'' v0 v1 v2 node.NoMemory x spares is y = absurd (cc)
 
--- the same where the tables are brought up too
+-- an error after other reads, where the tables are brought up too
 pub in_error : (T U : Type 0) (told : Type 0) (by : ℕ) (a a' a'' b b' b'' : Bool) (v0 v1 v2 : View) (e : NodeNo) → HasRead told a a' b b' v0 v1 → Spares by false v0 v1 → IsRead {T = T} told by a' a'' b' b'' v1 v2 (Err e) → IsReadIn {T = U} told by a a'' b b'' v0 v2 (Err e)
 in_error T U told by a a' a'' b b' b'' v0 v1 v2 e x spares y =
     let z : IsRead {T = U} told by a a'' b b'' v0 v2 (Err e) = error_later T U told by a a' a'' b b' b'' v0 v1 v2 e x spares y in
@@ -427,7 +428,7 @@ other_alive false b some off = some
 pub calm_later : (alive alive' : Bool) (place place' : Place) (count count' pages pages' : ℕ) → (alive' ≡ true → alive ≡ true) → place' ≡ place → count' ≡ count → pages' ≡ pages → IsCalm alive place count pages → IsCalm alive' place' count' pages'
 calm_later alive alive' place place' count count' pages pages' alives p c n calm = record { before = p ∙ calm.before; as_many = λ on. n ∙ calm.as_many (alives on) ∙ sym c }
 
--- WHAT A COPY READS IS LOW AGAIN, behind a write
+-- WHAT A COPY READS IS LOW AGAIN, after a write
 
 some_is : (a b : List ℕ) (read : Option (List ℕ)) → read ≡ Some a → read ≡ Some b → a ≡ b
 some_is a b read x y = cc
@@ -440,7 +441,7 @@ low_again one joined told alive place count config batches k read drawn low rest
     let own : IsCheckpoint k.pages k.tables = record { level = k.level; levels = k.levels; fit = drawn.spelling; ages = drawn.leveled; spell = drawn.spelled } in
     subst (AreLow config batches) (one k.pages k.tables u own (subst (λ (ps : List Page). IsCheckpoint ps u) same spells)) low
 
--- and so a member may go on from it
+-- a member may go on from pages whose tables are low
 pub low_goes : (config : Config) (batches reached : ℕ) (pages : List Page) (t : Tables) → orders_after batches < too_high → reached < too_high → level (bytes_of pages) ≡ reached → AreLow config batches t → MayGoOn config pages t
 low_goes config batches reached pages t orders levels at low = record {
   same = low.same;

@@ -45,7 +45,7 @@ ready_draft alike d told Q entries k n reached done at small same drawn redrawn 
     drawn_stand n.tables n.level n.levels n.pages (run Q entries) drawn orders after,
   )
 
--- as many as before
+-- the pages are as many as before
 pub ready_count : (k n : Checkpoint) → CanDraw k → n.tables ≡ k.tables → AreDrawn n.tables n.level n.levels n.pages → length n.pages ≡ length k.pages
 ready_count k n draws same drawn = drawn.spelled.count ∙ ap (λ (t : Tables). page_count t.config) same ∙ sym draws.as_many
 

@@ -118,7 +118,7 @@ not_listed p x y is = ap page_with ((bytes_eq-Decides x.0 y.0).0 (same (suc p ==
   same false false is = absurd (cc)
 
 module _ (t : Tables) (levels : List ℕ) where
-  -- behind page 0
+  -- pages after page 0 that are drawn again where they differ
   behind_first : (p : ℕ) (front xs ys : List Page) → length front ≡ suc p → length xs ≡ length ys → ((q : ℕ) → q < length ys → page_in ys q ≡ page_of t levels (suc p + q))
       → drawn_again t levels (differing_from (suc p) xs ys) (front ++ xs) ≡ front ++ ys
   behind_first p front [] [] len same each = refl

@@ -22,7 +22,7 @@ spelled_more t levels pages n d y inside same drawn before p lt = shown (n == p)
       subst (λ (q : ℕ). page_in pages q ≡ page_of t levels q) at (sym (page_got pages n d inside) ∙ (bytes_eq-Decides (get_or pages n d).0 y.0).0 same ∙ drawn)
   shown false e = let less : p < n = grind (arith, nat_tests) in before p less
 
--- one page is not
+-- pages of which one isn't as the tables spell it
 pub unspelled : (t : Tables) (levels : List ℕ) (pages : List Page) (n : ℕ) (d y : Page) → n < length pages → bytes_eq (get_or pages n d).0 y.0 ≡ false → y.0 ≡ page_of t levels n → Spell t levels pages → ⊥
 unspelled t levels pages n d y inside differ drawn spelled =
     clash (bytes_eq (get_or pages n d).0 y.0) ((bytes_eq-Decides (get_or pages n d).0 y.0).1 (page_got pages n d inside ∙ spelled.each n inside ∙ sym drawn)) differ where

@@ -12,7 +12,7 @@ use Rattle.mas_complex.specs.Journals.{with_last, end_of, fated, kept_all}
 use Rattle.mas_complex.proofs.BatchEnds.{with_last-append}
 use Rattle.mas_complex.proofs.Batches.{kept_all_append}
 
--- pages that cover those before cover what a copy with these reads
+-- numbers that cover what differs from the pages that a copy reads
 pub covers_read : (count n : ℕ) (numbers was before pages : List ℕ) (read : Option (List ℕ)) → count ≡ n → Covers n numbers before pages → read ≡ Some before → read ≡ Some was → Covers count numbers was pages
 covers_read count n numbers was before pages read many covers is reads =
     let same : before ≡ was = some_same before was (sym is ∙ reads) in
@@ -20,7 +20,7 @@ covers_read count n numbers was before pages read many covers is reads =
       some_same : (x y : List ℕ) → Some x ≡ Some y → x ≡ y
       some_same x y e = cc
 
--- and numbers that name only what differs from those before
+-- numbers that name only what differs from the pages that a copy reads
 pub names_read : (numbers was before pages : List ℕ) (read : Option (List ℕ)) → NamesOnly numbers before pages → read ≡ Some before → read ≡ Some was → NamesOnly numbers was pages
 names_read numbers was before pages read names is reads = subst (λ (w : List ℕ). NamesOnly numbers w pages) (some_same before was (sym is ∙ reads)) names where
   some_same : (x y : List ℕ) → Some x ≡ Some y → x ≡ y
@@ -55,7 +55,7 @@ queue_written base base1 Q after ks kept es entries same is none are effect =
     effect ∙ ap (λ (q : Queue). run q entries) is ∙ sym (run_append base ks entries)
     ∙ ap (λ (q : Queue). run q (ks ++ entries)) (sym same) ∙ ap (λ (l : List Entry). run base1 (l ++ entries)) (sym none) ∙ ap (λ (l : List Entry). run base1 (kept ++ l)) (sym are)
 
--- and the queue after the kept batches then
+-- the queue after the kept batches, the last of which has just been written
 pub queue_kept : (base base1 Q after : Queue) (front batches : List Batch) (last : ℕ) (b : Batch) (entries : List Entry) → base1 ≡ base → Q ≡ run base (kept_all front) → batches ≡ front ++ fated Kept last b ∷ []
     → b.entries ≡ entries → after ≡ run Q entries → after ≡ run base1 (kept_all batches)
 queue_kept base base1 Q after front batches last b entries same is all are effect =

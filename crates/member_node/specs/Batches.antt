@@ -32,12 +32,13 @@ pub record CanDraw (k : Checkpoint) : Type 0 where
   pub sized : All (λ page. length page.0 ≡ page_bytes) k.pages
   pub spelling : HasSpelling k.tables
 
--- its pages aren't those that its tables are drawn as
+-- a checkpoint's pages aren't those that its tables are drawn as
 abbrev pub DrawsAnew : Checkpoint → Type 0
 DrawsAnew k = Spell k.tables k.levels k.pages → ⊥
 
--- The pages of a checkpoint stand for the queue, and its tables tell the queue after the entries, which have the replies that the
--- commands give at their places. The tables can be spelled and given commands, and have no order twice.
+-- The pages of a checkpoint stand for the queue, and its tables tell the queue after the entries, which have the
+-- replies that the commands give at their places. The tables can be spelled and given commands, and have no order
+-- twice.
 pub record HasDone (Q : Queue) (entries : List Entry) (k : Checkpoint) : Type 0 where
   pub pages : PagesTell k.pages k.level Q
   pub leveled : AreLevels k.tables k.level k.levels
@@ -54,8 +55,8 @@ abbrev pub level_with : Draft → ℕ → ℕ
 level_with draft.Same reached = reached
 level_with (draft.Changed numbers) reached = reached + 1
 
--- A draft of a batch's pages: where no page changes the queue after the entries is told alike, and else the pages have the next level
--- and stand for it.
+-- A draft of a batch's pages: where no page changes the queue after the entries is told alike, and else the pages have
+-- the next level and stand for it.
 abbrev pub IsDraftOf : Draft → Type 0 → Queue → List Entry → ℕ → List Page → Type 0
 IsDraftOf draft.Same tells Q entries reached pages = AreToldAlike Q (run Q entries)
 IsDraftOf (draft.Changed numbers) tells Q entries reached pages =

@@ -14,7 +14,8 @@ console_now v = (v.world v.now).console
 
 -- at each moment from one to the other every device but CKPT1 and CKPT2 is as it was
 abbrev pub IsOnlyOn : View → View → Type 0
-IsOnlyOn old new = Throughout old.now new.now (λ t. (d : Dev) → d ≢ Ckpt1 → d ≢ Ckpt2 → disk_at new t d ≡ disk_now old d)
+IsOnlyOn old new = Throughout old.now new.now
+    (λ t. (d : Dev) → d ≢ Ckpt1 → d ≢ Ckpt2 → disk_at new t d ≡ disk_now old d)
 
 -- what calls leave as it was: at each moment the other devices and the printers, and at the end the console
 pub record Apart (old new : View) : Type 0 where

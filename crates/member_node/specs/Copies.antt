@@ -9,14 +9,16 @@ use Rattle.member_node.specs.declared.checkpoint.Draft.{Draft}
 use Rattle.member_node.specs.declared.checkpoint.Draft.TheVariants as draft
 
 -- a copy, which is before any batch: where it counts as alive it reads the pages
-pub record RestsAt (tells : Type 0) (alive : Bool) (place : Place) (count : ℕ) (pages : List Page) (read : Option (List ℕ)) : Type 0 where
+pub record RestsAt (tells : Type 0) (alive : Bool) (place : Place) (count : ℕ) (pages : List Page)
+    (read : Option (List ℕ)) : Type 0 where
   pub before : place ≡ Before
   pub as_many : alive ≡ true → length pages ≡ count
   pub reads : tells → alive ≡ true → read ≡ Some (bytes_of pages)
 
--- A copy that may be given pages, where it counts as alive: it has room for them and as many, and the numbers are those of page 0
--- and of just the pages that differ from what it reads.
-pub record MayPut (tells : Type 0) (alive : Bool) (count space : ℕ) (pages : List Page) (changed : List ℕ) (read : Option (List ℕ)) : Type 0 where
+-- A copy that may be given pages, where it counts as alive: it has room for them and as many, and the numbers are those
+-- of page 0 and of just the pages that differ from what it reads.
+pub record MayPut (tells : Type 0) (alive : Bool) (count space : ℕ) (pages : List Page) (changed : List ℕ)
+    (read : Option (List ℕ)) : Type 0 where
   pub room : alive ≡ true → 1 ≤ space
   pub as_many : alive ≡ true → length pages ≡ count
   pub numbers : alive ≡ true → ArePages count changed
@@ -25,7 +27,8 @@ pub record MayPut (tells : Type 0) (alive : Bool) (count space : ℕ) (pages : L
 
 -- a copy for which a draft is right: it reads the pages, or may be given them
 abbrev pub IsDraftFor : Draft → Type 0 → Bool → ℕ → ℕ → List Page → Option (List ℕ) → Type 0
-IsDraftFor draft.Same tells alive count room pages read = (alive ≡ true → length pages ≡ count) × (tells → alive ≡ true → read ≡ Some (bytes_of pages))
+IsDraftFor draft.Same tells alive count room pages read = (alive ≡ true → length pages ≡ count)
+    × (tells → alive ≡ true → read ≡ Some (bytes_of pages))
 IsDraftFor (draft.Changed numbers) tells alive count room pages read = MayPut tells alive count room pages numbers read
 
 -- the room of a copy once a draft is written, where a put that was opened leaves `after` of it

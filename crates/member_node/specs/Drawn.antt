@@ -21,4 +21,5 @@ raised (page ∷ pages) level levels = raised pages level (slice_set levels page
 -- the pages, where each of these is drawn with the levels
 abbrev pub drawn_again : Tables → List ℕ → List ℕ → List Page → List Page
 drawn_again t levels [] pages = pages
-drawn_again t levels (page ∷ numbers) pages = drawn_again t levels numbers (slice_set pages page (record { 0 = page_of t levels page }))
+drawn_again t levels (page ∷ numbers) pages = drawn_again t levels numbers
+    (slice_set pages page (record { 0 = page_of t levels page }))

@@ -40,7 +40,7 @@ pub record IsCalm (alive : Bool) (place : Place) (count pages : ℕ) : Type 0 wh
 abbrev pub ReadsAs : Type 0 → Bool → Option (List ℕ) → List ℕ → Type 0
 ReadsAs tells alive read was = tells → alive ≡ true → read ≡ Some was
 
--- from one page on up to another, each has the bytes that it has in these
+-- from one page on up to another, each page has the bytes that it has in these pages
 abbrev pub ArePagesOf : ℕ → ℕ → List ℕ → List Page → Type 0
 ArePagesOf first end was pages = (q : ℕ) → first ≤ q → q < end → page_of_list pages q ≡ page_in q was
 
@@ -50,7 +50,8 @@ pub record StandAt (Q : Queue) (reached : ℕ) (pages : List Page) : Type 0 wher
   pub queue : StandFor Q (bytes_of pages)
 
 -- All pages were read of what each copy reads, and stand for the queue.
-pub record IsReadWhole (Q : Queue) (reached : ℕ) (alive1 alive2 : Bool) (read1 read2 : Option (List ℕ)) (room : List Page) : Type 0 where
+pub record IsReadWhole (Q : Queue) (reached : ℕ) (alive1 alive2 : Bool) (read1 read2 : Option (List ℕ))
+    (room : List Page) : Type 0 where
   pub was : List ℕ
   pub at_level : level was ≡ reached
   pub queue : StandFor Q was
@@ -68,21 +69,22 @@ ReadCauses (Err Halted) by is1 is2 old new = SomeAlive is1 is2 × Rose (old.stop
 ReadCauses (Err ConsoleFault) by is1 is2 old new = ⊥
 ReadCauses (Err NoMemory) by is1 is2 old new = ⊥
 
--- Reads of the copies, of which these counted as alive before and count so after: they leave all bytes, the volumes and the console.
--- Where content is told no copy is lost but by its device.
+-- Reads of the copies, of which these counted as alive before and count so after: they leave all bytes, the volumes and
+-- the console. Where content is told no copy is lost but by its device.
 pub record HasRead (told : Type 0) (was1 is1 was2 is2 : Bool) (old new : View) : Type 0 where
   pub course : Course was1 is1 was2 is2 old new
   pub loses : told → (d : Dev) → new.loses d ≡ old.loses d
   pub apart : told → Apart old new
   pub bytes : told → (d : Dev) → (disk_now new d).bytes ≡ (disk_now old d).bytes
 
--- such reads, by their answer
-pub record IsRead {T : Type 0} (told : Type 0) (by : ℕ) (was1 is1 was2 is2 : Bool) (old new : View) (result : Result T NodeNo) : Type 0 where
+-- calls that only read, by their answer
+pub record IsRead {T : Type 0} (told : Type 0) (by : ℕ) (was1 is1 was2 is2 : Bool) (old new : View)
+    (result : Result T NodeNo) : Type 0 where
   pub acts : HasRead told was1 is1 was2 is2 old new
   pub cause : ReadCauses result by is1 is2 old new
   pub spares : Spares by (stopped_in result) old new
 
--- The cause of an answer where the tables are brought up too, which wants memory.
+-- The cause of an answer where the tables are brought up too, for which memory is needed.
 abbrev pub ReadInCauses : {T : Type 0} → Result T NodeNo → ℕ → Bool → Bool → View → View → Type 0
 ReadInCauses (Err NoMemory) by is1 is2 old new = SomeAlive is1 is2
 ReadInCauses (Ok done) by is1 is2 old new = SomeAlive is1 is2
@@ -90,13 +92,15 @@ ReadInCauses (Err BothLost) by is1 is2 old new = IsBothLost is1 is2
 ReadInCauses (Err Halted) by is1 is2 old new = SomeAlive is1 is2 × Rose (old.stops by) (new.stops by)
 ReadInCauses (Err ConsoleFault) by is1 is2 old new = ⊥
 
-pub record IsReadIn {T : Type 0} (told : Type 0) (by : ℕ) (was1 is1 was2 is2 : Bool) (old new : View) (result : Result T NodeNo) : Type 0 where
+pub record IsReadIn {T : Type 0} (told : Type 0) (by : ℕ) (was1 is1 was2 is2 : Bool) (old new : View)
+    (result : Result T NodeNo) : Type 0 where
   pub acts : HasRead told was1 is1 was2 is2 old new
   pub cause : ReadInCauses result by is1 is2 old new
   pub spares : Spares by (stopped_in result) old new
 
 -- A settle, or nothing: the volumes and the console are as they were.
-pub record IsSettle {T : Type 0} (told : Type 0) (by : ℕ) (was1 is1 was2 is2 : Bool) (old new : View) (result : Result T NodeNo) : Type 0 where
+pub record IsSettle {T : Type 0} (told : Type 0) (by : ℕ) (was1 is1 was2 is2 : Bool) (old new : View)
+    (result : Result T NodeNo) : Type 0 where
   pub course : Course was1 is1 was2 is2 old new
   pub cause : ReadCauses result by is1 is2 old new
   pub spares : Spares by (stopped_in result) old new
@@ -139,8 +143,8 @@ pub record IsUpTo (config : Config) (pages : List Page) (k : Checkpoint) : Type 
   pub drawn : AreDrawn k.tables k.level k.levels k.pages
   pub may : MayGoOn config pages k.tables
 
--- What is known, where content is told, of the tables that a copy's pages spell after so many batches: they are of this configuration and
--- fit for commands, and give orders behind those of these batches.
+-- What is known, where content is told, of the tables that a copy's pages spell after so many batches: they are of this
+-- configuration and fit for commands, and give orders after those of these batches.
 pub record AreLow (config : Config) (batches : ℕ) (t : Tables) : Type 0 where
   pub same : t.config ≡ config
   pub fit : AreFit t
@@ -148,4 +152,5 @@ pub record AreLow (config : Config) (batches : ℕ) (t : Tables) : Type 0 where
 
 abbrev pub ReadsLow : Type 0 → Bool → Config → ℕ → Option (List ℕ) → Type 0
 ReadsLow tells alive config batches read =
-    tells → alive ≡ true → (pages : List Page) (t : Tables) → All (λ page. length page.0 ≡ page_bytes) pages → read ≡ Some (bytes_of pages) → IsCheckpoint pages t → AreLow config batches t
+    tells → alive ≡ true → (pages : List Page) (t : Tables) → All (λ page. length page.0 ≡ page_bytes) pages
+    → read ≡ Some (bytes_of pages) → IsCheckpoint pages t → AreLow config batches t

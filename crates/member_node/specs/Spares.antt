@@ -16,8 +16,8 @@ abbrev pub stopped_in : {T : Type 0} → Result T NodeNo → Bool
 stopped_in (Ok done) = false
 stopped_in (Err e) = is_stop e
 
--- No volume is lost by a call. Nobody is stopped but the member, and it only where the call says so; never the operator. So where an act
--- of the call was halted its answer is Halted: no act is tried again or goes unheeded.
+-- No volume is lost by a call. Nobody is stopped but the member, and it only where the call says so; never the
+-- operator. So where an act of the call was halted its answer is Halted: no act is tried again or goes unheeded.
 pub record Spares (by : ℕ) (stopped : Bool) (old new : View) : Type 0 where
   pub volumes : (n : ℕ) → new.loses (Spool n) ≡ old.loses (Spool n)
   pub stops : (m : ℕ) → (m ≢ by) ⊎ (stopped ≡ false) → new.stops m ≡ old.stops m

@@ -12,11 +12,11 @@ use Rattle.member_node.specs.declared.member.NodeNo.TheVariants.{BothLost, Halte
 use Rattle.member_node.specs.Calls.{Apart, Course, IsLeft}
 use Rattle.member_node.specs.Spares.{Spares, stopped_in}
 
--- behind these batches the journal has one more, kept since it began and by now
+-- after these batches the journal has one more, kept since it began and by now
 abbrev pub HasKept : List Batch → List Batch → Batch → ℕ → Type 0
 HasKept front batches b now = (last : ℕ) × (b.first ≤ last) × (last ≤ now) × (batches ≡ front ++ fated Kept last b ∷ [])
 
--- or one more that is in flight
+-- after these batches the journal has one more, which is in flight
 abbrev pub HasFlying : List Batch → List Batch → Batch → Type 0
 HasFlying front batches b = batches ≡ front ++ b ∷ []
 
@@ -37,7 +37,8 @@ WriteCauses (Err ConsoleFault) by was1 is1 was2 is2 old new = ⊥
 WriteCauses (Err NoMemory) by was1 is1 was2 is2 old new = ⊥
 
 -- A member's batch is written, over a journal with these batches before it.
-pub record IsWrite {T : Type 0} (told : Type 0) (by : ℕ) (b : Batch) (front batches : List Batch) (was1 is1 was2 is2 : Bool) (old new : View) (result : Result T NodeNo) : Type 0 where
+pub record IsWrite {T : Type 0} (told : Type 0) (by : ℕ) (b : Batch) (front batches : List Batch)
+    (was1 is1 was2 is2 : Bool) (old new : View) (result : Result T NodeNo) : Type 0 where
   pub course : Course was1 is1 was2 is2 old new
   pub loses : (d : Dev) → new.loses d ≡ old.loses d
   pub cause : WriteCauses result by was1 is1 was2 is2 old new

@@ -38,43 +38,68 @@ fn log_both<P: Plant + Drop, C: Steady + Drop>(
     requires none { complex.old.current ≡ None }
     requires reserved { IsSome complex.old.reserved }
     requires some { 1 ≤ length (entries_reserved complex.old.reserved) }
-    requires replied { P.tells → ∥ HaveReplies (run complex.old.base (kept_all complex.old.journal.batches)) (entries_reserved complex.old.reserved) ∥₁ }
+    requires replied { P.tells → ∥ HaveReplies (run complex.old.base (kept_all complex.old.journal.batches))
+        (entries_reserved complex.old.reserved) ∥₁ }
     requires first { complex.old.pair.first.alive ≡ true → complex.old.first ≡ AtBefore }
     requires second { complex.old.pair.second.alive ≡ true → complex.old.second ≡ AtBefore }
     requires room1 { complex.old.pair.first.alive ≡ true → 1 ≤ C.room complex.old.pair.first.copy }
     requires room2 { complex.old.pair.second.alive ≡ true → 1 ≤ C.room complex.old.pair.second.copy }
     requires as_many1 { complex.old.pair.first.alive ≡ true → length pages.now ≡ C.count complex.old.pair.first.copy }
     requires as_many2 { complex.old.pair.second.alive ≡ true → length pages.now ≡ C.count complex.old.pair.second.copy }
-    requires changed1 { complex.old.pair.first.alive ≡ true → ArePages (C.count complex.old.pair.first.copy) changed.now }
-    requires changed2 { complex.old.pair.second.alive ≡ true → ArePages (C.count complex.old.pair.second.copy) changed.now }
-    requires covered1 { P.tells → complex.old.pair.first.alive ≡ true → (was : List ℕ) → C.reads (disk_now (P.view complex.old.plant) Ckpt1).bytes ≡ Some was → Covers (C.count complex.old.pair.first.copy) changed.now was (bytes_of pages.now) }
-    requires exact1 { P.tells → complex.old.pair.first.alive ≡ true → (was : List ℕ) → C.reads (disk_now (P.view complex.old.plant) Ckpt1).bytes ≡ Some was → NamesOnly changed.now was (bytes_of pages.now) }
-    requires covered2 { P.tells → complex.old.pair.second.alive ≡ true → (was : List ℕ) → C.reads (disk_now (P.view complex.old.plant) Ckpt2).bytes ≡ Some was → Covers (C.count complex.old.pair.second.copy) changed.now was (bytes_of pages.now) }
-    requires exact2 { P.tells → complex.old.pair.second.alive ≡ true → (was : List ℕ) → C.reads (disk_now (P.view complex.old.plant) Ckpt2).bytes ≡ Some was → NamesOnly changed.now was (bytes_of pages.now) }
+    requires changed1 { complex.old.pair.first.alive ≡ true
+        → ArePages (C.count complex.old.pair.first.copy) changed.now }
+    requires changed2 { complex.old.pair.second.alive ≡ true
+        → ArePages (C.count complex.old.pair.second.copy) changed.now }
+    requires covered1 { P.tells → complex.old.pair.first.alive ≡ true → (was : List ℕ)
+        → C.reads (disk_now (P.view complex.old.plant) Ckpt1).bytes ≡ Some was
+        → Covers (C.count complex.old.pair.first.copy) changed.now was (bytes_of pages.now) }
+    requires exact1 { P.tells → complex.old.pair.first.alive ≡ true → (was : List ℕ)
+        → C.reads (disk_now (P.view complex.old.plant) Ckpt1).bytes ≡ Some was
+        → NamesOnly changed.now was (bytes_of pages.now) }
+    requires covered2 { P.tells → complex.old.pair.second.alive ≡ true → (was : List ℕ)
+        → C.reads (disk_now (P.view complex.old.plant) Ckpt2).bytes ≡ Some was
+        → Covers (C.count complex.old.pair.second.copy) changed.now was (bytes_of pages.now) }
+    requires exact2 { P.tells → complex.old.pair.second.alive ≡ true → (was : List ℕ)
+        → C.reads (disk_now (P.view complex.old.plant) Ckpt2).bytes ≡ Some was
+        → NamesOnly changed.now was (bytes_of pages.now) }
     requires level { P.tells → level (bytes_of pages.now) ≡ complex.old.level + 1 }
-    requires untold { P.tells → IsUntold (setting C.reads complex.old.base complex.old.since) (P.view complex.old.plant) (entries_reserved complex.old.reserved) }
-    requires allowed { P.tells → MayBegin complex.old.base complex.old.journal.batches complex.old.printed (entries_reserved complex.old.reserved) }
-    requires queue { P.tells → ∥ StandFor (run complex.old.base (kept_all complex.old.journal.batches ++ entries_reserved complex.old.reserved)) (bytes_of pages.now) ∥₁ }
-    requires texts { P.tells → ∥ HasTexts (lost_now (P.view complex.old.plant)) (spools_at (P.view complex.old.plant) (P.view complex.old.plant).now) complex.old.base.config.groups (run complex.old.base (kept_all complex.old.journal.batches ++ entries_reserved complex.old.reserved)) ∥₁ }
+    requires untold { P.tells → IsUntold (setting C.reads complex.old.base complex.old.since) (P.view complex.old.plant)
+        (entries_reserved complex.old.reserved) }
+    requires allowed { P.tells → MayBegin complex.old.base complex.old.journal.batches complex.old.printed
+        (entries_reserved complex.old.reserved) }
+    requires queue { P.tells → ∥ StandFor
+        (run complex.old.base (kept_all complex.old.journal.batches ++ entries_reserved complex.old.reserved))
+        (bytes_of pages.now) ∥₁ }
+    requires texts { P.tells → ∥ HasTexts (lost_now (P.view complex.old.plant))
+        (spools_at (P.view complex.old.plant) (P.view complex.old.plant).now) complex.old.base.config.groups
+        (run complex.old.base (kept_all complex.old.journal.batches ++ entries_reserved complex.old.reserved)) ∥₁ }
     ensures base { complex.new.base ≡ complex.old.base }
-    ensures printed { complex.new.printed ≡ printed_after by (entries_reserved complex.old.reserved) complex.old.printed }
+    ensures printed { complex.new.printed
+        ≡ printed_after by (entries_reserved complex.old.reserved) complex.old.printed }
     ensures book { complex.new.book ≡ complex.old.book }
     ensures unreserved { complex.new.reserved ≡ None }
     ensures since { complex.new.since ≡ complex.old.since }
     ensures journal { complex.new.journal ≡ complex.old.journal }
     ensures placed { complex.new.placed ≡ complex.old.placed }
     ensures level { complex.new.level ≡ complex.old.level }
-    ensures flying { complex.new.current ≡ Some (begun (P.view complex.old.plant).now by (entries_reserved complex.old.reserved)) }
+    ensures flying { complex.new.current
+        ≡ Some (begun (P.view complex.old.plant).now by (entries_reserved complex.old.reserved)) }
     ensures places { OnOk result ((complex.new.first ≡ AtPut) × (complex.new.second ≡ AtPut)) }
     ensures count1 { C.count complex.new.pair.first.copy ≡ C.count complex.old.pair.first.copy }
     ensures count2 { C.count complex.new.pair.second.copy ≡ C.count complex.old.pair.second.copy }
-    ensures behind1 { OnOk result (P.tells → complex.new.pair.first.alive ≡ true → C.behind complex.new.pair.first.copy (disk_now (P.view complex.new.plant) Ckpt1).bytes ≡ bytes_of pages.now) }
-    ensures behind2 { OnOk result (P.tells → complex.new.pair.second.alive ≡ true → C.behind complex.new.pair.second.copy (disk_now (P.view complex.new.plant) Ckpt2).bytes ≡ bytes_of pages.now) }
+    ensures behind1 { OnOk result (P.tells → complex.new.pair.first.alive ≡ true
+        → C.behind complex.new.pair.first.copy (disk_now (P.view complex.new.plant) Ckpt1).bytes ≡ bytes_of pages.now) }
+    ensures behind2 { OnOk result (P.tells → complex.new.pair.second.alive ≡ true
+        → C.behind complex.new.pair.second.copy (disk_now (P.view complex.new.plant) Ckpt2).bytes
+        ≡ bytes_of pages.now) }
     ensures room1 { C.room complex.new.pair.first.copy ≡ C.room complex.old.pair.first.copy }
     ensures room2 { C.room complex.new.pair.second.copy ≡ C.room complex.old.pair.second.copy }
-    ensures acted { PairActed by.0 complex.old.pair.first.alive complex.new.pair.first.alive complex.old.pair.second.alive complex.new.pair.second.alive (pair_stopped result) (P.view complex.old.plant) (P.view complex.new.plant) }
+    ensures acted { PairActed by.0 complex.old.pair.first.alive complex.new.pair.first.alive
+        complex.old.pair.second.alive complex.new.pair.second.alive (pair_stopped result) (P.view complex.old.plant)
+        (P.view complex.new.plant) }
     ensures apart { P.tells → Apart (P.view complex.old.plant) (P.view complex.new.plant) }
-    ensures both { IsErrOf result PairNoBothLost → IsBothLost complex.new.pair.first.alive complex.new.pair.second.alive }
+    ensures both { IsErrOf result PairNoBothLost
+        → IsBothLost complex.new.pair.first.alive complex.new.pair.second.alive }
     ensures ok { OnOk result (SomeAlive complex.new.pair.first.alive complex.new.pair.second.alive) }
 {
     complex.log(by, Dev::Ckpt1, pages, changed)?;
@@ -100,23 +125,34 @@ fn open_both<P: Plant + Drop, C: Steady + Drop>(
     ensures book { complex.new.book ≡ complex.old.book }
     ensures reserved { complex.new.reserved ≡ complex.old.reserved }
     ensures since { complex.new.since ≡ complex.old.since }
-    ensures kept { OnOk result ((b : Batch) → complex.old.current ≡ Some b → complex.new.journal.batches ≡ with_last (fated Kept (P.view complex.new.plant).now b) complex.old.journal.batches) }
+    ensures kept { OnOk result ((b : Batch) → complex.old.current ≡ Some b
+        → complex.new.journal.batches ≡ with_last (fated Kept (P.view complex.new.plant).now b)
+        complex.old.journal.batches) }
     ensures unplaced { OnOk result (complex.new.placed ≡ false) }
     ensures level { OnOk result (complex.new.level ≡ complex.old.level + 1) }
     ensures places { OnOk result ((complex.new.first ≡ AtBefore) × (complex.new.second ≡ AtBefore)) }
     ensures count1 { C.count complex.new.pair.first.copy ≡ C.count complex.old.pair.first.copy }
     ensures count2 { C.count complex.new.pair.second.copy ≡ C.count complex.old.pair.second.copy }
-    ensures room1 { OnOk result (complex.new.pair.first.alive ≡ true → C.room complex.new.pair.first.copy ≡ C.room_after (C.room complex.old.pair.first.copy)) }
-    ensures room2 { OnOk result (complex.new.pair.second.alive ≡ true → C.room complex.new.pair.second.copy ≡ C.room_after (C.room complex.old.pair.second.copy)) }
-    ensures reads1 { OnOk result (P.tells → complex.new.pair.first.alive ≡ true → C.reads (disk_now (P.view complex.new.plant) Ckpt1).bytes ≡ Some (C.behind complex.old.pair.first.copy (disk_now (P.view complex.old.plant) Ckpt1).bytes)) }
-    ensures reads2 { OnOk result (P.tells → complex.new.pair.second.alive ≡ true → C.reads (disk_now (P.view complex.new.plant) Ckpt2).bytes ≡ Some (C.behind complex.old.pair.second.copy (disk_now (P.view complex.old.plant) Ckpt2).bytes)) }
+    ensures room1 { OnOk result (complex.new.pair.first.alive ≡ true
+        → C.room complex.new.pair.first.copy ≡ C.room_after (C.room complex.old.pair.first.copy)) }
+    ensures room2 { OnOk result (complex.new.pair.second.alive ≡ true
+        → C.room complex.new.pair.second.copy ≡ C.room_after (C.room complex.old.pair.second.copy)) }
+    ensures reads1 { OnOk result (P.tells → complex.new.pair.first.alive ≡ true
+        → C.reads (disk_now (P.view complex.new.plant) Ckpt1).bytes
+        ≡ Some (C.behind complex.old.pair.first.copy (disk_now (P.view complex.old.plant) Ckpt1).bytes)) }
+    ensures reads2 { OnOk result (P.tells → complex.new.pair.second.alive ≡ true
+        → C.reads (disk_now (P.view complex.new.plant) Ckpt2).bytes
+        ≡ Some (C.behind complex.old.pair.second.copy (disk_now (P.view complex.old.plant) Ckpt2).bytes)) }
     ensures none { OnOk result (complex.new.current ≡ None) }
     ensures journal { OnErr result (complex.new.journal ≡ complex.old.journal) }
     ensures placed { OnErr result (complex.new.placed ≡ complex.old.placed) }
     ensures flying { OnErr result (complex.new.current ≡ complex.old.current) }
-    ensures acted { PairActed by.0 complex.old.pair.first.alive complex.new.pair.first.alive complex.old.pair.second.alive complex.new.pair.second.alive (pair_stopped result) (P.view complex.old.plant) (P.view complex.new.plant) }
+    ensures acted { PairActed by.0 complex.old.pair.first.alive complex.new.pair.first.alive
+        complex.old.pair.second.alive complex.new.pair.second.alive (pair_stopped result) (P.view complex.old.plant)
+        (P.view complex.new.plant) }
     ensures apart { P.tells → Apart (P.view complex.old.plant) (P.view complex.new.plant) }
-    ensures both { IsErrOf result PairNoBothLost → IsBothLost complex.new.pair.first.alive complex.new.pair.second.alive }
+    ensures both { IsErrOf result PairNoBothLost
+        → IsBothLost complex.new.pair.first.alive complex.new.pair.second.alive }
     ensures ok { OnOk result (SomeAlive complex.new.pair.first.alive complex.new.pair.second.alive) }
 {
     complex.open_copy(by, Dev::Ckpt1)?;
@@ -138,47 +174,76 @@ pub(crate) fn commit<P: Plant + Drop, C: Steady + Drop>(
     requires none { complex.old.current ≡ None }
     requires reserved { IsSome complex.old.reserved }
     requires some { 1 ≤ length (entries_reserved complex.old.reserved) }
-    requires replied { P.tells → ∥ HaveReplies (run complex.old.base (kept_all complex.old.journal.batches)) (entries_reserved complex.old.reserved) ∥₁ }
+    requires replied { P.tells → ∥ HaveReplies (run complex.old.base (kept_all complex.old.journal.batches))
+        (entries_reserved complex.old.reserved) ∥₁ }
     requires first { complex.old.pair.first.alive ≡ true → complex.old.first ≡ AtBefore }
     requires second { complex.old.pair.second.alive ≡ true → complex.old.second ≡ AtBefore }
     requires room1 { complex.old.pair.first.alive ≡ true → 1 ≤ C.room complex.old.pair.first.copy }
     requires room2 { complex.old.pair.second.alive ≡ true → 1 ≤ C.room complex.old.pair.second.copy }
     requires as_many1 { complex.old.pair.first.alive ≡ true → length pages.now ≡ C.count complex.old.pair.first.copy }
     requires as_many2 { complex.old.pair.second.alive ≡ true → length pages.now ≡ C.count complex.old.pair.second.copy }
-    requires changed1 { complex.old.pair.first.alive ≡ true → ArePages (C.count complex.old.pair.first.copy) changed.now }
-    requires changed2 { complex.old.pair.second.alive ≡ true → ArePages (C.count complex.old.pair.second.copy) changed.now }
-    requires covered1 { P.tells → complex.old.pair.first.alive ≡ true → (was : List ℕ) → C.reads (disk_now (P.view complex.old.plant) Ckpt1).bytes ≡ Some was → Covers (C.count complex.old.pair.first.copy) changed.now was (bytes_of pages.now) }
-    requires exact1 { P.tells → complex.old.pair.first.alive ≡ true → (was : List ℕ) → C.reads (disk_now (P.view complex.old.plant) Ckpt1).bytes ≡ Some was → NamesOnly changed.now was (bytes_of pages.now) }
-    requires covered2 { P.tells → complex.old.pair.second.alive ≡ true → (was : List ℕ) → C.reads (disk_now (P.view complex.old.plant) Ckpt2).bytes ≡ Some was → Covers (C.count complex.old.pair.second.copy) changed.now was (bytes_of pages.now) }
-    requires exact2 { P.tells → complex.old.pair.second.alive ≡ true → (was : List ℕ) → C.reads (disk_now (P.view complex.old.plant) Ckpt2).bytes ≡ Some was → NamesOnly changed.now was (bytes_of pages.now) }
+    requires changed1 { complex.old.pair.first.alive ≡ true
+        → ArePages (C.count complex.old.pair.first.copy) changed.now }
+    requires changed2 { complex.old.pair.second.alive ≡ true
+        → ArePages (C.count complex.old.pair.second.copy) changed.now }
+    requires covered1 { P.tells → complex.old.pair.first.alive ≡ true → (was : List ℕ)
+        → C.reads (disk_now (P.view complex.old.plant) Ckpt1).bytes ≡ Some was
+        → Covers (C.count complex.old.pair.first.copy) changed.now was (bytes_of pages.now) }
+    requires exact1 { P.tells → complex.old.pair.first.alive ≡ true → (was : List ℕ)
+        → C.reads (disk_now (P.view complex.old.plant) Ckpt1).bytes ≡ Some was
+        → NamesOnly changed.now was (bytes_of pages.now) }
+    requires covered2 { P.tells → complex.old.pair.second.alive ≡ true → (was : List ℕ)
+        → C.reads (disk_now (P.view complex.old.plant) Ckpt2).bytes ≡ Some was
+        → Covers (C.count complex.old.pair.second.copy) changed.now was (bytes_of pages.now) }
+    requires exact2 { P.tells → complex.old.pair.second.alive ≡ true → (was : List ℕ)
+        → C.reads (disk_now (P.view complex.old.plant) Ckpt2).bytes ≡ Some was
+        → NamesOnly changed.now was (bytes_of pages.now) }
     requires level { P.tells → level (bytes_of pages.now) ≡ complex.old.level + 1 }
     requires small { complex.old.level < top }
-    requires untold { P.tells → IsUntold (setting C.reads complex.old.base complex.old.since) (P.view complex.old.plant) (entries_reserved complex.old.reserved) }
-    requires allowed { P.tells → MayBegin complex.old.base complex.old.journal.batches complex.old.printed (entries_reserved complex.old.reserved) }
-    requires queue { P.tells → ∥ StandFor (run complex.old.base (kept_all complex.old.journal.batches ++ entries_reserved complex.old.reserved)) (bytes_of pages.now) ∥₁ }
-    requires texts { P.tells → ∥ HasTexts (lost_now (P.view complex.old.plant)) (spools_at (P.view complex.old.plant) (P.view complex.old.plant).now) complex.old.base.config.groups (run complex.old.base (kept_all complex.old.journal.batches ++ entries_reserved complex.old.reserved)) ∥₁ }
+    requires untold { P.tells → IsUntold (setting C.reads complex.old.base complex.old.since) (P.view complex.old.plant)
+        (entries_reserved complex.old.reserved) }
+    requires allowed { P.tells → MayBegin complex.old.base complex.old.journal.batches complex.old.printed
+        (entries_reserved complex.old.reserved) }
+    requires queue { P.tells → ∥ StandFor
+        (run complex.old.base (kept_all complex.old.journal.batches ++ entries_reserved complex.old.reserved))
+        (bytes_of pages.now) ∥₁ }
+    requires texts { P.tells → ∥ HasTexts (lost_now (P.view complex.old.plant))
+        (spools_at (P.view complex.old.plant) (P.view complex.old.plant).now) complex.old.base.config.groups
+        (run complex.old.base (kept_all complex.old.journal.batches ++ entries_reserved complex.old.reserved)) ∥₁ }
     ensures base { complex.new.base ≡ complex.old.base }
-    ensures printed { complex.new.printed ≡ printed_after by (entries_reserved complex.old.reserved) complex.old.printed }
+    ensures printed { complex.new.printed
+        ≡ printed_after by (entries_reserved complex.old.reserved) complex.old.printed }
     ensures book { complex.new.book ≡ complex.old.book }
     ensures unreserved { complex.new.reserved ≡ None }
     ensures since { complex.new.since ≡ complex.old.since }
-    ensures kept { OnOk result (complex.new.journal.batches ≡ with_last (fated Kept (P.view complex.new.plant).now (begun (P.view complex.old.plant).now by (entries_reserved complex.old.reserved))) complex.old.journal.batches) }
+    ensures kept { OnOk result (complex.new.journal.batches
+        ≡ with_last (fated Kept (P.view complex.new.plant).now
+        (begun (P.view complex.old.plant).now by (entries_reserved complex.old.reserved)))
+        complex.old.journal.batches) }
     ensures unplaced { OnOk result (complex.new.placed ≡ false) }
     ensures level { OnOk result (complex.new.level ≡ complex.old.level + 1) }
     ensures places { OnOk result ((complex.new.first ≡ AtBefore) × (complex.new.second ≡ AtBefore)) }
     ensures count1 { C.count complex.new.pair.first.copy ≡ C.count complex.old.pair.first.copy }
     ensures count2 { C.count complex.new.pair.second.copy ≡ C.count complex.old.pair.second.copy }
-    ensures room1 { OnOk result (complex.new.pair.first.alive ≡ true → C.room complex.new.pair.first.copy ≡ C.room_after (C.room complex.old.pair.first.copy)) }
-    ensures room2 { OnOk result (complex.new.pair.second.alive ≡ true → C.room complex.new.pair.second.copy ≡ C.room_after (C.room complex.old.pair.second.copy)) }
-    ensures reads1 { OnOk result (P.tells → complex.new.pair.first.alive ≡ true → C.reads (disk_now (P.view complex.new.plant) Ckpt1).bytes ≡ Some (bytes_of pages.now)) }
-    ensures reads2 { OnOk result (P.tells → complex.new.pair.second.alive ≡ true → C.reads (disk_now (P.view complex.new.plant) Ckpt2).bytes ≡ Some (bytes_of pages.now)) }
+    ensures room1 { OnOk result (complex.new.pair.first.alive ≡ true
+        → C.room complex.new.pair.first.copy ≡ C.room_after (C.room complex.old.pair.first.copy)) }
+    ensures room2 { OnOk result (complex.new.pair.second.alive ≡ true
+        → C.room complex.new.pair.second.copy ≡ C.room_after (C.room complex.old.pair.second.copy)) }
+    ensures reads1 { OnOk result (P.tells → complex.new.pair.first.alive ≡ true
+        → C.reads (disk_now (P.view complex.new.plant) Ckpt1).bytes ≡ Some (bytes_of pages.now)) }
+    ensures reads2 { OnOk result (P.tells → complex.new.pair.second.alive ≡ true
+        → C.reads (disk_now (P.view complex.new.plant) Ckpt2).bytes ≡ Some (bytes_of pages.now)) }
     ensures none { OnOk result (complex.new.current ≡ None) }
     ensures journal { OnErr result (complex.new.journal ≡ complex.old.journal) }
     ensures placed { OnErr result (complex.new.placed ≡ complex.old.placed) }
-    ensures flying { OnErr result (complex.new.current ≡ Some (begun (P.view complex.old.plant).now by (entries_reserved complex.old.reserved))) }
-    ensures acted { PairActed by.0 complex.old.pair.first.alive complex.new.pair.first.alive complex.old.pair.second.alive complex.new.pair.second.alive (pair_stopped result) (P.view complex.old.plant) (P.view complex.new.plant) }
+    ensures flying { OnErr result (complex.new.current
+        ≡ Some (begun (P.view complex.old.plant).now by (entries_reserved complex.old.reserved))) }
+    ensures acted { PairActed by.0 complex.old.pair.first.alive complex.new.pair.first.alive
+        complex.old.pair.second.alive complex.new.pair.second.alive (pair_stopped result) (P.view complex.old.plant)
+        (P.view complex.new.plant) }
     ensures apart { P.tells → Apart (P.view complex.old.plant) (P.view complex.new.plant) }
-    ensures both { IsErrOf result PairNoBothLost → IsBothLost complex.new.pair.first.alive complex.new.pair.second.alive }
+    ensures both { IsErrOf result PairNoBothLost
+        → IsBothLost complex.new.pair.first.alive complex.new.pair.second.alive }
     ensures ok { OnOk result (SomeAlive complex.new.pair.first.alive complex.new.pair.second.alive) }
 {
     log_both(complex, by, pages, changed)?;

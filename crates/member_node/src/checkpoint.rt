@@ -160,7 +160,8 @@ fn take_changes(checkpoint: &mut Checkpoint, numbers: &[u16])
     ensures level { checkpoint.new.level ≡ checkpoint.old.level + 1 }
     ensures drawn { AreDrawn checkpoint.new.tables checkpoint.new.level checkpoint.new.levels checkpoint.new.pages }
     ensures changed { ArePages (length checkpoint.new.pages) numbers.now }
-    ensures covered { Covers (length checkpoint.new.pages) numbers.now (bytes_of checkpoint.old.pages) (bytes_of checkpoint.new.pages) }
+    ensures covered { Covers (length checkpoint.new.pages) numbers.now (bytes_of checkpoint.old.pages)
+        (bytes_of checkpoint.new.pages) }
     ensures exact { NamesOnly numbers.now (bytes_of checkpoint.old.pages) (bytes_of checkpoint.new.pages) }
 {
     checkpoint.level += 1;
@@ -184,9 +185,12 @@ pub fn redraw(alloc: Global, checkpoint: &mut Checkpoint) -> Result<Draft, NoMem
     requires sized { All (λ page. length page.0 ≡ page_bytes) checkpoint.old.pages }
     ensures err { OnErr result (checkpoint.new ≡ checkpoint.old) }
     ensures tables { checkpoint.new.tables ≡ checkpoint.old.tables }
-    ensures drawn { OnOk result (AreDrawn checkpoint.new.tables checkpoint.new.level checkpoint.new.levels checkpoint.new.pages) }
-    ensures draft { IfOk result (λ draft. IsRedrawn draft checkpoint.old.level checkpoint.old.pages checkpoint.new.level checkpoint.new.pages) }
-    ensures same { IfOk result (λ draft. IsSameWhere draft (Spell checkpoint.old.tables checkpoint.old.levels checkpoint.old.pages)) }
+    ensures drawn { OnOk result (AreDrawn checkpoint.new.tables checkpoint.new.level checkpoint.new.levels
+        checkpoint.new.pages) }
+    ensures draft { IfOk result (λ draft.
+        IsRedrawn draft checkpoint.old.level checkpoint.old.pages checkpoint.new.level checkpoint.new.pages) }
+    ensures same { IfOk result (λ draft.
+        IsSameWhere draft (Spell checkpoint.old.tables checkpoint.old.levels checkpoint.old.pages)) }
 {
     let draft = draft_of(
         alloc,

@@ -1,4 +1,5 @@
-//! A member with its own checkpoint: commands that it does on its tables, and the batch in which they are written to both copies.
+//! A member with its own checkpoint: commands that it does on its tables, and the batch in which they are written to
+//! both copies.
 #![tactic(auto)]
 
 mod batch;

@@ -84,13 +84,15 @@ impl Member {
     ghost use Rattle.member_node.specs.Batches.{HasDone, last_reply as last_of};
     ghost use Rattle.member_node.specs.Drawn.{AreDrawn};
 
-    /// A member of a run with this configuration, which has read nothing and done nothing: its checkpoint is that of an empty queue, with
-    /// every page at level 1. It has to read the copies before it gives a command.
+    /// A member of a run with this configuration, which has read nothing and done nothing: its checkpoint is that of an
+    /// empty queue, with every page at level 1. It has to read the copies before it gives a command.
     pub fn new(alloc: Global, id: MemberId, config: &Config) -> Result<Member, NoMemory>
         requires { IsConfig config.now }
         ensures id { IfOk result (λ member. member.id ≡ id) }
         ensures config { IfOk result (λ member. member.checkpoint.tables.config ≡ config.now) }
-        ensures drawn { IfOk result (λ member. AreDrawn member.checkpoint.tables member.checkpoint.level member.checkpoint.levels member.checkpoint.pages) }
+        ensures drawn { IfOk result (λ member.
+            AreDrawn member.checkpoint.tables member.checkpoint.level member.checkpoint.levels
+            member.checkpoint.pages) }
         ensures batch { IfOk result (λ member. member.batch ≡ []) }
         ensures room { IfOk result (λ member. length member.room ≡ length member.checkpoint.pages) }
         ensures behind { IfOk result (λ member. member.behind ≡ false) }
@@ -118,8 +120,8 @@ impl Member {
         })
     }
 
-    /// Does a command on its tables: for each queue that the tables tell, the batch has one entry more, the command with the reply that
-    /// it has there, and the tables tell the queue that it leaves.
+    /// Does a command on its tables: for each queue that the tables tell, the batch has one entry more, the command
+    /// with the reply that it has there, and the tables tell the queue that it leaves.
     ///
     /// NoMemory leaves the member as it was.
     pub fn do_command(&mut self, alloc: Global, step: u32, command: Command) -> Result<(), NoMemory>
@@ -135,14 +137,25 @@ impl Member {
         ensures level { self.new.checkpoint.level ≡ self.old.checkpoint.level }
         ensures levels { self.new.checkpoint.levels ≡ self.old.checkpoint.levels }
         ensures pages { self.new.checkpoint.pages ≡ self.old.checkpoint.pages }
-        ensures pushed { OnOk result ((r : ReplyLem) × (self.new.batch ≡ self.old.batch ++ record { by = self.old.id; step = step; command = command; reply = r } ∷ []) × IsReplyNamed r) }
-        ensures entry { OnOk result ((Q : Queue) → Tell self.old.checkpoint.tables Q → self.new.batch ≡ self.old.batch ++ record { by = self.old.id; step = step; command = command; reply = (step_of Q self.old.id command).1 } ∷ []) }
-        ensures effect { OnOk result ((Q : Queue) → Tell self.old.checkpoint.tables Q → Tell self.new.checkpoint.tables (step_of Q self.old.id command).0) }
-        ensures sound { OnOk result ((s : TellSound self.old.checkpoint.tables) → may_give s.queue self.old.id command ≡ true → TellSound self.new.checkpoint.tables) }
-        ensures named { OnOk result ((Q : Queue) → Tell self.old.checkpoint.tables Q → IsReplyNamed (step_of Q self.old.id command).1) }
-        ensures refused { OnOk result ((Q : Queue) → Tell self.old.checkpoint.tables Q → IfRefused (step_of Q self.old.id command).1 (self.new.checkpoint.tables ≡ self.old.checkpoint.tables)) }
-        ensures own { OnOk result (All (λ e. e.by ≡ self.old.id) self.old.batch → All (λ e. e.by ≡ self.old.id) self.new.batch) }
-        ensures done { OnOk result ((Q : Queue) → HasDone Q self.old.batch self.old.checkpoint → HasDone Q self.new.batch self.new.checkpoint) }
+        ensures pushed { OnOk result ((r : ReplyLem)
+            × (self.new.batch ≡ self.old.batch
+            ++ record { by = self.old.id; step = step; command = command; reply = r } ∷ []) × IsReplyNamed r) }
+        ensures entry { OnOk result ((Q : Queue) → Tell self.old.checkpoint.tables Q
+            → self.new.batch ≡ self.old.batch
+            ++ record { by = self.old.id; step = step; command = command; reply = (step_of Q self.old.id command).1 }
+            ∷ []) }
+        ensures effect { OnOk result ((Q : Queue) → Tell self.old.checkpoint.tables Q
+            → Tell self.new.checkpoint.tables (step_of Q self.old.id command).0) }
+        ensures sound { OnOk result ((s : TellSound self.old.checkpoint.tables)
+            → may_give s.queue self.old.id command ≡ true → TellSound self.new.checkpoint.tables) }
+        ensures named { OnOk result ((Q : Queue) → Tell self.old.checkpoint.tables Q
+            → IsReplyNamed (step_of Q self.old.id command).1) }
+        ensures refused { OnOk result ((Q : Queue) → Tell self.old.checkpoint.tables Q
+            → IfRefused (step_of Q self.old.id command).1 (self.new.checkpoint.tables ≡ self.old.checkpoint.tables)) }
+        ensures own { OnOk result (All (λ e. e.by ≡ self.old.id) self.old.batch
+            → All (λ e. e.by ≡ self.old.id) self.new.batch) }
+        ensures done { OnOk result ((Q : Queue) → HasDone Q self.old.batch self.old.checkpoint
+            → HasDone Q self.new.batch self.new.checkpoint) }
         ensures err { OnErr result (self.new ≡ self.old) }
         ensures spelling { HasSpelling self.new.checkpoint.tables }
         ensures fit { AreFit self.new.checkpoint.tables }

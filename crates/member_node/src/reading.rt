@@ -65,10 +65,14 @@ fn read_one<P: Plant + Drop, C: Steady + Drop>(
     ensures level { complex.new.level ≡ complex.old.level }
     ensures copy1 { complex.new.pair.first.copy ≡ complex.old.pair.first.copy }
     ensures copy2 { complex.new.pair.second.copy ≡ complex.old.pair.second.copy }
-    ensures read { IsRead P.tells by.0 complex.old.pair.first.alive complex.new.pair.first.alive complex.old.pair.second.alive complex.new.pair.second.alive (P.view complex.old.plant) (P.view complex.new.plant) result }
+    ensures read { IsRead P.tells by.0 complex.old.pair.first.alive complex.new.pair.first.alive
+        complex.old.pair.second.alive complex.new.pair.second.alive (P.view complex.old.plant)
+        (P.view complex.new.plant) result }
     ensures loses { (d : Dev) → (P.view complex.new.plant).loses d ≡ (P.view complex.old.plant).loses d }
-    ensures page { OnOk result (P.tells → (was : List ℕ) → ReadsAs P.tells complex.new.pair.first.alive (C.reads (disk_now (P.view complex.new.plant) Ckpt1).bytes) was
-        → ReadsAs P.tells complex.new.pair.second.alive (C.reads (disk_now (P.view complex.new.plant) Ckpt2).bytes) was → into.new.0 ≡ page_in page was) }
+    ensures page { OnOk result (P.tells → (was : List ℕ)
+        → ReadsAs P.tells complex.new.pair.first.alive (C.reads (disk_now (P.view complex.new.plant) Ckpt1).bytes) was
+        → ReadsAs P.tells complex.new.pair.second.alive (C.reads (disk_now (P.view complex.new.plant) Ckpt2).bytes) was
+        → into.new.0 ≡ page_in page was) }
 {
     complex.kept_pages();
     match complex.read_page(by, page, into) {
@@ -86,8 +90,10 @@ fn read_from<P: Plant + Drop, C: Steady + Drop>(
     first: usize,
 ) -> Result<(), NodeNo>
     requires may { MayAct complex.old.book by }
-    requires calm1 { IsCalm complex.old.pair.first.alive complex.old.first (C.count complex.old.pair.first.copy) (length room.old) }
-    requires calm2 { IsCalm complex.old.pair.second.alive complex.old.second (C.count complex.old.pair.second.copy) (length room.old) }
+    requires calm1 { IsCalm complex.old.pair.first.alive complex.old.first (C.count complex.old.pair.first.copy)
+        (length room.old) }
+    requires calm2 { IsCalm complex.old.pair.second.alive complex.old.second (C.count complex.old.pair.second.copy)
+        (length room.old) }
     requires some { first < length room.old }
     requires few { length room.old ≤ pages_most }
     ensures base { complex.new.base ≡ complex.old.base }
@@ -105,10 +111,14 @@ fn read_from<P: Plant + Drop, C: Steady + Drop>(
     ensures copy2 { complex.new.pair.second.copy ≡ complex.old.pair.second.copy }
     ensures as_many { length room.new ≡ length room.old }
     ensures before { (was : List ℕ) → ArePagesOf 0 first was room.old → ArePagesOf 0 first was room.new }
-    ensures read { IsRead P.tells by.0 complex.old.pair.first.alive complex.new.pair.first.alive complex.old.pair.second.alive complex.new.pair.second.alive (P.view complex.old.plant) (P.view complex.new.plant) result }
+    ensures read { IsRead P.tells by.0 complex.old.pair.first.alive complex.new.pair.first.alive
+        complex.old.pair.second.alive complex.new.pair.second.alive (P.view complex.old.plant)
+        (P.view complex.new.plant) result }
     ensures loses { (d : Dev) → (P.view complex.new.plant).loses d ≡ (P.view complex.old.plant).loses d }
-    ensures pages { OnOk result (P.tells → (was : List ℕ) → ReadsAs P.tells complex.old.pair.first.alive (C.reads (disk_now (P.view complex.old.plant) Ckpt1).bytes) was
-        → ReadsAs P.tells complex.old.pair.second.alive (C.reads (disk_now (P.view complex.old.plant) Ckpt2).bytes) was → ArePagesOf first (length room.new) was room.new) }
+    ensures pages { OnOk result (P.tells → (was : List ℕ)
+        → ReadsAs P.tells complex.old.pair.first.alive (C.reads (disk_now (P.view complex.old.plant) Ckpt1).bytes) was
+        → ReadsAs P.tells complex.old.pair.second.alive (C.reads (disk_now (P.view complex.old.plant) Ckpt2).bytes) was
+        → ArePagesOf first (length room.new) was room.new) }
 {
     for page in first..room.len() {
         read_one(complex, by, page as u16, &mut room[page])?;
@@ -132,8 +142,10 @@ fn lose_source<P: Plant + Drop, C: Steady + Drop>(complex: &mut Complex<P, C>)
     ensures level { complex.new.level ≡ complex.old.level }
     ensures copy1 { complex.new.pair.first.copy ≡ complex.old.pair.first.copy }
     ensures copy2 { complex.new.pair.second.copy ≡ complex.old.pair.second.copy }
-    ensures lost { copies_alive complex.new.pair.first.alive complex.new.pair.second.alive < copies_alive complex.old.pair.first.alive complex.old.pair.second.alive }
-    ensures course { Course complex.old.pair.first.alive complex.new.pair.first.alive complex.old.pair.second.alive complex.new.pair.second.alive (P.view complex.old.plant) (P.view complex.new.plant) }
+    ensures lost { copies_alive complex.new.pair.first.alive complex.new.pair.second.alive
+        < copies_alive complex.old.pair.first.alive complex.old.pair.second.alive }
+    ensures course { Course complex.old.pair.first.alive complex.new.pair.first.alive complex.old.pair.second.alive
+        complex.new.pair.second.alive (P.view complex.old.plant) (P.view complex.new.plant) }
     ensures spares { Spares 0 false (P.view complex.old.plant) (P.view complex.new.plant) }
 {
     if complex.pair.first.alive {
@@ -160,8 +172,11 @@ fn lose_read<P: Plant + Drop, C: Steady + Drop>(complex: &mut Complex<P, C>) -> 
     ensures level { complex.new.level ≡ complex.old.level }
     ensures copy1 { complex.new.pair.first.copy ≡ complex.old.pair.first.copy }
     ensures copy2 { complex.new.pair.second.copy ≡ complex.old.pair.second.copy }
-    ensures lost { copies_alive complex.new.pair.first.alive complex.new.pair.second.alive < copies_alive complex.old.pair.first.alive complex.old.pair.second.alive }
-    ensures read { IsRead P.tells 0 complex.old.pair.first.alive complex.new.pair.first.alive complex.old.pair.second.alive complex.new.pair.second.alive (P.view complex.old.plant) (P.view complex.new.plant) result }
+    ensures lost { copies_alive complex.new.pair.first.alive complex.new.pair.second.alive
+        < copies_alive complex.old.pair.first.alive complex.old.pair.second.alive }
+    ensures read { IsRead P.tells 0 complex.old.pair.first.alive complex.new.pair.first.alive
+        complex.old.pair.second.alive complex.new.pair.second.alive (P.view complex.old.plant)
+        (P.view complex.new.plant) result }
     ensures only { IfErr result (λ e. e ≡ no_node.BothLost) }
 {
     lose_source(complex);
@@ -186,22 +201,28 @@ fn spells(room: &[Page], own: &[Page]) -> bool
     first_bad(room).is_none()
 }
 
-// Whether the pages that were read spell tables, as the member's own do. Where content is told they do, and stand for the queue after the
-// kept batches.
+// Whether the pages that were read spell tables, as the member's own do. Where content is told they do, and stand for
+// the queue after the kept batches.
 fn are_spelled<P: Plant + Drop, C: Steady + Drop>(
     complex: &Complex<P, C>,
     room: &[Page],
     own: &[Page],
 ) -> bool
     requires own { SpellSome own.now }
-    requires config { P.tells → page_count (run complex.now.base (kept_all complex.now.journal.batches)).config ≡ length room.now }
-    requires read { P.tells → ∥ IsReadWhole (run complex.now.base (kept_all complex.now.journal.batches)) complex.now.level complex.now.pair.first.alive complex.now.pair.second.alive
-        (C.reads (disk_now (P.view complex.now.plant) Ckpt1).bytes) (C.reads (disk_now (P.view complex.now.plant) Ckpt2).bytes) room.now ∥₁ }
+    requires config { P.tells → page_count (run complex.now.base (kept_all complex.now.journal.batches)).config
+        ≡ length room.now }
+    requires read { P.tells → ∥ IsReadWhole (run complex.now.base (kept_all complex.now.journal.batches))
+        complex.now.level complex.now.pair.first.alive complex.now.pair.second.alive
+        (C.reads (disk_now (P.view complex.now.plant) Ckpt1).bytes)
+        (C.reads (disk_now (P.view complex.now.plant) Ckpt2).bytes) room.now ∥₁ }
     ensures good { result ≡ true → SpellSome room.now }
     ensures bad { result ≡ false → P.tells → ⊥ }
-    ensures reads1 { ReadsAs P.tells complex.now.pair.first.alive (C.reads (disk_now (P.view complex.now.plant) Ckpt1).bytes) (bytes_of room.now) }
-    ensures reads2 { ReadsAs P.tells complex.now.pair.second.alive (C.reads (disk_now (P.view complex.now.plant) Ckpt2).bytes) (bytes_of room.now) }
-    ensures stand { P.tells → ∥ StandAt (run complex.now.base (kept_all complex.now.journal.batches)) complex.now.level room.now ∥₁ }
+    ensures reads1 { ReadsAs P.tells complex.now.pair.first.alive
+        (C.reads (disk_now (P.view complex.now.plant) Ckpt1).bytes) (bytes_of room.now) }
+    ensures reads2 { ReadsAs P.tells complex.now.pair.second.alive
+        (C.reads (disk_now (P.view complex.now.plant) Ckpt2).bytes) (bytes_of room.now) }
+    ensures stand { P.tells → ∥ StandAt (run complex.now.base (kept_all complex.now.journal.batches)) complex.now.level
+        room.now ∥₁ }
 {
     spells(room, own)
 }
@@ -216,7 +237,7 @@ fn are_jobs_below(jobs: &[Option<JobRec>], order: u64) -> bool
     })
 }
 
-// And those of the outputs.
+// The orders of the outputs are below this one.
 fn are_outputs_below(outputs: &[Option<OutRec>], order: u64) -> bool
     ensures { result ≡ list_all (is_output_below order) outputs.now }
 {
@@ -252,11 +273,12 @@ impl Member {
     ghost use Rattle.member_node.specs.Drawn.{AreDrawn};
     ghost use Rattle.member_node.specs.Reads.{IsReadIn, IsSettle, IsUpTo, ReadsLow, orders_after, pages_had, too_high};
 
-    /// A try at the lock of the checkpoint, by the book of the shared value. An `inner` try is one in the middle of a step. After Ok the
-    /// member holds, and what it knows of the copies may be old: it has to read them before it gives a command.
+    /// A try at the lock of the checkpoint, by the book of the shared value. An `inner` try is one in the middle of a
+    /// step. After Ok the member holds, and what it knows of the copies may be old: it has to read them before it gives
+    /// a command.
     ///
-    /// Down comes exactly where the member is stopped, Busy exactly where it isn't and another one holds, Dormant exactly where it isn't
-    /// stopped, nobody holds and it leaves the lock to others. All but the book is as it was.
+    /// Down comes exactly where the member is stopped, Busy exactly where it isn't and another one holds, Dormant
+    /// exactly where it isn't stopped, nobody holds and it leaves the lock to others. All but the book is as it was.
     pub fn lock<P: Plant + Drop, C: Steady + Drop>(
         &self,
         complex: &mut Complex<P, C>,
@@ -283,8 +305,8 @@ impl Member {
         complex.try_lock(self.id, inner)
     }
 
-    /// The member gives the lock up. Its batch is written: it has none. NotHolder comes exactly where it doesn't hold, and nothing is
-    /// changed then. All but the book, and a batch that was reserved and hasn't begun, is as it was.
+    /// The member gives the lock up. Its batch is written: it has none. NotHolder comes exactly where it doesn't hold,
+    /// and nothing is changed then. All but the book, and a batch that was reserved and hasn't begun, is as it was.
     pub fn free<P: Plant + Drop, C: Steady + Drop>(
         &self,
         complex: &mut Complex<P, C>,
@@ -316,16 +338,18 @@ impl Member {
 
     /// The first read: page 0, from CKPT1 while its copy counts as alive, else from CKPT2. The member holds the lock.
     ///
-    /// BothLost comes only where both copies count as lost at the end of the call, Halted only where the member was stopped in it. The
-    /// member's tables are as they were.
+    /// BothLost comes only where both copies count as lost at the end of the call, Halted only where the member was
+    /// stopped in it. The member's tables are as they were.
     pub fn first_read<P: Plant + Drop, C: Steady + Drop>(
         &mut self,
         complex: &mut Complex<P, C>,
     ) -> Result<(), NodeNo>
         requires may { MayAct complex.old.book self.old.id }
         requires some { 1 ≤ length self.old.room }
-        requires calm1 { IsCalm complex.old.pair.first.alive complex.old.first (C.count complex.old.pair.first.copy) (length self.old.room) }
-        requires calm2 { IsCalm complex.old.pair.second.alive complex.old.second (C.count complex.old.pair.second.copy) (length self.old.room) }
+        requires calm1 { IsCalm complex.old.pair.first.alive complex.old.first (C.count complex.old.pair.first.copy)
+            (length self.old.room) }
+        requires calm2 { IsCalm complex.old.pair.second.alive complex.old.second (C.count complex.old.pair.second.copy)
+            (length self.old.room) }
         ensures base { complex.new.base ≡ complex.old.base }
         ensures printed { complex.new.printed ≡ complex.old.printed }
         ensures since { complex.new.since ≡ complex.old.since }
@@ -344,37 +368,47 @@ impl Member {
         ensures batch { self.new.batch ≡ self.old.batch }
         ensures as_many { length self.new.room ≡ length self.old.room }
         ensures behind { self.new.behind ≡ false }
-        ensures read { IsRead P.tells self.old.id.0 complex.old.pair.first.alive complex.new.pair.first.alive complex.old.pair.second.alive complex.new.pair.second.alive (P.view complex.old.plant) (P.view complex.new.plant) result }
+        ensures read { IsRead P.tells self.old.id.0 complex.old.pair.first.alive complex.new.pair.first.alive
+            complex.old.pair.second.alive complex.new.pair.second.alive (P.view complex.old.plant)
+            (P.view complex.new.plant) result }
         ensures loses { (d : Dev) → (P.view complex.new.plant).loses d ≡ (P.view complex.old.plant).loses d }
-        ensures page { OnOk result (P.tells → (was : List ℕ) → ReadsAs P.tells complex.new.pair.first.alive (C.reads (disk_now (P.view complex.new.plant) Ckpt1).bytes) was
-            → ReadsAs P.tells complex.new.pair.second.alive (C.reads (disk_now (P.view complex.new.plant) Ckpt2).bytes) was → ArePagesOf 0 1 was self.new.room) }
+        ensures page { OnOk result (P.tells → (was : List ℕ)
+            → ReadsAs P.tells complex.new.pair.first.alive (C.reads (disk_now (P.view complex.new.plant) Ckpt1).bytes)
+            was → ReadsAs P.tells complex.new.pair.second.alive
+            (C.reads (disk_now (P.view complex.new.plant) Ckpt2).bytes) was → ArePagesOf 0 1 was self.new.room) }
     {
         self.behind = false;
         let room = self.room.as_mut_slice();
         read_one(complex, self.id, 0, &mut room[0])
     }
 
-    /// The second read, behind the first one: all other pages. It answers their number. Their bytes come into the member's room, and
-    /// their spelling is tested, unless they are byte for byte the member's own pages; its tables are as they were, until `catch_up` brings
-    /// them up to these pages. A copy from which a page came that is no spelling is lost, and all is read again from the other one; where
-    /// content is told that doesn't come.
+    /// The second read, after the first one: all other pages. It answers their number. Their bytes come into the
+    /// member's room, and their spelling is tested, unless they are byte for byte the member's own pages; its tables
+    /// are as they were, until `catch_up` brings them up to these pages. A copy from which a page came that is no
+    /// spelling is lost, and all is read again from the other one; where content is told that doesn't come.
     ///
-    /// After Ok the pages in the room are those that each copy reads which counts as alive, and stand for the queue after the kept
-    /// batches. BothLost comes only where both copies count as lost at the end of the call, Halted only where the member was stopped in
-    /// it. It takes no memory.
+    /// After Ok the pages in the room are those that each copy reads which counts as alive, and stand for the queue
+    /// after the kept batches. BothLost comes only where both copies count as lost at the end of the call, Halted only
+    /// where the member was stopped in it. It takes no memory.
     pub fn second_read<P: Plant + Drop, C: Steady + Drop>(
         &mut self,
         complex: &mut Complex<P, C>,
     ) -> Result<u32, NodeNo>
-        requires drawn { AreDrawn self.old.checkpoint.tables self.old.checkpoint.level self.old.checkpoint.levels self.old.checkpoint.pages }
+        requires drawn { AreDrawn self.old.checkpoint.tables self.old.checkpoint.level self.old.checkpoint.levels
+            self.old.checkpoint.pages }
         requires may { MayAct complex.old.book self.old.id }
         requires some { 2 ≤ length self.old.room }
         requires few { length self.old.room ≤ pages_most }
-        requires calm1 { IsCalm complex.old.pair.first.alive complex.old.first (C.count complex.old.pair.first.copy) (length self.old.room) }
-        requires calm2 { IsCalm complex.old.pair.second.alive complex.old.second (C.count complex.old.pair.second.copy) (length self.old.room) }
-        requires config { P.tells → page_count (run complex.old.base (kept_all complex.old.journal.batches)).config ≡ length self.old.room }
-        requires page { P.tells → (was : List ℕ) → ReadsAs P.tells complex.old.pair.first.alive (C.reads (disk_now (P.view complex.old.plant) Ckpt1).bytes) was
-            → ReadsAs P.tells complex.old.pair.second.alive (C.reads (disk_now (P.view complex.old.plant) Ckpt2).bytes) was → ArePagesOf 0 1 was self.old.room }
+        requires calm1 { IsCalm complex.old.pair.first.alive complex.old.first (C.count complex.old.pair.first.copy)
+            (length self.old.room) }
+        requires calm2 { IsCalm complex.old.pair.second.alive complex.old.second (C.count complex.old.pair.second.copy)
+            (length self.old.room) }
+        requires config { P.tells → page_count (run complex.old.base (kept_all complex.old.journal.batches)).config
+            ≡ length self.old.room }
+        requires page { P.tells → (was : List ℕ)
+            → ReadsAs P.tells complex.old.pair.first.alive (C.reads (disk_now (P.view complex.old.plant) Ckpt1).bytes)
+            was → ReadsAs P.tells complex.old.pair.second.alive
+            (C.reads (disk_now (P.view complex.old.plant) Ckpt2).bytes) was → ArePagesOf 0 1 was self.old.room }
         ensures base { complex.new.base ≡ complex.old.base }
         ensures printed { complex.new.printed ≡ complex.old.printed }
         ensures since { complex.new.since ≡ complex.old.since }
@@ -392,14 +426,22 @@ impl Member {
         ensures checkpoint { self.new.checkpoint ≡ self.old.checkpoint }
         ensures batch { self.new.batch ≡ self.old.batch }
         ensures as_many { length self.new.room ≡ length self.old.room }
-        ensures read { IsRead P.tells self.old.id.0 complex.old.pair.first.alive complex.new.pair.first.alive complex.old.pair.second.alive complex.new.pair.second.alive (P.view complex.old.plant) (P.view complex.new.plant) result }
+        ensures read { IsRead P.tells self.old.id.0 complex.old.pair.first.alive complex.new.pair.first.alive
+            complex.old.pair.second.alive complex.new.pair.second.alive (P.view complex.old.plant)
+            (P.view complex.new.plant) result }
         ensures err { OnErr result (self.new.behind ≡ false) }
         ensures count { IfOk result (λ count. count + 1 ≡ length self.new.room) }
         ensures behind { OnOk result (self.new.behind ≡ true) }
         ensures spelled { OnOk result (SpellSome self.new.room) }
-        ensures rests1 { OnOk result (RestsAt P.tells complex.new.pair.first.alive complex.new.first (C.count complex.new.pair.first.copy) self.new.room (C.reads (disk_now (P.view complex.new.plant) Ckpt1).bytes)) }
-        ensures rests2 { OnOk result (RestsAt P.tells complex.new.pair.second.alive complex.new.second (C.count complex.new.pair.second.copy) self.new.room (C.reads (disk_now (P.view complex.new.plant) Ckpt2).bytes)) }
-        ensures stand { OnOk result (P.tells → ∥ StandAt (run complex.new.base (kept_all complex.new.journal.batches)) complex.new.level self.new.room ∥₁) }
+        ensures rests1 { OnOk result (RestsAt P.tells complex.new.pair.first.alive complex.new.first
+            (C.count complex.new.pair.first.copy) self.new.room
+            (C.reads (disk_now (P.view complex.new.plant) Ckpt1).bytes)) }
+        ensures rests2 { OnOk result (RestsAt P.tells complex.new.pair.second.alive complex.new.second
+            (C.count complex.new.pair.second.copy) self.new.room
+            (C.reads (disk_now (P.view complex.new.plant) Ckpt2).bytes)) }
+        ensures stand { OnOk result (P.tells
+            → ∥ StandAt (run complex.new.base (kept_all complex.new.journal.batches)) complex.new.level self.new.room
+            ∥₁) }
     {
         self.behind = false;
         let by = self.id;
@@ -417,18 +459,23 @@ impl Member {
         Ok(self.room.len() as u32 - 1)
     }
 
-    /// Primary: makes room for a put where a copy that counts as alive has none, with the pages that the member read, and makes no act
-    /// where each has. Nothing is in flight.
+    /// Primary: makes room for a put where a copy that counts as alive has none, with the pages that the member read,
+    /// and makes no act where each has. Nothing is in flight.
     ///
-    /// BothLost comes only where both copies count as lost at the end of the call, Halted only where the member was stopped in it.
+    /// BothLost comes only where both copies count as lost at the end of the call, Halted only where the member was
+    /// stopped in it.
     pub fn primary<P: Plant + Drop, C: Steady + Drop>(
         &self,
         complex: &mut Complex<P, C>,
     ) -> Result<(), NodeNo>
         requires may { MayAct complex.old.book self.now.id }
         requires none { complex.old.current ≡ None }
-        requires rests1 { RestsAt P.tells complex.old.pair.first.alive complex.old.first (C.count complex.old.pair.first.copy) (pages_had self.now.behind self.now.room self.now.checkpoint.pages) (C.reads (disk_now (P.view complex.old.plant) Ckpt1).bytes) }
-        requires rests2 { RestsAt P.tells complex.old.pair.second.alive complex.old.second (C.count complex.old.pair.second.copy) (pages_had self.now.behind self.now.room self.now.checkpoint.pages) (C.reads (disk_now (P.view complex.old.plant) Ckpt2).bytes) }
+        requires rests1 { RestsAt P.tells complex.old.pair.first.alive complex.old.first
+            (C.count complex.old.pair.first.copy) (pages_had self.now.behind self.now.room self.now.checkpoint.pages)
+            (C.reads (disk_now (P.view complex.old.plant) Ckpt1).bytes) }
+        requires rests2 { RestsAt P.tells complex.old.pair.second.alive complex.old.second
+            (C.count complex.old.pair.second.copy) (pages_had self.now.behind self.now.room self.now.checkpoint.pages)
+            (C.reads (disk_now (P.view complex.old.plant) Ckpt2).bytes) }
         ensures base { complex.new.base ≡ complex.old.base }
         ensures printed { complex.new.printed ≡ complex.old.printed }
         ensures since { complex.new.since ≡ complex.old.since }
@@ -438,12 +485,19 @@ impl Member {
         ensures reserved { complex.new.reserved ≡ complex.old.reserved }
         ensures placed { complex.new.placed ≡ complex.old.placed }
         ensures level { complex.new.level ≡ complex.old.level }
-        ensures idle { 1 ≤ least_room complex.old.pair.first.alive complex.old.pair.second.alive (C.room complex.old.pair.first.copy) (C.room complex.old.pair.second.copy) → complex.new ≡ complex.old }
-        ensures rests1 { OnOk result (RestsAt P.tells complex.new.pair.first.alive complex.new.first (C.count complex.new.pair.first.copy) (pages_had self.now.behind self.now.room self.now.checkpoint.pages) (C.reads (disk_now (P.view complex.new.plant) Ckpt1).bytes)) }
-        ensures rests2 { OnOk result (RestsAt P.tells complex.new.pair.second.alive complex.new.second (C.count complex.new.pair.second.copy) (pages_had self.now.behind self.now.room self.now.checkpoint.pages) (C.reads (disk_now (P.view complex.new.plant) Ckpt2).bytes)) }
+        ensures idle { 1 ≤ least_room complex.old.pair.first.alive complex.old.pair.second.alive
+            (C.room complex.old.pair.first.copy) (C.room complex.old.pair.second.copy) → complex.new ≡ complex.old }
+        ensures rests1 { OnOk result (RestsAt P.tells complex.new.pair.first.alive complex.new.first
+            (C.count complex.new.pair.first.copy) (pages_had self.now.behind self.now.room self.now.checkpoint.pages)
+            (C.reads (disk_now (P.view complex.new.plant) Ckpt1).bytes)) }
+        ensures rests2 { OnOk result (RestsAt P.tells complex.new.pair.second.alive complex.new.second
+            (C.count complex.new.pair.second.copy) (pages_had self.now.behind self.now.room self.now.checkpoint.pages)
+            (C.reads (disk_now (P.view complex.new.plant) Ckpt2).bytes)) }
         ensures room1 { OnOk result (complex.new.pair.first.alive ≡ true → 1 ≤ C.room complex.new.pair.first.copy) }
         ensures room2 { OnOk result (complex.new.pair.second.alive ≡ true → 1 ≤ C.room complex.new.pair.second.copy) }
-        ensures settle { IsSettle P.tells self.now.id.0 complex.old.pair.first.alive complex.new.pair.first.alive complex.old.pair.second.alive complex.new.pair.second.alive (P.view complex.old.plant) (P.view complex.new.plant) result }
+        ensures settle { IsSettle P.tells self.now.id.0 complex.old.pair.first.alive complex.new.pair.first.alive
+            complex.old.pair.second.alive complex.new.pair.second.alive (P.view complex.old.plant)
+            (P.view complex.new.plant) result }
         ensures operator { IsErrOf result no_node.Halted → 0 < self.now.id.0 }
     {
         if complex.pair.room() > 0 {
@@ -461,25 +515,32 @@ impl Member {
         }
     }
 
-    /// Brings the member's tables up to the pages that it read: for its first command behind a read. It answers false where these are no
-    /// pages that it may go on from, though they spell tables: of another configuration, or with orders that aren't below the next one,
-    /// or too high ones. The member is as it was then, and where nothing was read.
+    /// Brings the member's tables up to the pages that it read: for its first command after a read. It answers false
+    /// where these are no pages that it may go on from, though they spell tables: of another configuration, or with
+    /// orders that aren't below the next one, or too high ones. The member is as it was then, and where nothing was
+    /// read.
     ///
-    /// Its tables are those that its own pages were drawn from: where it read the same bytes they are up already, and stay.
+    /// Its tables are those that its own pages were drawn from: where it read the same bytes they are up already, and
+    /// stay.
     ///
     /// NoMemory leaves the member as it was.
     pub fn catch_up(&mut self, alloc: Global) -> Result<bool, NoMemory>
-        requires drawn { AreDrawn self.old.checkpoint.tables self.old.checkpoint.level self.old.checkpoint.levels self.old.checkpoint.pages }
+        requires drawn { AreDrawn self.old.checkpoint.tables self.old.checkpoint.level self.old.checkpoint.levels
+            self.old.checkpoint.pages }
         requires spelled { self.old.behind ≡ true → SpellSome self.old.room }
         requires few { length self.old.room ≤ pages_most }
         ensures id { self.new.id ≡ self.old.id }
         ensures batch { self.new.batch ≡ self.old.batch }
         ensures err { OnErr result (self.new ≡ self.old) }
         ensures same { self.old.behind ≡ false → self.new ≡ self.old }
-        ensures refused { IfOk result (λ up. up ≡ false → (self.new ≡ self.old) × ((t : TablesLem) → IsCheckpoint self.old.room t → MayGoOn self.old.checkpoint.tables.config self.old.room t → ⊥)) }
-        ensures up { IfOk result (λ up. up ≡ true → self.old.behind ≡ true → IsUpTo self.old.checkpoint.tables.config self.old.room self.new.checkpoint) }
+        ensures refused { IfOk result (λ up. up ≡ false → (self.new ≡ self.old)
+            × ((t : TablesLem) → IsCheckpoint self.old.room t
+            → MayGoOn self.old.checkpoint.tables.config self.old.room t → ⊥)) }
+        ensures up { IfOk result (λ up. up ≡ true → self.old.behind ≡ true
+            → IsUpTo self.old.checkpoint.tables.config self.old.room self.new.checkpoint) }
         ensures here { IfOk result (λ up. up ≡ true → self.new.behind ≡ false) }
-        ensures as_many { length self.old.checkpoint.pages ≡ length self.old.room → length self.new.room ≡ length self.old.room }
+        ensures as_many { length self.old.checkpoint.pages ≡ length self.old.room
+            → length self.new.room ≡ length self.old.room }
     {
         if !self.behind {
             return Ok(true);
@@ -504,14 +565,17 @@ impl Member {
         Ok(true)
     }
 
-    // It read the pages that it has: its tables are up, where it may go on from them.
+    // The member read the pages that it has: its tables are up, where it may go on from them.
     fn stay_up(&mut self) -> bool
-        requires drawn { AreDrawn self.old.checkpoint.tables self.old.checkpoint.level self.old.checkpoint.levels self.old.checkpoint.pages }
+        requires drawn { AreDrawn self.old.checkpoint.tables self.old.checkpoint.level self.old.checkpoint.levels
+            self.old.checkpoint.pages }
         requires same { are_same self.old.room self.old.checkpoint.pages ≡ true }
         ensures id { self.new.id ≡ self.old.id }
         ensures batch { self.new.batch ≡ self.old.batch }
         ensures room { self.new.room ≡ self.old.room }
-        ensures refused { result ≡ false → (self.new ≡ self.old) × ((t : TablesLem) → IsCheckpoint self.old.room t → MayGoOn self.old.checkpoint.tables.config self.old.room t → ⊥) }
+        ensures refused { result ≡ false → (self.new ≡ self.old)
+            × ((t : TablesLem) → IsCheckpoint self.old.room t
+            → MayGoOn self.old.checkpoint.tables.config self.old.room t → ⊥) }
         ensures up { result ≡ true → IsUpTo self.old.checkpoint.tables.config self.old.room self.new.checkpoint }
         ensures here { result ≡ true → self.new.behind ≡ false }
     {
@@ -524,28 +588,35 @@ impl Member {
         true
     }
 
-    /// Both reads, and the member's tables brought up to what they gave: what a member does that got the lock, before its first command.
-    /// A copy from which it read what it can't go on from is lost, and all is read again; where content is told that doesn't come.
+    /// Both reads, and the member's tables brought up to what they gave: what a member does that got the lock, before
+    /// its first command. A copy from which it read what it can't go on from is lost, and all is read again; where
+    /// content is told that doesn't come.
     ///
-    /// After Ok the member's pages are those that each copy reads which counts as alive, and its tables tell the queue after the kept
-    /// batches. BothLost comes only where both copies count as lost at the end of the call, Halted only where the member was stopped in
-    /// it. After an error its tables are those from before, or newer ones.
+    /// After Ok the member's pages are those that each copy reads which counts as alive, and its tables tell the queue
+    /// after the kept batches. BothLost comes only where both copies count as lost at the end of the call, Halted only
+    /// where the member was stopped in it. After an error its tables are those from before, or newer ones.
     pub fn read_in<P: Plant + Drop, C: Steady + Drop>(
         &mut self,
         alloc: Global,
         complex: &mut Complex<P, C>,
     ) -> Result<(), NodeNo>
-        requires drawn { AreDrawn self.old.checkpoint.tables self.old.checkpoint.level self.old.checkpoint.levels self.old.checkpoint.pages }
+        requires drawn { AreDrawn self.old.checkpoint.tables self.old.checkpoint.level self.old.checkpoint.levels
+            self.old.checkpoint.pages }
         requires may { MayAct complex.old.book self.old.id }
         requires nothing { self.old.batch ≡ [] }
         requires many { length self.old.room ≡ length self.old.checkpoint.pages }
         requires some { 2 ≤ length self.old.room }
         requires few { length self.old.room ≤ pages_most }
-        requires calm1 { IsCalm complex.old.pair.first.alive complex.old.first (C.count complex.old.pair.first.copy) (length self.old.room) }
-        requires calm2 { IsCalm complex.old.pair.second.alive complex.old.second (C.count complex.old.pair.second.copy) (length self.old.room) }
-        requires config { P.tells → page_count (run complex.old.base (kept_all complex.old.journal.batches)).config ≡ length self.old.room }
-        requires low1 { ReadsLow P.tells complex.old.pair.first.alive self.old.checkpoint.tables.config (length complex.old.journal.batches) (C.reads (disk_now (P.view complex.old.plant) Ckpt1).bytes) }
-        requires low2 { ReadsLow P.tells complex.old.pair.second.alive self.old.checkpoint.tables.config (length complex.old.journal.batches) (C.reads (disk_now (P.view complex.old.plant) Ckpt2).bytes) }
+        requires calm1 { IsCalm complex.old.pair.first.alive complex.old.first (C.count complex.old.pair.first.copy)
+            (length self.old.room) }
+        requires calm2 { IsCalm complex.old.pair.second.alive complex.old.second (C.count complex.old.pair.second.copy)
+            (length self.old.room) }
+        requires config { P.tells → page_count (run complex.old.base (kept_all complex.old.journal.batches)).config
+            ≡ length self.old.room }
+        requires low1 { ReadsLow P.tells complex.old.pair.first.alive self.old.checkpoint.tables.config
+            (length complex.old.journal.batches) (C.reads (disk_now (P.view complex.old.plant) Ckpt1).bytes) }
+        requires low2 { ReadsLow P.tells complex.old.pair.second.alive self.old.checkpoint.tables.config
+            (length complex.old.journal.batches) (C.reads (disk_now (P.view complex.old.plant) Ckpt2).bytes) }
         requires level { complex.old.level < too_high }
         ensures base { complex.new.base ≡ complex.old.base }
         ensures printed { complex.new.printed ≡ complex.old.printed }
@@ -562,14 +633,22 @@ impl Member {
         ensures copy2 { complex.new.pair.second.copy ≡ complex.old.pair.second.copy }
         ensures id { self.new.id ≡ self.old.id }
         ensures batch { self.new.batch ≡ self.old.batch }
-        ensures read { IsReadIn P.tells self.old.id.0 complex.old.pair.first.alive complex.new.pair.first.alive complex.old.pair.second.alive complex.new.pair.second.alive (P.view complex.old.plant) (P.view complex.new.plant) result }
+        ensures read { IsReadIn P.tells self.old.id.0 complex.old.pair.first.alive complex.new.pair.first.alive
+            complex.old.pair.second.alive complex.new.pair.second.alive (P.view complex.old.plant)
+            (P.view complex.new.plant) result }
         ensures here { OnOk result (self.new.behind ≡ false) }
         ensures as_many { OnOk result (length self.new.checkpoint.pages ≡ length self.old.room) }
         ensures many { OnOk result (length self.new.room ≡ length self.new.checkpoint.pages) }
-        ensures up { OnOk result (IsUpTo self.old.checkpoint.tables.config self.new.checkpoint.pages self.new.checkpoint) }
-        ensures rests1 { OnOk result (RestsAt P.tells complex.new.pair.first.alive complex.new.first (C.count complex.new.pair.first.copy) self.new.checkpoint.pages (C.reads (disk_now (P.view complex.new.plant) Ckpt1).bytes)) }
-        ensures rests2 { OnOk result (RestsAt P.tells complex.new.pair.second.alive complex.new.second (C.count complex.new.pair.second.copy) self.new.checkpoint.pages (C.reads (disk_now (P.view complex.new.plant) Ckpt2).bytes)) }
-        ensures told { OnOk result (P.tells → ∥ Tell self.new.checkpoint.tables (run complex.new.base (kept_all complex.new.journal.batches)) ∥₁) }
+        ensures up { OnOk result (IsUpTo self.old.checkpoint.tables.config self.new.checkpoint.pages
+            self.new.checkpoint) }
+        ensures rests1 { OnOk result (RestsAt P.tells complex.new.pair.first.alive complex.new.first
+            (C.count complex.new.pair.first.copy) self.new.checkpoint.pages
+            (C.reads (disk_now (P.view complex.new.plant) Ckpt1).bytes)) }
+        ensures rests2 { OnOk result (RestsAt P.tells complex.new.pair.second.alive complex.new.second
+            (C.count complex.new.pair.second.copy) self.new.checkpoint.pages
+            (C.reads (disk_now (P.view complex.new.plant) Ckpt2).bytes)) }
+        ensures told { OnOk result (P.tells
+            → ∥ Tell self.new.checkpoint.tables (run complex.new.base (kept_all complex.new.journal.batches)) ∥₁) }
         ensures ordered { OnOk result (P.tells → ∥ HaveOrders self.new.checkpoint.tables ∥₁) }
         ensures same_level { OnOk result (P.tells → complex.new.level ≡ self.new.checkpoint.level) }
     {
@@ -581,18 +660,22 @@ impl Member {
         Ok(())
     }
 
-    // Both reads.
+    // Both reads of the copies, one after the other: page 0, and then all other pages.
     fn read_all<P: Plant + Drop, C: Steady + Drop>(
         &mut self,
         complex: &mut Complex<P, C>,
     ) -> Result<(), NodeNo>
-        requires drawn { AreDrawn self.old.checkpoint.tables self.old.checkpoint.level self.old.checkpoint.levels self.old.checkpoint.pages }
+        requires drawn { AreDrawn self.old.checkpoint.tables self.old.checkpoint.level self.old.checkpoint.levels
+            self.old.checkpoint.pages }
         requires may { MayAct complex.old.book self.old.id }
         requires some { 2 ≤ length self.old.room }
         requires few { length self.old.room ≤ pages_most }
-        requires calm1 { IsCalm complex.old.pair.first.alive complex.old.first (C.count complex.old.pair.first.copy) (length self.old.room) }
-        requires calm2 { IsCalm complex.old.pair.second.alive complex.old.second (C.count complex.old.pair.second.copy) (length self.old.room) }
-        requires config { P.tells → page_count (run complex.old.base (kept_all complex.old.journal.batches)).config ≡ length self.old.room }
+        requires calm1 { IsCalm complex.old.pair.first.alive complex.old.first (C.count complex.old.pair.first.copy)
+            (length self.old.room) }
+        requires calm2 { IsCalm complex.old.pair.second.alive complex.old.second (C.count complex.old.pair.second.copy)
+            (length self.old.room) }
+        requires config { P.tells → page_count (run complex.old.base (kept_all complex.old.journal.batches)).config
+            ≡ length self.old.room }
         ensures base { complex.new.base ≡ complex.old.base }
         ensures printed { complex.new.printed ≡ complex.old.printed }
         ensures since { complex.new.since ≡ complex.old.since }
@@ -610,30 +693,43 @@ impl Member {
         ensures checkpoint { self.new.checkpoint ≡ self.old.checkpoint }
         ensures batch { self.new.batch ≡ self.old.batch }
         ensures as_many { length self.new.room ≡ length self.old.room }
-        ensures read { IsRead P.tells self.old.id.0 complex.old.pair.first.alive complex.new.pair.first.alive complex.old.pair.second.alive complex.new.pair.second.alive (P.view complex.old.plant) (P.view complex.new.plant) result }
+        ensures read { IsRead P.tells self.old.id.0 complex.old.pair.first.alive complex.new.pair.first.alive
+            complex.old.pair.second.alive complex.new.pair.second.alive (P.view complex.old.plant)
+            (P.view complex.new.plant) result }
         ensures behind { OnOk result (self.new.behind ≡ true) }
         ensures spelled { OnOk result (SpellSome self.new.room) }
-        ensures rests1 { OnOk result (RestsAt P.tells complex.new.pair.first.alive complex.new.first (C.count complex.new.pair.first.copy) self.new.room (C.reads (disk_now (P.view complex.new.plant) Ckpt1).bytes)) }
-        ensures rests2 { OnOk result (RestsAt P.tells complex.new.pair.second.alive complex.new.second (C.count complex.new.pair.second.copy) self.new.room (C.reads (disk_now (P.view complex.new.plant) Ckpt2).bytes)) }
-        ensures stand { OnOk result (P.tells → ∥ StandAt (run complex.new.base (kept_all complex.new.journal.batches)) complex.new.level self.new.room ∥₁) }
+        ensures rests1 { OnOk result (RestsAt P.tells complex.new.pair.first.alive complex.new.first
+            (C.count complex.new.pair.first.copy) self.new.room
+            (C.reads (disk_now (P.view complex.new.plant) Ckpt1).bytes)) }
+        ensures rests2 { OnOk result (RestsAt P.tells complex.new.pair.second.alive complex.new.second
+            (C.count complex.new.pair.second.copy) self.new.room
+            (C.reads (disk_now (P.view complex.new.plant) Ckpt2).bytes)) }
+        ensures stand { OnOk result (P.tells
+            → ∥ StandAt (run complex.new.base (kept_all complex.new.journal.batches)) complex.new.level self.new.room
+            ∥₁) }
     {
         self.first_read(complex)?;
         self.second_read(complex)?;
         Ok(())
     }
 
-    // Brings its tables up to what it read, where it may go on from that.
+    // Brings the member's tables up to the pages that it read, where it may go on from them.
     fn is_caught_up(&mut self, alloc: Global) -> Result<bool, NodeNo>
-        requires drawn { AreDrawn self.old.checkpoint.tables self.old.checkpoint.level self.old.checkpoint.levels self.old.checkpoint.pages }
+        requires drawn { AreDrawn self.old.checkpoint.tables self.old.checkpoint.level self.old.checkpoint.levels
+            self.old.checkpoint.pages }
         requires spelled { self.old.behind ≡ true → SpellSome self.old.room }
         requires few { length self.old.room ≤ pages_most }
         ensures id { self.new.id ≡ self.old.id }
         ensures batch { self.new.batch ≡ self.old.batch }
         ensures only { IfErr result (λ e. e ≡ no_node.NoMemory) }
-        ensures refused { IfOk result (λ up. up ≡ false → (self.new ≡ self.old) × ((t : TablesLem) → IsCheckpoint self.old.room t → MayGoOn self.old.checkpoint.tables.config self.old.room t → ⊥)) }
-        ensures up { IfOk result (λ up. up ≡ true → self.old.behind ≡ true → IsUpTo self.old.checkpoint.tables.config self.old.room self.new.checkpoint) }
+        ensures refused { IfOk result (λ up. up ≡ false → (self.new ≡ self.old)
+            × ((t : TablesLem) → IsCheckpoint self.old.room t
+            → MayGoOn self.old.checkpoint.tables.config self.old.room t → ⊥)) }
+        ensures up { IfOk result (λ up. up ≡ true → self.old.behind ≡ true
+            → IsUpTo self.old.checkpoint.tables.config self.old.room self.new.checkpoint) }
         ensures here { IfOk result (λ up. up ≡ true → self.new.behind ≡ false) }
-        ensures as_many { length self.old.checkpoint.pages ≡ length self.old.room → length self.new.room ≡ length self.old.room }
+        ensures as_many { length self.old.checkpoint.pages ≡ length self.old.room
+            → length self.new.room ≡ length self.old.room }
         ensures sized { All (λ page. length page.0 ≡ page_bytes) self.old.room }
     {
         law_of_page_sizes(self.room.as_slice());
@@ -643,7 +739,7 @@ impl Member {
         }
     }
 
-    // Takes the pages of its room, which spell these tables with these levels.
+    // Takes the pages of the member's room, which spell these tables with these levels.
     fn take_up(&mut self, alloc: Global, tables: Tables, levels: List<Level>)
         ensures id { self.new.id ≡ self.old.id }
         ensures batch { self.new.batch ≡ self.old.batch }

@@ -46,12 +46,12 @@ impl Member {
         !is_spelling(&own.tables, &own.levels, own.pages.as_slice())
     }
 
-    /// Takes all memory that the write of its batch needs: the pages are drawn a level higher where one changes, and the batch has
-    /// its place in the journal. Answers what is to be written. The member holds the lock, or is the operator while nobody does. Where
-    /// a page changes each copy that counts as alive has room for a put.
+    /// Takes all memory that the write of its batch needs: the pages are drawn a level higher where one changes, and
+    /// the batch has its place in the journal. Answers what is to be written. The member holds the lock, or is the
+    /// operator while nobody does. Where a page changes each copy that counts as alive has room for a put.
     ///
-    /// NoMemory leaves the shared value as it was, and the member too, or its batch is given up: then its tables are ahead of the
-    /// copies, and it has to read them again.
+    /// NoMemory leaves the shared value as it was, and the member too, or its batch is given up: then its tables are
+    /// ahead of the copies, and it has to read them again.
     pub fn ready<P: Plant + Drop, C: Steady + Drop>(
         &mut self,
         alloc: Global,
@@ -64,11 +64,18 @@ impl Member {
         requires here { self.old.behind ≡ false }
         requires draws { CanDraw self.old.checkpoint }
         requires level { P.tells → complex.old.level ≡ self.old.checkpoint.level }
-        requires done { P.tells → ∥ HasDone (run complex.old.base (kept_all complex.old.journal.batches)) self.old.batch self.old.checkpoint ∥₁ }
-        requires rests1 { RestsAt P.tells complex.old.pair.first.alive complex.old.first (C.count complex.old.pair.first.copy) self.old.checkpoint.pages (C.reads (disk_now (P.view complex.old.plant) Ckpt1).bytes) }
-        requires rests2 { RestsAt P.tells complex.old.pair.second.alive complex.old.second (C.count complex.old.pair.second.copy) self.old.checkpoint.pages (C.reads (disk_now (P.view complex.old.plant) Ckpt2).bytes) }
-        requires room1 { complex.old.pair.first.alive ≡ true → DrawsAnew self.old.checkpoint → 1 ≤ C.room complex.old.pair.first.copy }
-        requires room2 { complex.old.pair.second.alive ≡ true → DrawsAnew self.old.checkpoint → 1 ≤ C.room complex.old.pair.second.copy }
+        requires done { P.tells → ∥ HasDone (run complex.old.base (kept_all complex.old.journal.batches)) self.old.batch
+            self.old.checkpoint ∥₁ }
+        requires rests1 { RestsAt P.tells complex.old.pair.first.alive complex.old.first
+            (C.count complex.old.pair.first.copy) self.old.checkpoint.pages
+            (C.reads (disk_now (P.view complex.old.plant) Ckpt1).bytes) }
+        requires rests2 { RestsAt P.tells complex.old.pair.second.alive complex.old.second
+            (C.count complex.old.pair.second.copy) self.old.checkpoint.pages
+            (C.reads (disk_now (P.view complex.old.plant) Ckpt2).bytes) }
+        requires room1 { complex.old.pair.first.alive ≡ true → DrawsAnew self.old.checkpoint
+            → 1 ≤ C.room complex.old.pair.first.copy }
+        requires room2 { complex.old.pair.second.alive ≡ true → DrawsAnew self.old.checkpoint
+            → 1 ≤ C.room complex.old.pair.second.copy }
         requires small { self.old.checkpoint.level + 1 < 2 ^ 63 }
         ensures plant { complex.new.plant ≡ complex.old.plant }
         ensures pair { complex.new.pair ≡ complex.old.pair }
@@ -81,21 +88,32 @@ impl Member {
         ensures second { complex.new.second ≡ complex.old.second }
         ensures same_level { complex.new.level ≡ complex.old.level }
         ensures kept { kept_all complex.new.journal.batches ≡ kept_all complex.old.journal.batches }
-        ensures err { OnErr result ((complex.new.journal ≡ complex.old.journal) × (complex.new.reserved ≡ complex.old.reserved) × (complex.new.placed ≡ complex.old.placed)) }
+        ensures err { OnErr result ((complex.new.journal ≡ complex.old.journal)
+            × (complex.new.reserved ≡ complex.old.reserved) × (complex.new.placed ≡ complex.old.placed)) }
         ensures reserved { OnOk result (complex.new.reserved ≡ Some self.old.batch) }
         ensures placed { OnOk result (complex.new.placed ≡ true) }
-        ensures grown { OnOk result (complex.old.placed ≡ false → (place : Batch) × (complex.new.journal.batches ≡ complex.old.journal.batches ++ place ∷ [])) }
+        ensures grown { OnOk result (complex.old.placed ≡ false → (place : Batch)
+            × (complex.new.journal.batches ≡ complex.old.journal.batches ++ place ∷ [])) }
         ensures given_up { OnErr result ((self.new ≡ self.old) ⊎ (self.new.batch ≡ [])) }
         ensures id { self.new.id ≡ self.old.id }
         ensures room { self.new.room ≡ self.old.room }
         ensures behind { self.new.behind ≡ self.old.behind }
         ensures tables { self.new.checkpoint.tables ≡ self.old.checkpoint.tables }
         ensures empty { OnOk result (self.new.batch ≡ []) }
-        ensures drawn { OnOk result (AreDrawn self.new.checkpoint.tables self.new.checkpoint.level self.new.checkpoint.levels self.new.checkpoint.pages) }
+        ensures drawn { OnOk result (AreDrawn self.new.checkpoint.tables self.new.checkpoint.level
+            self.new.checkpoint.levels self.new.checkpoint.pages) }
         ensures level { IfOk result (λ draft. self.new.checkpoint.level ≡ level_with draft self.old.checkpoint.level) }
-        ensures draft { IfOk result (λ draft. P.tells → ∥ IsDraftOf draft P.tells (run complex.old.base (kept_all complex.old.journal.batches)) self.old.batch complex.old.level self.new.checkpoint.pages ∥₁) }
-        ensures draft1 { IfOk result (λ draft. IsDraftFor draft P.tells complex.old.pair.first.alive (C.count complex.old.pair.first.copy) (C.room complex.old.pair.first.copy) self.new.checkpoint.pages (C.reads (disk_now (P.view complex.old.plant) Ckpt1).bytes)) }
-        ensures draft2 { IfOk result (λ draft. IsDraftFor draft P.tells complex.old.pair.second.alive (C.count complex.old.pair.second.copy) (C.room complex.old.pair.second.copy) self.new.checkpoint.pages (C.reads (disk_now (P.view complex.old.plant) Ckpt2).bytes)) }
+        ensures draft { IfOk result (λ draft. P.tells
+            → ∥ IsDraftOf draft P.tells (run complex.old.base (kept_all complex.old.journal.batches)) self.old.batch
+            complex.old.level self.new.checkpoint.pages ∥₁) }
+        ensures draft1 { IfOk result (λ draft.
+            IsDraftFor draft P.tells complex.old.pair.first.alive (C.count complex.old.pair.first.copy)
+            (C.room complex.old.pair.first.copy) self.new.checkpoint.pages
+            (C.reads (disk_now (P.view complex.old.plant) Ckpt1).bytes)) }
+        ensures draft2 { IfOk result (λ draft.
+            IsDraftFor draft P.tells complex.old.pair.second.alive (C.count complex.old.pair.second.copy)
+            (C.room complex.old.pair.second.copy) self.new.checkpoint.pages
+            (C.reads (disk_now (P.view complex.old.plant) Ckpt2).bytes)) }
     {
         let draft = redraw(alloc, &mut self.checkpoint)?;
         let entries = std::mem::replace(&mut self.batch, List::new(alloc));
@@ -103,10 +121,12 @@ impl Member {
         Ok(draft)
     }
 
-    /// Writes the batch that was made ready: its pages behind the closed gates of CKPT1 and CKPT2, and then the gates; or it is kept
-    /// without a write where no page changes. Once this answers Ok the batch is kept. The operator isn't stopped.
+    /// Writes the batch that was made ready: its pages behind the closed gates of CKPT1 and CKPT2, and then the gates;
+    /// or it is kept without a write where no page changes. Once this answers Ok the batch is kept. The operator isn't
+    /// stopped.
     ///
-    /// The texts of the queue with the batch stand on the spool volumes, but for those with a group on a volume that is lost.
+    /// The texts of the queue with the batch stand on the spool volumes, except those with a group on a volume that is
+    /// lost.
     pub fn write<P: Plant + Drop, C: Steady + Drop>(
         &self,
         complex: &mut Complex<P, C>,
@@ -118,33 +138,60 @@ impl Member {
         requires reserved { IsSome complex.old.reserved }
         requires some { 1 ≤ length (entries_reserved complex.old.reserved) }
         requires small { complex.old.level + 1 < 2 ^ 63 }
-        requires replied { P.tells → ∥ HaveReplies (run complex.old.base (kept_all complex.old.journal.batches)) (entries_reserved complex.old.reserved) ∥₁ }
+        requires replied { P.tells → ∥ HaveReplies (run complex.old.base (kept_all complex.old.journal.batches))
+            (entries_reserved complex.old.reserved) ∥₁ }
         requires first { complex.old.first ≡ AtBefore }
         requires second { complex.old.second ≡ AtBefore }
-        requires untold { P.tells → IsUntold (setting C.reads complex.old.base complex.old.since) (P.view complex.old.plant) (entries_reserved complex.old.reserved) }
-        requires allowed { P.tells → MayBegin complex.old.base complex.old.journal.batches complex.old.printed (entries_reserved complex.old.reserved) }
-        requires texts { P.tells → ∥ HasTexts (lost_now (P.view complex.old.plant)) (spools_at (P.view complex.old.plant) (P.view complex.old.plant).now) complex.old.base.config.groups (run complex.old.base (kept_all complex.old.journal.batches ++ entries_reserved complex.old.reserved)) ∥₁ }
-        requires draft { P.tells → ∥ IsDraftOf draft.now P.tells (run complex.old.base (kept_all complex.old.journal.batches)) (entries_reserved complex.old.reserved) complex.old.level self.now.checkpoint.pages ∥₁ }
-        requires draft1 { IsDraftFor draft.now P.tells complex.old.pair.first.alive (C.count complex.old.pair.first.copy) (C.room complex.old.pair.first.copy) self.now.checkpoint.pages (C.reads (disk_now (P.view complex.old.plant) Ckpt1).bytes) }
-        requires draft2 { IsDraftFor draft.now P.tells complex.old.pair.second.alive (C.count complex.old.pair.second.copy) (C.room complex.old.pair.second.copy) self.now.checkpoint.pages (C.reads (disk_now (P.view complex.old.plant) Ckpt2).bytes) }
+        requires untold { P.tells → IsUntold (setting C.reads complex.old.base complex.old.since)
+            (P.view complex.old.plant) (entries_reserved complex.old.reserved) }
+        requires allowed { P.tells → MayBegin complex.old.base complex.old.journal.batches complex.old.printed
+            (entries_reserved complex.old.reserved) }
+        requires texts { P.tells → ∥ HasTexts (lost_now (P.view complex.old.plant))
+            (spools_at (P.view complex.old.plant) (P.view complex.old.plant).now) complex.old.base.config.groups
+            (run complex.old.base (kept_all complex.old.journal.batches ++ entries_reserved complex.old.reserved)) ∥₁ }
+        requires draft { P.tells → ∥ IsDraftOf draft.now P.tells
+            (run complex.old.base (kept_all complex.old.journal.batches)) (entries_reserved complex.old.reserved)
+            complex.old.level self.now.checkpoint.pages ∥₁ }
+        requires draft1 { IsDraftFor draft.now P.tells complex.old.pair.first.alive
+            (C.count complex.old.pair.first.copy) (C.room complex.old.pair.first.copy) self.now.checkpoint.pages
+            (C.reads (disk_now (P.view complex.old.plant) Ckpt1).bytes) }
+        requires draft2 { IsDraftFor draft.now P.tells complex.old.pair.second.alive
+            (C.count complex.old.pair.second.copy) (C.room complex.old.pair.second.copy) self.now.checkpoint.pages
+            (C.reads (disk_now (P.view complex.old.plant) Ckpt2).bytes) }
         ensures base { complex.new.base ≡ complex.old.base }
-        ensures printed { complex.new.printed ≡ printed_after self.now.id (entries_reserved complex.old.reserved) complex.old.printed }
+        ensures printed { complex.new.printed
+            ≡ printed_after self.now.id (entries_reserved complex.old.reserved) complex.old.printed }
         ensures since { complex.new.since ≡ complex.old.since }
         ensures book { complex.new.book ≡ complex.old.book }
         ensures unreserved { complex.new.reserved ≡ None }
-        ensures kept { OnOk result (complex.new.journal.batches ≡ with_last (fated Kept (P.view complex.new.plant).now (begun (P.view complex.old.plant).now self.now.id (entries_reserved complex.old.reserved))) complex.old.journal.batches) }
+        ensures kept { OnOk result (complex.new.journal.batches
+            ≡ with_last (fated Kept (P.view complex.new.plant).now
+            (begun (P.view complex.old.plant).now self.now.id (entries_reserved complex.old.reserved)))
+            complex.old.journal.batches) }
         ensures unplaced { OnOk result (complex.new.placed ≡ false) }
         ensures none { OnOk result (complex.new.current ≡ None) }
         ensures level { OnOk result (complex.new.level ≡ level_with draft.now complex.old.level) }
-        ensures rests1 { OnOk result (RestsAt P.tells complex.new.pair.first.alive complex.new.first (C.count complex.new.pair.first.copy) self.now.checkpoint.pages (C.reads (disk_now (P.view complex.new.plant) Ckpt1).bytes)) }
-        ensures rests2 { OnOk result (RestsAt P.tells complex.new.pair.second.alive complex.new.second (C.count complex.new.pair.second.copy) self.now.checkpoint.pages (C.reads (disk_now (P.view complex.new.plant) Ckpt2).bytes)) }
-        ensures room1 { OnOk result (complex.new.pair.first.alive ≡ true → C.room complex.new.pair.first.copy ≡ room_with draft.now C.room_after (C.room complex.old.pair.first.copy)) }
-        ensures room2 { OnOk result (complex.new.pair.second.alive ≡ true → C.room complex.new.pair.second.copy ≡ room_with draft.now C.room_after (C.room complex.old.pair.second.copy)) }
-        ensures flying { OnErr result ((complex.new.journal ≡ complex.old.journal) × (complex.new.placed ≡ complex.old.placed) × (complex.new.current ≡ Some (begun (P.view complex.old.plant).now self.now.id (entries_reserved complex.old.reserved)))) }
+        ensures rests1 { OnOk result (RestsAt P.tells complex.new.pair.first.alive complex.new.first
+            (C.count complex.new.pair.first.copy) self.now.checkpoint.pages
+            (C.reads (disk_now (P.view complex.new.plant) Ckpt1).bytes)) }
+        ensures rests2 { OnOk result (RestsAt P.tells complex.new.pair.second.alive complex.new.second
+            (C.count complex.new.pair.second.copy) self.now.checkpoint.pages
+            (C.reads (disk_now (P.view complex.new.plant) Ckpt2).bytes)) }
+        ensures room1 { OnOk result (complex.new.pair.first.alive ≡ true
+            → C.room complex.new.pair.first.copy
+            ≡ room_with draft.now C.room_after (C.room complex.old.pair.first.copy)) }
+        ensures room2 { OnOk result (complex.new.pair.second.alive ≡ true
+            → C.room complex.new.pair.second.copy
+            ≡ room_with draft.now C.room_after (C.room complex.old.pair.second.copy)) }
+        ensures flying { OnErr result ((complex.new.journal ≡ complex.old.journal)
+            × (complex.new.placed ≡ complex.old.placed)
+            × (complex.new.current ≡ Some (begun (P.view complex.old.plant).now self.now.id
+            (entries_reserved complex.old.reserved)))) }
         ensures write { (front : List Batch) (place : Batch) → complex.old.journal.batches ≡ front ++ place ∷ []
-            → IsWrite P.tells self.now.id.0 (begun (P.view complex.old.plant).now self.now.id (entries_reserved complex.old.reserved))
-            front (end_of complex.new.placed complex.new.current complex.new.journal.batches)
-            complex.old.pair.first.alive complex.new.pair.first.alive complex.old.pair.second.alive complex.new.pair.second.alive
+            → IsWrite P.tells self.now.id.0
+            (begun (P.view complex.old.plant).now self.now.id (entries_reserved complex.old.reserved)) front
+            (end_of complex.new.placed complex.new.current complex.new.journal.batches) complex.old.pair.first.alive
+            complex.new.pair.first.alive complex.old.pair.second.alive complex.new.pair.second.alive
             (P.view complex.old.plant) (P.view complex.new.plant) result }
         ensures operator { IsErrOf result Halted → 0 < self.now.id.0 }
     {
@@ -164,15 +211,17 @@ impl Member {
         }
     }
 
-    /// Says a line on the console. One that tells a step may be said once each entry of the step is kept. Answers ConsoleFault where
-    /// the console failed, and Halted where the member was stopped.
+    /// Says a line on the console. One that tells a step may be said once each entry of the step is kept. Answers
+    /// ConsoleFault where the console failed, and Halted where the member was stopped.
     pub fn tell<P: Plant + Drop, C: Steady + Drop>(
         &self,
         complex: &mut Complex<P, C>,
         line: &[u8],
     ) -> Result<(), NodeNo>
         requires up { IsUp complex.old.book self.now.id }
-        requires told { P.tells → (m : MemberId) (s : ℕ) → Closes line.now m s → StepIsKept (complex.old.journal.batches ++ in_flight complex.old.current) (P.view complex.old.plant).now m s }
+        requires told { P.tells → (m : MemberId) (s : ℕ) → Closes line.now m s
+            → StepIsKept (complex.old.journal.batches ++ in_flight complex.old.current) (P.view complex.old.plant).now m
+            s }
         ensures pair { complex.new.pair ≡ complex.old.pair }
         ensures base { complex.new.base ≡ complex.old.base }
         ensures printed { complex.new.printed ≡ complex.old.printed }
@@ -186,9 +235,12 @@ impl Member {
         ensures second { complex.new.second ≡ complex.old.second }
         ensures level { complex.new.level ≡ complex.old.level }
         ensures frame { parts_of complex.new ≡ record (parts_of complex.old) { plant = complex.new.plant } }
-        ensures acts { Acts self.now.id.0 Console (P.view complex.old.plant) (P.view complex.new.plant) (said_as result) }
-        ensures disks { P.tells → (d : Dev) → disk_now (P.view complex.new.plant) d ≡ disk_now (P.view complex.old.plant) d }
-        ensures content { P.tells → Says line.now (P.view complex.old.plant) (P.view complex.new.plant) (said_as result) }
+        ensures acts { Acts self.now.id.0 Console (P.view complex.old.plant) (P.view complex.new.plant)
+            (said_as result) }
+        ensures disks { P.tells → (d : Dev)
+            → disk_now (P.view complex.new.plant) d ≡ disk_now (P.view complex.old.plant) d }
+        ensures content { P.tells → Says line.now (P.view complex.old.plant) (P.view complex.new.plant)
+            (said_as result) }
         ensures only { IsAnswerOfSay result }
     {
         match complex.say(self.id, line) {

@@ -28,8 +28,8 @@ take_whole : {A : Type 0} (xs : List A) → take (length xs) xs ≡ xs
 take_whole [] = refl
 take_whole (x ∷ xs) = ap (λ l. x ∷ l) (take_whole xs)
 
--- A member that sits may spool a deck's text for which it has the groups, also once it gave the lock up: of the book this asks only that the
--- member isn't stopped.
+-- A member that sits may spool a deck's text for which it has the groups, also once it gave the lock up: of the book
+-- this asks only that the member isn't stopped.
 pub may_spool : {P C : Type 0} (plants : PlantGhosts P) (copies : CopyGhosts C) (x : Parts P C) (m : Member) (text : List (List ℕ)) → IsSeat plants copies x m → HasGroups m text → MaySpool plants x m text
 may_spool plants copies x m text s has =
     let groups : List GroupNo = held_by m.id m.checkpoint.tables.owners in

@@ -63,7 +63,7 @@ module _ {P C : Type 0} (plants : PlantGhosts P) (by : MemberId) (h : Holder) (s
   named : (es : List Entry) (r : Result SittingEnd NodeNo) → IsSat plants by (Of es) x y r → IsSat plants h.by (Of es) x y r
   named es r sat = subst (λ (i : MemberId). IsSat plants i (Of es) x y r) (sym same) sat
 
-  -- acts on the copies alone, after which it ended so
+  -- acts on the copies alone, after which a sitting ended with this error
   by_copies : (es : List Entry) (e : NodeNo) → IsOnCopies {T = Unit {0}} plants.tells by.0 x.first_alive y.first_alive x.second_alive y.second_alive V W (Err e) → OneLeft {T = SittingEnd} by V.now W.now es x.batches (journal_of y) (Err e)
       → IsSat plants h.by (Of es) x y (Err e)
   by_copies es e acts one = named es (Err e) (record {
@@ -89,12 +89,12 @@ module _ {P C : Type 0} (plants : PlantGhosts P) (by : MemberId) (h : Holder) (s
       → KeepLeaves {T = Unit {0}} (Err e) x.batches (journal_of y) (begun V.now by es) W.now → IsSat plants h.by (Of es) x y (Err e)
   sat_unkept es e some acts leaves = by_copies es e acts (one_unkept by V.now W.now acts.course.goes.later es some x.batches (journal_of y) e leaves)
 
-  -- memory wanted before the batch had all its entries
+  -- out of memory before the batch had all its entries
   pub sat_given_up : (es rest : List Entry) (e : NodeNo) → IsOnCopies {T = Unit {0}} plants.tells by.0 x.first_alive y.first_alive x.second_alive y.second_alive V W (Err e)
       → GivesUpLeaves e x.batches (journal_of y) (begun V.now by es) W.now → IsSat plants h.by (Of (es ++ rest)) x y (Err e)
   sat_given_up es rest e acts leaves = by_copies (es ++ rest) e acts (one_given_up by V.now W.now acts.course.goes.later es rest x.batches (journal_of y) e leaves)
 
-  -- it was kept, and nothing is said
+  -- the batch was kept, and nothing is said
   pub sat_kept : (es : List Entry) (end : SittingEnd) → 1 ≤ length es → lines ≡ [] → IsEndOf (Of es) end → IsOnCopies {T = Unit {0}} plants.tells by.0 x.first_alive y.first_alive x.second_alive y.second_alive V W (Ok tt)
       → HasKept x.batches (journal_of y) (begun V.now by es) W.now → IsSat plants h.by (Of es) x y (Ok end)
   sat_kept es end some silent ends acts kept =
@@ -140,7 +140,7 @@ module _ {P C : Type 0} (plants : PlantGhosts P) (by : MemberId) (h : Holder) (s
         (λ bad. one_all by V.now W.now step.course.goes.later es some x.batches (journal_of y) (subst (λ (q : Result (Unit {0}) NodeNo). StepLeaves q x.batches (journal_of y) (begun V.now by es) W.now) bad step.journal))
         (step.console t)
 
-    -- it closed with an error
+    -- the batch or its lines ended with an error
     pub sat_unclosed : (e : NodeNo) → Step (Err e) → IsSat plants h.by (Of es) x y (Err e)
     sat_unclosed e step =
         let one : OneLeft {T = SittingEnd} by V.now W.now es x.batches (journal_of y) (Err e) = one_step by V.now W.now step.course.goes.later es some x.batches (journal_of y) e step.journal in
@@ -162,7 +162,7 @@ module _ {P C : Type 0} (plants : PlantGhosts P) (by : MemberId) (h : Holder) (s
           ends = tt;
         })
 
-    -- or its lines are said
+    -- the batch was kept, and its lines are said
     pub sat_closed : (end : SittingEnd) → IsEndOf (Of es) end → Step (Ok tt) → IsSat plants h.by (Of es) x y (Ok end)
     sat_closed end ends step =
         let one : OneLeft by V.now W.now es x.batches (journal_of y) (Ok end) = one_kept by V.now W.now step.course.goes.later es some x.batches (journal_of y) (Ok end) step.journal in
@@ -184,7 +184,7 @@ module _ {P C : Type 0} (plants : PlantGhosts P) (by : MemberId) (h : Holder) (s
           ends = ends;
         })
 
--- nothing was done, since memory wanted
+-- nothing was done, out of memory
 pub sat_none : {P C : Type 0} (plants : PlantGhosts P) (by : MemberId) (h : Holder) (next : State) (lines : List (List ℕ)) (x : Parts P C) (es : List Entry) → journal_of x ≡ x.batches → IsSat plants by (ends_in h (es ∷ []) next lines) x x (Err NoMemory)
 sat_none plants by h next lines x es same =
     let v = plants.view x.plant in

@@ -1,4 +1,4 @@
--- A deck's first commands in a sitting: the member may keep them, all of them or those before memory wanted.
+-- A deck's first commands in a sitting: the member may keep them, all of them or those before it is out of memory.
 use Rattle.std.proofs.Common.{◌≡◌, ℕ, ◌+◌, ◌*◌, ◌≤◌, true, List, [], ◌∷◌, ◌++◌, All, Result, Ok, Err, refl, sym, ◌∙◌, ap, subst, arith}
 use Rattle.std.proofs.Math.Logic.{∥∥₁_map}
 use Rattle.std.proofs.lemmas.List.Elements.{All-tail, All-append}
@@ -28,7 +28,7 @@ use Rattle.member_decks.proofs.PlayLemmas.{of_front, of_given}
 use Rattle.member_sittings.specs.Whole.{Commanded, HasTextsAfter, HasTextsOf, IsGiving, IsSitting, queue_of}
 use Rattle.member_sittings.proofs.SeatLemmas.{gives_commanded, seat_done}
 
--- WHAT COMES BEHIND THE FIRST ENTRIES OF A LIST
+-- WHAT COMES AFTER THE FIRST ENTRIES OF A LIST
 
 abbrev pub strip : List Entry → List Entry → List Entry
 strip [] l = l
@@ -44,7 +44,7 @@ all_strip P [] l all = all
 all_strip P (x ∷ xs) [] all = all
 all_strip P (x ∷ xs) (y ∷ l) all = all_strip P xs l (All-tail P y l all)
 
--- they are all of them again
+-- the first entries of a list, and what comes after them, are the whole list
 pub front_is : (es all : List Entry) → LeaveOut es all → es ++ strip es all ≡ all
 front_is es all part = ap (λ (l : List Entry). es ++ strip es l) part.1 ∙ ap (λ (l : List Entry). es ++ l) (strip_front es part.0) ∙ sym part.1
 

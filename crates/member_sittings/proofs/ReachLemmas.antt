@@ -20,12 +20,12 @@ use Rattle.member_sittings.specs.Left.{HasLeft, HasSaid, IsLastBatch, Reach, Rea
 
 -- A BATCH, AND SOME OF ITS ENTRIES
 
--- what is written where there is something to write
+-- a batch of some entries is written
 pub batch_some : (es : List Entry) → 1 ≤ length es → batch_of es ≡ es ∷ []
 batch_some [] some = absurd (omega (arith, some))
 batch_some (e ∷ es) some = refl
 
--- the first entries of a batch
+-- the first entries of a batch are written as a batch
 pub part_front : (es rest : List Entry) → 1 ≤ length es → batch_of (take (length es) (es ++ rest)) ≡ es ∷ []
 part_front es rest some = ap batch_of (take_at es rest (length es) refl) ∙ batch_some es some
 
@@ -37,16 +37,16 @@ drop_all : {A : Type 0} (xs : List A) → drop (length xs) xs ≡ []
 drop_all [] = refl
 drop_all (x ∷ xs) = drop_all xs
 
--- to the end all of them stand there
+-- a reach to the end leaves all batches
 pub left_all : (ess : List (List Entry)) → left_by (reach_all ess) ess ≡ ess
 left_all ess = ap (λ (l : List (List Entry)). l ++ []) (take_all ess) ∙ append-nil ess
 
--- ONE AFTER ANOTHER
+-- BATCHES ONE AFTER ANOTHER
 
 stand_flag : (flies : Bool) (by : MemberId) (es : List Entry) (from now : ℕ) (b : Batch) → flies ≡ false → IsKeptBatch by es from now b → IsLastBatch flies by es from now b
 stand_flag flies by es from now b is kept = subst (λ (f : Bool). IsLastBatch f by es from now b) (sym is) kept
 
--- a kept one, and others after it
+-- a kept batch, and others after it
 pub stand_next : (flies : Bool) (by : MemberId) (from now : ℕ) (es : List Entry) (ess : List (List Entry)) (b : Batch) (bs : List Batch) → IsKeptBatch by es from now b → StandThere flies by b.last now ess bs → StandThere flies by from now (es ∷ ess) (b ∷ bs)
 stand_next flies by from now es [] b [] kept rest = (refl, stand_flag flies by es from now b rest kept)
 stand_next flies by from now es [] b (c ∷ bs) kept rest = absurd rest
@@ -75,7 +75,7 @@ all_left by from now ess bs all = record {
 pub none_left : (by : MemberId) (from now : ℕ) (ess : List (List Entry)) → HasLeft by from now ess (record { whole = 0; part = 0; flies = false }) []
 none_left by from now ess = record { within = omega arith; flying = λ e. absurd (cc); stand = refl }
 
--- some entries of the first one stand there alone
+-- some entries of the first batch stand in the journal alone
 pub part_left : (flies : Bool) (by : MemberId) (from now : ℕ) (es rest : List Entry) (ess : List (List Entry)) (b : Batch) → 1 ≤ length es → IsLastBatch flies by es from now b
     → HasLeft by from now ((es ++ rest) ∷ ess) (record { whole = 0; part = length es; flies = flies }) (b ∷ [])
 part_left flies by from now es rest ess b some last = record {
@@ -84,7 +84,7 @@ part_left flies by from now es rest ess b some last = record {
   stand = subst (λ (l : List (List Entry)). StandThere flies by from now l (b ∷ [])) (sym (part_front es rest some)) (refl, last);
 }
 
--- one more stands before those
+-- what is left, with one kept batch more before the others
 pub next_left : (flies : Bool) (by : MemberId) (from now : ℕ) (es : List Entry) (ess : List (List Entry)) (b : Batch) (bs : List Batch) → IsKeptBatch by es from now b → Lefts flies by b.last now ess bs → Lefts flies by from now (es ∷ ess) (b ∷ bs)
 next_left flies by from now es ess b bs kept l = record {
   reach = record { whole = suc l.reach.whole; part = l.reach.part; flies = l.reach.flies };
@@ -144,7 +144,7 @@ module _ (by : MemberId) (from now : ℕ) (ess : List (List Entry)) (more : List
   by_all (Err BothLost) all = record { reach = reach_all ess; left = all_left by from now ess more all; reached = tt }
   by_all (Err Halted) all = record { reach = reach_all ess; left = all_left by from now ess more all; reached = tt }
 
-  -- where memory wanted
+  -- out of memory amid a sitting's batches
   pub by_cut_wanted : {T : Type 0} → AreCut by from now ess more → LeftBy {T = T} by from now ess more (Err NoMemory)
   by_cut_wanted cut = let l = cut_left by from now ess more cut in record { reach = l.reach; left = l.left; reached = l.flag }
 
@@ -165,7 +165,7 @@ module _ (by : MemberId) (from now : ℕ) (ess : List (List Entry)) (more : List
 
 -- ONE BATCH
 
--- behind these batches more, as far as a sitting of one batch came
+-- after the batches of the front come others, as far as a sitting of one batch came
 pub record OneLeft {T : Type 0} (by : MemberId) (from now : ℕ) (all : List Entry) (front batches : List Batch) (result : Result T NodeNo) : Type 0 where
   pub more : List Batch
   pub are : batches ≡ front ++ more
@@ -188,18 +188,18 @@ module _ (by : MemberId) (from now : ℕ) (later : from ≤ now) (es rest : List
   kept : (k : HasKept front batches Cut now) → IsLastBatch false by es from now (fated Kept k.0 Cut)
   kept k = record { by_it = refl; entries = refl; kept = refl; moments = (omega arith, k.1, k.2) }
 
-  -- its first entries are in flight
+  -- the first entries of a batch are in flight
   pub one_lost : {T : Type 0} → 1 ≤ length es → HasFlying front batches Cut → OneLeft {T = T} by from now (es ++ rest) front batches (Err BothLost)
   one_lost some flies = record { more = Cut ∷ []; are = flies; by_it = record { reach = record { whole = 0; part = length es; flies = true }; left = part_left true by from now es rest [] Cut some flown; reached = tt } }
 
   pub one_halted : {T : Type 0} → 1 ≤ length es → HasFlying front batches Cut → OneLeft {T = T} by from now (es ++ rest) front batches (Err Halted)
   one_halted some flies = record { more = Cut ∷ []; are = flies; by_it = record { reach = record { whole = 0; part = length es; flies = true }; left = part_left true by from now es rest [] Cut some flown; reached = tt } }
 
-  -- they are kept, and memory wanted
+  -- out of memory after the first entries of a batch, which are kept
   pub one_wanted : {T : Type 0} → 1 ≤ length es → HasKept front batches Cut now → OneLeft {T = T} by from now (es ++ rest) front batches (Err NoMemory)
   one_wanted some k = record { more = fated Kept k.0 Cut ∷ []; are = k.3; by_it = record { reach = record { whole = 0; part = length es; flies = false }; left = part_left false by from now es rest [] (fated Kept k.0 Cut) some (kept k); reached = refl } }
 
-  -- a step in which memory wanted in its first batch
+  -- a step that was out of memory in its first batch
   pub one_given_up : {T : Type 0} (e : NodeNo) → GivesUpLeaves e front batches Cut now → OneLeft {T = T} by from now (es ++ rest) front batches (Err e)
   one_given_up NoMemory leaves = ⊎_elim (λ none. one_none NoMemory (λ e. absurd (cc)) none) (λ k. one_wanted k.0 k.1) leaves
   one_given_up BothLost leaves = one_lost leaves.0 leaves.1
@@ -217,7 +217,7 @@ module _ (by : MemberId) (from now : ℕ) (later : from ≤ now) (es : List Entr
   pub one_kept : {T : Type 0} (r : Result T NodeNo) → HasKept front batches Whole now → OneLeft by from now es front batches r
   one_kept r k = let all = one_all k in record { more = all.0; are = all.1; by_it = by_all by from now (es ∷ []) all.0 r all.2 }
 
-  -- with nothing behind it
+  -- a batch with no entries left to come
   alone : {T : Type 0} (r : Result T NodeNo) → OneLeft by from now (es ++ []) front batches r → OneLeft by from now es front batches r
   alone r one = subst (λ (l : List Entry). OneLeft by from now l front batches r) (append-nil es) one
 
@@ -249,7 +249,7 @@ module _ (lines : List (List ℕ)) (was now : List Line) where
   said_none A Halted never same = record { said = said_nothing; is = same ∙ sym (append-nil was); by_answer = omega arith; once_kept = inl refl }
   said_none A ConsoleFault never same = absurd (never refl)
 
-  -- so many lines, whole
+  -- so many of the lines were said whole
   whole_said : (n : ℕ) → now ≡ was ++ map whole (take n lines) → now ≡ was ++ said_of (record { lines = n; torn = None }) lines
   whole_said n is = is ∙ ap (λ (l : List Line). was ++ l) (sym (append-nil (map whole (take n lines))))
 
@@ -273,7 +273,7 @@ module _ (lines : List (List ℕ)) (was now : List Line) where
       more)
       breaks
 
-  -- of a step's lines
+  -- what was said of a step's lines
   pub said_by : (A B : Type 0) (r : Result (Unit {0}) NodeNo) → (A → B) → (r ≡ Ok tt → B) → (r ≡ Err ConsoleFault → B) → StepTells r lines A was now → HasSaid B lines was now r
   said_by A B (Ok done) f ok fault tells = said_all B done (ok refl) tells
   said_by A B (Err ConsoleFault) f ok fault tells = said_some B tells.0 (fault refl) tells.1 tells.2
@@ -281,7 +281,7 @@ module _ (lines : List (List ℕ)) (was now : List Line) where
   said_by A B (Err BothLost) f ok fault tells = said_none B BothLost (λ e. absurd (cc)) tells
   said_by A B (Err Halted) f ok fault tells = ⊎_elim (λ none. said_none B Halted (λ e. absurd (cc)) none) (λ some. said_broken B some.1 (f some.0) some.2 some.3) tells
 
--- the same by an answer of another type
+-- what was said, by an answer of another type
 pub said_answer : {T : Type 0} (A : Type 0) (lines : List (List ℕ)) (was now : List Line) (e : NodeNo) → HasSaid {T = Unit {0}} A lines was now (Err e) → HasSaid {T = T} A lines was now (Err e)
 said_answer A lines was now NoMemory s = record { said = s.said; is = s.is; by_answer = s.by_answer; once_kept = s.once_kept }
 said_answer A lines was now BothLost s = record { said = s.said; is = s.is; by_answer = s.by_answer; once_kept = s.once_kept }

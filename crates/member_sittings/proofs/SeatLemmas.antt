@@ -42,7 +42,7 @@ use Rattle.member_sittings.specs.Gates.{HasTakenSeat, IsAtGate, IsOpen}
 use Rattle.member_sittings.specs.Sat.{journal_of}
 use Rattle.member_sittings.specs.Whole.{Commanded, Half, HasTextsAfter, HasUntold, HoldsLock, IsAtRest, IsGiving, IsRoomy, IsSeat, IsSitting, IsStepUntold, IsStill, first_half, queue_of, second_half}
 
--- the same lock by other names
+-- a member that has the lock has it by other names of book, configuration and member too
 holds_same : (b c : Book) (k l : Config) (m n : MemberId) → c ≡ b → l ≡ k → n ≡ m → HoldsLock b k m → HoldsLock c l n
 holds_same b c k l m n one two three holds =
     subst (λ (d : Book). HoldsLock d l n) (sym one) (subst (λ (e : Config). HoldsLock b e n) (sym two) (subst (λ (i : MemberId). HoldsLock b k i) (sym three) holds))

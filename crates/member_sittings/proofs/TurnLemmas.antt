@@ -39,7 +39,7 @@ cut_full : (es : List Entry) (b : Bool) → batch_of es ≡ es ∷ [] → (if b 
 cut_full es true one = refl
 cut_full es false one = one
 
--- is one batch
+-- a sitting's only part is one batch
 pub cut_one : (es : List Entry) → 1 ≤ length es → cut [] (es ∷ []) ≡ es ∷ []
 cut_one es some = cut_full es (is_full es) (batch_some es some)
 
@@ -63,7 +63,7 @@ command_sits Q h c found = refl
 
 -- A DECK'S FIRST PART
 
--- how its opening ends, by the job that has its groups
+-- how a deck's opening ends, by the job that has its groups
 abbrev pub opened_with : Option JobNo → Opened
 opened_with None = opened.Closed
 opened_with (Some n) = opened.Ready n
@@ -91,7 +91,7 @@ module _ (Q : Queue) (h : Holder) (fields : JobFields) (text : List (List ℕ)) 
   abbrev Groups : ℕ
   Groups = groups_needed text
 
-  -- the entries of its opening
+  -- the entries of a deck's opening
   abbrev pub FirstPart : List Entry
   FirstPart = given_in Q h.by h.step (opening Q h.by fields Groups)
 
@@ -117,7 +117,7 @@ module _ (Q : Queue) (h : Holder) (fields : JobFields) (text : List (List ℕ)) 
   pub deck_waits : (n : JobNo) → job_opened Q h.by fields Groups ≡ Some n → sit Q h (Fresh (Deck fields text)) found ≡ ends_in h (FirstPart ∷ []) (Away (SpoolDeck n text)) []
   deck_waits n one = ap as_opened one ∙ sit_one h (deck_opens h (Some n) FirstPart text) FirstPart refl first_some
 
--- ITS SECOND PART
+-- A DECK'S SECOND PART
 
 pub spooled_sits : (Q : Queue) (h : Holder) (n : JobNo) (text : List (List ℕ)) (lost : Option ℕ)
     → sit Q h (Away (SpoolDeck n text)) (deck_found lost) ≡ ends_in h ((entry_of Q h.by h.step (finishing lost n text) ∷ []) ∷ []) Told (lines_by h.by h.step lost (closing_reply (entry_of Q h.by h.step (finishing lost n text) ∷ [])))

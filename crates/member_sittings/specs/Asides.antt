@@ -70,8 +70,8 @@ module _ {P C : Type 0} (plants : PlantGhosts P) where
   abbrev v : Parts P C → View
   v x = plants.view x.plant
 
-  -- A member that isn't stopped may spool a deck's text into its groups, whoever holds the lock. Where content is told these are its own
-  -- in the queue, so no text of a deck or an output stands in them.
+  -- A member that isn't stopped may spool a deck's text into its groups, whoever holds the lock. Where content is told
+  -- these are its own in the queue, so no text of a deck or an output stands in them.
   pub record MaySpool (x : Parts P C) (m : Member) (text : List (List ℕ)) : Type 0 where
     pub up : IsUp x.book m.id
     pub none : x.current ≡ None
@@ -83,9 +83,11 @@ module _ {P C : Type 0} (plants : PlantGhosts P) where
   -- the text stands in the lowest groups that the queue gives the member, where no volume was found lost
   abbrev pub IsSpooled : Parts P C → MemberId → List (List ℕ) → Option ℕ → Type 0
   IsSpooled x by text lost =
-      lost ≡ None → plants.tells → IsThere (spools_at (v x) (v x).now) x.base.config.groups (Whole text) (lowest_groups by (queue_of x).owners text)
+      lost ≡ None → plants.tells → IsThere (spools_at (v x) (v x).now) x.base.config.groups (Whole text)
+      (lowest_groups by (queue_of x).owners text)
 
-  -- What was found: a volume that failed in the acts, is lost, and has one of the groups; else the text stands in these, all of it synced.
+  -- What was found: a volume that failed in the acts, is lost, and has one of the groups; else the text stands in
+  -- these, all of it synced.
   pub record FindsDeck (x y : Parts P C) (groups : List GroupNo) (text : List (List ℕ)) (found : Found) : Type 0 where
     pub only : found ≡ deck_found found.lost
     pub lost : IsFoundLost found.lost (v x) (v y)
@@ -94,10 +96,11 @@ module _ {P C : Type 0} (plants : PlantGhosts P) where
         → IsThere (spools_at (v y) (v y).now) x.base.config.groups (Whole text) groups
 
   -- Acts aside for a deck, by their answer: on the volumes alone. Halted comes only where the member was stopped.
-  pub record HasSpooled (x y : Parts P C) (m : Member) (text : List (List ℕ)) (result : Result Found NodeNo) : Type 0 where
-    pub acts : OnVolumes plants.tells m.id.0 (v x) (v y)
-    pub cause : SpoolStops result m.id.0 (v x) (v y)
-    pub finds : IfOk result (λ found. FindsDeck x y (lowest_groups m.id m.checkpoint.tables.owners text) text found)
+  pub record HasSpooled (x y : Parts P C) (m : Member) (text : List (List ℕ)) (result : Result Found NodeNo) : Type 0
+    where
+      pub acts : OnVolumes plants.tells m.id.0 (v x) (v y)
+      pub cause : SpoolStops result m.id.0 (v x) (v y)
+      pub finds : IfOk result (λ found. FindsDeck x y (lowest_groups m.id m.checkpoint.tables.owners text) text found)
 
 -- OVER THE SHARED VALUE
 
@@ -108,5 +111,6 @@ module _ {P C : Type 0} {plants : PlantGhosts P} {steadies : SteadyGhosts C} {co
   abbrev pub DeckIsSpooled : Complex P C plants steadies copies → MemberId → List (List ℕ) → Option ℕ → Type 0
   DeckIsSpooled x by text lost = IsSpooled plants (parts_of x) by text lost
 
-  abbrev pub SpoolsDeck : Complex P C plants steadies copies → Complex P C plants steadies copies → Member → List (List ℕ) → Result Found NodeNo → Type 0
+  abbrev pub SpoolsDeck : Complex P C plants steadies copies → Complex P C plants steadies copies → Member
+      → List (List ℕ) → Result Found NodeNo → Type 0
   SpoolsDeck x y m text result = HasSpooled plants (parts_of x) (parts_of y) m text result

@@ -16,7 +16,8 @@ use Rattle.member_steps.specs.Steps.{AreAllKept, IsAtLock, IsToldSound}
 use Rattle.member_sittings.specs.Sat.{CopiesActed}
 use Rattle.member_sittings.specs.Whole.{Half, HoldsLock, IsBounded, IsSeat, first_half, queue_of, second_half}
 
--- A copy before any batch, which has so many pages where it counts as alive. What it reads is low after so many batches.
+-- A copy before any batch, which has so many pages where it counts as alive. What it reads is low after so many
+-- batches.
 pub record IsOpen (tells : Type 0) (h : Half) (config : Config) (batches pages : ℕ) : Type 0 where
   pub calm : IsCalm h.alive h.place h.count pages
   pub low : ReadsLow tells h.alive config batches h.read
@@ -25,14 +26,16 @@ module _ {P C : Type 0} (plants : PlantGhosts P) (copies : CopyGhosts C) where
   abbrev v : Parts P C → View
   v x = plants.view x.plant
 
-  -- The member holds the lock, and nothing is in flight, reserved or placed. It may know nothing of what the copies have by now: others may
-  -- have written since it did.
+  -- The member holds the lock, and nothing is in flight, reserved or placed. It may know nothing of what the copies
+  -- have by now: others may have written since it did.
   pub record IsAtGate (x : Parts P C) (m : Member) : Type 0 where
     pub holds : HoldsLock x.book x.base.config m.id
     pub at_lock : IsAtLock x.current x.placed m.batch m.checkpoint m.room
     pub unreserved : x.reserved ≡ None
-    pub first : IsOpen plants.tells (first_half plants copies x) m.checkpoint.tables.config (length x.batches) (length m.room)
-    pub second : IsOpen plants.tells (second_half plants copies x) m.checkpoint.tables.config (length x.batches) (length m.room)
+    pub first : IsOpen plants.tells (first_half plants copies x) m.checkpoint.tables.config (length x.batches)
+        (length m.room)
+    pub second : IsOpen plants.tells (second_half plants copies x) m.checkpoint.tables.config (length x.batches)
+        (length m.room)
     pub sound : plants.tells → IsToldSound (queue_of x)
     pub config : x.base.config ≡ m.checkpoint.tables.config
     pub kept : AreAllKept x.batches (v x).now
@@ -40,7 +43,7 @@ module _ {P C : Type 0} (plants : PlantGhosts P) (copies : CopyGhosts C) where
     pub roomy : plants.tells → AreRoomy (v x) x.base.config
     pub level : x.level < too_high
 
-  -- It has read what the copies have, and made room for a batch.
+  -- The member has read what the copies have, and made room for a batch.
   pub record HasTakenSeat (x : Parts P C) (m : Member) : Type 0 where
     pub seat : IsSeat plants copies x m
     pub bounds : IsBounded plants copies x m
@@ -54,5 +57,6 @@ module _ {P C : Type 0} {plants : PlantGhosts P} {steadies : SteadyGhosts C} {co
   abbrev pub TookSeat : Complex P C plants steadies copies → Member → Type 0
   TookSeat x m = HasTakenSeat plants copies (parts_of x) m
 
-  abbrev pub ActedOnCopies : {T : Type 0} → MemberId → Complex P C plants steadies copies → Complex P C plants steadies copies → Result T NodeNo → Type 0
+  abbrev pub ActedOnCopies : {T : Type 0} → MemberId → Complex P C plants steadies copies
+      → Complex P C plants steadies copies → Result T NodeNo → Type 0
   ActedOnCopies by x y result = CopiesActed plants by (parts_of x) (parts_of y) result

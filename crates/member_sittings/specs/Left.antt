@@ -13,8 +13,8 @@ use Rattle.step_turns.specs.Batches.{batch_of}
 
 -- THE JOURNAL
 
--- How far a sitting came: so many of its batches are kept, and of the next one so many entries stand in the journal too, in flight to the
--- end or kept. None do where that isn't begun.
+-- How far a sitting came: so many of its batches are kept, and of the next one so many entries stand in the journal
+-- too, in flight to the end or kept. None do where that isn't begun.
 pub record Reach : Type 0 where
   pub whole : ℕ
   pub part : ℕ
@@ -43,9 +43,11 @@ StandThere flies by from now [] [] = flies ≡ false
 StandThere flies by from now [] (b ∷ bs) = ⊥
 StandThere flies by from now (es ∷ ess) [] = ⊥
 StandThere flies by from now (es ∷ []) (b ∷ bs) = (bs ≡ []) × IsLastBatch flies by es from now b
-StandThere flies by from now (es ∷ next ∷ ess) (b ∷ bs) = IsKeptBatch by es from now b × StandThere flies by b.last now (next ∷ ess) bs
+StandThere flies by from now (es ∷ next ∷ ess) (b ∷ bs) = IsKeptBatch by es from now b
+    × StandThere flies by b.last now (next ∷ ess) bs
 
--- How far it came by its answer: to the end where the step goes on or the console failed. Where memory wanted nothing is in flight.
+-- How far a sitting came by its answer: to the end where the step goes on or the console failed. Out of memory, nothing
+-- is in flight.
 abbrev pub ReachesBy : {T : Type 0} → Result T NodeNo → List (List Entry) → Reach → Type 0
 ReachesBy (Ok done) ess r = r ≡ reach_all ess
 ReachesBy (Err ConsoleFault) ess r = r ≡ reach_all ess
@@ -54,14 +56,15 @@ ReachesBy (Err BothLost) ess r = Unit {0}
 ReachesBy (Err Halted) ess r = Unit {0}
 
 -- A journal has more of these batches of a member, begun from a moment on, as far as this one came.
-pub record HasLeft (by : MemberId) (from now : ℕ) (ess : List (List Entry)) (reach : Reach) (more : List Batch) : Type 0 where
-  pub within : reach.whole ≤ length ess
-  pub flying : reach.flies ≡ true → 1 ≤ reach.part
-  pub stand : StandThere reach.flies by from now (left_by reach ess) more
+pub record HasLeft (by : MemberId) (from now : ℕ) (ess : List (List Entry)) (reach : Reach) (more : List Batch) : Type 0
+  where
+    pub within : reach.whole ≤ length ess
+    pub flying : reach.flies ≡ true → 1 ≤ reach.part
+    pub stand : StandThere reach.flies by from now (left_by reach ess) more
 
 -- THE CONSOLE
 
--- so many lines were said whole, and this text torn after them
+-- what was said on the console: so many lines whole, and this text torn after them
 pub record Said : Type 0 where
   pub lines : ℕ
   pub torn : Option (List ℕ)
@@ -76,7 +79,7 @@ torn_line (Some text) = torn text ∷ []
 abbrev pub said_of : Said → List (List ℕ) → List Line
 said_of s lines = map whole (take s.lines lines) ++ torn_line s.torn
 
--- what was said by the answer
+-- what was said on the console, by the answer
 abbrev pub SaidBy : {T : Type 0} → Result T NodeNo → List (List ℕ) → Said → Type 0
 SaidBy (Ok done) lines s = s ≡ record { lines = length lines; torn = None }
 SaidBy (Err NoMemory) lines s = s ≡ said_nothing
@@ -85,7 +88,8 @@ SaidBy (Err ConsoleFault) lines s = (s.lines < length lines) × (s.torn ≡ None
 SaidBy (Err Halted) lines s = s.lines ≤ length lines
 
 -- Of these lines some were said by the answer, and none before this held.
-pub record HasSaid {T : Type 0} (kept : Type 0) (lines : List (List ℕ)) (was now : List Line) (result : Result T NodeNo) : Type 0 where
+pub record HasSaid {T : Type 0} (kept : Type 0) (lines : List (List ℕ)) (was now : List Line)
+    (result : Result T NodeNo) : Type 0 where
   pub said : Said
   pub is : now ≡ was ++ said_of said lines
   pub by_answer : SaidBy result lines said

@@ -32,7 +32,8 @@ use Rattle.member_sittings.specs.declared.ends.SittingEnd.{SittingEnd}
 use Rattle.member_sittings.specs.Left.{HasLeft, HasSaid, Reach, ReachesBy}
 use Rattle.member_sittings.specs.Whole.{IsLeftIn, queue_of}
 
--- What a sitting begins with: its member, which holds the lock, the step's state, and what was found in the acts that this waited for.
+-- What a sitting begins with: its member, which holds the lock, the step's state, and what was found in the acts that
+-- this waited for.
 pub record Start : Type 0 where
   pub holder : Holder
   pub state : State
@@ -42,11 +43,12 @@ pub record Start : Type 0 where
 abbrev pub begins : Holder → State → Start
 begins h s = record { holder = h; state = s; found = nothing_found }
 
--- one after acts that it waited for, in which this was found
+-- a sitting after acts that its step waited for, in which this was found
 abbrev pub resumes : Holder → Aside → Found → Start
 resumes h aside found = record { holder = h; state = Away aside; found = found }
 
--- The parts as they are, with the lock's book, the base and the first moment as they were: a sitting changes none of these.
+-- The parts as they are, with the lock's book, the base and the first moment as they were: a sitting changes none of
+-- these.
 abbrev pub sat_in : {P C : Type 0} → Parts P C → Parts P C → Parts P C
 sat_in is was = record is { book = was.book; base = was.base; since = was.since }
 
@@ -64,8 +66,8 @@ module _ {P C : Type 0} (plants : PlantGhosts P) where
   abbrev v : Parts P C → View
   v x = plants.view x.plant
 
-  -- Acts of a member on the copies and on the console, with the cause of their answer. Nothing is printed, no volume changes, and no copy
-  -- is lost by a call. The member is stopped only where the answer is Halted.
+  -- Acts of a member on the copies and on the console, with the cause of their answer. Nothing is printed, no volume
+  -- changes, and no copy is lost by a call. The member is stopped only where the answer is Halted.
   pub record HasActed {T : Type 0} (by : MemberId) (old new : Parts P C) (result : Result T NodeNo) : Type 0 where
     pub course : Course old.first_alive new.first_alive old.second_alive new.second_alive (v old) (v new)
     pub loses : plants.tells → (d : Dev) → (v new).loses d ≡ (v old).loses d
@@ -83,17 +85,18 @@ module _ {P C : Type 0} (plants : PlantGhosts P) where
   LinesAreSaid by t old new result =
       HasSaid (AreKeptIn by t old new) t.lines (console_now (v old)) (console_now (v new)) result
 
-  -- Acts of a sitting with these batches, next state and lines. They add to the journal what was kept, as far as the sitting came, and what
-  -- is in flight.
-  pub record IsSat (by : MemberId) (t : Sitting) (old new : Parts P C) (result : Result SittingEnd NodeNo) : Type 0 where
-    pub acts : HasActed by old new result
-    pub reach : Reach
-    pub more : List Batch
-    pub journal : journal_of new ≡ old.batches ++ more
-    pub left : HasLeft by (v old).now (v new).now t.batches reach more
-    pub reached : ReachesBy result t.batches reach
-    pub console : plants.tells → LinesAreSaid by t old new result
-    pub ends : IfOk result (λ e. IsEndOf t e)
+  -- Acts of a sitting with these batches, next state and lines. They add to the journal what was kept, as far as the
+  -- sitting came, and what is in flight.
+  pub record IsSat (by : MemberId) (t : Sitting) (old new : Parts P C) (result : Result SittingEnd NodeNo) : Type 0
+    where
+      pub acts : HasActed by old new result
+      pub reach : Reach
+      pub more : List Batch
+      pub journal : journal_of new ≡ old.batches ++ more
+      pub left : HasLeft by (v old).now (v new).now t.batches reach more
+      pub reached : ReachesBy result t.batches reach
+      pub console : plants.tells → LinesAreSaid by t old new result
+      pub ends : IfOk result (λ e. IsEndOf t e)
 
   -- A sitting that began so. Where content is told it is the one that the queue gives which the member found.
   pub record Sat (s : Start) (old new : Parts P C) (result : Result SittingEnd NodeNo) : Type 0 where
@@ -105,9 +108,11 @@ module _ {P C : Type 0} (plants : PlantGhosts P) where
   -- acts on the copies alone
   abbrev pub CopiesActed : {T : Type 0} → MemberId → Parts P C → Parts P C → Result T NodeNo → Type 0
   CopiesActed by old new result =
-      IsOnCopies plants.tells by.0 old.first_alive new.first_alive old.second_alive new.second_alive (v old) (v new) result
+      IsOnCopies plants.tells by.0 old.first_alive new.first_alive old.second_alive new.second_alive (v old) (v new)
+      result
 
-  -- Memory wanted in the middle of a sitting: of its next batch these first entries are kept if there was memory for that, or are in flight.
+  -- Memory wanted in the middle of a sitting: of its next batch these first entries are kept if there was memory for
+  -- that, or are in flight.
   pub record HasCut (by : MemberId) (es : List Entry) (old new : Parts P C) (why : NodeNo) : Type 0 where
     pub acts : CopiesActed {T = Unit {0}} by old new (Err why)
     pub leaves : GivesUpLeaves why old.batches (journal_of new) (begun (v old).now by es) (v new).now
@@ -119,21 +124,26 @@ pub record HasGrown {P C : Type 0} (batches : ℕ) (x y : Parts P C) (m n : Memb
   pub reached : y.level ≤ x.level + batches
 
 -- A sitting that ended so leaves its member at the shared value; it used the levels and orders of one batch.
-pub record IsSatOn {P C : Type 0} (plants : PlantGhosts P) (copies : CopyGhosts C) (x y : Parts P C) (m n : Member) (at : ℕ) (e : SittingEnd) : Type 0 where
+pub record IsSatOn {P C : Type 0} (plants : PlantGhosts P) (copies : CopyGhosts C) (x y : Parts P C) (m n : Member)
+    (at : ℕ) (e : SittingEnd) : Type 0 where
   pub sits : IsLeftIn plants copies e.next y n at
   pub grown : HasGrown 1 x y m n
 
 -- OVER THE SHARED VALUE
 
 module _ {P C : Type 0} {plants : PlantGhosts P} {steadies : SteadyGhosts C} {copies : CopyGhosts C} where
-  abbrev pub HasSat : Start → Complex P C plants steadies copies → Complex P C plants steadies copies → Result SittingEnd NodeNo → Type 0
+  abbrev pub HasSat : Start → Complex P C plants steadies copies → Complex P C plants steadies copies
+      → Result SittingEnd NodeNo → Type 0
   HasSat s x y result = Sat plants s (parts_of x) (parts_of y) result
 
-  abbrev pub SatAs : MemberId → Sitting → Complex P C plants steadies copies → Complex P C plants steadies copies → Result SittingEnd NodeNo → Type 0
+  abbrev pub SatAs : MemberId → Sitting → Complex P C plants steadies copies → Complex P C plants steadies copies
+      → Result SittingEnd NodeNo → Type 0
   SatAs by t x y result = IsSat plants by t (parts_of x) (parts_of y) result
 
-  abbrev pub CutsOff : MemberId → List Entry → Complex P C plants steadies copies → Complex P C plants steadies copies → NodeNo → Type 0
+  abbrev pub CutsOff : MemberId → List Entry → Complex P C plants steadies copies → Complex P C plants steadies copies
+      → NodeNo → Type 0
   CutsOff by es x y why = HasCut plants by es (parts_of x) (parts_of y) why
 
-  abbrev pub SitsOn : Complex P C plants steadies copies → Complex P C plants steadies copies → Member → Member → ℕ → SittingEnd → Type 0
+  abbrev pub SitsOn : Complex P C plants steadies copies → Complex P C plants steadies copies → Member → Member → ℕ
+      → SittingEnd → Type 0
   SitsOn x y m n at e = IsSatOn plants copies (parts_of x) (parts_of y) m n at e

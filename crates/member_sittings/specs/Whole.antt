@@ -1,4 +1,5 @@
--- The shared value and a member that sits at it, as whole values: what holds at the beginning of a sitting, within it, and at its end.
+-- The shared value and a member that sits at it, as whole values: what holds at the beginning of a sitting, within it,
+-- and at its end.
 use Rattle.std.specs.Prelude.{◌≡◌, ℕ, ◌+◌, ◌≤◌, ◌<◌, ◌^◌, Bool, true, false, List, ◌++◌, length, Option, None}
 use Rattle.mas_types.specs.declared.ids.Dev.TheVariants.{Ckpt1, Ckpt2}
 use Rattle.mas_types.specs.declared.ids.MemberId.{MemberId}
@@ -53,7 +54,8 @@ pub record HoldsLock (b : Book) (config : Config) (m : MemberId) : Type 0 where
 
 -- THE COPIES
 
--- one of them: whether it counts as alive, how far a batch has come on it, its pages, its room for batches, and what it reads
+-- a copy: whether it counts as alive, how far a batch has come on it, its pages, its room for batches, and what it
+-- reads
 pub record Half : Type 0 where
   pub alive : Bool
   pub place : Place
@@ -61,11 +63,11 @@ pub record Half : Type 0 where
   pub room : ℕ
   pub read : Option (List ℕ)
 
--- it has these pages
+-- the copy has these pages
 abbrev pub IsAtRest : Type 0 → Half → List Page → Type 0
 IsAtRest tells h pages = RestsAt tells h.alive h.place h.count pages h.read
 
--- and room for a batch
+-- the copy has room for a batch, if it counts as alive
 abbrev pub IsRoomy : Half → Type 0
 IsRoomy h = h.alive ≡ true → 1 ≤ h.room
 
@@ -101,8 +103,9 @@ module _ {P C : Type 0} (plants : PlantGhosts P) (copies : CopyGhosts C) where
 
   -- WITHIN A SITTING
 
-  -- The member holds the lock, and nothing is in flight, reserved or placed. Each copy has the pages that the member's tables were drawn
-  -- as last. Every batch is kept by now, and each volume that isn't lost has the size that its groups need.
+  -- The member holds the lock, and nothing is in flight, reserved or placed. Each copy has the pages that the member's
+  -- tables were drawn as last. Every batch is kept by now, and each volume that isn't lost has the size that its groups
+  -- need.
   pub record IsStill (x : Parts P C) (m : Member) : Type 0 where
     pub holds : HoldsLock x.book x.base.config m.id
     pub none : x.current ≡ None
@@ -121,15 +124,15 @@ module _ {P C : Type 0} (plants : PlantGhosts P) (copies : CopyGhosts C) where
   abbrev pub HasUntold : Parts P C → MemberId → ℕ → Type 0
   HasUntold x by at = plants.tells → IsStepUntold copies.reads (v x) x.base x.since by at
 
-  -- the texts of a queue stand on the volumes, but for those with a group on a lost one
+  -- the texts of a queue stand on the volumes, except those with a group on a lost one
   abbrev pub HasTextsOf : Parts P C → Queue → Type 0
   HasTextsOf x Q = plants.tells → ∥ HasTexts (lost_now (v x)) (spools_at (v x) (v x).now) x.base.config.groups Q ∥₁
 
   abbrev pub HasTextsAfter : Parts P C → List Entry → Type 0
   HasTextsAfter x es = HasTextsOf x (run x.base (kept_all x.batches ++ es))
 
-  -- The member has given the commands of its batch since the last one was kept, and may keep that. Where content is told its tables tell
-  -- the queue after them.
+  -- The member has given the commands of its batch since the last one was kept, and may keep that. Where content is
+  -- told its tables tell the queue after them.
   pub record IsGiving (x : Parts P C) (m : Member) (at : ℕ) : Type 0 where
     pub still : IsStill x m
     pub of : AreOf m.id at m.batch
@@ -143,15 +146,16 @@ module _ {P C : Type 0} (plants : PlantGhosts P) (copies : CopyGhosts C) where
     pub allowed : plants.tells → MayBegin x.base x.batches x.printed m.batch
     pub untold : HasUntold x m.id at
 
-  -- AT ITS BEGINNING
+  -- AT THE BEGINNING OF A SITTING
 
-  -- The member's batch is empty, and its pages are those of its tables. Where content is told these tell the queue after the kept batches.
+  -- The member's batch is empty, and its pages are those of its tables. Where content is told these tell the queue
+  -- after the kept batches.
   pub record IsSeat (x : Parts P C) (m : Member) : Type 0 where
     pub still : IsStill x m
     pub between : IsBetween plants.tells x.base x.batches x.current x.placed x.level m.batch m.checkpoint
     pub low : plants.tells → AreLow x.base.config (length x.batches) m.checkpoint.tables
 
-  -- and no line tells this step of the member
+  -- the member is between commands, and no line tells this step of it
   pub record IsSitting (x : Parts P C) (m : Member) (at : ℕ) : Type 0 where
     pub seat : IsSeat x m
     pub untold : HasUntold x m.id at
@@ -164,7 +168,7 @@ module _ {P C : Type 0} (plants : PlantGhosts P) (copies : CopyGhosts C) where
     pub first : IsRoomy (first_half x)
     pub second : IsRoomy (second_half x)
 
-  -- they leave a batch all that it can use
+  -- levels and the room of each copy leave a batch all that it can use
   pub record MayKeep (x : Parts P C) (m : Member) : Type 0 where
     pub high : m.checkpoint.level + 1 < 2 ^ 63
     pub reached : x.level + 1 < 2 ^ 63
@@ -177,14 +181,14 @@ module _ {P C : Type 0} (plants : PlantGhosts P) (copies : CopyGhosts C) where
     pub bounds : IsBounded x m
     pub holder : h.by ≡ m.id
 
-  -- it may keep its batch, which has entries
+  -- a member may keep its batch, which has entries
   pub record IsToKeep (x : Parts P C) (m : Member) (h : Holder) : Type 0 where
     pub gives : IsGiving x m h.step
     pub some : 1 ≤ length m.batch
     pub bounds : MayKeep x m
     pub holder : h.by ≡ m.id
 
-  -- it may keep what it gave, if anything
+  -- a member may keep what it gave, if anything
   pub record IsToCut (x : Parts P C) (m : Member) (h : Holder) : Type 0 where
     pub gives : IsGiving x m h.step
     pub bounds : MayKeep x m

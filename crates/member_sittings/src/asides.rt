@@ -36,8 +36,9 @@ fn found_by(alloc: Global, spooled: Result<(), SpoolError>) -> Result<Found, Nod
     }
 }
 
-/// Writes a deck's text into the lowest groups of the member, as many as it needs, and syncs the volumes on which they lie. It needs no
-/// lock: whoever holds it, the book, the copies and the journal are as they were. Answers the volume that was found lost, if one was.
+/// Writes a deck's text into the lowest groups of the member, as many as it needs, and syncs the volumes on which they
+/// lie. It needs no lock: whoever holds it, the book, the copies and the journal are as they were. Answers the volume
+/// that was found lost, if one was.
 ///
 /// NoMemory leaves all as it was. Halted comes only where the member was stopped.
 pub fn spool_deck<P: Plant + Drop, C: Steady + Drop>(

@@ -18,8 +18,8 @@ use step_turns::{Aside, Holder, State};
 
 /// Ends a sitting at acts that want no lock: the member's batch is kept, and nothing is said.
 ///
-/// NoMemory leaves the batch unbegun. BothLost comes only where both copies count as lost at the end of the call, Halted only where the
-/// member was stopped in it: the batch is in flight then.
+/// NoMemory leaves the batch unbegun. BothLost comes only where both copies count as lost at the end of the call,
+/// Halted only where the member was stopped in it: the batch is in flight then.
 pub fn pause_sitting<P: Plant + Drop, C: Steady + Drop>(
     member: &mut Member,
     alloc: Global,
@@ -31,7 +31,8 @@ pub fn pause_sitting<P: Plant + Drop, C: Steady + Drop>(
     ensures frame { parts_of complex.new ≡ sat_in (parts_of complex.new) (parts_of complex.old) }
     ensures id { member.new.id ≡ member.old.id }
     ensures tables { member.new.checkpoint.tables ≡ member.old.checkpoint.tables }
-    ensures sat { SatAs holder.by (ends_in holder (member.old.batch ∷ []) (Away aside) []) complex.old complex.new result }
+    ensures sat { SatAs holder.by (ends_in holder (member.old.batch ∷ []) (Away aside) []) complex.old complex.new
+        result }
     ensures again { IfOk result (SitsOn complex.old complex.new member.old member.new holder.step) }
 {
     let given = member.batch.len() as u64;
@@ -47,8 +48,8 @@ pub fn pause_sitting<P: Plant + Drop, C: Steady + Drop>(
 
 /// Ends a sitting and its step: the member's batch is kept, and then the lines are said with which the step closes.
 ///
-/// NoMemory leaves the batch unbegun. BothLost comes only where both copies count as lost at the end of the call, Halted only where the
-/// member was stopped in it, ConsoleFault only where the console's count of faults rose.
+/// NoMemory leaves the batch unbegun. BothLost comes only where both copies count as lost at the end of the call,
+/// Halted only where the member was stopped in it, ConsoleFault only where the console's count of faults rose.
 pub fn close_sitting<P: Plant + Drop, C: Steady + Drop>(
     member: &mut Member,
     alloc: Global,
@@ -60,7 +61,8 @@ pub fn close_sitting<P: Plant + Drop, C: Steady + Drop>(
     ensures frame { parts_of complex.new ≡ sat_in (parts_of complex.new) (parts_of complex.old) }
     ensures id { member.new.id ≡ member.old.id }
     ensures tables { member.new.checkpoint.tables ≡ member.old.checkpoint.tables }
-    ensures sat { SatAs holder.by (ends_in holder (member.old.batch ∷ []) Told lines.now) complex.old complex.new result }
+    ensures sat { SatAs holder.by (ends_in holder (member.old.batch ∷ []) Told lines.now) complex.old complex.new
+        result }
     ensures again { IfOk result (SitsOn complex.old complex.new member.old member.new holder.step) }
 {
     let given = member.batch.len() as u64;
@@ -74,10 +76,11 @@ pub fn close_sitting<P: Plant + Drop, C: Steady + Drop>(
     })
 }
 
-/// Ends a sitting in which memory wanted: what was given since the last batch is kept, where there is memory for that. Answers how it ends.
+/// Ends a sitting that is out of memory: what was given since the last batch is kept, if there is memory for that.
+/// Answers how it ends.
 ///
-/// BothLost comes only where both copies count as lost at the end of the call, Halted only where the member was stopped in it: what was
-/// given is in flight then. After NoMemory it is kept, or isn't begun.
+/// BothLost comes only where both copies count as lost at the end of the call, Halted only where the member was stopped
+/// in it: what was given is in flight then. After NoMemory it is kept, or isn't begun.
 pub fn give_up_sitting<P: Plant + Drop, C: Steady + Drop>(
     member: &mut Member,
     alloc: Global,

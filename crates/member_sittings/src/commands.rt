@@ -17,11 +17,12 @@ use spool_disk::Plant;
 use std::alloc::Global;
 use step_turns::Holder;
 
-/// The only sitting of a step that gives a command: the command is done on the member's tables and kept, and the lines of its reply are
-/// said. All memory is taken before the first write.
+/// The only sitting of a step that gives a command: the command is done on the member's tables and kept, and the lines
+/// of its reply are said. All memory is taken before the first write.
 ///
-/// NoMemory leaves the journal and the copies as they were. BothLost comes only where both copies count as lost at the end of the call,
-/// Halted only where the member was stopped in it, ConsoleFault only where the console failed. After an error the member can't go on.
+/// NoMemory leaves the journal and the copies as they were. BothLost comes only where both copies count as lost at the
+/// end of the call, Halted only where the member was stopped in it, ConsoleFault only where the console failed. After
+/// an error the member can't go on.
 pub fn sit_command<P: Plant + Drop, C: Steady + Drop>(
     member: &mut Member,
     alloc: Global,

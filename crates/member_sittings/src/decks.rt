@@ -24,8 +24,8 @@ use spool_text::groups_needed;
 use std::alloc::Global;
 use step_turns::{Aside, Holder};
 
-// Ends a sitting and its deck's step: the member's batch is kept, and the step closes with the reply to its last command that isn't Drop, or
-// with the volume that was found lost.
+// Ends a sitting and its deck's step: the member's batch is kept, and the step closes with the reply to its last
+// command that isn't Drop, or with the volume that was found lost.
 fn close_deck<P: Plant + Drop, C: Steady + Drop>(
     member: &mut Member,
     alloc: Global,
@@ -47,12 +47,12 @@ fn close_deck<P: Plant + Drop, C: Steady + Drop>(
     close_sitting(member, alloc, complex, holder, &lines)
 }
 
-/// The first sitting of a deck's step: its job begins and gets the groups that its text needs, and the step waits for the text to be
-/// spooled. After a refused Begin or Take the step closes with that, and the job is dropped.
+/// The first sitting of a deck's step: its job begins and gets the groups that its text needs, and the step waits for
+/// the text to be spooled. After a refused Begin or Take the step closes with that, and the job is dropped.
 ///
-/// Where memory wants, what was done of it is kept if there is memory for that. BothLost comes only where both copies count as lost at the
-/// end of the call, Halted only where the member was stopped in it, ConsoleFault only where the console failed. After an error the member
-/// can't go on.
+/// Out of memory, what was done of it is kept if there is memory for that. BothLost comes only where both copies
+/// count as lost at the end of the call, Halted only where the member was stopped in it, ConsoleFault only where the
+/// console failed. After an error the member can't go on.
 pub fn sit_deck<P: Plant + Drop, C: Steady + Drop>(
     member: &mut Member,
     alloc: Global,
@@ -97,10 +97,12 @@ pub struct SpooledDeck {
     pub lost: Option<u8>,
 }
 
-/// The second sitting of a deck's step: the job is entered with its text, or dropped where a volume was found lost, and the step closes.
+/// The second sitting of a deck's step: the job is entered with its text, or dropped where a volume was found lost, and
+/// the step closes.
 ///
-/// NoMemory leaves the journal and the copies as they were. BothLost comes only where both copies count as lost at the end of the call,
-/// Halted only where the member was stopped in it, ConsoleFault only where the console failed. After an error the member can't go on.
+/// NoMemory leaves the journal and the copies as they were. BothLost comes only where both copies count as lost at the
+/// end of the call, Halted only where the member was stopped in it, ConsoleFault only where the console failed. After
+/// an error the member can't go on.
 pub fn sit_spooled<P: Plant + Drop, C: Steady + Drop>(
     member: &mut Member,
     alloc: Global,
@@ -113,7 +115,8 @@ pub fn sit_spooled<P: Plant + Drop, C: Steady + Drop>(
     requires spooled { DeckIsSpooled complex.old member.old.id deck.text deck.lost }
     ensures frame { parts_of complex.new ≡ sat_in (parts_of complex.new) (parts_of complex.old) }
     ensures id { member.new.id ≡ member.old.id }
-    ensures sat { HasSat (resumes holder (SpoolDeck deck.job deck.text) (deck_found deck.lost)) complex.old complex.new result }
+    ensures sat { HasSat (resumes holder (SpoolDeck deck.job deck.text) (deck_found deck.lost)) complex.old complex.new
+        result }
     ensures again { IfOk result (SitsOn complex.old complex.new member.old member.new holder.step) }
 {
     complex.kept_texts();

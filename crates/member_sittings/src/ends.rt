@@ -15,8 +15,8 @@ pub struct SittingEnd {
     pub release: Release,
 }
 
-/// What becomes of the lock after so many commands. One that was taken for the step is given up at each sitting's end. One that the operator
-/// took is kept, except at the end of a step in which its hold is spent.
+/// What becomes of the lock after so many commands. One that was taken for the step is given up at each sitting's end.
+/// One that the operator took is kept, except at the end of a step in which its hold is spent.
 pub fn release_of(holder: Holder, given: u64, next: &State) -> Release
     ensures { result ≡ released holder.grant holder.hold given next.now }
 {

@@ -1,5 +1,5 @@
-//! A member's sittings: what it does while it holds the lock, from the beginning of its step or after acts without the lock, up to the next
-//! such acts or the step's end. And the acts of a deck that want no lock.
+//! A member's sittings: what it does while it holds the lock, from the beginning of its step or after acts without the
+//! lock, up to the next such acts or the step's end. And the acts of a deck that want no lock.
 #![tactic(auto)]
 
 mod asides;

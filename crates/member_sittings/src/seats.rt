@@ -9,11 +9,11 @@ use member_node::{Member, NodeNo};
 use spool_disk::Plant;
 use std::alloc::Global;
 
-/// What a member does that got the lock, before it sits: it reads the copies, brings its tables up to them, and makes room for a batch.
-/// Others may have written since it did so last.
+/// What a member does that got the lock, before it sits: it reads the copies, brings its tables up to them, and makes
+/// room for a batch. Others may have written since it did so last.
 ///
-/// BothLost comes only where both copies count as lost at the end of the call, Halted only where the member was stopped in it; NoMemory is
-/// want of memory for the tables. The journal, the volumes and the console are as they were.
+/// BothLost comes only where both copies count as lost at the end of the call, Halted only where the member was stopped
+/// in it; NoMemory is want of memory for the tables. The journal, the volumes and the console are as they were.
 pub fn take_seat<P: Plant + Drop, C: Steady + Drop>(
     member: &mut Member,
     alloc: Global,

@@ -101,7 +101,7 @@ coded_out_rec =
     (λ r. (((r.job, r.index), (r.class, r.dest)), (((r.forms, r.copies), (r.held, r.busy)), ((r.mark, r.lines), r.order))))
     (λ p. record { job = p.0.0.0; index = p.0.0.1; class = p.0.1.0; dest = p.0.1.1; forms = p.1.0.0.0; copies = p.1.0.0.1; held = p.1.0.1.0; busy = p.1.0.1.1; mark = p.1.1.0.0; lines = p.1.1.0.1; order = p.1.1.1 }) (λ _. refl)
 
--- which kind of owner, and its job, index, place and member
+-- the code of a group's owner: which kind it is, and its job, index, place and member
 abbrev owner_code : Owner → (ℕ × JobNo) × ((OutNo × ℕ) × MemberId)
 owner_code owner.Free = ((0, record { 0 = 0 }), ((record { 0 = 0 }, 0), record { 0 = 0 }))
 owner_code (owner.Member m) = ((1, record { 0 = 0 }), ((record { 0 = 0 }, 0), m))

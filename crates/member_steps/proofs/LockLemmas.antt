@@ -30,7 +30,7 @@ module _ (b : Book) (reserved : Option (List Entry)) (m : MemberId) (open_to : I
   nobody_holds : is_somebody b.holder ≡ false
   nobody_holds = ap (λ (x : MemberId). is_somebody x) open_to.holder
 
-  -- the one standing that changes
+  -- the standing of the member, which is the one that changes
   its_standing : (s : Standing) (c : Book) → length c.members ≡ length b.members → standing (with_standing c m s) m ≡ s
   its_standing s c many = get_or-set_same c.members (m.0 - 1) s (beginner 0) (let member = open_to.member in omega (arith, member.0, member.1, many))
 
@@ -38,7 +38,7 @@ module _ (b : Book) (reserved : Option (List Entry)) (m : MemberId) (open_to : I
   abbrev answered : Option LockNo → Book
   answered r = if is_stopped b m || is_holder b m then b else if is_some r then ticked b false else granted (ticked b false) m
 
-  -- WHO DOESN'T GET IT: the member leaves it to others
+  -- WHO DOESN'T GET THE LOCK: the member leaves it to others
 
   answers_so : try_refusal b m false ≡ (if is_dormant b m false then Some (lock.Dormant (wakes b m)) else None)
   answers_so = rw (open_to.up, not_holder, nobody_holds) refl
@@ -61,11 +61,11 @@ module _ (b : Book) (reserved : Option (List Entry)) (m : MemberId) (open_to : I
   pub refused_again : (why : LockNo) → try_refusal b m false ≡ Some why → IsOpenTo (after_try b m false) reserved m
   refused_again why refused = subst (λ (c : Book). IsOpenTo c reserved m) (sym (ticks_alone why refused)) (record { member = open_to.member; holder = open_to.holder; up = open_to.up; none = open_to.none })
 
-  -- it has nothing to give up
+  -- a member that was refused the lock has nothing to give up
   pub refused_frees : (why : LockNo) → try_refusal b m false ≡ Some why → after_free (after_try b m false) m false ≡ after_try b m false
   refused_frees why refused = subst (λ (c : Book). after_free c m false ≡ c) (sym (ticks_alone why refused)) (rw not_holder refl)
 
-  -- WHO GETS IT
+  -- WHO GETS THE LOCK
 
   module _ (gets : try_refusal b m false ≡ None) where
     tried : after_try b m false ≡ granted (ticked b false) m
@@ -84,7 +84,7 @@ module _ (b : Book) (reserved : Option (List Entry)) (m : MemberId) (open_to : I
     pub may_free : free_refusal (after_try b m false) m ≡ None
     may_free = subst (λ (c : Book). free_refusal c m ≡ None) (sym tried) (grind (arith, nat_tests))
 
-    -- and after it the lock is open again
+    -- the lock is open again once the member has given it up
     given_up : after_free (after_try b m false) m false ≡ with_holder (noted (granted (ticked b false) m) m) nobody
     given_up = subst (λ (c : Book). after_free c m false ≡ with_holder (noted (granted (ticked b false) m) m) nobody) (sym tried) (let e : (m.0 == m.0) ≡ true = eq-eqb m.0 m.0 refl in rw e refl)
 
@@ -120,7 +120,7 @@ is_free r e p q = absurd (clash e (sym p ∙ q)) where
   clash : (x : NotHolder) → None ≡ Some x → ⊥
   clash x e = cc
 
--- A STEP WHOSE MEMBER DOESN'T GET IT
+-- A STEP WHOSE MEMBER DOESN'T GET THE LOCK
 
 module _ (told : Type 0) (by : ℕ) (lines : List (List ℕ)) (front batches : List Batch) (same : batches ≡ front) (is1 is2 : Bool) (v0 : View) where
   pub denied_unsaid : IsDenial {T = Unit {0}} told by lines front batches is1 is1 is2 is2 v0 v0 (Err NoMemory)

@@ -73,10 +73,10 @@ cause_settle by is1 is2 v0 v1 v2 Halted goes cause = (cause.0, rose_later (v0.st
 cause_settle by is1 is2 v0 v1 v2 ConsoleFault goes cause = absurd cause
 cause_settle by is1 is2 v0 v1 v2 NoMemory goes cause = absurd cause
 
--- A STEP THAT ENDS THERE
+-- A STEP THAT ENDS AT ITS READ
 
 module _ (told : Type 0) (by : ℕ) (was1 is1 was2 is2 : Bool) (v0 v1 : View) where
-  -- it gives no command
+  -- a step that ends at its read gives no command
   pub step_unbegun : (lines : List (List ℕ)) (b : Batch) (front batches : List Batch) (e : NodeNo) → HasBegun told by (is_stop e) was1 is1 was2 is2 v0 v1 → batches ≡ front → ReadInCauses {T = Unit {0}} (Err e) by is1 is2 v0 v1 → IsStep {T = Unit {0}} told by lines b front batches was1 is1 was2 is2 v0 v1 (Err e)
   step_unbegun lines b front batches BothLost acts same cause = record {
     course = acts.course;
@@ -183,14 +183,14 @@ either true y some f g = f refl
 either false true some f g = g refl
 either false false some f g = absurd (cc)
 
--- so are the tables of a member whose pages each copy reads
+-- the tables of a member are low if each copy reads its pages, and those are low
 pub low_read : (told : Type 0) (one two : Bool) (place1 place2 : Place) (count1 count2 : ℕ) (config : Config) (batches : ℕ) (k : Checkpoint) (read1 read2 : Option (List ℕ)) → SomeAlive one two → AreDrawn k.tables k.level k.levels k.pages
     → RestsAt told one place1 count1 k.pages read1 → RestsAt told two place2 count2 k.pages read2 → ReadsLow told one config batches read1 → ReadsLow told two config batches read2 → told → AreLow config batches k.tables
 low_read told one two place1 place2 count1 count2 config batches k read1 read2 some drawn rests1 rests2 low1 low2 t =
     let own : IsCheckpoint k.pages k.tables = record { level = k.level; levels = k.levels; fit = drawn.spelling; ages = drawn.leveled; spell = drawn.spelled } in
     either one two some (λ on. low1 t on k.pages k.tables drawn.sized (rests1.reads t on) own) (λ on. low2 t on k.pages k.tables drawn.sized (rests2.reads t on) own)
 
--- and after a command
+-- tables that were low are low after one command more
 pub low_more : (config : Config) (batches more : ℕ) (t u : Tables) → AreLow config batches t → u.config ≡ t.config → AreFit u → u.order ≤ t.order + 32 → more ≡ batches + 1 → AreLow config more u
 low_more config batches more t u low same fit order one = record {
   same = same ∙ low.same;
@@ -200,14 +200,14 @@ low_more config batches more t u low same fit order one = record {
   orders : (n m k : ℕ) → n ≤ orders_after k → m ≤ n + 32 → m ≤ orders_after (k + 1)
   orders n m k le more = omega (arith, le, more)
 
--- what a copy reads behind the command's write is low
+-- what a copy reads after the command's write is low
 pub low_written : (told : Type 0) (alive : Bool) (place : Place) (count : ℕ) (config : Config) (batches : ℕ) (k : Checkpoint) (read : Option (List ℕ)) → AreDrawn k.tables k.level k.levels k.pages → (told → AreLow config batches k.tables)
     → RestsAt told alive place count k.pages read → ReadsLow told alive config batches read
 low_written told alive place count config batches k read drawn low rests t = low_again one_value same_pages told alive place count config batches k read drawn (low t) rests t
 
--- AT THE LOCK AGAIN
+-- AT THE LOCK AGAIN, after a step
 
--- its room is as long as its pages still
+-- a member's room is as long as its pages, after a step too
 pub same_many : (k n : Checkpoint) (room was : List Page) → room ≡ was → length was ≡ length k.pages → AreDrawn k.tables k.level k.levels k.pages → AreDrawn n.tables n.level n.levels n.pages → n.tables.config ≡ k.tables.config → length room ≡ length n.pages
 same_many k n room was same many one two config = ap (λ (ps : List Page). length ps) same ∙ many ∙ one.spelled.count ∙ sym (ap page_count config) ∙ sym two.spelled.count
 
@@ -246,7 +246,7 @@ between_read tells base batches current placed level batch k config none unplace
   sound = λ t. sound t k.tables (tell_is k.tables (run base (kept_all batches)) (told t));
 }
 
--- its pages are as many as the configuration of a run has
+-- a member's pages are as many as the configuration of a run has
 pub pages_of_run : (base : Queue) (es : List Entry) (k : Checkpoint) (room : List Page) → base.config ≡ k.tables.config → AreDrawn k.tables k.level k.levels k.pages → length room ≡ length k.pages → page_count (run base es).config ≡ length room
 pages_of_run base es k room same drawn many = ap page_count ((runs_keep_configuration base es).config ∙ same) ∙ sym drawn.spelled.count ∙ sym many
 

@@ -42,7 +42,7 @@ console_on told by line v0 v1 v2 said x act says = record {
   papers = λ t. papers_on v0 v1 v2 x.goes.later act.goes (x.papers t) (papers_act v1 v2 act.goes act.time (says t).paper);
 }
 
--- no copy is lost in them
+-- no copy is lost by acts on the console
 pub console_course : (told : Type 0) (a b : Bool) (v1 v2 : View) → OnConsole told v1 v2 → Course a a b b v1 v2
 console_course told a b v1 v2 x = record {
   goes = x.goes;
@@ -71,7 +71,7 @@ said_next lines n k line was mid now lt here is before said =
     ∙ ap (λ (l : List (List ℕ)). was ++ map whole l) (sym (take_next lines n line lt here)) ∙ ap (λ (m : ℕ). was ++ map whole (take m lines)) (sym is)
 
 module _ (told : Type 0) (by : ℕ) (lines : List (List ℕ)) (n : ℕ) (v0 v1 : View) (acts : OnConsole told v0 v1) (spares : Spares by false v0 v1) (front : told → console_now v1 ≡ console_now v0 ++ map whole (take n lines)) where
-  -- all are said
+  -- all lines are said
   pub said_all : length lines ≤ n → HaveSaid {T = Unit {0}} told by lines v0 v1 (Ok tt)
   said_all all = record {
     acts = acts;
@@ -80,7 +80,7 @@ module _ (told : Type 0) (by : ℕ) (lines : List (List ℕ)) (n : ℕ) (v0 v1 :
     console = λ t. front t ∙ ap (λ (l : List (List ℕ)). console_now v0 ++ map whole l) (take_all n lines all);
   }
 
-  -- the next one couldn't be said
+  -- the next line couldn't be said
   pub said_out : (line : List ℕ) (v2 : View) (e : NodeNo) → n < length lines → slice_get lines n ≡ Some line → IsAnswerOfSay {T = Unit {0}} (Err e) → Acts by Console v1 v2 (said_as {T = Unit {0}} (Err e)) → (told → Says line v1 v2 (said_as {T = Unit {0}} (Err e)))
       → HaveSaid {T = Unit {0}} told by lines v0 v2 (Err e)
   said_out line v2 BothLost lt here is act says = absurd is

@@ -88,7 +88,7 @@ module _ (told : Type 0) (by : ℕ) (lines : List (List ℕ)) (b : Batch) (front
       console = λ t. inl (write.apart t).console;
     }
 
-    -- it was, and its lines were said
+    -- the batch was kept, and its lines were said
     module _ (write : IsWrite {T = Unit {0}} told by b front batches was1 is1 was2 is2 v0 v1 (Ok tt)) (v2 : View) where
       kept_then : v1.now ≤ v2.now → HasKept front batches b v2.now
       kept_then later = let k : HasKept front batches b v1.now = write.journal in (k.0, k.1, omega (arith, k.2, later), k.3)
@@ -130,7 +130,7 @@ module _ (told : Type 0) (by : ℕ) (lines : List (List ℕ)) (b : Batch) (front
         console = λ t. let some = said.console t in inr (kept_then said.acts.goes.later, some.0, some.1, subst (λ (l : List Line). Breaks some.0 lines l (console_now v2)) (write.apart t).console some.2);
       }
 
--- BEFORE AND AFTER IT
+-- BEFORE AND AFTER A STEP
 
 -- nothing is done yet
 pub between_done : (tells : Type 0) (base : Queue) (batches : List Batch) (current : Option Batch) (placed : Bool) (level : ℕ) (batch : List Entry) (k : Checkpoint) → IsBetween tells base batches current placed level batch k → tells
@@ -191,7 +191,7 @@ kept_push (a ∷ batches) now t b le all =
 pub journal_kept : (front was batches : List Batch) (place b : Batch) → was ≡ front ++ place ∷ [] → batches ≡ with_last b was → batches ≡ front ++ b ∷ []
 journal_kept front was batches place b one is = is ∙ ap (with_last b) one ∙ with_last-append b front place
 
--- the same by other names
+-- a step that isn't told isn't told by other names either
 pub untold_by : (reads : List ℕ → Option (List ℕ)) (base base' : Queue) (since since' : ℕ) (v v' : View) (es es' : List Entry) → base' ≡ base → since' ≡ since → v' ≡ v → es' ≡ es
     → IsUntold (setting reads base since) v es → IsUntold (setting reads base' since') v' es'
 untold_by reads base base' since since' v v' es es' one two three four untold =

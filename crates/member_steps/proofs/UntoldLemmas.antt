@@ -46,7 +46,7 @@ decimal_value n small = decimal_by_steps (λ m ds. value_of ds ≡ m)
 digits_value : (n : ℕ) → n < 2 ^ 64 → value_of (in_digits 5 n) ≡ n
 digits_value n small = zeros_value (5 - length (decimal n)) (decimal n) ∙ decimal_value n small
 
--- none is a blank
+-- a byte that is no blank
 abbrev no_blank : ℕ → Bool
 no_blank b = not (b == 32)
 
@@ -84,7 +84,7 @@ before_blank (b ∷ xs) ys none = by_test (b == 32)
 
 -- THE LINES OF A STEP
 
--- a line of a member's step: behind its name and its number something stands
+-- a line of a member's step: after its name and its number something stands
 abbrev line_of : MemberId → ℕ → List ℕ → List ℕ
 line_of by at rest = member_word by ++ 32 ∷ (in_digits 5 at ++ 32 ∷ rest)
 
@@ -114,7 +114,7 @@ line_untold by a k rest e m s less small of at closes = by_test (e.by.0 == m.0)
     (λ two. rw (one, two) refl))
     (λ one. rw one refl)
 
--- nor any of its entries
+-- a line of an earlier step tells none of a later step's entries
 lines_untold : (by : MemberId) (a k : ℕ) (rest : List ℕ) (es : List Entry) (m : MemberId) (s : ℕ) → a < k → k < 2 ^ 64 → All (λ (e : Entry). (e.by ≡ by) × (e.step ≡ k)) es → Closes (line_of by a rest) m s → has_step m s es ≡ false
 lines_untold by a k rest [] m s less small of closes = refl
 lines_untold by a k rest (e ∷ es) m s less small of closes =

@@ -35,8 +35,10 @@ closing_of (lock.Dormant tick) = closing.Dormant tick
 abbrev pub denied_lines : MemberId → ℕ → LockNo → List (List ℕ)
 denied_lines by at why = closing_line by at (closing_of why) ∷ []
 
--- A step whose member doesn't get the lock, and which closes with these lines: nothing is added to the journal, and nothing is printed.
-pub record IsDenial {T : Type 0} (told : Type 0) (by : ℕ) (lines : List (List ℕ)) (front batches : List Batch) (was1 is1 was2 is2 : Bool) (old new : View) (result : Result T NodeNo) : Type 0 where
+-- A step whose member doesn't get the lock, and which closes with these lines: nothing is added to the journal, and
+-- nothing is printed.
+pub record IsDenial {T : Type 0} (told : Type 0) (by : ℕ) (lines : List (List ℕ)) (front batches : List Batch)
+    (was1 is1 was2 is2 : Bool) (old new : View) (result : Result T NodeNo) : Type 0 where
   pub not_lost : result ≡ Err BothLost → ⊥
   pub course : Course was1 is1 was2 is2 old new
   pub loses : (d : Dev) → new.loses d ≡ old.loses d

@@ -14,15 +14,15 @@ use Rattle.member_node.specs.Spares.{Spares, stopped_in}
 abbrev pub torn : List ℕ → Line
 torn text = record { text = text; whole = false }
 
--- behind a front of the lines stands nothing, the next one torn, or the next one
+-- after a front of the lines stands nothing, the next one torn, or the next one
 abbrev pub Breaks : ℕ → List (List ℕ) → List Line → List Line → Type 0
 Breaks n lines was now =
     (now ≡ was ++ map whole (take n lines))
     ⊎ ((text : List ℕ) × (now ≡ (was ++ map whole (take n lines)) ++ torn text ∷ []))
     ⊎ (now ≡ was ++ map whole (take (suc n) lines))
 
--- What is added to the console, by the answer: all the lines, or those before the one at which the console failed or the member
--- was stopped.
+-- What is added to the console, by the answer: all the lines, or those before the one at which the console failed or
+-- the member was stopped.
 abbrev pub Adds : {T : Type 0} → Result T NodeNo → List (List ℕ) → List Line → List Line → Type 0
 Adds (Ok done) lines was now = now ≡ was ++ map whole lines
 Adds (Err ConsoleFault) lines was now = (n : ℕ) × (n < length lines) × (now ≡ was ++ map whole (take n lines))
@@ -38,7 +38,8 @@ SayCauses (Err Halted) by old new = Rose (old.stops by) (new.stops by)
 SayCauses (Err BothLost) by old new = ⊥
 SayCauses (Err NoMemory) by old new = ⊥
 
--- Acts on the console: no device is lost, and where content is told, each holds at each moment what it held, and so does each printer.
+-- Acts on the console: no device is lost, and where content is told, each holds at each moment what it held, and so
+-- does each printer.
 pub record OnConsole (told : Type 0) (old new : View) : Type 0 where
   pub goes : Goes old new
   pub lost : (d : Dev) → new.lost (Disk d) ≡ old.lost (Disk d)
@@ -48,7 +49,8 @@ pub record OnConsole (told : Type 0) (old new : View) : Type 0 where
   pub papers : told → SamePapers old new
 
 -- The lines were said one after another, up to one that couldn't be.
-pub record HaveSaid {T : Type 0} (told : Type 0) (by : ℕ) (lines : List (List ℕ)) (old new : View) (result : Result T NodeNo) : Type 0 where
+pub record HaveSaid {T : Type 0} (told : Type 0) (by : ℕ) (lines : List (List ℕ)) (old new : View)
+    (result : Result T NodeNo) : Type 0 where
   pub acts : OnConsole told old new
   pub cause : SayCauses result by old new
   pub spares : Spares by (stopped_in result) old new

@@ -47,22 +47,24 @@ step_lines Q by at c = reply_lines by at (reply_to Q by c)
 
 -- BETWEEN STEPS
 
--- A member at the lock, whatever it knows of the copies: no batch is in flight or has its place, it has written what it did, and it has
--- room for as many pages as its checkpoint has.
-pub record IsAtLock (current : Option Batch) (placed : Bool) (batch : List Entry) (k : Checkpoint) (room : List Page) : Type 0 where
+-- A member at the lock, whatever it knows of the copies: no batch is in flight or has its place, it has written what it
+-- did, and it has room for as many pages as its checkpoint has.
+pub record IsAtLock (current : Option Batch) (placed : Bool) (batch : List Entry) (k : Checkpoint)
+    (room : List Page) : Type 0 where
   pub none : current ≡ None
   pub unplaced : placed ≡ false
   pub nothing : batch ≡ []
   pub drawn : AreDrawn k.tables k.level k.levels k.pages
   pub many : length room ≡ length k.pages
 
--- whatever tables tell the queue tell one with the sound parts: it has these, but for its texts perhaps
+-- whatever tables tell the queue tell one with the sound parts: it has these, except its texts perhaps
 abbrev pub IsToldSound : Queue → Type 0
 IsToldSound Q = (t : Tables) → Tell t Q → TellSound t
 
--- A member in a step, which knows the copies: no batch is in flight or has its place, and where content is told its checkpoint tells the
--- queue after the kept batches, which has the sound parts, and its tables have no order twice.
-pub record IsBetween (tells : Type 0) (base : Queue) (batches : List Batch) (current : Option Batch) (placed : Bool) (level : ℕ) (batch : List Entry) (k : Checkpoint) : Type 0 where
+-- A member in a step, which knows the copies: no batch is in flight or has its place, and where content is told its
+-- checkpoint tells the queue after the kept batches, which has the sound parts, and its tables have no order twice.
+pub record IsBetween (tells : Type 0) (base : Queue) (batches : List Batch) (current : Option Batch) (placed : Bool)
+    (level : ℕ) (batch : List Entry) (k : Checkpoint) : Type 0 where
   pub none : current ≡ None
   pub unplaced : placed ≡ false
   pub same_level : tells → level ≡ k.level
@@ -77,8 +79,8 @@ pub record IsBetween (tells : Type 0) (base : Queue) (batches : List Batch) (cur
 abbrev pub AreAllKept : List Batch → ℕ → Type 0
 AreAllKept batches now = All (λ b. (b.fate ≡ Kept) × (b.last ≤ now)) batches
 
--- A step that gives a command, whatever its reply is, by the entry and the lines that this reply makes. Where content is told it is the
--- reply that the command has at the queue.
+-- A step that gives a command, whatever its reply is, by the entry and the lines that this reply makes. Where content
+-- is told it is the reply that the command has at the queue.
 abbrev pub entry_with : MemberId → ℕ → Command → Reply → Entry
 entry_with by at c r = record { by = by; step = at; command = c; reply = r }
 
@@ -93,17 +95,19 @@ abbrev pub StepCauses : {T : Type 0} → Result T NodeNo → ℕ → Bool → Bo
 StepCauses (Ok done) by was1 is1 was2 is2 old new = IsLeft was1 is1 was2 is2
 StepCauses (Err NoMemory) by was1 is1 was2 is2 old new = IsLeft was1 is1 was2 is2
 StepCauses (Err BothLost) by was1 is1 was2 is2 old new = IsBothLost is1 is2
-StepCauses (Err ConsoleFault) by was1 is1 was2 is2 old new = IsLeft was1 is1 was2 is2 × Rose (old.faults Console) (new.faults Console)
+StepCauses (Err ConsoleFault) by was1 is1 was2 is2 old new = IsLeft was1 is1 was2 is2
+    × Rose (old.faults Console) (new.faults Console)
 StepCauses (Err Halted) by was1 is1 was2 is2 old new = IsLeft was1 is1 was2 is2 × Rose (old.stops by) (new.stops by)
 
--- The batch is kept where all lines are said, or where the console failed at one. Where both copies were lost it is in flight, or isn't
--- begun; where the member was stopped it is either of these.
+-- The batch is kept where all lines are said, or where the console failed at one. Where both copies were lost it is in
+-- flight, or isn't begun; where the member was stopped it is either of these.
 abbrev pub StepLeaves : {T : Type 0} → Result T NodeNo → List Batch → List Batch → Batch → ℕ → Type 0
 StepLeaves (Ok done) front batches b now = HasKept front batches b now
 StepLeaves (Err NoMemory) front batches b now = batches ≡ front
 StepLeaves (Err BothLost) front batches b now = (batches ≡ front) ⊎ HasFlying front batches b
 StepLeaves (Err ConsoleFault) front batches b now = HasKept front batches b now
-StepLeaves (Err Halted) front batches b now = (batches ≡ front) ⊎ HasFlying front batches b ⊎ HasKept front batches b now
+StepLeaves (Err Halted) front batches b now = (batches ≡ front) ⊎ HasFlying front batches b
+    ⊎ HasKept front batches b now
 
 -- What is added to the console: nothing before the batch is kept.
 abbrev pub StepTells : {T : Type 0} → Result T NodeNo → List (List ℕ) → Type 0 → List Line → List Line → Type 0
@@ -113,9 +117,10 @@ StepTells (Err BothLost) lines kept was now = now ≡ was
 StepTells (Err ConsoleFault) lines kept was now = (n : ℕ) × (n < length lines) × (now ≡ was ++ map whole (take n lines))
 StepTells (Err Halted) lines kept was now = (now ≡ was) ⊎ (kept × (n : ℕ) × (n < length lines) × Breaks n lines was now)
 
--- A step whose commands are this batch, and which closes with these lines, over a journal with these batches before it. Nothing is printed
--- in it.
-pub record IsStep {T : Type 0} (told : Type 0) (by : ℕ) (lines : List (List ℕ)) (b : Batch) (front batches : List Batch) (was1 is1 was2 is2 : Bool) (old new : View) (result : Result T NodeNo) : Type 0 where
+-- A step whose commands are this batch, and which closes with these lines, over a journal with these batches before it.
+-- Nothing is printed in it.
+pub record IsStep {T : Type 0} (told : Type 0) (by : ℕ) (lines : List (List ℕ)) (b : Batch) (front batches : List Batch)
+    (was1 is1 was2 is2 : Bool) (old new : View) (result : Result T NodeNo) : Type 0 where
   pub course : Course was1 is1 was2 is2 old new
   pub loses : told → (d : Dev) → new.loses d ≡ old.loses d
   pub cause : StepCauses result by was1 is1 was2 is2 old new
@@ -125,10 +130,13 @@ pub record IsStep {T : Type 0} (told : Type 0) (by : ℕ) (lines : List (List �
   pub papers : told → SamePapers old new
   pub console : told → StepTells result lines (HasKept front batches b new.now) (console_now old) (console_now new)
 
--- A step that gives a command: its batch and its lines are those of a reply, which is the command's where content is told.
-pub record GivesStep {T : Type 0} (told : Type 0) (by : MemberId) (at : ℕ) (c : Command) (Q : Queue) (front batches : List Batch) (was1 is1 was2 is2 : Bool) (old new : View) (result : Result T NodeNo) : Type 0 where
+-- A step that gives a command: its batch and its lines are those of a reply, which is the command's where content is
+-- told.
+pub record GivesStep {T : Type 0} (told : Type 0) (by : MemberId) (at : ℕ) (c : Command) (Q : Queue)
+    (front batches : List Batch) (was1 is1 was2 is2 : Bool) (old new : View) (result : Result T NodeNo) : Type 0 where
   pub reply : Reply
   pub is : told → reply ≡ reply_to Q by c
   pub first : ℕ
   pub later : (old.now ≤ first) × (first ≤ new.now)
-  pub step : IsStep told by.0 (reply_lines by at reply) (begun first by (entry_with by at c reply ∷ [])) front batches was1 is1 was2 is2 old new result
+  pub step : IsStep told by.0 (reply_lines by at reply) (begun first by (entry_with by at c reply ∷ [])) front batches
+      was1 is1 was2 is2 old new result

@@ -21,12 +21,12 @@ use member_node::{Member, NodeNo};
 use spool_disk::Plant;
 use std::alloc::Global;
 
-/// Writes the commands that a member has done, as one batch, to both copies, and says lines then. The member holds the lock, or is
-/// the operator while nobody does. All memory is taken before the first write. The texts of the queue with the batch stand on the spool
-/// volumes, but for those with a group on a volume that is lost.
+/// Writes the commands that a member has done, as one batch, to both copies, and says lines then. The member holds the
+/// lock, or is the operator while nobody does. All memory is taken before the first write. The texts of the queue with
+/// the batch stand on the spool volumes, except those with a group on a volume that is lost.
 ///
-/// NoMemory leaves the shared value's journal and the copies as they were, BothLost and Halted perhaps the batch in flight. After any of
-/// the four errors the member can't go on: its tables may be ahead of the copies.
+/// NoMemory leaves the shared value's journal and the copies as they were, BothLost and Halted perhaps the batch in
+/// flight. After any of the four errors the member can't go on: its tables may be ahead of the copies.
 pub fn play_batch<P: Plant + Drop, C: Steady + Drop>(
     member: &mut Member,
     alloc: Global,
@@ -42,15 +42,24 @@ pub fn play_batch<P: Plant + Drop, C: Steady + Drop>(
     requires draws { CanDraw member.old.checkpoint }
     requires fit { AreFit member.old.checkpoint.tables }
     requires same_level { P.tells → complex.old.level ≡ member.old.checkpoint.level }
-    requires done { P.tells → HasDone (run complex.old.base (kept_all complex.old.journal.batches)) member.old.batch member.old.checkpoint }
+    requires done { P.tells → HasDone (run complex.old.base (kept_all complex.old.journal.batches)) member.old.batch
+        member.old.checkpoint }
     requires small { complex.old.level + 1 < 2 ^ 63 }
-    requires rests1 { RestsAt P.tells complex.old.pair.first.alive complex.old.first (C.count complex.old.pair.first.copy) member.old.checkpoint.pages (C.reads (disk_now (P.view complex.old.plant) Ckpt1).bytes) }
-    requires rests2 { RestsAt P.tells complex.old.pair.second.alive complex.old.second (C.count complex.old.pair.second.copy) member.old.checkpoint.pages (C.reads (disk_now (P.view complex.old.plant) Ckpt2).bytes) }
+    requires rests1 { RestsAt P.tells complex.old.pair.first.alive complex.old.first
+        (C.count complex.old.pair.first.copy) member.old.checkpoint.pages
+        (C.reads (disk_now (P.view complex.old.plant) Ckpt1).bytes) }
+    requires rests2 { RestsAt P.tells complex.old.pair.second.alive complex.old.second
+        (C.count complex.old.pair.second.copy) member.old.checkpoint.pages
+        (C.reads (disk_now (P.view complex.old.plant) Ckpt2).bytes) }
     requires sound { P.tells → TellSound member.old.checkpoint.tables }
-    requires texts { P.tells → ∥ HasTexts (lost_now (P.view complex.old.plant)) (spools_at (P.view complex.old.plant) (P.view complex.old.plant).now) complex.old.base.config.groups (run complex.old.base (kept_all complex.old.journal.batches ++ member.old.batch)) ∥₁ }
+    requires texts { P.tells → ∥ HasTexts (lost_now (P.view complex.old.plant))
+        (spools_at (P.view complex.old.plant) (P.view complex.old.plant).now) complex.old.base.config.groups
+        (run complex.old.base (kept_all complex.old.journal.batches ++ member.old.batch)) ∥₁ }
     requires kept { AreAllKept complex.old.journal.batches (P.view complex.old.plant).now }
-    requires untold { P.tells → IsUntold (setting C.reads complex.old.base complex.old.since) (P.view complex.old.plant) member.old.batch }
-    requires allowed { P.tells → MayBegin complex.old.base complex.old.journal.batches complex.old.printed member.old.batch }
+    requires untold { P.tells → IsUntold (setting C.reads complex.old.base complex.old.since) (P.view complex.old.plant)
+        member.old.batch }
+    requires allowed { P.tells → MayBegin complex.old.base complex.old.journal.batches complex.old.printed
+        member.old.batch }
     requires level { member.old.checkpoint.level + 1 < 2 ^ 63 }
     requires room1 { complex.old.pair.first.alive ≡ true → 1 ≤ C.room complex.old.pair.first.copy }
     requires room2 { complex.old.pair.second.alive ≡ true → 1 ≤ C.room complex.old.pair.second.copy }
@@ -61,15 +70,22 @@ pub fn play_batch<P: Plant + Drop, C: Steady + Drop>(
     ensures room { member.new.room ≡ member.old.room }
     ensures behind { member.new.behind ≡ false }
     ensures tables { member.new.checkpoint.tables ≡ member.old.checkpoint.tables }
-    ensures step { IsStep P.tells member.old.id.0 lines.now (begun (P.view complex.old.plant).now member.old.id member.old.batch)
-        complex.old.journal.batches (end_of complex.new.placed complex.new.current complex.new.journal.batches)
-        complex.old.pair.first.alive complex.new.pair.first.alive complex.old.pair.second.alive complex.new.pair.second.alive
+    ensures step { IsStep P.tells member.old.id.0 lines.now
+        (begun (P.view complex.old.plant).now member.old.id member.old.batch) complex.old.journal.batches
+        (end_of complex.new.placed complex.new.current complex.new.journal.batches) complex.old.pair.first.alive
+        complex.new.pair.first.alive complex.old.pair.second.alive complex.new.pair.second.alive
         (P.view complex.old.plant) (P.view complex.new.plant) result }
-    ensures printed { OnOk result (complex.new.printed ≡ printed_after member.old.id member.old.batch complex.old.printed) }
+    ensures printed { OnOk result (complex.new.printed
+        ≡ printed_after member.old.id member.old.batch complex.old.printed) }
     ensures unreserved { OnOk result (complex.new.reserved ≡ None) }
-    ensures between { OnOk result (IsBetween P.tells complex.new.base complex.new.journal.batches complex.new.current complex.new.placed complex.new.level member.new.batch member.new.checkpoint) }
-    ensures rests1 { OnOk result (RestsAt P.tells complex.new.pair.first.alive complex.new.first (C.count complex.new.pair.first.copy) member.new.checkpoint.pages (C.reads (disk_now (P.view complex.new.plant) Ckpt1).bytes)) }
-    ensures rests2 { OnOk result (RestsAt P.tells complex.new.pair.second.alive complex.new.second (C.count complex.new.pair.second.copy) member.new.checkpoint.pages (C.reads (disk_now (P.view complex.new.plant) Ckpt2).bytes)) }
+    ensures between { OnOk result (IsBetween P.tells complex.new.base complex.new.journal.batches complex.new.current
+        complex.new.placed complex.new.level member.new.batch member.new.checkpoint) }
+    ensures rests1 { OnOk result (RestsAt P.tells complex.new.pair.first.alive complex.new.first
+        (C.count complex.new.pair.first.copy) member.new.checkpoint.pages
+        (C.reads (disk_now (P.view complex.new.plant) Ckpt1).bytes)) }
+    ensures rests2 { OnOk result (RestsAt P.tells complex.new.pair.second.alive complex.new.second
+        (C.count complex.new.pair.second.copy) member.new.checkpoint.pages
+        (C.reads (disk_now (P.view complex.new.plant) Ckpt2).bytes)) }
     ensures kept { OnOk result (AreAllKept complex.new.journal.batches (P.view complex.new.plant).now) }
     ensures level { OnOk result (member.new.checkpoint.level ≤ member.old.checkpoint.level + 1) }
     ensures reached { OnOk result (complex.new.level ≤ complex.old.level + 1) }

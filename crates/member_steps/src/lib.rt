@@ -1,4 +1,5 @@
-//! A member's steps: it takes the lock, reads the copies, does a command, writes it to both, tells it on the console, and gives the lock up.
+//! A member's steps: it takes the lock, reads the copies, does a command, writes it to both, tells it on the console,
+//! and gives the lock up.
 #![tactic(auto)]
 
 mod batches;

@@ -40,7 +40,7 @@ fn closing_of(why: LockNo) -> Closing
     }
 }
 
-// The one line of such a step.
+// The one line of a step that was refused the lock.
 fn denied_lines(alloc: Global, by: MemberId, step: u32, why: LockNo) -> Result<Lines, NoMemory>
     requires by { by.0 ≤ members_most }
     requires named { AreMembersNamed (closing_of_lem why) }
@@ -79,10 +79,12 @@ pub fn deny<P: Plant + Drop, C: Steady + Drop>(
     ensures second { complex.new.second ≡ complex.old.second }
     ensures level { complex.new.level ≡ complex.old.level }
     ensures later { (P.view complex.old.plant).now ≤ (P.view complex.new.plant).now }
-    ensures disks { P.tells → (d : Dev) → disk_now (P.view complex.new.plant) d ≡ disk_now (P.view complex.old.plant) d }
-    ensures denial { IsDenial P.tells member.now.id.0 (denied_lines_lem member.now.id step why) complex.old.journal.batches (end_of complex.new.placed complex.new.current complex.new.journal.batches)
-        complex.old.pair.first.alive complex.new.pair.first.alive complex.old.pair.second.alive complex.new.pair.second.alive
-        (P.view complex.old.plant) (P.view complex.new.plant) result }
+    ensures disks { P.tells → (d : Dev)
+        → disk_now (P.view complex.new.plant) d ≡ disk_now (P.view complex.old.plant) d }
+    ensures denial { IsDenial P.tells member.now.id.0 (denied_lines_lem member.now.id step why)
+        complex.old.journal.batches (end_of complex.new.placed complex.new.current complex.new.journal.batches)
+        complex.old.pair.first.alive complex.new.pair.first.alive complex.old.pair.second.alive
+        complex.new.pair.second.alive (P.view complex.old.plant) (P.view complex.new.plant) result }
 {
     let Ok(lines) = denied_lines(alloc, member.id, step, why) else {
         return Err(NodeNo::NoMemory);
@@ -90,9 +92,9 @@ pub fn deny<P: Plant + Drop, C: Steady + Drop>(
     tell_lines(member, complex, &lines)
 }
 
-/// Plays a step of the member: it takes the lock by a try, reads what the copies have, makes room for a put, gives its command, writes and
-/// tells it, and gives the lock up. Its checkpoint may be of any time: another member may have written since. Where it doesn't get the lock
-/// the step closes with why, and nothing else is done.
+/// Plays a step of the member: it takes the lock by a try, reads what the copies have, makes room for a put, gives its
+/// command, writes and tells it, and gives the lock up. Its checkpoint may be of any time: another member may have
+/// written since. Where it doesn't get the lock the step closes with why, and nothing else is done.
 ///
 /// After an error the lock is as after the try: a member that got it holds it still, and can't go on.
 pub fn play_locked<P: Plant + Drop, C: Steady + Drop>(
@@ -109,39 +111,53 @@ pub fn play_locked<P: Plant + Drop, C: Steady + Drop>(
     requires giver { IsGiver member.old.id command }
     requires may_give { may_give complex.old.base member.old.id command ≡ true }
     requires unmarked { is_mark command ≡ false }
-    requires at_lock { IsAtLock complex.old.current complex.old.placed member.old.batch member.old.checkpoint member.old.room }
-    requires calm1 { IsCalm complex.old.pair.first.alive complex.old.first (C.count complex.old.pair.first.copy) (length member.old.room) }
-    requires calm2 { IsCalm complex.old.pair.second.alive complex.old.second (C.count complex.old.pair.second.copy) (length member.old.room) }
-    requires low1 { ReadsLow P.tells complex.old.pair.first.alive member.old.checkpoint.tables.config (length complex.old.journal.batches) (C.reads (disk_now (P.view complex.old.plant) Ckpt1).bytes) }
-    requires low2 { ReadsLow P.tells complex.old.pair.second.alive member.old.checkpoint.tables.config (length complex.old.journal.batches) (C.reads (disk_now (P.view complex.old.plant) Ckpt2).bytes) }
+    requires at_lock { IsAtLock complex.old.current complex.old.placed member.old.batch member.old.checkpoint
+        member.old.room }
+    requires calm1 { IsCalm complex.old.pair.first.alive complex.old.first (C.count complex.old.pair.first.copy)
+        (length member.old.room) }
+    requires calm2 { IsCalm complex.old.pair.second.alive complex.old.second (C.count complex.old.pair.second.copy)
+        (length member.old.room) }
+    requires low1 { ReadsLow P.tells complex.old.pair.first.alive member.old.checkpoint.tables.config
+        (length complex.old.journal.batches) (C.reads (disk_now (P.view complex.old.plant) Ckpt1).bytes) }
+    requires low2 { ReadsLow P.tells complex.old.pair.second.alive member.old.checkpoint.tables.config
+        (length complex.old.journal.batches) (C.reads (disk_now (P.view complex.old.plant) Ckpt2).bytes) }
     requires sound { P.tells → IsToldSound (run complex.old.base (kept_all complex.old.journal.batches)) }
     requires config { complex.old.base.config ≡ member.old.checkpoint.tables.config }
     requires kept { AreAllKept complex.old.journal.batches (P.view complex.old.plant).now }
-    requires untold { P.tells → IsUntold (setting C.reads complex.old.base complex.old.since) (P.view complex.old.plant) (entry_of (run complex.old.base (kept_all complex.old.journal.batches)) member.old.id step command ∷ []) }
+    requires untold { P.tells → IsUntold (setting C.reads complex.old.base complex.old.since) (P.view complex.old.plant)
+        (entry_of (run complex.old.base (kept_all complex.old.journal.batches)) member.old.id step command ∷ []) }
     requires since { complex.old.since ≤ (P.view complex.old.plant).now }
     requires level { complex.old.level < too_high }
     ensures base { complex.new.base ≡ complex.old.base }
     ensures since { complex.new.since ≡ complex.old.since }
     ensures id { member.new.id ≡ member.old.id }
     ensures lock { OnOk result (IsOpenTo complex.new.book complex.new.reserved member.old.id) }
-    ensures book { OnOk result (complex.new.book ≡ after_free (after_try complex.old.book member.old.id false) member.old.id false) }
+    ensures book { OnOk result (complex.new.book
+        ≡ after_free (after_try complex.old.book member.old.id false) member.old.id false) }
     ensures held { OnErr result (complex.new.book ≡ after_try complex.old.book member.old.id false) }
-    ensures granted { try_refusal complex.old.book member.old.id false ≡ None → GivesStep P.tells member.old.id step command (run complex.old.base (kept_all complex.old.journal.batches))
+    ensures granted { try_refusal complex.old.book member.old.id false ≡ None
+        → GivesStep P.tells member.old.id step command (run complex.old.base (kept_all complex.old.journal.batches))
         complex.old.journal.batches (end_of complex.new.placed complex.new.current complex.new.journal.batches)
-        complex.old.pair.first.alive complex.new.pair.first.alive complex.old.pair.second.alive complex.new.pair.second.alive
-        (P.view complex.old.plant) (P.view complex.new.plant) result }
-    ensures denied { (why : LockNo) → try_refusal complex.old.book member.old.id false ≡ Some why → IsDenial P.tells member.old.id.0 (denied_lines_lem member.old.id step why)
-        complex.old.journal.batches (end_of complex.new.placed complex.new.current complex.new.journal.batches)
-        complex.old.pair.first.alive complex.new.pair.first.alive complex.old.pair.second.alive complex.new.pair.second.alive
+        complex.old.pair.first.alive complex.new.pair.first.alive complex.old.pair.second.alive
+        complex.new.pair.second.alive (P.view complex.old.plant) (P.view complex.new.plant) result }
+    ensures denied { (why : LockNo) → try_refusal complex.old.book member.old.id false ≡ Some why
+        → IsDenial P.tells member.old.id.0 (denied_lines_lem member.old.id step why) complex.old.journal.batches
+        (end_of complex.new.placed complex.new.current complex.new.journal.batches) complex.old.pair.first.alive
+        complex.new.pair.first.alive complex.old.pair.second.alive complex.new.pair.second.alive
         (P.view complex.old.plant) (P.view complex.new.plant) result }
     ensures kept { OnOk result (AreAllKept complex.new.journal.batches (P.view complex.new.plant).now) }
     ensures sound { OnOk result (P.tells → IsToldSound (run complex.new.base (kept_all complex.new.journal.batches))) }
     ensures config { OnOk result (member.new.checkpoint.tables.config ≡ member.old.checkpoint.tables.config) }
-    ensures low1 { OnOk result (ReadsLow P.tells complex.new.pair.first.alive member.old.checkpoint.tables.config (length complex.new.journal.batches) (C.reads (disk_now (P.view complex.new.plant) Ckpt1).bytes)) }
-    ensures low2 { OnOk result (ReadsLow P.tells complex.new.pair.second.alive member.old.checkpoint.tables.config (length complex.new.journal.batches) (C.reads (disk_now (P.view complex.new.plant) Ckpt2).bytes)) }
-    ensures at_lock { OnOk result (IsAtLock complex.new.current complex.new.placed member.new.batch member.new.checkpoint member.new.room) }
-    ensures calm1 { OnOk result (IsCalm complex.new.pair.first.alive complex.new.first (C.count complex.new.pair.first.copy) (length member.new.room)) }
-    ensures calm2 { OnOk result (IsCalm complex.new.pair.second.alive complex.new.second (C.count complex.new.pair.second.copy) (length member.new.room)) }
+    ensures low1 { OnOk result (ReadsLow P.tells complex.new.pair.first.alive member.old.checkpoint.tables.config
+        (length complex.new.journal.batches) (C.reads (disk_now (P.view complex.new.plant) Ckpt1).bytes)) }
+    ensures low2 { OnOk result (ReadsLow P.tells complex.new.pair.second.alive member.old.checkpoint.tables.config
+        (length complex.new.journal.batches) (C.reads (disk_now (P.view complex.new.plant) Ckpt2).bytes)) }
+    ensures at_lock { OnOk result (IsAtLock complex.new.current complex.new.placed member.new.batch
+        member.new.checkpoint member.new.room) }
+    ensures calm1 { OnOk result (IsCalm complex.new.pair.first.alive complex.new.first
+        (C.count complex.new.pair.first.copy) (length member.new.room)) }
+    ensures calm2 { OnOk result (IsCalm complex.new.pair.second.alive complex.new.second
+        (C.count complex.new.pair.second.copy) (length member.new.room)) }
     ensures level { OnOk result (complex.new.level ≤ complex.old.level + 1) }
 {
     if let Err(why) = member.lock(complex, false) {

@@ -10,8 +10,8 @@ use mas_types::Lines;
 use member_node::{Member, NodeNo};
 use spool_disk::Plant;
 
-/// Says lines on the console, one after another, while each batch of the journal is kept. Answers ConsoleFault where the console
-/// failed, and Halted where the member was stopped: then the lines before that one stand there.
+/// Says lines on the console, one after another, while each batch of the journal is kept. Answers ConsoleFault where
+/// the console failed, and Halted where the member was stopped: then the lines before that one stand there.
 pub fn tell_lines<P: Plant + Drop, C: Steady + Drop>(
     member: &Member,
     complex: &mut Complex<P, C>,
@@ -33,7 +33,8 @@ pub fn tell_lines<P: Plant + Drop, C: Steady + Drop>(
     ensures second { complex.new.second ≡ complex.old.second }
     ensures level { complex.new.level ≡ complex.old.level }
     ensures frame { parts_of complex.new ≡ record (parts_of complex.old) { plant = complex.new.plant } }
-    ensures said { HaveSaid P.tells member.now.id.0 lines.now (P.view complex.old.plant) (P.view complex.new.plant) result }
+    ensures said { HaveSaid P.tells member.now.id.0 lines.now (P.view complex.old.plant) (P.view complex.new.plant)
+        result }
 {
     for at in 0..lines.len() {
         member.tell(complex, lines.line(at))?;

@@ -17,7 +17,7 @@ use std::alloc::Global;
 use std::process::Abort;
 use std::test::Fail;
 
-// So many acts format both copies.
+// The number of acts that format both copies.
 const FORMED: u64 = 24;
 
 // The act that opens the gate of CKPT1.
@@ -26,7 +26,7 @@ const OPENS_FIRST: u64 = 30;
 // The act that opens the gate of CKPT2.
 const OPENS_SECOND: u64 = 32;
 
-// So many acts have written the batch.
+// The number of acts after which the batch is written.
 const WRITTEN: u64 = 34;
 
 // The batch in flight is of another member, or there is none.
@@ -49,8 +49,8 @@ fn lose_copy(complex: &mut Complex<Quiet, CopyForm>, lost: Option<Dev>)
     }
 }
 
-// The first member is stopped, and the second takes the lock over and recovers: the level of the pages found, none where
-// the second is stopped too.
+// The first member is stopped, and the second takes the lock over and recovers: the level of the pages found, none
+// where the second is stopped too.
 fn taken_over(
     alloc: Global,
     complex: &mut Complex<Quiet, CopyForm>,
@@ -74,8 +74,8 @@ fn taken_over(
     }
 }
 
-// The first member writes a batch as far as the plant lets it, a copy is lost, and the second member recovers: the level of
-// the pages found, and the number of kept entries.
+// The first member writes a batch as far as the plant lets it, a copy is lost, and the second member recovers: the
+// level of the pages found, and the number of kept entries.
 fn recovered_on(
     alloc: Global,
     complex: &mut Complex<Quiet, CopyForm>,
@@ -88,10 +88,14 @@ fn recovered_on(
     requires second { complex.old.second ≡ AtBefore }
     requires level { complex.old.level < top }
     requires six { length pages.now ≡ 6 }
-    requires count1 { complex.old.pair.first.alive ≡ true → ⟦<CopyForm as Copying>⟧.count complex.old.pair.first.copy ≡ 6 }
-    requires count2 { complex.old.pair.second.alive ≡ true → ⟦<CopyForm as Copying>⟧.count complex.old.pair.second.copy ≡ 6 }
-    requires room1 { complex.old.pair.first.alive ≡ true → 1 ≤ ⟦<CopyForm as Copying>⟧.room complex.old.pair.first.copy }
-    requires room2 { complex.old.pair.second.alive ≡ true → 1 ≤ ⟦<CopyForm as Copying>⟧.room complex.old.pair.second.copy }
+    requires count1 { complex.old.pair.first.alive ≡ true
+        → ⟦<CopyForm as Copying>⟧.count complex.old.pair.first.copy ≡ 6 }
+    requires count2 { complex.old.pair.second.alive ≡ true
+        → ⟦<CopyForm as Copying>⟧.count complex.old.pair.second.copy ≡ 6 }
+    requires room1 { complex.old.pair.first.alive ≡ true
+        → 1 ≤ ⟦<CopyForm as Copying>⟧.room complex.old.pair.first.copy }
+    requires room2 { complex.old.pair.second.alive ≡ true
+        → 1 ≤ ⟦<CopyForm as Copying>⟧.room complex.old.pair.second.copy }
     requires members { length complex.old.book.members ≡ 2 }
 {
     let Ok(()) = complex.try_lock(FIRST, false) else {

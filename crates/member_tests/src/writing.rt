@@ -31,10 +31,14 @@ pub(crate) fn formed(
     ensures first { IfOk result (λ some. IfSome some (λ c. c.first ≡ AtBefore)) }
     ensures second { IfOk result (λ some. IfSome some (λ c. c.second ≡ AtBefore)) }
     ensures level { IfOk result (λ some. IfSome some (λ c. c.level ≡ 2)) }
-    ensures count1 { IfOk result (λ some. IfSome some (λ c. c.pair.first.alive ≡ true → ⟦<CopyForm as Copying>⟧.count c.pair.first.copy ≡ 6)) }
-    ensures count2 { IfOk result (λ some. IfSome some (λ c. c.pair.second.alive ≡ true → ⟦<CopyForm as Copying>⟧.count c.pair.second.copy ≡ 6)) }
-    ensures room1 { IfOk result (λ some. IfSome some (λ c. c.pair.first.alive ≡ true → 1 ≤ ⟦<CopyForm as Copying>⟧.room c.pair.first.copy)) }
-    ensures room2 { IfOk result (λ some. IfSome some (λ c. c.pair.second.alive ≡ true → 1 ≤ ⟦<CopyForm as Copying>⟧.room c.pair.second.copy)) }
+    ensures count1 { IfOk result (λ some.
+        IfSome some (λ c. c.pair.first.alive ≡ true → ⟦<CopyForm as Copying>⟧.count c.pair.first.copy ≡ 6)) }
+    ensures count2 { IfOk result (λ some.
+        IfSome some (λ c. c.pair.second.alive ≡ true → ⟦<CopyForm as Copying>⟧.count c.pair.second.copy ≡ 6)) }
+    ensures room1 { IfOk result (λ some.
+        IfSome some (λ c. c.pair.first.alive ≡ true → 1 ≤ ⟦<CopyForm as Copying>⟧.room c.pair.first.copy)) }
+    ensures room2 { IfOk result (λ some.
+        IfSome some (λ c. c.pair.second.alive ≡ true → 1 ≤ ⟦<CopyForm as Copying>⟧.room c.pair.second.copy)) }
     ensures members { IfOk result (λ some. IfSome some (λ c. length c.book.members ≡ 2)) }
 {
     let base = empty_queue(alloc, &default_config(), &List::new(alloc))?;
@@ -60,15 +64,22 @@ fn log_both(
     requires first { complex.old.first ≡ AtBefore }
     requires second { complex.old.second ≡ AtBefore }
     requires six { length pages.now ≡ 6 }
-    requires count1 { complex.old.pair.first.alive ≡ true → ⟦<CopyForm as Copying>⟧.count complex.old.pair.first.copy ≡ 6 }
-    requires count2 { complex.old.pair.second.alive ≡ true → ⟦<CopyForm as Copying>⟧.count complex.old.pair.second.copy ≡ 6 }
-    requires room1 { complex.old.pair.first.alive ≡ true → 1 ≤ ⟦<CopyForm as Copying>⟧.room complex.old.pair.first.copy }
-    requires room2 { complex.old.pair.second.alive ≡ true → 1 ≤ ⟦<CopyForm as Copying>⟧.room complex.old.pair.second.copy }
+    requires count1 { complex.old.pair.first.alive ≡ true
+        → ⟦<CopyForm as Copying>⟧.count complex.old.pair.first.copy ≡ 6 }
+    requires count2 { complex.old.pair.second.alive ≡ true
+        → ⟦<CopyForm as Copying>⟧.count complex.old.pair.second.copy ≡ 6 }
+    requires room1 { complex.old.pair.first.alive ≡ true
+        → 1 ≤ ⟦<CopyForm as Copying>⟧.room complex.old.pair.first.copy }
+    requires room2 { complex.old.pair.second.alive ≡ true
+        → 1 ≤ ⟦<CopyForm as Copying>⟧.room complex.old.pair.second.copy }
     ensures book { complex.new.book ≡ complex.old.book }
-    ensures count1 { ⟦<CopyForm as Copying>⟧.count complex.new.pair.first.copy ≡ ⟦<CopyForm as Copying>⟧.count complex.old.pair.first.copy }
-    ensures count2 { ⟦<CopyForm as Copying>⟧.count complex.new.pair.second.copy ≡ ⟦<CopyForm as Copying>⟧.count complex.old.pair.second.copy }
+    ensures count1 { ⟦<CopyForm as Copying>⟧.count complex.new.pair.first.copy
+        ≡ ⟦<CopyForm as Copying>⟧.count complex.old.pair.first.copy }
+    ensures count2 { ⟦<CopyForm as Copying>⟧.count complex.new.pair.second.copy
+        ≡ ⟦<CopyForm as Copying>⟧.count complex.old.pair.second.copy }
     ensures room1 { complex.new.pair.first.alive ≡ true → 1 ≤ ⟦<CopyForm as Copying>⟧.room complex.new.pair.first.copy }
-    ensures room2 { complex.new.pair.second.alive ≡ true → 1 ≤ ⟦<CopyForm as Copying>⟧.room complex.new.pair.second.copy }
+    ensures room2 { complex.new.pair.second.alive ≡ true
+        → 1 ≤ ⟦<CopyForm as Copying>⟧.room complex.new.pair.second.copy }
     ensures alive1 { complex.new.pair.first.alive ≡ true → complex.old.pair.first.alive ≡ true }
     ensures alive2 { complex.new.pair.second.alive ≡ true → complex.old.pair.second.alive ≡ true }
     ensures level { complex.new.level ≡ complex.old.level }
@@ -89,11 +100,15 @@ fn open_both(complex: &mut Complex<Quiet, CopyForm>, by: MemberId) -> Result<(),
     requires first { complex.old.first ≡ AtPut }
     requires second { complex.old.second ≡ AtPut }
     requires level { complex.old.level < top }
-    requires room1 { complex.old.pair.first.alive ≡ true → 1 ≤ ⟦<CopyForm as Copying>⟧.room complex.old.pair.first.copy }
-    requires room2 { complex.old.pair.second.alive ≡ true → 1 ≤ ⟦<CopyForm as Copying>⟧.room complex.old.pair.second.copy }
+    requires room1 { complex.old.pair.first.alive ≡ true
+        → 1 ≤ ⟦<CopyForm as Copying>⟧.room complex.old.pair.first.copy }
+    requires room2 { complex.old.pair.second.alive ≡ true
+        → 1 ≤ ⟦<CopyForm as Copying>⟧.room complex.old.pair.second.copy }
     ensures book { complex.new.book ≡ complex.old.book }
-    ensures count1 { ⟦<CopyForm as Copying>⟧.count complex.new.pair.first.copy ≡ ⟦<CopyForm as Copying>⟧.count complex.old.pair.first.copy }
-    ensures count2 { ⟦<CopyForm as Copying>⟧.count complex.new.pair.second.copy ≡ ⟦<CopyForm as Copying>⟧.count complex.old.pair.second.copy }
+    ensures count1 { ⟦<CopyForm as Copying>⟧.count complex.new.pair.first.copy
+        ≡ ⟦<CopyForm as Copying>⟧.count complex.old.pair.first.copy }
+    ensures count2 { ⟦<CopyForm as Copying>⟧.count complex.new.pair.second.copy
+        ≡ ⟦<CopyForm as Copying>⟧.count complex.old.pair.second.copy }
     ensures alive1 { complex.new.pair.first.alive ≡ true → complex.old.pair.first.alive ≡ true }
     ensures alive2 { complex.new.pair.second.alive ≡ true → complex.old.pair.second.alive ≡ true }
     ensures none { OnOk result (complex.new.current ≡ None) }
@@ -121,13 +136,19 @@ pub(crate) fn write(
     requires second { complex.old.second ≡ AtBefore }
     requires level { complex.old.level < top }
     requires six { length pages.now ≡ 6 }
-    requires count1 { complex.old.pair.first.alive ≡ true → ⟦<CopyForm as Copying>⟧.count complex.old.pair.first.copy ≡ 6 }
-    requires count2 { complex.old.pair.second.alive ≡ true → ⟦<CopyForm as Copying>⟧.count complex.old.pair.second.copy ≡ 6 }
-    requires room1 { complex.old.pair.first.alive ≡ true → 1 ≤ ⟦<CopyForm as Copying>⟧.room complex.old.pair.first.copy }
-    requires room2 { complex.old.pair.second.alive ≡ true → 1 ≤ ⟦<CopyForm as Copying>⟧.room complex.old.pair.second.copy }
+    requires count1 { complex.old.pair.first.alive ≡ true
+        → ⟦<CopyForm as Copying>⟧.count complex.old.pair.first.copy ≡ 6 }
+    requires count2 { complex.old.pair.second.alive ≡ true
+        → ⟦<CopyForm as Copying>⟧.count complex.old.pair.second.copy ≡ 6 }
+    requires room1 { complex.old.pair.first.alive ≡ true
+        → 1 ≤ ⟦<CopyForm as Copying>⟧.room complex.old.pair.first.copy }
+    requires room2 { complex.old.pair.second.alive ≡ true
+        → 1 ≤ ⟦<CopyForm as Copying>⟧.room complex.old.pair.second.copy }
     ensures book { complex.new.book ≡ complex.old.book }
-    ensures count1 { ⟦<CopyForm as Copying>⟧.count complex.new.pair.first.copy ≡ ⟦<CopyForm as Copying>⟧.count complex.old.pair.first.copy }
-    ensures count2 { ⟦<CopyForm as Copying>⟧.count complex.new.pair.second.copy ≡ ⟦<CopyForm as Copying>⟧.count complex.old.pair.second.copy }
+    ensures count1 { ⟦<CopyForm as Copying>⟧.count complex.new.pair.first.copy
+        ≡ ⟦<CopyForm as Copying>⟧.count complex.old.pair.first.copy }
+    ensures count2 { ⟦<CopyForm as Copying>⟧.count complex.new.pair.second.copy
+        ≡ ⟦<CopyForm as Copying>⟧.count complex.old.pair.second.copy }
     ensures alive1 { complex.new.pair.first.alive ≡ true → complex.old.pair.first.alive ≡ true }
     ensures alive2 { complex.new.pair.second.alive ≡ true → complex.old.pair.second.alive ≡ true }
     ensures none { OnOk result (complex.new.current ≡ None) }

@@ -98,7 +98,7 @@ pub starts_itself : (es : List Entry) → StartsAs (batch_of es) (batch_of es)
 starts_itself [] = tt
 starts_itself (e ∷ es) = (omega arith, ([], sym (append-nil (e ∷ es))))
 
--- first what is full, and then the rest
+-- entries are cut into what is full first, and then the rest
 pub full_first : (es : List Entry) (parts : List (List Entry)) → cut_after es (λ unwritten. cut unwritten parts) ≡ full_of es ++ cut (after_full es) parts
 full_first es parts =
     test_cases (is_full es) (cut_after es (λ unwritten. cut unwritten parts) ≡ full_of es ++ cut (after_full es) parts)
@@ -111,7 +111,7 @@ full_entries es =
     (λ full. rw full (append-nil (es ++ []) ∙ append-nil es))
     (λ few. rw few refl)
 
--- WHOSE THEY ARE
+-- WHOSE THE ENTRIES ARE
 
 module _ (by : MemberId) (at : ℕ) where
   abbrev Its : Entry → Type 0

@@ -33,7 +33,7 @@ module _ {P C : Type 0} {plants : PlantGhosts P} {steadies : SteadyGhosts C} {co
     abbrev first_part : Turn
     first_part = after_part all (goes_on_by h e left (units_from h left) (run (queue_here x m) all) (0 + length all) done)
 
-    -- memory wanted for it
+    -- out of memory for the first part
     pub first_error : (plants.tells → first_part ≡ whole) → (why : NodeNo) → HasGiven plants.tells h cs e (place_of x m) (place_of y n) (Err why) → Plays plants.tells h 0 (wrote_of [] whole) (place_of x m) (outside y) (Err why)
     first_error same why g =
         plays_as plants.tells h 0 (wrote_of m.batch first_part) (wrote_of [] whole) (place_of x m) (outside y) (Err why)

@@ -47,7 +47,7 @@ module _ (h : Holder) where
     abbrev Following : units.Unit → Turn
     Following u = next_unit h u left (units_from h left) Q given done
 
-    -- one command
+    -- a unit of one command
     pub by_command : (u : units.Unit) (c : Command) → command_of u ≡ Some c → Following u ≡ turn_by h (next.Give c) left Q given done
     by_command (unit.Print n i) c is = absurd (cc)
     by_command (unit.Finish n i) c is = ap (λ (d : Command). one_command h d left (units_from h left) Q given done) (one (command.Done n i) c is)
@@ -60,7 +60,7 @@ module _ (h : Holder) where
     by_command unit.TakeConvert c is = ap (λ (d : Command). one_command h d left (units_from h left) Q given done) (one command.TakeConvert c is)
     by_command unit.Idle c is = absurd (cc)
 
-    -- none
+    -- no unit applies
     pub by_none : (u : units.Unit) → command_of u ≡ None → ((n : JobNo) (i : OutNo) → u ≡ unit.Print n i → ⊥) → ((n : JobNo) → u ≡ unit.Run n → ⊥) → ((n : JobNo) → u ≡ unit.Convert n → ⊥) → Following u ≡ no_more h done
     by_none (unit.Print n i) none prints runs converts = absurd (prints n i refl)
     by_none (unit.Finish n i) none prints runs converts = absurd (cc)
@@ -73,7 +73,7 @@ module _ (h : Holder) where
     by_none unit.TakeConvert none prints runs converts = absurd (cc)
     by_none unit.Idle none prints runs converts = refl
 
-    -- a text
+    -- a unit that reads a text
     text_next : (runs : Bool) (o : Option Job) (n : JobNo) → option_map_or (λ (j : Job). turn_by h (text_of runs (record { done = done; left = left }) (Some j)) left Q given done) o (no_more h done) ≡ turn_by h (text_of runs (record { done = done; left = left }) o) left Q given done
     text_next runs None n = refl
     text_next runs (Some j) n = refl
@@ -104,6 +104,6 @@ unit_given base by c some few member u =
     let g = each_command (Givable base by) (λ n i. record { plain = refl; giver = (some, few); may = member; closes = refl }) (record { plain = refl; giver = (some, few); may = member; closes = refl }) (record { plain = refl; giver = (some, few); may = member; closes = refl }) (record { plain = refl; giver = (some, few); may = member; closes = refl }) (record { plain = refl; giver = (some, few); may = member; closes = refl }) (record { plain = refl; giver = (some, few); may = member; closes = refl }) u.of c u.is in
     record { plain = g.plain; fit = u.fit; giver = g.giver; may = g.may; closes = g.closes }
 
--- it marks no lines
+-- a unit's command marks no lines
 pub unit_unmarked : (Q : Queue) (by : MemberId) (count : ℕ) (c : Command) → IsOfUnit c → IsMarkRight Q by count c
 unit_unmarked Q by count c u = each_command (λ (d : Command). IsMarkRight Q by count d) (λ n i. tt) tt tt tt tt tt u.of c u.is

@@ -43,7 +43,7 @@ module _ {P C : Type 0} {plants : PlantGhosts P} {steadies : SteadyGhosts C} {co
   abbrev Kept : {T : Type 0} → Complex P C plants steadies copies → Complex P C plants steadies copies → MemberId → List (List Entry) → Result T NodeNo → Type 0
   Kept x y by ess r = IsKeeping plants.tells by ess x.journal.batches (end_of y.placed y.current y.journal.batches) x.pair.first.alive y.pair.first.alive x.pair.second.alive y.pair.second.alive (plants.view x.plant) (plants.view y.plant) r
 
-  -- by what others see
+  -- what a call keeps, by what others see of it
   pub keeps_as : {T : Type 0} (x y : Complex P C plants steadies copies) (m : Member) (by : MemberId) (ess fss : List (List Entry)) (r : Result T NodeNo) → by ≡ m.id → AtWork x m → ess ≡ fss → Kept x y m.id ess r → Keeps plants.tells by fss (outside x) (outside y) r
   keeps_as {T} x y m by ess fss r own w same k =
       subst (λ (i : MemberId). Keeps {T = T} plants.tells i fss (outside x) (outside y) r) (sym own)

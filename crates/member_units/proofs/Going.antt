@@ -142,7 +142,7 @@ module _ {T : Type 0} (told : Type 0) (by : MemberId) where
             (λ has. (one.rest ++ has.0, joined has.0 has.1, all_then by o.view.now m.view.now n.view.now ess more one.rest has.0 first then one.journal has.2)) (two.console t);
       }
 
--- by an answer of another type
+-- an error's close, by an answer of another type
 pub closes_err : {S T : Type 0} (told : Type 0) (by : MemberId) (e : NodeNo) (lines : List (List ℕ)) (ess : List (List Entry)) (o n : Outside) → Closes {T = S} told by lines ess o n (Err e) → Closes {T = T} told by lines ess o n (Err e)
 closes_err {S} {T} told by e lines ess o n k = record { course = k.course; loses = k.loses; cause = causes e k.cause; spares = k.spares; rest = k.rest; batches_are = k.batches_are; journal = left e k.journal; console = λ t. said e (k.console t) } where
   causes : (x : NodeNo) → StepCauses {T = S} (Err x) by.0 o.first n.first o.second n.second o.view n.view → StepCauses {T = T} (Err x) by.0 o.first n.first o.second n.second o.view n.view
@@ -177,7 +177,7 @@ apart_then o m n later goes one two = record { others = only_on o.view m.view n.
 -- THE REST OF A SITTING
 
 module _ (told : Type 0) (h : Holder) (given : ℕ) where
-  -- by what it is to write
+  -- the rest of a sitting, by what it is to write
   pub plays_as : (w w' : Wrote) (old : Place) (new : Outside) (r : Result SittingEnd NodeNo) → (told → w ≡ w') → Plays told h given w old new r → Plays told h given w' old new r
   plays_as w w' old new r same p = record { wrote = p.wrote; is = λ t. p.is t ∙ same t; of = p.of; ends = p.ends; closes = p.closes; spares = p.spares }
 
@@ -194,7 +194,7 @@ module _ (told : Type 0) (h : Holder) (given : ℕ) where
     spares = spares;
   }
 
-  -- it ends in a state of the step
+  -- the sitting ends in a state of the step
   pub plays_leave : {S : Type 0} (s : S) (e : SittingEnd) (next : State) (old : Place) (new : Outside) → e.next ≡ next → e.given ≡ given → e.release ≡ released h.grant h.hold e.given e.next → AreOf h.by h.step old.batch → (told → SparesVolumes old.outside new)
       → Keeps {T = S} told h.by (batch_of old.batch) old.outside new (Ok s) → Plays told h given (wrote_of old.batch (leaves next)) old new (Ok e)
   plays_leave {S} s e next old new is_next is_given is_released of spares keeps = record {
@@ -260,14 +260,14 @@ module _ (told : Type 0) (h : Holder) (cs : List Command) (e : UnitEnd) (old mid
   abbrev all : List Entry
   all = given_in old.queue h.by h.step cs
 
-  -- what follows these entries
+  -- what follows the entries of a part
   abbrev then : List Entry → UnitEnd → Turn
   then es end = goes_on_by h end left (units_from h left) (run old.queue es) (given + length es) done
 
   abbrev whole_part : Turn
   whole_part = after_part all (then all e)
 
-  -- memory wanted for it, or a batch couldn't be kept then
+  -- out of memory for the part, or a batch couldn't be kept then
   pub part_error : (why : NodeNo) → HasGiven told h cs e old mid (Err why) → Plays told h given (wrote_of old.batch whole_part) old mid.outside (Err why)
   part_error why g =
       let w = wrote_of old.batch (after_part g.es (then g.es e)) in
@@ -277,7 +277,7 @@ module _ (told : Type 0) (h : Holder) (cs : List Command) (e : UnitEnd) (old mid
       (starts_after (old.batch ++ g.es) (then g.es e).parts)
       g.spares g.keeps
 
-  -- it was given
+  -- the part was given, and the rest follows
   pub part_then : (end : UnitEnd) (given' : ℕ) (new : Outside) (r : Result SittingEnd NodeNo) (g : HasGiven told h cs e old mid (Ok end)) → given' ≡ given + length g.es
       → Plays told h given' (wrote_after mid.batch (goes_on_by h end left (units_from h left) mid.queue given' done)) mid new r → Plays told h given (wrote_of old.batch whole_part) old new r
   part_then end given' new r g more p = record {

@@ -33,7 +33,7 @@ use Rattle.step_turns.specs.declared.states.Progress.{Progress}
 use Rattle.step_turns.specs.Turns.{Turn, Units, after_part, closes_as, goes_on, goes_on_by, groups_taken, is_spent, job_ends, last_part, lines_printed, next_unit, one_command, outputs_stand, prints_output, reads_job, text_read, units_from}
 
 module _ (h : Holder) where
-  -- its parts are of the step
+  -- the parts of a turn are of the holder's step
   abbrev pub AreIts : Turn → Type 0
   AreIts t = All (AreOf h.by h.step) t.parts
 
@@ -93,7 +93,7 @@ module _ (h : Holder) where
   pub after_its : (e : UnitEnd) (left : ℕ) (Q : Queue) (given done : ℕ) → AreIts (goes_on_by h e left (units_from h left) Q given done)
   after_its e left Q given done = goes_by_its e left (units_from h left) (units_its left) Q given done
 
-  -- once a text was read
+  -- the parts after a text was read are of the step
   last_its : (Q : Queue) (cs : List Command) (e : UnitEnd) (left given done : ℕ) → AreIts (after_part (given_in Q h.by h.step cs) (goes_on_by h e left (units_from h left) (run Q (given_in Q h.by h.step cs)) given done))
   last_its Q cs e left given done = part_its (given_in Q h.by h.step cs) (goes_on_by h e left (units_from h left) (run Q (given_in Q h.by h.step cs)) given done) (given_its Q cs) (after_its e left (run Q (given_in Q h.by h.step cs)) given done)
 

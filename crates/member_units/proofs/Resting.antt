@@ -49,12 +49,12 @@ module _ {P C : Type 0} {plants : PlantGhosts P} {steadies : SteadyGhosts C} {co
   again_left y n h (Ok e) s open_still is works nothing = subst (λ (t : State). SitsIn t y n h.step) (sym is) (open_still (sits_works y n h works nothing))
   again_left y n h (Err why) s open_still is works nothing = tt
 
-  -- it closed
+  -- the sitting closed the step
   pub again_told : (y : Complex P C plants steadies copies) (n : Member) (at : ℕ) (r : Result SittingEnd NodeNo) → IfOk r (λ e. e.next ≡ Told) → OnOk r (HasSeat y n) → IfOk r (λ e. SitsIn e.next y n at)
   again_told y n at (Ok e) is seat = subst (λ (t : State). SitsIn t y n at) (sym is) seat
   again_told y n at (Err why) is seat = tt
 
-  -- levels
+  -- after a sitting the level leaves room for the units that are left
   pub reached_left : (y : Complex P C plants steadies copies) (most before : ℕ) (r : Result SittingEnd NodeNo) (s : State) → before + 1 + units_left s ≤ most → IfOk r (λ e. e.next ≡ s) → OnOk r (y.level ≤ before + 1) → IfOk r (λ e. y.level + units_left e.next ≤ most)
   reached_left y most before (Ok e) s few is level = subst (λ (t : State). y.level + units_left t ≤ most) (sym is) (omega (arith, few, level))
   reached_left y most before (Err why) s few is level = tt
@@ -63,7 +63,7 @@ pub ready_left : (t t' : Tables) (by by' : MemberId) (r : Result SittingEnd Node
 ready_left t t' by by' (Ok e) s same own ready is = subst (λ (u : State). IsReady t' by' u) (sym is) (subst (λ (b : MemberId). IsReady t' b s) (sym own) (subst (λ (u : Tables). IsReady u by s) (sym same) ready))
 ready_left t t' by by' (Err why) s same own ready is = tt
 
--- where it closed nothing has to be known
+-- where the sitting closed its step nothing has to be known
 pub ready_told : (t : Tables) (by : MemberId) (r : Result SittingEnd NodeNo) → IfOk r (λ e. e.next ≡ Told) → IfOk r (λ e. IsReady t by e.next)
 ready_told t by (Ok e) is = subst (λ (u : State). IsReady t by u) (sym is) tt
 ready_told t by (Err why) is = tt

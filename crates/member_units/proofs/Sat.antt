@@ -43,7 +43,7 @@ left_by (Err NoMemory) by from now ess more leaves = ⊎_elim (λ cut. by_cut_wa
 left_by (Err BothLost) by from now ess more leaves = by_thirds_lost by from now ess more leaves
 left_by (Err Halted) by from now ess more leaves = by_thirds_halted by from now ess more leaves
 
--- and on the console
+-- by the answer: what was said on the console
 said_by : (r : Result SittingEnd NodeNo) (A : Type 0) (lines : List (List ℕ)) (was now : List Line) → (r ≡ Err ConsoleFault → A) → ((e : SittingEnd) → r ≡ Ok e → A) → StepTells r lines A was now → HasSaid A lines was now r
 said_by (Ok e) A lines was now fault ok tells = said_all lines was now A e (ok e refl) tells
 said_by (Err ConsoleFault) A lines was now fault ok tells = said_some lines was now A tells.0 (fault refl) tells.1 tells.2

@@ -65,7 +65,7 @@ module _ (told : Type 0) (config : Config) (v w : View) (text : Text) (count : �
   abbrev Reads : Read → Type 0
   Reads o = (t : Text) → line_count t ≡ count → told → AreRoomy v config → IsThereUnless (lost_now v) (spools_at v v.now) config.groups t groups → IsReadOf config.groups t groups o v w
 
-  -- one that stands in these groups, or was there
+  -- a text that stands in these groups, or stood there
   pub text_seen : (Stands : Type 0) (o : Read) → its ≡ groups → line_count text ≡ count → told → IsWhole text → AreRoomy v config → ∥ Stands ∥₁ → (Stands → IsThereUnless (lost_now v) (spools_at v v.now) config.groups text its)
       → Reads o → IsFailedRead config.groups groups o v w → IsReadAs told config.groups text its (Some o) v w
   text_seen Stands (read.Lines lines) same lines_are tells whole roomy texts there reads failed =
@@ -91,7 +91,7 @@ module _ (told : Type 0) (config : Config) (t : Tables) (Q : Queue) (v w : View)
 
 -- THE NEXT LINES OF AN OUTPUT
 
--- this is the last of them by the record that the member's tables have
+-- the last of an output's next lines, by the record that the member's tables have
 pub chunk_from : (t : Tables) (by : MemberId) (n : JobNo) (i : OutNo) (at : ℕ) (r : OutRec) (last : ℕ) → HasSpelling t → ((os : List Output) → AreOutputs t.outputs os → HasOutput (has_key n i) t.outputs os at r) → IsToldOutput t r
     → ((Q : Queue) (o : Output) → Tell t Q → output_at Q n i ≡ Some o → last ≡ chunk_end Q by o) → IsChunkOf t by r last
 chunk_from t by n i at r last spelled some its is =

@@ -63,7 +63,7 @@ module _ (h : Holder) (Q : Queue) (n : JobNo) (specs : List OutSpec) (p : Progre
         ∙ ap (λ (b : Bool). groups_taken h b needed Q n specs p) (sym refused)
         ∙ sym (ends_some needed some)
 
-    -- none was
+    -- no Take was refused
     pub ends_taken : are_refused needed Q h.by needed ≡ false → after_part its (leaves (Away (SpoolOutputs n specs p))) ≡ job_ends h needed Q n specs p
     ends_taken all =
         ap (λ (b : Bool). after_part (given_in Q h.by h.step (takes needed Q h.by needed ++ (if b then drop_groups ∷ [] else []))) (leaves (Away (SpoolOutputs n specs p)))) all
@@ -89,7 +89,7 @@ module _ {P C : Type 0} {plants : PlantGhosts P} {steadies : SteadyGhosts C} {co
       abbrev as_whole : plants.tells → job_ends h needed Q job specs p ≡ whole
       as_whole t = ap (λ (k : ℕ). job_ends h k Q job specs p) (is t)
 
-      -- it waits for them
+      -- a job's end waits for the spool volumes once it has all its groups
       paused : are_refused needed Q h.by needed ≡ false → (new : Outside) (r : Result SittingEnd NodeNo) → Plays plants.tells h 0 (wrote_of m.batch waits) (place_of x m) new r → Plays plants.tells h 0 (wrote_of [] whole) (place_of x m) new r
       paused all new r q = plays_as plants.tells h 0 (wrote_of m.batch waits) (wrote_of [] whole) (place_of x m) new r
           (λ t. ap (λ (es : List Entry). wrote_of es waits) nothing ∙ ap (wrote_of []) (ends_taken h Q job specs p needed some all ∙ as_whole t)) q
@@ -100,7 +100,7 @@ module _ {P C : Type 0} {plants : PlantGhosts P} {steadies : SteadyGhosts C} {co
           (λ refused. first_error x y m n h w nothing (taking Q h.by needed) (taken_end Q h.by h.step needed) p.left p.done whole (λ t. ends_refused h Q job specs p needed some refused ∙ as_whole t) why g)
           (λ all. paused all (outside y) (Err why) (pause_error plants.tells h (taking Q h.by needed) (taken_end Q h.by h.step needed) (place_of x m) (place_of y n) (own_batch x m h w) 0 (Away (SpoolOutputs job specs p)) why g))
 
-      -- all are taken
+      -- all groups are taken
       pub taken_then : (end : UnitEnd) (given : ℕ) (new : Outside) (r : Result SittingEnd NodeNo) → end ≡ ends.Done → given ≡ length n.batch → Takes (Ok end) → Plays plants.tells h given (wrote_of n.batch (leaves (Away (SpoolOutputs job specs p)))) (place_of y n) new r
           → Plays plants.tells h 0 (wrote_of [] whole) (place_of x m) new r
       taken_then end given new r done many g q = plays_as plants.tells h 0 (wrote_of m.batch waits) (wrote_of [] whole) (place_of x m) new r
@@ -108,7 +108,7 @@ module _ {P C : Type 0} {plants : PlantGhosts P} {steadies : SteadyGhosts C} {co
           (pause_then plants.tells h (taking Q h.by needed) (taken_end Q h.by h.step needed) (place_of x m) (place_of y n) (own_batch x m h w) 0 (Away (SpoolOutputs job specs p)) end given new r g
           (let longer = ap (λ (es : List Entry). length es) (g.left ∙ ap (λ (es : List Entry). es ++ g.es) nothing) in omega (arith, many, longer)) q)
 
-      -- one was refused
+      -- one Take was refused
       pub refused_then : (end : UnitEnd) (new : Outside) (r : Result SittingEnd NodeNo) → (end ≡ ends.Done → ⊥) → Takes (Ok end)
           → Plays plants.tells h (length n.batch) (wrote_after n.batch (goes_on_by h end p.left (units_from h p.left) (queue_here y n) (length n.batch) p.done)) (place_of y n) new r → Plays plants.tells h 0 (wrote_of [] whole) (place_of x m) new r
       refused_then end new r not g q =

@@ -70,11 +70,11 @@ module _ {P C : Type 0} {plants : PlantGhosts P} {steadies : SteadyGhosts C} {co
   pub none_flies : (x : Complex P C plants steadies copies) (m : Member) → AtWork x m → end_of x.placed x.current x.journal.batches ≡ x.journal.batches
   none_flies x m w = none_out x.journal.batches x.journal.batches x.placed x.current refl w.unplaced w.none
 
-  -- with nothing unwritten
+  -- the queue of a member with nothing unwritten is that after the kept batches
   pub kept_here : (x : Complex P C plants steadies copies) (m : Member) → m.batch ≡ [] → queue_here x m ≡ queue_kept x
   kept_here x m nothing = ap (λ (es : List Entry). run x.base (kept_all x.journal.batches ++ es)) nothing ∙ ap (run x.base) (append-nil (kept_all x.journal.batches))
 
-  -- what isn't written was kept
+  -- the queue after what wasn't written was kept
   pub queue_after : (x y : Complex P C plants steadies copies) (m n : Member) → y.base ≡ x.base → AtWork y n → n.batch ≡ []
       → IsKeeping {T = Unit {0}} plants.tells m.id (batches_in (m.batch ∷ [])) x.journal.batches (end_of y.placed y.current y.journal.batches) x.pair.first.alive y.pair.first.alive x.pair.second.alive y.pair.second.alive (plants.view x.plant) (plants.view y.plant) (Ok tt)
       → queue_here y n ≡ queue_here x m

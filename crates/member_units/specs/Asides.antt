@@ -54,7 +54,7 @@ use Rattle.member_units.specs.Ready.{IsJobReady, IsOutputReady}
 
 -- WHAT A MEMBER FOUND
 
--- it read a text
+-- what a member found that read a text
 abbrev pub read_found : Read → Found
 read_found read = record nothing_found { read = read }
 
@@ -95,9 +95,11 @@ module _ {P C : Type 0} (plants : PlantGhosts P) where
   pub record FindsText (x y : Parts P C) (m : Member) (n : JobNo) (found : Found) : Type 0 where
     pub only : found ≡ read_found found.read
     pub fits : IsReadable found.read
-    pub failed : IsFailedRead x.base.config.groups (groups_of (Deck n) m.checkpoint.tables.owners) found.read (v x) (v y)
+    pub failed : IsFailedRead x.base.config.groups (groups_of (Deck n) m.checkpoint.tables.owners) found.read (v x)
+        (v y)
     pub read : plants.tells → AreRoomy (v x) x.base.config → (j : Job) → job_at (queue_of x) n ≡ Some j
-        → IsReadAs plants.tells x.base.config.groups j.text (groups_of (Deck n) (queue_of x).owners) (Some found.read) (v x) (v y)
+        → IsReadAs plants.tells x.base.config.groups j.text (groups_of (Deck n) (queue_of x).owners) (Some found.read)
+        (v x) (v y)
 
   -- Reading, by its answer: no volume is written. Halted comes only where the member was stopped.
   pub record HasRead (x y : Parts P C) (m : Member) (n : JobNo) (result : Result Found NodeNo) : Type 0 where
@@ -115,17 +117,19 @@ module _ {P C : Type 0} (plants : PlantGhosts P) where
     pub enough : groups_of_outputs specs ≤ member_count m.id m.checkpoint.tables.owners
     pub held : plants.tells → All (λ g. IsHeldBy m.id g (queue_of x)) (held_by m.id m.checkpoint.tables.owners)
 
-  -- A volume that was found lost failed in the acts, and one of the groups lies on it; else the texts stand in these, all of it synced.
+  -- A volume that was found lost failed in the acts, and one of the groups lies on it; else the texts stand in these,
+  -- all of it synced.
   pub record FindsPlace (x y : Parts P C) (groups : List GroupNo) (specs : List OutSpec) (found : Found) : Type 0 where
     pub only : found ≡ deck_found found.lost
     pub lost : IsSpoolLost x.base.config.groups groups found.lost (v x) (v y)
     pub there : found.lost ≡ None → plants.tells → AreRoomy (v x) x.base.config
         → AreSpooled (spools_at (v y) (v y).now) x.base.config.groups specs groups
 
-  pub record HasWritten (x y : Parts P C) (m : Member) (specs : List OutSpec) (result : Result Found NodeNo) : Type 0 where
-    pub acts : OnVolumes plants.tells m.id.0 (v x) (v y)
-    pub cause : SpoolStops result m.id.0 (v x) (v y)
-    pub finds : IfOk result (FindsPlace x y (lowest_for m.id m.checkpoint.tables.owners specs) specs)
+  pub record HasWritten (x y : Parts P C) (m : Member) (specs : List OutSpec) (result : Result Found NodeNo) : Type 0
+    where
+      pub acts : OnVolumes plants.tells m.id.0 (v x) (v y)
+      pub cause : SpoolStops result m.id.0 (v x) (v y)
+      pub finds : IfOk result (FindsPlace x y (lowest_for m.id m.checkpoint.tables.owners specs) specs)
 
   -- PRINTING THE NEXT LINES OF AN OUTPUT
 
@@ -137,22 +141,28 @@ module _ {P C : Type 0} (plants : PlantGhosts P) where
     pub none : x.current ≡ None
     pub sound : TellSound m.checkpoint.tables
     pub output : IsOutputReady m.checkpoint.tables m.id n i
-    pub chunk : (Q : Queue) (o : Output) → Tell m.checkpoint.tables Q → output_at Q n i ≡ Some o → last ≡ chunk_end Q m.id o
+    pub chunk : (Q : Queue) (o : Output) → Tell m.checkpoint.tables Q → output_at Q n i ≡ Some o
+        → last ≡ chunk_end Q m.id o
     pub told : plants.tells → Tell m.checkpoint.tables (queue_of x)
     pub roomy : plants.tells → AreRoomy (v x) x.base.config
 
-  -- How the text was read, and whether the printer was found lost; where the unit isn't refused for it, the lines stand on paper.
+  -- How the text was read, and whether the printer was found lost; where the unit isn't refused for it, the lines stand
+  -- on paper.
   pub record FindsLines (x y : Parts P C) (m : Member) (n : JobNo) (i : OutNo) (last : ℕ) (found : Found) : Type 0 where
     pub only : found.lost ≡ None
     pub fits : IsReadable found.read
-    pub failed : IsFailedRead x.base.config.groups (groups_of (OutputThing n i) m.checkpoint.tables.owners) found.read (v x) (v y)
+    pub failed : IsFailedRead x.base.config.groups (groups_of (OutputThing n i) m.checkpoint.tables.owners) found.read
+        (v x) (v y)
     pub read : plants.tells → AreRoomy (v x) x.base.config → (o : Output) → output_at (queue_of x) n i ≡ Some o
-        → IsReadAs plants.tells x.base.config.groups o.text (groups_of (OutputThing n i) (queue_of x).owners) (Some found.read) (v x) (v y)
+        → IsReadAs plants.tells x.base.config.groups o.text (groups_of (OutputThing n i) (queue_of x).owners)
+        (Some found.read) (v x) (v y)
     pub printer : found.printer ≡ true → HasPrinterFailed m.id (v x) (v y)
-    pub counted : printed_end found.printer found.read ≡ None → plants.tells → (o : Output) → output_at (queue_of x) n i ≡ Some o
+    pub counted : printed_end found.printer found.read ≡ None → plants.tells → (o : Output)
+        → output_at (queue_of x) n i ≡ Some o
         → last ≤ o.mark + counts_of y.printed m.id
 
-  pub record HasPrintedNext (x y : Parts P C) (m : Member) (n : JobNo) (i : OutNo) (last : ℕ) (result : Result Found NodeNo) : Type 0 where
+  pub record HasPrintedNext (x y : Parts P C) (m : Member) (n : JobNo) (i : OutNo) (last : ℕ)
+      (result : Result Found NodeNo) : Type 0 where
     pub acts : IsBeside plants.tells (v x) (v y)
     pub cause : SpoolStops result m.id.0 (v x) (v y)
     pub finds : IfOk result (FindsLines x y m n i last)
@@ -163,17 +173,20 @@ module _ {P C : Type 0} {plants : PlantGhosts P} {steadies : SteadyGhosts C} {co
   abbrev pub MayReadText : Complex P C plants steadies copies → Member → JobNo → Type 0
   MayReadText x m n = MayRead plants (parts_of x) m n
 
-  abbrev pub ReadsText : Complex P C plants steadies copies → Complex P C plants steadies copies → Member → JobNo → Result Found NodeNo → Type 0
+  abbrev pub ReadsText : Complex P C plants steadies copies → Complex P C plants steadies copies → Member → JobNo
+      → Result Found NodeNo → Type 0
   ReadsText x y m n result = HasRead plants (parts_of x) (parts_of y) m n result
 
   abbrev pub MayWriteOutputs : Complex P C plants steadies copies → Member → List OutSpec → Type 0
   MayWriteOutputs x m specs = MayWrite plants (parts_of x) m specs
 
-  abbrev pub WritesOutputs : Complex P C plants steadies copies → Complex P C plants steadies copies → Member → List OutSpec → Result Found NodeNo → Type 0
+  abbrev pub WritesOutputs : Complex P C plants steadies copies → Complex P C plants steadies copies → Member
+      → List OutSpec → Result Found NodeNo → Type 0
   WritesOutputs x y m specs result = HasWritten plants (parts_of x) (parts_of y) m specs result
 
   abbrev pub MayPrintLines : Complex P C plants steadies copies → Member → JobNo → OutNo → ℕ → Type 0
   MayPrintLines x m n i last = MayPrintNext plants (parts_of x) m n i last
 
-  abbrev pub PrintsLines : Complex P C plants steadies copies → Complex P C plants steadies copies → Member → JobNo → OutNo → ℕ → Result Found NodeNo → Type 0
+  abbrev pub PrintsLines : Complex P C plants steadies copies → Complex P C plants steadies copies → Member → JobNo
+      → OutNo → ℕ → Result Found NodeNo → Type 0
   PrintsLines x y m n i last result = HasPrintedNext plants (parts_of x) (parts_of y) m n i last result

@@ -24,7 +24,8 @@ use Rattle.member_units.specs.declared.nexts.Next.{Next}
 use Rattle.member_units.specs.declared.nexts.Next.TheVariants as next
 use Rattle.member_units.specs.Ready.{IsReadyFor}
 
--- what follows, where so many units may follow the next one, so many are done, and so many commands are given in the sitting
+-- what follows, where so many units may follow the next one, so many are done, and so many commands are given in the
+-- sitting
 abbrev pub turn_by : Holder → Next → ℕ → Queue → ℕ → ℕ → Turn
 turn_by h (next.Give c) left Q given done = one_command h c left (units_from h left) Q given done
 turn_by h (next.Wait aside) left Q given done = waits_for h aside

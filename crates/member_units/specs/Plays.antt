@@ -26,13 +26,18 @@ pub record Wrote : Type 0 where
   pub next : State
   pub lines : List (List ℕ)
 
--- where these entries aren't written yet, and this is still to come
+-- what a sitting writes, where these entries aren't written yet and this turn is still to come
 abbrev pub wrote_of : List Entry → Turn → Wrote
 wrote_of so_far t = record { batches = cut so_far t.parts; next = t.next; lines = t.lines }
 
--- the same after a whole part: what isn't written is written first where it is a full batch
+-- what a sitting writes after a whole part: what isn't written is written first where it is a full batch
 abbrev pub wrote_after : List Entry → Turn → Wrote
-wrote_after es t = record { batches = cut_after es (λ unwritten. cut unwritten t.parts); next = t.next; lines = t.lines }
+wrote_after es t = record {
+  batches = cut_after es (λ unwritten. cut unwritten t.parts);
+  next = t.next;
+  lines
+      = t.lines;
+}
 
 abbrev pub full_of : List Entry → List (List Entry)
 full_of es = if is_full es then es ∷ [] else []
@@ -48,23 +53,28 @@ rests h (suc left) given = is_spent h.grant h.hold given
 -- A CALL THAT KEEPS BATCHES, or with which the step closes, by what others see before it and after it
 
 abbrev pub Keeps : {T : Type 0} → Type 0 → MemberId → List (List Entry) → Outside → Outside → Result T NodeNo → Type 0
-Keeps told by ess old new r = IsKeeping told by ess old.batches new.batches old.first new.first old.second new.second old.view new.view r
+Keeps told by ess old new r = IsKeeping told by ess old.batches new.batches old.first new.first old.second new.second
+    old.view new.view r
 
-abbrev pub Closes : {T : Type 0} → Type 0 → MemberId → List (List ℕ) → List (List Entry) → Outside → Outside → Result T NodeNo → Type 0
-Closes told by lines ess old new r = IsClosing told by lines ess old.batches new.batches old.first new.first old.second new.second old.view new.view r
+abbrev pub Closes : {T : Type 0} → Type 0 → MemberId → List (List ℕ) → List (List Entry) → Outside → Outside
+    → Result T NodeNo → Type 0
+Closes told by lines ess old new r = IsClosing told by lines ess old.batches new.batches old.first new.first old.second
+    new.second old.view new.view r
 
 -- no volume is written, and nothing is printed
 pub record SparesVolumes (old new : Outside) : Type 0 where
   pub others : IsOnlyOn old.view new.view
   pub papers : SamePapers old.view new.view
 
--- what it answers: the next state, how many commands the sitting gave, and what becomes of the lock
+-- what a sitting answers: the next state, how many commands it gave, and what becomes of the lock
 abbrev pub EndsAs : Holder → ℕ → List Entry → Wrote → SittingEnd → Type 0
-EndsAs h given so_far w e = (e.next ≡ w.next) × (e.given + length so_far ≡ given + length (all_entries w.batches)) × (e.release ≡ released h.grant h.hold e.given e.next)
+EndsAs h given so_far w e = (e.next ≡ w.next) × (e.given + length so_far ≡ given + length (all_entries w.batches))
+    × (e.release ≡ released h.grant h.hold e.given e.next)
 
--- The rest of a sitting in which so many commands are given: what it writes is kept as its answer says. Where content is told it writes
--- this.
-pub record Plays (told : Type 0) (h : Holder) (given : ℕ) (w : Wrote) (old : Place) (new : Outside) (result : Result SittingEnd NodeNo) : Type 0 where
+-- The rest of a sitting in which so many commands are given: what it writes is kept as its answer says. Where content
+-- is told it writes this.
+pub record Plays (told : Type 0) (h : Holder) (given : ℕ) (w : Wrote) (old : Place) (new : Outside)
+    (result : Result SittingEnd NodeNo) : Type 0 where
   pub wrote : Wrote
   pub is : told → wrote ≡ w
   pub of : All (AreOf h.by h.step) wrote.batches
@@ -79,8 +89,10 @@ abbrev pub given_by : {T : Type 0} → Result T NodeNo → List Entry → List (
 given_by (Ok end) es = []
 given_by (Err why) es = batch_of es
 
--- The last commands of a unit, which aren't written yet then. Where content is told they are these, and the unit ends so.
-pub record HasGiven (told : Type 0) (h : Holder) (cs : List Command) (e : UnitEnd) (old new : Place) (result : Result UnitEnd NodeNo) : Type 0 where
+-- The last commands of a unit, which aren't written yet then. Where content is told they are these, and the unit ends
+-- so.
+pub record HasGiven (told : Type 0) (h : Holder) (cs : List Command) (e : UnitEnd) (old new : Place)
+    (result : Result UnitEnd NodeNo) : Type 0 where
   pub es : List Entry
   pub is : told → es ≡ given_in old.queue h.by h.step cs
   pub of : AreOf h.by h.step es

@@ -1,4 +1,5 @@
--- What holds where a sitting of work leaves a step that waits for acts, and what has to hold where it goes on after them.
+-- What holds where a sitting of work leaves a step that waits for acts, and what has to hold where it goes on after
+-- them.
 use Rattle.std.specs.Prelude.{◌≡◌, ℕ, ◌≤◌, true, false, List, take, None, Option}
 use Rattle.mas_types.specs.declared.commands.Command.{Command}
 use Rattle.mas_types.specs.declared.commands.Command.TheVariants as command
@@ -66,17 +67,22 @@ abbrev pub IsReady : Tables → MemberId → State → Type 0
 IsReady t by (Away aside) = IsReadyFor t by aside
 IsReady t by _ = Unit {0}
 
--- WHERE IT GOES ON, by what was found
+-- WHERE A STEP GOES ON, by what was found
 
 -- the job's outputs stand in the lowest groups of the member, unless a volume of theirs was found lost
-pub record OutputsStand (told : Type 0) (Q : Queue) (by : MemberId) (disks : Spools) (per : ℕ) (n : JobNo) (specs : List OutSpec) (lost : Option ℕ) : Type 0 where
+pub record OutputsStand (told : Type 0) (Q : Queue) (by : MemberId) (disks : Spools) (per : ℕ) (n : JobNo)
+    (specs : List OutSpec) (lost : Option ℕ) : Type 0 where
   pub job : told → IsUnderWay Q n
-  pub there : lost ≡ None → told → AreSpooled disks per (outputs_at_end (job_at Q n) specs) (take (groups_for_end Q n specs) (held_by by Q.owners))
+  pub there : lost ≡ None → told
+      → AreSpooled disks per (outputs_at_end (job_at Q n) specs) (take (groups_for_end Q n specs) (held_by by Q.owners))
 
--- A step may go on with a job that is under way still, whose text was read, or whose outputs stand there; or with an output whose lines stand
--- on paper, unless one couldn't be printed.
+-- A step may go on with a job that is under way still, whose text was read, or whose outputs stand there; or with an
+-- output whose lines stand on paper, unless one couldn't be printed.
 abbrev pub MayResume : Type 0 → Queue → MemberId → Spools → (MemberId → ℕ) → Aside → Found → Type 0
 MayResume told Q by disks counts (SpoolDeck n text) found = ⊥
-MayResume told Q by disks counts (ReadText runs n fields p) found = IsJobFields fields × IsReadable found.read × (told → IsUnderWay Q n)
-MayResume told Q by disks counts (SpoolOutputs n specs p) found = AreOutputs specs × OutputsStand told Q by disks Q.config.groups n specs found.lost
-MayResume told Q by disks counts (PrintLines n i last p) found = IsIndex i.0 × (printed_end found.printer found.read ≡ None → told → IsMarkRight Q by (counts by) (command.Mark n i last))
+MayResume told Q by disks counts (ReadText runs n fields p) found = IsJobFields fields × IsReadable found.read
+    × (told → IsUnderWay Q n)
+MayResume told Q by disks counts (SpoolOutputs n specs p) found = AreOutputs specs
+    × OutputsStand told Q by disks Q.config.groups n specs found.lost
+MayResume told Q by disks counts (PrintLines n i last p) found = IsIndex i.0
+    × (printed_end found.printer found.read ≡ None → told → IsMarkRight Q by (counts by) (command.Mark n i last))

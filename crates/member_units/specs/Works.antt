@@ -27,7 +27,8 @@ use Rattle.mas_complex.specs.Parts.{parts_of}
 use Rattle.step_turns.specs.declared.states.State.{State}
 use Rattle.member_sittings.specs.Whole.{IsBounded, IsLeftIn, IsSeat, IsSitting}
 
--- what others see of a shared value: what its plant shows, the journal with a batch in flight at its end, and which copies count as alive
+-- what others see of a shared value: what its plant shows, the journal with a batch in flight at its end, and which
+-- copies count as alive
 pub record Outside : Type 0 where
   pub view : View
   pub batches : List Batch
@@ -49,7 +50,13 @@ pub record Run : Type 0 where
 
 module _ {P C : Type 0} {plants : PlantGhosts P} {steadies : SteadyGhosts C} {copies : CopyGhosts C} where
   abbrev pub outside : Complex P C plants steadies copies → Outside
-  outside x = record { view = plants.view x.plant; batches = end_of x.placed x.current x.journal.batches; first = x.pair.first.alive; second = x.pair.second.alive }
+  outside x = record {
+    view = plants.view x.plant;
+    batches = end_of x.placed x.current x.journal.batches;
+    first
+        = x.pair.first.alive;
+    second = x.pair.second.alive;
+  }
 
   abbrev pub run_of : Complex P C plants steadies copies → Member → Run
   run_of x m = record { base = x.base; since = x.since; book = x.book; id = m.id }
@@ -64,7 +71,8 @@ module _ {P C : Type 0} {plants : PlantGhosts P} {steadies : SteadyGhosts C} {co
   abbrev pub place_of : Complex P C plants steadies copies → Member → Place
   place_of x m = record { outside = outside x; queue = queue_here x m; batch = m.batch }
 
-  -- The member holds the lock in this step. Its batch has what it gave since the last one was kept, and no line tells the step.
+  -- The member holds the lock in this step. Its batch has what it gave since the last one was kept, and no line tells
+  -- the step.
   pub record Works (x : Complex P C plants steadies copies) (m : Member) (h : Holder) : Type 0 where
     pub own : h.by ≡ m.id
     pub may : MayAct x.book m.id
@@ -73,11 +81,14 @@ module _ {P C : Type 0} {plants : PlantGhosts P} {steadies : SteadyGhosts C} {co
     pub seated : IsMember x.book m.id
     pub member : is_member x.base.config m.id ≡ true
     pub base_sound : plants.tells → IsSound x.base
-    pub work : IsAtWork plants.tells (plants.view x.plant) x.since x.base x.journal.batches x.current x.placed x.level x.reserved x.printed m.id m.batch m.checkpoint m.room m.behind
+    pub work : IsAtWork plants.tells (plants.view x.plant) x.since x.base x.journal.batches x.current x.placed x.level
+        x.reserved x.printed m.id m.batch m.checkpoint m.room m.behind
     pub of : AreOf m.id h.step m.batch
     pub untold : plants.tells → IsStepUntold (setting copies.reads x.base x.since) m.id h.step (plants.view x.plant)
-    pub copy1 : HasCopy plants.tells x.pair.first.alive x.first (copies.count x.pair.first.copy) (copies.room x.pair.first.copy) m.checkpoint.pages (copies.reads (disk_now (plants.view x.plant) Ckpt1).bytes)
-    pub copy2 : HasCopy plants.tells x.pair.second.alive x.second (copies.count x.pair.second.copy) (copies.room x.pair.second.copy) m.checkpoint.pages (copies.reads (disk_now (plants.view x.plant) Ckpt2).bytes)
+    pub copy1 : HasCopy plants.tells x.pair.first.alive x.first (copies.count x.pair.first.copy)
+        (copies.room x.pair.first.copy) m.checkpoint.pages (copies.reads (disk_now (plants.view x.plant) Ckpt1).bytes)
+    pub copy2 : HasCopy plants.tells x.pair.second.alive x.second (copies.count x.pair.second.copy)
+        (copies.room x.pair.second.copy) m.checkpoint.pages (copies.reads (disk_now (plants.view x.plant) Ckpt2).bytes)
 
   -- levels and orders leave room for so many commands and batches more
   pub record HasRoom (x : Complex P C plants steadies copies) (m : Member) (k : ℕ) : Type 0 where
@@ -85,11 +96,12 @@ module _ {P C : Type 0} {plants : PlantGhosts P} {steadies : SteadyGhosts C} {co
     pub high : m.checkpoint.level + k < 2 ^ 63
     pub level : x.level + k < too_high
 
-  -- a call that uses room for one of them
-  abbrev pub UsesOne : Complex P C plants steadies copies → Member → Complex P C plants steadies copies → Member → Type 0
+  -- a call that uses room for one batch
+  abbrev pub UsesOne : Complex P C plants steadies copies → Member → Complex P C plants steadies copies → Member
+      → Type 0
   UsesOne x m y n = (k : ℕ) → HasRoom x m (k + 1) → HasRoom y n k
 
-  -- one that leaves room for as many as a step may need, and for as many batches as there was
+  -- a call that leaves room for as many commands and batches as a step may need, where levels do
   abbrev pub LeavesRoom : Complex P C plants steadies copies → Complex P C plants steadies copies → Member → Type 0
   LeavesRoom x y n = (k : ℕ) → k ≤ 20000 → x.level + k < too_high → HasRoom y n k
 

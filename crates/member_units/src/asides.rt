@@ -1,4 +1,5 @@
-//! Acts of a step of work that want no lock: a job's text is read, its outputs are written, an output's next lines are printed.
+//! Acts of a step of work that want no lock: a job's text is read, its outputs are written, an output's next lines are
+//! printed.
 ghost use Rattle.std.specs.Prelude.{◌≡◌, true, false, None, Some};
 ghost use Rattle.mas_types.specs.declared.answers.Closing.TheVariants.{PrinterLost};
 ghost use Rattle.mas_complex.specs.Parts.{parts_of};
@@ -68,8 +69,8 @@ fn found_printed(read: Read, end: Option<Closing>) -> Found
     }
 }
 
-/// Reads the text of a job that is run or converted. It needs no lock: whoever holds it, the book, the copies and the journal are as they
-/// were. A text that was gone when the run began isn't read. Answers how it was read.
+/// Reads the text of a job that is run or converted. It needs no lock: whoever holds it, the book, the copies and the
+/// journal are as they were. A text that was gone when the run began isn't read. Answers how it was read.
 ///
 /// NoMemory leaves all as it was. Halted comes only where the member was stopped.
 pub fn read_job_text<P: Plant + Drop, C: Steady + Drop>(
@@ -79,7 +80,8 @@ pub fn read_job_text<P: Plant + Drop, C: Steady + Drop>(
     job: JobNo,
 ) -> Result<Found, NodeNo>
     requires { MayReadText complex.old member.now job }
-    ensures frame { parts_of complex.new ≡ record (parts_of complex.old) { plant = complex.new.plant; printed = complex.new.printed } }
+    ensures frame { parts_of complex.new
+        ≡ record (parts_of complex.old) { plant = complex.new.plant; printed = complex.new.printed } }
     ensures reads { ReadsText complex.old complex.new member.now job result }
 {
     if let Some(group) = gone_deck(complex, job) {
@@ -99,9 +101,9 @@ pub fn read_job_text<P: Plant + Drop, C: Steady + Drop>(
     Ok(found_read(read))
 }
 
-/// Writes the texts of a job's outputs into the lowest groups of the member, as many as they need, and syncs the volumes on which they lie.
-/// It needs no lock: whoever holds it, the book, the copies and the journal are as they were. Answers the volume that was found lost, if one
-/// was.
+/// Writes the texts of a job's outputs into the lowest groups of the member, as many as they need, and syncs the
+/// volumes on which they lie. It needs no lock: whoever holds it, the book, the copies and the journal are as they
+/// were. Answers the volume that was found lost, if one was.
 ///
 /// NoMemory leaves all as it was. Halted comes only where the member was stopped.
 pub fn write_outputs<P: Plant + Drop, C: Steady + Drop>(
@@ -125,9 +127,9 @@ pub fn write_outputs<P: Plant + Drop, C: Steady + Drop>(
     )
 }
 
-/// Reads the text of the output that is busy at the member and prints its lines up to this one on the member's printer, but for those that
-/// the member has printed since its last Pick, Mark, Back or Forward. It needs no lock. A text that was gone when the run began isn't read.
-/// Answers how the text was read, and whether the printer was found lost.
+/// Reads the text of the output that is busy at the member and prints its lines up to this one on the member's printer,
+/// except those that the member has printed since its last Pick, Mark, Back or Forward. It needs no lock. A text that
+/// was gone when the run began isn't read. Answers how the text was read, and whether the printer was found lost.
 ///
 /// NoMemory leaves the first of the lines on paper, perhaps. Halted comes only where the member was stopped.
 pub fn print_next_lines<P: Plant + Drop, C: Steady + Drop>(
@@ -139,7 +141,14 @@ pub fn print_next_lines<P: Plant + Drop, C: Steady + Drop>(
     last: u32,
 ) -> Result<Found, NodeNo>
     requires { MayPrintLines complex.old member.now job output last }
-    ensures frame { parts_of complex.new ≡ record (parts_of complex.old) { plant = complex.new.plant; printed = complex.new.printed; book = complex.new.book; reserved = complex.new.reserved } }
+    ensures frame { parts_of complex.new
+        ≡ record (parts_of complex.old) {
+          plant = complex.new.plant;
+          printed = complex.new.printed;
+          book = complex.new.book;
+          reserved
+              = complex.new.reserved;
+        } }
     ensures prints { PrintsLines complex.old complex.new member.now job output last result }
 {
     if let Some(group) = gone_output(complex, job, output) {

@@ -30,7 +30,8 @@ pub(crate) fn leave<P: Plant + Drop, C: Steady + Drop>(
     requires works { Works complex.old member.old holder }
     requires room { HasRoom complex.old member.old 1 }
     ensures run { run_of complex.new member.new ≡ run_of complex.old member.old }
-    ensures plays { Plays P.tells holder given (wrote_of member.old.batch (leaves next)) (place_of complex.old member.old) (outside complex.new) result }
+    ensures plays { Plays P.tells holder given (wrote_of member.old.batch (leaves next))
+        (place_of complex.old member.old) (outside complex.new) result }
     ensures tables { member.new.checkpoint.tables ≡ member.old.checkpoint.tables }
     ensures next { IfOk result (λ e. e.next ≡ next) }
     ensures nothing { OnOk result (member.new.batch ≡ []) }
@@ -47,8 +48,8 @@ pub(crate) fn leave<P: Plant + Drop, C: Steady + Drop>(
     })
 }
 
-/// Ends a sitting in which so many commands were given, and its step, which closes so: what isn't written is kept, and then the line is
-/// said. All memory for the line is taken before.
+/// Ends a sitting in which so many commands were given, and its step, which closes so: what isn't written is kept, and
+/// then the line is said. All memory for the line is taken before.
 pub(crate) fn close<P: Plant + Drop, C: Steady + Drop>(
     member: &mut Member,
     alloc: Global,
@@ -61,7 +62,9 @@ pub(crate) fn close<P: Plant + Drop, C: Steady + Drop>(
     requires room { HasRoom complex.old member.old 1 }
     requires named { AreMembersNamed end.now }
     ensures run { run_of complex.new member.new ≡ run_of complex.old member.old }
-    ensures plays { Plays P.tells holder given (wrote_of member.old.batch (says (closing_line holder.by holder.step end.now ∷ []))) (place_of complex.old member.old) (outside complex.new) result }
+    ensures plays { Plays P.tells holder given
+        (wrote_of member.old.batch (says (closing_line holder.by holder.step end.now ∷ [])))
+        (place_of complex.old member.old) (outside complex.new) result }
     ensures told { IfOk result (λ e. e.next ≡ Told) }
     ensures nothing { OnOk result (member.new.batch ≡ []) }
     ensures seat { OnOk result (HasSeat complex.new member.new) }

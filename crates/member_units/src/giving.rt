@@ -43,7 +43,8 @@ pub(crate) fn keep<P: Plant + Drop, C: Steady + Drop>(
     requires works { Works complex.old member.old holder }
     requires room { HasRoom complex.old member.old 1 }
     ensures run { run_of complex.new member.new ≡ run_of complex.old member.old }
-    ensures keeps { Keeps P.tells holder.by (batch_of member.old.batch) (outside complex.old) (outside complex.new) result }
+    ensures keeps { Keeps P.tells holder.by (batch_of member.old.batch) (outside complex.old) (outside complex.new)
+        result }
     ensures spares { P.tells → SparesVolumes (outside complex.old) (outside complex.new) }
     ensures tables { member.new.checkpoint.tables ≡ member.old.checkpoint.tables }
     ensures nothing { OnOk result (member.new.batch ≡ []) }
@@ -66,7 +67,8 @@ pub(crate) fn keep_full<P: Plant + Drop, C: Steady + Drop>(
     requires works { Works complex.old member.old holder }
     requires room { HasRoom complex.old member.old 1 }
     ensures run { run_of complex.new member.new ≡ run_of complex.old member.old }
-    ensures keeps { Keeps P.tells holder.by (full_of member.old.batch) (outside complex.old) (outside complex.new) result }
+    ensures keeps { Keeps P.tells holder.by (full_of member.old.batch) (outside complex.old) (outside complex.new)
+        result }
     ensures spares { P.tells → SparesVolumes (outside complex.old) (outside complex.new) }
     ensures left { OnOk result (member.new.batch ≡ after_full member.old.batch) }
     ensures few { OnOk result (length member.new.batch < 64) }
@@ -94,9 +96,12 @@ pub(crate) fn give<P: Plant + Drop, C: Steady + Drop>(
     requires room { HasRoom complex.old member.old 1 }
     requires few { length member.old.batch < 64 }
     requires may { MayBeGiven complex.old.base member.old.id command }
-    requires right { P.tells → IsMarkRight (queue_here complex.old member.old) member.old.id (counts_after member.old.batch (counts_of complex.old.printed) member.old.id) command }
+    requires right { P.tells → IsMarkRight (queue_here complex.old member.old) member.old.id
+        (counts_after member.old.batch (counts_of complex.old.printed) member.old.id) command }
     ensures run { run_of complex.new member.new ≡ run_of complex.old member.old }
-    ensures given { HasGiven P.tells holder (command ∷ []) (end_by (closing_reply (given_in (queue_here complex.old member.old) holder.by holder.step (command ∷ [])))) (place_of complex.old member.old) (place_of complex.new member.new) result }
+    ensures given { HasGiven P.tells holder (command ∷ [])
+        (end_by (closing_reply (given_in (queue_here complex.old member.old) holder.by holder.step (command ∷ []))))
+        (place_of complex.old member.old) (place_of complex.new member.new) result }
     ensures named { IfOk result IsNamedEnd }
     ensures works { OnOk result (Works complex.new member.new holder) }
     ensures order { OnOk result (member.new.checkpoint.tables.order ≤ member.old.checkpoint.tables.order + 32) }
@@ -108,7 +113,8 @@ pub(crate) fn give<P: Plant + Drop, C: Steady + Drop>(
     Ok(end)
 }
 
-/// Takes so many groups for a job's outputs; after a refused Take the member's groups become free. Nothing is unwritten before.
+/// Takes so many groups for a job's outputs; after a refused Take the member's groups become free. Nothing is unwritten
+/// before.
 pub(crate) fn take_groups<P: Plant + Drop, C: Steady + Drop>(
     member: &mut Member,
     alloc: Global,
@@ -122,7 +128,9 @@ pub(crate) fn take_groups<P: Plant + Drop, C: Steady + Drop>(
     requires nothing { member.old.batch ≡ [] }
     requires needed { 1 ≤ needed }
     ensures run { run_of complex.new member.new ≡ run_of complex.old member.old }
-    ensures given { HasGiven P.tells holder (taking (queue_here complex.old member.old) holder.by needed) (taken_end (queue_here complex.old member.old) holder.by holder.step needed) (place_of complex.old member.old) (place_of complex.new member.new) result }
+    ensures given { HasGiven P.tells holder (taking (queue_here complex.old member.old) holder.by needed)
+        (taken_end (queue_here complex.old member.old) holder.by holder.step needed) (place_of complex.old member.old)
+        (place_of complex.new member.new) result }
     ensures named { IfOk result IsNamedEnd }
     ensures works { OnOk result (Works complex.new member.new holder) }
     ensures room { OnOk result (LeavesRoom complex.old complex.new member.new) }
@@ -133,8 +141,8 @@ pub(crate) fn take_groups<P: Plant + Drop, C: Steady + Drop>(
     Ok(end)
 }
 
-/// Gives Ended with these outputs, whose texts stand in the member's groups unless the job was cancelled; after a refused one the member's
-/// groups become free. Nothing is unwritten before.
+/// Gives Ended with these outputs, whose texts stand in the member's groups unless the job was cancelled; after a
+/// refused one the member's groups become free. Nothing is unwritten before.
 pub(crate) fn end_job<P: Plant + Drop, C: Steady + Drop>(
     member: &mut Member,
     alloc: Global,
@@ -149,9 +157,15 @@ pub(crate) fn end_job<P: Plant + Drop, C: Steady + Drop>(
     requires nothing { member.old.batch ≡ [] }
     requires outputs { AreOutputs outputs }
     requires under_way { P.tells → IsUnderWay (queue_kept complex.old) job }
-    requires spooled { P.tells → AreSpooled (spools_at (P.view complex.old.plant) (P.view complex.old.plant).now) complex.old.base.config.groups (outputs_at_end (job_at (queue_kept complex.old) job) outputs) (take (groups_for_end (queue_kept complex.old) job outputs) (held_by member.old.id (queue_kept complex.old).owners)) }
+    requires spooled { P.tells → AreSpooled (spools_at (P.view complex.old.plant) (P.view complex.old.plant).now)
+        complex.old.base.config.groups (outputs_at_end (job_at (queue_kept complex.old) job) outputs)
+        (take (groups_for_end (queue_kept complex.old) job outputs)
+        (held_by member.old.id (queue_kept complex.old).owners)) }
     ensures run { run_of complex.new member.new ≡ run_of complex.old member.old }
-    ensures given { HasGiven P.tells holder (ending (queue_here complex.old member.old) holder.by job outputs) (end_by (closing_reply (given_in (queue_here complex.old member.old) holder.by holder.step (ending (queue_here complex.old member.old) holder.by job outputs)))) (place_of complex.old member.old) (place_of complex.new member.new) result }
+    ensures given { HasGiven P.tells holder (ending (queue_here complex.old member.old) holder.by job outputs)
+        (end_by (closing_reply (given_in (queue_here complex.old member.old) holder.by holder.step
+        (ending (queue_here complex.old member.old) holder.by job outputs)))) (place_of complex.old member.old)
+        (place_of complex.new member.new) result }
     ensures named { IfOk result IsNamedEnd }
     ensures works { OnOk result (Works complex.new member.new holder) }
     ensures room { OnOk result (LeavesRoom complex.old complex.new member.new) }
@@ -174,7 +188,8 @@ pub(crate) fn free_groups<P: Plant + Drop, C: Steady + Drop>(
     requires level { complex.old.level + 1 < 2 ^ 63 }
     requires nothing { member.old.batch ≡ [] }
     ensures run { run_of complex.new member.new ≡ run_of complex.old member.old }
-    ensures given { HasGiven P.tells holder (drop_groups ∷ []) (Refused (SpoolLost volume)) (place_of complex.old member.old) (place_of complex.new member.new) result }
+    ensures given { HasGiven P.tells holder (drop_groups ∷ []) (Refused (SpoolLost volume))
+        (place_of complex.old member.old) (place_of complex.new member.new) result }
     ensures named { IfOk result IsNamedEnd }
     ensures works { OnOk result (Works complex.new member.new holder) }
     ensures room { OnOk result (LeavesRoom complex.old complex.new member.new) }

@@ -1,5 +1,5 @@
-//! A member's sittings of a step of work: units of one command, one after another, up to one that reads a text, to a spent hold, or to the
-//! step's end. And the acts of such a step that want no lock.
+//! A member's sittings of a step of work: units of one command, one after another, up to one that reads a text, to a
+//! spent hold, or to the step's end. And the acts of such a step that want no lock.
 #![tactic(auto)]
 
 mod asides;

@@ -64,14 +64,15 @@ fn next_lines(member: &Member, job: JobNo, output: OutNo, progress: Progress) ->
     }
 }
 
-/// The next unit of the member, by its tables, where so many units are done and so many may still be played: the first that applies, from
-/// the printer's on.
+/// The next unit of the member, by its tables, where so many units are done and so many may still be played: the first
+/// that applies, from the printer's on.
 pub fn next_unit(member: &Member, progress: Progress) -> Next
     requires by { member.now.id.0 ≤ members_most }
     requires spelling { HasSpelling member.now.checkpoint.tables }
     requires fit { AreFit member.now.checkpoint.tables }
     ensures unit { (Q : Queue) (h : HolderLem) (given : ℕ) → h.by ≡ member.now.id → Tell member.now.checkpoint.tables Q
-        → units_from h progress.left Q given progress.done ≡ turn_by h result (progress.left - 1) Q given progress.done }
+        → units_from h progress.left Q given progress.done
+        ≡ turn_by h result (progress.left - 1) Q given progress.done }
     ensures none { progress.left ≡ 0 → result ≡ Nothing }
     ensures waits { WaitsFor progress result }
     ensures right { IsRightNext member.now.checkpoint.tables member.now.id result }

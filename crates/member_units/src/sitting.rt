@@ -38,7 +38,7 @@ use spool_volumes::law_of_read_texts;
 use std::alloc::Global;
 use step_turns::{Aside, Found, Holder, Progress, State};
 
-// A job that ends with these outputs, in a step that stands so.
+// A job that ends with these outputs, in a step with this progress.
 #[derive(Drop)]
 struct JobEnd {
     job: JobNo,
@@ -46,14 +46,14 @@ struct JobEnd {
     progress: Progress,
 }
 
-// A job under way, in a step that stands so.
+// A job under way, in a step with this progress.
 #[derive(Clone, Copy)]
 struct UnderWay {
     job: JobNo,
     progress: Progress,
 }
 
-// An output whose lines were to be printed up to this one, in a step that stands so.
+// An output whose lines were to be printed up to this one, in a step with this progress.
 #[derive(Clone, Copy)]
 struct Lines {
     job: JobNo,
@@ -75,14 +75,19 @@ fn outputs_stand<P: Plant + Drop, C: Steady + Drop>(
     requires low { IsLow complex.old member.old }
     requires nothing { member.old.batch ≡ [] }
     requires outputs { AreOutputs ends.outputs }
-    requires stand { OutputsStand P.tells (queue_kept complex.old) member.old.id (spools_at (P.view complex.old.plant) (P.view complex.old.plant).now) (queue_kept complex.old).config.groups ends.job ends.outputs lost }
+    requires stand { OutputsStand P.tells (queue_kept complex.old) member.old.id
+        (spools_at (P.view complex.old.plant) (P.view complex.old.plant).now) (queue_kept complex.old).config.groups
+        ends.job ends.outputs lost }
     requires level { complex.old.level + ends.progress.left + 4 < too_high }
     requires units { ends.progress.done + ends.progress.left < 9999 }
     ensures run { run_of complex.new member.new ≡ run_of complex.old member.old }
-    ensures plays { Plays P.tells holder 0 (wrote_of [] (outputs_stand_lem holder lost (queue_here complex.old member.old) ends.job ends.outputs ends.progress)) (place_of complex.old member.old) (outside complex.new) result }
+    ensures plays { Plays P.tells holder 0
+        (wrote_of [] (outputs_stand_lem holder lost (queue_here complex.old member.old) ends.job ends.outputs
+        ends.progress)) (place_of complex.old member.old) (outside complex.new) result }
     ensures again { IfOk result (λ e. SitsIn e.next complex.new member.new holder.step) }
     ensures ready { IfOk result (λ e. IsReady member.new.checkpoint.tables member.new.id e.next) }
-    ensures reached { IfOk result (λ e. complex.new.level + units_left e.next ≤ complex.old.level + ends.progress.left + 2) }
+    ensures reached { IfOk result (λ e. complex.new.level + units_left e.next
+        ≤ complex.old.level + ends.progress.left + 2) }
 {
     match lost {
         Some(volume) => {
@@ -112,10 +117,14 @@ fn job_ends<P: Plant + Drop, C: Steady + Drop>(
     requires level { complex.old.level + ends.progress.left + 4 < too_high }
     requires units { ends.progress.done + ends.progress.left < 9999 }
     ensures run { run_of complex.new member.new ≡ run_of complex.old member.old }
-    ensures plays { Plays P.tells holder 0 (wrote_of [] (job_ends_lem holder (groups_for_end_lem (queue_here complex.old member.old) ends.job ends.outputs) (queue_here complex.old member.old) ends.job ends.outputs ends.progress)) (place_of complex.old member.old) (outside complex.new) result }
+    ensures plays { Plays P.tells holder 0
+        (wrote_of [] (job_ends_lem holder (groups_for_end_lem (queue_here complex.old member.old) ends.job ends.outputs)
+        (queue_here complex.old member.old) ends.job ends.outputs ends.progress)) (place_of complex.old member.old)
+        (outside complex.new) result }
     ensures again { IfOk result (λ e. SitsIn e.next complex.new member.new holder.step) }
     ensures ready { IfOk result (λ e. IsReady member.new.checkpoint.tables member.new.id e.next) }
-    ensures reached { IfOk result (λ e. complex.new.level + units_left e.next ≤ complex.old.level + ends.progress.left + 2) }
+    ensures reached { IfOk result (λ e. complex.new.level + units_left e.next
+        ≤ complex.old.level + ends.progress.left + 2) }
 {
     law_of_groups();
     law_of_read_texts();
@@ -154,10 +163,13 @@ fn text_read<P: Plant + Drop, C: Steady + Drop>(
     requires level { complex.old.level + job.progress.left + 4 < too_high }
     requires units { job.progress.done + job.progress.left < 9999 }
     ensures run { run_of complex.new member.new ≡ run_of complex.old member.old }
-    ensures plays { Plays P.tells holder 0 (wrote_of [] (text_read_lem holder outcome (queue_here complex.old member.old) job.job job.progress)) (place_of complex.old member.old) (outside complex.new) result }
+    ensures plays { Plays P.tells holder 0
+        (wrote_of [] (text_read_lem holder outcome (queue_here complex.old member.old) job.job job.progress))
+        (place_of complex.old member.old) (outside complex.new) result }
     ensures again { IfOk result (λ e. SitsIn e.next complex.new member.new holder.step) }
     ensures ready { IfOk result (λ e. IsReady member.new.checkpoint.tables member.new.id e.next) }
-    ensures reached { IfOk result (λ e. complex.new.level + units_left e.next ≤ complex.old.level + job.progress.left + 2) }
+    ensures reached { IfOk result (λ e. complex.new.level + units_left e.next
+        ≤ complex.old.level + job.progress.left + 2) }
 {
     match outcome {
         Outcome::Convert => {
@@ -177,7 +189,8 @@ fn text_read<P: Plant + Drop, C: Steady + Drop>(
     }
 }
 
-// How the unit is refused once the text was read and the lines were to be printed; none where each of them stands on paper.
+// How the unit is refused once the text was read and the lines were to be printed; none where each of them stands on
+// paper.
 fn printed_end(found: &Found) -> Option<Closing>
     ensures is { result ≡ printed_end_lem found.now.printer found.now.read }
     ensures named { IfSome result AreMembersNamed }
@@ -204,14 +217,19 @@ fn lines_printed<P: Plant + Drop, C: Steady + Drop>(
     requires nothing { member.old.batch ≡ [] }
     requires index { IsIndex lines.output.0 }
     requires named { IfSome end AreMembersNamed }
-    requires right { end ≡ None → P.tells → IsMarkRight (queue_kept complex.old) member.old.id (counts_of complex.old.printed member.old.id) (Mark lines.job lines.output lines.last) }
+    requires right { end ≡ None → P.tells
+        → IsMarkRight (queue_kept complex.old) member.old.id (counts_of complex.old.printed member.old.id)
+        (Mark lines.job lines.output lines.last) }
     requires level { complex.old.level + lines.progress.left + 4 < too_high }
     requires units { lines.progress.done + lines.progress.left < 9999 }
     ensures run { run_of complex.new member.new ≡ run_of complex.old member.old }
-    ensures plays { Plays P.tells holder 0 (wrote_of [] (lines_printed_lem holder end (queue_here complex.old member.old) lines.job lines.output lines.last lines.progress)) (place_of complex.old member.old) (outside complex.new) result }
+    ensures plays { Plays P.tells holder 0
+        (wrote_of [] (lines_printed_lem holder end (queue_here complex.old member.old) lines.job lines.output lines.last
+        lines.progress)) (place_of complex.old member.old) (outside complex.new) result }
     ensures again { IfOk result (λ e. SitsIn e.next complex.new member.new holder.step) }
     ensures ready { IfOk result (λ e. IsReady member.new.checkpoint.tables member.new.id e.next) }
-    ensures reached { IfOk result (λ e. complex.new.level + units_left e.next ≤ complex.old.level + lines.progress.left + 2) }
+    ensures reached { IfOk result (λ e. complex.new.level + units_left e.next
+        ≤ complex.old.level + lines.progress.left + 2) }
 {
     match end {
         Some(end) => close(member, alloc, complex, holder, &end, 0),
@@ -239,14 +257,19 @@ fn resume<P: Plant + Drop, C: Steady + Drop>(
     requires works { Works complex.old member.old holder }
     requires low { IsLow complex.old member.old }
     requires nothing { member.old.batch ≡ [] }
-    requires may { MayResume P.tells (queue_kept complex.old) member.old.id (spools_at (P.view complex.old.plant) (P.view complex.old.plant).now) (counts_of complex.old.printed) aside found }
+    requires may { MayResume P.tells (queue_kept complex.old) member.old.id
+        (spools_at (P.view complex.old.plant) (P.view complex.old.plant).now) (counts_of complex.old.printed) aside
+        found }
     requires level { complex.old.level + aside_units aside + 3 < too_high }
     requires units { aside_done aside + aside_units aside ≤ 9999 }
     ensures run { run_of complex.new member.new ≡ run_of complex.old member.old }
-    ensures plays { Plays P.tells holder 0 (wrote_of [] (aside_turn holder (queue_here complex.old member.old) aside found)) (place_of complex.old member.old) (outside complex.new) result }
+    ensures plays { Plays P.tells holder 0
+        (wrote_of [] (aside_turn holder (queue_here complex.old member.old) aside found))
+        (place_of complex.old member.old) (outside complex.new) result }
     ensures again { IfOk result (λ e. SitsIn e.next complex.new member.new holder.step) }
     ensures ready { IfOk result (λ e. IsReady member.new.checkpoint.tables member.new.id e.next) }
-    ensures reached { IfOk result (λ e. complex.new.level + units_left e.next ≤ complex.old.level + aside_units aside + 1) }
+    ensures reached { IfOk result (λ e. complex.new.level + units_left e.next
+        ≤ complex.old.level + aside_units aside + 1) }
 {
     match aside {
         Aside::SpoolDeck { .. } => unreachable!(),
@@ -292,15 +315,15 @@ fn resume<P: Plant + Drop, C: Steady + Drop>(
     }
 }
 
-/// A sitting of a step of work that is at its beginning, or whose hold was spent between two units: so many units are done, and so many may
-/// still be played. They are played one after another, from the printer's on, until one waits for acts without the lock, the hold is spent
-/// between two units, none applies, or one is refused. What they give is kept in batches, as soon as one is full and at the sitting's end;
-/// then the step's line is said where it closes. The member holds the lock and has read the copies. No text is read or written here, and no
-/// line is printed.
+/// A sitting of a step of work that is at its beginning, or whose hold was spent between two units: so many units are
+/// done, and so many may still be played. They are played one after another, from the printer's on, until one waits for
+/// acts without the lock, the hold is spent between two units, none applies, or one is refused. What they give is kept
+/// in batches, as soon as one is full and at the sitting's end; then the step's line is said where it closes. The
+/// member holds the lock and has read the copies. No text is read or written here, and no line is printed.
 ///
-/// NoMemory leaves the first ones of the sitting's batches, or all of them, and of the next one perhaps what was done of it. BothLost and
-/// Halted perhaps leave one in flight after them. ConsoleFault comes once all are kept, at the line. After any of the four errors the member
-/// can't go on.
+/// NoMemory leaves the first ones of the sitting's batches, or all of them, and of the next one perhaps what was done
+/// of it. BothLost and Halted perhaps leave one in flight after them. ConsoleFault comes once all are kept, at the
+/// line. After any of the four errors the member can't go on.
 pub fn sit_work<P: Plant + Drop, C: Steady + Drop>(
     member: &mut Member,
     alloc: Global,
@@ -315,7 +338,8 @@ pub fn sit_work<P: Plant + Drop, C: Steady + Drop>(
     ensures frame { parts_of complex.new ≡ sat_in (parts_of complex.new) (parts_of complex.old) }
     ensures id { member.new.id ≡ member.old.id }
     ensures sat { HasSat (begins holder (Rested progress)) complex.old complex.new result }
-    ensures fresh { progress.done ≡ 0 → HasSat (begins holder (Fresh (WorkTask progress.left))) complex.old complex.new result }
+    ensures fresh { progress.done ≡ 0
+        → HasSat (begins holder (Fresh (WorkTask progress.left))) complex.old complex.new result }
     ensures again { IfOk result (λ e. SitsIn e.next complex.new member.new holder.step) }
     ensures waits { IfOk result (λ e. IsReady member.new.checkpoint.tables member.new.id e.next) }
     ensures reached { IfOk result (λ e. complex.new.level + units_left e.next ≤ complex.old.level + progress.left + 1) }
@@ -323,9 +347,10 @@ pub fn sit_work<P: Plant + Drop, C: Steady + Drop>(
     begin(member, alloc, complex, holder, progress)
 }
 
-/// A sitting of a step of work after acts for which a unit waited, by what was found in them: the job is converted or ends, or the lines are
-/// marked, or the unit is refused; and further units follow as in `sit_work`. A job that ends with outputs waits once more, until their
-/// texts stand in the groups that are taken for them. Its errors are those of `sit_work`.
+/// A sitting of a step of work after acts for which a unit waited, by what was found in them: the job is converted or
+/// ends, or the lines are marked, or the unit is refused; and further units follow as in `sit_work`. A job that ends
+/// with outputs waits once more, until their texts stand in the groups that are taken for them. Its errors are those of
+/// `sit_work`.
 pub fn resume_work<P: Plant + Drop, C: Steady + Drop>(
     member: &mut Member,
     alloc: Global,
@@ -336,7 +361,9 @@ pub fn resume_work<P: Plant + Drop, C: Steady + Drop>(
 ) -> Result<SittingEnd, NodeNo>
     requires sits { MaySit complex.old member.old holder }
     requires base_sound { P.tells → IsSound complex.old.base }
-    requires may { MayResume P.tells (queue_kept complex.old) member.old.id (spools_at (P.view complex.old.plant) (P.view complex.old.plant).now) (counts_of complex.old.printed) aside found }
+    requires may { MayResume P.tells (queue_kept complex.old) member.old.id
+        (spools_at (P.view complex.old.plant) (P.view complex.old.plant).now) (counts_of complex.old.printed) aside
+        found }
     requires level { complex.old.level + aside_units aside + 3 < too_high }
     requires units { aside_done aside + aside_units aside ≤ 9999 }
     ensures frame { parts_of complex.new ≡ sat_in (parts_of complex.new) (parts_of complex.old) }
@@ -344,7 +371,8 @@ pub fn resume_work<P: Plant + Drop, C: Steady + Drop>(
     ensures sat { HasSat (resumes holder aside found) complex.old complex.new result }
     ensures again { IfOk result (λ e. SitsIn e.next complex.new member.new holder.step) }
     ensures waits { IfOk result (λ e. IsReady member.new.checkpoint.tables member.new.id e.next) }
-    ensures reached { IfOk result (λ e. complex.new.level + units_left e.next ≤ complex.old.level + aside_units aside + 1) }
+    ensures reached { IfOk result (λ e. complex.new.level + units_left e.next
+        ≤ complex.old.level + aside_units aside + 1) }
 {
     resume(member, alloc, complex, holder, aside, found)
 }

@@ -41,8 +41,9 @@ fn rests(holder: Holder, at: Reached) -> bool
     }
 }
 
-/// Goes on after a unit that ended so, whose last commands aren't written: units are played one after another, as many as may follow at
-/// most, until one waits for acts without the lock, the hold is spent between two units, none applies, or one is refused.
+/// Goes on after a unit that ended so, whose last commands aren't written: units are played one after another, as many
+/// as may follow at most, until one waits for acts without the lock, the hold is spent between two units, none applies,
+/// or one is refused.
 pub(crate) fn go_on<P: Plant + Drop, C: Steady + Drop>(
     member: &mut Member,
     alloc: Global,
@@ -57,10 +58,14 @@ pub(crate) fn go_on<P: Plant + Drop, C: Steady + Drop>(
     requires named { IsNamedEnd end }
     requires units { from.progress.done + from.progress.left < 9999 }
     ensures run { run_of complex.new member.new ≡ run_of complex.old member.old }
-    ensures plays { Plays P.tells holder from.given (wrote_after member.old.batch (goes_on_by holder end from.progress.left (units_from holder from.progress.left) (queue_here complex.old member.old) from.given from.progress.done)) (place_of complex.old member.old) (outside complex.new) result }
+    ensures plays { Plays P.tells holder from.given
+        (wrote_after member.old.batch (goes_on_by holder end from.progress.left (units_from holder from.progress.left)
+        (queue_here complex.old member.old) from.given from.progress.done)) (place_of complex.old member.old)
+        (outside complex.new) result }
     ensures again { IfOk result (λ e. SitsIn e.next complex.new member.new holder.step) }
     ensures ready { IfOk result (λ e. IsReady member.new.checkpoint.tables member.new.id e.next) }
-    ensures reached { IfOk result (λ e. complex.new.level + units_left e.next ≤ complex.old.level + from.progress.left + 2) }
+    ensures reached { IfOk result (λ e. complex.new.level + units_left e.next
+        ≤ complex.old.level + from.progress.left + 2) }
 {
     let mut end = end;
     let mut at = from;
@@ -112,7 +117,10 @@ pub(crate) fn go_on_after<P: Plant + Drop, C: Steady + Drop>(
     requires named { IsNamedEnd end }
     requires units { progress.done + progress.left < 9999 }
     ensures run { run_of complex.new member.new ≡ run_of complex.old member.old }
-    ensures plays { Plays P.tells holder (length member.old.batch) (wrote_after member.old.batch (goes_on_by holder end progress.left (units_from holder progress.left) (queue_here complex.old member.old) (length member.old.batch) progress.done)) (place_of complex.old member.old) (outside complex.new) result }
+    ensures plays { Plays P.tells holder (length member.old.batch)
+        (wrote_after member.old.batch (goes_on_by holder end progress.left (units_from holder progress.left)
+        (queue_here complex.old member.old) (length member.old.batch) progress.done)) (place_of complex.old member.old)
+        (outside complex.new) result }
     ensures again { IfOk result (λ e. SitsIn e.next complex.new member.new holder.step) }
     ensures ready { IfOk result (λ e. IsReady member.new.checkpoint.tables member.new.id e.next) }
     ensures reached { IfOk result (λ e. complex.new.level + units_left e.next ≤ complex.old.level + progress.left + 2) }
@@ -135,7 +143,9 @@ pub(crate) fn begin<P: Plant + Drop, C: Steady + Drop>(
     requires room { HasRoom complex.old member.old (progress.left + 3) }
     requires units { progress.done + progress.left ≤ 9999 }
     ensures run { run_of complex.new member.new ≡ run_of complex.old member.old }
-    ensures plays { Plays P.tells holder 0 (wrote_of [] (units_from holder progress.left (queue_here complex.old member.old) 0 progress.done)) (place_of complex.old member.old) (outside complex.new) result }
+    ensures plays { Plays P.tells holder 0
+        (wrote_of [] (units_from holder progress.left (queue_here complex.old member.old) 0 progress.done))
+        (place_of complex.old member.old) (outside complex.new) result }
     ensures again { IfOk result (λ e. SitsIn e.next complex.new member.new holder.step) }
     ensures ready { IfOk result (λ e. IsReady member.new.checkpoint.tables member.new.id e.next) }
     ensures reached { IfOk result (λ e. complex.new.level + units_left e.next ≤ complex.old.level + progress.left + 1) }

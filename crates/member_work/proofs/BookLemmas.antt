@@ -9,7 +9,7 @@ use Rattle.member_decks.specs.Steps.{SpoolStops}
 use Rattle.member_work.specs.Printing.{IsBookAfterLines}
 use Rattle.member_work.specs.Steps.{EndsWith, LeavesBook}
 
--- THE MEMBER HOLDS IT
+-- THE MEMBER HOLDS THE LOCK
 
 pub ends_same : (e : NodeNo) (by : MemberId) (held is : Book) → is ≡ held → EndsWith e by held is
 ends_same BothLost by held is same = same

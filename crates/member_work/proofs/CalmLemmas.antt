@@ -161,7 +161,7 @@ module _ (told : Type 0) (per : ℕ) (by : MemberId) (at : ℕ) (old new : View)
   first_calm r rs ends.Idle e seen = idle_unit r.queue by at r.look (unit_of r.queue by) e
   first_calm r rs (ends.Refused end) e seen = calm_unit r.queue r.look (unit_of r.queue by) (All-head (IsRound told per by at old new) r [] seen)
 
-  -- what is given, and how the step closes, by the first unit's end and what comes behind it
+  -- what is given, and how the step closes, by the first unit's end and what comes after it
   abbrev parts_by : UnitEnd → List (List Entry) → List (List (List Entry)) → List (List (List Entry))
   parts_by ends.Done parts more = parts ∷ more
   parts_by ends.Idle parts more = []
@@ -177,7 +177,7 @@ module _ (told : Type 0) (per : ℕ) (by : MemberId) (at : ℕ) (old new : View)
   closing_first ends.Idle r rs k e = refl
   closing_first (ends.Refused end) r rs k e = ap (λ (w : UnitEnd). closing_by w k (closing_behind by at (k + 1) [])) e
 
-  -- what comes behind matters only where the first is done
+  -- what comes after a unit matters only where it is done
   parts_behind : (end : UnitEnd) (parts : List (List Entry)) (r : Round) (xs ys : List Round) → (Seen xs → parts_of by at xs ≡ parts_of by at ys) → Seen (rounds_by end r xs) → parts_by end parts (parts_of by at xs) ≡ parts_by end parts (parts_of by at ys)
   parts_behind ends.Done parts r xs ys same seen = ap (λ (more : List (List (List Entry))). parts ∷ more) (same (All-tail (IsRound told per by at old new) r xs seen))
   parts_behind ends.Idle parts r xs ys same seen = refl

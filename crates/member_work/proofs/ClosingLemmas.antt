@@ -28,7 +28,7 @@ module _ (by : MemberId) where
   all_then from mid now (es ∷ ess) more (b ∷ bs) cs first then all rest = (kept_later es from mid now b then all.0, all_then b.last mid now ess more bs cs all.0.moments.2 then all.1 rest)
 
 module _ (told : Type 0) (by : MemberId) where
-  -- batches are kept, and others behind them before the line is said
+  -- batches are kept, and others after them before the line is said
   pub closing_then : {S : Type 0} (done : S) (r : Result (Unit {0}) NodeNo) (lines : List (List ℕ)) (ess more : List (List Entry)) (front mid batches : List Batch) (a a' a'' b b' b'' : Bool) (v0 v1 v2 : View)
       → IsKeeping told by ess front mid a a' b b' v0 v1 (Ok done) → IsClosing told by lines more mid batches a' a'' b' b'' v1 v2 r → IsClosing told by lines (ess ++ more) front batches a a'' b b'' v0 v2 r
   closing_then done r lines ess more front mid batches a a' a'' b b' b'' v0 v1 v2 one two =

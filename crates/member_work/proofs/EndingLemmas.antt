@@ -49,7 +49,7 @@ use Rattle.member_work.proofs.LeavesLemmas.{StartsAs}
 
 -- A PART OF WHICH THE FIRST COMMANDS WERE GIVEN
 
--- the entries behind as many others
+-- the entries after as many others
 abbrev strip : List Entry → List Entry → List Entry
 strip [] l = l
 strip (x ∷ xs) [] = []
@@ -88,7 +88,7 @@ module _ (by : MemberId) (at : ℕ) (es all : List Entry) where
   abbrev Tail : List Entry
   Tail = padded dummy (strip es all)
 
-  -- they are all of them where the first ones were given
+  -- the entries of a list that were given first, and those after them, are the whole list
   whole_is : LeaveOut es all → es ++ Tail ≡ all
   whole_is part =
       let behind : strip es all ≡ part.0 = ap (strip es) part.1 ∙ strip_front es part.0 in
@@ -265,7 +265,7 @@ module _ (told : Type 0) (v : View) (since : ℕ) (base : Queue) (batches : List
 pub end_none : (placed : Bool) (current : Option Batch) (batches : List Batch) → placed ≡ false → current ≡ None → end_of placed current batches ≡ batches
 end_none placed current batches unplaced none = rw (unplaced, none) refl
 
--- under the member's own name
+-- entries of a member under its own name
 pub of_by : (by by' : MemberId) (at : ℕ) (es : List Entry) → by' ≡ by → AreOf by at es → AreOf by' at es
 of_by by by' at es same of = subst (λ (i : MemberId). AreOf i at es) (sym same) of
 

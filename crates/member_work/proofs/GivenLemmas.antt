@@ -47,7 +47,7 @@ use Rattle.member_work.proofs.CalmLemmas.{reply_ends}
 use Rattle.member_work.proofs.KeepingLemmas.{keeping_error, keeping_none, keeping_starts}
 use Rattle.member_work.proofs.LeavesLemmas.{StartsAs}
 
--- ITS REPLY
+-- THE REPLY TO A COMMAND
 
 pub one_reply : (batch batch' : List Entry) (by : MemberId) (at : ℕ) (c : Command) (r s : Reply) → batch' ≡ batch ++ entry_with by at c r ∷ [] → batch' ≡ batch ++ entry_with by at c s ∷ [] → r ≡ s
 one_reply batch batch' by at c r s one two = reply_done batch batch' (entry_with by at c r) (last_reply batch') one refl ∙ sym (reply_done batch batch' (entry_with by at c s) (last_reply batch') two refl)
@@ -89,7 +89,7 @@ module _ (told : Type 0) (by : MemberId) (at : ℕ) (c : Command) (Q : Queue) (s
   starts [] e = tt
   starts (x ∷ l) e = (omega arith, (e ∷ [], refl))
 
-  -- memory wanted for it
+  -- out of memory for the unit's command
   pub not_commanded : (e : NodeNo) → IsKeeping {T = Unit {0}} told by (batches_in (so_far ∷ [])) front batches was1 is1 was2 is2 old new (Err e) → Commanded (Err e)
   not_commanded e k =
       let r = reply_to Q by c in
@@ -107,7 +107,7 @@ module _ (told : Type 0) (by : MemberId) (at : ℕ) (c : Command) (Q : Queue) (s
         };
       }
 
--- it was given
+-- the unit's command was given
 pub commanded : (told : Type 0) (by : MemberId) (at : ℕ) (c : Command) (Q : Queue) (so_far is_left : List Entry) (front batches : List Batch) (a b : Bool) (v : View) (end : UnitEnd) (r : Reply) → batches ≡ front → is_left ≡ so_far ++ entry_with by at c r ∷ [] → end ≡ end_by r → (told → r ≡ reply_to Q by c)
     → IsCommanded told by at c Q so_far is_left front batches a a b b v v (Ok end)
 commanded told by at c Q so_far is_left front batches a b v end r same is ends_so told_so = record {
@@ -123,7 +123,7 @@ commanded told by at c Q so_far is_left front batches a b v end r same is ends_s
   };
 }
 
--- AT WORK BEHIND IT
+-- AT WORK AFTER A COMMAND
 
 can_still : (k n : Checkpoint) → CanDraw k → n.pages ≡ k.pages → n.level ≡ k.level → n.levels ≡ k.levels → n.tables.config ≡ k.tables.config → HasSpelling n.tables → CanDraw n
 can_still k n draws pages level levels config spelling = record {
@@ -186,7 +186,7 @@ module _ (told : Type 0) (v : View) (since : ℕ) (base : Queue) (batches : List
           allowed = λ t. subst (λ (es : List Entry). MayBegin base batches printed es) (sym is) (more_begins base by batches printed batch at c r may command_fits (right t) (w.allowed t));
         }
 
-    -- the texts behind it, which brings none
+    -- the texts after a command that brings none
     pub texts_behind : OthersLeaveTexts → ToldAreTheirOwn → is_plain c ≡ true → (told → r ≡ reply_to Q by c) → (told → ∥ HasTexts (lost_now v) (spools_at v v.now) base.config.groups (run base (kept_all batches)) ∥₁)
         → told → ∥ HasTexts (lost_now v) (spools_at v v.now) base.config.groups (run base (kept_all batches ++ batch')) ∥₁
     texts_behind law own plain reply has t =

@@ -175,7 +175,7 @@ module _ (Q : Queue) (by : MemberId) (at : ℕ) (c : Command) where
   pub gives_where : {T E : Type 0} (cs : List Command) (holds more : Spools → ℕ → Type 0) (m n : Member) (r : Result T E) → ((disks : Spools) (per : ℕ) → more disks per → holds disks per) → GivesAt Q by at cs holds m n r → GivesAt Q by at cs more m n r
   gives_where cs holds more m n r to one = record { gave = one.gave; batch = one.batch; part = one.part; effect = one.effect; texts = λ gone disks per h has. one.texts gone disks per (to disks per h) has }
 
-  -- by another answer
+  -- commands that were given, by another answer
   pub gives_ok : {T E S F : Type 0} (cs : List Command) (holds more : Spools → ℕ → Type 0) (m n : Member) (x : T) (y : S) → ((disks : Spools) (per : ℕ) → more disks per → holds disks per) → GivesAt {E = E} Q by at cs holds m n (Ok x) → GivesAt {E = F} Q by at cs more m n (Ok y)
   gives_ok cs holds more m n x y to one = record { gave = one.gave; batch = one.batch; part = one.part; effect = one.effect; texts = λ gone disks per h has. one.texts gone disks per (to disks per h) has }
 
@@ -262,7 +262,7 @@ module _ (Q : Queue) (by : MemberId) where
       let left = free_taken by want Q.owners in
       rw e (omega (arith, left, same, less)))
 
-  -- and so many more the member has
+  -- a member has at least as many groups as a Take gave it
   pub has_more : (want n : ℕ) → (step Q by (command.Take want)).1 ≡ reply.Count n → n ≤ member_count by (step Q by (command.Take want)).0.owners
   has_more want n is =
       test_cases (free_count Q.owners == 0) (n ≤ member_count by (step Q by (command.Take want)).0.owners)
@@ -272,14 +272,14 @@ module _ (Q : Queue) (by : MemberId) where
       let more = count_taken by want Q.owners in
       rw e (omega (arith, more, same)))
 
-  -- then the next is refused
+  -- a Take is refused where no group is free
   pub next_refused : (want n : ℕ) → free_count Q.owners ≡ 0 → (step Q by (command.Take want)).1 ≡ reply.Count n → ⊥
   next_refused want n none is =
       let e : (free_count Q.owners == 0) ≡ true = eq-eqb (free_count Q.owners) 0 none in
       let w = rw e at is in
       cc
 
-  -- and what is refused doesn't end as done
+  -- a Take that is refused doesn't end as done
   pub take_not_done : (want : ℕ) → ((n : ℕ) → (step Q by (command.Take want)).1 ≡ reply.Count n → ⊥) → end_by (reply_to Q by (command.Take want)) ≡ ends.Done → ⊥
   take_not_done want other is =
       test_cases (free_count Q.owners == 0) ⊥
@@ -317,7 +317,7 @@ module _ (Q : Queue) (by : MemberId) where
   ends_by : (at needed : ℕ) (b : Bool) → are_refused needed Q by needed ≡ b → taken_end Q by at needed ≡ (if b then end_by (closing_reply (given_in Q by at (taking Q by needed))) else ends.Done)
   ends_by at needed b refused = ap (λ (a : Bool). if a then end_by (closing_reply (given_in Q by at (taking Q by needed))) else ends.Done) refused
 
--- the first is refused
+-- the first Take is refused
 module _ (Q : Queue) (by : MemberId) (at needed : ℕ) (some : 1 ≤ needed) (other : (n : ℕ) → (step Q by (command.Take needed)).1 ≡ reply.Count n → ⊥) where
   pub taking_refused : taking Q by needed ≡ command.Take needed ∷ drop_groups ∷ []
   taking_refused =
@@ -329,7 +329,7 @@ module _ (Q : Queue) (by : MemberId) (at needed : ℕ) (some : 1 ≤ needed) (ot
       let none = none_left Q by needed (step Q by (command.Take needed)).1 other in
       ends_by Q by at needed true (refused_one Q by needed needed some some none) ∙ ap (λ (cs : List Command). end_by (closing_reply (given_in Q by at cs))) taking_refused
 
--- it takes all
+-- the first Take takes all groups that are needed
 module _ (Q : Queue) (by : MemberId) (at needed : ℕ) (some : 1 ≤ needed) (got : (step Q by (command.Take needed)).1 ≡ reply.Count needed) where
   all_of : (n : ℕ) → needed ≡ n → (takes needed Q by needed ≡ command.Take needed ∷ []) × (are_refused needed Q by needed ≡ false)
   all_of zero is = absurd (omega (arith, is, some))
@@ -349,7 +349,7 @@ module _ (Q : Queue) (by : MemberId) (at needed : ℕ) (some : 1 ≤ needed) (go
   pub end_all : taken_end Q by at needed ≡ ends.Done
   end_all = ends_by Q by at needed false (all_of needed refl).1
 
--- it takes some, and the next is refused
+-- the first Take takes some of the groups, and the next one is refused
 module _ (Q : Queue) (by : MemberId) (at needed n : ℕ) (some : 1 ≤ needed) (got : (step Q by (command.Take needed)).1 ≡ reply.Count n) (less : n < needed) where
   abbrev Q1 : Queue
   Q1 = (step Q by (command.Take needed)).0
@@ -380,7 +380,7 @@ module _ (Q : Queue) (by : MemberId) (at needed n : ℕ) (some : 1 ≤ needed) (
 pub gives_as : {T E : Type 0} (Q : Queue) (by : MemberId) (at : ℕ) (cs ds : List Command) (holds : Spools → ℕ → Type 0) (m n : Member) (r : Result T E) → cs ≡ ds → GivesAt Q by at ds holds m n r → GivesAt Q by at cs holds m n r
 gives_as Q by at cs ds holds m n r is one = subst (λ (l : List Command). GivesAt Q by at l holds m n r) (sym is) one
 
--- memory wanted for the first Take
+-- out of memory for the first Take
 first_take : (Q : Queue) (by : MemberId) (needed : ℕ) → 1 ≤ needed → (rest : List Command) × (taking Q by needed ≡ command.Take needed ∷ rest)
 first_take Q by zero some = absurd (omega (arith, some))
 first_take Q by (suc needed) some = (_, refl)

@@ -124,7 +124,7 @@ module _ (n : JobNo) where
   abbrev Is : Option GroupNo → Job → Type 0
   Is g j = has_number n j ≡ true → gone_with j.text ≡ g
 
-  -- numbers are different, and so it is of each job
+  -- the jobs' numbers are different, and the text of each job of this number is gone with this group
   record Are (g : Option GroupNo) (js : List Job) : Type 0 where
     pub numbers : AreDistinct same js
     pub texts : All (Is g) js

@@ -130,7 +130,7 @@ module _ (n : JobNo) (i : OutNo) where
       by_refusal None e said = subst (λ (left : Queue × Reply). IsAs None (output_at left.0 n i)) (sym (done-effect Q (ended_row Q m b.job b.specs) e)) (ended_as Q m b.job b.specs sound e b.same)
       by_refusal (Some why) e said = absurd (let other = ap (λ (left : Queue × Reply). left.1) (sym (done-refused Q (ended_row Q m b.job b.specs) why e)) ∙ said in cc)
 
-  -- an output comes only so
+  -- an output comes only by a command that may make it
   came : (Q : Queue) (m : MemberId) (c : Command) (o : Output) → output_at Q n i ≡ None → output_at (step Q m c).0 n i ≡ Some o → MayMake c o → brings_outputs n c (step Q m c).1 ≡ false → ⊥
   came Q m (command.Ended k specs) o was is made not = by_refusal (first_some (ended_row Q m k specs).refusals) refl where
     keyed : has_key n i o ≡ true

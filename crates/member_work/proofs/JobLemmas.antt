@@ -61,7 +61,7 @@ use Rattle.member_work.proofs.WrittenLemmas.{outcome_two}
 pub found_number : (n : JobNo) (slots : List (Option JobRec)) (r : JobRec) → find (λ (x : JobRec). same_number x.number n) (listed order_of slots) ≡ Some r → r.number ≡ n
 found_number n slots r e = same_numbers r.number n (find-All (λ (y : JobRec). Unit {0}) (λ (x : JobRec). same_number x.number n) (listed order_of slots) r (λ k d lt. tt) e).1
 
--- ITS TEXT
+-- A JOB'S TEXT
 
 pub whole_text : (t : Text) → gone_with t ≡ None → IsWhole t
 whole_text (Whole lines) none = tt
@@ -77,7 +77,7 @@ gone_text : (t : Text) (g : GroupNo) → gone_with t ≡ Some g → as_it_is t �
 gone_text (Whole lines) g is = absurd (cc)
 gone_text (Gone group count) g is = ap read.Gone (one group g is)
 
--- one that was gone isn't read
+-- a job's text that was gone isn't read
 pub looked_gone : (told : Type 0) (runs : Bool) (per : ℕ) (by : MemberId) (Q : Queue) (n : JobNo) (v w : View) (g : GroupNo) → (told → (j : Job) → job_at Q n ≡ Some j → Some g ≡ gone_with j.text) → IsLookedAt told runs per by Q n v w (outcome.Stop (closing.NoText g))
 looked_gone told runs per by Q n v w g gone = record {
   found = None;
@@ -85,7 +85,7 @@ looked_gone told runs per by Q n v w g gone = record {
   caused = tt;
 }
 
--- over a wider stretch
+-- what was seen of a text in a stretch was seen in a wider one
 pub wider_looked : (told : Type 0) (runs : Bool) (per : ℕ) (by : MemberId) (Q : Queue) (n : JobNo) (old from till new : View) (o : Outcome) → Goes old from → Goes till new → IsLookedAt told runs per by Q n from till o → IsLookedAt told runs per by Q n old new o
 wider_looked told runs per by Q n old from till new o before after seen = record {
   found = seen.found;
@@ -93,7 +93,7 @@ wider_looked told runs per by Q n old from till new o before after seen = record
   caused = wider_stop by old from till new before after o seen.caused;
 }
 
--- WHAT BECOMES OF IT has one part or two
+-- WHAT BECOMES OF A JOB has one part or two
 
 some_parts : (es : List Entry) (parts : List (List Entry)) → 1 ≤ length (es ∷ parts)
 some_parts es parts = omega arith
@@ -204,7 +204,7 @@ module _ (told : Type 0) (runs : Bool) (by : MemberId) (at per : ℕ) (Q : Queue
         };
       }
 
-  -- it wasn't, or the lock wasn't taken again
+  -- the job's text wasn't read, or the lock wasn't taken again
   pub text_unread : (why : NodeNo) (batches : List Batch) (a a' b b' : Bool) (v w : View) → IsKeeping {T = Outcome} told by [] front batches a a' b b' v w (Err why) → IsTextStep told runs by at per Q n is_left front batches a a' b b' v w (Err why)
   text_unread why batches a a' b b' v w keeps = by_job (job_at Q n) refl where
     kept : (ess : List (List Entry)) → IsKeeping {T = UnitEnd} told by ess front batches a a' b b' v w (Err why)
@@ -316,7 +316,7 @@ module _ (told : Type 0) (runs : Bool) (by : MemberId) (at per : ℕ) (Q : Queue
     spends = on_two r (λ left is. is ∙ ap length left ∙ sym (spent_text spent text.parts text.some)) text.played.left spends;
   }
 
-  -- it isn't
+  -- what was given before the job isn't kept
   pub job_unkept : {S : Type 0} (why : NodeNo) (batches : List Batch) (a a' b b' : Bool) (v w : View) → IsKeeping {T = S} told by (batches_in (so_far ∷ [])) front batches a a' b b' v w (Err why) → Jobs batches a a' b b' v w (Err why)
   job_unkept {S} why batches a a' b b' v w keeps = by_job (job_at Q n) refl where
     kept : IsKeeping {T = UnitEnd} told by (batches_in (so_far ∷ [])) front batches a a' b b' v w (Err why)

@@ -29,7 +29,7 @@ never_console T by BothLost a a' b b' v w cause is = absurd (cc)
 never_console T by Halted a a' b b' v w cause is = absurd (cc)
 
 module _ {T : Type 0} (told : Type 0) (by : MemberId) where
-  -- an answer's cause, behind another part
+  -- an answer's cause, after another part
   copy_then : (r : Result T NodeNo) (a a' a'' b b' b'' : Bool) (v0 v1 v2 : View) → CopyCauses {T = Unit {0}} (Ok tt) by.0 a a' b b' v0 v1 → v0.stops by.0 ≤ v1.stops by.0 → CopyCauses r by.0 a' a'' b' b'' v1 v2 → CopyCauses r by.0 a a'' b b'' v0 v2
   copy_then (Ok done) a a' a'' b b' b'' v0 v1 v2 left goes cause = left_then a a' a'' b b' b'' left cause
   copy_then (Err NoMemory) a a' a'' b b' b'' v0 v1 v2 left goes cause = left_then a a' a'' b b' b'' left cause
@@ -37,7 +37,7 @@ module _ {T : Type 0} (told : Type 0) (by : MemberId) where
   copy_then (Err Halted) a a' a'' b b' b'' v0 v1 v2 left goes cause = (left_then a a' a'' b b' b'' left cause.0, rose_later (v0.stops by.0) (v1.stops by.0) (v2.stops by.0) goes cause.1)
   copy_then (Err ConsoleFault) a a' a'' b b' b'' v0 v1 v2 left goes cause = absurd cause
 
-  -- ONE CALL BEHIND ANOTHER
+  -- ONE CALL AFTER ANOTHER
 
   pub keeping_then : {S : Type 0} (s : S) (r : Result T NodeNo) (ess more : List (List Entry)) (front mid batches : List Batch) (a a' a'' b b' b'' : Bool) (v0 v1 v2 : View)
       → IsKeeping {T = S} told by ess front mid a a' b b' v0 v1 (Ok s) → IsKeeping told by more mid batches a' a'' b' b'' v1 v2 r → IsKeeping told by (ess ++ more) front batches a a'' b b'' v0 v2 r
@@ -65,7 +65,7 @@ module _ {T : Type 0} (told : Type 0) (by : MemberId) where
     quiet = k.quiet;
   }
 
--- by the answer of another type
+-- what an error keeps, by the answer of another type
 pub keeping_error : {S T : Type 0} (told : Type 0) (by : MemberId) (e : NodeNo) (ess : List (List Entry)) (front batches : List Batch) (a a' b b' : Bool) (v w : View) → IsKeeping {T = S} told by ess front batches a a' b b' v w (Err e) → IsKeeping {T = T} told by ess front batches a a' b b' v w (Err e)
 keeping_error {S} {T} told by e ess front batches a a' b b' v w k = record { course = k.course; loses = k.loses; cause = causes e k.cause; spares = k.spares; rest = k.rest; batches_are = k.batches_are; journal = leaves e k.journal; quiet = k.quiet } where
   causes : (e : NodeNo) → CopyCauses {T = S} (Err e) by.0 a a' b b' v w → CopyCauses {T = T} (Err e) by.0 a a' b b' v w
@@ -86,11 +86,11 @@ keeping_ok told by s t ess front batches a a' b b' v w k = record { course = k.c
 -- SINGLE CALLS
 
 module _ {T : Type 0} (told : Type 0) (by : MemberId) (front batches : List Batch) (same : batches ≡ front) where
-  -- none
+  -- a call that keeps nothing and ends well
   pub keeping_none : (t : T) (a b : Bool) (v : View) → IsKeeping {T = T} told by [] front batches a a b b v v (Ok t)
   keeping_none t a b v = record { course = course_none a b v; loses = λ t d. refl; cause = inr (refl, refl); spares = spares_none by.0 v; rest = []; batches_are = same ∙ sym (append-nil front); journal = tt; quiet = λ t. refl }
 
-  -- memory wanted
+  -- out of memory before anything is done
   pub keeping_wanted : (ess : List (List Entry)) (a b : Bool) (v : View) → IsKeeping {T = T} told by ess front batches a a b b v v (Err NoMemory)
   keeping_wanted ess a b v = record { course = course_none a b v; loses = λ t d. refl; cause = inr (refl, refl); spares = spares_none by.0 v; rest = []; batches_are = same ∙ sym (append-nil front); journal = work_none by T NoMemory v.now v.now ess (λ e. absurd (cc)); quiet = λ t. refl }
 
@@ -177,7 +177,7 @@ module _ (told : Type 0) (by : MemberId) (es : List Entry) (some : 1 ≤ length 
   }
   kept_not ConsoleFault acts never = absurd never
 
--- where memory wanted before a batch that is kept
+-- out of memory before a batch that is kept
 pub keeping_error_of : {S T : Type 0} (told : Type 0) (by : MemberId) (ess : List (List Entry)) (front batches : List Batch) (a a' b b' : Bool) (v w : View) (s : S) → IsKeeping {T = S} told by ess front batches a a' b b' v w (Ok s) → IsKeeping {T = T} told by ess front batches a a' b b' v w (Err NoMemory)
 keeping_error_of told by ess front batches a a' b b' v w s k = record { course = k.course; loses = k.loses; cause = k.cause; spares = k.spares; rest = k.rest; batches_are = k.batches_are; journal = inr k.journal; quiet = k.quiet }
 
@@ -191,7 +191,7 @@ settled told by front batches same a a' b b' v w (Err e) s = held_not {T = Unit 
   causes NoMemory c = absurd c
   causes ConsoleFault c = absurd c
 
--- the same of batches that are some
+-- how a batch of at least one entry is kept
 module _ (told : Type 0) (by : MemberId) (es : List Entry) (some : 1 ≤ length es) (front batches : List Batch) (a a' b b' : Bool) (v w : View) where
   one_in : (l : List Entry) → 1 ≤ length l → batches_in (l ∷ []) ≡ l ∷ []
   one_in [] some = absurd (omega (arith, some))

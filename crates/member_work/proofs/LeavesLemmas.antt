@@ -40,7 +40,7 @@ module _ (by : MemberId) where
       (λ behind. inr (kept_within es sooner from now now b le (omega arith) behind.0, behind.1))
       flies
 
-  -- by any answer
+  -- what an answer leaves since a moment, it leaves since an earlier one too
   work_sooner : {T : Type 0} (r : Result T NodeNo) (sooner from now : ℕ) (ess : List (List Entry)) (bs : List Batch) → sooner ≤ from → WorkLeaves r by from now ess bs → WorkLeaves r by sooner now ess bs
   work_sooner (Ok done) sooner from now ess bs le all = all_sooner sooner from now ess bs le all
   work_sooner (Err ConsoleFault) sooner from now ess bs le all = all_sooner sooner from now ess bs le all
@@ -50,7 +50,7 @@ module _ (by : MemberId) where
   work_sooner (Err Halted) sooner from now ess bs le leaves = ⊎_elim (λ cut. inl (cut_sooner sooner from now ess bs le cut))
       (λ more. ⊎_elim (λ flies. inr (inl (flies_sooner sooner from now ess bs le flies))) (λ all. inr (inr (all_sooner sooner from now ess bs le all))) more) leaves
 
-  -- behind one that is kept
+  -- what an answer leaves after a batch that is kept
   work_next : {T : Type 0} (r : Result T NodeNo) (from now : ℕ) (es : List Entry) (ess : List (List Entry)) (b : Batch) (bs : List Batch) → IsKeptBatch by es from now b → WorkLeaves r by b.last now ess bs → WorkLeaves r by from now (es ∷ ess) (b ∷ bs)
   work_next (Ok done) from now es ess b bs k all = (k, all)
   work_next (Err ConsoleFault) from now es ess b bs k all = (k, all)
@@ -58,7 +58,7 @@ module _ (by : MemberId) where
   work_next (Err BothLost) from now es ess b bs k leaves = ⊎_elim (λ cut. inl (inr (k, cut))) (λ more. ⊎_elim (λ flies. inr (inl (inr (k, flies)))) (λ all. inr (inr (k, all))) more) leaves
   work_next (Err Halted) from now es ess b bs k leaves = ⊎_elim (λ cut. inl (inr (k, cut))) (λ more. ⊎_elim (λ flies. inr (inl (inr (k, flies)))) (λ all. inr (inr (k, all))) more) leaves
 
-  -- behind others that are all kept
+  -- what an answer leaves after batches that are all kept
   pub work_then : {T : Type 0} (r : Result T NodeNo) (from mid now : ℕ) (ess : List (List Entry)) (bs : List Batch) (more : List (List Entry)) (cs : List Batch) → from ≤ mid → mid ≤ now → AreAll by from mid ess bs → WorkLeaves r by mid now more cs
       → WorkLeaves r by from now (ess ++ more) (bs ++ cs)
   work_then r from mid now [] [] more cs le1 le2 all leaves = work_sooner r from mid now more cs le1 leaves
@@ -85,7 +85,8 @@ module _ (by : MemberId) where
   all_long from now (es ∷ ess) [] all = absurd all
   all_long from now (es ∷ ess) (b ∷ bs) all = ap suc (all_long b.last now ess bs all.1)
 
--- BATCHES WITH WHICH OTHERS START: but for the last one they are the same, and that one has the first entries of its
+-- BATCHES WITH WHICH OTHERS START: all except the last are the same, and the last has the first entries of its
+-- counterpart
 
 abbrev pub starts_with : List Entry → List (List Entry) → List (List Entry) → Type 0
 starts_with x [] xs = ⊥
@@ -97,7 +98,7 @@ StartsAs [] ess = Unit {0}
 StartsAs (x ∷ xs) ess = starts_with x ess xs
 
 module _ (by : MemberId) (now : ℕ) where
-  -- those that were all kept are all, or the first ones
+  -- batches with which others start, and which are all kept, are all of the others, or their first ones
   start_all : (from : ℕ) (xs ess : List (List Entry)) (bs : List Batch) → StartsAs xs ess → AreAll by from now xs bs → AreCut by from now ess bs ⊎ AreAll by from now ess bs
   start_all from [] [] [] starts all = inr tt
   start_all from [] (e ∷ ess) [] starts all = inl tt

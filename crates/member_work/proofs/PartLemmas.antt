@@ -1,4 +1,4 @@
--- The parts of a job's end, one behind another.
+-- The parts of a job's end, one after another.
 use Rattle.std.proofs.Common.{◌≡◌, ◌∙◌, ℕ, zero, suc, ◌+◌, ◌-◌, ◌<◌, ◌≤◌, ◌==◌, Bool, true, false, if◌then◌else◌, List, [], ◌∷◌, ◌++◌, length, length-append, drop, take, Option, None, Some, Result, Ok, Err, All, inl, inr, refl, ap, subst, sym, arith}
 use Rattle.std.proofs.lemmas.Bool.Decides.{leb_tells}
 use Rattle.std.proofs.lemmas.List.{append-nil}
@@ -62,14 +62,14 @@ use Rattle.member_work.proofs.WrittenLemmas.{entries_batches, few_batches, queue
 
 -- WHAT IS KEPT OF PARTS
 
--- behind acts on the volumes
+-- what is kept of a part after acts on the volumes
 begun_spooled : (r : Result UnitEnd NodeNo) (so_far gave : List Entry) → batches_in (so_far ∷ []) ++ begun_of r [] (gave ∷ []) ≡ begun_of r so_far ([] ∷ gave ∷ [])
 begun_spooled (Ok x) [] gave = refl
 begun_spooled (Ok x) (e ∷ es) gave = ap (λ (l : List Entry). (e ∷ l) ∷ []) (sym (append-nil es))
 begun_spooled (Err why) [] gave = refl
 begun_spooled (Err why) (e ∷ es) gave = ap (λ (l : List Entry). (e ∷ l) ∷ batches_in (([] ++ gave) ∷ [])) (sym (append-nil es))
 
--- of a first part that stood in the batch
+-- what is kept of a first part that stood in the batch
 begun_moved : (r : Result UnitEnd NodeNo) (so_far gave : List Entry) → begun_of r so_far ([] ∷ gave ∷ []) ≡ begun_of r [] (so_far ∷ gave ∷ [])
 begun_moved (Ok x) so_far gave = ap (λ (l : List Entry). batches_in (l ∷ [])) (append-nil so_far)
 begun_moved (Err why) so_far gave = ap (λ (l : List Entry). batches_in (l ∷ ([] ++ gave) ∷ [])) (append-nil so_far)
@@ -92,7 +92,7 @@ wider_lost per groups (Some volume) old from till new before behind seen = recor
   rose = omega (arith, before.faults (DiskPart (Spool volume)), seen.rose, behind.faults (DiskPart (Spool volume)));
 }
 
--- BEHIND ACTS ON THE VOLUMES
+-- AFTER ACTS ON THE VOLUMES
 
 module _ (told : Type 0) (by : MemberId) (at : ℕ) where
   -- nothing is kept by the call
@@ -162,7 +162,7 @@ module _ (told : Type 0) (by : MemberId) (at : ℕ) where
     abbrev Ends : List Entry → List Batch → Bool → Bool → Bool → Bool → View → View → Result UnitEnd NodeNo → Type 0
     Ends is_left batches a a' b b' v w r = IsEndStep told by at per Q n specs is_left front batches a a' b b' v w r
 
-    -- in one part
+    -- a job's end in one part
     pub end_one : (all is_left : List Entry) (e : UnitEnd) (batches : List Batch) (a a' b b' : Bool) (v w : View) (r : Result UnitEnd NodeNo) → MayEndUnit by e v w
         → ((part : List Entry) (end : UnitEnd) → told → part ≡ all → end ≡ e → IfOk r (λ x. x ≡ end) → IsPlayOf (job_ended None Q by at n specs) (part ∷ []) end)
         → IsLastPart told by at all e is_left front batches a a' b b' v w r → Ends is_left batches a a' b b' v w r
@@ -177,7 +177,7 @@ module _ (told : Type 0) (by : MemberId) (at : ℕ) where
       played = one.played;
     }
 
-    -- where memory wanted in the first of two
+    -- out of memory in the first of two parts
     pub end_first : (why : NodeNo) (all more is_left : List Entry) (e end : UnitEnd) (batches : List Batch) (a a' b b' : Bool) (v w : View) → AreOf by at more → (end ≡ ends.Idle → ⊥) → MayEndUnit by end v w → ((part : List Entry) → told → part ≡ all → IsPlayOf (job_ended None Q by at n specs) (part ∷ more ∷ []) end)
         → IsLastPart told by at all e is_left front batches a a' b b' v w (Err why) → Ends is_left batches a a' b b' v w (Err why)
     end_first why all more is_left e end batches a a' b b' v w of never caused seen one = record {
@@ -228,7 +228,7 @@ module _ (told : Type 0) (by : MemberId) (at : ℕ) where
 -- WHICH PARTS A JOB'S END HAS
 
 module _ (Q : Queue) (by : MemberId) (at : ℕ) (n : JobNo) (specs : List OutSpec) where
-  -- no groups are needed
+  -- a job's end that needs no groups
   pub ended_none : (needed : ℕ) → needed ≡ groups_for_end Q n specs → needed ≡ 0 → job_ended None Q by at n specs ≡ spooled None Q by at n specs
   ended_none needed is none = ap (λ (k : ℕ). ended_with k None Q by at n specs) (sym is ∙ none)
 
@@ -241,7 +241,7 @@ module _ (Q : Queue) (by : MemberId) (at : ℕ) (n : JobNo) (specs : List OutSpe
   taking_by : (needed : ℕ) → are_refused needed Q by needed ≡ false → given_in Q by at (taking Q by needed) ≡ given_in Q by at (takes needed Q by needed)
   taking_by needed all = ap (given_in Q by at) (ap (λ (b : Bool). takes needed Q by needed ++ (if b then drop_groups ∷ [] else [])) all ∙ append-nil (takes needed Q by needed))
 
-  -- one Take was refused
+  -- a job's end of which one Take was refused
   pub ended_refused : (needed : ℕ) → needed ≡ groups_for_end Q n specs → 1 ≤ needed → are_refused needed Q by needed ≡ true → (part : List Entry) (end : UnitEnd) → part ≡ given_in Q by at (taking Q by needed) → end ≡ taken_end Q by at needed → IsPlayOf (job_ended None Q by at n specs) (part ∷ []) end
   ended_refused needed is some refused part end one two =
       let whole = ended_by None needed true is some refused in
@@ -250,7 +250,7 @@ module _ (Q : Queue) (by : MemberId) (at : ℕ) (n : JobNo) (specs : List OutSpe
         end_is = two ∙ ap (λ (b : Bool). if b then end_by (closing_reply (given_in Q by at (taking Q by needed))) else ends.Done) refused ∙ sym (ap (λ (u : UnitPlay). u.ends) whole);
       }
 
-  -- all were taken
+  -- a job's end whose groups were all taken
   pub ended_taken : (needed : ℕ) → needed ≡ groups_for_end Q n specs → 1 ≤ needed → are_refused needed Q by needed ≡ false → (lost : Option ℕ) (part last : List Entry) (end : UnitEnd) → part ≡ given_in Q by at (taking Q by needed)
       → IsPlayOf (spooled lost (taken_queue Q by at needed) by at n specs) (last ∷ []) end → IsPlayOf (job_ended lost Q by at n specs) (part ∷ last ∷ []) end
   ended_taken needed is some all lost part last end one play =

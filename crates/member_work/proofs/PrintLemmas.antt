@@ -135,7 +135,7 @@ module _ (told : Type 0) (by : MemberId) (at per : ℕ) (Q : Queue) (n : JobNo) 
         };
       }
 
-  -- they weren't, or the lock wasn't taken again
+  -- the lines weren't printed, or the lock wasn't taken again
   pub lines_unprinted : (why : NodeNo) (batches : List Batch) (a a' b b' : Bool) (v w : View) → IsKeeping {T = Option Closing} told by [] front batches a a' b b' v w (Err why) → IsLinesStep told by at per Q n i last is_left front batches a a' b b' v w (Err why)
   lines_unprinted why batches a a' b b' v w keeps = by_output (output_at Q n i) refl where
     kept : (ess : List (List Entry)) → IsKeeping {T = UnitEnd} told by ess front batches a a' b b' v w (Err why)
@@ -221,7 +221,7 @@ module _ (told : Type 0) (by : MemberId) (at per : ℕ) (Q : Queue) (n : JobNo) 
         spends = on_two r (λ left is. is ∙ ap length left ∙ sym (spent_text spent lines.parts some)) lines.played.left spends;
       }
 
-  -- it isn't
+  -- what was given before the lines are printed isn't kept
   pub print_unkept : {S : Type 0} (why : NodeNo) (batches : List Batch) (a a' b b' : Bool) (v w : View) → IsKeeping {T = S} told by (batches_in (so_far ∷ [])) front batches a a' b b' v w (Err why) → Prints batches a a' b b' v w (Err why)
   print_unkept {S} why batches a a' b b' v w keeps = by_output (output_at Q n i) refl where
     kept : IsKeeping {T = UnitEnd} told by (batches_in (so_far ∷ [])) front batches a a' b b' v w (Err why)

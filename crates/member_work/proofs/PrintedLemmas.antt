@@ -112,7 +112,7 @@ beside_print told by line old new r acts content = record {
   console = λ t. (content t).console;
 }
 
--- they lose no copy
+-- acts beside the copies lose none of them
 no_bool : (b : Bool) → b ≡ true → b ≡ false → ⊥
 no_bool true is not = cc
 no_bool false is not = cc
@@ -156,7 +156,7 @@ module _ {T : Type 0} (told : Type 0) (by : MemberId) (front batches : List Batc
     never NoMemory stops is = absurd (cc)
     never HaltedNo stops is = absurd (cc)
 
--- over a wider stretch
+-- a printer that failed in a stretch failed in a wider one
 pub failed_wider : (by : MemberId) (old from till new : View) → Goes old from → Goes till new → HasPrinterFailed by from till → HasPrinterFailed by old new
 failed_wider by old from till new before after f = record { lost = after.lost (Printer by) f.lost; rose = omega (arith, f.rose, before.faults (Printer by), after.faults (Printer by)) }
 
@@ -196,7 +196,7 @@ told_output t n i at r spelled some here = record {
         ap total same ∙ ap (λ (k : ℕ). k * has.item.copies) lines ∙ ap (λ (k : ℕ). r.lines * k) copies,
       )
 
--- it has the key that was looked for
+-- the record of an output that was found has the key that was looked for
 pub output_key : (t : Tables) (n : JobNo) (i : OutNo) (at : ℕ) (r : OutRec) → ((os : List Output) → AreOutputs t.outputs os → HasOutput (has_key n i) t.outputs os at r) → (r.job ≡ n) × (r.index ≡ i)
 output_key t n i at r some =
     let s = tells_some t in
@@ -248,7 +248,7 @@ may_print_to base batches current m t r last lines none told output chunk p text
       still = rw none (subst (λ (es : List Entry). busy_in (output_at (run base es) r.job r.index) m ≡ true) (sym (append-nil (kept_all batches))) (still_busy Q m r.job r.index p.output p.there p.busy));
     }
 
--- the next line
+-- the next line of an output may be printed
 pub may_print : (base : Queue) (batches : List Batch) (current : Option Batch) (m : MemberId) (n : JobNo) (i : OutNo) (mark last printed before : ℕ) (lines : List (List ℕ)) (bytes : List ℕ) → MayPrintTo base batches current m n i mark last lines → mark + printed ≡ before → before < last
     → bytes ≡ printed_line n i (before + 1) lines → MayPrint base (kept_all batches) (entries_in current) m printed bytes
 may_print base batches current m n i mark last printed before lines bytes may counted small is = record {
@@ -306,7 +306,7 @@ pub lines_whole : (told : Type 0) (per : ℕ) (text : Text) (groups : List Group
 lines_whole told per (Whole ls) groups lines v w tells seen = let same = seen tells in let equal : lines ≡ ls = cc in ap Whole (sym equal)
 lines_whole told per (Gone group count) groups lines v w tells seen = absurd (let same = seen tells in cc)
 
--- ITS LINES ARE PRINTED
+-- AN OUTPUT'S LINES ARE PRINTED
 
 one_group : (a b : GroupNo) → Some a ≡ Some b → a ≡ b
 one_group a b e = cc
@@ -315,7 +315,7 @@ gone_text : (t : Text) (g : GroupNo) → gone_with t ≡ Some g → as_it_is t �
 gone_text (Whole lines) g is = absurd (cc)
 gone_text (Gone group count) g is = ap read.Gone (one_group group g is)
 
--- one that was gone isn't read
+-- an output's text that was gone isn't read
 pub printed_gone : (told : Type 0) (per : ℕ) (Q : Queue) (by : MemberId) (n : JobNo) (i : OutNo) (v w : View) (g : GroupNo) → (told → (o : Output) → output_at Q n i ≡ Some o → Some g ≡ gone_with o.text) → IsPrinted told per Q by n i v w (Some (closing.NoText g))
 printed_gone told per Q by n i v w g gone = record {
   read = None;
@@ -325,7 +325,7 @@ printed_gone told per Q by n i v w g gone = record {
   caused = tt;
 }
 
--- why it was
+-- why the lines weren't all printed
 lines_caused : (by : MemberId) (per : ℕ) (groups : List GroupNo) (old mid new : View) (x : Read) (end : Option Closing) → Goes old mid → Goes mid new → IsFailedRead per groups x old mid → IsLinesPrinted by x mid new end → IfSome end (λ e. MayRefuse by e old new)
 lines_caused by per groups old mid new x end before after failed lines = subst (λ (e : Option Closing). IfSome e (λ c. MayRefuse by c old new)) (sym lines.is) (by_read x lines.lost failed lines.printer) where
   by_read : (x : Read) (b : Bool) → IsFailedRead per groups x old mid → (b ≡ true → HasPrinterFailed by mid new) → IfSome (printed_end b x) (λ c. MayRefuse by c old new)

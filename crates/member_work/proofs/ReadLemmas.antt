@@ -49,7 +49,7 @@ some_groups : (volumes groups n : ℕ) → n < volumes * groups → 1 ≤ groups
 some_groups volumes zero n lt = absurd (omega (arith, lt))
 some_groups volumes (suc groups) n lt = omega arith
 
--- it lies within its volume
+-- a group of the configuration lies within its volume, if that isn't lost
 within : (v : View) (config : Config) (g : GroupNo) → IsGroupOf config g → AreRoomy v config → v.lost (DiskPart (device_of config.groups g)) ≡ false → is_within v config.groups g ≡ true
 within v config g is roomy there =
     let some : 1 ≤ config.groups = some_groups config.volumes config.groups g.0 is in
@@ -87,7 +87,7 @@ quiet_group per g v w page r reads = quiet_read (volume_of per g) (page_start (i
 pub failed_read : (by per volume : ℕ) (g : GroupNo) (v w : View) → volume ≡ volume_of per g → Acts by (DiskPart (device_of per g)) v w Failed → HasFailed per (g ∷ []) volume v w
 failed_read by per volume g v w is acts = subst (λ (n : ℕ). HasFailed per (g ∷ []) n v w) (sym is) (record { there = lies_alone per g; lost = acts.is_lost refl; rose = acts.failed refl })
 
--- ITS LINES
+-- A TEXT'S LINES
 
 record_short : (line : List ℕ) → is_record line ≡ true → length line ≤ line_bytes
 record_short line is = grind (arith, nat_tests)
@@ -132,7 +132,7 @@ adds_lines told config g v page was is gone law there read adds = record {
   or_none None = refl
   or_none (Some h) = refl
 
--- or the text is gone with it
+-- a group that holds no records adds none, and the text is gone with it
 pub adds_none : (told : Type 0) (config : Config) (g : GroupNo) (v : View) (page : List ℕ) (was is : List (List ℕ)) (gone_before is_gone : Option GroupNo) → ReadsWhatIsHeld → v.lost (DiskPart (Spool (volume_of config.groups g))) ≡ false
     → (told → AreRoomy v config → page_of (bytes_on (spools_at v v.now)) config.groups g ≡ Some page) → HoldsNoRecords page → is ≡ was → is_gone ≡ option_or gone_before (Some g) → AddsGroup told config g v was is gone_before is_gone
 adds_none told config g v page was is gone_before is_gone law there read none same gone_is = record {
@@ -214,7 +214,7 @@ is_read per text groups (read.Lost volume) old new e = absurd (never text e) whe
   never (Whole lines) e = cc
   never (Gone group count) e = cc
 
--- it is the text as it stands there
+-- what was read is the text as it stands there
 pub read_whole : (told : Type 0) (by : ℕ) (config : Config) (old new : View) (groups : List GroupNo) (lines : List (List ℕ)) (gone : Option GroupNo) (count : ℕ) (o : Read) → HaveRead told by config old new groups lines gone
     → o ≡ as_it_is (text_unless count groups lines gone) → (text : Text) → line_count text ≡ count → told → AreRoomy old config → IsThereUnless (lost_now old) (spools_at old old.now) config.groups text groups → IsReadOf config.groups text groups o old new
 read_whole told by config old new groups lines gone count o have is text counted t roomy stands =

@@ -45,7 +45,7 @@ due_by : (due : Bool) (l : List Entry) → batches_in ((if due then l ∷ [] els
 due_by true l = refl
 due_by false l = refl
 
--- a unit behind which others come
+-- a unit after which others come
 pub one_more : (hold spent : ℕ) (left : List Entry) (parts : List (List Entry)) (more : List (List (List Entry))) → batches_in (written hold spent left (parts ∷ more))
     ≡ batches_in (written_in left parts) ++ batches_in (written_between hold (spent_in spent parts) (left_in left parts)) ++ batches_in (written hold (spent_between hold (spent_in spent parts)) (left_between hold (spent_in spent parts) (left_in left parts)) more)
 one_more hold spent left parts more =
@@ -53,7 +53,7 @@ one_more hold spent left parts more =
     let behind = written hold (spent_between hold (spent_in spent parts)) (left_between hold (spent_in spent parts) (left_in left parts)) more in
     batches_append (written_in left parts ++ between) behind ∙ ap (λ (l : List (List Entry)). l ++ batches_in behind) (batches_append (written_in left parts) between)
 
--- the last one
+-- the last unit
 pub one_last : (hold spent : ℕ) (left : List Entry) (parts : List (List Entry)) → batches_in (written hold spent left (parts ∷ [])) ≡ batches_in (written_in left parts) ++ batches_in (left_in left parts ∷ [])
 one_last hold spent left parts =
     let now_spent = spent_in spent parts in
@@ -129,9 +129,9 @@ module _ (told : Type 0) (per : ℕ) (by : MemberId) (at : ℕ) (old new : View)
 
 -- UNITS THAT ARE PLAYED
 
--- So many of n units from the queue Q on are done, with these looks, and so many remain: they come to the queue R; these batches of the
--- step are kept, and these entries are given behind them, so many of them since the member got the lock. Where units remain what was due
--- is written.
+-- So many of n units from the queue Q on are done, with these looks, and so many remain: they come to the queue R;
+-- these batches of the step are kept, and these entries are given after them, so many of them since the member got the
+-- lock. Where units remain what was due is written.
 pub record HavePlayed (by : MemberId) (at n : ℕ) (Q : Queue) (done remaining : ℕ) (looks : List Look) (R : Queue) (spent : ℕ) (left : List Entry) (front : List (List Entry)) : Type 0 where
   pub all : n ≡ done + remaining
   pub played : List Round
@@ -173,14 +173,14 @@ module _ (by : MemberId) (at n : ℕ) (Q : Queue) (done m : ℕ) (looks : List L
       ap (λ (l : List Look). rounds n Q by at l) (append_assoc looks (look ∷ []) later) ∙ have.rounds_are (look ∷ later)
       ∙ ap (λ (w : UnitEnd). have.played ++ rounds_by w r (rounds m behind by at later)) e
 
-  -- the same of a step with no look behind it
+  -- the rounds of a step whose last look is that of this unit, by the unit's end
   rounds_here : (end : UnitEnd) → u.ends ≡ end → rounds n Q by at (looks ++ look ∷ []) ≡ have.played ++ rounds_by end r (rounds m behind by at [])
   rounds_here end e = have.rounds_are (look ∷ []) ∙ ap (λ (w : UnitEnd). have.played ++ rounds_by w r (rounds m behind by at [])) e
 
   parts_are : (rs : List Round) → parts_of by at (have.played ++ rs) ≡ parts_of by at have.played ++ parts_of by at rs
   parts_are rs = map-append (λ (x : Round). (round_play by at x).parts) have.played rs
 
-  -- batches and line where these rounds come behind
+  -- batches and line of a step in which these rounds come after those before
   batches_by : (looked : List Look) (rs : List Round) → rounds n Q by at looked ≡ have.played ++ rs → work_batches Q by at n looked ≡ front ++ batches_in (written hold spent left (parts_of by at rs))
   batches_by looked rs are =
       ap (λ (x : List Round). batches_in (written hold 0 [] (parts_of by at x))) are
@@ -207,7 +207,7 @@ module _ (by : MemberId) (at n : ℕ) (Q : Queue) (done m : ℕ) (looks : List L
   done_written : (more : List (List (List Entry))) → batches_in (written hold 0 [] (parts_of by at (have.played ++ r ∷ []) ++ more)) ≡ front ++ batches_in (written hold spent left (u.parts ∷ more))
   done_written more = ap (λ (p : List (List (List Entry))). batches_in (written hold 0 [] p)) (done_parts more) ∙ have.written_is (u.parts ∷ more) (inl (omega arith))
 
-  -- one unit more, and what is due is written behind it
+  -- one unit more is played, and what is due is written after it
   pub played_more : u.ends ≡ ends.Done → HavePlayed by at n Q (done + 1) m (looks ++ look ∷ []) behind (spent_between hold now_spent) (left_between hold now_spent now_left) (front ++ (in_it ++ at_rest))
   played_more e = record {
     all = omega (arith, have.all);
@@ -219,7 +219,7 @@ module _ (by : MemberId) (at n : ℕ) (Q : Queue) (done m : ℕ) (looks : List L
         done_written more ∙ ap (λ (l : List (List Entry)). front ++ l) (one_more hold spent left u.parts more) ∙ joined (in_it ++ at_rest) rest;
   }
 
-  -- the last one, behind which nothing is written yet
+  -- the last unit is played, after which nothing is written yet
   pub played_last : m ≡ 0 → u.ends ≡ ends.Done → (is_spent : ℕ) → HavePlayed by at n Q (done + 1) m (looks ++ look ∷ []) behind is_spent now_left (front ++ in_it)
   played_last last e is_spent = record {
     all = omega (arith, have.all);
@@ -249,7 +249,7 @@ module _ (by : MemberId) (at n : ℕ) (Q : Queue) (done m : ℕ) (looks : List L
   pub refused_closing : (end : Closing) → u.ends ≡ ends.Refused end → work_closing Q by at n (looks ++ look ∷ []) ≡ end
   refused_closing end e = closing_at (looks ++ look ∷ []) (r ∷ []) (rounds_here (ends.Refused end) e) ∙ ap (λ (w : UnitEnd). closing_by w done (closing_behind by at (done + 1) [])) e
 
-  -- what is written in a unit and at the rest behind it comes first in the step's batches, whatever comes behind
+  -- what is written in a unit and at the rest after it comes first in the step's batches, whatever comes later
   pub in_front : (more : List (List Entry)) × (work_batches Q by at n (looks ++ look ∷ []) ≡ (front ++ in_it) ++ more)
   in_front = by_end u.ends refl where
     by_end : (end : UnitEnd) → u.ends ≡ end → (more : List (List Entry)) × (work_batches Q by at n (looks ++ look ∷ []) ≡ (front ++ in_it) ++ more)
@@ -272,7 +272,7 @@ module _ (by : MemberId) (at n : ℕ) (Q : Queue) (done m : ℕ) (looks : List L
             ∙ ap (λ (l : List (List Entry)). front ++ l) (one_more hold spent left u.parts (parts_of by at (rounds m behind by at []))) ∙ joined (in_it ++ at_rest) rest,
       )
 
-  -- and what the volumes gave, where the later looks are calm
+  -- what the volumes gave to each round, where the later looks are calm
   module _ (told : Type 0) (per : ℕ) (old new : View) where
     abbrev P : Round → Type 0
     P x = IsRound told per by at old new x

@@ -74,7 +74,7 @@ closing_batch told by lines es some front batches a a' b b' v w r step =
       console = λ t. tells_then r lines (HasKept front batches (begun v.now by es) w.now) (HasAll by v.now w.now (es ∷ []) front batches) v v w refl (all_of told by lines es some front batches a a' b b' v.now v w (omega arith)) (step.console t);
     }
 
--- its tables are low
+-- the tables of a member are low after a step's last batch
 pub low_closed : (told : Type 0) (r : Result (Unit {0}) NodeNo) (config : Config) (front batches : List Batch) (placed : Bool) (current : Option Batch) (b : Batch) (now : ℕ) (base : Queue) (level : ℕ) (batch : List Entry) (n k : Checkpoint)
     → StepLeaves r front (end_of placed current batches) b now → OnOk r (IsBetween told base batches current placed level batch n) → n.tables ≡ k.tables → AreFit k.tables → k.tables.config ≡ config → (told → k.tables.order ≤ orders_after (length front + 1))
     → OnOk r (told → AreLow config (length batches) n.tables)

@@ -68,7 +68,7 @@ module _ (told : Type 0) (v : View) (since : ℕ) (base : Queue) (batches : List
     allowed = λ t. subst (λ (es : List Entry). MayBegin base batches printed es) (sym between.nothing) (none_begins base batches printed);
   }
 
-  -- and back
+  -- a member at work with nothing unwritten is between commands
   module _ (w : AtWork) (nothing : batch ≡ []) where
     pub work_at_lock : IsAtLock current placed batch k room
     work_at_lock = record { none = w.none; unplaced = w.unplaced; nothing = nothing; drawn = w.drawn nothing; many = w.many }
@@ -93,7 +93,7 @@ module _ (told : Type 0) (v : View) (since : ℕ) (base : Queue) (batches : List
     pub work_calm : (alive : Bool) (place : Place) (count : ℕ) (read : Option (List ℕ)) → RestsAt told alive place count k.pages read → IsCalm alive place count (length room)
     work_calm alive place count read rests = calm_rest told alive place count k.pages read (length room) w.many rests
 
-    -- later, where nothing of its changed
+    -- a member at work is so later too, where nothing of its own changed
     pub work_later : (v' : View) (printed' : List ℕ) → Goes v v' → IsAtWork told v' since base batches current placed level reserved printed' by batch k room behind
     work_later v' printed' goes = record {
       none = w.none;

@@ -44,7 +44,7 @@ use Rattle.member_work.specs.Steps.{IsUnderWay}
 
 -- WHICH UNIT IS NEXT
 
--- the unit of a printer, by whether its output has lines behind its mark
+-- the unit of a printer, by whether its output has lines after its mark
 print_or : (b : Bool) (u : units.Unit) (n : JobNo) (i : OutNo) → (if b then unit.Print n i else unit.Finish n i) ≡ u → ((b ≡ true) × (unit.Print n i ≡ u)) ⊎ ((b ≡ false) × (unit.Finish n i ≡ u))
 print_or true u n i is = inl (refl, is)
 print_or false u n i is = inr (refl, is)
@@ -81,7 +81,7 @@ convert_is n None None None None None None (Some x) f is = absurd (cc)
 convert_is n None None None None None None None (Some x) is = absurd (cc)
 convert_is n None None None None None None None None is = absurd (cc)
 
--- of the printer's output
+-- the unit of the printer's output
 printer_is : (u : units.Unit) (n : JobNo) (i : OutNo) → (u ≡ unit.Print n i) ⊎ (u ≡ unit.Finish n i) → (p k : Option Output) (a b r c e f : Option Job) → chosen n p k a b r c e f ≡ u → (o : Output) × (p ≡ Some o) × (print_unit o ≡ u)
 printer_is u n i either (Some o) k a b r c e f is = (o, refl, is)
 printer_is u n i either None k a b r c e f is = absurd (⊎_elim (λ w. others k a b r c e f (inl (is ∙ w))) (λ w. others k a b r c e f (inr (is ∙ w))) either) where
@@ -107,7 +107,7 @@ both_first : (a b : Bool) → (a && b) ≡ true → a ≡ true
 both_first true b e = refl
 both_first false b e = absurd (cc)
 
--- it is there, in that phase
+-- the job at work is in the queue, in that phase
 at_work : (Q : Queue) (m : MemberId) (in_phase : Phase → Bool) (j : Job) → AreDistinct (λ x y. same_number x.number y.number) Q.jobs → working_at Q m in_phase ≡ Some j → (job_at Q j.number ≡ Some j) × (in_phase j.phase ≡ true)
 at_work Q m in_phase j distinct is =
     test_cases (is_somebody m) ((job_at Q j.number ≡ Some j) × (in_phase j.phase ≡ true))
@@ -169,9 +169,9 @@ module _ {X C : Type 0} (shows : X → C) where
       (λ t. let s : test (shows x) ≡ true = ap test here ∙ t in rw (s, t) (ap Some here))
       (λ t. let s : test (shows x) ≡ false = ap test here ∙ t in rw (s, t) (found_alike test xs ys rest))
 
--- IT HAS NO OUTPUT
+-- A JOB AT WORK HAS NO OUTPUT
 
--- of a sound queue
+-- a job at work of a sound queue has no output
 pub sound_none : (S : Queue) (n : JobNo) (x : Job) → IsSound S → job_at S n ≡ Some x → runs x.phase ≡ true → has_output n S ≡ false
 sound_none S n x sound found ran = All-none (is_of n) S.outputs (λ k d lt. by_output _ (sound.outputs k d lt)) where
   ends_there : (o : Output) → same_number o.job n ≡ true → is_there (λ j. may_have_outputs j.phase) S.jobs o.job ≡ true → ⊥
@@ -184,7 +184,7 @@ sound_none S n x sound found ran = All-none (is_of n) S.outputs (λ k d lt. by_o
   by_output : (o : Output) → IsSoundOutput S.config S.jobs o → is_of n o ≡ false
   by_output o s = test_cases (is_of n o) (is_of n o ≡ false) (λ e. absurd (ends_there o e s.job)) (λ e. e)
 
--- of each that the tables tell
+-- a job at work of each queue that the tables tell has no output
 none_of : (t : Tables) (Q : Queue) (n : JobNo) (j : Job) → TellSound t → Tell t Q → job_at Q n ≡ Some j → runs j.phase ≡ true → has_output n Q ≡ false
 none_of t Q n j s told found ran = by_found (job_at s.queue n) refl where
   same_jobs : map jobs.rec_of s.queue.jobs ≡ map jobs.rec_of Q.jobs
@@ -243,7 +243,7 @@ print_under_way t Q m n i own s told is =
       below = let small = key.0 in grind (arith, nat_tests);
     }
 
--- that of a unit which finishes it has an index, whatever is told
+-- an output that is found has an index that an output may have
 indexed : (rs : List OutRec) (os : List Output) (p : Output → Bool) (o : Output) → map outputs.unordered rs ≡ map outputs.rec_of os → All IsOutRec rs → find p os ≡ Some o → IsIndex o.index.0
 indexed [] [] p o same all found = absurd (cc)
 indexed [] (y ∷ os) p o same all found = absurd (cc)

@@ -47,7 +47,7 @@ each_command P done pick purge gather exec convert unit.TakeExec c is = subst P 
 each_command P done pick purge gather exec convert unit.TakeConvert c is = subst P (one command.TakeConvert c is) convert
 each_command P done pick purge gather exec convert unit.Idle c is = absurd (cc)
 
--- it is within the limits, where that which finishes an output is
+-- a unit's command is within the limits, where that which finishes an output is
 pub command_fits : (u : units.Unit) (c : Command) → command_of u ≡ Some c → ((n : JobNo) (i : OutNo) → u ≡ unit.Finish n i → IsIndex i.0) → IsFit c
 command_fits (unit.Print n i) c is index = absurd (cc)
 command_fits (unit.Finish n i) c is index = subst IsFit (one (command.Done n i) c is) (index n i refl)
@@ -86,7 +86,7 @@ idle_play Q by at look unit.TakeConvert none prints runs converts = absurd (cc)
 idle_play Q by at look unit.Idle none prints runs converts = refl
 
 module _ (told : Type 0) (by : MemberId) (at per : ℕ) (Q : Queue) (so_far is_left : List Entry) (spent is_spent : ℕ) (front batches : List Batch) (a a' b b' : Bool) (v w : View) (result : Result UnitEnd NodeNo) (u : units.Unit) (is_next : told → u ≡ unit_of Q by) where
-  -- it is the next one
+  -- the unit is the queue's next one, where content is told
   next_is : told → (look : Look) → unit_play Q by at look (unit_of Q by) ≡ unit_play Q by at look u
   next_is t look = ap (unit_play Q by at look) (sym (is_next t))
 

@@ -40,7 +40,7 @@ pub units_start : (told : Type 0) (i : MemberId) (at n : ℕ) (base : Queue) (bs
 units_start told i at n base bs batch is_left batches a a' b b' v w r nothing f =
     working_start told i at base.config.groups base.config.hold n base bs batch is_left bs batches a a' b b' v w r nothing (sym (ap (λ (c : Config). c.hold) (runs_keep_configuration base (kept_all bs)).config)) f
 
--- A UNIT, AND THE REST BEHIND IT
+-- A UNIT, AND THE REST AFTER IT
 
 module _ (told : Type 0) (i : MemberId) (at : ℕ) (base : Queue) (m done : ℕ) (so_far : List Entry) (spent : ℕ) (ours : AreOf i at so_far) (front : List Batch) (a b : Bool) (v0 : View) where
   abbrev per : ℕ

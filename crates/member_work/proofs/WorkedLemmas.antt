@@ -41,7 +41,7 @@ module _ (told : Type 0) (by : MemberId) where
   wider_of : (at per n : ℕ) (Q : Queue) (looks : List Look) (gave : List (List Entry)) (end : Closing) (v0 v1 v2 : View) → Goes v1 v2 → IsWorkOf told by at per n Q looks v0 v1 gave end → IsWorkOf told by at per n Q looks v0 v2 gave end
   wider_of at per n Q looks gave end v0 v1 v2 goes f = record { seen = wider_seen told per by at v0 v0 v1 v2 (goes_none v0) goes (rounds n Q by at looks) f.seen; batches = f.batches; ends = f.ends }
 
-  -- the line was said behind them, or an error came with the last batch
+  -- the line was said after the step's batches, or an error came with the last batch
   pub worked : (i : MemberId) (at per n : ℕ) (Q : Queue) (left : List Entry) (front mid mid' batches : List Batch) (a a' a'' b b' b'' : Bool) (v0 v1 v2 : View) (end : Closing) (r : Result (Unit {0}) NodeNo) → i ≡ by → mid' ≡ mid
       → IsWorking told by at per n Q left front mid' a a' b b' v0 v1 (Ok end) → IsClosing told i (closing_line i at end ∷ []) (batches_in (left ∷ [])) mid batches a' a'' b' b'' v1 v2 r → IsWorkStep told by at per n Q front batches a a'' b b'' v0 v2 r
   worked i at per n Q left front mid mid' batches a a' a'' b b' b'' v0 v1 v2 end r same out s0 closes =
@@ -59,7 +59,7 @@ module _ (told : Type 0) (by : MemberId) where
         closes = closing_then told by {S = Closing} end r (closing_line by at s.end ∷ []) s.written (batches_in (left ∷ [])) front mid batches a a' a'' b b' b'' v0 v1 v2 s.keeps closes2;
       }
 
-  -- WITH THE READS BEFORE IT
+  -- A STEP WITH THE READS BEFORE IT
 
   -- the copies weren't taken in
   pub work_unbegun : (at per n : ℕ) (Q : Queue) (front batches : List Batch) (a a' b b' : Bool) (v w : View) (e : NodeNo) → batches ≡ front → IsOnCopies {T = Unit {0}} told by.0 a a' b b' v w (Err e) → IsWorkStep {T = Unit {0}} told by at per n Q front batches a a' b b' v w (Err e)
@@ -81,7 +81,7 @@ module _ (told : Type 0) (by : MemberId) where
         closes = closing_error told by (Unit {0}) e (closing_line by at (work_closing Q by at n []) ∷ []) (batches_in wrote) front batches a a' b b' v w (held_not {T = Unit {0}} told by front batches same e (batches_in wrote) a a' b b' v w acts);
       }
 
-  -- they were
+  -- the copies were taken in, and the step follows
   pub work_behind : (at per n : ℕ) (Q : Queue) (front batches : List Batch) (a a' a'' b b' b'' : Bool) (v0 v1 v2 : View) (r : Result (Unit {0}) NodeNo) → IsOnCopies {T = Unit {0}} told by.0 a a' b b' v0 v1 (Ok tt) → IsWorkStep told by at per n Q front batches a' a'' b' b'' v1 v2 r
       → IsWorkStep told by at per n Q front batches a a'' b b'' v0 v2 r
   work_behind at per n Q front batches a a' a'' b b' b'' v0 v1 v2 r acts s = record {
@@ -95,7 +95,7 @@ module _ (told : Type 0) (by : MemberId) where
     closes = closing_then told by {S = Unit {0}} tt r (closing_line by at s.end ∷ []) [] s.gave front front batches a a' a'' b b' b'' v0 v1 v2 (held_ok {T = Unit {0}} told by front front refl tt a a' b b' v0 v1 acts) s.closes;
   }
 
--- by other names
+-- a step of work by other names
 pub work_as : (told : Type 0) (at n : ℕ) (r : Result (Unit {0}) NodeNo) (batches : List Batch) (was1 is1 was2 is2 : Bool) (old new : View) (by by' : MemberId) (base base' : Queue) (front front' : List Batch) → by' ≡ by → base' ≡ base → front' ≡ front
     → IsWorkStep told by' at base'.config.groups n (run base' (kept_all front')) front' batches was1 is1 was2 is2 old new r → IsWorkStep told by at base.config.groups n (run base (kept_all front)) front batches was1 is1 was2 is2 old new r
 work_as told at n r batches was1 is1 was2 is2 old new by by' base base' front front' one two three s =

@@ -1,4 +1,4 @@
--- The units of a step, from one of them on: what follows a unit and the rest behind it, or an error in one of them.
+-- The units of a step, from one of them on: what follows a unit and the rest after it, or an error in one of them.
 use Rattle.std.proofs.Common.{◌≡◌, inl, inr, ℕ, suc, ◌+◌, ◌*◌, ◌≤◌, List, [], ◌∷◌, ◌++◌, length, All, Option, None, Bool, false, Result, Ok, Err, IfOk, append_assoc, append-nil, refl, sym, ◌∙◌, ap, subst, arith}
 use Rattle.std.proofs.lemmas.List.{length-append}
 use Rattle.std.proofs.lemmas.List.Elements.{All-nil, All-cons, All-append}
@@ -34,7 +34,7 @@ use Rattle.member_work.proofs.WrittenLemmas.{AreOurs, IsOurs, all_some, batches_
 module _ (told : Type 0) (by : MemberId) (at per hold : ℕ) where
   -- WHERE CONTENT IS TOLD
 
-  -- m units from the queue Q on, behind so many that are done, and behind these entries
+  -- m units from the queue Q on, after so many that are done, and after these entries
   pub record IsFrom (m done : ℕ) (Q : Queue) (so_far : List Entry) (spent : ℕ) (looks : List Look) (old new : View) (gave : List (List Entry)) (end : Closing) : Type 0 where
     pub seen : All (IsRound told per by at old new) (rounds m Q by at looks)
     pub batches : gave ≡ batches_in (written hold spent so_far (parts_of by at (rounds m Q by at looks)))
@@ -190,7 +190,7 @@ module _ (told : Type 0) (by : MemberId) (at per hold : ℕ) where
           by_last (closing.DoneUnits done) (inl (done, omega arith, refl)) (λ t. subst (λ (g : List (List Entry)). IsFrom (suc m) done Q so_far spent (step.look ∷ []) v0 v1 g (closing.DoneUnits done)) (sym same)
           (from_idle m done Q so_far spent step.look v0 v1 (step.is t).0 (sym is ∙ end_told t)))
 
-      -- OTHERS FOLLOW, behind a rest
+      -- OTHERS FOLLOW, after a rest
 
       module _ (is : end ≡ ends.Done) (left' : List Entry) (spent' : ℕ) (mid' : List Batch) (a2 b2 : Bool) (v2 : View) where
         abbrev s' : ℕ
@@ -205,7 +205,7 @@ module _ (told : Type 0) (by : MemberId) (at per hold : ℕ) where
         abbrev Rest : Result (Unit {0}) NodeNo → Type 0
         Rest r = IsRest told by hold left left' is_spent spent' mid mid' a1 a2 b1 b2 v1 v2 r
 
-        -- what both wrote
+        -- what the unit and the rest after it wrote
         abbrev both : List (List Entry)
         both = batches_in (written_in so_far step.parts) ++ batches_in (written_between hold s' l')
 
@@ -234,7 +234,7 @@ module _ (told : Type 0) (by : MemberId) (at per hold : ℕ) where
             let long = length-append (batches_in (written_in so_far step.parts)) (batches_in (written_between hold s' l')) in
             omega (arith, two, first, next, one, long)
 
-        -- the queue behind it, and how many batches there are
+        -- the queue after a unit, and how many batches there are
         both_entries : Rest (Ok tt) → all_entries both ++ left' ≡ so_far ++ all_entries step.parts
         both_entries rest =
             let w = written_in so_far step.parts in
@@ -282,7 +282,7 @@ module _ (told : Type 0) (by : MemberId) (at per hold : ℕ) where
               ends = tt;
             }
 
-        -- the rest of the step
+        -- the unit was rested after, and the rest of the step follows
         pub working_more : (R : Queue) (last : List Entry) (batches : List Batch) (a3 b3 : Bool) (v3 : View) (r : Result Closing NodeNo) → Rest (Ok tt) → R ≡ R'
             → IsWorkingFrom m (done + 1) R left' spent' last mid' batches a2 a3 b2 b3 v2 v3 r → From last batches a3 b3 v3 r
         working_more R last batches a3 b3 v3 r rest same w =

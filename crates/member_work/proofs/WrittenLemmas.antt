@@ -135,7 +135,7 @@ few_units hold spent left (parts ∷ us) all =
 
 -- WHICH BATCHES OTHERS START
 
--- all that are there, behind the same
+-- batches that others start, put after the same ones, still start them
 pub starts_behind : (ws ys zs : List (List Entry)) → All IsSome ws → StartsAs ys zs → StartsAs (ws ++ ys) (ws ++ zs)
 starts_behind [] ys zs some starts = starts
 starts_behind (w ∷ []) [] zs some starts = (All-head IsSome w [] some, ([], sym (append-nil w)))
@@ -160,12 +160,12 @@ left_first hold spent e l ((es ∷ []) ∷ us) =
     (by_due (is_due hold s (e ∷ (l ++ es))) e (l ++ es) (λ k. written hold (spent_between hold s) k us) (left_first hold (spent_between hold s) e (l ++ es) us))
 left_first hold spent e l ((es ∷ next ∷ parts) ∷ us) = (omega arith, (es, refl))
 
--- what is due behind a unit, and the rest
+-- what is due after a unit, and the rest
 due_first : (hold spent : ℕ) (left : List Entry) (us : List (List (List Entry))) → StartsAs (batches_in (left ∷ [])) (batches_in (written_between hold spent left ++ written hold (spent_between hold spent) (left_between hold spent left) us))
 due_first hold spent [] us = tt
 due_first hold spent (e ∷ l) us = by_due (is_due hold spent (e ∷ l)) e l (λ k. written hold (spent_between hold spent) k us) (left_first hold (spent_between hold spent) e l us)
 
--- what an error in a unit leaves is the beginning of what is written of it and of those behind it
+-- what an error in a unit leaves is the beginning of what is written of it and of the units after it
 pub unit_starts : (hold spent : ℕ) (left : List Entry) (parts : List (List Entry)) (us : List (List (List Entry))) → StartsAs (batches_in (written_in left parts ++ left_in left parts ∷ [])) (batches_in (written hold spent left (parts ∷ us)))
 unit_starts hold spent left parts us =
     let s = spent_in spent parts in
@@ -207,14 +207,14 @@ entries_due false left = refl
 pub entries_rest : (hold spent : ℕ) (left : List Entry) → all_entries (written_between hold spent left) ++ left_between hold spent left ≡ left
 entries_rest hold spent left = entries_due (is_due hold spent left) left
 
--- kept batches are behind the others
+-- kept batches stand after the others
 pub kept_entries : (by : MemberId) (from now : ℕ) (ess : List (List Entry)) (bs : List Batch) → AreAll by from now ess bs → kept_all bs ≡ all_entries ess
 kept_entries by from now [] [] all = refl
 kept_entries by from now [] (b ∷ bs) all = absurd all
 kept_entries by from now (es ∷ ess) [] all = absurd all
 kept_entries by from now (es ∷ ess) (b ∷ bs) all = rw all.0.kept (ap (λ (l : List Entry). l ++ kept_all bs) all.0.entries ∙ ap (λ (l : List Entry). es ++ l) (kept_entries by b.last now ess bs all.1))
 
--- the queue behind batches that were kept and what is given behind them
+-- the queue after batches that were kept and what is given after them
 pub queue_behind : (base : Queue) (by : MemberId) (from now : ℕ) (front rest batches : List Batch) (ess : List (List Entry)) (was is given : List Entry) → batches ≡ front ++ rest → AreAll by from now ess rest → all_entries ess ++ is ≡ was ++ given
     → run base (kept_all batches ++ is) ≡ run (run base (kept_all front ++ was)) given
 queue_behind base by from now front rest batches ess was is given are all same =
@@ -245,7 +245,7 @@ module _ (by : MemberId) (at : ℕ) where
   spooled_one None Q n specs = (given_in Q by at (ending Q by n specs), refl, given_of by at (ending Q by n specs) Q)
   spooled_one (Some volume) Q n specs = (given_in Q by at (drop_groups ∷ []), refl, given_of by at (drop_groups ∷ []) Q)
 
-  -- at most two
+  -- the parts are the member's own, and at most two
   abbrev IsTwo : List (List Entry) → Type 0
   IsTwo parts = All (AreOf by at) parts × (length parts ≤ 2)
 
@@ -304,7 +304,7 @@ module _ (by : MemberId) (at : ℕ) where
   pub play_ours : (Q : Queue) (look : Look) → IsOurs by at (next_play Q by at look).parts
   play_ours Q look = unit_ours Q look (unit_of Q by)
 
-  -- so of all units that follow, and they are no more than are asked for
+  -- the parts of all units that follow are the member's own, and they are no more units than are asked for
   pub record AreOurs (m : ℕ) (us : List (List (List Entry))) : Type 0 where
     pub each : All (All (AreOf by at)) us
     pub few : All (λ parts. length parts ≤ 3) us

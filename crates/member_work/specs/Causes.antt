@@ -1,4 +1,5 @@
--- Why a step of work closes as it does, by what each plant tells: which of its parts are lost, and how often they failed.
+-- Why a step of work closes as it does, by what each plant tells: which of its parts are lost, and how often they
+-- failed.
 use Rattle.std.specs.Prelude.{◌≡◌, ◌⊎◌, ℕ, ◌≤◌, Some}
 use Rattle.mas_types.specs.declared.ids.MemberId.{MemberId}
 use Rattle.mas_types.specs.declared.answers.Closing.{Closing}
@@ -12,8 +13,8 @@ use Rattle.job_outcome.specs.declared.units.UnitEnd.{UnitEnd}
 use Rattle.job_outcome.specs.declared.units.UnitEnd.TheVariants as ends
 use Rattle.member_work.specs.Rounds.{HasPrinterFailed}
 
--- How a unit may be refused in a call: as its last command was, at a text that is gone, or where a volume or the member's printer was found
--- lost, which failed in the call. In no other way.
+-- How a unit may be refused in a call: as its last command was, at a text that is gone, or where a volume or the
+-- member's printer was found lost, which failed in the call. In no other way.
 abbrev pub MayRefuse : MemberId → Closing → View → View → Type 0
 MayRefuse by (closing.Reply (reply.No why)) old new = Unit {0}
 MayRefuse by (closing.NoText group) old new = Unit {0}

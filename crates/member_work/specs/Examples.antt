@@ -25,11 +25,11 @@ use Rattle.member_work.specs.Work.{work_batches, work_lines}
 abbrev pub batches_at : Queue → ℕ → List Look → List (List Command)
 batches_at Q n looks = commands_of (work_batches Q (member 1) 2 n looks)
 
--- its line, as step 2
+-- the line of a step WORK n of member 1, as step 2
 abbrev pub line_at : Queue → ℕ → List Look → List (List ℕ)
 line_at Q n looks = work_lines Q (member 1) 2 n looks
 
--- the queue behind a step WORK n of a member
+-- the queue after a step WORK n of a member
 abbrev pub worked : ℕ → ℕ → Queue → Queue
 worked m n Q = run Q (all_entries (work_batches Q (member m) 2 n []))
 
@@ -51,15 +51,17 @@ null_job config = queue_of config (fields_of (codes "N")) null_deck
 abbrev pub NullStepIsDone : Type 0
 NullStepIsDone =
     (batches_at (null_job four_groups) 9 []
-    ≡ (command.TakeConvert ∷ []) ∷ (command.Converted (job 1) ∷ command.TakeExec ∷ []) ∷ (command.Ended (job 1) [] ∷ command.Gather ∷ command.Purge ∷ []) ∷ [])
+    ≡ (command.TakeConvert ∷ []) ∷ (command.Converted (job 1) ∷ command.TakeExec ∷ [])
+    ∷ (command.Ended (job 1) [] ∷ command.Gather ∷ command.Purge ∷ []) ∷ [])
     × (line_at (null_job four_groups) 9 [] ≡ codes "SYSA 00002 OK DONE 6" ∷ [])
     × (worked 1 9 (null_job four_groups)).jobs ≡ []
 
--- where a hold is of one command, each is a batch of its own
+-- where a hold is of one command, each command is a batch of its own
 abbrev pub HoldOfOneIsGivenUp : Type 0
 HoldOfOneIsGivenUp =
     batches_at (null_job (record four_groups { hold = 1 })) 9 []
-    ≡ (command.TakeConvert ∷ []) ∷ (command.Converted (job 1) ∷ []) ∷ (command.TakeExec ∷ []) ∷ (command.Ended (job 1) [] ∷ []) ∷ (command.Gather ∷ []) ∷ (command.Purge ∷ []) ∷ []
+    ≡ (command.TakeConvert ∷ []) ∷ (command.Converted (job 1) ∷ []) ∷ (command.TakeExec ∷ [])
+    ∷ (command.Ended (job 1) [] ∷ []) ∷ (command.Gather ∷ []) ∷ (command.Purge ∷ []) ∷ []
 
 -- A COPY: its output is printed
 
@@ -74,7 +76,7 @@ copy_job config = queue_of config (fields_of (codes "COPY")) copy_deck
 abbrev pub first_output : OutNo
 first_output = record { 0 = 1 }
 
--- its one line is printed, and the job purged
+-- the commands by which an output's one line is printed, and its job purged
 abbrev pub printed_line : List Command
 printed_line = command.Mark (job 1) first_output 1 ∷ command.Done (job 1) first_output ∷ command.Purge ∷ []
 
@@ -91,7 +93,7 @@ CopyIsDone =
     × (line_at (copy_job four_groups) 9 [] ≡ codes "SYSA 00002 OK DONE 9" ∷ [])
     × (worked 1 9 (copy_job four_groups)).jobs ≡ []
 
--- as long as nobody prints it, it waits in Hardcopy
+-- as long as nobody prints the job's output, the job waits in Hardcopy
 abbrev pub CopyWaits : Type 0
 CopyWaits =
     (shown (worked 1 5 (copy_job four_groups)) what.Queue ≡ codes "JOB00001 COPY A 05 HARDCOPY - -" ∷ [])
@@ -105,18 +107,19 @@ LostPrinterRefusesTheUnit =
     × (batches_at (worked 1 6 (copy_job four_groups)) 3 (record { read = None; lost = None; printer = true } ∷ []) ≡ [])
     × (shown (worked 1 6 (copy_job four_groups)) what.Outputs ≡ codes "JOB00001.01 A LOCAL STD 1 1 0 SYSA -" ∷ [])
 
--- so many lines at a time as the printer's setting says
+-- the queue in which member 1 prints two lines at a time
 abbrev pub two_lines_each : Queue → Queue
 two_lines_each Q = change_setting (member 1) (λ s. record s { lines = 2 }) Q
 
--- of so many copies
+-- the queue in which the first output has so many copies
 abbrev pub with_copies : ℕ → Queue → Queue
 with_copies n Q = change_output (job 1) first_output (λ o. record o { copies = n }) Q
 
 abbrev pub LinesFollowTheMark : Type 0
 LinesFollowTheMark =
     (batches_at (with_copies 3 (worked 1 6 (two_lines_each (copy_job four_groups)))) 9 []
-    ≡ (command.Mark (job 1) first_output 2 ∷ []) ∷ (command.Mark (job 1) first_output 3 ∷ command.Done (job 1) first_output ∷ command.Purge ∷ []) ∷ [])
+    ≡ (command.Mark (job 1) first_output 2 ∷ [])
+    ∷ (command.Mark (job 1) first_output 3 ∷ command.Done (job 1) first_output ∷ command.Purge ∷ []) ∷ [])
     × (line_at (with_copies 3 (worked 1 6 (two_lines_each (copy_job four_groups)))) 9 [] ≡ codes "SYSA 00002 OK DONE 4" ∷ [])
 
 -- A JCL ERROR, AND A JOB THAT IS ONLY SCANNED: what is listed is their output
@@ -154,12 +157,14 @@ FirstJobIsTaken =
 -- RESETS: of two members that run jobs the one may start again
 
 abbrev pub two_at_work : Queue
-two_at_work = worked 2 3 (worked 1 3 (queue_after (empty (record four_groups { members = 3 })) (may_restart ++ may_not_restart)))
+two_at_work = worked 2 3 (worked 1 3
+    (queue_after (empty (record four_groups { members = 3 })) (may_restart ++ may_not_restart)))
 
 abbrev pub BothAreReset : Type 0
 BothAreReset =
     (shown two_at_work what.Queue ≡ codes "JOB00001 Y A 05 EXECUTE SYSA -" ∷ codes "JOB00002 N A 05 EXECUTE SYSB -" ∷ [])
-    × (shown (queue_after two_at_work ((member 3, command.Reset (member 1)) ∷ (member 3, command.Reset (member 2)) ∷ [])) what.Queue
+    × (shown (queue_after two_at_work
+    ((member 3, command.Reset (member 1)) ∷ (member 3, command.Reset (member 2)) ∷ [])) what.Queue
     ≡ codes "JOB00001 Y A 05 EXECUTE - -" ∷ codes "JOB00002 N A 05 PURGE - -" ∷ [])
 
 -- WHAT REFUSES A UNIT: the units before it are done, and the member's groups become free
@@ -168,7 +173,8 @@ BothAreReset =
 abbrev pub FullSpoolRefusesTheUnit : Type 0
 FullSpoolRefusesTheUnit =
     (batches_at (copy_job (record four_groups { groups = 1 })) 9 []
-    ≡ (command.TakeConvert ∷ []) ∷ (command.Converted (job 1) ∷ command.TakeExec ∷ []) ∷ (command.Take 1 ∷ command.Drop (job 0) ∷ []) ∷ [])
+    ≡ (command.TakeConvert ∷ []) ∷ (command.Converted (job 1) ∷ command.TakeExec ∷ [])
+    ∷ (command.Take 1 ∷ command.Drop (job 0) ∷ []) ∷ [])
     × (line_at (copy_job (record four_groups { groups = 1 })) 9 [] ≡ codes "SYSA 00002 NO SPOOL FULL" ∷ [])
     × (shown (worked 1 9 (copy_job (record four_groups { groups = 1 }))) what.Queue ≡ codes "JOB00001 COPY A 05 EXECUTE SYSA -" ∷ [])
 
@@ -183,14 +189,17 @@ FullOutputsRefuseTheUnit =
 -- the volume is lost before the outputs are written, in the fourth unit
 abbrev pub LostVolumeRefusesTheUnit : Type 0
 LostVolumeRefusesTheUnit =
-    (batches_at (copy_job four_groups) 9 (calm ∷ calm ∷ calm ∷ record { read = None; lost = Some 1; printer = false } ∷ [])
-    ≡ (command.TakeConvert ∷ []) ∷ (command.Converted (job 1) ∷ command.TakeExec ∷ []) ∷ (command.Take 1 ∷ []) ∷ (command.Drop (job 0) ∷ []) ∷ [])
+    (batches_at (copy_job four_groups) 9
+    (calm ∷ calm ∷ calm ∷ record { read = None; lost = Some 1; printer = false } ∷ [])
+    ≡ (command.TakeConvert ∷ []) ∷ (command.Converted (job 1) ∷ command.TakeExec ∷ []) ∷ (command.Take 1 ∷ [])
+    ∷ (command.Drop (job 0) ∷ []) ∷ [])
     × (line_at (copy_job four_groups) 9 (calm ∷ calm ∷ calm ∷ record { read = None; lost = Some 1; printer = false } ∷ []) ≡ codes "SYSA 00002 NO SPOOL LOST 1" ∷ [])
 
--- or before the text is read, in the second unit
+-- the volume is lost before the text is read, in the second unit
 abbrev pub UnreadTextRefusesTheUnit : Type 0
 UnreadTextRefusesTheUnit =
-    (batches_at (copy_job four_groups) 9 (calm ∷ record { read = Some (read.Lost 1); lost = None; printer = false } ∷ []) ≡ (command.TakeConvert ∷ []) ∷ [])
+    (batches_at (copy_job four_groups) 9 (calm ∷ record { read = Some (read.Lost 1); lost = None; printer = false }
+    ∷ []) ≡ (command.TakeConvert ∷ []) ∷ [])
     × (line_at (copy_job four_groups) 9 (calm ∷ record { read = Some (read.Lost 1); lost = None; printer = false } ∷ []) ≡ codes "SYSA 00002 NO SPOOL LOST 1" ∷ [])
 
 -- a start found the text gone

@@ -45,10 +45,12 @@ pub record HasGiven (at : ℕ) (m n : Member) : Type 0 where
 
 -- entries that leave a queue's texts on volumes where this holds
 abbrev pub LeaveWhere : (Spools → ℕ → Type 0) → Queue → List Entry → Type 0
-LeaveWhere holds Q es = (gone : ℕ → Bool) (disks : Spools) (per : ℕ) → holds disks per → HasTexts gone disks per Q → HasTexts gone disks per (run Q es)
+LeaveWhere holds Q es = (gone : ℕ → Bool) (disks : Spools) (per : ℕ) → holds disks per → HasTexts gone disks per Q
+    → HasTexts gone disks per (run Q es)
 
--- These commands, given at a queue that the tables told: all of them, or where memory wanted the first ones.
-pub record GivesAt {T E : Type 0} (Q : Queue) (by : MemberId) (at : ℕ) (cs : List Command) (holds : Spools → ℕ → Type 0) (m n : Member) (result : Result T E) : Type 0 where
+-- These commands, given at a queue that the tables told: all of them, or, out of memory, the first ones.
+pub record GivesAt {T E : Type 0} (Q : Queue) (by : MemberId) (at : ℕ) (cs : List Command) (holds : Spools → ℕ → Type 0)
+    (m n : Member) (result : Result T E) : Type 0 where
   pub gave : List Entry
   pub batch : n.batch ≡ m.batch ++ gave
   pub part : IsPart result gave (given_in Q by at cs)
@@ -59,8 +61,11 @@ pub record GivesAt {T E : Type 0} (Q : Queue) (by : MemberId) (at : ℕ) (cs : L
 abbrev pub IsSoundPlain : Tables → Command → Type 0
 IsSoundPlain t c = TellSound t × (brings_text c ≡ false)
 
--- the tables are those of a sound queue, in which the job may end, and its outputs stand in the lowest groups of the member
-pub record MayEnd (t : Tables) (Q : Queue) (by : MemberId) (n : JobNo) (specs : List OutSpec) (disks : Spools) (per : ℕ) : Type 0 where
+-- the tables are those of a sound queue, in which the job may end, and its outputs stand in the lowest groups of the
+-- member
+pub record MayEnd (t : Tables) (Q : Queue) (by : MemberId) (n : JobNo) (specs : List OutSpec) (disks : Spools)
+    (per : ℕ) : Type 0 where
   pub sound : TellSound t
   pub under_way : IsUnderWay Q n
-  pub spooled : AreSpooled disks per (outputs_at_end (job_at Q n) specs) (take (groups_for_end Q n specs) (held_by by Q.owners))
+  pub spooled : AreSpooled disks per (outputs_at_end (job_at Q n) specs)
+      (take (groups_for_end Q n specs) (held_by by Q.owners))

@@ -1,4 +1,5 @@
--- Whether the text of a job, or of an output, is gone, by the queue with which a run began and the entries that are kept since.
+-- Whether the text of a job, or of an output, is gone, by the queue with which a run began and the entries that are
+-- kept since.
 use Rattle.std.specs.Prelude.{Bool, false, if◌then◌else◌, List, Option, Some, None}
 use Rattle.std.specs.List.{list_any}
 use Rattle.std.specs.Option.{option_map_or}
@@ -21,7 +22,7 @@ abbrev pub gone_with : Text → Option GroupNo
 gone_with (Whole lines) = None
 gone_with (Gone group count) = Some group
 
--- that of a job's text, None where it is whole
+-- the group with which a job's text is gone, None where it is whole
 abbrev pub gone_in : Queue → JobNo → Option GroupNo
 gone_in Q n = option_map_or (λ j. gone_with j.text) (job_at Q n) None
 
@@ -36,17 +37,18 @@ brings_job n (command.Enter job text) answer = names_job n answer
 brings_job n (command.Got line number job text) answer = names_job n answer
 brings_job n _ answer = false
 
--- one of the entries does
+-- one of the entries brought a job of this number
 abbrev pub is_brought : JobNo → List Entry → Bool
 is_brought n es = list_any (λ e. brings_job n e.command e.reply) es
 
--- the group with which the text is gone of a job that was there at the beginning; None where one of its number was brought since
+-- the group with which the text is gone of a job that was there at the beginning; None where one of its number was
+-- brought since
 abbrev pub gone_since : Queue → List Entry → JobNo → Option GroupNo
 gone_since base es n = if is_brought n es then None else gone_in base n
 
--- AN OUTPUT'S
+-- AN OUTPUT'S TEXT
 
--- that of an output's text, None where it is whole
+-- the group with which an output's text is gone, None where it is whole
 abbrev pub gone_output_in : Queue → JobNo → OutNo → Option GroupNo
 gone_output_in Q n i = option_map_or (λ o. gone_with o.text) (output_at Q n i) None
 
@@ -55,10 +57,11 @@ abbrev pub brings_outputs : JobNo → Command → Reply → Bool
 brings_outputs n (command.Ended job specs) (reply.Count count) = same_number job n
 brings_outputs n _ answer = false
 
--- one of the entries did
+-- one of the entries brought outputs of this job
 abbrev pub are_outputs_brought : JobNo → List Entry → Bool
 are_outputs_brought n es = list_any (λ e. brings_outputs n e.command e.reply) es
 
--- the group with which the text is gone of an output that was there at the beginning; None where outputs of its job were brought since
+-- the group with which the text is gone of an output that was there at the beginning; None where outputs of its job
+-- were brought since
 abbrev pub gone_output_since : Queue → List Entry → JobNo → OutNo → Option GroupNo
 gone_output_since base es n i = if are_outputs_brought n es then None else gone_output_in base n i

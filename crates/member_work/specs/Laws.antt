@@ -10,9 +10,12 @@ use Rattle.member_work.specs.Looks.{Look}
 use Rattle.member_work.specs.Rounds.{IsRound}
 use Rattle.member_work.specs.Work.{rounds, work_batches, work_lines}
 
--- where content is told, and neither a spool volume nor the member's printer failed, a step's batches and its line are functions of the queue
+-- where content is told, and neither a spool volume nor the member's printer failed, a step's batches and its line are
+-- functions of the queue
 abbrev pub CalmWorkIsOfTheQueue : Type 0 → Type 0
 CalmWorkIsOfTheQueue told = (per : ℕ) (Q : Queue) (by : MemberId) (at n : ℕ) (looks : List Look) (old new : View)
-    → told → ((v : ℕ) → Rose (old.faults (DiskPart (Spool v))) (new.faults (DiskPart (Spool v))) → ⊥) → (Rose (old.faults (Printer by)) (new.faults (Printer by)) → ⊥)
+    → told → ((v : ℕ) → Rose (old.faults (DiskPart (Spool v))) (new.faults (DiskPart (Spool v))) → ⊥)
+    → (Rose (old.faults (Printer by)) (new.faults (Printer by)) → ⊥)
     → All (IsRound told per by at old new) (rounds n Q by at looks)
-    → (work_batches Q by at n looks ≡ work_batches Q by at n []) × (work_lines Q by at n looks ≡ work_lines Q by at n [])
+    → (work_batches Q by at n looks ≡ work_batches Q by at n [])
+    × (work_lines Q by at n looks ≡ work_lines Q by at n [])

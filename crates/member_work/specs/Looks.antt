@@ -5,8 +5,9 @@ use Rattle.mas_types.specs.declared.jobs.Text.TheVariants.{Whole, Gone}
 use Rattle.job_outcome.specs.declared.outcomes.Read.{Read}
 use Rattle.job_outcome.specs.declared.outcomes.Read.TheVariants as read
 
--- A unit finds the text of a job, or of an output, as the queue has it, or it was read otherwise: a volume was found lost, or what is told
--- of no content. And a volume may be found lost when the job's outputs are written, or the printer where an output's lines are printed.
+-- A unit finds the text of a job, or of an output, as the queue has it, or it was read otherwise: a volume was found
+-- lost, or what is told of no content. And a volume may be found lost when the job's outputs are written, or the
+-- printer where an output's lines are printed.
 pub record Look : Type 0 where
   pub read : Option Read
   pub lost : Option ℕ

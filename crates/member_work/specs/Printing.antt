@@ -41,7 +41,8 @@ use Rattle.member_work.specs.Work.{spent_in}
 
 -- ACTS ON THE PRINTER AND THE VOLUMES
 
--- Acts of a member beside the copies: neither copy is lost, and where content is told both are as they were, and so is the console.
+-- Acts of a member beside the copies: neither copy is lost, and where content is told both are as they were, and so is
+-- the console.
 pub record IsBeside (told : Type 0) (old new : View) : Type 0 where
   pub goes : Goes old new
   pub lost1 : new.lost (DiskPart Ckpt1) ≡ old.lost (DiskPart Ckpt1)
@@ -61,7 +62,7 @@ IsBookAfterLines (Err ConsoleFault) by was is = is ≡ was
 
 -- THE OUTPUT
 
--- the output with this key is busy at the member, and has lines behind its mark
+-- the output with this key is busy at the member, and has lines after its mark
 pub record IsPrinting (Q : Queue) (m : MemberId) (n : JobNo) (i : OutNo) : Type 0 where
   pub output : Output
   pub there : output_at Q n i ≡ Some output
@@ -73,17 +74,19 @@ pub record IsToldOutput (t : Tables) (r : OutRec) : Type 0 where
   pub some : 1 ≤ r.lines
   pub few : r.lines ≤ text_lines_most
   pub index : IsIndex r.index.0
-  pub same : (Q : Queue) (o : Output) → Tell t Q → output_at Q r.job r.index ≡ Some o → (o.job ≡ r.job) × (o.index ≡ r.index) × (o.mark ≡ r.mark) × (line_count o.text ≡ r.lines) × (total o ≡ r.lines * r.copies)
+  pub same : (Q : Queue) (o : Output) → Tell t Q → output_at Q r.job r.index ≡ Some o → (o.job ≡ r.job)
+      × (o.index ≡ r.index) × (o.mark ≡ r.mark) × (line_count o.text ≡ r.lines) × (total o ≡ r.lines * r.copies)
 
--- this is the last of its lines that are printed next
+-- the last of an output's lines that are printed next
 pub record IsChunkOf (t : Tables) (by : MemberId) (r : OutRec) (last : ℕ) : Type 0 where
   pub limit : last ≤ r.mark + printer_lines_most
   pub total : last ≤ r.lines * r.copies
   pub is : (Q : Queue) (o : Output) → Tell t Q → output_at Q r.job r.index ≡ Some o → last ≡ chunk_end Q by o
 
--- The lines of an output up to this one may be printed: it has this text and mark, and is busy at the member after the kept batches, and
--- with one in flight.
-pub record MayPrintTo (base : Queue) (batches : List Batch) (current : Option Batch) (m : MemberId) (n : JobNo) (i : OutNo) (mark last : ℕ) (lines : List (List ℕ)) : Type 0 where
+-- The lines of an output up to this one may be printed: it has this text and mark, and is busy at the member after the
+-- kept batches, and with one in flight.
+pub record MayPrintTo (base : Queue) (batches : List Batch) (current : Option Batch) (m : MemberId) (n : JobNo)
+    (i : OutNo) (mark last : ℕ) (lines : List (List ℕ)) : Type 0 where
   pub output : Output
   pub busy : printing_at (run base (kept_all batches)) m ≡ Some output
   pub job : output.job ≡ n
@@ -102,17 +105,23 @@ pub record IsLinesPrinted (by : MemberId) (read : Read) (old new : View) (end : 
   pub is : end ≡ printed_end lost read
   pub printer : lost ≡ true → HasPrinterFailed by old new
 
--- How the lines of the output with this key were printed: none where all stand on paper, else how the unit is refused. Where content is told
--- the output is that of the queue.
-pub record IsPrinted (told : Type 0) (per : ℕ) (Q : Queue) (by : MemberId) (n : JobNo) (i : OutNo) (old new : View) (end : Option Closing) : Type 0 where
+-- How the lines of the output with this key were printed: none where all stand on paper, else how the unit is refused.
+-- Where content is told the output is that of the queue.
+pub record IsPrinted (told : Type 0) (per : ℕ) (Q : Queue) (by : MemberId) (n : JobNo) (i : OutNo) (old new : View)
+    (end : Option Closing) : Type 0 where
   pub read : Option Read
   pub lost : Bool
-  pub is : told → (o : Output) → output_at Q n i ≡ Some o → IsReadAs told per o.text (groups_of (OutputThing n i) Q.owners) read old new × (end ≡ printed_end lost (read_of read o.text))
+  pub is : told → (o : Output) → output_at Q n i ≡ Some o
+      → IsReadAs told per o.text (groups_of (OutputThing n i) Q.owners) read old new
+      × (end ≡ printed_end lost (read_of read o.text))
   pub printer : lost ≡ true → HasPrinterFailed by old new
   pub caused : IfSome end (λ e. MayRefuse by e old new)
 
--- The lines are marked, or the unit is refused, with the cause that this has since an earlier moment. Nothing is unwritten before.
-pub record IsMarkStep (told : Type 0) (by : MemberId) (at : ℕ) (Q : Queue) (n : JobNo) (i : OutNo) (last : ℕ) (end_is : Option Closing) (is_left : List Entry) (front batches : List Batch) (was1 is1 was2 is2 : Bool) (old new : View) (result : Result UnitEnd NodeNo) : Type 0 where
+-- The lines are marked, or the unit is refused, with the cause that this has since an earlier moment. Nothing is
+-- unwritten before.
+pub record IsMarkStep (told : Type 0) (by : MemberId) (at : ℕ) (Q : Queue) (n : JobNo) (i : OutNo) (last : ℕ)
+    (end_is : Option Closing) (is_left : List Entry) (front batches : List Batch) (was1 is1 was2 is2 : Bool)
+    (old new : View) (result : Result UnitEnd NodeNo) : Type 0 where
   pub parts : List (List Entry)
   pub end : UnitEnd
   pub is : told → IsPlayOf (mark_play Q by at n i last end_is) parts end
@@ -120,22 +129,29 @@ pub record IsMarkStep (told : Type 0) (by : MemberId) (at : ℕ) (Q : Queue) (n 
   pub single : length parts ≡ 1
   pub played : IsPlayed told by at parts end [] is_left front batches was1 is1 was2 is2 old new result
 
--- The unit of the output with this key, from where nothing is unwritten: its part behind the first one, which has no commands.
-pub record IsLinesStep (told : Type 0) (by : MemberId) (at per : ℕ) (Q : Queue) (n : JobNo) (i : OutNo) (last : ℕ) (is_left : List Entry) (front batches : List Batch) (was1 is1 was2 is2 : Bool) (old new : View) (result : Result UnitEnd NodeNo) : Type 0 where
+-- The unit of the output with this key, from where nothing is unwritten: its part after the first one, which has no
+-- commands.
+pub record IsLinesStep (told : Type 0) (by : MemberId) (at per : ℕ) (Q : Queue) (n : JobNo) (i : OutNo) (last : ℕ)
+    (is_left : List Entry) (front batches : List Batch) (was1 is1 was2 is2 : Bool) (old new : View)
+    (result : Result UnitEnd NodeNo) : Type 0 where
   pub look : Look
   pub parts : List (List Entry)
   pub end : UnitEnd
-  pub is : told → (o : Output) → output_at Q n i ≡ Some o → IsPrintLook told per Q by look old new o × IsPlayOf (mark_play Q by at o.job o.index last (printed_end look.printer (read_of look.read o.text))) parts end
+  pub is : told → (o : Output) → output_at Q n i ≡ Some o → IsPrintLook told per Q by look old new o
+      × IsPlayOf (mark_play Q by at o.job o.index last (printed_end look.printer (read_of look.read o.text))) parts end
   pub caused : MayEndUnit by end old new
   pub single : length parts ≡ 1
   pub played : IsPlayed told by at parts end [] is_left front batches was1 is1 was2 is2 old new result
 
--- The whole unit.
-pub record IsPrintStep (told : Type 0) (by : MemberId) (at per : ℕ) (Q : Queue) (n : JobNo) (i : OutNo) (so_far is_left : List Entry) (spent is_spent : ℕ) (front batches : List Batch) (was1 is1 was2 is2 : Bool) (old new : View) (result : Result UnitEnd NodeNo) : Type 0 where
+-- The whole unit of the output with this key.
+pub record IsPrintStep (told : Type 0) (by : MemberId) (at per : ℕ) (Q : Queue) (n : JobNo) (i : OutNo)
+    (so_far is_left : List Entry) (spent is_spent : ℕ) (front batches : List Batch) (was1 is1 was2 is2 : Bool)
+    (old new : View) (result : Result UnitEnd NodeNo) : Type 0 where
   pub look : Look
   pub parts : List (List Entry)
   pub end : UnitEnd
-  pub is : told → IfSome (output_at Q n i) (IsPrintLook told per Q by look old new) × IsPlayOf (print_play Q by at look n i) parts end
+  pub is : told → IfSome (output_at Q n i) (IsPrintLook told per Q by look old new)
+      × IsPlayOf (print_play Q by at look n i) parts end
   pub caused : MayEndUnit by end old new
   pub played : IsPlayed told by at parts end so_far is_left front batches was1 is1 was2 is2 old new result
   pub spends : OnOk result (is_spent ≡ spent_in spent parts)

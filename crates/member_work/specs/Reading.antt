@@ -27,9 +27,10 @@ pub record AreRecords (lines : List (List ℕ)) : Type 0 where
   pub short : All (λ line. length line ≤ line_bytes) lines
   pub text : All (λ line. is_text_line line ≡ true) lines
 
--- A group was read, so its volume wasn't lost: its lines are added, none where it holds no records; then the text is gone with this group,
--- unless one before it held none. Where content is told these are the records that stand there.
-pub record AddsGroup (told : Type 0) (config : Config) (g : GroupNo) (old : View) (was is : List (List ℕ)) (gone_before gone : Option GroupNo) : Type 0 where
+-- A group was read, so its volume wasn't lost: its lines are added, none where it holds no records; then the text is
+-- gone with this group, unless one before it held none. Where content is told these are the records that stand there.
+pub record AddsGroup (told : Type 0) (config : Config) (g : GroupNo) (old : View) (was is : List (List ℕ))
+    (gone_before gone : Option GroupNo) : Type 0 where
   pub records : Option (List (List ℕ))
   pub added : is ≡ was ++ unwrap_or records []
   pub fits : AreRecords (unwrap_or records [])
@@ -37,10 +38,13 @@ pub record AddsGroup (told : Type 0) (config : Config) (g : GroupNo) (old : View
   pub there : old.lost (DiskPart (Spool (volume_of config.groups g))) ≡ false
   pub are_held : told → AreRoomy old config → records_on (bytes_on (spools_at old old.now)) config.groups g ≡ records
 
--- or its volume was found lost
-abbrev pub AddsUnless : Type 0 → Config → GroupNo → View → View → List (List ℕ) → List (List ℕ) → Option GroupNo → Option GroupNo → Option ℕ → Type 0
-AddsUnless told config g old new was is gone_before is_gone None = AddsGroup told config g old was is gone_before is_gone
-AddsUnless told config g old new was is gone_before is_gone (Some volume) = HasFailed config.groups (g ∷ []) volume old new
+-- a group is read, or its volume was found lost
+abbrev pub AddsUnless : Type 0 → Config → GroupNo → View → View → List (List ℕ) → List (List ℕ) → Option GroupNo
+    → Option GroupNo → Option ℕ → Type 0
+AddsUnless told config g old new was is gone_before is_gone None = AddsGroup told config g old was is gone_before
+    is_gone
+AddsUnless told config g old new was is gone_before is_gone (Some volume) = HasFailed config.groups (g ∷ []) volume old
+    new
 
 -- what was read is as the queue has the text, or a volume of its groups failed
 abbrev pub IsReadOf : ℕ → Text → List GroupNo → Read → View → View → Type 0

@@ -39,32 +39,36 @@ abbrev pub IsWhole : Text → Type 0
 IsWhole (Whole lines) = Unit {0}
 IsWhole (Gone group count) = ⊥
 
--- How a text was read that stands in these groups. Where content is told it is as the queue has it, unless a volume was found lost; no
--- volume is found lost at a text that is gone.
+-- How a text was read that stands in these groups. Where content is told it is as the queue has it, unless a volume was
+-- found lost; no volume is found lost at a text that is gone.
 abbrev pub IsReadAs : Type 0 → ℕ → Text → List GroupNo → Option Read → View → View → Type 0
 IsReadAs told per text groups None old new = Unit {0}
 IsReadAs told per text groups (Some (read.Lines lines)) old new = told → read.Lines lines ≡ as_it_is text
 IsReadAs told per text groups (Some (read.Gone group)) old new = told → read.Gone group ≡ as_it_is text
-IsReadAs told per text groups (Some (read.Lost volume)) old new = (told → IsWhole text) × HasFailed per groups volume old new
+IsReadAs told per text groups (Some (read.Lost volume)) old new = (told → IsWhole text)
+    × HasFailed per groups volume old new
 
 -- A volume that was found lost where outputs were written: all groups were taken for them, and one of these lies on it.
 abbrev pub IsSpooledIn : ℕ → ℕ → Queue → MemberId → ℕ → Option ℕ → View → View → Type 0
 IsSpooledIn per needed Q by at None old new = Unit {0}
 IsSpooledIn per needed Q by at (Some volume) old new =
-    (1 ≤ needed) × (are_refused needed Q by needed ≡ false) × HasFailed per (take needed (held_by by (taken_queue Q by at needed).owners)) volume old new
+    (1 ≤ needed) × (are_refused needed Q by needed ≡ false)
+    × HasFailed per (take needed (held_by by (taken_queue Q by at needed).owners)) volume old new
 
--- the same of a call that writes into these groups
+-- a volume that was found lost in a call that writes into these groups: one of them lies on it
 abbrev pub IsSpoolLost : ℕ → List GroupNo → Option ℕ → View → View → Type 0
 IsSpoolLost per groups None old new = Unit {0}
 IsSpoolLost per groups (Some volume) old new = HasFailed per groups volume old new
 
 abbrev pub IsSpooledFor : ℕ → Queue → MemberId → ℕ → JobNo → Outcome → Option ℕ → View → View → Type 0
 IsSpooledFor per Q by at n outcome.Convert lost old new = lost ≡ None
-IsSpooledFor per Q by at n (outcome.End specs) lost old new = IsSpooledIn per (groups_for_end Q n specs) Q by at lost old new
+IsSpooledFor per Q by at n (outcome.End specs) lost old new = IsSpooledIn per (groups_for_end Q n specs) Q by at lost
+    old new
 IsSpooledFor per Q by at n (outcome.Stop end) lost old new = lost ≡ None
 
--- of a job that is run, or else converted
-pub record IsLookOf (told : Type 0) (runs : Bool) (per : ℕ) (Q : Queue) (by : MemberId) (at : ℕ) (look : Look) (old new : View) (j : Job) : Type 0 where
+-- what a look says of a job that is run, or else converted
+pub record IsLookOf (told : Type 0) (runs : Bool) (per : ℕ) (Q : Queue) (by : MemberId) (at : ℕ) (look : Look)
+    (old new : View) (j : Job) : Type 0 where
   pub is_read : IsReadAs told per j.text (groups_of (Deck j.number) Q.owners) look.read old new
   pub is_spooled : IsSpooledFor per Q by at j.number (outcome_for runs look j) look.lost old new
 
@@ -74,14 +78,17 @@ pub record HasPrinterFailed (by : MemberId) (old new : View) : Type 0 where
   pub rose : Rose (old.faults (Printer by)) (new.faults (Printer by))
 
 -- of an output of which the next lines are printed
-pub record IsPrintLook (told : Type 0) (per : ℕ) (Q : Queue) (by : MemberId) (look : Look) (old new : View) (o : Output) : Type 0 where
+pub record IsPrintLook (told : Type 0) (per : ℕ) (Q : Queue) (by : MemberId) (look : Look) (old new : View)
+    (o : Output) : Type 0 where
   pub is_read : IsReadAs told per o.text (groups_of (OutputThing o.job o.index) Q.owners) look.read old new
   pub printer : look.printer ≡ true → HasPrinterFailed by old new
 
 abbrev pub IsLookAt : Type 0 → ℕ → Queue → MemberId → ℕ → Look → View → View → units.Unit → Type 0
 IsLookAt told per Q by at look old new (unit.Run n) = IfSome (job_at Q n) (IsLookOf told true per Q by at look old new)
-IsLookAt told per Q by at look old new (unit.Convert n) = IfSome (job_at Q n) (IsLookOf told false per Q by at look old new)
-IsLookAt told per Q by at look old new (unit.Print n i) = IfSome (output_at Q n i) (IsPrintLook told per Q by look old new)
+IsLookAt told per Q by at look old new (unit.Convert n) = IfSome (job_at Q n)
+    (IsLookOf told false per Q by at look old new)
+IsLookAt told per Q by at look old new (unit.Print n i) = IfSome (output_at Q n i)
+    (IsPrintLook told per Q by look old new)
 IsLookAt told per Q by at look old new _ = Unit {0}
 
 abbrev pub IsRound : Type 0 → ℕ → MemberId → ℕ → View → View → Round → Type 0

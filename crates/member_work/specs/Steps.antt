@@ -60,20 +60,24 @@ use Rattle.member_work.specs.Work.{batches_in, left_between, left_in, round_of, 
 
 -- WHAT ANSWERS LEAVE
 
--- All are kept where the line is said, or where the console failed at it. Where memory wanted the first ones are kept, and of the next one
--- perhaps what was done of it; where both copies were lost, or the member was stopped, one may be in flight behind them.
+-- All batches are kept where the line is said, or where the console failed at it. Out of memory, the first ones are
+-- kept, and of the next one perhaps what was done of it; where both copies were lost, or the member was stopped, one
+-- may be in flight after them.
 abbrev pub WorkLeaves : {T : Type 0} → Result T NodeNo → MemberId → ℕ → ℕ → List (List Entry) → List Batch → Type 0
 WorkLeaves (Ok done) by from now ess bs = AreAll by from now ess bs
 WorkLeaves (Err ConsoleFault) by from now ess bs = AreAll by from now ess bs
 WorkLeaves (Err NoMemory) by from now ess bs = AreCut by from now ess bs ⊎ AreAll by from now ess bs
-WorkLeaves (Err BothLost) by from now ess bs = AreCut by from now ess bs ⊎ OneFlies by from now ess bs ⊎ AreAll by from now ess bs
-WorkLeaves (Err Halted) by from now ess bs = AreCut by from now ess bs ⊎ OneFlies by from now ess bs ⊎ AreAll by from now ess bs
+WorkLeaves (Err BothLost) by from now ess bs = AreCut by from now ess bs ⊎ OneFlies by from now ess bs
+    ⊎ AreAll by from now ess bs
+WorkLeaves (Err Halted) by from now ess bs = AreCut by from now ess bs ⊎ OneFlies by from now ess bs
+    ⊎ AreAll by from now ess bs
 
 -- THE STEP
 
--- A step that closes with these lines once batches with these entries are kept, one after another, over a journal with these batches
--- before it.
-pub record IsClosing {T : Type 0} (told : Type 0) (by : MemberId) (lines : List (List ℕ)) (ess : List (List Entry)) (front batches : List Batch) (was1 is1 was2 is2 : Bool) (old new : View) (result : Result T NodeNo) : Type 0 where
+-- A step that closes with these lines once batches with these entries are kept, one after another, over a journal with
+-- these batches before it.
+pub record IsClosing {T : Type 0} (told : Type 0) (by : MemberId) (lines : List (List ℕ)) (ess : List (List Entry))
+    (front batches : List Batch) (was1 is1 was2 is2 : Bool) (old new : View) (result : Result T NodeNo) : Type 0 where
   pub course : Course was1 is1 was2 is2 old new
   pub loses : told → (d : Dev) → new.loses d ≡ old.loses d
   pub cause : StepCauses result by.0 was1 is1 was2 is2 old new
@@ -81,11 +85,14 @@ pub record IsClosing {T : Type 0} (told : Type 0) (by : MemberId) (lines : List 
   pub rest : List Batch
   pub batches_are : batches ≡ front ++ rest
   pub journal : WorkLeaves result by old.now new.now ess rest
-  pub console : told → StepTells result lines (HasAll by old.now new.now ess front batches) (console_now old) (console_now new)
+  pub console : told → StepTells result lines (HasAll by old.now new.now ess front batches) (console_now old)
+      (console_now new)
 
--- What a step WORK n gives at a queue: its batches, and how it closes, where the volumes and the printer gave its units these looks. Nothing
--- is found lost but what failed in the step; so where neither a volume nor the printer fails in it these are functions of the queue.
-pub record IsWorkOf (told : Type 0) (by : MemberId) (at per n : ℕ) (Q : Queue) (looks : List Look) (old new : View) (gave : List (List Entry)) (end : Closing) : Type 0 where
+-- What a step WORK n gives at a queue: its batches, and how it closes, where the volumes and the printer gave its units
+-- these looks. Nothing is found lost but what failed in the step; so where neither a volume nor the printer fails in it
+-- these are functions of the queue.
+pub record IsWorkOf (told : Type 0) (by : MemberId) (at per n : ℕ) (Q : Queue) (looks : List Look) (old new : View)
+    (gave : List (List Entry)) (end : Closing) : Type 0 where
   pub seen : All (IsRound told per by at old new) (rounds n Q by at looks)
   pub batches : gave ≡ work_batches Q by at n looks
   pub ends : end ≡ work_closing Q by at n looks
@@ -94,9 +101,10 @@ pub record IsWorkOf (told : Type 0) (by : MemberId) (at per n : ℕ) (Q : Queue)
 abbrev pub levels_in : ℕ → ℕ
 levels_in n = 3 * n + 1
 
--- A step WORK n from the queue Q on: batches of entries of the step, whatever their replies are, and a line, which has its cause. Where
--- content is told they are those that the step gives at Q.
-pub record IsWorkStep {T : Type 0} (told : Type 0) (by : MemberId) (at per n : ℕ) (Q : Queue) (front batches : List Batch) (was1 is1 was2 is2 : Bool) (old new : View) (result : Result T NodeNo) : Type 0 where
+-- A step WORK n from the queue Q on: batches of entries of the step, whatever their replies are, and a line, which has
+-- its cause. Where content is told they are those that the step gives at Q.
+pub record IsWorkStep {T : Type 0} (told : Type 0) (by : MemberId) (at per n : ℕ) (Q : Queue)
+    (front batches : List Batch) (was1 is1 was2 is2 : Bool) (old new : View) (result : Result T NodeNo) : Type 0 where
   pub looks : List Look
   pub gave : List (List Entry)
   pub end : Closing
@@ -106,15 +114,17 @@ pub record IsWorkStep {T : Type 0} (told : Type 0) (by : MemberId) (at per n : �
   pub caused : MayClose n by end old new
   pub closes : IsClosing told by (closing_line by at end ∷ []) gave front batches was1 is1 was2 is2 old new result
 
--- Who holds the lock after an error, in a step that held it with this book: the member still, or nobody, where the error came amid acts beside
--- the copies, for which it had given the lock up. A member that was stopped while it printed is stopped in the book.
+-- Who holds the lock after an error, in a step that held it with this book: the member still, or nobody, where the
+-- error came amid acts beside the copies, for which it had given the lock up. A member that was stopped while it
+-- printed is stopped in the book.
 abbrev pub EndsWith : NodeNo → MemberId → Book → Book → Type 0
 EndsWith BothLost by held is = is ≡ held
 EndsWith ConsoleFault by held is = is ≡ held
 EndsWith NoMemory by held is = (is ≡ held) ⊎ (is ≡ after_free held by true)
-EndsWith Halted by held is = (is ≡ held) ⊎ (is ≡ after_free held by true) ⊎ (is ≡ after_stop (after_free held by true) by)
+EndsWith Halted by held is = (is ≡ held) ⊎ (is ≡ after_free held by true)
+    ⊎ (is ≡ after_stop (after_free held by true) by)
 
--- and whatever the answer
+-- the book of the lock after a call, whatever it answers
 abbrev pub LeavesBook : {T : Type 0} → Result T NodeNo → MemberId → Book → Book → Type 0
 LeavesBook (Ok done) by held is = is ≡ held
 LeavesBook (Err e) by held is = EndsWith e by held is
@@ -126,11 +136,14 @@ pub record IsCount (n : ℕ) : Type 0 where
 
 -- WITHIN A STEP
 
--- The member has the lock: nothing is in flight, reserved or has its place, and its batch has what it gave behind the kept batches, which
--- are kept by now. Where content is told its tables tell the queue that this leaves, each volume that isn't lost has the size that its
--- groups need, and where something is unwritten the texts of that queue stand on the volumes, but for those with a group on a lost one; and
--- the batch may begin: a Mark in it is one of lines that the member has printed.
-pub record IsAtWork (told : Type 0) (v : View) (since : ℕ) (base : Queue) (batches : List Batch) (current : Option Batch) (placed : Bool) (level : ℕ) (reserved : Option (List Entry)) (printed : List ℕ) (by : MemberId) (batch : List Entry) (k : Checkpoint) (room : List Page) (behind : Bool) : Type 0 where
+-- The member has the lock: nothing is in flight, reserved or has its place, and its batch has what it gave after the
+-- kept batches, which are kept by now. Where content is told its tables tell the queue that this leaves, each volume
+-- that isn't lost has the size that its groups need, and where something is unwritten the texts of that queue stand on
+-- the volumes, except those with a group on a lost one; and the batch may begin: a Mark in it is one of lines that the
+-- member has printed.
+pub record IsAtWork (told : Type 0) (v : View) (since : ℕ) (base : Queue) (batches : List Batch)
+    (current : Option Batch) (placed : Bool) (level : ℕ) (reserved : Option (List Entry)) (printed : List ℕ)
+    (by : MemberId) (batch : List Entry) (k : Checkpoint) (room : List Page) (behind : Bool) : Type 0 where
   pub none : current ≡ None
   pub unreserved : reserved ≡ None
   pub unplaced : placed ≡ false
@@ -149,11 +162,13 @@ pub record IsAtWork (told : Type 0) (v : View) (since : ℕ) (base : Queue) (bat
   pub kept : AreAllKept batches v.now
   pub begun : since ≤ v.now
   pub roomy : told → AreRoomy v base.config
-  pub texts : told → 1 ≤ length batch → ∥ HasTexts (lost_now v) (spools_at v v.now) base.config.groups (run base (kept_all batches ++ batch)) ∥₁
+  pub texts : told → 1 ≤ length batch
+      → ∥ HasTexts (lost_now v) (spools_at v v.now) base.config.groups (run base (kept_all batches ++ batch)) ∥₁
   pub allowed : told → MayBegin base batches printed batch
 
 -- a copy that has the pages of the checkpoint, and room for a batch
-pub record HasCopy (told : Type 0) (alive : Bool) (place : Place) (count left : ℕ) (pages : List Page) (read : Option (List ℕ)) : Type 0 where
+pub record HasCopy (told : Type 0) (alive : Bool) (place : Place) (count left : ℕ) (pages : List Page)
+    (read : Option (List ℕ)) : Type 0 where
   pub rests : RestsAt told alive place count pages read
   pub room : alive ≡ true → 1 ≤ left
 
@@ -161,9 +176,10 @@ pub record HasCopy (told : Type 0) (alive : Bool) (place : Place) (count left : 
 abbrev pub IsStepUntold : Setting → MemberId → ℕ → View → Type 0
 IsStepUntold s by at v = (es : List Entry) → AreOf by at es → IsUntold s v es
 
--- A call within a step that keeps batches with these entries, one after another, over a journal with these batches before it, and says
--- nothing.
-pub record IsKeeping {T : Type 0} (told : Type 0) (by : MemberId) (ess : List (List Entry)) (front batches : List Batch) (was1 is1 was2 is2 : Bool) (old new : View) (result : Result T NodeNo) : Type 0 where
+-- A call within a step that keeps batches with these entries, one after another, over a journal with these batches
+-- before it, and says nothing.
+pub record IsKeeping {T : Type 0} (told : Type 0) (by : MemberId) (ess : List (List Entry)) (front batches : List Batch)
+    (was1 is1 was2 is2 : Bool) (old new : View) (result : Result T NodeNo) : Type 0 where
   pub course : Course was1 is1 was2 is2 old new
   pub loses : told → (d : Dev) → new.loses d ≡ old.loses d
   pub cause : CopyCauses result by.0 was1 is1 was2 is2 old new
@@ -173,14 +189,17 @@ pub record IsKeeping {T : Type 0} (told : Type 0) (by : MemberId) (ess : List (L
   pub journal : WorkLeaves result by old.now new.now ess rest
   pub quiet : told → console_now new ≡ console_now old
 
--- what a call keeps of the parts of a unit, behind these entries of the batch to come: after an error that the last part follows
+-- what a call keeps of the parts of a unit, after these entries of the batch to come: after an error that the last
+-- part follows
 abbrev pub begun_of : Result UnitEnd NodeNo → List Entry → List (List Entry) → List (List Entry)
 begun_of (Ok end) so_far parts = batches_in (written_in so_far parts)
 begun_of (Err why) so_far parts = batches_in (written_in so_far parts ++ left_in so_far parts ∷ [])
 
--- A unit, or a part of one, with these parts and this end, behind these entries of the batch to come: those of its parts that are written
--- are kept, and the rest stands in the batch. A unit that doesn't apply has no parts.
-pub record IsPlayed (told : Type 0) (by : MemberId) (at : ℕ) (parts : List (List Entry)) (end : UnitEnd) (so_far is_left : List Entry) (front batches : List Batch) (was1 is1 was2 is2 : Bool) (old new : View) (result : Result UnitEnd NodeNo) : Type 0 where
+-- A unit, or a part of one, with these parts and this end, after these entries of the batch to come: those of its
+-- parts that are written are kept, and the rest stands in the batch. A unit that doesn't apply has no parts.
+pub record IsPlayed (told : Type 0) (by : MemberId) (at : ℕ) (parts : List (List Entry)) (end : UnitEnd)
+    (so_far is_left : List Entry) (front batches : List Batch) (was1 is1 was2 is2 : Bool) (old new : View)
+    (result : Result UnitEnd NodeNo) : Type 0 where
   pub of : All (AreOf by at) parts
   pub few : length parts ≤ 3
   pub idle : end ≡ ends.Idle → parts ≡ []
@@ -189,18 +208,24 @@ pub record IsPlayed (told : Type 0) (by : MemberId) (at : ℕ) (parts : List (Li
   pub ends : IfOk result (λ e. e ≡ end)
 
 -- A unit of one command, whatever its reply is. Where content is told it is the one that the command has at the queue.
-pub record IsCommanded (told : Type 0) (by : MemberId) (at : ℕ) (c : Command) (Q : Queue) (so_far is_left : List Entry) (front batches : List Batch) (was1 is1 was2 is2 : Bool) (old new : View) (result : Result UnitEnd NodeNo) : Type 0 where
-  pub reply : Reply
-  pub is : told → reply ≡ reply_to Q by c
-  pub played : IsPlayed told by at ((entry_with by at c reply ∷ []) ∷ []) (end_by reply) so_far is_left front batches was1 is1 was2 is2 old new result
+pub record IsCommanded (told : Type 0) (by : MemberId) (at : ℕ) (c : Command) (Q : Queue) (so_far is_left : List Entry)
+    (front batches : List Batch) (was1 is1 was2 is2 : Bool) (old new : View) (result : Result UnitEnd NodeNo) : Type 0
+  where
+    pub reply : Reply
+    pub is : told → reply ≡ reply_to Q by c
+    pub played : IsPlayed told by at ((entry_with by at c reply ∷ []) ∷ []) (end_by reply) so_far is_left front batches
+        was1 is1 was2 is2 old new result
 
--- these are a unit's parts and end
+-- the parts and the end of a unit
 pub record IsPlayOf (u : UnitPlay) (parts : List (List Entry)) (end : UnitEnd) : Type 0 where
   pub parts_are : parts ≡ u.parts
   pub end_is : end ≡ u.ends
 
--- A unit, where the member gave so many commands since it got the lock. Where content is told it is the next one of the queue.
-pub record IsUnitStep (told : Type 0) (by : MemberId) (at per : ℕ) (Q : Queue) (so_far is_left : List Entry) (spent is_spent : ℕ) (front batches : List Batch) (was1 is1 was2 is2 : Bool) (old new : View) (result : Result UnitEnd NodeNo) : Type 0 where
+-- A unit, where the member gave so many commands since it got the lock. Where content is told it is the next one of the
+-- queue.
+pub record IsUnitStep (told : Type 0) (by : MemberId) (at per : ℕ) (Q : Queue) (so_far is_left : List Entry)
+    (spent is_spent : ℕ) (front batches : List Batch) (was1 is1 was2 is2 : Bool) (old new : View)
+    (result : Result UnitEnd NodeNo) : Type 0 where
   pub look : Look
   pub parts : List (List Entry)
   pub end : UnitEnd
@@ -210,38 +235,51 @@ pub record IsUnitStep (told : Type 0) (by : MemberId) (at per : ℕ) (Q : Queue)
   pub spends : OnOk result (is_spent ≡ spent_in spent parts)
 
 -- A unit of the job with this number, which is run, or else converted.
-pub record IsJobStep (told : Type 0) (runs : Bool) (by : MemberId) (at per : ℕ) (Q : Queue) (n : JobNo) (so_far is_left : List Entry) (spent is_spent : ℕ) (front batches : List Batch) (was1 is1 was2 is2 : Bool) (old new : View) (result : Result UnitEnd NodeNo) : Type 0 where
+pub record IsJobStep (told : Type 0) (runs : Bool) (by : MemberId) (at per : ℕ) (Q : Queue) (n : JobNo)
+    (so_far is_left : List Entry) (spent is_spent : ℕ) (front batches : List Batch) (was1 is1 was2 is2 : Bool)
+    (old new : View) (result : Result UnitEnd NodeNo) : Type 0 where
   pub look : Look
   pub parts : List (List Entry)
   pub end : UnitEnd
-  pub is : told → IfSome (job_at Q n) (IsLookOf told runs per Q by at look old new) × IsPlayOf (numbered_play runs Q by at look n) parts end
+  pub is : told → IfSome (job_at Q n) (IsLookOf told runs per Q by at look old new)
+      × IsPlayOf (numbered_play runs Q by at look n) parts end
   pub caused : MayEndUnit by end old new
   pub played : IsPlayed told by at parts end so_far is_left front batches was1 is1 was2 is2 old new result
   pub spends : OnOk result (is_spent ≡ spent_in spent parts)
 
--- The end of a job with these outputs, behind acts on the volumes, where nothing is unwritten.
-pub record IsEndStep (told : Type 0) (by : MemberId) (at per : ℕ) (Q : Queue) (n : JobNo) (specs : List OutSpec) (is_left : List Entry) (front batches : List Batch) (was1 is1 was2 is2 : Bool) (old new : View) (result : Result UnitEnd NodeNo) : Type 0 where
+-- The end of a job with these outputs, after acts on the volumes, where nothing is unwritten.
+pub record IsEndStep (told : Type 0) (by : MemberId) (at per : ℕ) (Q : Queue) (n : JobNo) (specs : List OutSpec)
+    (is_left : List Entry) (front batches : List Batch) (was1 is1 was2 is2 : Bool) (old new : View)
+    (result : Result UnitEnd NodeNo) : Type 0 where
   pub lost : Option ℕ
   pub parts : List (List Entry)
   pub end : UnitEnd
-  pub is : told → IsSpooledIn per (groups_for_end Q n specs) Q by at lost old new × IsPlayOf (job_ended lost Q by at n specs) parts end
+  pub is : told → IsSpooledIn per (groups_for_end Q n specs) Q by at lost old new
+      × IsPlayOf (job_ended lost Q by at n specs) parts end
   pub caused : MayEndUnit by end old new
   pub some : 1 ≤ length parts
   pub small : length parts ≤ 2
   pub played : IsPlayed told by at parts end [] is_left front batches was1 is1 was2 is2 old new result
 
--- The same once the groups are taken, which these entries of the batch to come did: they are written, and the rest stands in the batch.
-pub record IsSpoolStep (told : Type 0) (by : MemberId) (at per : ℕ) (Q : Queue) (n : JobNo) (specs : List OutSpec) (so_far is_left : List Entry) (front batches : List Batch) (was1 is1 was2 is2 : Bool) (old new : View) (result : Result UnitEnd NodeNo) : Type 0 where
+-- The end of a job with these outputs once the groups are taken, which these entries of the batch to come did: they are
+-- written, and the rest stands in the batch.
+pub record IsSpoolStep (told : Type 0) (by : MemberId) (at per : ℕ) (Q : Queue) (n : JobNo) (specs : List OutSpec)
+    (so_far is_left : List Entry) (front batches : List Batch) (was1 is1 was2 is2 : Bool) (old new : View)
+    (result : Result UnitEnd NodeNo) : Type 0 where
   pub lost : Option ℕ
   pub last : List Entry
   pub end : UnitEnd
-  pub is : told → IsSpoolLost per (take (groups_for_end Q n specs) (held_by by Q.owners)) lost old new × IsPlayOf (spooled lost Q by at n specs) (last ∷ []) end
+  pub is : told → IsSpoolLost per (take (groups_for_end Q n specs) (held_by by Q.owners)) lost old new
+      × IsPlayOf (spooled lost Q by at n specs) (last ∷ []) end
   pub caused : MayEndUnit by end old new
   pub played : IsPlayed told by at ([] ∷ last ∷ []) end so_far is_left front batches was1 is1 was2 is2 old new result
 
 -- Between two units: what is due is kept.
-pub record IsRest (told : Type 0) (by : MemberId) (hold : ℕ) (so_far is_left : List Entry) (spent is_spent : ℕ) (front batches : List Batch) (was1 is1 was2 is2 : Bool) (old new : View) (result : Result (Unit {0}) NodeNo) : Type 0 where
-  pub keeps : IsKeeping told by (batches_in (written_between hold spent so_far)) front batches was1 is1 was2 is2 old new result
+pub record IsRest (told : Type 0) (by : MemberId) (hold : ℕ) (so_far is_left : List Entry) (spent is_spent : ℕ)
+    (front batches : List Batch) (was1 is1 was2 is2 : Bool) (old new : View) (result : Result (Unit {0}) NodeNo) : Type
+    0 where
+  pub keeps : IsKeeping told by (batches_in (written_between hold spent so_far)) front batches was1 is1 was2 is2 old new
+      result
   pub left : OnOk result (is_left ≡ left_between hold spent so_far)
   pub spends : OnOk result (is_spent ≡ spent_between hold spent)
 
@@ -251,22 +289,27 @@ given_by (Ok end) written is_left = written ++ batches_in (is_left ∷ [])
 given_by (Err why) written is_left = written
 
 -- A step WORK n before its line is said.
-pub record IsWorking (told : Type 0) (by : MemberId) (at per n : ℕ) (Q : Queue) (is_left : List Entry) (front batches : List Batch) (was1 is1 was2 is2 : Bool) (old new : View) (result : Result Closing NodeNo) : Type 0 where
-  pub looks : List Look
-  pub written : List (List Entry)
-  pub end : Closing
-  pub is : told → IsWorkOf told by at per n Q looks old new (given_by result written is_left) end
-  pub of : All (AreOf by at) (given_by result written is_left)
-  pub few : length (given_by result written is_left) ≤ levels_in n
-  pub caused : MayClose n by end old new
-  pub keeps : IsKeeping told by written front batches was1 is1 was2 is2 old new result
-  pub ends : IfOk result (λ e. e ≡ end)
+pub record IsWorking (told : Type 0) (by : MemberId) (at per n : ℕ) (Q : Queue) (is_left : List Entry)
+    (front batches : List Batch) (was1 is1 was2 is2 : Bool) (old new : View) (result : Result Closing NodeNo) : Type 0
+  where
+    pub looks : List Look
+    pub written : List (List Entry)
+    pub end : Closing
+    pub is : told → IsWorkOf told by at per n Q looks old new (given_by result written is_left) end
+    pub of : All (AreOf by at) (given_by result written is_left)
+    pub few : length (given_by result written is_left) ≤ levels_in n
+    pub caused : MayClose n by end old new
+    pub keeps : IsKeeping told by written front batches was1 is1 was2 is2 old new result
+    pub ends : IfOk result (λ e. e ≡ end)
 
--- How the text of the job with this number was read by the member, and what becomes of it. Where content is told the job is that of the
--- queue.
-pub record IsLookedAt (told : Type 0) (runs : Bool) (per : ℕ) (by : MemberId) (Q : Queue) (n : JobNo) (old new : View) (o : Outcome) : Type 0 where
+-- How the text of the job with this number was read by the member, and what becomes of it. Where content is told the
+-- job is that of the queue.
+pub record IsLookedAt (told : Type 0) (runs : Bool) (per : ℕ) (by : MemberId) (Q : Queue) (n : JobNo) (old new : View)
+    (o : Outcome) : Type 0 where
   pub found : Option Read
-  pub is : told → (j : Job) → job_at Q n ≡ Some j → IsReadAs told per j.text (groups_of (Deck j.number) Q.owners) found old new × (o ≡ outcome_of runs j.fields (read_of found j.text))
+  pub is : told → (j : Job) → job_at Q n ≡ Some j
+      → IsReadAs told per j.text (groups_of (Deck j.number) Q.owners) found old new
+      × (o ≡ outcome_of runs j.fields (read_of found j.text))
   pub caused : MayStop by o old new
 
 -- the job with this number is in Convert or Execute, and has no output
@@ -280,4 +323,5 @@ pub record IsUnderWay (Q : Queue) (n : JobNo) : Type 0 where
 pub record IsTold (t : Tables) (r : JobRec) : Type 0 where
   pub fields : IsJobFields r.fields
   pub few : r.cards ≤ text_lines_most
-  pub same : (Q : Queue) (j : Job) → Tell t Q → job_at Q r.number ≡ Some j → (j.number ≡ r.number) × (j.fields ≡ r.fields) × (line_count j.text ≡ r.cards)
+  pub same : (Q : Queue) (j : Job) → Tell t Q → job_at Q r.number ≡ Some j → (j.number ≡ r.number)
+      × (j.fields ≡ r.fields) × (line_count j.text ≡ r.cards)

@@ -43,8 +43,8 @@ outcome_for runs look j = outcome_of runs j.fields (read_of look.read j.text)
 
 -- WHAT A UNIT GIVES
 
--- The entries that a unit gives in each part of it, between two of which the lock is given up for acts on the spool volumes and the
--- printer; and how the unit ends.
+-- The entries that a unit gives in each part of it, between two of which the lock is given up for acts on the spool
+-- volumes and the printer; and how the unit ends.
 pub record UnitPlay : Type 0 where
   pub parts : List (List Entry)
   pub ends : UnitEnd
@@ -61,7 +61,7 @@ no_unit = record { parts = []; ends = ends.Idle }
 abbrev pub refused_with : Closing → UnitPlay
 refused_with end = record { parts = [] ∷ []; ends = ends.Refused end }
 
--- a first part of commands, and acts on the spool volumes and the printer behind it
+-- a first part of commands, and acts on the spool volumes and the printer after it
 abbrev pub behind_acts : List Entry → UnitPlay → UnitPlay
 behind_acts es u = record { parts = es ∷ u.parts; ends = u.ends }
 
@@ -78,7 +78,7 @@ drop_groups = command.Drop no_number
 abbrev pub ended_as : Reply → Command → List Command
 ended_as answer c = c ∷ (if is_refusal answer then drop_groups ∷ [] else [])
 
--- Ended, and behind a refused one Drop
+-- Ended, and after a refused one Drop
 abbrev pub ending : Queue → MemberId → JobNo → List OutSpec → List Command
 ending Q by n specs = ended_as (reply_to Q by (command.Ended n specs)) (command.Ended n specs)
 
@@ -89,36 +89,40 @@ last_part es = record { parts = es ∷ []; ends = end_by (closing_reply es) }
 -- once the outputs stand in the member's groups, or a volume of theirs was found lost
 abbrev pub spooled : Option ℕ → Queue → MemberId → ℕ → JobNo → List OutSpec → UnitPlay
 spooled None Q by at n specs = last_part (given_in Q by at (ending Q by n specs))
-spooled (Some volume) Q by at n specs = record { parts = given_in Q by at (drop_groups ∷ []) ∷ []; ends = ends.Refused (closing.SpoolLost volume) }
+spooled (Some volume) Q by at n specs = record
+    { parts = given_in Q by at (drop_groups ∷ []) ∷ []; ends = ends.Refused (closing.SpoolLost volume) }
 
 -- the queue in which the member has the groups
 abbrev pub taken_queue : Queue → MemberId → ℕ → ℕ → Queue
 taken_queue Q by at needed = run Q (given_in Q by at (takes needed Q by needed))
 
--- Take of the groups, as often as needed; Drop behind a refused one
+-- Take of the groups, as often as needed; Drop after a refused one
 abbrev pub taking : Queue → MemberId → ℕ → List Command
 taking Q by needed = takes needed Q by needed ++ (if are_refused needed Q by needed then drop_groups ∷ [] else [])
 
 abbrev pub taken_end : Queue → MemberId → ℕ → ℕ → UnitEnd
-taken_end Q by at needed = if are_refused needed Q by needed then end_by (closing_reply (given_in Q by at (taking Q by needed))) else ends.Done
+taken_end Q by at needed = if are_refused needed Q by needed then end_by
+    (closing_reply (given_in Q by at (taking Q by needed))) else ends.Done
 
 -- once the groups are taken, or one Take was refused
 abbrev pub taken : Bool → Option ℕ → Queue → MemberId → ℕ → JobNo → List OutSpec → ℕ → UnitPlay
 taken true lost Q by at n specs needed = last_part (given_in Q by at (taking Q by needed))
-taken false lost Q by at n specs needed = behind_acts (given_in Q by at (takes needed Q by needed)) (spooled lost (taken_queue Q by at needed) by at n specs)
+taken false lost Q by at n specs needed = behind_acts (given_in Q by at (takes needed Q by needed))
+    (spooled lost (taken_queue Q by at needed) by at n specs)
 
 abbrev pub ended_with : ℕ → Option ℕ → Queue → MemberId → ℕ → JobNo → List OutSpec → UnitPlay
 ended_with zero lost Q by at n specs = spooled None Q by at n specs
-ended_with (suc needed) lost Q by at n specs = taken (are_refused (suc needed) Q by (suc needed)) lost Q by at n specs (suc needed)
+ended_with (suc needed) lost Q by at n specs = taken (are_refused (suc needed) Q by (suc needed)) lost Q by at n specs
+    (suc needed)
 
--- Take of the groups that are needed, as often as needed; the outputs are written; Ended. After a refused Take or Ended, or where a
--- volume of one of the groups was found lost, Drop of the member's groups.
+-- Take of the groups that are needed, as often as needed; the outputs are written; Ended. After a refused Take or
+-- Ended, or where a volume of one of the groups was found lost, Drop of the member's groups.
 abbrev pub job_ended : Option ℕ → Queue → MemberId → ℕ → JobNo → List OutSpec → UnitPlay
 job_ended lost Q by at n specs = ended_with (groups_for_end Q n specs) lost Q by at n specs
 
 -- RUN AND CONVERT
 
--- once the text was read
+-- a unit of a job, once its text was read
 abbrev pub outcome_play : Option ℕ → Queue → MemberId → ℕ → JobNo → Outcome → UnitPlay
 outcome_play lost Q by at n outcome.Convert = one_command Q by at (command.Converted n)
 outcome_play lost Q by at n (outcome.End specs) = job_ended lost Q by at n specs
@@ -127,13 +131,14 @@ outcome_play lost Q by at n (outcome.Stop end) = refused_with end
 abbrev pub job_play : Bool → Queue → MemberId → ℕ → Look → Job → UnitPlay
 job_play runs Q by at look j = behind_acts [] (outcome_play look.lost Q by at j.number (outcome_for runs look j))
 
--- of the job with this number, which is run, or else converted
+-- the unit of the job with this number, which is run, or else converted
 abbrev pub numbered_play : Bool → Queue → MemberId → ℕ → Look → JobNo → UnitPlay
 numbered_play runs Q by at look n = option_map_or (job_play runs Q by at look) (job_at Q n) no_unit
 
 -- PRINTING
 
--- the last line that is printed next: as many behind the mark as the member's printer prints at a time, but none above the total
+-- the last line that is printed next: as many after the mark as the member's printer prints at a time, but none above
+-- the total
 abbrev pub chunk_end : Queue → MemberId → Output → ℕ
 chunk_end Q by o = min (o.mark + limit_of Q by) (total o)
 
@@ -150,9 +155,10 @@ mark_play Q by at n i last None = one_command Q by at (command.Mark n i last)
 mark_play Q by at n i last (Some end) = refused_with end
 
 abbrev pub output_play : Queue → MemberId → ℕ → Look → Output → UnitPlay
-output_play Q by at look o = behind_acts [] (mark_play Q by at o.job o.index (chunk_end Q by o) (printed_end look.printer (read_of look.read o.text)))
+output_play Q by at look o = behind_acts []
+    (mark_play Q by at o.job o.index (chunk_end Q by o) (printed_end look.printer (read_of look.read o.text)))
 
--- of the output with this key
+-- the unit of the output with this key
 abbrev pub print_play : Queue → MemberId → ℕ → Look → JobNo → OutNo → UnitPlay
 print_play Q by at look n i = option_map_or (output_play Q by at look) (output_at Q n i) no_unit
 

@@ -50,7 +50,7 @@ closing_by ends.Done n later = later
 closing_by ends.Idle n later = closing.DoneUnits n
 closing_by (ends.Refused end) n later = end
 
--- where so many are done before these
+-- how a step of work closes, where so many units are done before these rounds
 abbrev pub closing_behind : MemberId → ℕ → ℕ → List Round → Closing
 closing_behind by at n [] = closing.DoneUnits n
 closing_behind by at n (r ∷ rs) = closing_by (round_play by at r).ends n (closing_behind by at (n + 1) rs)
@@ -61,33 +61,33 @@ work_closing Q by at n looks = closing_behind by at 0 (rounds n Q by at looks)
 abbrev pub work_lines : Queue → MemberId → ℕ → ℕ → List Look → List (List ℕ)
 work_lines Q by at n looks = closing_line by at (work_closing Q by at n looks) ∷ []
 
--- BATCHES. What was given since the last batch is written before acts on the spool volumes and the printer, before the lock is given up,
--- where it has as many entries as a batch may, and before the line is said.
+-- BATCHES. What was given since the last batch is written before acts on the spool volumes and the printer, before the
+-- lock is given up, where it has as many entries as a batch may, and before the line is said.
 
 -- the entries of a batch
 abbrev pub batch_most : ℕ
 batch_most = 64
 
--- of a unit's parts, behind these entries of the batch to come: those that are written in the unit
+-- the entries of a unit's parts that are written in the unit, after these entries of the batch to come
 abbrev pub written_in : List Entry → List (List Entry) → List (List Entry)
 written_in so_far [] = []
 written_in so_far (es ∷ []) = []
 written_in so_far (es ∷ next ∷ parts) = (so_far ++ es) ∷ written_in [] (next ∷ parts)
 
--- and those that aren't yet
+-- the entries of a unit's parts that aren't written in the unit, after these entries of the batch to come
 abbrev pub left_in : List Entry → List (List Entry) → List Entry
 left_in so_far [] = so_far
 left_in so_far (es ∷ []) = so_far ++ es
 left_in so_far (es ∷ next ∷ parts) = left_in [] (next ∷ parts)
 
--- how many the member gave since it got the lock
+-- how many commands the member gave since it got the lock
 abbrev pub spent_in : ℕ → List (List Entry) → ℕ
 spent_in spent [] = spent
 spent_in spent (es ∷ []) = spent + length es
 spent_in spent (es ∷ next ∷ parts) = spent_in 0 (next ∷ parts)
 
--- Between two units: what is written then, what isn't yet, and how many the member gave since it got the lock. Where the hold is spent
--- the lock is given up, and taken again.
+-- Between two units: what is written then, what isn't yet, and how many the member gave since it got the lock. Where
+-- the hold is spent the lock is given up, and taken again.
 abbrev pub is_due : ℕ → ℕ → List Entry → Bool
 is_due hold spent so_far = nat_le hold spent || nat_le batch_most (length so_far)
 
@@ -106,13 +106,14 @@ written hold spent so_far [] = so_far ∷ []
 written hold spent so_far (parts ∷ units) =
     let now_spent = spent_in spent parts in
     let left = left_in so_far parts in
-    written_in so_far parts ++ written_between hold now_spent left ++ written hold (spent_between hold now_spent) (left_between hold now_spent left) units
+    written_in so_far parts ++ written_between hold now_spent left
+    ++ written hold (spent_between hold now_spent) (left_between hold now_spent left) units
 
 abbrev pub is_some_entry : List Entry → Bool
 is_some_entry [] = false
 is_some_entry (e ∷ es) = true
 
--- where there is something to write
+-- the batches of a list that have an entry
 abbrev pub batches_in : List (List Entry) → List (List Entry)
 batches_in parts = filter is_some_entry parts
 

@@ -25,17 +25,25 @@ use member_steps::{play_batch, tell_lines};
 use spool_disk::Plant;
 use std::alloc::Global;
 
-/// Keeps what the member gave since the last batch, if anything, as a batch, and makes room for the next one; nothing is said.
+/// Keeps what the member gave since the last batch, if anything, as a batch, and makes room for the next one; nothing
+/// is said.
 pub fn keep_given<P: Plant + Drop, C: Steady + Drop>(
     member: &mut Member,
     alloc: Global,
     complex: &mut Complex<P, C>,
 ) -> Result<(), NodeNo>
     requires may { MayAct complex.old.book member.old.id }
-    requires work { IsAtWork P.tells (P.view complex.old.plant) complex.old.since complex.old.base complex.old.journal.batches complex.old.current complex.old.placed complex.old.level complex.old.reserved complex.old.printed member.old.id member.old.batch member.old.checkpoint member.old.room member.old.behind }
-    requires untold { P.tells → IsUntold (setting C.reads complex.old.base complex.old.since) (P.view complex.old.plant) member.old.batch }
-    requires copy1 { HasCopy P.tells complex.old.pair.first.alive complex.old.first (C.count complex.old.pair.first.copy) (C.room complex.old.pair.first.copy) member.old.checkpoint.pages (C.reads (disk_now (P.view complex.old.plant) Ckpt1).bytes) }
-    requires copy2 { HasCopy P.tells complex.old.pair.second.alive complex.old.second (C.count complex.old.pair.second.copy) (C.room complex.old.pair.second.copy) member.old.checkpoint.pages (C.reads (disk_now (P.view complex.old.plant) Ckpt2).bytes) }
+    requires work { IsAtWork P.tells (P.view complex.old.plant) complex.old.since complex.old.base
+        complex.old.journal.batches complex.old.current complex.old.placed complex.old.level complex.old.reserved
+        complex.old.printed member.old.id member.old.batch member.old.checkpoint member.old.room member.old.behind }
+    requires untold { P.tells → IsUntold (setting C.reads complex.old.base complex.old.since) (P.view complex.old.plant)
+        member.old.batch }
+    requires copy1 { HasCopy P.tells complex.old.pair.first.alive complex.old.first
+        (C.count complex.old.pair.first.copy) (C.room complex.old.pair.first.copy) member.old.checkpoint.pages
+        (C.reads (disk_now (P.view complex.old.plant) Ckpt1).bytes) }
+    requires copy2 { HasCopy P.tells complex.old.pair.second.alive complex.old.second
+        (C.count complex.old.pair.second.copy) (C.room complex.old.pair.second.copy) member.old.checkpoint.pages
+        (C.reads (disk_now (P.view complex.old.plant) Ckpt2).bytes) }
     requires high { member.old.checkpoint.level + 1 < 2 ^ 63 }
     requires level { complex.old.level + 1 < 2 ^ 63 }
     ensures base { complex.new.base ≡ complex.old.base }
@@ -45,13 +53,19 @@ pub fn keep_given<P: Plant + Drop, C: Steady + Drop>(
     ensures apart { P.tells → Apart (P.view complex.old.plant) (P.view complex.new.plant) }
     ensures tables { member.new.checkpoint.tables ≡ member.old.checkpoint.tables }
     ensures nothing { OnOk result (member.new.batch ≡ []) }
-    ensures keeps { IsKeeping P.tells member.old.id (batches_in (member.old.batch ∷ []))
-        complex.old.journal.batches (end_of complex.new.placed complex.new.current complex.new.journal.batches)
-        complex.old.pair.first.alive complex.new.pair.first.alive complex.old.pair.second.alive complex.new.pair.second.alive
+    ensures keeps { IsKeeping P.tells member.old.id (batches_in (member.old.batch ∷ [])) complex.old.journal.batches
+        (end_of complex.new.placed complex.new.current complex.new.journal.batches) complex.old.pair.first.alive
+        complex.new.pair.first.alive complex.old.pair.second.alive complex.new.pair.second.alive
         (P.view complex.old.plant) (P.view complex.new.plant) result }
-    ensures work { OnOk result (IsAtWork P.tells (P.view complex.new.plant) complex.new.since complex.new.base complex.new.journal.batches complex.new.current complex.new.placed complex.new.level complex.new.reserved complex.new.printed member.new.id member.new.batch member.new.checkpoint member.new.room member.new.behind) }
-    ensures copy1 { OnOk result (HasCopy P.tells complex.new.pair.first.alive complex.new.first (C.count complex.new.pair.first.copy) (C.room complex.new.pair.first.copy) member.new.checkpoint.pages (C.reads (disk_now (P.view complex.new.plant) Ckpt1).bytes)) }
-    ensures copy2 { OnOk result (HasCopy P.tells complex.new.pair.second.alive complex.new.second (C.count complex.new.pair.second.copy) (C.room complex.new.pair.second.copy) member.new.checkpoint.pages (C.reads (disk_now (P.view complex.new.plant) Ckpt2).bytes)) }
+    ensures work { OnOk result (IsAtWork P.tells (P.view complex.new.plant) complex.new.since complex.new.base
+        complex.new.journal.batches complex.new.current complex.new.placed complex.new.level complex.new.reserved
+        complex.new.printed member.new.id member.new.batch member.new.checkpoint member.new.room member.new.behind) }
+    ensures copy1 { OnOk result (HasCopy P.tells complex.new.pair.first.alive complex.new.first
+        (C.count complex.new.pair.first.copy) (C.room complex.new.pair.first.copy) member.new.checkpoint.pages
+        (C.reads (disk_now (P.view complex.new.plant) Ckpt1).bytes)) }
+    ensures copy2 { OnOk result (HasCopy P.tells complex.new.pair.second.alive complex.new.second
+        (C.count complex.new.pair.second.copy) (C.room complex.new.pair.second.copy) member.new.checkpoint.pages
+        (C.reads (disk_now (P.view complex.new.plant) Ckpt2).bytes)) }
     ensures high { OnOk result (member.new.checkpoint.level ≤ member.old.checkpoint.level + 1) }
     ensures reached { OnOk result (complex.new.level ≤ complex.old.level + 1) }
 {
@@ -62,18 +76,25 @@ pub fn keep_given<P: Plant + Drop, C: Steady + Drop>(
     member.primary(complex)
 }
 
-/// Ends a step in which memory wanted: what was given since the last batch is kept, where there is memory for that. Answers how the step
-/// ends.
+/// Ends a step that is out of memory: what was given since the last batch is kept, if there is memory for that.
+/// Answers how the step ends.
 pub fn give_up<P: Plant + Drop, C: Steady + Drop>(
     member: &mut Member,
     alloc: Global,
     complex: &mut Complex<P, C>,
 ) -> NodeNo
     requires may { MayAct complex.old.book member.old.id }
-    requires work { IsAtWork P.tells (P.view complex.old.plant) complex.old.since complex.old.base complex.old.journal.batches complex.old.current complex.old.placed complex.old.level complex.old.reserved complex.old.printed member.old.id member.old.batch member.old.checkpoint member.old.room member.old.behind }
-    requires untold { P.tells → IsUntold (setting C.reads complex.old.base complex.old.since) (P.view complex.old.plant) member.old.batch }
-    requires copy1 { HasCopy P.tells complex.old.pair.first.alive complex.old.first (C.count complex.old.pair.first.copy) (C.room complex.old.pair.first.copy) member.old.checkpoint.pages (C.reads (disk_now (P.view complex.old.plant) Ckpt1).bytes) }
-    requires copy2 { HasCopy P.tells complex.old.pair.second.alive complex.old.second (C.count complex.old.pair.second.copy) (C.room complex.old.pair.second.copy) member.old.checkpoint.pages (C.reads (disk_now (P.view complex.old.plant) Ckpt2).bytes) }
+    requires work { IsAtWork P.tells (P.view complex.old.plant) complex.old.since complex.old.base
+        complex.old.journal.batches complex.old.current complex.old.placed complex.old.level complex.old.reserved
+        complex.old.printed member.old.id member.old.batch member.old.checkpoint member.old.room member.old.behind }
+    requires untold { P.tells → IsUntold (setting C.reads complex.old.base complex.old.since) (P.view complex.old.plant)
+        member.old.batch }
+    requires copy1 { HasCopy P.tells complex.old.pair.first.alive complex.old.first
+        (C.count complex.old.pair.first.copy) (C.room complex.old.pair.first.copy) member.old.checkpoint.pages
+        (C.reads (disk_now (P.view complex.old.plant) Ckpt1).bytes) }
+    requires copy2 { HasCopy P.tells complex.old.pair.second.alive complex.old.second
+        (C.count complex.old.pair.second.copy) (C.room complex.old.pair.second.copy) member.old.checkpoint.pages
+        (C.reads (disk_now (P.view complex.old.plant) Ckpt2).bytes) }
     requires high { member.old.checkpoint.level + 1 < 2 ^ 63 }
     requires level { complex.old.level + 1 < 2 ^ 63 }
     ensures base { complex.new.base ≡ complex.old.base }
@@ -83,8 +104,8 @@ pub fn give_up<P: Plant + Drop, C: Steady + Drop>(
     ensures apart { P.tells → Apart (P.view complex.old.plant) (P.view complex.new.plant) }
     ensures keeps { IsKeeping {T = Unit {0}} P.tells member.old.id (batches_in (member.old.batch ∷ []))
         complex.old.journal.batches (end_of complex.new.placed complex.new.current complex.new.journal.batches)
-        complex.old.pair.first.alive complex.new.pair.first.alive complex.old.pair.second.alive complex.new.pair.second.alive
-        (P.view complex.old.plant) (P.view complex.new.plant) (Err result) }
+        complex.old.pair.first.alive complex.new.pair.first.alive complex.old.pair.second.alive
+        complex.new.pair.second.alive (P.view complex.old.plant) (P.view complex.new.plant) (Err result) }
 {
     match keep_given(member, alloc, complex) {
         Ok(()) => NodeNo::NoMemory,
@@ -92,8 +113,8 @@ pub fn give_up<P: Plant + Drop, C: Steady + Drop>(
     }
 }
 
-/// What a member does that got the lock again within a step, where nothing of its is unwritten: it reads the copies, brings its tables up
-/// to them, and makes room.
+/// What a member does that got the lock again within a step, where nothing of its is unwritten: it reads the copies,
+/// brings its tables up to them, and makes room.
 pub(crate) fn hold_again<P: Plant + Drop, C: Steady + Drop>(
     member: &mut Member,
     alloc: Global,
@@ -101,9 +122,15 @@ pub(crate) fn hold_again<P: Plant + Drop, C: Steady + Drop>(
 ) -> Result<(), NodeNo>
     requires may { MayAct complex.old.book member.old.id }
     requires nothing { member.old.batch ≡ [] }
-    requires work { IsAtWork P.tells (P.view complex.old.plant) complex.old.since complex.old.base complex.old.journal.batches complex.old.current complex.old.placed complex.old.level complex.old.reserved complex.old.printed member.old.id member.old.batch member.old.checkpoint member.old.room member.old.behind }
-    requires rests1 { RestsAt P.tells complex.old.pair.first.alive complex.old.first (C.count complex.old.pair.first.copy) member.old.checkpoint.pages (C.reads (disk_now (P.view complex.old.plant) Ckpt1).bytes) }
-    requires rests2 { RestsAt P.tells complex.old.pair.second.alive complex.old.second (C.count complex.old.pair.second.copy) member.old.checkpoint.pages (C.reads (disk_now (P.view complex.old.plant) Ckpt2).bytes) }
+    requires work { IsAtWork P.tells (P.view complex.old.plant) complex.old.since complex.old.base
+        complex.old.journal.batches complex.old.current complex.old.placed complex.old.level complex.old.reserved
+        complex.old.printed member.old.id member.old.batch member.old.checkpoint member.old.room member.old.behind }
+    requires rests1 { RestsAt P.tells complex.old.pair.first.alive complex.old.first
+        (C.count complex.old.pair.first.copy) member.old.checkpoint.pages
+        (C.reads (disk_now (P.view complex.old.plant) Ckpt1).bytes) }
+    requires rests2 { RestsAt P.tells complex.old.pair.second.alive complex.old.second
+        (C.count complex.old.pair.second.copy) member.old.checkpoint.pages
+        (C.reads (disk_now (P.view complex.old.plant) Ckpt2).bytes) }
     requires level { complex.old.level < too_high }
     ensures base { complex.new.base ≡ complex.old.base }
     ensures since { complex.new.since ≡ complex.old.since }
@@ -114,12 +141,19 @@ pub(crate) fn hold_again<P: Plant + Drop, C: Steady + Drop>(
     ensures reached { complex.new.level ≡ complex.old.level }
     ensures printed { complex.new.printed ≡ complex.old.printed }
     ensures id { member.new.id ≡ member.old.id }
-    ensures acts { IsOnCopies P.tells member.old.id.0 complex.old.pair.first.alive complex.new.pair.first.alive complex.old.pair.second.alive complex.new.pair.second.alive
-        (P.view complex.old.plant) (P.view complex.new.plant) result }
+    ensures acts { IsOnCopies P.tells member.old.id.0 complex.old.pair.first.alive complex.new.pair.first.alive
+        complex.old.pair.second.alive complex.new.pair.second.alive (P.view complex.old.plant)
+        (P.view complex.new.plant) result }
     ensures nothing { OnOk result (member.new.batch ≡ []) }
-    ensures work { OnOk result (IsAtWork P.tells (P.view complex.new.plant) complex.new.since complex.new.base complex.new.journal.batches complex.new.current complex.new.placed complex.new.level complex.new.reserved complex.new.printed member.new.id member.new.batch member.new.checkpoint member.new.room member.new.behind) }
-    ensures copy1 { OnOk result (HasCopy P.tells complex.new.pair.first.alive complex.new.first (C.count complex.new.pair.first.copy) (C.room complex.new.pair.first.copy) member.new.checkpoint.pages (C.reads (disk_now (P.view complex.new.plant) Ckpt1).bytes)) }
-    ensures copy2 { OnOk result (HasCopy P.tells complex.new.pair.second.alive complex.new.second (C.count complex.new.pair.second.copy) (C.room complex.new.pair.second.copy) member.new.checkpoint.pages (C.reads (disk_now (P.view complex.new.plant) Ckpt2).bytes)) }
+    ensures work { OnOk result (IsAtWork P.tells (P.view complex.new.plant) complex.new.since complex.new.base
+        complex.new.journal.batches complex.new.current complex.new.placed complex.new.level complex.new.reserved
+        complex.new.printed member.new.id member.new.batch member.new.checkpoint member.new.room member.new.behind) }
+    ensures copy1 { OnOk result (HasCopy P.tells complex.new.pair.first.alive complex.new.first
+        (C.count complex.new.pair.first.copy) (C.room complex.new.pair.first.copy) member.new.checkpoint.pages
+        (C.reads (disk_now (P.view complex.new.plant) Ckpt1).bytes)) }
+    ensures copy2 { OnOk result (HasCopy P.tells complex.new.pair.second.alive complex.new.second
+        (C.count complex.new.pair.second.copy) (C.room complex.new.pair.second.copy) member.new.checkpoint.pages
+        (C.reads (disk_now (P.view complex.new.plant) Ckpt2).bytes)) }
     ensures order { OnOk result (member.new.checkpoint.tables.order < too_high) }
     ensures high { OnOk result (member.new.checkpoint.level < too_high) }
 {
@@ -138,10 +172,17 @@ pub fn close_work<P: Plant + Drop, C: Steady + Drop>(
     requires some { 1 ≤ member.old.id.0 }
     requires by { member.old.id.0 ≤ members_most }
     requires named { AreMembersNamed end.now }
-    requires work { IsAtWork P.tells (P.view complex.old.plant) complex.old.since complex.old.base complex.old.journal.batches complex.old.current complex.old.placed complex.old.level complex.old.reserved complex.old.printed member.old.id member.old.batch member.old.checkpoint member.old.room member.old.behind }
-    requires untold { P.tells → IsUntold (setting C.reads complex.old.base complex.old.since) (P.view complex.old.plant) member.old.batch }
-    requires copy1 { HasCopy P.tells complex.old.pair.first.alive complex.old.first (C.count complex.old.pair.first.copy) (C.room complex.old.pair.first.copy) member.old.checkpoint.pages (C.reads (disk_now (P.view complex.old.plant) Ckpt1).bytes) }
-    requires copy2 { HasCopy P.tells complex.old.pair.second.alive complex.old.second (C.count complex.old.pair.second.copy) (C.room complex.old.pair.second.copy) member.old.checkpoint.pages (C.reads (disk_now (P.view complex.old.plant) Ckpt2).bytes) }
+    requires work { IsAtWork P.tells (P.view complex.old.plant) complex.old.since complex.old.base
+        complex.old.journal.batches complex.old.current complex.old.placed complex.old.level complex.old.reserved
+        complex.old.printed member.old.id member.old.batch member.old.checkpoint member.old.room member.old.behind }
+    requires untold { P.tells → IsUntold (setting C.reads complex.old.base complex.old.since) (P.view complex.old.plant)
+        member.old.batch }
+    requires copy1 { HasCopy P.tells complex.old.pair.first.alive complex.old.first
+        (C.count complex.old.pair.first.copy) (C.room complex.old.pair.first.copy) member.old.checkpoint.pages
+        (C.reads (disk_now (P.view complex.old.plant) Ckpt1).bytes) }
+    requires copy2 { HasCopy P.tells complex.old.pair.second.alive complex.old.second
+        (C.count complex.old.pair.second.copy) (C.room complex.old.pair.second.copy) member.old.checkpoint.pages
+        (C.reads (disk_now (P.view complex.old.plant) Ckpt2).bytes) }
     requires high { member.old.checkpoint.level + 1 < 2 ^ 63 }
     requires level { complex.old.level + 1 < 2 ^ 63 }
     ensures base { complex.new.base ≡ complex.old.base }
@@ -152,16 +193,24 @@ pub fn close_work<P: Plant + Drop, C: Steady + Drop>(
     ensures papers { P.tells → SamePapers (P.view complex.old.plant) (P.view complex.new.plant) }
     ensures tables { OnOk result (member.new.checkpoint.tables ≡ member.old.checkpoint.tables) }
     ensures room { OnOk result (member.new.room ≡ member.old.room) }
-    ensures closes { IsClosing P.tells member.old.id (closing_line member.old.id step end.now ∷ []) (batches_in (member.old.batch ∷ []))
-        complex.old.journal.batches (end_of complex.new.placed complex.new.current complex.new.journal.batches)
-        complex.old.pair.first.alive complex.new.pair.first.alive complex.old.pair.second.alive complex.new.pair.second.alive
+    ensures closes { IsClosing P.tells member.old.id (closing_line member.old.id step end.now ∷ [])
+        (batches_in (member.old.batch ∷ [])) complex.old.journal.batches
+        (end_of complex.new.placed complex.new.current complex.new.journal.batches) complex.old.pair.first.alive
+        complex.new.pair.first.alive complex.old.pair.second.alive complex.new.pair.second.alive
         (P.view complex.old.plant) (P.view complex.new.plant) result }
     ensures unreserved { OnOk result (complex.new.reserved ≡ None) }
-    ensures between { OnOk result (IsBetween P.tells complex.new.base complex.new.journal.batches complex.new.current complex.new.placed complex.new.level member.new.batch member.new.checkpoint) }
-    ensures rests1 { OnOk result (RestsAt P.tells complex.new.pair.first.alive complex.new.first (C.count complex.new.pair.first.copy) member.new.checkpoint.pages (C.reads (disk_now (P.view complex.new.plant) Ckpt1).bytes)) }
-    ensures rests2 { OnOk result (RestsAt P.tells complex.new.pair.second.alive complex.new.second (C.count complex.new.pair.second.copy) member.new.checkpoint.pages (C.reads (disk_now (P.view complex.new.plant) Ckpt2).bytes)) }
+    ensures between { OnOk result (IsBetween P.tells complex.new.base complex.new.journal.batches complex.new.current
+        complex.new.placed complex.new.level member.new.batch member.new.checkpoint) }
+    ensures rests1 { OnOk result (RestsAt P.tells complex.new.pair.first.alive complex.new.first
+        (C.count complex.new.pair.first.copy) member.new.checkpoint.pages
+        (C.reads (disk_now (P.view complex.new.plant) Ckpt1).bytes)) }
+    ensures rests2 { OnOk result (RestsAt P.tells complex.new.pair.second.alive complex.new.second
+        (C.count complex.new.pair.second.copy) member.new.checkpoint.pages
+        (C.reads (disk_now (P.view complex.new.plant) Ckpt2).bytes)) }
     ensures kept { OnOk result (AreAllKept complex.new.journal.batches (P.view complex.new.plant).now) }
-    ensures low { OnOk result (P.tells → AreLow member.old.checkpoint.tables.config (length complex.new.journal.batches) member.new.checkpoint.tables) }
+    ensures low { OnOk result (P.tells
+        → AreLow member.old.checkpoint.tables.config (length complex.new.journal.batches)
+        member.new.checkpoint.tables) }
     ensures reached { OnOk result (complex.new.level ≤ complex.old.level + 1) }
 {
     let Ok(lines) = one_line(alloc, member.id, step, end) else {

@@ -40,8 +40,8 @@ use spool_text::law_of_groups;
 use spool_volumes::law_of_read_texts;
 use std::alloc::Global;
 
-/// Gives Ended with these outputs, whose texts stand in the member's groups unless the job was cancelled; after a refused one the member's
-/// groups become free.
+/// Gives Ended with these outputs, whose texts stand in the member's groups unless the job was cancelled; after a
+/// refused one the member's groups become free.
 pub fn end_given<P: Plant + Drop, C: Steady + Drop>(
     member: &mut Member,
     alloc: Global,
@@ -57,12 +57,23 @@ pub fn end_given<P: Plant + Drop, C: Steady + Drop>(
     requires outputs { AreOutputs specs }
     requires nothing { member.old.batch ≡ [] }
     requires under_way { P.tells → IsUnderWay (run complex.old.base (kept_all complex.old.journal.batches)) job }
-    requires spooled { P.tells → AreSpooled (spools_at (P.view complex.old.plant) (P.view complex.old.plant).now) complex.old.base.config.groups (outputs_at_end (job_at (run complex.old.base (kept_all complex.old.journal.batches)) job) specs) (take (groups_for_end_lem (run complex.old.base (kept_all complex.old.journal.batches)) job specs) (held_by member.old.id (run complex.old.base (kept_all complex.old.journal.batches)).owners)) }
-    requires work { IsAtWork P.tells (P.view complex.old.plant) complex.old.since complex.old.base complex.old.journal.batches complex.old.current complex.old.placed complex.old.level complex.old.reserved complex.old.printed member.old.id member.old.batch member.old.checkpoint member.old.room member.old.behind }
+    requires spooled { P.tells → AreSpooled (spools_at (P.view complex.old.plant) (P.view complex.old.plant).now)
+        complex.old.base.config.groups
+        (outputs_at_end (job_at (run complex.old.base (kept_all complex.old.journal.batches)) job) specs)
+        (take (groups_for_end_lem (run complex.old.base (kept_all complex.old.journal.batches)) job specs)
+        (held_by member.old.id (run complex.old.base (kept_all complex.old.journal.batches)).owners)) }
+    requires work { IsAtWork P.tells (P.view complex.old.plant) complex.old.since complex.old.base
+        complex.old.journal.batches complex.old.current complex.old.placed complex.old.level complex.old.reserved
+        complex.old.printed member.old.id member.old.batch member.old.checkpoint member.old.room member.old.behind }
     requires of { AreOf member.old.id step member.old.batch }
-    requires untold { P.tells → IsStepUntold (setting C.reads complex.old.base complex.old.since) member.old.id step (P.view complex.old.plant) }
-    requires copy1 { HasCopy P.tells complex.old.pair.first.alive complex.old.first (C.count complex.old.pair.first.copy) (C.room complex.old.pair.first.copy) member.old.checkpoint.pages (C.reads (disk_now (P.view complex.old.plant) Ckpt1).bytes) }
-    requires copy2 { HasCopy P.tells complex.old.pair.second.alive complex.old.second (C.count complex.old.pair.second.copy) (C.room complex.old.pair.second.copy) member.old.checkpoint.pages (C.reads (disk_now (P.view complex.old.plant) Ckpt2).bytes) }
+    requires untold { P.tells → IsStepUntold (setting C.reads complex.old.base complex.old.since) member.old.id step
+        (P.view complex.old.plant) }
+    requires copy1 { HasCopy P.tells complex.old.pair.first.alive complex.old.first
+        (C.count complex.old.pair.first.copy) (C.room complex.old.pair.first.copy) member.old.checkpoint.pages
+        (C.reads (disk_now (P.view complex.old.plant) Ckpt1).bytes) }
+    requires copy2 { HasCopy P.tells complex.old.pair.second.alive complex.old.second
+        (C.count complex.old.pair.second.copy) (C.room complex.old.pair.second.copy) member.old.checkpoint.pages
+        (C.reads (disk_now (P.view complex.old.plant) Ckpt2).bytes) }
     requires order { member.old.checkpoint.tables.order < too_high }
     requires high { member.old.checkpoint.level < too_high }
     requires level { complex.old.level + 1 < 2 ^ 63 }
@@ -71,16 +82,29 @@ pub fn end_given<P: Plant + Drop, C: Steady + Drop>(
     ensures id { member.new.id ≡ member.old.id }
     ensures apart { P.tells → Apart (P.view complex.old.plant) (P.view complex.new.plant) }
     ensures book { complex.new.book ≡ complex.old.book }
-    ensures last { IsLastPart P.tells member.old.id step (given_in (run complex.old.base (kept_all complex.old.journal.batches)) member.old.id step (ending (run complex.old.base (kept_all complex.old.journal.batches)) member.old.id job specs)) (end_by (closing_reply (given_in (run complex.old.base (kept_all complex.old.journal.batches)) member.old.id step (ending (run complex.old.base (kept_all complex.old.journal.batches)) member.old.id job specs)))) member.new.batch
-        complex.old.journal.batches (end_of complex.new.placed complex.new.current complex.new.journal.batches)
-        complex.old.pair.first.alive complex.new.pair.first.alive complex.old.pair.second.alive complex.new.pair.second.alive
+    ensures last { IsLastPart P.tells member.old.id step
+        (given_in (run complex.old.base (kept_all complex.old.journal.batches)) member.old.id step
+        (ending (run complex.old.base (kept_all complex.old.journal.batches)) member.old.id job specs))
+        (end_by (closing_reply (given_in (run complex.old.base (kept_all complex.old.journal.batches)) member.old.id
+        step (ending (run complex.old.base (kept_all complex.old.journal.batches)) member.old.id job specs))))
+        member.new.batch complex.old.journal.batches
+        (end_of complex.new.placed complex.new.current complex.new.journal.batches) complex.old.pair.first.alive
+        complex.new.pair.first.alive complex.old.pair.second.alive complex.new.pair.second.alive
         (P.view complex.old.plant) (P.view complex.new.plant) result }
     ensures named { IfOk result IsNamedEnd }
-    ensures work { OnOk result (IsAtWork P.tells (P.view complex.new.plant) complex.new.since complex.new.base complex.new.journal.batches complex.new.current complex.new.placed complex.new.level complex.new.reserved complex.new.printed member.new.id member.new.batch member.new.checkpoint member.new.room member.new.behind) }
+    ensures work { OnOk result (IsAtWork P.tells (P.view complex.new.plant) complex.new.since complex.new.base
+        complex.new.journal.batches complex.new.current complex.new.placed complex.new.level complex.new.reserved
+        complex.new.printed member.new.id member.new.batch member.new.checkpoint member.new.room member.new.behind) }
     ensures of { OnOk result (AreOf member.new.id step member.new.batch) }
-    ensures untold { OnOk result (P.tells → IsStepUntold (setting C.reads complex.new.base complex.new.since) member.new.id step (P.view complex.new.plant)) }
-    ensures copy1 { OnOk result (HasCopy P.tells complex.new.pair.first.alive complex.new.first (C.count complex.new.pair.first.copy) (C.room complex.new.pair.first.copy) member.new.checkpoint.pages (C.reads (disk_now (P.view complex.new.plant) Ckpt1).bytes)) }
-    ensures copy2 { OnOk result (HasCopy P.tells complex.new.pair.second.alive complex.new.second (C.count complex.new.pair.second.copy) (C.room complex.new.pair.second.copy) member.new.checkpoint.pages (C.reads (disk_now (P.view complex.new.plant) Ckpt2).bytes)) }
+    ensures untold { OnOk result (P.tells
+        → IsStepUntold (setting C.reads complex.new.base complex.new.since) member.new.id step
+        (P.view complex.new.plant)) }
+    ensures copy1 { OnOk result (HasCopy P.tells complex.new.pair.first.alive complex.new.first
+        (C.count complex.new.pair.first.copy) (C.room complex.new.pair.first.copy) member.new.checkpoint.pages
+        (C.reads (disk_now (P.view complex.new.plant) Ckpt1).bytes)) }
+    ensures copy2 { OnOk result (HasCopy P.tells complex.new.pair.second.alive complex.new.second
+        (C.count complex.new.pair.second.copy) (C.room complex.new.pair.second.copy) member.new.checkpoint.pages
+        (C.reads (disk_now (P.view complex.new.plant) Ckpt2).bytes)) }
     ensures order { OnOk result (member.new.checkpoint.tables.order ≤ too_high + 96) }
     ensures high { OnOk result (member.new.checkpoint.level < too_high) }
     ensures reached { OnOk result (complex.new.level ≡ complex.old.level) }
@@ -106,11 +130,18 @@ pub fn take_given<P: Plant + Drop, C: Steady + Drop>(
     requires member { is_member complex.old.base.config member.old.id ≡ true }
     requires needed { 1 ≤ needed }
     requires nothing { member.old.batch ≡ [] }
-    requires work { IsAtWork P.tells (P.view complex.old.plant) complex.old.since complex.old.base complex.old.journal.batches complex.old.current complex.old.placed complex.old.level complex.old.reserved complex.old.printed member.old.id member.old.batch member.old.checkpoint member.old.room member.old.behind }
+    requires work { IsAtWork P.tells (P.view complex.old.plant) complex.old.since complex.old.base
+        complex.old.journal.batches complex.old.current complex.old.placed complex.old.level complex.old.reserved
+        complex.old.printed member.old.id member.old.batch member.old.checkpoint member.old.room member.old.behind }
     requires of { AreOf member.old.id step member.old.batch }
-    requires untold { P.tells → IsStepUntold (setting C.reads complex.old.base complex.old.since) member.old.id step (P.view complex.old.plant) }
-    requires copy1 { HasCopy P.tells complex.old.pair.first.alive complex.old.first (C.count complex.old.pair.first.copy) (C.room complex.old.pair.first.copy) member.old.checkpoint.pages (C.reads (disk_now (P.view complex.old.plant) Ckpt1).bytes) }
-    requires copy2 { HasCopy P.tells complex.old.pair.second.alive complex.old.second (C.count complex.old.pair.second.copy) (C.room complex.old.pair.second.copy) member.old.checkpoint.pages (C.reads (disk_now (P.view complex.old.plant) Ckpt2).bytes) }
+    requires untold { P.tells → IsStepUntold (setting C.reads complex.old.base complex.old.since) member.old.id step
+        (P.view complex.old.plant) }
+    requires copy1 { HasCopy P.tells complex.old.pair.first.alive complex.old.first
+        (C.count complex.old.pair.first.copy) (C.room complex.old.pair.first.copy) member.old.checkpoint.pages
+        (C.reads (disk_now (P.view complex.old.plant) Ckpt1).bytes) }
+    requires copy2 { HasCopy P.tells complex.old.pair.second.alive complex.old.second
+        (C.count complex.old.pair.second.copy) (C.room complex.old.pair.second.copy) member.old.checkpoint.pages
+        (C.reads (disk_now (P.view complex.old.plant) Ckpt2).bytes) }
     requires order { member.old.checkpoint.tables.order < too_high }
     requires high { member.old.checkpoint.level < too_high }
     requires level { complex.old.level + 1 < 2 ^ 63 }
@@ -119,16 +150,28 @@ pub fn take_given<P: Plant + Drop, C: Steady + Drop>(
     ensures id { member.new.id ≡ member.old.id }
     ensures apart { P.tells → Apart (P.view complex.old.plant) (P.view complex.new.plant) }
     ensures book { complex.new.book ≡ complex.old.book }
-    ensures last { IsLastPart P.tells member.old.id step (given_in (run complex.old.base (kept_all complex.old.journal.batches)) member.old.id step (taking (run complex.old.base (kept_all complex.old.journal.batches)) member.old.id needed)) (taken_end (run complex.old.base (kept_all complex.old.journal.batches)) member.old.id step needed) member.new.batch
-        complex.old.journal.batches (end_of complex.new.placed complex.new.current complex.new.journal.batches)
-        complex.old.pair.first.alive complex.new.pair.first.alive complex.old.pair.second.alive complex.new.pair.second.alive
+    ensures last { IsLastPart P.tells member.old.id step
+        (given_in (run complex.old.base (kept_all complex.old.journal.batches)) member.old.id step
+        (taking (run complex.old.base (kept_all complex.old.journal.batches)) member.old.id needed))
+        (taken_end (run complex.old.base (kept_all complex.old.journal.batches)) member.old.id step needed)
+        member.new.batch complex.old.journal.batches
+        (end_of complex.new.placed complex.new.current complex.new.journal.batches) complex.old.pair.first.alive
+        complex.new.pair.first.alive complex.old.pair.second.alive complex.new.pair.second.alive
         (P.view complex.old.plant) (P.view complex.new.plant) result }
     ensures named { IfOk result IsNamedEnd }
-    ensures work { OnOk result (IsAtWork P.tells (P.view complex.new.plant) complex.new.since complex.new.base complex.new.journal.batches complex.new.current complex.new.placed complex.new.level complex.new.reserved complex.new.printed member.new.id member.new.batch member.new.checkpoint member.new.room member.new.behind) }
+    ensures work { OnOk result (IsAtWork P.tells (P.view complex.new.plant) complex.new.since complex.new.base
+        complex.new.journal.batches complex.new.current complex.new.placed complex.new.level complex.new.reserved
+        complex.new.printed member.new.id member.new.batch member.new.checkpoint member.new.room member.new.behind) }
     ensures of { OnOk result (AreOf member.new.id step member.new.batch) }
-    ensures untold { OnOk result (P.tells → IsStepUntold (setting C.reads complex.new.base complex.new.since) member.new.id step (P.view complex.new.plant)) }
-    ensures copy1 { OnOk result (HasCopy P.tells complex.new.pair.first.alive complex.new.first (C.count complex.new.pair.first.copy) (C.room complex.new.pair.first.copy) member.new.checkpoint.pages (C.reads (disk_now (P.view complex.new.plant) Ckpt1).bytes)) }
-    ensures copy2 { OnOk result (HasCopy P.tells complex.new.pair.second.alive complex.new.second (C.count complex.new.pair.second.copy) (C.room complex.new.pair.second.copy) member.new.checkpoint.pages (C.reads (disk_now (P.view complex.new.plant) Ckpt2).bytes)) }
+    ensures untold { OnOk result (P.tells
+        → IsStepUntold (setting C.reads complex.new.base complex.new.since) member.new.id step
+        (P.view complex.new.plant)) }
+    ensures copy1 { OnOk result (HasCopy P.tells complex.new.pair.first.alive complex.new.first
+        (C.count complex.new.pair.first.copy) (C.room complex.new.pair.first.copy) member.new.checkpoint.pages
+        (C.reads (disk_now (P.view complex.new.plant) Ckpt1).bytes)) }
+    ensures copy2 { OnOk result (HasCopy P.tells complex.new.pair.second.alive complex.new.second
+        (C.count complex.new.pair.second.copy) (C.room complex.new.pair.second.copy) member.new.checkpoint.pages
+        (C.reads (disk_now (P.view complex.new.plant) Ckpt2).bytes)) }
     ensures order { OnOk result (member.new.checkpoint.tables.order ≤ too_high + 96) }
     ensures high { OnOk result (member.new.checkpoint.level < too_high) }
     ensures reached { OnOk result (complex.new.level ≡ complex.old.level) }
@@ -154,11 +197,18 @@ pub fn drop_given<P: Plant + Drop, C: Steady + Drop>(
     requires by { member.old.id.0 ≤ members_most }
     requires member { is_member complex.old.base.config member.old.id ≡ true }
     requires nothing { member.old.batch ≡ [] }
-    requires work { IsAtWork P.tells (P.view complex.old.plant) complex.old.since complex.old.base complex.old.journal.batches complex.old.current complex.old.placed complex.old.level complex.old.reserved complex.old.printed member.old.id member.old.batch member.old.checkpoint member.old.room member.old.behind }
+    requires work { IsAtWork P.tells (P.view complex.old.plant) complex.old.since complex.old.base
+        complex.old.journal.batches complex.old.current complex.old.placed complex.old.level complex.old.reserved
+        complex.old.printed member.old.id member.old.batch member.old.checkpoint member.old.room member.old.behind }
     requires of { AreOf member.old.id step member.old.batch }
-    requires untold { P.tells → IsStepUntold (setting C.reads complex.old.base complex.old.since) member.old.id step (P.view complex.old.plant) }
-    requires copy1 { HasCopy P.tells complex.old.pair.first.alive complex.old.first (C.count complex.old.pair.first.copy) (C.room complex.old.pair.first.copy) member.old.checkpoint.pages (C.reads (disk_now (P.view complex.old.plant) Ckpt1).bytes) }
-    requires copy2 { HasCopy P.tells complex.old.pair.second.alive complex.old.second (C.count complex.old.pair.second.copy) (C.room complex.old.pair.second.copy) member.old.checkpoint.pages (C.reads (disk_now (P.view complex.old.plant) Ckpt2).bytes) }
+    requires untold { P.tells → IsStepUntold (setting C.reads complex.old.base complex.old.since) member.old.id step
+        (P.view complex.old.plant) }
+    requires copy1 { HasCopy P.tells complex.old.pair.first.alive complex.old.first
+        (C.count complex.old.pair.first.copy) (C.room complex.old.pair.first.copy) member.old.checkpoint.pages
+        (C.reads (disk_now (P.view complex.old.plant) Ckpt1).bytes) }
+    requires copy2 { HasCopy P.tells complex.old.pair.second.alive complex.old.second
+        (C.count complex.old.pair.second.copy) (C.room complex.old.pair.second.copy) member.old.checkpoint.pages
+        (C.reads (disk_now (P.view complex.old.plant) Ckpt2).bytes) }
     requires order { member.old.checkpoint.tables.order < too_high }
     requires high { member.old.checkpoint.level < too_high }
     requires level { complex.old.level + 1 < 2 ^ 63 }
@@ -167,16 +217,26 @@ pub fn drop_given<P: Plant + Drop, C: Steady + Drop>(
     ensures id { member.new.id ≡ member.old.id }
     ensures apart { P.tells → Apart (P.view complex.old.plant) (P.view complex.new.plant) }
     ensures book { complex.new.book ≡ complex.old.book }
-    ensures last { IsLastPart P.tells member.old.id step (given_in (run complex.old.base (kept_all complex.old.journal.batches)) member.old.id step (drop_groups ∷ [])) (Refused (SpoolLost volume)) member.new.batch
-        complex.old.journal.batches (end_of complex.new.placed complex.new.current complex.new.journal.batches)
-        complex.old.pair.first.alive complex.new.pair.first.alive complex.old.pair.second.alive complex.new.pair.second.alive
+    ensures last { IsLastPart P.tells member.old.id step
+        (given_in (run complex.old.base (kept_all complex.old.journal.batches)) member.old.id step (drop_groups ∷ []))
+        (Refused (SpoolLost volume)) member.new.batch complex.old.journal.batches
+        (end_of complex.new.placed complex.new.current complex.new.journal.batches) complex.old.pair.first.alive
+        complex.new.pair.first.alive complex.old.pair.second.alive complex.new.pair.second.alive
         (P.view complex.old.plant) (P.view complex.new.plant) result }
     ensures named { IfOk result IsNamedEnd }
-    ensures work { OnOk result (IsAtWork P.tells (P.view complex.new.plant) complex.new.since complex.new.base complex.new.journal.batches complex.new.current complex.new.placed complex.new.level complex.new.reserved complex.new.printed member.new.id member.new.batch member.new.checkpoint member.new.room member.new.behind) }
+    ensures work { OnOk result (IsAtWork P.tells (P.view complex.new.plant) complex.new.since complex.new.base
+        complex.new.journal.batches complex.new.current complex.new.placed complex.new.level complex.new.reserved
+        complex.new.printed member.new.id member.new.batch member.new.checkpoint member.new.room member.new.behind) }
     ensures of { OnOk result (AreOf member.new.id step member.new.batch) }
-    ensures untold { OnOk result (P.tells → IsStepUntold (setting C.reads complex.new.base complex.new.since) member.new.id step (P.view complex.new.plant)) }
-    ensures copy1 { OnOk result (HasCopy P.tells complex.new.pair.first.alive complex.new.first (C.count complex.new.pair.first.copy) (C.room complex.new.pair.first.copy) member.new.checkpoint.pages (C.reads (disk_now (P.view complex.new.plant) Ckpt1).bytes)) }
-    ensures copy2 { OnOk result (HasCopy P.tells complex.new.pair.second.alive complex.new.second (C.count complex.new.pair.second.copy) (C.room complex.new.pair.second.copy) member.new.checkpoint.pages (C.reads (disk_now (P.view complex.new.plant) Ckpt2).bytes)) }
+    ensures untold { OnOk result (P.tells
+        → IsStepUntold (setting C.reads complex.new.base complex.new.since) member.new.id step
+        (P.view complex.new.plant)) }
+    ensures copy1 { OnOk result (HasCopy P.tells complex.new.pair.first.alive complex.new.first
+        (C.count complex.new.pair.first.copy) (C.room complex.new.pair.first.copy) member.new.checkpoint.pages
+        (C.reads (disk_now (P.view complex.new.plant) Ckpt1).bytes)) }
+    ensures copy2 { OnOk result (HasCopy P.tells complex.new.pair.second.alive complex.new.second
+        (C.count complex.new.pair.second.copy) (C.room complex.new.pair.second.copy) member.new.checkpoint.pages
+        (C.reads (disk_now (P.view complex.new.plant) Ckpt2).bytes)) }
     ensures order { OnOk result (member.new.checkpoint.tables.order ≤ too_high + 96) }
     ensures high { OnOk result (member.new.checkpoint.level < too_high) }
     ensures reached { OnOk result (complex.new.level ≡ complex.old.level) }
@@ -189,8 +249,8 @@ pub fn drop_given<P: Plant + Drop, C: Steady + Drop>(
     Ok(end)
 }
 
-// Keeps what the member gave, writes the outputs into the groups that it took for them, without the lock, and reads the copies again. Answers
-// the volume that was found lost, if one was.
+// Keeps what the member gave, writes the outputs into the groups that it took for them, without the lock, and reads the
+// copies again. Answers the volume that was found lost, if one was.
 fn spool_taken<P: Plant + Drop, C: Steady + Drop>(
     member: &mut Member,
     alloc: Global,
@@ -206,30 +266,54 @@ fn spool_taken<P: Plant + Drop, C: Steady + Drop>(
     requires outputs { AreOutputs specs.now }
     requires all { needed ≡ groups_of_outputs specs.now }
     requires enough { needed ≤ member_count member.old.id member.old.checkpoint.tables.owners }
-    requires work { IsAtWork P.tells (P.view complex.old.plant) complex.old.since complex.old.base complex.old.journal.batches complex.old.current complex.old.placed complex.old.level complex.old.reserved complex.old.printed member.old.id member.old.batch member.old.checkpoint member.old.room member.old.behind }
-    requires untold { P.tells → IsUntold (setting C.reads complex.old.base complex.old.since) (P.view complex.old.plant) member.old.batch }
-    requires copy1 { HasCopy P.tells complex.old.pair.first.alive complex.old.first (C.count complex.old.pair.first.copy) (C.room complex.old.pair.first.copy) member.old.checkpoint.pages (C.reads (disk_now (P.view complex.old.plant) Ckpt1).bytes) }
-    requires copy2 { HasCopy P.tells complex.old.pair.second.alive complex.old.second (C.count complex.old.pair.second.copy) (C.room complex.old.pair.second.copy) member.old.checkpoint.pages (C.reads (disk_now (P.view complex.old.plant) Ckpt2).bytes) }
+    requires work { IsAtWork P.tells (P.view complex.old.plant) complex.old.since complex.old.base
+        complex.old.journal.batches complex.old.current complex.old.placed complex.old.level complex.old.reserved
+        complex.old.printed member.old.id member.old.batch member.old.checkpoint member.old.room member.old.behind }
+    requires untold { P.tells → IsUntold (setting C.reads complex.old.base complex.old.since) (P.view complex.old.plant)
+        member.old.batch }
+    requires copy1 { HasCopy P.tells complex.old.pair.first.alive complex.old.first
+        (C.count complex.old.pair.first.copy) (C.room complex.old.pair.first.copy) member.old.checkpoint.pages
+        (C.reads (disk_now (P.view complex.old.plant) Ckpt1).bytes) }
+    requires copy2 { HasCopy P.tells complex.old.pair.second.alive complex.old.second
+        (C.count complex.old.pair.second.copy) (C.room complex.old.pair.second.copy) member.old.checkpoint.pages
+        (C.reads (disk_now (P.view complex.old.plant) Ckpt2).bytes) }
     requires high { member.old.checkpoint.level < too_high }
     requires level { complex.old.level + 1 < too_high }
     ensures base { complex.new.base ≡ complex.old.base }
     ensures since { complex.new.since ≡ complex.old.since }
     ensures id { member.new.id ≡ member.old.id }
     ensures book { LeavesBook result member.old.id complex.old.book complex.new.book }
-    ensures keeps { IsKeeping P.tells member.old.id (batches_in (member.old.batch ∷ []))
-        complex.old.journal.batches (end_of complex.new.placed complex.new.current complex.new.journal.batches)
-        complex.old.pair.first.alive complex.new.pair.first.alive complex.old.pair.second.alive complex.new.pair.second.alive
+    ensures keeps { IsKeeping P.tells member.old.id (batches_in (member.old.batch ∷ [])) complex.old.journal.batches
+        (end_of complex.new.placed complex.new.current complex.new.journal.batches) complex.old.pair.first.alive
+        complex.new.pair.first.alive complex.old.pair.second.alive complex.new.pair.second.alive
         (P.view complex.old.plant) (P.view complex.new.plant) result }
     ensures nothing { OnOk result (member.new.batch ≡ []) }
-    ensures queue { OnOk result (run complex.new.base (kept_all complex.new.journal.batches) ≡ run complex.old.base (kept_all complex.old.journal.batches ++ member.old.batch)) }
-    ensures lost { IfOk result (λ lost. P.tells → IsSpoolLost complex.old.base.config.groups (take needed (held_by member.old.id (run complex.old.base (kept_all complex.old.journal.batches ++ member.old.batch)).owners)) lost (P.view complex.old.plant) (P.view complex.new.plant)) }
+    ensures queue { OnOk result (run complex.new.base (kept_all complex.new.journal.batches)
+        ≡ run complex.old.base (kept_all complex.old.journal.batches ++ member.old.batch)) }
+    ensures lost { IfOk result (λ lost. P.tells
+        → IsSpoolLost complex.old.base.config.groups
+        (take needed (held_by member.old.id
+        (run complex.old.base (kept_all complex.old.journal.batches ++ member.old.batch)).owners)) lost
+        (P.view complex.old.plant) (P.view complex.new.plant)) }
     ensures found { IfOk result (λ lost. IsFoundLost lost (P.view complex.old.plant) (P.view complex.new.plant)) }
-    ensures there { result ≡ Ok None → P.tells → AreSpooled (spools_at (P.view complex.new.plant) (P.view complex.new.plant).now) complex.old.base.config.groups specs.now (take needed (held_by member.old.id (run complex.old.base (kept_all complex.old.journal.batches ++ member.old.batch)).owners)) }
-    ensures work { OnOk result (IsAtWork P.tells (P.view complex.new.plant) complex.new.since complex.new.base complex.new.journal.batches complex.new.current complex.new.placed complex.new.level complex.new.reserved complex.new.printed member.new.id member.new.batch member.new.checkpoint member.new.room member.new.behind) }
-    ensures untold { OnOk result (P.tells → (at : ℕ) → IsStepUntold (setting C.reads complex.old.base complex.old.since) member.old.id at (P.view complex.old.plant)
-        → IsStepUntold (setting C.reads complex.new.base complex.new.since) member.new.id at (P.view complex.new.plant)) }
-    ensures copy1 { OnOk result (HasCopy P.tells complex.new.pair.first.alive complex.new.first (C.count complex.new.pair.first.copy) (C.room complex.new.pair.first.copy) member.new.checkpoint.pages (C.reads (disk_now (P.view complex.new.plant) Ckpt1).bytes)) }
-    ensures copy2 { OnOk result (HasCopy P.tells complex.new.pair.second.alive complex.new.second (C.count complex.new.pair.second.copy) (C.room complex.new.pair.second.copy) member.new.checkpoint.pages (C.reads (disk_now (P.view complex.new.plant) Ckpt2).bytes)) }
+    ensures there { result ≡ Ok None → P.tells
+        → AreSpooled (spools_at (P.view complex.new.plant) (P.view complex.new.plant).now)
+        complex.old.base.config.groups specs.now
+        (take needed (held_by member.old.id
+        (run complex.old.base (kept_all complex.old.journal.batches ++ member.old.batch)).owners)) }
+    ensures work { OnOk result (IsAtWork P.tells (P.view complex.new.plant) complex.new.since complex.new.base
+        complex.new.journal.batches complex.new.current complex.new.placed complex.new.level complex.new.reserved
+        complex.new.printed member.new.id member.new.batch member.new.checkpoint member.new.room member.new.behind) }
+    ensures untold { OnOk result (P.tells → (at : ℕ)
+        → IsStepUntold (setting C.reads complex.old.base complex.old.since) member.old.id at (P.view complex.old.plant)
+        → IsStepUntold (setting C.reads complex.new.base complex.new.since) member.new.id at
+        (P.view complex.new.plant)) }
+    ensures copy1 { OnOk result (HasCopy P.tells complex.new.pair.first.alive complex.new.first
+        (C.count complex.new.pair.first.copy) (C.room complex.new.pair.first.copy) member.new.checkpoint.pages
+        (C.reads (disk_now (P.view complex.new.plant) Ckpt1).bytes)) }
+    ensures copy2 { OnOk result (HasCopy P.tells complex.new.pair.second.alive complex.new.second
+        (C.count complex.new.pair.second.copy) (C.room complex.new.pair.second.copy) member.new.checkpoint.pages
+        (C.reads (disk_now (P.view complex.new.plant) Ckpt2).bytes)) }
     ensures order { OnOk result (member.new.checkpoint.tables.order < too_high) }
     ensures high { OnOk result (member.new.checkpoint.level < too_high) }
     ensures reached { OnOk result (complex.new.level ≤ complex.old.level + 1) }
@@ -240,8 +324,8 @@ fn spool_taken<P: Plant + Drop, C: Steady + Drop>(
     Ok(lost)
 }
 
-// Writes the outputs into the groups that the member took for them, and ends the job. Where a volume of one of the groups is lost the
-// member's groups become free.
+// Writes the outputs into the groups that the member took for them, and ends the job. Where a volume of one of the
+// groups is lost the member's groups become free.
 fn spool_and_end<P: Plant + Drop, C: Steady + Drop>(
     member: &mut Member,
     alloc: Global,
@@ -258,32 +342,52 @@ fn spool_and_end<P: Plant + Drop, C: Steady + Drop>(
     requires whole { left_of complex.old.book member.old.id ≡ complex.old.book.hold }
     requires member { is_member complex.old.base.config member.old.id ≡ true }
     requires outputs { AreOutputs specs }
-    requires needed { P.tells → needed ≡ groups_for_end_lem (run complex.old.base (kept_all complex.old.journal.batches ++ member.old.batch)) job specs }
+    requires needed { P.tells → needed
+        ≡ groups_for_end_lem (run complex.old.base (kept_all complex.old.journal.batches ++ member.old.batch)) job
+        specs }
     requires all { needed ≡ groups_of_outputs specs }
     requires some_needed { 1 ≤ needed }
     requires enough { needed ≤ member_count member.old.id member.old.checkpoint.tables.owners }
-    requires under_way { P.tells → IsUnderWay (run complex.old.base (kept_all complex.old.journal.batches ++ member.old.batch)) job }
-    requires work { IsAtWork P.tells (P.view complex.old.plant) complex.old.since complex.old.base complex.old.journal.batches complex.old.current complex.old.placed complex.old.level complex.old.reserved complex.old.printed member.old.id member.old.batch member.old.checkpoint member.old.room member.old.behind }
+    requires under_way { P.tells → IsUnderWay
+        (run complex.old.base (kept_all complex.old.journal.batches ++ member.old.batch)) job }
+    requires work { IsAtWork P.tells (P.view complex.old.plant) complex.old.since complex.old.base
+        complex.old.journal.batches complex.old.current complex.old.placed complex.old.level complex.old.reserved
+        complex.old.printed member.old.id member.old.batch member.old.checkpoint member.old.room member.old.behind }
     requires of { AreOf member.old.id step member.old.batch }
-    requires untold { P.tells → IsStepUntold (setting C.reads complex.old.base complex.old.since) member.old.id step (P.view complex.old.plant) }
-    requires copy1 { HasCopy P.tells complex.old.pair.first.alive complex.old.first (C.count complex.old.pair.first.copy) (C.room complex.old.pair.first.copy) member.old.checkpoint.pages (C.reads (disk_now (P.view complex.old.plant) Ckpt1).bytes) }
-    requires copy2 { HasCopy P.tells complex.old.pair.second.alive complex.old.second (C.count complex.old.pair.second.copy) (C.room complex.old.pair.second.copy) member.old.checkpoint.pages (C.reads (disk_now (P.view complex.old.plant) Ckpt2).bytes) }
+    requires untold { P.tells → IsStepUntold (setting C.reads complex.old.base complex.old.since) member.old.id step
+        (P.view complex.old.plant) }
+    requires copy1 { HasCopy P.tells complex.old.pair.first.alive complex.old.first
+        (C.count complex.old.pair.first.copy) (C.room complex.old.pair.first.copy) member.old.checkpoint.pages
+        (C.reads (disk_now (P.view complex.old.plant) Ckpt1).bytes) }
+    requires copy2 { HasCopy P.tells complex.old.pair.second.alive complex.old.second
+        (C.count complex.old.pair.second.copy) (C.room complex.old.pair.second.copy) member.old.checkpoint.pages
+        (C.reads (disk_now (P.view complex.old.plant) Ckpt2).bytes) }
     requires high { member.old.checkpoint.level < too_high }
     requires level { complex.old.level + 1 < too_high }
     ensures base { complex.new.base ≡ complex.old.base }
     ensures since { complex.new.since ≡ complex.old.since }
     ensures id { member.new.id ≡ member.old.id }
     ensures book { LeavesBook result member.old.id complex.old.book complex.new.book }
-    ensures step { IsSpoolStep P.tells member.old.id step complex.old.base.config.groups (run complex.old.base (kept_all complex.old.journal.batches ++ member.old.batch)) job specs member.old.batch member.new.batch
-        complex.old.journal.batches (end_of complex.new.placed complex.new.current complex.new.journal.batches)
-        complex.old.pair.first.alive complex.new.pair.first.alive complex.old.pair.second.alive complex.new.pair.second.alive
+    ensures step { IsSpoolStep P.tells member.old.id step complex.old.base.config.groups
+        (run complex.old.base (kept_all complex.old.journal.batches ++ member.old.batch)) job specs member.old.batch
+        member.new.batch complex.old.journal.batches
+        (end_of complex.new.placed complex.new.current complex.new.journal.batches) complex.old.pair.first.alive
+        complex.new.pair.first.alive complex.old.pair.second.alive complex.new.pair.second.alive
         (P.view complex.old.plant) (P.view complex.new.plant) result }
     ensures named { IfOk result IsNamedEnd }
-    ensures work { OnOk result (IsAtWork P.tells (P.view complex.new.plant) complex.new.since complex.new.base complex.new.journal.batches complex.new.current complex.new.placed complex.new.level complex.new.reserved complex.new.printed member.new.id member.new.batch member.new.checkpoint member.new.room member.new.behind) }
+    ensures work { OnOk result (IsAtWork P.tells (P.view complex.new.plant) complex.new.since complex.new.base
+        complex.new.journal.batches complex.new.current complex.new.placed complex.new.level complex.new.reserved
+        complex.new.printed member.new.id member.new.batch member.new.checkpoint member.new.room member.new.behind) }
     ensures of { OnOk result (AreOf member.new.id step member.new.batch) }
-    ensures untold { OnOk result (P.tells → IsStepUntold (setting C.reads complex.new.base complex.new.since) member.new.id step (P.view complex.new.plant)) }
-    ensures copy1 { OnOk result (HasCopy P.tells complex.new.pair.first.alive complex.new.first (C.count complex.new.pair.first.copy) (C.room complex.new.pair.first.copy) member.new.checkpoint.pages (C.reads (disk_now (P.view complex.new.plant) Ckpt1).bytes)) }
-    ensures copy2 { OnOk result (HasCopy P.tells complex.new.pair.second.alive complex.new.second (C.count complex.new.pair.second.copy) (C.room complex.new.pair.second.copy) member.new.checkpoint.pages (C.reads (disk_now (P.view complex.new.plant) Ckpt2).bytes)) }
+    ensures untold { OnOk result (P.tells
+        → IsStepUntold (setting C.reads complex.new.base complex.new.since) member.new.id step
+        (P.view complex.new.plant)) }
+    ensures copy1 { OnOk result (HasCopy P.tells complex.new.pair.first.alive complex.new.first
+        (C.count complex.new.pair.first.copy) (C.room complex.new.pair.first.copy) member.new.checkpoint.pages
+        (C.reads (disk_now (P.view complex.new.plant) Ckpt1).bytes)) }
+    ensures copy2 { OnOk result (HasCopy P.tells complex.new.pair.second.alive complex.new.second
+        (C.count complex.new.pair.second.copy) (C.room complex.new.pair.second.copy) member.new.checkpoint.pages
+        (C.reads (disk_now (P.view complex.new.plant) Ckpt2).bytes)) }
     ensures order { OnOk result (member.new.checkpoint.tables.order ≤ too_high + 96) }
     ensures high { OnOk result (member.new.checkpoint.level < too_high) }
     ensures reached { OnOk result (complex.new.level ≤ complex.old.level + 1) }
@@ -295,9 +399,10 @@ fn spool_and_end<P: Plant + Drop, C: Steady + Drop>(
     }
 }
 
-/// Ends a job with these outputs, behind acts on the spool volumes: the member takes the groups that they need, which is kept; the outputs
-/// are written into them, without the lock; and Ended is given. A cancelled job needs no groups, and gives no outputs. After a refused
-/// Take or Ended, or where a volume of one of the groups is lost, the member's groups become free.
+/// Ends a job with these outputs, after acts on the spool volumes: the member takes the groups that they need, which
+/// is kept; the outputs are written into them, without the lock; and Ended is given. A cancelled job needs no groups,
+/// and gives no outputs. After a refused Take or Ended, or where a volume of one of the groups is lost, the member's
+/// groups become free.
 pub(crate) fn end_job<P: Plant + Drop, C: Steady + Drop>(
     member: &mut Member,
     alloc: Global,
@@ -315,11 +420,18 @@ pub(crate) fn end_job<P: Plant + Drop, C: Steady + Drop>(
     requires outputs { AreOutputs specs }
     requires nothing { member.old.batch ≡ [] }
     requires under_way { P.tells → IsUnderWay (run complex.old.base (kept_all complex.old.journal.batches)) job }
-    requires work { IsAtWork P.tells (P.view complex.old.plant) complex.old.since complex.old.base complex.old.journal.batches complex.old.current complex.old.placed complex.old.level complex.old.reserved complex.old.printed member.old.id member.old.batch member.old.checkpoint member.old.room member.old.behind }
+    requires work { IsAtWork P.tells (P.view complex.old.plant) complex.old.since complex.old.base
+        complex.old.journal.batches complex.old.current complex.old.placed complex.old.level complex.old.reserved
+        complex.old.printed member.old.id member.old.batch member.old.checkpoint member.old.room member.old.behind }
     requires of { AreOf member.old.id step member.old.batch }
-    requires untold { P.tells → IsStepUntold (setting C.reads complex.old.base complex.old.since) member.old.id step (P.view complex.old.plant) }
-    requires copy1 { HasCopy P.tells complex.old.pair.first.alive complex.old.first (C.count complex.old.pair.first.copy) (C.room complex.old.pair.first.copy) member.old.checkpoint.pages (C.reads (disk_now (P.view complex.old.plant) Ckpt1).bytes) }
-    requires copy2 { HasCopy P.tells complex.old.pair.second.alive complex.old.second (C.count complex.old.pair.second.copy) (C.room complex.old.pair.second.copy) member.old.checkpoint.pages (C.reads (disk_now (P.view complex.old.plant) Ckpt2).bytes) }
+    requires untold { P.tells → IsStepUntold (setting C.reads complex.old.base complex.old.since) member.old.id step
+        (P.view complex.old.plant) }
+    requires copy1 { HasCopy P.tells complex.old.pair.first.alive complex.old.first
+        (C.count complex.old.pair.first.copy) (C.room complex.old.pair.first.copy) member.old.checkpoint.pages
+        (C.reads (disk_now (P.view complex.old.plant) Ckpt1).bytes) }
+    requires copy2 { HasCopy P.tells complex.old.pair.second.alive complex.old.second
+        (C.count complex.old.pair.second.copy) (C.room complex.old.pair.second.copy) member.old.checkpoint.pages
+        (C.reads (disk_now (P.view complex.old.plant) Ckpt2).bytes) }
     requires order { member.old.checkpoint.tables.order < too_high }
     requires high { member.old.checkpoint.level < too_high }
     requires level { complex.old.level + 1 < too_high }
@@ -327,16 +439,25 @@ pub(crate) fn end_job<P: Plant + Drop, C: Steady + Drop>(
     ensures since { complex.new.since ≡ complex.old.since }
     ensures id { member.new.id ≡ member.old.id }
     ensures book { LeavesBook result member.old.id complex.old.book complex.new.book }
-    ensures step { IsEndStep P.tells member.old.id step complex.old.base.config.groups (run complex.old.base (kept_all complex.old.journal.batches)) job specs member.new.batch
+    ensures step { IsEndStep P.tells member.old.id step complex.old.base.config.groups
+        (run complex.old.base (kept_all complex.old.journal.batches)) job specs member.new.batch
         complex.old.journal.batches (end_of complex.new.placed complex.new.current complex.new.journal.batches)
-        complex.old.pair.first.alive complex.new.pair.first.alive complex.old.pair.second.alive complex.new.pair.second.alive
-        (P.view complex.old.plant) (P.view complex.new.plant) result }
+        complex.old.pair.first.alive complex.new.pair.first.alive complex.old.pair.second.alive
+        complex.new.pair.second.alive (P.view complex.old.plant) (P.view complex.new.plant) result }
     ensures named { IfOk result IsNamedEnd }
-    ensures work { OnOk result (IsAtWork P.tells (P.view complex.new.plant) complex.new.since complex.new.base complex.new.journal.batches complex.new.current complex.new.placed complex.new.level complex.new.reserved complex.new.printed member.new.id member.new.batch member.new.checkpoint member.new.room member.new.behind) }
+    ensures work { OnOk result (IsAtWork P.tells (P.view complex.new.plant) complex.new.since complex.new.base
+        complex.new.journal.batches complex.new.current complex.new.placed complex.new.level complex.new.reserved
+        complex.new.printed member.new.id member.new.batch member.new.checkpoint member.new.room member.new.behind) }
     ensures of { OnOk result (AreOf member.new.id step member.new.batch) }
-    ensures untold { OnOk result (P.tells → IsStepUntold (setting C.reads complex.new.base complex.new.since) member.new.id step (P.view complex.new.plant)) }
-    ensures copy1 { OnOk result (HasCopy P.tells complex.new.pair.first.alive complex.new.first (C.count complex.new.pair.first.copy) (C.room complex.new.pair.first.copy) member.new.checkpoint.pages (C.reads (disk_now (P.view complex.new.plant) Ckpt1).bytes)) }
-    ensures copy2 { OnOk result (HasCopy P.tells complex.new.pair.second.alive complex.new.second (C.count complex.new.pair.second.copy) (C.room complex.new.pair.second.copy) member.new.checkpoint.pages (C.reads (disk_now (P.view complex.new.plant) Ckpt2).bytes)) }
+    ensures untold { OnOk result (P.tells
+        → IsStepUntold (setting C.reads complex.new.base complex.new.since) member.new.id step
+        (P.view complex.new.plant)) }
+    ensures copy1 { OnOk result (HasCopy P.tells complex.new.pair.first.alive complex.new.first
+        (C.count complex.new.pair.first.copy) (C.room complex.new.pair.first.copy) member.new.checkpoint.pages
+        (C.reads (disk_now (P.view complex.new.plant) Ckpt1).bytes)) }
+    ensures copy2 { OnOk result (HasCopy P.tells complex.new.pair.second.alive complex.new.second
+        (C.count complex.new.pair.second.copy) (C.room complex.new.pair.second.copy) member.new.checkpoint.pages
+        (C.reads (disk_now (P.view complex.new.plant) Ckpt2).bytes)) }
     ensures order { OnOk result (member.new.checkpoint.tables.order ≤ too_high + 96) }
     ensures high { OnOk result (member.new.checkpoint.level < too_high) }
     ensures reached { OnOk result (complex.new.level ≤ complex.old.level + 1) }

@@ -68,8 +68,11 @@ fn give(
     requires fit { AreFit member.old.checkpoint.tables }
     requires order { member.old.checkpoint.tables.order + 32 < 2 ^ 63 }
     ensures has { HasGiven step member.old member.new }
-    ensures gives { (Q : Queue) → Tell member.old.checkpoint.tables Q → GivesAt Q member.old.id step (command ∷ []) (λ disks per. IsSoundPlain member.old.checkpoint.tables command) member.old member.new result }
-    ensures end { IfOk result (λ end. (Q : Queue) → Tell member.old.checkpoint.tables Q → end ≡ end_by_lem (reply_to Q member.old.id command)) }
+    ensures gives { (Q : Queue) → Tell member.old.checkpoint.tables Q
+        → GivesAt Q member.old.id step (command ∷ []) (λ disks per. IsSoundPlain member.old.checkpoint.tables command)
+        member.old member.new result }
+    ensures end { IfOk result (λ end. (Q : Queue) → Tell member.old.checkpoint.tables Q
+        → end ≡ end_by_lem (reply_to Q member.old.id command)) }
     ensures named { IfOk result IsNamedEnd }
     ensures err { OnErr result (member.new ≡ member.old) }
 {
@@ -78,7 +81,7 @@ fn give(
     Ok(end_by(member.last_reply()))
 }
 
-/// The member's groups become free, behind a command with which a unit ends so. NoMemory leaves the member as it was.
+/// The member's groups become free, after a command with which a unit ends so. NoMemory leaves the member as it was.
 pub(crate) fn give_back(
     member: &mut Member,
     alloc: Global,
@@ -93,7 +96,9 @@ pub(crate) fn give_back(
     requires fit { AreFit member.old.checkpoint.tables }
     requires order { member.old.checkpoint.tables.order + 32 < 2 ^ 63 }
     ensures has { HasGiven step member.old member.new }
-    ensures gives { (Q : Queue) → Tell member.old.checkpoint.tables Q → GivesAt Q member.old.id step (drop_groups ∷ []) (λ disks per. TellSound member.old.checkpoint.tables) member.old member.new result }
+    ensures gives { (Q : Queue) → Tell member.old.checkpoint.tables Q
+        → GivesAt Q member.old.id step (drop_groups ∷ []) (λ disks per. TellSound member.old.checkpoint.tables)
+        member.old member.new result }
     ensures end { IfOk result (λ e. e ≡ end) }
     ensures err { OnErr result (member.new ≡ member.old) }
 {
@@ -101,8 +106,8 @@ pub(crate) fn give_back(
     Ok(end)
 }
 
-/// Takes so many groups: a Take gives all of them or all that are free, and then the next is refused. After a refused Take the member's
-/// groups become free. NoMemory leaves the commands that were given before.
+/// Takes so many groups: a Take gives all of them or all that are free, and then the next is refused. After a refused
+/// Take the member's groups become free. NoMemory leaves the commands that were given before.
 pub(crate) fn take_for_end(
     member: &mut Member,
     alloc: Global,
@@ -118,8 +123,11 @@ pub(crate) fn take_for_end(
     requires needed { 1 ≤ needed }
     requires order { member.old.checkpoint.tables.order + 96 < 2 ^ 63 }
     ensures has { HasGiven step member.old member.new }
-    ensures gives { (Q : Queue) → Tell member.old.checkpoint.tables Q → GivesAt Q member.old.id step (taking Q member.old.id needed) (λ disks per. TellSound member.old.checkpoint.tables) member.old member.new result }
-    ensures end { IfOk result (λ end. (Q : Queue) → Tell member.old.checkpoint.tables Q → end ≡ taken_end Q member.old.id step needed) }
+    ensures gives { (Q : Queue) → Tell member.old.checkpoint.tables Q
+        → GivesAt Q member.old.id step (taking Q member.old.id needed)
+        (λ disks per. TellSound member.old.checkpoint.tables) member.old member.new result }
+    ensures end { IfOk result (λ end. (Q : Queue) → Tell member.old.checkpoint.tables Q
+        → end ≡ taken_end Q member.old.id step needed) }
     ensures named { IfOk result IsNamedEnd }
     ensures enough { result ≡ Ok Done → needed ≤ member_count member.new.id member.new.checkpoint.tables.owners }
 {
@@ -136,8 +144,8 @@ pub(crate) fn take_for_end(
     give_back(member, alloc, step, end)
 }
 
-/// Gives Ended with these outputs; after a refused one the member's groups become free. NoMemory leaves the commands that were given
-/// before.
+/// Gives Ended with these outputs; after a refused one the member's groups become free. NoMemory leaves the commands
+/// that were given before.
 pub(crate) fn give_end(
     member: &mut Member,
     alloc: Global,
@@ -154,8 +162,12 @@ pub(crate) fn give_end(
     requires outputs { AreOutputs specs }
     requires order { member.old.checkpoint.tables.order + 64 < 2 ^ 63 }
     ensures has { HasGiven step member.old member.new }
-    ensures gives { (Q : Queue) → Tell member.old.checkpoint.tables Q → GivesAt Q member.old.id step (ending Q member.old.id job specs) (λ disks per. MayEnd member.old.checkpoint.tables Q member.old.id job specs disks per) member.old member.new result }
-    ensures end { IfOk result (λ end. (Q : Queue) → Tell member.old.checkpoint.tables Q → end ≡ end_by_lem (closing_reply (given_in Q member.old.id step (ending Q member.old.id job specs)))) }
+    ensures gives { (Q : Queue) → Tell member.old.checkpoint.tables Q
+        → GivesAt Q member.old.id step (ending Q member.old.id job specs)
+        (λ disks per. MayEnd member.old.checkpoint.tables Q member.old.id job specs disks per) member.old member.new
+        result }
+    ensures end { IfOk result (λ end. (Q : Queue) → Tell member.old.checkpoint.tables Q
+        → end ≡ end_by_lem (closing_reply (given_in Q member.old.id step (ending Q member.old.id job specs)))) }
     ensures named { IfOk result IsNamedEnd }
 {
     law_of_texts();

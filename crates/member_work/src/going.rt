@@ -32,8 +32,8 @@ use member_node::{Member, NodeNo};
 use spool_disk::Plant;
 use std::alloc::Global;
 
-// Reads the text of a job that is run, or else converted, without the lock, and answers what becomes of the job. A text that was gone when
-// the run began isn't read.
+// Reads the text of a job that is run, or else converted, without the lock, and answers what becomes of the job. A text
+// that was gone when the run began isn't read.
 fn look_up<P: Plant + Drop, C: Steady + Drop>(
     member: &Member,
     alloc: Global,
@@ -48,7 +48,9 @@ fn look_up<P: Plant + Drop, C: Steady + Drop>(
     requires nothing { member.now.batch ≡ [] }
     requires numbers { P.tells → AreDistinct (λ a b. same_number a.number b.number) complex.old.base.jobs }
     requires configured { P.tells → IsConfig complex.old.base.config }
-    requires work { IsAtWork P.tells (P.view complex.old.plant) complex.old.since complex.old.base complex.old.journal.batches complex.old.current complex.old.placed complex.old.level complex.old.reserved complex.old.printed member.now.id member.now.batch member.now.checkpoint member.now.room member.now.behind }
+    requires work { IsAtWork P.tells (P.view complex.old.plant) complex.old.since complex.old.base
+        complex.old.journal.batches complex.old.current complex.old.placed complex.old.level complex.old.reserved
+        complex.old.printed member.now.id member.now.batch member.now.checkpoint member.now.room member.now.behind }
     requires job { IsTold member.now.checkpoint.tables job.now }
     ensures pair { complex.new.pair ≡ complex.old.pair }
     ensures base { complex.new.base ≡ complex.old.base }
@@ -62,7 +64,9 @@ fn look_up<P: Plant + Drop, C: Steady + Drop>(
     ensures book { LeavesBook result member.now.id complex.old.book complex.new.book }
     ensures unreserved { OnOk result (complex.new.reserved ≡ None) }
     ensures acts { OnVolumes P.tells member.now.id.0 (P.view complex.old.plant) (P.view complex.new.plant) }
-    ensures looked { IfOk result (IsLookedAt P.tells runs complex.old.base.config.groups member.now.id (run complex.old.base (kept_all complex.old.journal.batches)) job.now.number (P.view complex.old.plant) (P.view complex.new.plant)) }
+    ensures looked { IfOk result (IsLookedAt P.tells runs complex.old.base.config.groups member.now.id
+        (run complex.old.base (kept_all complex.old.journal.batches)) job.now.number (P.view complex.old.plant)
+        (P.view complex.new.plant)) }
     ensures fits { IfOk result AreFitOutputs }
     ensures named { IfOk result IsNamedOutcome }
     ensures cause { SpoolStops result member.now.id.0 (P.view complex.old.plant) (P.view complex.new.plant) }
@@ -73,7 +77,7 @@ fn look_up<P: Plant + Drop, C: Steady + Drop>(
     look_at(member, alloc, complex, job, runs)
 }
 
-// The same, and reads the copies again under the lock.
+// Reads the text of a job and answers what becomes of the job, and then reads the copies again under the lock.
 fn read_job<P: Plant + Drop, C: Steady + Drop>(
     member: &mut Member,
     alloc: Global,
@@ -88,28 +92,45 @@ fn read_job<P: Plant + Drop, C: Steady + Drop>(
     requires nothing { member.old.batch ≡ [] }
     requires numbers { P.tells → AreDistinct (λ a b. same_number a.number b.number) complex.old.base.jobs }
     requires configured { P.tells → IsConfig complex.old.base.config }
-    requires work { IsAtWork P.tells (P.view complex.old.plant) complex.old.since complex.old.base complex.old.journal.batches complex.old.current complex.old.placed complex.old.level complex.old.reserved complex.old.printed member.old.id member.old.batch member.old.checkpoint member.old.room member.old.behind }
+    requires work { IsAtWork P.tells (P.view complex.old.plant) complex.old.since complex.old.base
+        complex.old.journal.batches complex.old.current complex.old.placed complex.old.level complex.old.reserved
+        complex.old.printed member.old.id member.old.batch member.old.checkpoint member.old.room member.old.behind }
     requires job { IsTold member.old.checkpoint.tables job.now }
-    requires copy1 { HasCopy P.tells complex.old.pair.first.alive complex.old.first (C.count complex.old.pair.first.copy) (C.room complex.old.pair.first.copy) member.old.checkpoint.pages (C.reads (disk_now (P.view complex.old.plant) Ckpt1).bytes) }
-    requires copy2 { HasCopy P.tells complex.old.pair.second.alive complex.old.second (C.count complex.old.pair.second.copy) (C.room complex.old.pair.second.copy) member.old.checkpoint.pages (C.reads (disk_now (P.view complex.old.plant) Ckpt2).bytes) }
+    requires copy1 { HasCopy P.tells complex.old.pair.first.alive complex.old.first
+        (C.count complex.old.pair.first.copy) (C.room complex.old.pair.first.copy) member.old.checkpoint.pages
+        (C.reads (disk_now (P.view complex.old.plant) Ckpt1).bytes) }
+    requires copy2 { HasCopy P.tells complex.old.pair.second.alive complex.old.second
+        (C.count complex.old.pair.second.copy) (C.room complex.old.pair.second.copy) member.old.checkpoint.pages
+        (C.reads (disk_now (P.view complex.old.plant) Ckpt2).bytes) }
     requires level { complex.old.level < too_high }
     ensures base { complex.new.base ≡ complex.old.base }
     ensures since { complex.new.since ≡ complex.old.since }
     ensures journal { complex.new.journal ≡ complex.old.journal }
     ensures id { member.new.id ≡ member.old.id }
     ensures book { LeavesBook result member.old.id complex.old.book complex.new.book }
-    ensures keeps { IsKeeping P.tells member.old.id [] complex.old.journal.batches (end_of complex.new.placed complex.new.current complex.new.journal.batches)
-        complex.old.pair.first.alive complex.new.pair.first.alive complex.old.pair.second.alive complex.new.pair.second.alive
+    ensures keeps { IsKeeping P.tells member.old.id [] complex.old.journal.batches
+        (end_of complex.new.placed complex.new.current complex.new.journal.batches) complex.old.pair.first.alive
+        complex.new.pair.first.alive complex.old.pair.second.alive complex.new.pair.second.alive
         (P.view complex.old.plant) (P.view complex.new.plant) result }
-    ensures looked { IfOk result (IsLookedAt P.tells runs complex.old.base.config.groups member.old.id (run complex.old.base (kept_all complex.old.journal.batches)) job.now.number (P.view complex.old.plant) (P.view complex.new.plant)) }
+    ensures looked { IfOk result (IsLookedAt P.tells runs complex.old.base.config.groups member.old.id
+        (run complex.old.base (kept_all complex.old.journal.batches)) job.now.number (P.view complex.old.plant)
+        (P.view complex.new.plant)) }
     ensures fits { IfOk result AreFitOutputs }
     ensures named { IfOk result IsNamedOutcome }
     ensures nothing { OnOk result (member.new.batch ≡ []) }
-    ensures work { OnOk result (IsAtWork P.tells (P.view complex.new.plant) complex.new.since complex.new.base complex.new.journal.batches complex.new.current complex.new.placed complex.new.level complex.new.reserved complex.new.printed member.new.id member.new.batch member.new.checkpoint member.new.room member.new.behind) }
-    ensures copy1 { OnOk result (HasCopy P.tells complex.new.pair.first.alive complex.new.first (C.count complex.new.pair.first.copy) (C.room complex.new.pair.first.copy) member.new.checkpoint.pages (C.reads (disk_now (P.view complex.new.plant) Ckpt1).bytes)) }
-    ensures copy2 { OnOk result (HasCopy P.tells complex.new.pair.second.alive complex.new.second (C.count complex.new.pair.second.copy) (C.room complex.new.pair.second.copy) member.new.checkpoint.pages (C.reads (disk_now (P.view complex.new.plant) Ckpt2).bytes)) }
-    ensures untold { OnOk result (P.tells → (at : ℕ) → IsStepUntold (setting C.reads complex.old.base complex.old.since) member.old.id at (P.view complex.old.plant)
-        → IsStepUntold (setting C.reads complex.new.base complex.new.since) member.new.id at (P.view complex.new.plant)) }
+    ensures work { OnOk result (IsAtWork P.tells (P.view complex.new.plant) complex.new.since complex.new.base
+        complex.new.journal.batches complex.new.current complex.new.placed complex.new.level complex.new.reserved
+        complex.new.printed member.new.id member.new.batch member.new.checkpoint member.new.room member.new.behind) }
+    ensures copy1 { OnOk result (HasCopy P.tells complex.new.pair.first.alive complex.new.first
+        (C.count complex.new.pair.first.copy) (C.room complex.new.pair.first.copy) member.new.checkpoint.pages
+        (C.reads (disk_now (P.view complex.new.plant) Ckpt1).bytes)) }
+    ensures copy2 { OnOk result (HasCopy P.tells complex.new.pair.second.alive complex.new.second
+        (C.count complex.new.pair.second.copy) (C.room complex.new.pair.second.copy) member.new.checkpoint.pages
+        (C.reads (disk_now (P.view complex.new.plant) Ckpt2).bytes)) }
+    ensures untold { OnOk result (P.tells → (at : ℕ)
+        → IsStepUntold (setting C.reads complex.old.base complex.old.since) member.old.id at (P.view complex.old.plant)
+        → IsStepUntold (setting C.reads complex.new.base complex.new.since) member.new.id at
+        (P.view complex.new.plant)) }
     ensures order { OnOk result (member.new.checkpoint.tables.order < too_high) }
     ensures high { OnOk result (member.new.checkpoint.level < too_high) }
     ensures reached { complex.new.level ≡ complex.old.level }
@@ -138,11 +159,18 @@ fn go_on<P: Plant + Drop, C: Steady + Drop>(
     requires named { IsNamedOutcome outcome }
     requires nothing { member.old.batch ≡ [] }
     requires under_way { P.tells → IsUnderWay (run complex.old.base (kept_all complex.old.journal.batches)) job }
-    requires work { IsAtWork P.tells (P.view complex.old.plant) complex.old.since complex.old.base complex.old.journal.batches complex.old.current complex.old.placed complex.old.level complex.old.reserved complex.old.printed member.old.id member.old.batch member.old.checkpoint member.old.room member.old.behind }
+    requires work { IsAtWork P.tells (P.view complex.old.plant) complex.old.since complex.old.base
+        complex.old.journal.batches complex.old.current complex.old.placed complex.old.level complex.old.reserved
+        complex.old.printed member.old.id member.old.batch member.old.checkpoint member.old.room member.old.behind }
     requires of { AreOf member.old.id step member.old.batch }
-    requires untold { P.tells → IsStepUntold (setting C.reads complex.old.base complex.old.since) member.old.id step (P.view complex.old.plant) }
-    requires copy1 { HasCopy P.tells complex.old.pair.first.alive complex.old.first (C.count complex.old.pair.first.copy) (C.room complex.old.pair.first.copy) member.old.checkpoint.pages (C.reads (disk_now (P.view complex.old.plant) Ckpt1).bytes) }
-    requires copy2 { HasCopy P.tells complex.old.pair.second.alive complex.old.second (C.count complex.old.pair.second.copy) (C.room complex.old.pair.second.copy) member.old.checkpoint.pages (C.reads (disk_now (P.view complex.old.plant) Ckpt2).bytes) }
+    requires untold { P.tells → IsStepUntold (setting C.reads complex.old.base complex.old.since) member.old.id step
+        (P.view complex.old.plant) }
+    requires copy1 { HasCopy P.tells complex.old.pair.first.alive complex.old.first
+        (C.count complex.old.pair.first.copy) (C.room complex.old.pair.first.copy) member.old.checkpoint.pages
+        (C.reads (disk_now (P.view complex.old.plant) Ckpt1).bytes) }
+    requires copy2 { HasCopy P.tells complex.old.pair.second.alive complex.old.second
+        (C.count complex.old.pair.second.copy) (C.room complex.old.pair.second.copy) member.old.checkpoint.pages
+        (C.reads (disk_now (P.view complex.old.plant) Ckpt2).bytes) }
     requires order { member.old.checkpoint.tables.order < too_high }
     requires high { member.old.checkpoint.level < too_high }
     requires level { complex.old.level + 1 < too_high }
@@ -150,16 +178,25 @@ fn go_on<P: Plant + Drop, C: Steady + Drop>(
     ensures since { complex.new.since ≡ complex.old.since }
     ensures id { member.new.id ≡ member.old.id }
     ensures book { LeavesBook result member.old.id complex.old.book complex.new.book }
-    ensures step { IsOutcomeStep P.tells member.old.id step complex.old.base.config.groups (run complex.old.base (kept_all complex.old.journal.batches)) job outcome member.new.batch
+    ensures step { IsOutcomeStep P.tells member.old.id step complex.old.base.config.groups
+        (run complex.old.base (kept_all complex.old.journal.batches)) job outcome member.new.batch
         complex.old.journal.batches (end_of complex.new.placed complex.new.current complex.new.journal.batches)
-        complex.old.pair.first.alive complex.new.pair.first.alive complex.old.pair.second.alive complex.new.pair.second.alive
-        (P.view complex.old.plant) (P.view complex.new.plant) result }
+        complex.old.pair.first.alive complex.new.pair.first.alive complex.old.pair.second.alive
+        complex.new.pair.second.alive (P.view complex.old.plant) (P.view complex.new.plant) result }
     ensures named { IfOk result IsNamedEnd }
-    ensures work { OnOk result (IsAtWork P.tells (P.view complex.new.plant) complex.new.since complex.new.base complex.new.journal.batches complex.new.current complex.new.placed complex.new.level complex.new.reserved complex.new.printed member.new.id member.new.batch member.new.checkpoint member.new.room member.new.behind) }
+    ensures work { OnOk result (IsAtWork P.tells (P.view complex.new.plant) complex.new.since complex.new.base
+        complex.new.journal.batches complex.new.current complex.new.placed complex.new.level complex.new.reserved
+        complex.new.printed member.new.id member.new.batch member.new.checkpoint member.new.room member.new.behind) }
     ensures of { OnOk result (AreOf member.new.id step member.new.batch) }
-    ensures untold { OnOk result (P.tells → IsStepUntold (setting C.reads complex.new.base complex.new.since) member.new.id step (P.view complex.new.plant)) }
-    ensures copy1 { OnOk result (HasCopy P.tells complex.new.pair.first.alive complex.new.first (C.count complex.new.pair.first.copy) (C.room complex.new.pair.first.copy) member.new.checkpoint.pages (C.reads (disk_now (P.view complex.new.plant) Ckpt1).bytes)) }
-    ensures copy2 { OnOk result (HasCopy P.tells complex.new.pair.second.alive complex.new.second (C.count complex.new.pair.second.copy) (C.room complex.new.pair.second.copy) member.new.checkpoint.pages (C.reads (disk_now (P.view complex.new.plant) Ckpt2).bytes)) }
+    ensures untold { OnOk result (P.tells
+        → IsStepUntold (setting C.reads complex.new.base complex.new.since) member.new.id step
+        (P.view complex.new.plant)) }
+    ensures copy1 { OnOk result (HasCopy P.tells complex.new.pair.first.alive complex.new.first
+        (C.count complex.new.pair.first.copy) (C.room complex.new.pair.first.copy) member.new.checkpoint.pages
+        (C.reads (disk_now (P.view complex.new.plant) Ckpt1).bytes)) }
+    ensures copy2 { OnOk result (HasCopy P.tells complex.new.pair.second.alive complex.new.second
+        (C.count complex.new.pair.second.copy) (C.room complex.new.pair.second.copy) member.new.checkpoint.pages
+        (C.reads (disk_now (P.view complex.new.plant) Ckpt2).bytes)) }
     ensures order { OnOk result (member.new.checkpoint.tables.order ≤ too_high + 96) }
     ensures high { OnOk result (member.new.checkpoint.level < too_high) }
     ensures reached { OnOk result (complex.new.level ≤ complex.old.level + 1) }
@@ -191,28 +228,45 @@ pub(crate) fn play_text<P: Plant + Drop, C: Steady + Drop>(
     requires numbers { P.tells → AreDistinct (λ a b. same_number a.number b.number) complex.old.base.jobs }
     requires configured { P.tells → IsConfig complex.old.base.config }
     requires nothing { member.old.batch ≡ [] }
-    requires under_way { P.tells → IsUnderWay (run complex.old.base (kept_all complex.old.journal.batches)) job.now.number }
-    requires work { IsAtWork P.tells (P.view complex.old.plant) complex.old.since complex.old.base complex.old.journal.batches complex.old.current complex.old.placed complex.old.level complex.old.reserved complex.old.printed member.old.id member.old.batch member.old.checkpoint member.old.room member.old.behind }
+    requires under_way { P.tells → IsUnderWay (run complex.old.base (kept_all complex.old.journal.batches))
+        job.now.number }
+    requires work { IsAtWork P.tells (P.view complex.old.plant) complex.old.since complex.old.base
+        complex.old.journal.batches complex.old.current complex.old.placed complex.old.level complex.old.reserved
+        complex.old.printed member.old.id member.old.batch member.old.checkpoint member.old.room member.old.behind }
     requires job { IsTold member.old.checkpoint.tables job.now }
     requires of { AreOf member.old.id step member.old.batch }
-    requires untold { P.tells → IsStepUntold (setting C.reads complex.old.base complex.old.since) member.old.id step (P.view complex.old.plant) }
-    requires copy1 { HasCopy P.tells complex.old.pair.first.alive complex.old.first (C.count complex.old.pair.first.copy) (C.room complex.old.pair.first.copy) member.old.checkpoint.pages (C.reads (disk_now (P.view complex.old.plant) Ckpt1).bytes) }
-    requires copy2 { HasCopy P.tells complex.old.pair.second.alive complex.old.second (C.count complex.old.pair.second.copy) (C.room complex.old.pair.second.copy) member.old.checkpoint.pages (C.reads (disk_now (P.view complex.old.plant) Ckpt2).bytes) }
+    requires untold { P.tells → IsStepUntold (setting C.reads complex.old.base complex.old.since) member.old.id step
+        (P.view complex.old.plant) }
+    requires copy1 { HasCopy P.tells complex.old.pair.first.alive complex.old.first
+        (C.count complex.old.pair.first.copy) (C.room complex.old.pair.first.copy) member.old.checkpoint.pages
+        (C.reads (disk_now (P.view complex.old.plant) Ckpt1).bytes) }
+    requires copy2 { HasCopy P.tells complex.old.pair.second.alive complex.old.second
+        (C.count complex.old.pair.second.copy) (C.room complex.old.pair.second.copy) member.old.checkpoint.pages
+        (C.reads (disk_now (P.view complex.old.plant) Ckpt2).bytes) }
     requires level { complex.old.level + 1 < too_high }
     ensures base { complex.new.base ≡ complex.old.base }
     ensures since { complex.new.since ≡ complex.old.since }
     ensures id { member.new.id ≡ member.old.id }
     ensures book { LeavesBook result member.old.id complex.old.book complex.new.book }
-    ensures step { IsTextStep P.tells runs member.old.id step complex.old.base.config.groups (run complex.old.base (kept_all complex.old.journal.batches)) job.now.number member.new.batch
+    ensures step { IsTextStep P.tells runs member.old.id step complex.old.base.config.groups
+        (run complex.old.base (kept_all complex.old.journal.batches)) job.now.number member.new.batch
         complex.old.journal.batches (end_of complex.new.placed complex.new.current complex.new.journal.batches)
-        complex.old.pair.first.alive complex.new.pair.first.alive complex.old.pair.second.alive complex.new.pair.second.alive
-        (P.view complex.old.plant) (P.view complex.new.plant) result }
+        complex.old.pair.first.alive complex.new.pair.first.alive complex.old.pair.second.alive
+        complex.new.pair.second.alive (P.view complex.old.plant) (P.view complex.new.plant) result }
     ensures named { IfOk result IsNamedEnd }
-    ensures work { OnOk result (IsAtWork P.tells (P.view complex.new.plant) complex.new.since complex.new.base complex.new.journal.batches complex.new.current complex.new.placed complex.new.level complex.new.reserved complex.new.printed member.new.id member.new.batch member.new.checkpoint member.new.room member.new.behind) }
+    ensures work { OnOk result (IsAtWork P.tells (P.view complex.new.plant) complex.new.since complex.new.base
+        complex.new.journal.batches complex.new.current complex.new.placed complex.new.level complex.new.reserved
+        complex.new.printed member.new.id member.new.batch member.new.checkpoint member.new.room member.new.behind) }
     ensures of { OnOk result (AreOf member.new.id step member.new.batch) }
-    ensures untold { OnOk result (P.tells → IsStepUntold (setting C.reads complex.new.base complex.new.since) member.new.id step (P.view complex.new.plant)) }
-    ensures copy1 { OnOk result (HasCopy P.tells complex.new.pair.first.alive complex.new.first (C.count complex.new.pair.first.copy) (C.room complex.new.pair.first.copy) member.new.checkpoint.pages (C.reads (disk_now (P.view complex.new.plant) Ckpt1).bytes)) }
-    ensures copy2 { OnOk result (HasCopy P.tells complex.new.pair.second.alive complex.new.second (C.count complex.new.pair.second.copy) (C.room complex.new.pair.second.copy) member.new.checkpoint.pages (C.reads (disk_now (P.view complex.new.plant) Ckpt2).bytes)) }
+    ensures untold { OnOk result (P.tells
+        → IsStepUntold (setting C.reads complex.new.base complex.new.since) member.new.id step
+        (P.view complex.new.plant)) }
+    ensures copy1 { OnOk result (HasCopy P.tells complex.new.pair.first.alive complex.new.first
+        (C.count complex.new.pair.first.copy) (C.room complex.new.pair.first.copy) member.new.checkpoint.pages
+        (C.reads (disk_now (P.view complex.new.plant) Ckpt1).bytes)) }
+    ensures copy2 { OnOk result (HasCopy P.tells complex.new.pair.second.alive complex.new.second
+        (C.count complex.new.pair.second.copy) (C.room complex.new.pair.second.copy) member.new.checkpoint.pages
+        (C.reads (disk_now (P.view complex.new.plant) Ckpt2).bytes)) }
     ensures order { OnOk result (member.new.checkpoint.tables.order ≤ too_high + 96) }
     ensures high { OnOk result (member.new.checkpoint.level < too_high) }
     ensures reached { OnOk result (complex.new.level ≤ complex.old.level + 1) }

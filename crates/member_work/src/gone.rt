@@ -87,9 +87,11 @@ fn is_brought_in(job: JobNo, batches: &[Batch]) -> bool
     batches.iter().any(|batch| is_brought_by(job, batch))
 }
 
-// The group with which the text was gone, unless one of these batches brought a job of this number. They aren't looked at where it was whole.
+// The group with which the text was gone, unless one of these batches brought a job of this number. They aren't looked
+// at where it was whole.
 fn unless_brought(job: JobNo, gone: Option<GroupNo>, batches: &[Batch]) -> Option<GroupNo>
-    ensures { result ≡ (if list_any (λ b. is_kept_lem b.fate && is_brought_lem job b.entries) batches.now then None else gone) }
+    ensures { result ≡ (if list_any (λ b. is_kept_lem b.fate && is_brought_lem job b.entries) batches.now then None else
+        gone) }
 {
     if gone.is_none() {
         return None;
@@ -100,8 +102,8 @@ fn unless_brought(job: JobNo, gone: Option<GroupNo>, batches: &[Batch]) -> Optio
     gone
 }
 
-/// The group with which a job's text is gone, None where it is whole; where content is told, exactly. A text is gone only where it was when
-/// the run began: so this is the base's, unless a job of this number was begun or entered since.
+/// The group with which a job's text is gone, None where it is whole; where content is told, exactly. A text is gone
+/// only where it was when the run began: so this is the base's, unless a job of this number was begun or entered since.
 pub fn gone_deck<P: Plant + Drop, C: Steady + Drop>(
     complex: &Complex<P, C>,
     job: JobNo,
@@ -109,7 +111,9 @@ pub fn gone_deck<P: Plant + Drop, C: Steady + Drop>(
     requires numbers { P.tells → AreDistinct (λ a b. same_number a.number b.number) complex.now.base.jobs }
     requires config { P.tells → IsConfig complex.now.base.config }
     ensures since { result ≡ gone_since complex.now.base (kept_all complex.now.journal.batches) job }
-    ensures gone { P.tells → (j : JobLem) → job_at_lem (run complex.now.base (kept_all complex.now.journal.batches)) job ≡ Some j → result ≡ gone_with_lem j.text }
+    ensures gone { P.tells → (j : JobLem)
+        → job_at_lem (run complex.now.base (kept_all complex.now.journal.batches)) job ≡ Some j
+        → result ≡ gone_with_lem j.text }
 {
     kept_replies(complex);
     let batches = complex.journal.batches.as_slice();
@@ -169,9 +173,10 @@ fn gone_output_in(queue: &Queue, job: JobNo, index: OutNo) -> Option<GroupNo>
     }
 }
 
-// The same of an output's text, unless one of the batches brought outputs of its job.
+// The group with which an output's text was gone, unless one of these batches brought outputs of its job.
 fn unless_outputs_brought(job: JobNo, gone: Option<GroupNo>, batches: &[Batch]) -> Option<GroupNo>
-    ensures { result ≡ (if list_any (λ b. is_kept_lem b.fate && are_outputs_brought_lem job b.entries) batches.now then None else gone) }
+    ensures { result ≡ (if list_any (λ b. is_kept_lem b.fate && are_outputs_brought_lem job b.entries) batches.now then
+        None else gone) }
 {
     if gone.is_none() {
         return None;
@@ -182,8 +187,8 @@ fn unless_outputs_brought(job: JobNo, gone: Option<GroupNo>, batches: &[Batch]) 
     gone
 }
 
-/// The group with which an output's text is gone, None where it is whole; where content is told, exactly. A text is gone only where it was
-/// when the run began: so this is the base's, unless outputs of its job were brought since.
+/// The group with which an output's text is gone, None where it is whole; where content is told, exactly. A text is
+/// gone only where it was when the run began: so this is the base's, unless outputs of its job were brought since.
 pub fn gone_output<P: Plant + Drop, C: Steady + Drop>(
     complex: &Complex<P, C>,
     job: JobNo,
@@ -191,7 +196,9 @@ pub fn gone_output<P: Plant + Drop, C: Steady + Drop>(
 ) -> Option<GroupNo>
     requires base_sound { P.tells → IsSound complex.now.base }
     ensures since { result ≡ gone_output_since complex.now.base (kept_all complex.now.journal.batches) job index }
-    ensures gone { P.tells → (o : OutputLem) → output_at_lem (run complex.now.base (kept_all complex.now.journal.batches)) job index ≡ Some o → result ≡ gone_with_lem o.text }
+    ensures gone { P.tells → (o : OutputLem)
+        → output_at_lem (run complex.now.base (kept_all complex.now.journal.batches)) job index ≡ Some o
+        → result ≡ gone_with_lem o.text }
 {
     kept_replies(complex);
     complex.kept_given();

@@ -1,4 +1,5 @@
-//! What a member's step WORK n gives: units of work one after another, from its printer's on. And reading a job's text, without the lock.
+//! What a member's step WORK n gives: units of work one after another, from its printer's on. And reading a job's text,
+//! without the lock.
 #![tactic(auto)]
 
 mod closing;

@@ -23,7 +23,8 @@ use spool_disk::Plant;
 use std::alloc::Global;
 use track_groups::{groups_of, law_of_places};
 
-/// Gives the lock up, reads the text of a job that is run, or else converted, and takes the lock again. Answers what becomes of the job.
+/// Gives the lock up, reads the text of a job that is run, or else converted, and takes the lock again. Answers what
+/// becomes of the job.
 pub(crate) fn look_at<P: Plant + Drop, C: Steady + Drop>(
     member: &Member,
     alloc: Global,
@@ -36,9 +37,13 @@ pub(crate) fn look_at<P: Plant + Drop, C: Steady + Drop>(
     requires seated { IsMember complex.old.book member.now.id }
     requires whole { left_of complex.old.book member.now.id ≡ complex.old.book.hold }
     requires nothing { member.now.batch ≡ [] }
-    requires work { IsAtWork P.tells (P.view complex.old.plant) complex.old.since complex.old.base complex.old.journal.batches complex.old.current complex.old.placed complex.old.level complex.old.reserved complex.old.printed member.now.id member.now.batch member.now.checkpoint member.now.room member.now.behind }
+    requires work { IsAtWork P.tells (P.view complex.old.plant) complex.old.since complex.old.base
+        complex.old.journal.batches complex.old.current complex.old.placed complex.old.level complex.old.reserved
+        complex.old.printed member.now.id member.now.batch member.now.checkpoint member.now.room member.now.behind }
     requires job { IsTold member.now.checkpoint.tables job.now }
-    requires whole_text { P.tells → (j : Job) → job_at (run complex.old.base (kept_all complex.old.journal.batches)) job.now.number ≡ Some j → IsWhole j.text }
+    requires whole_text { P.tells → (j : Job)
+        → job_at (run complex.old.base (kept_all complex.old.journal.batches)) job.now.number ≡ Some j
+        → IsWhole j.text }
     ensures pair { complex.new.pair ≡ complex.old.pair }
     ensures base { complex.new.base ≡ complex.old.base }
     ensures since { complex.new.since ≡ complex.old.since }
@@ -52,7 +57,9 @@ pub(crate) fn look_at<P: Plant + Drop, C: Steady + Drop>(
     ensures unreserved { OnOk result (complex.new.reserved ≡ None) }
     ensures acts { OnVolumes P.tells member.now.id.0 (P.view complex.old.plant) (P.view complex.new.plant) }
     ensures reads { OnlyReads P.tells (P.view complex.old.plant) (P.view complex.new.plant) }
-    ensures looked { IfOk result (IsLookedAt P.tells runs complex.old.base.config.groups member.now.id (run complex.old.base (kept_all complex.old.journal.batches)) job.now.number (P.view complex.old.plant) (P.view complex.new.plant)) }
+    ensures looked { IfOk result (IsLookedAt P.tells runs complex.old.base.config.groups member.now.id
+        (run complex.old.base (kept_all complex.old.journal.batches)) job.now.number (P.view complex.old.plant)
+        (P.view complex.new.plant)) }
     ensures fits { IfOk result AreFitOutputs }
     ensures named { IfOk result IsNamedOutcome }
     ensures cause { SpoolStops result member.now.id.0 (P.view complex.old.plant) (P.view complex.new.plant) }

@@ -47,8 +47,8 @@ pub fn command_of(unit: Unit) -> Option<Command>
     }
 }
 
-// Plays the unit of a job that is run, or else converted: what was given before is kept; the text is read, without the lock; and the job
-// goes on, or ends with its outputs.
+// Plays the unit of a job that is run, or else converted: what was given before is kept; the text is read, without the
+// lock; and the job goes on, or ends with its outputs.
 fn play_job<P: Plant + Drop, C: Steady + Drop>(
     member: &mut Member,
     alloc: Global,
@@ -66,30 +66,50 @@ fn play_job<P: Plant + Drop, C: Steady + Drop>(
     requires member { is_member complex.old.base.config member.old.id ≡ true }
     requires numbers { P.tells → AreDistinct (λ a b. same_number a.number b.number) complex.old.base.jobs }
     requires configured { P.tells → IsConfig complex.old.base.config }
-    requires under_way { P.tells → IsUnderWay (run complex.old.base (kept_all complex.old.journal.batches ++ member.old.batch)) number }
-    requires work { IsAtWork P.tells (P.view complex.old.plant) complex.old.since complex.old.base complex.old.journal.batches complex.old.current complex.old.placed complex.old.level complex.old.reserved complex.old.printed member.old.id member.old.batch member.old.checkpoint member.old.room member.old.behind }
+    requires under_way { P.tells → IsUnderWay
+        (run complex.old.base (kept_all complex.old.journal.batches ++ member.old.batch)) number }
+    requires work { IsAtWork P.tells (P.view complex.old.plant) complex.old.since complex.old.base
+        complex.old.journal.batches complex.old.current complex.old.placed complex.old.level complex.old.reserved
+        complex.old.printed member.old.id member.old.batch member.old.checkpoint member.old.room member.old.behind }
     requires of { AreOf member.old.id step member.old.batch }
-    requires untold { P.tells → IsStepUntold (setting C.reads complex.old.base complex.old.since) member.old.id step (P.view complex.old.plant) }
-    requires copy1 { HasCopy P.tells complex.old.pair.first.alive complex.old.first (C.count complex.old.pair.first.copy) (C.room complex.old.pair.first.copy) member.old.checkpoint.pages (C.reads (disk_now (P.view complex.old.plant) Ckpt1).bytes) }
-    requires copy2 { HasCopy P.tells complex.old.pair.second.alive complex.old.second (C.count complex.old.pair.second.copy) (C.room complex.old.pair.second.copy) member.old.checkpoint.pages (C.reads (disk_now (P.view complex.old.plant) Ckpt2).bytes) }
+    requires untold { P.tells → IsStepUntold (setting C.reads complex.old.base complex.old.since) member.old.id step
+        (P.view complex.old.plant) }
+    requires copy1 { HasCopy P.tells complex.old.pair.first.alive complex.old.first
+        (C.count complex.old.pair.first.copy) (C.room complex.old.pair.first.copy) member.old.checkpoint.pages
+        (C.reads (disk_now (P.view complex.old.plant) Ckpt1).bytes) }
+    requires copy2 { HasCopy P.tells complex.old.pair.second.alive complex.old.second
+        (C.count complex.old.pair.second.copy) (C.room complex.old.pair.second.copy) member.old.checkpoint.pages
+        (C.reads (disk_now (P.view complex.old.plant) Ckpt2).bytes) }
     requires level { complex.old.level + 3 < too_high }
     requires high { member.old.checkpoint.level + 1 < 2 ^ 63 }
     ensures base { complex.new.base ≡ complex.old.base }
     ensures since { complex.new.since ≡ complex.old.since }
     ensures id { member.new.id ≡ member.old.id }
     ensures book { LeavesBook result member.old.id complex.old.book complex.new.book }
-    ensures step { IsJobStep P.tells runs member.old.id step complex.old.base.config.groups (run complex.old.base (kept_all complex.old.journal.batches ++ member.old.batch)) number member.old.batch member.new.batch spent.old spent.new
-        complex.old.journal.batches (end_of complex.new.placed complex.new.current complex.new.journal.batches)
-        complex.old.pair.first.alive complex.new.pair.first.alive complex.old.pair.second.alive complex.new.pair.second.alive
+    ensures step { IsJobStep P.tells runs member.old.id step complex.old.base.config.groups
+        (run complex.old.base (kept_all complex.old.journal.batches ++ member.old.batch)) number member.old.batch
+        member.new.batch spent.old spent.new complex.old.journal.batches
+        (end_of complex.new.placed complex.new.current complex.new.journal.batches) complex.old.pair.first.alive
+        complex.new.pair.first.alive complex.old.pair.second.alive complex.new.pair.second.alive
         (P.view complex.old.plant) (P.view complex.new.plant) result }
     ensures named { IfOk result IsNamedEnd }
-    ensures work { OnOk result (IsAtWork P.tells (P.view complex.new.plant) complex.new.since complex.new.base complex.new.journal.batches complex.new.current complex.new.placed complex.new.level complex.new.reserved complex.new.printed member.new.id member.new.batch member.new.checkpoint member.new.room member.new.behind) }
+    ensures work { OnOk result (IsAtWork P.tells (P.view complex.new.plant) complex.new.since complex.new.base
+        complex.new.journal.batches complex.new.current complex.new.placed complex.new.level complex.new.reserved
+        complex.new.printed member.new.id member.new.batch member.new.checkpoint member.new.room member.new.behind) }
     ensures of { OnOk result (AreOf member.new.id step member.new.batch) }
-    ensures untold { OnOk result (P.tells → IsStepUntold (setting C.reads complex.new.base complex.new.since) member.new.id step (P.view complex.new.plant)) }
-    ensures copy1 { OnOk result (HasCopy P.tells complex.new.pair.first.alive complex.new.first (C.count complex.new.pair.first.copy) (C.room complex.new.pair.first.copy) member.new.checkpoint.pages (C.reads (disk_now (P.view complex.new.plant) Ckpt1).bytes)) }
-    ensures copy2 { OnOk result (HasCopy P.tells complex.new.pair.second.alive complex.new.second (C.count complex.new.pair.second.copy) (C.room complex.new.pair.second.copy) member.new.checkpoint.pages (C.reads (disk_now (P.view complex.new.plant) Ckpt2).bytes)) }
-    ensures order { OnOk result ((most : ℕ) → too_high + 96 ≤ most → member.old.checkpoint.tables.order ≤ most → member.new.checkpoint.tables.order ≤ most + 32) }
-    ensures high { OnOk result ((most : ℕ) → too_high ≤ most → member.old.checkpoint.level ≤ most → member.new.checkpoint.level ≤ most) }
+    ensures untold { OnOk result (P.tells
+        → IsStepUntold (setting C.reads complex.new.base complex.new.since) member.new.id step
+        (P.view complex.new.plant)) }
+    ensures copy1 { OnOk result (HasCopy P.tells complex.new.pair.first.alive complex.new.first
+        (C.count complex.new.pair.first.copy) (C.room complex.new.pair.first.copy) member.new.checkpoint.pages
+        (C.reads (disk_now (P.view complex.new.plant) Ckpt1).bytes)) }
+    ensures copy2 { OnOk result (HasCopy P.tells complex.new.pair.second.alive complex.new.second
+        (C.count complex.new.pair.second.copy) (C.room complex.new.pair.second.copy) member.new.checkpoint.pages
+        (C.reads (disk_now (P.view complex.new.plant) Ckpt2).bytes)) }
+    ensures order { OnOk result ((most : ℕ) → too_high + 96 ≤ most → member.old.checkpoint.tables.order ≤ most
+        → member.new.checkpoint.tables.order ≤ most + 32) }
+    ensures high { OnOk result ((most : ℕ) → too_high ≤ most → member.old.checkpoint.level ≤ most
+        → member.new.checkpoint.level ≤ most) }
     ensures reached { OnOk result (complex.new.level ≤ complex.old.level + 2) }
 {
     let Some(found) = find_job(member.checkpoint.tables.jobs.as_slice(), number) else {
@@ -101,8 +121,8 @@ fn play_job<P: Plant + Drop, C: Steady + Drop>(
     Ok(end)
 }
 
-/// Plays the next unit of the member, which gave so many commands since it got the lock. What is still to be written of what it gives
-/// stands in the member's batch.
+/// Plays the next unit of the member, which gave so many commands since it got the lock. What is still to be written of
+/// what it gives stands in the member's batch.
 pub(crate) fn play_unit<P: Plant + Drop, C: Steady + Drop>(
     member: &mut Member,
     alloc: Global,
@@ -119,11 +139,18 @@ pub(crate) fn play_unit<P: Plant + Drop, C: Steady + Drop>(
     requires base_sound { P.tells → IsSound complex.old.base }
     requires few { length member.old.batch < 64 }
     requires some_spent { spent.old + 1 < 2 ^ 32 }
-    requires work { IsAtWork P.tells (P.view complex.old.plant) complex.old.since complex.old.base complex.old.journal.batches complex.old.current complex.old.placed complex.old.level complex.old.reserved complex.old.printed member.old.id member.old.batch member.old.checkpoint member.old.room member.old.behind }
+    requires work { IsAtWork P.tells (P.view complex.old.plant) complex.old.since complex.old.base
+        complex.old.journal.batches complex.old.current complex.old.placed complex.old.level complex.old.reserved
+        complex.old.printed member.old.id member.old.batch member.old.checkpoint member.old.room member.old.behind }
     requires of { AreOf member.old.id step member.old.batch }
-    requires untold { P.tells → IsStepUntold (setting C.reads complex.old.base complex.old.since) member.old.id step (P.view complex.old.plant) }
-    requires copy1 { HasCopy P.tells complex.old.pair.first.alive complex.old.first (C.count complex.old.pair.first.copy) (C.room complex.old.pair.first.copy) member.old.checkpoint.pages (C.reads (disk_now (P.view complex.old.plant) Ckpt1).bytes) }
-    requires copy2 { HasCopy P.tells complex.old.pair.second.alive complex.old.second (C.count complex.old.pair.second.copy) (C.room complex.old.pair.second.copy) member.old.checkpoint.pages (C.reads (disk_now (P.view complex.old.plant) Ckpt2).bytes) }
+    requires untold { P.tells → IsStepUntold (setting C.reads complex.old.base complex.old.since) member.old.id step
+        (P.view complex.old.plant) }
+    requires copy1 { HasCopy P.tells complex.old.pair.first.alive complex.old.first
+        (C.count complex.old.pair.first.copy) (C.room complex.old.pair.first.copy) member.old.checkpoint.pages
+        (C.reads (disk_now (P.view complex.old.plant) Ckpt1).bytes) }
+    requires copy2 { HasCopy P.tells complex.old.pair.second.alive complex.old.second
+        (C.count complex.old.pair.second.copy) (C.room complex.old.pair.second.copy) member.old.checkpoint.pages
+        (C.reads (disk_now (P.view complex.old.plant) Ckpt2).bytes) }
     requires order { member.old.checkpoint.tables.order + 32 < 2 ^ 63 }
     requires high { member.old.checkpoint.level + 1 < 2 ^ 63 }
     requires level { complex.old.level + 3 < too_high }
@@ -131,18 +158,30 @@ pub(crate) fn play_unit<P: Plant + Drop, C: Steady + Drop>(
     ensures since { complex.new.since ≡ complex.old.since }
     ensures id { member.new.id ≡ member.old.id }
     ensures book { LeavesBook result member.old.id complex.old.book complex.new.book }
-    ensures step { IsUnitStep P.tells member.old.id step complex.old.base.config.groups (run complex.old.base (kept_all complex.old.journal.batches ++ member.old.batch)) member.old.batch member.new.batch spent.old spent.new
-        complex.old.journal.batches (end_of complex.new.placed complex.new.current complex.new.journal.batches)
-        complex.old.pair.first.alive complex.new.pair.first.alive complex.old.pair.second.alive complex.new.pair.second.alive
+    ensures step { IsUnitStep P.tells member.old.id step complex.old.base.config.groups
+        (run complex.old.base (kept_all complex.old.journal.batches ++ member.old.batch)) member.old.batch
+        member.new.batch spent.old spent.new complex.old.journal.batches
+        (end_of complex.new.placed complex.new.current complex.new.journal.batches) complex.old.pair.first.alive
+        complex.new.pair.first.alive complex.old.pair.second.alive complex.new.pair.second.alive
         (P.view complex.old.plant) (P.view complex.new.plant) result }
     ensures named { IfOk result IsNamedEnd }
-    ensures work { OnOk result (IsAtWork P.tells (P.view complex.new.plant) complex.new.since complex.new.base complex.new.journal.batches complex.new.current complex.new.placed complex.new.level complex.new.reserved complex.new.printed member.new.id member.new.batch member.new.checkpoint member.new.room member.new.behind) }
+    ensures work { OnOk result (IsAtWork P.tells (P.view complex.new.plant) complex.new.since complex.new.base
+        complex.new.journal.batches complex.new.current complex.new.placed complex.new.level complex.new.reserved
+        complex.new.printed member.new.id member.new.batch member.new.checkpoint member.new.room member.new.behind) }
     ensures of { OnOk result (AreOf member.new.id step member.new.batch) }
-    ensures untold { OnOk result (P.tells → IsStepUntold (setting C.reads complex.new.base complex.new.since) member.new.id step (P.view complex.new.plant)) }
-    ensures copy1 { OnOk result (HasCopy P.tells complex.new.pair.first.alive complex.new.first (C.count complex.new.pair.first.copy) (C.room complex.new.pair.first.copy) member.new.checkpoint.pages (C.reads (disk_now (P.view complex.new.plant) Ckpt1).bytes)) }
-    ensures copy2 { OnOk result (HasCopy P.tells complex.new.pair.second.alive complex.new.second (C.count complex.new.pair.second.copy) (C.room complex.new.pair.second.copy) member.new.checkpoint.pages (C.reads (disk_now (P.view complex.new.plant) Ckpt2).bytes)) }
-    ensures order { OnOk result ((most : ℕ) → too_high + 96 ≤ most → member.old.checkpoint.tables.order ≤ most → member.new.checkpoint.tables.order ≤ most + 32) }
-    ensures high { OnOk result ((most : ℕ) → too_high ≤ most → member.old.checkpoint.level ≤ most → member.new.checkpoint.level ≤ most) }
+    ensures untold { OnOk result (P.tells
+        → IsStepUntold (setting C.reads complex.new.base complex.new.since) member.new.id step
+        (P.view complex.new.plant)) }
+    ensures copy1 { OnOk result (HasCopy P.tells complex.new.pair.first.alive complex.new.first
+        (C.count complex.new.pair.first.copy) (C.room complex.new.pair.first.copy) member.new.checkpoint.pages
+        (C.reads (disk_now (P.view complex.new.plant) Ckpt1).bytes)) }
+    ensures copy2 { OnOk result (HasCopy P.tells complex.new.pair.second.alive complex.new.second
+        (C.count complex.new.pair.second.copy) (C.room complex.new.pair.second.copy) member.new.checkpoint.pages
+        (C.reads (disk_now (P.view complex.new.plant) Ckpt2).bytes)) }
+    ensures order { OnOk result ((most : ℕ) → too_high + 96 ≤ most → member.old.checkpoint.tables.order ≤ most
+        → member.new.checkpoint.tables.order ≤ most + 32) }
+    ensures high { OnOk result ((most : ℕ) → too_high ≤ most → member.old.checkpoint.level ≤ most
+        → member.new.checkpoint.level ≤ most) }
     ensures reached { OnOk result (complex.new.level ≤ complex.old.level + 2) }
 {
     let next = unit(&member.checkpoint.tables, member.id);

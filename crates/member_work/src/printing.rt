@@ -56,21 +56,23 @@ fn limit_at(tables: &Tables, by: MemberId) -> u16
     }
 }
 
-/// The last line of an output that is printed next: as many behind its mark as the member's printer prints at a time, but none above its
-/// total.
+/// The last line of an output that is printed next: as many after its mark as the member's printer prints at a time,
+/// but none above its total.
 pub fn chunk_end(tables: &Tables, by: MemberId, output: &OutRec) -> u32
     requires spelled { HasSpelling tables.now }
     ensures limit { result ≤ output.now.mark + printer_lines_most }
     ensures total { result ≤ output.now.lines * output.now.copies }
-    ensures is { (Q : Queue) → Tell tables.now Q → result ≡ min (output.now.mark + limit_of Q by) (output.now.lines * output.now.copies) }
+    ensures is { (Q : Queue) → Tell tables.now Q
+        → result ≡ min (output.now.mark + limit_of Q by) (output.now.lines * output.now.copies) }
 {
     let limit = limit_at(tables, by);
     let total = output.lines as u32 * output.copies as u32;
     forward(output.mark, limit as u32, total)
 }
 
-// Prints the lines of an output up to this one on the member's printer, but for those that the member has printed since its last Pick, Mark,
-// Back or Forward. Answers None where all stand on paper, else that the printer is lost, which failed.
+// Prints the lines of an output up to this one on the member's printer, except those that the member has printed since
+// its last Pick, Mark, Back or Forward. Answers None where all stand on paper, else that the printer is lost, which
+// failed.
 fn print_lines<P: Plant + Drop, C: Steady + Drop>(
     complex: &mut Complex<P, C>,
     alloc: Global,
@@ -85,7 +87,8 @@ fn print_lines<P: Plant + Drop, C: Steady + Drop>(
     requires other { IsOfOther complex.old.current by }
     requires some { 1 ≤ length text.now }
     requires limit { last ≤ output.now.mark + printer_lines_most }
-    requires may { P.tells → MayPrintTo complex.old.base complex.old.journal.batches complex.old.current by output.now.job output.now.index output.now.mark last text.now }
+    requires may { P.tells → MayPrintTo complex.old.base complex.old.journal.batches complex.old.current by
+        output.now.job output.now.index output.now.mark last text.now }
     ensures pair { complex.new.pair ≡ complex.old.pair }
     ensures base { complex.new.base ≡ complex.old.base }
     ensures since { complex.new.since ≡ complex.old.since }
@@ -98,7 +101,8 @@ fn print_lines<P: Plant + Drop, C: Steady + Drop>(
     ensures book { IsBookAfterLines result by complex.old.book complex.new.book }
     ensures reserved { OnOk result (complex.new.reserved ≡ complex.old.reserved) }
     ensures acts { IsBeside P.tells (P.view complex.old.plant) (P.view complex.new.plant) }
-    ensures printed { IfOk result (IsLinesPrinted by (LinesRead text.now) (P.view complex.old.plant) (P.view complex.new.plant)) }
+    ensures printed { IfOk result (IsLinesPrinted by (LinesRead text.now) (P.view complex.old.plant)
+        (P.view complex.new.plant)) }
     ensures counted { IfOk result (λ end. end ≡ None → last ≤ output.now.mark + counts_of complex.new.printed by) }
     ensures cause { SpoolStops result by.0 (P.view complex.old.plant) (P.view complex.new.plant) }
 {
@@ -116,7 +120,8 @@ fn print_lines<P: Plant + Drop, C: Steady + Drop>(
     Ok(None)
 }
 
-/// Prints the lines of an output with this text up to this one, and answers None where they stand on paper, else how the unit is refused.
+/// Prints the lines of an output with this text up to this one, and answers None where they stand on paper, else how
+/// the unit is refused.
 pub fn print_text<P: Plant + Drop, C: Steady + Drop>(
     complex: &mut Complex<P, C>,
     alloc: Global,
@@ -132,7 +137,9 @@ pub fn print_text<P: Plant + Drop, C: Steady + Drop>(
     requires limit { last ≤ output.now.mark + printer_lines_most }
     requires some { 1 ≤ output.now.lines }
     requires count { IsCounted output.now.lines read.now }
-    requires may { P.tells → (lines : List (List ℕ)) → read.now ≡ LinesRead lines → MayPrintTo complex.old.base complex.old.journal.batches complex.old.current by output.now.job output.now.index output.now.mark last lines }
+    requires may { P.tells → (lines : List (List ℕ)) → read.now ≡ LinesRead lines
+        → MayPrintTo complex.old.base complex.old.journal.batches complex.old.current by output.now.job output.now.index
+        output.now.mark last lines }
     ensures pair { complex.new.pair ≡ complex.old.pair }
     ensures base { complex.new.base ≡ complex.old.base }
     ensures since { complex.new.since ≡ complex.old.since }
@@ -156,8 +163,9 @@ pub fn print_text<P: Plant + Drop, C: Steady + Drop>(
     }
 }
 
-// Reads the text of the output that is busy at the member, without the lock, prints its next lines up to this one, and takes the lock again.
-// Answers None where they stand on paper, else how the unit is refused. The output stays busy with its mark.
+// Reads the text of the output that is busy at the member, without the lock, prints its next lines up to this one, and
+// takes the lock again. Answers None where they stand on paper, else how the unit is refused. The output stays busy
+// with its mark.
 fn print_at<P: Plant + Drop, C: Steady + Drop>(
     member: &Member,
     alloc: Global,
@@ -171,11 +179,16 @@ fn print_at<P: Plant + Drop, C: Steady + Drop>(
     requires seated { IsMember complex.old.book member.now.id }
     requires whole { left_of complex.old.book member.now.id ≡ complex.old.book.hold }
     requires nothing { member.now.batch ≡ [] }
-    requires work { IsAtWork P.tells (P.view complex.old.plant) complex.old.since complex.old.base complex.old.journal.batches complex.old.current complex.old.placed complex.old.level complex.old.reserved complex.old.printed member.now.id member.now.batch member.now.checkpoint member.now.room member.now.behind }
+    requires work { IsAtWork P.tells (P.view complex.old.plant) complex.old.since complex.old.base
+        complex.old.journal.batches complex.old.current complex.old.placed complex.old.level complex.old.reserved
+        complex.old.printed member.now.id member.now.batch member.now.checkpoint member.now.room member.now.behind }
     requires output { IsToldOutput member.now.checkpoint.tables output.now }
     requires chunk { IsChunkOf member.now.checkpoint.tables member.now.id output.now last }
-    requires printing { P.tells → IsPrinting (run complex.old.base (kept_all complex.old.journal.batches)) member.now.id output.now.job output.now.index }
-    requires whole_text { P.tells → (o : Output) → output_at (run complex.old.base (kept_all complex.old.journal.batches)) output.now.job output.now.index ≡ Some o → IsWhole o.text }
+    requires printing { P.tells → IsPrinting (run complex.old.base (kept_all complex.old.journal.batches)) member.now.id
+        output.now.job output.now.index }
+    requires whole_text { P.tells → (o : Output)
+        → output_at (run complex.old.base (kept_all complex.old.journal.batches)) output.now.job output.now.index
+        ≡ Some o → IsWhole o.text }
     ensures pair { complex.new.pair ≡ complex.old.pair }
     ensures base { complex.new.base ≡ complex.old.base }
     ensures since { complex.new.since ≡ complex.old.since }
@@ -188,8 +201,11 @@ fn print_at<P: Plant + Drop, C: Steady + Drop>(
     ensures book { LeavesBook result member.now.id complex.old.book complex.new.book }
     ensures unreserved { OnOk result (complex.new.reserved ≡ None) }
     ensures acts { IsBeside P.tells (P.view complex.old.plant) (P.view complex.new.plant) }
-    ensures printed { IfOk result (IsPrinted P.tells complex.old.base.config.groups (run complex.old.base (kept_all complex.old.journal.batches)) member.now.id output.now.job output.now.index (P.view complex.old.plant) (P.view complex.new.plant)) }
-    ensures counted { IfOk result (λ end. end ≡ None → last ≤ output.now.mark + counts_of complex.new.printed member.now.id) }
+    ensures printed { IfOk result (IsPrinted P.tells complex.old.base.config.groups
+        (run complex.old.base (kept_all complex.old.journal.batches)) member.now.id output.now.job output.now.index
+        (P.view complex.old.plant) (P.view complex.new.plant)) }
+    ensures counted { IfOk result (λ end. end ≡ None
+        → last ≤ output.now.mark + counts_of complex.new.printed member.now.id) }
     ensures named { IfOk result (λ end. IfSome end AreMembersNamed) }
     ensures cause { SpoolStops result member.now.id.0 (P.view complex.old.plant) (P.view complex.new.plant) }
 {
@@ -208,7 +224,7 @@ fn print_at<P: Plant + Drop, C: Steady + Drop>(
     Ok(end)
 }
 
-// The same; a text that was gone when the run began isn't read.
+// Prints the next lines of an output at the member; a text that was gone when the run began isn't read.
 fn print_up_to<P: Plant + Drop, C: Steady + Drop>(
     member: &Member,
     alloc: Global,
@@ -223,10 +239,13 @@ fn print_up_to<P: Plant + Drop, C: Steady + Drop>(
     requires whole { left_of complex.old.book member.now.id ≡ complex.old.book.hold }
     requires base_sound { P.tells → IsSound complex.old.base }
     requires nothing { member.now.batch ≡ [] }
-    requires work { IsAtWork P.tells (P.view complex.old.plant) complex.old.since complex.old.base complex.old.journal.batches complex.old.current complex.old.placed complex.old.level complex.old.reserved complex.old.printed member.now.id member.now.batch member.now.checkpoint member.now.room member.now.behind }
+    requires work { IsAtWork P.tells (P.view complex.old.plant) complex.old.since complex.old.base
+        complex.old.journal.batches complex.old.current complex.old.placed complex.old.level complex.old.reserved
+        complex.old.printed member.now.id member.now.batch member.now.checkpoint member.now.room member.now.behind }
     requires output { IsToldOutput member.now.checkpoint.tables output.now }
     requires chunk { IsChunkOf member.now.checkpoint.tables member.now.id output.now last }
-    requires printing { P.tells → IsPrinting (run complex.old.base (kept_all complex.old.journal.batches)) member.now.id output.now.job output.now.index }
+    requires printing { P.tells → IsPrinting (run complex.old.base (kept_all complex.old.journal.batches)) member.now.id
+        output.now.job output.now.index }
     ensures pair { complex.new.pair ≡ complex.old.pair }
     ensures base { complex.new.base ≡ complex.old.base }
     ensures since { complex.new.since ≡ complex.old.since }
@@ -239,8 +258,11 @@ fn print_up_to<P: Plant + Drop, C: Steady + Drop>(
     ensures book { LeavesBook result member.now.id complex.old.book complex.new.book }
     ensures unreserved { OnOk result (complex.new.reserved ≡ None) }
     ensures acts { IsBeside P.tells (P.view complex.old.plant) (P.view complex.new.plant) }
-    ensures printed { IfOk result (IsPrinted P.tells complex.old.base.config.groups (run complex.old.base (kept_all complex.old.journal.batches)) member.now.id output.now.job output.now.index (P.view complex.old.plant) (P.view complex.new.plant)) }
-    ensures counted { IfOk result (λ end. end ≡ None → last ≤ output.now.mark + counts_of complex.new.printed member.now.id) }
+    ensures printed { IfOk result (IsPrinted P.tells complex.old.base.config.groups
+        (run complex.old.base (kept_all complex.old.journal.batches)) member.now.id output.now.job output.now.index
+        (P.view complex.old.plant) (P.view complex.new.plant)) }
+    ensures counted { IfOk result (λ end. end ≡ None
+        → last ≤ output.now.mark + counts_of complex.new.printed member.now.id) }
     ensures named { IfOk result (λ end. IfSome end AreMembersNamed) }
     ensures cause { SpoolStops result member.now.id.0 (P.view complex.old.plant) (P.view complex.new.plant) }
 {
@@ -250,7 +272,7 @@ fn print_up_to<P: Plant + Drop, C: Steady + Drop>(
     print_at(member, alloc, complex, output, last)
 }
 
-// The same, and reads the copies again under the lock.
+// Prints the next lines of an output at the member, and then reads the copies again under the lock.
 fn print_and_hold<P: Plant + Drop, C: Steady + Drop>(
     member: &mut Member,
     alloc: Global,
@@ -265,31 +287,49 @@ fn print_and_hold<P: Plant + Drop, C: Steady + Drop>(
     requires whole { left_of complex.old.book member.old.id ≡ complex.old.book.hold }
     requires base_sound { P.tells → IsSound complex.old.base }
     requires nothing { member.old.batch ≡ [] }
-    requires work { IsAtWork P.tells (P.view complex.old.plant) complex.old.since complex.old.base complex.old.journal.batches complex.old.current complex.old.placed complex.old.level complex.old.reserved complex.old.printed member.old.id member.old.batch member.old.checkpoint member.old.room member.old.behind }
+    requires work { IsAtWork P.tells (P.view complex.old.plant) complex.old.since complex.old.base
+        complex.old.journal.batches complex.old.current complex.old.placed complex.old.level complex.old.reserved
+        complex.old.printed member.old.id member.old.batch member.old.checkpoint member.old.room member.old.behind }
     requires output { IsToldOutput member.old.checkpoint.tables output.now }
     requires chunk { IsChunkOf member.old.checkpoint.tables member.old.id output.now last }
-    requires printing { P.tells → IsPrinting (run complex.old.base (kept_all complex.old.journal.batches)) member.old.id output.now.job output.now.index }
-    requires copy1 { HasCopy P.tells complex.old.pair.first.alive complex.old.first (C.count complex.old.pair.first.copy) (C.room complex.old.pair.first.copy) member.old.checkpoint.pages (C.reads (disk_now (P.view complex.old.plant) Ckpt1).bytes) }
-    requires copy2 { HasCopy P.tells complex.old.pair.second.alive complex.old.second (C.count complex.old.pair.second.copy) (C.room complex.old.pair.second.copy) member.old.checkpoint.pages (C.reads (disk_now (P.view complex.old.plant) Ckpt2).bytes) }
+    requires printing { P.tells → IsPrinting (run complex.old.base (kept_all complex.old.journal.batches)) member.old.id
+        output.now.job output.now.index }
+    requires copy1 { HasCopy P.tells complex.old.pair.first.alive complex.old.first
+        (C.count complex.old.pair.first.copy) (C.room complex.old.pair.first.copy) member.old.checkpoint.pages
+        (C.reads (disk_now (P.view complex.old.plant) Ckpt1).bytes) }
+    requires copy2 { HasCopy P.tells complex.old.pair.second.alive complex.old.second
+        (C.count complex.old.pair.second.copy) (C.room complex.old.pair.second.copy) member.old.checkpoint.pages
+        (C.reads (disk_now (P.view complex.old.plant) Ckpt2).bytes) }
     requires level { complex.old.level < too_high }
     ensures base { complex.new.base ≡ complex.old.base }
     ensures since { complex.new.since ≡ complex.old.since }
     ensures journal { complex.new.journal ≡ complex.old.journal }
     ensures id { member.new.id ≡ member.old.id }
     ensures book { LeavesBook result member.old.id complex.old.book complex.new.book }
-    ensures keeps { IsKeeping P.tells member.old.id []
-        complex.old.journal.batches (end_of complex.new.placed complex.new.current complex.new.journal.batches)
-        complex.old.pair.first.alive complex.new.pair.first.alive complex.old.pair.second.alive complex.new.pair.second.alive
+    ensures keeps { IsKeeping P.tells member.old.id [] complex.old.journal.batches
+        (end_of complex.new.placed complex.new.current complex.new.journal.batches) complex.old.pair.first.alive
+        complex.new.pair.first.alive complex.old.pair.second.alive complex.new.pair.second.alive
         (P.view complex.old.plant) (P.view complex.new.plant) result }
-    ensures printed { IfOk result (IsPrinted P.tells complex.old.base.config.groups (run complex.old.base (kept_all complex.old.journal.batches)) member.old.id output.now.job output.now.index (P.view complex.old.plant) (P.view complex.new.plant)) }
-    ensures counted { IfOk result (λ end. end ≡ None → last ≤ output.now.mark + counts_of complex.new.printed member.old.id) }
+    ensures printed { IfOk result (IsPrinted P.tells complex.old.base.config.groups
+        (run complex.old.base (kept_all complex.old.journal.batches)) member.old.id output.now.job output.now.index
+        (P.view complex.old.plant) (P.view complex.new.plant)) }
+    ensures counted { IfOk result (λ end. end ≡ None
+        → last ≤ output.now.mark + counts_of complex.new.printed member.old.id) }
     ensures named { IfOk result (λ end. IfSome end AreMembersNamed) }
     ensures nothing { OnOk result (member.new.batch ≡ []) }
-    ensures work { OnOk result (IsAtWork P.tells (P.view complex.new.plant) complex.new.since complex.new.base complex.new.journal.batches complex.new.current complex.new.placed complex.new.level complex.new.reserved complex.new.printed member.new.id member.new.batch member.new.checkpoint member.new.room member.new.behind) }
-    ensures copy1 { OnOk result (HasCopy P.tells complex.new.pair.first.alive complex.new.first (C.count complex.new.pair.first.copy) (C.room complex.new.pair.first.copy) member.new.checkpoint.pages (C.reads (disk_now (P.view complex.new.plant) Ckpt1).bytes)) }
-    ensures copy2 { OnOk result (HasCopy P.tells complex.new.pair.second.alive complex.new.second (C.count complex.new.pair.second.copy) (C.room complex.new.pair.second.copy) member.new.checkpoint.pages (C.reads (disk_now (P.view complex.new.plant) Ckpt2).bytes)) }
-    ensures untold { OnOk result (P.tells → (at : ℕ) → IsStepUntold (setting C.reads complex.old.base complex.old.since) member.old.id at (P.view complex.old.plant)
-        → IsStepUntold (setting C.reads complex.new.base complex.new.since) member.new.id at (P.view complex.new.plant)) }
+    ensures work { OnOk result (IsAtWork P.tells (P.view complex.new.plant) complex.new.since complex.new.base
+        complex.new.journal.batches complex.new.current complex.new.placed complex.new.level complex.new.reserved
+        complex.new.printed member.new.id member.new.batch member.new.checkpoint member.new.room member.new.behind) }
+    ensures copy1 { OnOk result (HasCopy P.tells complex.new.pair.first.alive complex.new.first
+        (C.count complex.new.pair.first.copy) (C.room complex.new.pair.first.copy) member.new.checkpoint.pages
+        (C.reads (disk_now (P.view complex.new.plant) Ckpt1).bytes)) }
+    ensures copy2 { OnOk result (HasCopy P.tells complex.new.pair.second.alive complex.new.second
+        (C.count complex.new.pair.second.copy) (C.room complex.new.pair.second.copy) member.new.checkpoint.pages
+        (C.reads (disk_now (P.view complex.new.plant) Ckpt2).bytes)) }
+    ensures untold { OnOk result (P.tells → (at : ℕ)
+        → IsStepUntold (setting C.reads complex.old.base complex.old.since) member.old.id at (P.view complex.old.plant)
+        → IsStepUntold (setting C.reads complex.new.base complex.new.since) member.new.id at
+        (P.view complex.new.plant)) }
     ensures order { OnOk result (member.new.checkpoint.tables.order < too_high) }
     ensures high { OnOk result (member.new.checkpoint.level < too_high) }
     ensures reached { complex.new.level ≡ complex.old.level }
@@ -299,7 +339,8 @@ fn print_and_hold<P: Plant + Drop, C: Steady + Drop>(
     Ok(end)
 }
 
-// Marks the lines of the output that is busy at the member up to this one, which stand on paper, or the unit is refused.
+// Marks the lines of the output that is busy at the member up to this one, which stand on paper, or the unit is
+// refused.
 fn mark_printed<P: Plant + Drop, C: Steady + Drop>(
     member: &mut Member,
     alloc: Global,
@@ -316,13 +357,22 @@ fn mark_printed<P: Plant + Drop, C: Steady + Drop>(
     requires index { IsIndex output.now.index.0 }
     requires named { IfSome end AreMembersNamed }
     requires counted { end ≡ None → last ≤ output.now.mark + counts_of complex.old.printed member.old.id }
-    requires there { P.tells → (o : Output) × (output_at (run complex.old.base (kept_all complex.old.journal.batches)) output.now.job output.now.index ≡ Some o) × (o.mark ≡ output.now.mark) }
+    requires there { P.tells → (o : Output)
+        × (output_at (run complex.old.base (kept_all complex.old.journal.batches)) output.now.job output.now.index
+        ≡ Some o) × (o.mark ≡ output.now.mark) }
     requires nothing { member.old.batch ≡ [] }
-    requires work { IsAtWork P.tells (P.view complex.old.plant) complex.old.since complex.old.base complex.old.journal.batches complex.old.current complex.old.placed complex.old.level complex.old.reserved complex.old.printed member.old.id member.old.batch member.old.checkpoint member.old.room member.old.behind }
+    requires work { IsAtWork P.tells (P.view complex.old.plant) complex.old.since complex.old.base
+        complex.old.journal.batches complex.old.current complex.old.placed complex.old.level complex.old.reserved
+        complex.old.printed member.old.id member.old.batch member.old.checkpoint member.old.room member.old.behind }
     requires of { AreOf member.old.id step member.old.batch }
-    requires untold { P.tells → IsStepUntold (setting C.reads complex.old.base complex.old.since) member.old.id step (P.view complex.old.plant) }
-    requires copy1 { HasCopy P.tells complex.old.pair.first.alive complex.old.first (C.count complex.old.pair.first.copy) (C.room complex.old.pair.first.copy) member.old.checkpoint.pages (C.reads (disk_now (P.view complex.old.plant) Ckpt1).bytes) }
-    requires copy2 { HasCopy P.tells complex.old.pair.second.alive complex.old.second (C.count complex.old.pair.second.copy) (C.room complex.old.pair.second.copy) member.old.checkpoint.pages (C.reads (disk_now (P.view complex.old.plant) Ckpt2).bytes) }
+    requires untold { P.tells → IsStepUntold (setting C.reads complex.old.base complex.old.since) member.old.id step
+        (P.view complex.old.plant) }
+    requires copy1 { HasCopy P.tells complex.old.pair.first.alive complex.old.first
+        (C.count complex.old.pair.first.copy) (C.room complex.old.pair.first.copy) member.old.checkpoint.pages
+        (C.reads (disk_now (P.view complex.old.plant) Ckpt1).bytes) }
+    requires copy2 { HasCopy P.tells complex.old.pair.second.alive complex.old.second
+        (C.count complex.old.pair.second.copy) (C.room complex.old.pair.second.copy) member.old.checkpoint.pages
+        (C.reads (disk_now (P.view complex.old.plant) Ckpt2).bytes) }
     requires order { member.old.checkpoint.tables.order < too_high }
     requires high { member.old.checkpoint.level < too_high }
     requires level { complex.old.level + 1 < too_high }
@@ -330,16 +380,25 @@ fn mark_printed<P: Plant + Drop, C: Steady + Drop>(
     ensures since { complex.new.since ≡ complex.old.since }
     ensures id { member.new.id ≡ member.old.id }
     ensures book { complex.new.book ≡ complex.old.book }
-    ensures step { IsMarkStep P.tells member.old.id step (run complex.old.base (kept_all complex.old.journal.batches)) output.now.job output.now.index last end member.new.batch
-        complex.old.journal.batches (end_of complex.new.placed complex.new.current complex.new.journal.batches)
-        complex.old.pair.first.alive complex.new.pair.first.alive complex.old.pair.second.alive complex.new.pair.second.alive
+    ensures step { IsMarkStep P.tells member.old.id step (run complex.old.base (kept_all complex.old.journal.batches))
+        output.now.job output.now.index last end member.new.batch complex.old.journal.batches
+        (end_of complex.new.placed complex.new.current complex.new.journal.batches) complex.old.pair.first.alive
+        complex.new.pair.first.alive complex.old.pair.second.alive complex.new.pair.second.alive
         (P.view complex.old.plant) (P.view complex.new.plant) result }
     ensures named { IfOk result IsNamedEnd }
-    ensures work { OnOk result (IsAtWork P.tells (P.view complex.new.plant) complex.new.since complex.new.base complex.new.journal.batches complex.new.current complex.new.placed complex.new.level complex.new.reserved complex.new.printed member.new.id member.new.batch member.new.checkpoint member.new.room member.new.behind) }
+    ensures work { OnOk result (IsAtWork P.tells (P.view complex.new.plant) complex.new.since complex.new.base
+        complex.new.journal.batches complex.new.current complex.new.placed complex.new.level complex.new.reserved
+        complex.new.printed member.new.id member.new.batch member.new.checkpoint member.new.room member.new.behind) }
     ensures of { OnOk result (AreOf member.new.id step member.new.batch) }
-    ensures untold { OnOk result (P.tells → IsStepUntold (setting C.reads complex.new.base complex.new.since) member.new.id step (P.view complex.new.plant)) }
-    ensures copy1 { OnOk result (HasCopy P.tells complex.new.pair.first.alive complex.new.first (C.count complex.new.pair.first.copy) (C.room complex.new.pair.first.copy) member.new.checkpoint.pages (C.reads (disk_now (P.view complex.new.plant) Ckpt1).bytes)) }
-    ensures copy2 { OnOk result (HasCopy P.tells complex.new.pair.second.alive complex.new.second (C.count complex.new.pair.second.copy) (C.room complex.new.pair.second.copy) member.new.checkpoint.pages (C.reads (disk_now (P.view complex.new.plant) Ckpt2).bytes)) }
+    ensures untold { OnOk result (P.tells
+        → IsStepUntold (setting C.reads complex.new.base complex.new.since) member.new.id step
+        (P.view complex.new.plant)) }
+    ensures copy1 { OnOk result (HasCopy P.tells complex.new.pair.first.alive complex.new.first
+        (C.count complex.new.pair.first.copy) (C.room complex.new.pair.first.copy) member.new.checkpoint.pages
+        (C.reads (disk_now (P.view complex.new.plant) Ckpt1).bytes)) }
+    ensures copy2 { OnOk result (HasCopy P.tells complex.new.pair.second.alive complex.new.second
+        (C.count complex.new.pair.second.copy) (C.room complex.new.pair.second.copy) member.new.checkpoint.pages
+        (C.reads (disk_now (P.view complex.new.plant) Ckpt2).bytes)) }
     ensures order { OnOk result (member.new.checkpoint.tables.order ≤ too_high + 32) }
     ensures high { OnOk result (member.new.checkpoint.level < too_high) }
     ensures reached { OnOk result (complex.new.level ≤ complex.old.level) }
@@ -375,29 +434,47 @@ fn play_lines<P: Plant + Drop, C: Steady + Drop>(
     requires base_sound { P.tells → IsSound complex.old.base }
     requires index { IsIndex output.now.index.0 }
     requires nothing { member.old.batch ≡ [] }
-    requires work { IsAtWork P.tells (P.view complex.old.plant) complex.old.since complex.old.base complex.old.journal.batches complex.old.current complex.old.placed complex.old.level complex.old.reserved complex.old.printed member.old.id member.old.batch member.old.checkpoint member.old.room member.old.behind }
+    requires work { IsAtWork P.tells (P.view complex.old.plant) complex.old.since complex.old.base
+        complex.old.journal.batches complex.old.current complex.old.placed complex.old.level complex.old.reserved
+        complex.old.printed member.old.id member.old.batch member.old.checkpoint member.old.room member.old.behind }
     requires output { IsToldOutput member.old.checkpoint.tables output.now }
     requires chunk { IsChunkOf member.old.checkpoint.tables member.old.id output.now last }
-    requires printing { P.tells → IsPrinting (run complex.old.base (kept_all complex.old.journal.batches)) member.old.id output.now.job output.now.index }
+    requires printing { P.tells → IsPrinting (run complex.old.base (kept_all complex.old.journal.batches)) member.old.id
+        output.now.job output.now.index }
     requires of { AreOf member.old.id step member.old.batch }
-    requires untold { P.tells → IsStepUntold (setting C.reads complex.old.base complex.old.since) member.old.id step (P.view complex.old.plant) }
-    requires copy1 { HasCopy P.tells complex.old.pair.first.alive complex.old.first (C.count complex.old.pair.first.copy) (C.room complex.old.pair.first.copy) member.old.checkpoint.pages (C.reads (disk_now (P.view complex.old.plant) Ckpt1).bytes) }
-    requires copy2 { HasCopy P.tells complex.old.pair.second.alive complex.old.second (C.count complex.old.pair.second.copy) (C.room complex.old.pair.second.copy) member.old.checkpoint.pages (C.reads (disk_now (P.view complex.old.plant) Ckpt2).bytes) }
+    requires untold { P.tells → IsStepUntold (setting C.reads complex.old.base complex.old.since) member.old.id step
+        (P.view complex.old.plant) }
+    requires copy1 { HasCopy P.tells complex.old.pair.first.alive complex.old.first
+        (C.count complex.old.pair.first.copy) (C.room complex.old.pair.first.copy) member.old.checkpoint.pages
+        (C.reads (disk_now (P.view complex.old.plant) Ckpt1).bytes) }
+    requires copy2 { HasCopy P.tells complex.old.pair.second.alive complex.old.second
+        (C.count complex.old.pair.second.copy) (C.room complex.old.pair.second.copy) member.old.checkpoint.pages
+        (C.reads (disk_now (P.view complex.old.plant) Ckpt2).bytes) }
     requires level { complex.old.level + 1 < too_high }
     ensures base { complex.new.base ≡ complex.old.base }
     ensures since { complex.new.since ≡ complex.old.since }
     ensures id { member.new.id ≡ member.old.id }
     ensures book { LeavesBook result member.old.id complex.old.book complex.new.book }
-    ensures step { IsLinesStep P.tells member.old.id step complex.old.base.config.groups (run complex.old.base (kept_all complex.old.journal.batches)) output.now.job output.now.index last member.new.batch
-        complex.old.journal.batches (end_of complex.new.placed complex.new.current complex.new.journal.batches)
-        complex.old.pair.first.alive complex.new.pair.first.alive complex.old.pair.second.alive complex.new.pair.second.alive
+    ensures step { IsLinesStep P.tells member.old.id step complex.old.base.config.groups
+        (run complex.old.base (kept_all complex.old.journal.batches)) output.now.job output.now.index last
+        member.new.batch complex.old.journal.batches
+        (end_of complex.new.placed complex.new.current complex.new.journal.batches) complex.old.pair.first.alive
+        complex.new.pair.first.alive complex.old.pair.second.alive complex.new.pair.second.alive
         (P.view complex.old.plant) (P.view complex.new.plant) result }
     ensures named { IfOk result IsNamedEnd }
-    ensures work { OnOk result (IsAtWork P.tells (P.view complex.new.plant) complex.new.since complex.new.base complex.new.journal.batches complex.new.current complex.new.placed complex.new.level complex.new.reserved complex.new.printed member.new.id member.new.batch member.new.checkpoint member.new.room member.new.behind) }
+    ensures work { OnOk result (IsAtWork P.tells (P.view complex.new.plant) complex.new.since complex.new.base
+        complex.new.journal.batches complex.new.current complex.new.placed complex.new.level complex.new.reserved
+        complex.new.printed member.new.id member.new.batch member.new.checkpoint member.new.room member.new.behind) }
     ensures of { OnOk result (AreOf member.new.id step member.new.batch) }
-    ensures untold { OnOk result (P.tells → IsStepUntold (setting C.reads complex.new.base complex.new.since) member.new.id step (P.view complex.new.plant)) }
-    ensures copy1 { OnOk result (HasCopy P.tells complex.new.pair.first.alive complex.new.first (C.count complex.new.pair.first.copy) (C.room complex.new.pair.first.copy) member.new.checkpoint.pages (C.reads (disk_now (P.view complex.new.plant) Ckpt1).bytes)) }
-    ensures copy2 { OnOk result (HasCopy P.tells complex.new.pair.second.alive complex.new.second (C.count complex.new.pair.second.copy) (C.room complex.new.pair.second.copy) member.new.checkpoint.pages (C.reads (disk_now (P.view complex.new.plant) Ckpt2).bytes)) }
+    ensures untold { OnOk result (P.tells
+        → IsStepUntold (setting C.reads complex.new.base complex.new.since) member.new.id step
+        (P.view complex.new.plant)) }
+    ensures copy1 { OnOk result (HasCopy P.tells complex.new.pair.first.alive complex.new.first
+        (C.count complex.new.pair.first.copy) (C.room complex.new.pair.first.copy) member.new.checkpoint.pages
+        (C.reads (disk_now (P.view complex.new.plant) Ckpt1).bytes)) }
+    ensures copy2 { OnOk result (HasCopy P.tells complex.new.pair.second.alive complex.new.second
+        (C.count complex.new.pair.second.copy) (C.room complex.new.pair.second.copy) member.new.checkpoint.pages
+        (C.reads (disk_now (P.view complex.new.plant) Ckpt2).bytes)) }
     ensures order { OnOk result (member.new.checkpoint.tables.order ≤ too_high + 32) }
     ensures high { OnOk result (member.new.checkpoint.level < too_high) }
     ensures reached { OnOk result (complex.new.level ≤ complex.old.level) }
@@ -406,8 +483,8 @@ fn play_lines<P: Plant + Drop, C: Steady + Drop>(
     mark_printed(member, alloc, complex, step, output, last, end)
 }
 
-/// Plays the unit that prints the next lines of the output that is busy at the member: what was given before is kept; the text is read and the
-/// lines are printed, without the lock; and they are marked.
+/// Plays the unit that prints the next lines of the output that is busy at the member: what was given before is kept;
+/// the text is read and the lines are printed, without the lock; and they are marked.
 pub(crate) fn play_print<P: Plant + Drop, C: Steady + Drop>(
     member: &mut Member,
     alloc: Global,
@@ -424,30 +501,50 @@ pub(crate) fn play_print<P: Plant + Drop, C: Steady + Drop>(
     requires whole { left_of complex.old.book member.old.id ≡ complex.old.book.hold }
     requires member { is_member complex.old.base.config member.old.id ≡ true }
     requires base_sound { P.tells → IsSound complex.old.base }
-    requires printing { P.tells → IsPrinting (run complex.old.base (kept_all complex.old.journal.batches ++ member.old.batch)) member.old.id job index }
-    requires work { IsAtWork P.tells (P.view complex.old.plant) complex.old.since complex.old.base complex.old.journal.batches complex.old.current complex.old.placed complex.old.level complex.old.reserved complex.old.printed member.old.id member.old.batch member.old.checkpoint member.old.room member.old.behind }
+    requires printing { P.tells → IsPrinting
+        (run complex.old.base (kept_all complex.old.journal.batches ++ member.old.batch)) member.old.id job index }
+    requires work { IsAtWork P.tells (P.view complex.old.plant) complex.old.since complex.old.base
+        complex.old.journal.batches complex.old.current complex.old.placed complex.old.level complex.old.reserved
+        complex.old.printed member.old.id member.old.batch member.old.checkpoint member.old.room member.old.behind }
     requires of { AreOf member.old.id step member.old.batch }
-    requires untold { P.tells → IsStepUntold (setting C.reads complex.old.base complex.old.since) member.old.id step (P.view complex.old.plant) }
-    requires copy1 { HasCopy P.tells complex.old.pair.first.alive complex.old.first (C.count complex.old.pair.first.copy) (C.room complex.old.pair.first.copy) member.old.checkpoint.pages (C.reads (disk_now (P.view complex.old.plant) Ckpt1).bytes) }
-    requires copy2 { HasCopy P.tells complex.old.pair.second.alive complex.old.second (C.count complex.old.pair.second.copy) (C.room complex.old.pair.second.copy) member.old.checkpoint.pages (C.reads (disk_now (P.view complex.old.plant) Ckpt2).bytes) }
+    requires untold { P.tells → IsStepUntold (setting C.reads complex.old.base complex.old.since) member.old.id step
+        (P.view complex.old.plant) }
+    requires copy1 { HasCopy P.tells complex.old.pair.first.alive complex.old.first
+        (C.count complex.old.pair.first.copy) (C.room complex.old.pair.first.copy) member.old.checkpoint.pages
+        (C.reads (disk_now (P.view complex.old.plant) Ckpt1).bytes) }
+    requires copy2 { HasCopy P.tells complex.old.pair.second.alive complex.old.second
+        (C.count complex.old.pair.second.copy) (C.room complex.old.pair.second.copy) member.old.checkpoint.pages
+        (C.reads (disk_now (P.view complex.old.plant) Ckpt2).bytes) }
     requires level { complex.old.level + 3 < too_high }
     requires high { member.old.checkpoint.level + 1 < 2 ^ 63 }
     ensures base { complex.new.base ≡ complex.old.base }
     ensures since { complex.new.since ≡ complex.old.since }
     ensures id { member.new.id ≡ member.old.id }
     ensures book { LeavesBook result member.old.id complex.old.book complex.new.book }
-    ensures step { IsPrintStep P.tells member.old.id step complex.old.base.config.groups (run complex.old.base (kept_all complex.old.journal.batches ++ member.old.batch)) job index member.old.batch member.new.batch spent.old spent.new
-        complex.old.journal.batches (end_of complex.new.placed complex.new.current complex.new.journal.batches)
-        complex.old.pair.first.alive complex.new.pair.first.alive complex.old.pair.second.alive complex.new.pair.second.alive
+    ensures step { IsPrintStep P.tells member.old.id step complex.old.base.config.groups
+        (run complex.old.base (kept_all complex.old.journal.batches ++ member.old.batch)) job index member.old.batch
+        member.new.batch spent.old spent.new complex.old.journal.batches
+        (end_of complex.new.placed complex.new.current complex.new.journal.batches) complex.old.pair.first.alive
+        complex.new.pair.first.alive complex.old.pair.second.alive complex.new.pair.second.alive
         (P.view complex.old.plant) (P.view complex.new.plant) result }
     ensures named { IfOk result IsNamedEnd }
-    ensures work { OnOk result (IsAtWork P.tells (P.view complex.new.plant) complex.new.since complex.new.base complex.new.journal.batches complex.new.current complex.new.placed complex.new.level complex.new.reserved complex.new.printed member.new.id member.new.batch member.new.checkpoint member.new.room member.new.behind) }
+    ensures work { OnOk result (IsAtWork P.tells (P.view complex.new.plant) complex.new.since complex.new.base
+        complex.new.journal.batches complex.new.current complex.new.placed complex.new.level complex.new.reserved
+        complex.new.printed member.new.id member.new.batch member.new.checkpoint member.new.room member.new.behind) }
     ensures of { OnOk result (AreOf member.new.id step member.new.batch) }
-    ensures untold { OnOk result (P.tells → IsStepUntold (setting C.reads complex.new.base complex.new.since) member.new.id step (P.view complex.new.plant)) }
-    ensures copy1 { OnOk result (HasCopy P.tells complex.new.pair.first.alive complex.new.first (C.count complex.new.pair.first.copy) (C.room complex.new.pair.first.copy) member.new.checkpoint.pages (C.reads (disk_now (P.view complex.new.plant) Ckpt1).bytes)) }
-    ensures copy2 { OnOk result (HasCopy P.tells complex.new.pair.second.alive complex.new.second (C.count complex.new.pair.second.copy) (C.room complex.new.pair.second.copy) member.new.checkpoint.pages (C.reads (disk_now (P.view complex.new.plant) Ckpt2).bytes)) }
-    ensures order { OnOk result ((most : ℕ) → too_high + 96 ≤ most → member.old.checkpoint.tables.order ≤ most → member.new.checkpoint.tables.order ≤ most + 32) }
-    ensures high { OnOk result ((most : ℕ) → too_high ≤ most → member.old.checkpoint.level ≤ most → member.new.checkpoint.level ≤ most) }
+    ensures untold { OnOk result (P.tells
+        → IsStepUntold (setting C.reads complex.new.base complex.new.since) member.new.id step
+        (P.view complex.new.plant)) }
+    ensures copy1 { OnOk result (HasCopy P.tells complex.new.pair.first.alive complex.new.first
+        (C.count complex.new.pair.first.copy) (C.room complex.new.pair.first.copy) member.new.checkpoint.pages
+        (C.reads (disk_now (P.view complex.new.plant) Ckpt1).bytes)) }
+    ensures copy2 { OnOk result (HasCopy P.tells complex.new.pair.second.alive complex.new.second
+        (C.count complex.new.pair.second.copy) (C.room complex.new.pair.second.copy) member.new.checkpoint.pages
+        (C.reads (disk_now (P.view complex.new.plant) Ckpt2).bytes)) }
+    ensures order { OnOk result ((most : ℕ) → too_high + 96 ≤ most → member.old.checkpoint.tables.order ≤ most
+        → member.new.checkpoint.tables.order ≤ most + 32) }
+    ensures high { OnOk result ((most : ℕ) → too_high ≤ most → member.old.checkpoint.level ≤ most
+        → member.new.checkpoint.level ≤ most) }
     ensures reached { OnOk result (complex.new.level ≤ complex.old.level + 2) }
 {
     let tables = &member.checkpoint.tables;

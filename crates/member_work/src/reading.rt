@@ -58,10 +58,15 @@ fn read_page<P: Plant + Drop, C: Steady + Drop>(
     ensures level { complex.new.level ≡ complex.old.level }
     ensures acts { OnVolumes P.tells by.0 (P.view complex.old.plant) (P.view complex.new.plant) }
     ensures reads { OnlyReads P.tells (P.view complex.old.plant) (P.view complex.new.plant) }
-    ensures there { result ≡ OkLem NoneLem → (P.view complex.old.plant).lost (DiskPart (Spool (volume_of_lem complex.old.base.config.groups group))) ≡ false }
+    ensures there { result ≡ OkLem NoneLem
+        → (P.view complex.old.plant).lost (DiskPart (Spool (volume_of_lem complex.old.base.config.groups group)))
+        ≡ false }
     ensures page { result ≡ OkLem NoneLem → P.tells → AreRoomy (P.view complex.old.plant) complex.old.base.config
-        → page_of (bytes_on (spools_at (P.view complex.old.plant) (P.view complex.old.plant).now)) complex.old.base.config.groups group ≡ SomeLem into.new.0 }
-    ensures failed { (volume : ℕ) → result ≡ OkLem (SomeLem volume) → HasFailed complex.old.base.config.groups (group ∷ []) volume (P.view complex.old.plant) (P.view complex.new.plant) }
+        → page_of (bytes_on (spools_at (P.view complex.old.plant) (P.view complex.old.plant).now))
+        complex.old.base.config.groups group ≡ SomeLem into.new.0 }
+    ensures failed { (volume : ℕ) → result ≡ OkLem (SomeLem volume)
+        → HasFailed complex.old.base.config.groups (group ∷ []) volume (P.view complex.old.plant)
+        (P.view complex.new.plant) }
     ensures cause { SpoolStops result by.0 (P.view complex.old.plant) (P.view complex.new.plant) }
 {
     let config = complex.base.config;
@@ -75,8 +80,8 @@ fn read_page<P: Plant + Drop, C: Steady + Drop>(
     }
 }
 
-// Adds the lines of a group; or the volume that was found lost. Where it holds no records the text is gone with it, unless one before it
-// held none.
+// Adds the lines of a group; or answers the volume that was found lost. Where the group holds no records the text is
+// gone with it, unless a group before it held none.
 fn add_group<P: Plant + Drop, C: Steady + Drop>(
     complex: &mut Complex<P, C>,
     alloc: Global,
@@ -101,7 +106,8 @@ fn add_group<P: Plant + Drop, C: Steady + Drop>(
     ensures level { complex.new.level ≡ complex.old.level }
     ensures acts { OnVolumes P.tells by.0 (P.view complex.old.plant) (P.view complex.new.plant) }
     ensures reads { OnlyReads P.tells (P.view complex.old.plant) (P.view complex.new.plant) }
-    ensures added { IfOk result (AddsUnless P.tells complex.old.base.config group (P.view complex.old.plant) (P.view complex.new.plant) lines.old lines.new gone.old gone.new) }
+    ensures added { IfOk result (AddsUnless P.tells complex.old.base.config group (P.view complex.old.plant)
+        (P.view complex.new.plant) lines.old lines.new gone.old gone.new) }
     ensures cause { SpoolStops result by.0 (P.view complex.old.plant) (P.view complex.new.plant) }
 {
     law_of_reading();
@@ -136,9 +142,10 @@ fn ended(count: u16, groups: &[GroupNo], lines: Lines, gone: Option<GroupNo>) ->
     Read::Gone(last_group(groups))
 }
 
-/// Reads a text of so many lines from its groups, in the order of their places, for a member that isn't stopped. It needs no lock. Where
-/// content is told and none of the groups lies on a volume that is found lost, the text is read as it stands there: its lines, or gone with
-/// the first group that holds no records, or with the last one where the lines aren't as many as are counted. Else the answer is the volume.
+/// Reads a text of so many lines from its groups, in the order of their places, for a member that isn't stopped. It
+/// needs no lock. Where content is told and none of the groups lies on a volume that is found lost, the text is read as
+/// it stands there: its lines, or gone with the first group that holds no records, or with the last one where the lines
+/// aren't as many as are counted. Else the answer is the volume.
 ///
 /// Only want of memory, or that the member was stopped in it, ends the call otherwise.
 pub fn read_text<P: Plant + Drop, C: Steady + Drop>(
@@ -167,10 +174,15 @@ pub fn read_text<P: Plant + Drop, C: Steady + Drop>(
     ensures reads { OnlyReads P.tells (P.view complex.old.plant) (P.view complex.new.plant) }
     ensures fits { IfOk result IsReadable }
     ensures counted { IfOk result (IsCounted count) }
-    ensures failed { IfOk result (λ read. IsFailedRead complex.old.base.config.groups groups.now read (P.view complex.old.plant) (P.view complex.new.plant)) }
-    ensures read { IfOk result (λ read. (text : Text) → line_count text ≡ count → P.tells → AreRoomy (P.view complex.old.plant) complex.old.base.config
-        → IsThereUnless (lost_now (P.view complex.old.plant)) (spools_at (P.view complex.old.plant) (P.view complex.old.plant).now) complex.old.base.config.groups text groups.now
-        → IsReadOf complex.old.base.config.groups text groups.now read (P.view complex.old.plant) (P.view complex.new.plant)) }
+    ensures failed { IfOk result (λ read.
+        IsFailedRead complex.old.base.config.groups groups.now read (P.view complex.old.plant)
+        (P.view complex.new.plant)) }
+    ensures read { IfOk result (λ read. (text : Text) → line_count text ≡ count → P.tells
+        → AreRoomy (P.view complex.old.plant) complex.old.base.config
+        → IsThereUnless (lost_now (P.view complex.old.plant))
+        (spools_at (P.view complex.old.plant) (P.view complex.old.plant).now) complex.old.base.config.groups text
+        groups.now → IsReadOf complex.old.base.config.groups text groups.now read (P.view complex.old.plant)
+        (P.view complex.new.plant)) }
     ensures cause { SpoolStops result by.0 (P.view complex.old.plant) (P.view complex.new.plant) }
 {
     let mut lines = Lines::new(alloc);

@@ -52,7 +52,7 @@ fn first_groups(groups: &[GroupNo], count: usize) -> &[GroupNo]
     &groups[..count]
 }
 
-// And those behind them.
+// The groups that come after so many first ones.
 fn other_groups(groups: &[GroupNo], count: usize) -> &[GroupNo]
     requires { count ≤ length groups.now }
     ensures { result.now ≡ drop count groups.now }
@@ -73,13 +73,20 @@ fn write_outputs<P: Plant + Drop, C: Steady + Drop>(
     requires as_many { length groups.now ≡ groups_of_outputs_lem specs.now }
     requires rise { Rise groups.now }
     requires within { All (IsGroupOf complex.old.base.config) groups.now }
-    requires held { P.tells → All (λ g. IsHeldBy by g (run complex.old.base (kept_all complex.old.journal.batches))) groups.now }
+    requires held { P.tells → All (λ g. IsHeldBy by g (run complex.old.base (kept_all complex.old.journal.batches)))
+        groups.now }
     ensures pair { complex.new.pair ≡ complex.old.pair }
     ensures frame { parts_of complex.new ≡ record (parts_of complex.old) { plant = complex.new.plant } }
     ensures acts { OnVolumes P.tells by.0 (P.view complex.old.plant) (P.view complex.new.plant) }
-    ensures cause { SpoolCauses result by.0 complex.old.base.config.groups groups.now (P.view complex.old.plant) (P.view complex.new.plant) }
-    ensures stand { OnOk result (P.tells → AreRoomy (P.view complex.old.plant) complex.old.base.config → AreWritten (spools_at (P.view complex.new.plant) (P.view complex.new.plant).now) complex.old.base.config.groups specs.now groups.now) }
-    ensures spares { P.tells → (h : GroupNoLem) → All (λ g. h.0 ≢ g.0) groups.now → page_in (spools_at (P.view complex.new.plant) (P.view complex.new.plant).now) complex.old.base.config.groups h ≡ page_in (spools_at (P.view complex.old.plant) (P.view complex.old.plant).now) complex.old.base.config.groups h }
+    ensures cause { SpoolCauses result by.0 complex.old.base.config.groups groups.now (P.view complex.old.plant)
+        (P.view complex.new.plant) }
+    ensures stand { OnOk result (P.tells → AreRoomy (P.view complex.old.plant) complex.old.base.config
+        → AreWritten (spools_at (P.view complex.new.plant) (P.view complex.new.plant).now)
+        complex.old.base.config.groups specs.now groups.now) }
+    ensures spares { P.tells → (h : GroupNoLem) → All (λ g. h.0 ≢ g.0) groups.now
+        → page_in (spools_at (P.view complex.new.plant) (P.view complex.new.plant).now) complex.old.base.config.groups h
+        ≡ page_in (spools_at (P.view complex.old.plant) (P.view complex.old.plant).now) complex.old.base.config.groups
+        h }
 {
     let Some((spec, rest)) = specs.split_first() else {
         return Ok(());
@@ -103,12 +110,16 @@ pub fn write_and_sync<P: Plant + Drop, C: Steady + Drop>(
     requires rise { Rise groups.now }
     requires some { 1 ≤ complex.old.base.config.groups }
     requires within { All (IsGroupOf complex.old.base.config) groups.now }
-    requires held { P.tells → All (λ g. IsHeldBy by g (run complex.old.base (kept_all complex.old.journal.batches))) groups.now }
+    requires held { P.tells → All (λ g. IsHeldBy by g (run complex.old.base (kept_all complex.old.journal.batches)))
+        groups.now }
     ensures pair { complex.new.pair ≡ complex.old.pair }
     ensures frame { parts_of complex.new ≡ record (parts_of complex.old) { plant = complex.new.plant } }
     ensures acts { OnVolumes P.tells by.0 (P.view complex.old.plant) (P.view complex.new.plant) }
-    ensures cause { SpoolCauses result by.0 complex.old.base.config.groups groups.now (P.view complex.old.plant) (P.view complex.new.plant) }
-    ensures there { OnOk result (P.tells → AreRoomy (P.view complex.old.plant) complex.old.base.config → AreSpooled (spools_at (P.view complex.new.plant) (P.view complex.new.plant).now) complex.old.base.config.groups specs.now groups.now) }
+    ensures cause { SpoolCauses result by.0 complex.old.base.config.groups groups.now (P.view complex.old.plant)
+        (P.view complex.new.plant) }
+    ensures there { OnOk result (P.tells → AreRoomy (P.view complex.old.plant) complex.old.base.config
+        → AreSpooled (spools_at (P.view complex.new.plant) (P.view complex.new.plant).now)
+        complex.old.base.config.groups specs.now groups.now) }
 {
     write_outputs(complex, by, groups, specs)?;
     sync_volumes(complex, by, groups)?;
@@ -117,8 +128,8 @@ pub fn write_and_sync<P: Plant + Drop, C: Steady + Drop>(
     Ok(())
 }
 
-// Gives the lock up for the spool acts, writes the outputs into the lowest groups of the member, so many, syncs the volumes on which they
-// lie, and takes the lock again. Answers the volume that was found lost, if one was.
+// Gives the lock up for the spool acts, writes the outputs into the lowest groups of the member, so many, syncs the
+// volumes on which they lie, and takes the lock again. Answers the volume that was found lost, if one was.
 pub(crate) fn spool_outputs<P: Plant + Drop, C: Steady + Drop>(
     member: &Member,
     alloc: Global,
@@ -134,7 +145,8 @@ pub(crate) fn spool_outputs<P: Plant + Drop, C: Steady + Drop>(
     requires enough { needed ≤ member_count member.now.id member.now.checkpoint.tables.owners }
     requires shape { HasShape member.now.checkpoint.tables }
     requires config { complex.old.base.config ≡ member.now.checkpoint.tables.config }
-    requires owners { P.tells → (run complex.old.base (kept_all complex.old.journal.batches)).owners ≡ member.now.checkpoint.tables.owners }
+    requires owners { P.tells → (run complex.old.base (kept_all complex.old.journal.batches)).owners
+        ≡ member.now.checkpoint.tables.owners }
     ensures pair { complex.new.pair ≡ complex.old.pair }
     ensures base { complex.new.base ≡ complex.old.base }
     ensures since { complex.new.since ≡ complex.old.since }
@@ -144,13 +156,19 @@ pub(crate) fn spool_outputs<P: Plant + Drop, C: Steady + Drop>(
     ensures first { complex.new.first ≡ complex.old.first }
     ensures second { complex.new.second ≡ complex.old.second }
     ensures level { complex.new.level ≡ complex.old.level }
-    ensures book { OnOk result (complex.new.book ≡ after_try (after_free complex.old.book member.now.id true) member.now.id true) }
+    ensures book { OnOk result (complex.new.book
+        ≡ after_try (after_free complex.old.book member.now.id true) member.now.id true) }
     ensures held { IfErr result (λ e. EndsWith e member.now.id complex.old.book complex.new.book) }
     ensures unreserved { OnOk result (complex.new.reserved ≡ None) }
     ensures acts { OnVolumes P.tells member.now.id.0 (P.view complex.old.plant) (P.view complex.new.plant) }
-    ensures lost { IfOk result (λ lost. IsSpoolLost complex.old.base.config.groups (take needed (held_by_lem member.now.id member.now.checkpoint.tables.owners)) lost (P.view complex.old.plant) (P.view complex.new.plant)) }
+    ensures lost { IfOk result (λ lost.
+        IsSpoolLost complex.old.base.config.groups
+        (take needed (held_by_lem member.now.id member.now.checkpoint.tables.owners)) lost (P.view complex.old.plant)
+        (P.view complex.new.plant)) }
     ensures there { result ≡ Ok None → P.tells → AreRoomy (P.view complex.old.plant) complex.old.base.config
-        → AreSpooled (spools_at (P.view complex.new.plant) (P.view complex.new.plant).now) complex.old.base.config.groups specs.now (take needed (held_by_lem member.now.id member.now.checkpoint.tables.owners)) }
+        → AreSpooled (spools_at (P.view complex.new.plant) (P.view complex.new.plant).now)
+        complex.old.base.config.groups specs.now
+        (take needed (held_by_lem member.now.id member.now.checkpoint.tables.owners)) }
     ensures cause { SpoolStops result member.now.id.0 (P.view complex.old.plant) (P.view complex.new.plant) }
 {
     let by = member.id;

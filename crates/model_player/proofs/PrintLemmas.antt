@@ -43,6 +43,6 @@ few_lines : (t : Text) → IsText t → line_count t ≤ text_lines_most
 few_lines (Whole lines) y = y.few
 few_lines (Gone group count) y = y
 
--- and its text has no more lines than the limit
+-- the text of an output that is printed has no more lines than the limit
 pub printing_few : (Q : Queue) (m : MemberId) (o : Output) → IsSound Q → printing_at Q m ≡ Some o → line_count o.text ≤ text_lines_most
 printing_few Q m o sound is = few_lines o.text (printing_sound Q m o sound is).text

@@ -44,13 +44,15 @@ abbrev pub refused_with : Queue × Reply → Taking
 refused_with s = (s.0, Some s.1)
 
 abbrev pub taken_by : MemberId → ℕ → Queue × Reply → Taking
-taken_by by want (Q, reply.Count n) = if nat_le want n then (Q, None) else refused_with (step Q by (command.Take (want - n)))
+taken_by by want (Q, reply.Count n) = if nat_le want n then (Q, None) else refused_with
+    (step Q by (command.Take (want - n)))
 taken_by by want (Q, why) = (Q, Some why)
 
 abbrev pub taken : Queue → MemberId → ℕ → Taking
 taken Q by want = taken_by by want (step Q by (command.Take want))
 
--- DECKS: Begin, the groups, and Enter; or Drop where they weren't all taken. The reply is that of the last command but for Drop.
+-- DECKS: Begin, the groups, and Enter; or Drop where they weren't all taken. The reply is that of the last command but
+-- for Drop.
 
 abbrev pub entered_with : MemberId → JobNo → List (List ℕ) → Taking → Queue × Reply
 entered_with by n lines (Q, None) = step Q by (command.Enter n lines)
@@ -72,7 +74,7 @@ Ends = Queue × UnitEnd
 abbrev pub ended_by : Queue × Reply → Ends
 ended_by s = (s.0, end_by s.1)
 
--- behind a refused command the member's groups become free
+-- after a refused command the member's groups become free
 abbrev pub freed : MemberId → Queue × Reply → Ends
 freed by (Q, reply.No why) = ((step Q by (command.Drop no_number)).0, end_by (reply.No why))
 freed by (Q, done) = (Q, end_by done)
@@ -118,7 +120,8 @@ is_at_work runs by j = (if runs then in_execute j.phase else in_convert j.phase)
 abbrev pub job_at_work : Bool → Queue → MemberId → Option Job
 job_at_work runs Q by = find (is_at_work runs by) Q.jobs
 
--- WHICH UNIT IS NEXT: the first kind that applies. A kind doesn't apply where its command is refused by Nothing, or the member is at no such job or output.
+-- WHICH UNIT IS NEXT: the first kind that applies. A kind doesn't apply where its command is refused by Nothing, or the
+-- member is at no such job or output.
 
 -- how it ends, None where it doesn't apply; and the queue behind it, or behind the command that was refused
 abbrev pub Tried : Type 0
@@ -174,12 +177,14 @@ first_tried (k ∷ others) Q by = or_else (λ Q. first_tried others Q by) (unit_
 
 -- the kinds of units in their order
 abbrev pub in_order : List Kind
-in_order = kind.Print ∷ kind.Pick ∷ kind.Purge ∷ kind.Gather ∷ kind.Run ∷ kind.Convert ∷ kind.TakeExec ∷ kind.TakeConvert ∷ []
+in_order = kind.Print ∷ kind.Pick ∷ kind.Purge ∷ kind.Gather ∷ kind.Run ∷ kind.Convert ∷ kind.TakeExec
+    ∷ kind.TakeConvert ∷ []
 
 abbrev pub next_tried : Queue → MemberId → Tried
 next_tried Q by = first_tried in_order Q by
 
--- A STEP OF WORK: at most so many units, where so many are done. What each prints stands on paper behind what stood there
+-- A STEP OF WORK: at most so many units, where so many are done. What each prints stands on paper behind what stood
+-- there
 
 abbrev pub Worked : Type 0
 Worked = Queue × List (List ℕ) × Closing

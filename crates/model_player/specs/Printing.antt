@@ -24,10 +24,11 @@ last_line limit o = min (o.mark + limit) (total o)
 
 -- LINES
 
--- so many lines of an output on paper, from behind its mark on
+-- the lines of an output as printed on paper, as many as are counted, after its mark
 abbrev pub printed_behind : JobNo → OutNo → List (List ℕ) → ℕ → ℕ → List (List ℕ)
 printed_behind n i lines mark zero = []
-printed_behind n i lines mark (suc count) = printed_behind n i lines mark count ++ printed_line n i (mark + suc count) lines ∷ []
+printed_behind n i lines mark (suc count) = printed_behind n i lines mark count
+    ++ printed_line n i (mark + suc count) lines ∷ []
 
 -- a text that is gone isn't printed
 abbrev pub printed_up_to : ℕ → Output → Text → List (List ℕ)
@@ -42,9 +43,10 @@ printed_next Q by = option_map_or (printed_of (limit_of Q by)) (printing_at Q by
 
 -- THE COMMAND
 
--- these lines are marked; where all are printed, the output is done
+-- the command after printing: the lines are marked or, if all were marked already, the output is done
 abbrev pub next_command : ℕ → Output → Command
-next_command limit o = if nat_lt o.mark (total o) then command.Mark o.job o.index (last_line limit o) else command.Done o.job o.index
+next_command limit o = if nat_lt o.mark (total o) then command.Mark o.job o.index (last_line limit o) else command.Done
+    o.job o.index
 
 -- the first group of a text that is gone
 abbrev pub gone_of : Text → Option GroupNo

@@ -1,4 +1,5 @@
--- What a step of a script gives on a plain queue: the queue that it leaves, the lines that it says, and those that are printed.
+-- What a step of a script gives on a plain queue: the queue that it leaves, the lines that it says, and those that are
+-- printed.
 use Rattle.std.specs.Prelude.{ℕ, Bool, true, false, if◌then◌else◌, List, [], ◌∷◌, Option, Some, None, Result, Ok, Err}
 use Rattle.mas_types.specs.declared.ids.Dev.TheVariants as dev
 use Rattle.mas_types.specs.declared.ids.MemberId.{MemberId}

@@ -17,10 +17,11 @@ use thiserror::Error;
 /// Why a step wasn't played.
 #[derive(Clone, Copy, Debug, Error)]
 pub enum PlayError {
-    /// The script isn't read, the step isn't one of those that are played here, or a job's fields are beyond the limits.
+    /// The script isn't read, the step isn't one of those that are played here, or a job's fields are beyond the
+    /// limits.
     #[error("the step isn't played")]
     Unplayed,
-    /// There was no memory.
+    /// Out of memory.
     #[error("no memory")]
     NoMemory,
 }

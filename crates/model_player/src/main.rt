@@ -1,7 +1,8 @@
-//! Plays the script on standard input on a plain queue, from an empty one, without devices, and writes the lines that its steps say, and
-//! behind a byte 0 those that are printed. Behind a byte 0 a second script may stand: it is played after a restart, on the queue that the
-//! first one left. Its lines stand behind a byte 0 too, and behind them, after another, all that is printed by then. `tests/plain` compares
-//! the consoles and the paper of the program with them. Where a script isn't read, or a step isn't played here, the exit status is 1.
+//! Plays the script on standard input on a plain queue, from an empty one, without devices, and writes the lines that
+//! its steps say, and behind a byte 0 those that are printed. Behind a byte 0 a second script may stand: it is played
+//! after a restart, on the queue that the first one left. Its lines stand behind a byte 0 too, and behind them, after
+//! another, all that is printed by then. `tests/plain` compares the consoles and the paper of the program with them.
+//! Where a script isn't read, or a step isn't played here, the exit status is 1.
 #![tactic(auto)]
 
 mod decks;

@@ -91,7 +91,8 @@ fn play_asked(
     requires what { IsAsk what.now }
     requires by { is_member_lem queue.old.config by ≡ true }
     requires most { by.0 ≤ members_most }
-    ensures played { IfOk result (λ lines. played queue.old paper.old at (record { by = by; what = what.now }) ≡ Some (queue.new, paper.new, lines)) }
+    ensures played { IfOk result (λ lines. played queue.old paper.old at (record { by = by; what = what.now })
+        ≡ Some (queue.new, paper.new, lines)) }
     ensures sound { OnOk result (IsSound queue.new) }
 {
     match what {
@@ -103,8 +104,8 @@ fn play_asked(
     }
 }
 
-/// The lines that a step says: decks, commands and work of members that are there, and the loss of a copy of the checkpoint, which
-/// says none. What is printed is added to the paper. `Unplayed` for any other step.
+/// The lines that a step says: decks, commands and work of members that are there, and the loss of a copy of the
+/// checkpoint, which says none. What is printed is added to the paper. `Unplayed` for any other step.
 pub fn play_step(
     alloc: Global,
     queue: &mut Queue,
@@ -114,7 +115,8 @@ pub fn play_step(
 ) -> Result<Lines, PlayError>
     requires sound { IsSound queue.old }
     requires step { IsStep step.now }
-    ensures played { IfOk result (λ lines. played queue.old paper.old at step.now ≡ Some (queue.new, paper.new, lines)) }
+    ensures played { IfOk result (λ lines. played queue.old paper.old at step.now
+        ≡ Some (queue.new, paper.new, lines)) }
     ensures sound { OnOk result (IsSound queue.new) }
 {
     if let Ask::Lose(Dev::Ckpt1 | Dev::Ckpt2) = &step.what {

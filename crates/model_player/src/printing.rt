@@ -71,7 +71,8 @@ fn next_command(output: &Output, limit: u32) -> Command
     }
 }
 
-/// The output that is busy at the member is marked up to the last line that is printed next, or is done; none where there is none.
+/// The output that is busy at the member is marked up to the last line that is printed next, or is done; none where
+/// there is none.
 pub fn try_output(
     alloc: Global,
     queue: &mut Queue,
@@ -103,7 +104,9 @@ fn print_lines(
     paper: &mut Lines,
 ) -> Result<(), PlayError>
     requires some { 1 ≤ length text.now }
-    ensures { OnOk result (paper.new ≡ paper.old ++ printed_behind output.now.job output.now.index text.now output.now.mark (last - output.now.mark)) }
+    ensures { OnOk result (paper.new
+        ≡ paper.old ++ printed_behind output.now.job output.now.index text.now output.now.mark
+        (last - output.now.mark)) }
 {
     for before in output.mark..last {
         let line = print_line(alloc, output.job, output.index, before + 1, text)?;
@@ -112,7 +115,8 @@ fn print_lines(
     Ok(())
 }
 
-/// Prints the lines that the member's printer prints next: none where no output is busy at the member, or its text is gone.
+/// Prints the lines that the member's printer prints next: none where no output is busy at the member, or its text is
+/// gone.
 pub fn print_next(
     alloc: Global,
     queue: &Queue,

@@ -119,7 +119,8 @@ fn try_next(alloc: Global, queue: &mut Queue, by: MemberId) -> Result<Option<Uni
     try_first(alloc, queue, by, &kinds)
 }
 
-// How a step of work closes that does at most so many units more, where so many are done. What is printed is added to the paper.
+// How a step of work closes that does at most so many units more, where so many are done. What is printed is added to
+// the paper.
 fn work_from(
     alloc: Global,
     queue: &mut Queue,

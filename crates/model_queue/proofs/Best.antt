@@ -41,7 +41,7 @@ module _ {A K : Type 0} (has : K → A → Bool) (t : A → Bool) (xs : List A) 
   no_key_left rank [] = refl
   no_key_left rank (y ∷ ys) = no_key_left rank ys
 
-  -- none has one of the keys
+  -- no item that is picked has one of the keys
   pub keys_over : (rank : A → ℕ) (ks : List K) (i : ℕ) → drop i ks ≡ [] → has_first_key_of has ks t xs ≡ has_first_key_of has (drop i ks) t xs → find (is_greatest_of rank (has_first_key_of has ks t xs) xs) xs ≡ None
   keys_over rank ks i over so_far =
       let none : (λ (x : A). false) ≡ has_first_key_of has ks t xs = sym (so_far ∙ ap (λ (ys : List K). has_first_key_of has ys t xs) over) in

@@ -13,7 +13,8 @@ use Rattle.mas_types.specs.Commands.Life.{are_outputs_full, lacks_groups, with_o
 -- the row of Ended where its job runs at the member and isn't cancelled
 abbrev pub end_row : Queue → MemberId → JobNo → List OutSpec → Row
 end_row Q m n specs = record {
-  refusals = refused_where (are_outputs_full Q specs) refusal.OutputsFull ∷ refused_where (lacks_groups Q m specs) refusal.Nothing ∷ [];
+  refusals = refused_where (are_outputs_full Q specs) refusal.OutputsFull
+      ∷ refused_where (lacks_groups Q m specs) refusal.Nothing ∷ [];
   effect = with_outputs m n specs (change_job n ended Q);
   answer = reply.Count (length specs);
 }

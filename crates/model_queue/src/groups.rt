@@ -142,7 +142,7 @@ impl<'a> Picks<Owner> for JobsOutputGroups<'a> {
     }
 }
 
-/// It becomes Free.
+/// The group becomes Free.
 #[derive(Clone, Copy)]
 struct Frees;
 

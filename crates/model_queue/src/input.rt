@@ -31,7 +31,8 @@ fn knows_node(queue: &Queue, node: &Name8) -> bool
 }
 
 fn not_begun(queue: &Queue, fields: &JobFields) -> Option<Refusal>
-    ensures { result ≡ first_some (refused_where (not (knows_node_lem queue.now fields.now.node)) Refusal.NoNode ∷ (refused_where (nat_le queue.now.config.jobs (length queue.now.jobs)) Refusal.JobsFull ∷ [])) }
+    ensures { result ≡ first_some (refused_where (not (knows_node_lem queue.now fields.now.node)) Refusal.NoNode
+        ∷ (refused_where (nat_le queue.now.config.jobs (length queue.now.jobs)) Refusal.JobsFull ∷ [])) }
 {
     if !knows_node(queue, &fields.node) {
         Some(Refusal::NoNode)
@@ -169,7 +170,8 @@ fn enter_in(jobs: &mut List<Job>, job: JobNo, own: &Name8, text: Lines)
 
 /// Why a job doesn't get a deck of so many groups.
 pub fn not_entered(queue: &Queue, by: MemberId, job: JobNo, groups: usize) -> Option<Refusal>
-    ensures { result ≡ first_some (not_in_input_lem queue.now by job ++ refused_where (nat_lt (member_count by queue.now.owners) groups) Refusal.Nothing ∷ []) }
+    ensures { result ≡ first_some (not_in_input_lem queue.now by job
+        ++ refused_where (nat_lt (member_count by queue.now.owners) groups) Refusal.Nothing ∷ []) }
 {
     match not_in_input(queue, by, job) {
         Some(why) => Some(why),

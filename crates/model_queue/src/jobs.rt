@@ -99,7 +99,7 @@ impl Classed<Job> for ForExecute {
     }
 }
 
-/// It becomes busy at a member.
+/// The job becomes busy at a member.
 #[derive(Clone, Copy)]
 pub struct BusyAt(pub MemberId);
 
@@ -111,7 +111,7 @@ impl Changes<Job> for BusyAt {
     }
 }
 
-/// Its conversion has ended.
+/// The job's conversion has ended.
 #[derive(Clone, Copy)]
 pub struct IsConverted;
 
@@ -124,7 +124,7 @@ impl Changes<Job> for IsConverted {
     }
 }
 
-/// It has run.
+/// The job has run.
 #[derive(Clone, Copy)]
 pub struct HasEnded;
 
@@ -137,7 +137,7 @@ impl Changes<Job> for HasEnded {
     }
 }
 
-/// It is held, or no longer.
+/// The job is held, or no longer.
 #[derive(Clone, Copy)]
 pub struct IsHeld(pub bool);
 
@@ -149,7 +149,7 @@ impl Changes<Job> for IsHeld {
     }
 }
 
-/// It has another priority.
+/// The job has another priority.
 #[derive(Clone, Copy)]
 pub struct HasPrio(pub Prio);
 
@@ -161,7 +161,7 @@ impl Changes<Job> for HasPrio {
     }
 }
 
-/// It has another class.
+/// The job has another class.
 #[derive(Clone, Copy)]
 pub struct HasClass(pub Class);
 
@@ -173,7 +173,7 @@ impl Changes<Job> for HasClass {
     }
 }
 
-/// It goes to Purge.
+/// The job goes to Purge.
 #[derive(Clone, Copy)]
 pub struct IsPurged;
 
@@ -185,7 +185,7 @@ impl Changes<Job> for IsPurged {
     }
 }
 
-/// It is cancelled.
+/// The job is cancelled.
 #[derive(Clone, Copy)]
 pub struct IsCancelled;
 
@@ -211,7 +211,7 @@ fn phase_reset(restart: bool, phase: Phase) -> Phase
     }
 }
 
-/// Its member is reset.
+/// The member at which the job is busy is reset.
 #[derive(Clone, Copy)]
 pub struct IsReset;
 

@@ -1,5 +1,5 @@
-//! The commands on a plain queue, one after another: slow, and easy to read beside the table of commands. Each comes to what the
-//! table says, and so does a run of entries.
+//! The commands on a plain queue, one after another: slow, and easy to read beside the table of commands. Each comes to
+//! what the table says, and so does a run of entries.
 #![tactic(auto)]
 
 pub mod conditions;
@@ -27,7 +27,8 @@ use mas_types::{Command, MemberId, NoMemory, Queue, Reply};
 pub use runs::run;
 use std::alloc::Global;
 
-/// One command of a member that may give it, on a sound queue: what the table of commands says. Without memory the queue stays.
+/// One command of a member that may give it, on a sound queue: what the table of commands says. Without memory the
+/// queue stays.
 pub fn step_plain(
     alloc: Global,
     queue: &mut Queue,

@@ -30,7 +30,8 @@ use std::alloc::Global;
 /// The job at a place is changed. Its number.
 fn change_at<F: Changes<Job>>(jobs: &mut List<Job>, at: usize, change: &F) -> JobNo
     requires { at < length jobs.old }
-    ensures { (j : Job) → slice_get jobs.old at ≡ Some j → (result ≡ j.number) × (jobs.new ≡ slice_set jobs.old at (F.changed change.now j)) }
+    ensures { (j : Job) → slice_get jobs.old at ≡ Some j → (result ≡ j.number)
+        × (jobs.new ≡ slice_set jobs.old at (F.changed change.now j)) }
 {
     let number = jobs.item(at).number;
     change.change(jobs.item_mut(at));
@@ -133,7 +134,8 @@ fn too_many_outputs(queue: &Queue, specs: &List<OutSpec>) -> Option<Refusal>
 /// Why a job doesn't end with these outputs, which take so many groups.
 fn not_ended(queue: &Queue, by: MemberId, specs: &List<OutSpec>, groups: usize) -> Option<Refusal>
     requires { groups ≡ groups_of_outputs specs.now }
-    ensures { result ≡ first_some (refused_where (are_outputs_full queue.now specs.now) Refusal.OutputsFull ∷ (refused_where (lacks_groups queue.now by specs.now) Refusal.Nothing ∷ [])) }
+    ensures { result ≡ first_some (refused_where (are_outputs_full queue.now specs.now) Refusal.OutputsFull
+        ∷ (refused_where (lacks_groups queue.now by specs.now) Refusal.Nothing ∷ [])) }
 {
     match too_many_outputs(queue, specs) {
         Some(why) => Some(why),
@@ -142,7 +144,11 @@ fn not_ended(queue: &Queue, by: MemberId, specs: &List<OutSpec>, groups: usize) 
 }
 
 fn end_job(queue: &mut Queue, by: MemberId, job: JobNo, outputs: List<Output>, places: &List<Owner>)
-    ensures { queue.new ≡ record queue.old { jobs = change_first_lem (has_number job) ended_lem queue.old.jobs; outputs = outputs; owners = handed_out by places.now queue.old.owners } }
+    ensures { queue.new ≡ record queue.old {
+      jobs = change_first_lem (has_number job) ended_lem queue.old.jobs;
+      outputs = outputs;
+      owners = handed_out by places.now queue.old.owners;
+    } }
 {
     change_job(&mut queue.jobs, job, &HasEnded);
     queue.outputs = outputs;
@@ -214,14 +220,15 @@ pub fn ended(
     end_running(alloc, queue, by, job, specs)
 }
 
-/// It goes to Hardcopy where it has outputs, else to Purge.
+/// The job goes to Hardcopy if it has outputs, and else to Purge.
 #[derive(Clone, Copy)]
 struct IsGathered<'a> {
     outputs: &'a List<Output>,
 }
 
 impl<'a> Changes<Job> for IsGathered<'a> {
-    ghost changed = { λ s j. record j { phase = if list_any (is_of j.number) s.outputs.now then phase.Hardcopy else phase.Purge } };
+    ghost changed = { λ s j. record j
+        { phase = if list_any (is_of j.number) s.outputs.now then phase.Hardcopy else phase.Purge } };
 
     fn change(&self, item: &mut Job) {
         item.phase = gathered_phase(self.outputs, item.number);

@@ -20,7 +20,8 @@ use mas_types::{
 use std::alloc::Global;
 
 fn put_init(members: &mut List<Setting>, by: MemberId, classes: List<Class>)
-    ensures { members.new ≡ (if is_somebody_lem by then change_at (by.0 - 1) (λ s. record s { init = classes }) members.old else members.old) }
+    ensures { members.new ≡ (if is_somebody_lem by then change_at (by.0 - 1) (λ s. record s { init = classes })
+        members.old else members.old) }
 {
     if by.0 == 0 {
         return;
@@ -53,7 +54,8 @@ fn put_prt(
     forms: Name8,
     lines: u16,
 )
-    ensures { members.new ≡ (if is_somebody_lem by then change_at (by.0 - 1) (λ s. record s { prt = classes; forms = forms; lines = lines }) members.old else members.old) }
+    ensures { members.new ≡ (if is_somebody_lem by then change_at (by.0 - 1)
+        (λ s. record s { prt = classes; forms = forms; lines = lines }) members.old else members.old) }
 {
     if by.0 == 0 {
         return;
@@ -76,7 +78,8 @@ pub fn set_prt(
     forms: Name8,
     lines: u16,
 ) -> Result<Reply, NoMemory>
-    ensures ok { IfOk result (λ reply. ComesTo queue.old (set_prt_row queue.old by classes.now forms lines) queue.new reply) }
+    ensures ok { IfOk result (λ reply.
+        ComesTo queue.old (set_prt_row queue.old by classes.now forms lines) queue.new reply) }
     ensures err { OnErr result (queue.new ≡ queue.old) }
 {
     let copy = classes.copy(alloc)?;

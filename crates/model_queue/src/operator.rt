@@ -85,7 +85,8 @@ fn remove_outputs_unless(busy: bool, queue: &mut Queue, job: JobNo)
 }
 
 fn cancel_job(queue: &mut Queue, job: JobNo)
-    ensures { queue.new ≡ change_job_lem job cancelled (if is_busy_lem (job_at_lem queue.old job) then queue.old else without_outputs_of job queue.old) }
+    ensures { queue.new ≡ change_job_lem job cancelled
+        (if is_busy_lem (job_at_lem queue.old job) then queue.old else without_outputs_of job queue.old) }
 {
     let busy = is_busy(queue, job);
     remove_outputs_unless(busy, queue, job);

@@ -168,12 +168,13 @@ fn has_forms(queue: &Queue, by: MemberId, output: &Output) -> bool
 
 fn goes_to(output: &Output, by: MemberId) -> bool
     requires { by.0 ≤ members_most }
-    ensures { result ≡ (same_name_lem output.now.dest local_name || same_name_lem output.now.dest (member_name_lem by)) }
+    ensures { result ≡ (same_name_lem output.now.dest local_name || same_name_lem output.now.dest
+        (member_name_lem by)) }
 {
     same_name(&output.dest, &LOCAL) || same_name(&output.dest, &member_name(by))
 }
 
-/// It becomes busy at a member's printer.
+/// The output becomes busy at a member's printer.
 #[derive(Clone, Copy)]
 pub struct PickedBy(pub MemberId);
 
@@ -185,7 +186,7 @@ impl Changes<Output> for PickedBy {
     }
 }
 
-/// It is held no longer.
+/// The output is held no longer.
 #[derive(Clone, Copy)]
 pub struct IsReleased;
 
@@ -197,7 +198,7 @@ impl Changes<Output> for IsReleased {
     }
 }
 
-/// It has another class.
+/// The output has another class.
 #[derive(Clone, Copy)]
 pub struct IsOfClass(pub Class);
 
@@ -209,7 +210,7 @@ impl Changes<Output> for IsOfClass {
     }
 }
 
-/// Its member is reset.
+/// The member at which the output is busy is reset.
 #[derive(Clone, Copy)]
 pub struct IsFreed;
 

@@ -83,7 +83,7 @@ pub fn first_place<T, P: Picks<T>>(items: &List<T>, test: &P) -> Option<usize>
     position_of(items, test)
 }
 
-/// Those that are picked and have one rank.
+/// The items that are picked and have one rank.
 #[derive(Clone, Copy)]
 struct OfRank<'a, P> {
     test: &'a P,
@@ -118,17 +118,19 @@ fn greatest<T, P: Ranks<T>>(items: &List<T>, test: &P) -> u8
     most
 }
 
-/// The place of the item that goes first: of those that are picked, of those of the greatest rank, the first; none exactly where
-/// none is picked.
+/// The place of the item that goes first: of those that are picked, of those of the greatest rank, the first; none
+/// exactly where none is picked.
 pub fn best_place<T, P: Ranks<T>>(items: &List<T>, test: &P) -> Option<usize>
-    ensures some { IfSome result (λ at. StandsAt (is_greatest_of (P.rank test.now) (P.picks test.now) items.now) items.now at) }
-    ensures none { IfNone result (find (is_greatest_of (P.rank test.now) (P.picks test.now) items.now) items.now ≡ None) }
+    ensures some { IfSome result (λ at.
+        StandsAt (is_greatest_of (P.rank test.now) (P.picks test.now) items.now) items.now at) }
+    ensures none { IfNone result (find (is_greatest_of (P.rank test.now) (P.picks test.now) items.now) items.now
+        ≡ None) }
 {
     let rank = greatest(items, test);
     first_place(items, &OfRank { test, rank })
 }
 
-/// Those that are picked and have one class.
+/// The items that are picked and have one class.
 #[derive(Clone, Copy)]
 struct OfClass<'a, P> {
     test: &'a P,
@@ -151,15 +153,20 @@ impl<'a, T, P: Classed<T>> Ranks<T> for OfClass<'a, P> {
     }
 }
 
-/// The place of the item that goes first by class: of those that are picked, of those of the first class that any of them has, of
-/// those of the greatest rank, the first; none exactly where none is picked that has one of the classes.
+/// The place of the item that goes first by class: of those that are picked, of those of the first class that any of
+/// them has, of those of the greatest rank, the first; none exactly where none is picked that has one of the classes.
 pub fn best_place_by_class<T, P: Classed<T>>(
     items: &List<T>,
     classes: &List<Class>,
     test: &P,
 ) -> Option<usize>
-    ensures some { IfSome result (λ at. StandsAt (is_greatest_of (P.rank test.now) (has_first_key_of (P.has_class test.now) classes.now (P.picks test.now) items.now) items.now) items.now at) }
-    ensures none { IfNone result (find (is_greatest_of (P.rank test.now) (has_first_key_of (P.has_class test.now) classes.now (P.picks test.now) items.now) items.now) items.now ≡ None) }
+    ensures some { IfSome result (λ at.
+        StandsAt (is_greatest_of (P.rank test.now)
+        (has_first_key_of (P.has_class test.now) classes.now (P.picks test.now) items.now) items.now) items.now at) }
+    ensures none { IfNone result (find
+        (is_greatest_of (P.rank test.now)
+        (has_first_key_of (P.has_class test.now) classes.now (P.picks test.now) items.now) items.now) items.now
+        ≡ None) }
 {
     for class in classes.as_slice() {
         let test = OfClass {

@@ -63,7 +63,8 @@ pub fn pick(queue: &mut Queue, by: MemberId) -> Reply
 /// An output gets a mark.
 fn put_mark(outputs: &mut List<Output>, at: usize, mark: u32)
     requires { at < length outputs.old }
-    ensures { (o : Output) → slice_get outputs.old at ≡ Some o → outputs.new ≡ slice_set outputs.old at (record o { mark = mark }) }
+    ensures { (o : Output) → slice_get outputs.old at ≡ Some o
+        → outputs.new ≡ slice_set outputs.old at (record o { mark = mark }) }
 {
     outputs.item_mut(at).mark = mark;
 }
@@ -95,7 +96,8 @@ pub fn mark(queue: &mut Queue, by: MemberId, job: JobNo, index: OutNo, at: u32) 
 /// The place of the output that is busy at a member. There is none at nobody.
 fn printing_place(queue: &Queue, by: MemberId) -> Option<usize>
     ensures some { IfSome result (λ at. StandsAt (prints_at by) queue.now.outputs at) }
-    ensures same { (o : Output) → IfSome result (λ at. slice_get queue.now.outputs at ≡ Some o → printing_at_lem queue.now by ≡ Some o) }
+    ensures same { (o : Output) → IfSome result
+        (λ at. slice_get queue.now.outputs at ≡ Some o → printing_at_lem queue.now by ≡ Some o) }
     ensures none { IfNone result (printing_at_lem queue.now by ≡ None) }
 {
     if by.0 == 0 {
@@ -141,14 +143,15 @@ pub fn forward(queue: &mut Queue, by: MemberId, lines: u32) -> Reply
     Reply::Count(mark)
 }
 
-/// Where it is in Hardcopy and has no output, it goes to Purge.
+/// A job in Hardcopy that has no output goes to Purge.
 #[derive(Clone, Copy)]
 struct IsOver<'a> {
     outputs: &'a List<Output>,
 }
 
 impl<'a> Changes<Job> for IsOver<'a> {
-    ghost changed = { λ s j. if in_hardcopy j.phase && not (list_any (is_of j.number) s.outputs.now) then record j { phase = phase.Purge } else j };
+    ghost changed = { λ s j. if in_hardcopy j.phase
+        && not (list_any (is_of j.number) s.outputs.now) then record j { phase = phase.Purge } else j };
 
     fn change(&self, item: &mut Job) {
         if is_hardcopy(item.phase) && !has_output(self.outputs, item.number) {

@@ -77,7 +77,8 @@ pub fn not_in_input(queue: &Queue, by: MemberId, job: JobNo) -> Option<Refusal>
 
 /// A job that isn't in Convert and busy at the member.
 pub fn not_in_convert(queue: &Queue, by: MemberId, job: JobNo) -> Option<Refusal>
-    ensures { result ≡ first_some (none_such_lem Refusal.NoJob (job_at_lem queue.now job) ∷ (wrong_phase_lem in_convert (job_at_lem queue.now job) ∷ (job_not_at by (job_at_lem queue.now job) ∷ []))) }
+    ensures { result ≡ first_some (none_such_lem Refusal.NoJob (job_at_lem queue.now job)
+        ∷ (wrong_phase_lem in_convert (job_at_lem queue.now job) ∷ (job_not_at by (job_at_lem queue.now job) ∷ []))) }
 {
     match job_at(&queue.jobs, job) {
         Some(job) => or_else(
@@ -90,7 +91,8 @@ pub fn not_in_convert(queue: &Queue, by: MemberId, job: JobNo) -> Option<Refusal
 
 /// A job that is in neither Convert nor Execute, or isn't busy at the member.
 pub fn not_running(queue: &Queue, by: MemberId, job: JobNo) -> Option<Refusal>
-    ensures { result ≡ first_some (none_such_lem Refusal.NoJob (job_at_lem queue.now job) ∷ (wrong_phase_lem runs (job_at_lem queue.now job) ∷ (job_not_at by (job_at_lem queue.now job) ∷ []))) }
+    ensures { result ≡ first_some (none_such_lem Refusal.NoJob (job_at_lem queue.now job)
+        ∷ (wrong_phase_lem runs (job_at_lem queue.now job) ∷ (job_not_at by (job_at_lem queue.now job) ∷ []))) }
 {
     match job_at(&queue.jobs, job) {
         Some(job) => or_else(
@@ -103,7 +105,8 @@ pub fn not_running(queue: &Queue, by: MemberId, job: JobNo) -> Option<Refusal>
 
 /// A job in Purge, or none.
 pub fn is_purged(queue: &Queue, job: JobNo) -> Option<Refusal>
-    ensures { result ≡ first_some (none_such_lem Refusal.NoJob (job_at_lem queue.now job) ∷ (wrong_phase_lem (λ p. not (in_purge p)) (job_at_lem queue.now job) ∷ [])) }
+    ensures { result ≡ first_some (none_such_lem Refusal.NoJob (job_at_lem queue.now job)
+        ∷ (wrong_phase_lem (λ p. not (in_purge p)) (job_at_lem queue.now job) ∷ [])) }
 {
     match job_at(&queue.jobs, job) {
         Some(job) => phase_unless(!is_purge(job.phase), job.phase),
@@ -113,7 +116,8 @@ pub fn is_purged(queue: &Queue, job: JobNo) -> Option<Refusal>
 
 /// A job past Execute, or none.
 pub fn has_run(queue: &Queue, job: JobNo) -> Option<Refusal>
-    ensures { result ≡ first_some (none_such_lem Refusal.NoJob (job_at_lem queue.now job) ∷ (wrong_phase_lem has_yet_to_run_lem (job_at_lem queue.now job) ∷ [])) }
+    ensures { result ≡ first_some (none_such_lem Refusal.NoJob (job_at_lem queue.now job)
+        ∷ (wrong_phase_lem has_yet_to_run_lem (job_at_lem queue.now job) ∷ [])) }
 {
     match job_at(&queue.jobs, job) {
         Some(job) => phase_unless(has_yet_to_run(job.phase), job.phase),
@@ -149,7 +153,9 @@ fn printing_elsewhere(queue: &Queue, by: MemberId, job: JobNo) -> Option<Refusal
 
 /// A job that is purged, is sent over a line, or has an output that is busy at another than the member; or none.
 pub fn not_cancelled(queue: &Queue, by: MemberId, job: JobNo) -> Option<Refusal>
-    ensures { result ≡ first_some (none_such_lem Refusal.NoJob (job_at_lem queue.now job) ∷ (past_cancel_lem queue.now (job_at_lem queue.now job) ∷ (output_elsewhere by (printing_elsewhere_lem queue.now by job) ∷ []))) }
+    ensures { result ≡ first_some (none_such_lem Refusal.NoJob (job_at_lem queue.now job)
+        ∷ (past_cancel_lem queue.now (job_at_lem queue.now job)
+        ∷ (output_elsewhere by (printing_elsewhere_lem queue.now by job) ∷ []))) }
 {
     match job_at(&queue.jobs, job) {
         Some(found) => or_else(

@@ -62,7 +62,9 @@ fn not_sent(queue: &Queue, line: u8, number: u32) -> Option<Refusal>
 }
 
 fn purge_current(queue: &mut Queue, line: u8)
-    ensures { queue.new ≡ record queue.old { jobs = change_first_lem (is_current_on queue.old line) (λ j. record j { phase = Phase.Purge }) queue.old.jobs } }
+    ensures { queue.new ≡ record queue.old {
+      jobs = change_first_lem (is_current_on queue.old line) (λ j. record j { phase = Phase.Purge }) queue.old.jobs;
+    } }
 {
     let wire = wire_at(queue, line);
     change_first(&mut queue.jobs, &CurrentOn(wire), &IsPurged);
@@ -90,7 +92,10 @@ fn not_got(
     job: JobNo,
     groups: usize,
 ) -> Option<Refusal>
-    ensures { result ≡ first_some (again (got_on_lem queue.now line) number ∷ (gap (got_on_lem queue.now line) number ∷ (not_in_input queue.now by job ++ refused_where (nat_lt (member_count by queue.now.owners) groups) Refusal.Nothing ∷ []))) }
+    ensures { result ≡ first_some (again (got_on_lem queue.now line) number
+        ∷ (gap (got_on_lem queue.now line) number
+        ∷ (not_in_input queue.now by job
+        ++ refused_where (nat_lt (member_count by queue.now.owners) groups) Refusal.Nothing ∷ []))) }
 {
     match out_of_order(got_on(queue, line), number) {
         Some(why) => Some(why),
@@ -109,7 +114,8 @@ pub fn got(
     text: &Lines,
 ) -> Result<Reply, NoMemory>
     requires { AreLines text.now }
-    ensures ok { IfOk result (λ reply. ComesTo queue.old (got_row queue.old by line number job text.now) queue.new reply) }
+    ensures ok { IfOk result (λ reply.
+        ComesTo queue.old (got_row queue.old by line number job text.now) queue.new reply) }
     ensures err { OnErr result (queue.new ≡ queue.old) }
 {
     let groups = groups_needed(text) as usize;

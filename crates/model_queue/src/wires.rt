@@ -102,7 +102,8 @@ impl<'a> Ranks<Job> for ForWire<'a> {
 pub struct CurrentOn(pub Option<LineCount>);
 
 impl Picks<Job> for CurrentOn {
-    ghost picks = { λ s j. in_xmit j.phase && is_some s.0 && has_number (option_map_or (λ count. count.current) s.0 no_number) j };
+    ghost picks = { λ s j. in_xmit j.phase && is_some s.0
+        && has_number (option_map_or (λ count. count.current) s.0 no_number) j };
 
     fn picks(&self, item: &Job) -> bool {
         match self.0 {

@@ -240,7 +240,7 @@ FitsCards left cards = (length cards ≤ left) × All (λ card. is_card card ≡
 abbrev pub cards_line : List (List ℕ) → List ℕ
 cards_line cards = cards_text cards ++ etx ∷ []
 
--- at least one card
+-- the cards fit, and there is at least one
 abbrev pub FitsSome : ℕ → List (List ℕ) → Type 0
 FitsSome left cards = (1 ≤ length cards) × FitsCards left cards
 

@@ -1,5 +1,5 @@
--- Readers of parts, and of parts one after another: what a reader reads is what the part's text is, and where it stops no
--- text of the part goes on.
+-- Readers of parts, and of parts one after another: what a reader reads is what the part's text is, and where it stops
+-- no text of the part goes on.
 use Rattle.std.proofs.Common.{◌≡◌, ℕ, zero, suc, ◌+◌, ◌-◌, ◌≤◌, ◌<◌, Bool, true, false, List, [], ◌∷◌, ◌++◌, length, take, drop, Result, Ok, Err, refl, sym, ap, subst, ◌∙◌, append_assoc, arith, inl, inr}
 use Rattle.std.specs.Prelude.{nat_lt, ◌==◌, if◌then◌else◌}
 use Rattle.std.proofs.lemmas.Bool.{eqb-true, eq-eqb, ltb-true, ltb-false, lt-ltb, le-ltb}
@@ -48,7 +48,7 @@ ok_err a b left e = cc
 pub err_same : {X : Type 0} (a b : ℕ) → ◌≡◌ {A = Result (X × List ℕ) ℕ} (Err a) (Err b) → a ≡ b
 err_same a b e = cc
 
--- lists that go on to the same
+-- fronts of one length that go on to the same list are the same
 pub same_front : (a b x y : List ℕ) → length a ≡ length b → a ++ x ≡ b ++ y → (a ≡ b) × (x ≡ y)
 same_front [] [] x y len e = (refl, e)
 same_front [] (c ∷ b) x y len e = absurd (omega arith)

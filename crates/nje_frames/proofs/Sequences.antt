@@ -84,7 +84,7 @@ module _ {X Y : Type 0} (F : X → Type 0) (t : X → List ℕ) (p : List ℕ �
               let read = ap p all ∙ rp.again begins.x.0 (l.0 ++ more) begins.fits.0 in
               ok_err begins.x.0 (l.0 ++ more) left (sym read ∙ ep)
 
-  -- the second part stopped
+  -- two parts, one after the other, stop where the second stops
   second_stops : (bytes : List ℕ) (x : X) (mid : List ℕ) (left : ℕ) → p bytes ≡ Ok (x, mid) → q mid ≡ Err left → Stops (FitBoth F G) (both_text t u) bytes left
   second_stops bytes x mid left ep eq =
       let first = rp.takes bytes x mid ep in

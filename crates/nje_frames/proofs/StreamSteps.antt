@@ -248,7 +248,7 @@ taken_same stream other rest before after frames ends h = record {
   gained = h.gained ∙ ap (λ (f : List Frame). before ++ f) (sym frames);
 }
 
--- a frame, and then those of the rest
+-- frames were taken, and then those of what is left of the stream
 pub taken_later : (stream other rest : List ℕ) (gained before mid after : List Frame) → frames_in stream ≡ gained ++ frames_in other → open_end stream ≡ open_end other → mid ≡ before ++ gained → HasTaken other rest mid after → HasTaken stream rest before after
 taken_later stream other rest gained before mid after frames ends is h = record {
   waits = h.waits ∙ sym ends;

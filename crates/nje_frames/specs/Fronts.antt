@@ -11,7 +11,7 @@ pub record HasFrame (bytes : List ℕ) (frame : Frame) (size : ℕ) : Type 0 whe
   pub is : bytes ≡ frame_text frame ++ drop size bytes
   pub count : size ≡ length (frame_text frame)
 
--- so many bytes begin a frame, and no more of them do; nor do the bytes begin with a whole frame
+-- the bytes of this size begin a frame, and no longer front does; nor do the bytes begin with a whole frame
 pub record IsBad (bytes : List ℕ) (size : ℕ) : Type 0 where
   pub inside : size < length bytes
   pub begins : BeginsFrame (take size bytes)
@@ -25,7 +25,7 @@ IsReadAs (Err no.NoMemory) frame size = Unit {0}
 IsReadAs (Err (no.Short n)) frame size = ⊥
 IsReadAs (Err (no.BadFrame n)) frame size = ⊥
 
--- more bytes were asked for, or memory ran out
+-- the reading asked for more bytes, or ran out of memory
 abbrev pub IsShortAt : Result (Frame × ℕ) FrameNo → ℕ → Type 0
 IsShortAt (Ok found) size = ⊥
 IsShortAt (Err no.NoMemory) size = Unit {0}

@@ -50,7 +50,7 @@ frame_text (Ack number) = stx ∷ ack_letter ∷ (number_text number ++ etx ∷ 
 abbrev pub IsNumber : ℕ → Type 0
 IsNumber n = (1 ≤ n) × (n ≤ number_greatest)
 
--- at most 80 text bytes
+-- a card of a frame: at most 80 text bytes
 abbrev pub is_card : List ℕ → Bool
 is_card card = nat_le (length card) card_bytes && is_text_line card
 

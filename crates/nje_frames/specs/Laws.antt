@@ -21,13 +21,14 @@ pub record StandsIn (stream : List ℕ) (frame : Frame) : Type 0 where
   pub fits : IsFrame frame
   pub is : stream ≡ before ++ (frame_text frame ++ after)
 
--- nothing else is read
+-- each frame that is read stands in the stream
 abbrev pub ReadsNothingElse : Type 0
 ReadsNothingElse = (stream : List ℕ) → AllByRecursion (StandsIn stream) (frames_in stream)
 
 -- what is read from bytes as a whole is the frame of which they are the spelling
 abbrev pub ReadsWhatIsSpelled : Type 0
-ReadsWhatIsSpelled = (bytes : List ℕ) (frame : Frame) → frame_of bytes ≡ frame ∷ [] → IsFrame frame × (bytes ≡ frame_text frame)
+ReadsWhatIsSpelled = (bytes : List ℕ) (frame : Frame) → frame_of bytes ≡ frame ∷ [] → IsFrame frame
+    × (bytes ≡ frame_text frame)
 
 -- no two frames have one spelling
 abbrev pub HasOneSpelling : Type 0

@@ -1,5 +1,5 @@
--- Reading a frame from the front of bytes. A reader answers what it read and the bytes after it. Where the bytes can't be
--- gone on with to what it reads, it answers how many bytes stand from the first on that doesn't fit.
+-- Reading a frame from the front of bytes. A reader answers what it read and the bytes after it. Where the bytes can't
+-- be gone on with to what it reads, it answers how many bytes stand from the first on that doesn't fit.
 use Rattle.std.specs.Prelude.{◌≡◌, ℕ, zero, suc, ◌-◌, ◌==◌, nat_le, nat_lt, Bool, true, false, ◌&&◌, if◌then◌else◌, List, [], ◌∷◌, ◌++◌, length, take, drop, replicate, Result, Ok, Err}
 use Rattle.std.specs.List.{list_all}
 use Rattle.mas_types.specs.declared.ids.Name8.{Name8}
@@ -45,8 +45,8 @@ part_of width value bytes size =
 abbrev pub part_at : {X : Type 0} → (List ℕ → Bool) → ℕ → (List ℕ → X) → List ℕ → Result (X × List ℕ) ℕ
 part_at test width value bytes = part_of width value bytes (front_size test width [] bytes)
 
--- digits with which a number from 1 to the greatest begins, in ten digits: with zeros after them it isn't too great, and
--- with nines it isn't 0
+-- digits with which a number from 1 to the greatest begins, in ten digits: with zeros after them it isn't too great,
+-- and with nines it isn't 0
 abbrev pub begins_number : List ℕ → Bool
 begins_number text =
     list_all is_digit text && nat_le (value_of (text ++ replicate (number_digits - length text) 48)) number_greatest
@@ -88,10 +88,12 @@ unfoldable pub card_at : ℕ → List ℕ → Result (List ℕ × List ℕ) ℕ
 card_at room [] = Err 0
 card_at room (b ∷ bytes) =
     if b == line_feed then Ok ([], bytes)
-    else (if is_text_byte b && nat_lt 0 room then with_bytes (b ∷ []) (card_at (room - 1) bytes) else Err (suc (length bytes)))
+    else (if is_text_byte b && nat_lt 0 room then with_bytes (b ∷ []) (card_at (room - 1) bytes) else Err
+    (suc (length bytes)))
 
 -- the two parts, one after the other
-abbrev pub both : {X Y : Type 0} → (List ℕ → Result (X × List ℕ) ℕ) → (List ℕ → Result (Y × List ℕ) ℕ) → List ℕ → Result ((X × Y) × List ℕ) ℕ
+abbrev pub both : {X Y : Type 0} → (List ℕ → Result (X × List ℕ) ℕ) → (List ℕ → Result (Y × List ℕ) ℕ) → List ℕ
+    → Result ((X × Y) × List ℕ) ℕ
 both p q bytes = p bytes >>= λ a. q a.1 >>= λ b. Ok ((a.0, b.0), b.1)
 
 -- what a part says, otherwise told
@@ -111,7 +113,7 @@ begins_with byte (b ∷ bytes) = b == byte
 abbrev pub first_and_rest : List ℕ × List (List ℕ) → List (List ℕ)
 first_and_rest x = x.0 ∷ x.1
 
--- so many cards at most, and the end of the frame
+-- at most this many cards, and the end of the frame
 unfoldable pub cards_at : ℕ → List ℕ → Result (List (List ℕ) × List ℕ) ℕ
 cards_at zero bytes = told (λ x. []) (byte_at etx) bytes
 cards_at (suc left) bytes = unless_byte etx [] (told first_and_rest (both (card_at card_bytes) (cards_at left))) bytes

@@ -1,5 +1,5 @@
--- Which frames a stream of bytes has. Bytes outside frames are skipped. An STX begins a frame anew wherever it stands. What
--- stands from an STX up to the next STX or ETX and is no frame is skipped.
+-- Which frames a stream of bytes has. Bytes outside frames are skipped. An STX begins a frame anew wherever it stands.
+-- What stands from an STX up to the next STX or ETX and is no frame is skipped.
 use Rattle.std.specs.Prelude.{◌≡◌, ℕ, ◌+◌, ◌<◌, ◌==◌, nat_lt, Bool, true, false, not, ◌&&◌, ◌||◌, if◌then◌else◌, List, [], ◌∷◌, ◌++◌, length, take, Option, Some, None, option_map, Result, Ok, Err}
 use Rattle.std.specs.List.{list_all, slice_index}
 use Rattle.nje_frames.specs.declared.frames.Frame.{Frame}

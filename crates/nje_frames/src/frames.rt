@@ -29,7 +29,7 @@ pub enum FrameNo {
     /// The bytes are no frame. So many of them begin one, and no more do.
     #[error("no frame")]
     BadFrame(usize),
-    /// There was no memory.
+    /// Out of memory.
     #[error("no memory")]
     NoMemory,
 }

@@ -1,6 +1,6 @@
-//! Frames as they go over a line from one node of a network to another: jobs with their cards, and acknowledgements. They
-//! are written, and read again from a stream that comes in any pieces. The frames are this project's own; network job
-//! entry's real record formats (z/OS JES2, Network Job Entry Formats and Protocols) are others.
+//! Frames as they go over a line from one node of a network to another: jobs with their cards, and acknowledgements.
+//! They are written, and read again from a stream that comes in any pieces. The frames are this project's own; network
+//! job entry's real record formats (z/OS JES2, Network Job Entry Formats and Protocols) are others.
 #![tactic(auto)]
 
 mod frames;

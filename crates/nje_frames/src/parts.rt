@@ -16,7 +16,7 @@ use std::alloc::Global;
 pub enum Stop {
     /// So many bytes stand from the first on that doesn't fit; 0 where more bytes are needed.
     At(usize),
-    /// There was no memory.
+    /// Out of memory.
     NoMemory,
 }
 

@@ -15,8 +15,8 @@ use std::marker::Model;
 // The bytes of the longest frame.
 const FRAME_MOST: usize = 809_949;
 
-/// Reads frames from a stream that comes in any pieces. Contracts see it as the bytes at the end of the stream so far that
-/// may be the front of a frame, fewer than 809,949; or as None once memory has run out.
+/// Reads frames from a stream that comes in any pieces. Contracts see it as the bytes at the end of the stream so far
+/// that may be the front of a frame, fewer than 809,949; or as None once memory has run out.
 #[derive(Drop)]
 pub struct FrameReader {
     alloc: Global,
@@ -47,8 +47,8 @@ impl FrameReader {
         }
     }
 
-    /// Takes the next piece of the stream, and adds the frames that it completes, in their order. After `NoMemory` the first
-    /// of them are added, as many as there was memory for, and the reader answers `NoMemory` from then on.
+    /// Takes the next piece of the stream, and adds the frames that it completes, in their order. After `NoMemory` the
+    /// first of them are added, as many as there was memory for, and the reader answers `NoMemory` from then on.
     pub fn feed(&mut self, piece: &[u8], out: &mut List<Frame>) -> Result<(), NoMemory>
         ensures ok { OnOk result (HasFed self.old self.new piece.now out.old out.new) }
         ensures err { OnErr result (HasFailed self.old self.new piece.now out.old out.new) }

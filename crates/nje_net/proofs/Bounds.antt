@@ -115,7 +115,7 @@ module _ (b : ℕ) (w : NetWorld) (h : IsBelow b w) where
   moved_below net (event.Frame i) = frame_below net (numbered i w.frames)
   moved_below net (event.Ack i) = ack_below net (numbered i w.acks)
 
--- after an event, or where there was no memory
+-- the numbers stay below the next bound after an event, or out of memory
 pub step_below : (net : Net) (w new : NetWorld) (e : NetEvent) (r : Result (Unit {0}) NoMemory) → OnOk r (new ≡ moved net w e) → OnErr r (new ≡ w)
     → (b : ℕ) → IsBelow b w → IsBelow (b + 1) new
 step_below net w new e (Ok done) moves stays b h = subst (IsBelow (b + 1)) (sym moves) (moved_below b w h net e)

@@ -113,7 +113,7 @@ module _ {A : Type 0} where
       (λ e. rw e (ap (λ (ys : List A). x ∷ ys) (filter_push p xs y h)))
       (λ e. rw e (filter_push p xs y h))
 
-  -- none that counts twice: the items are distinct
+  -- items of which none counts twice are distinct
   pub distinct : (name : A → ℕ) (xs : List A) → ((n : ℕ) → count (λ x. name x == n) xs ≤ 1) → AreDistinct (λ x y. name y == name x) xs
   distinct name [] once = tt
   distinct name (x ∷ xs) once = (

@@ -1,5 +1,5 @@
--- What holds of a net at every moment. Of each job one copy lives: it has arrived, or a node holds it whose line has not yet
--- handed it on. Over a line the other end has got what was acknowledged, or that and the current job.
+-- What holds of a net at every moment. Of each job one copy lives: it has arrived, or a node holds it whose line has
+-- not yet handed it on. Over a line the other end has got what was acknowledged, or that and the current job.
 use Rattle.std.proofs.Common.{◌≡◌, ℕ, zero, suc, ◌+◌, ◌<◌, ◌≤◌, ◌⊎◌, Bool, true, false, ◌&&◌, ◌||◌, ◌==◌, nat_lt, List, [], ◌∷◌, length, map, Some, refl, ap, ◌∙◌, arith}
 use Rattle.std.specs.List.{AllByRecursion, filter}
 use Rattle.std.proofs.lemmas.Bool.Decides.{nat_tests}
@@ -82,7 +82,7 @@ pub record Inv (net : Net) (dests : List Name8) (w : NetWorld) : Type 0 where
   pub entered : w.entered ≡ length dests
   pub holds : Holds net dests (wanted w.entered) w
 
--- one more job is wanted
+-- the count that is wanted of each job, where one more job is entered
 pub one_more : (k i : ℕ) → wanted (k + 1) i ≡ wanted k i + one_if (k + 1 == i)
 one_more k zero = let none : (k + 1 == 0) ≡ false = is_other (k + 1) 0 (λ e. omega arith) in rw none refl
 one_more k (suc i) =
@@ -119,7 +119,7 @@ live_kept net lines lines' n l got sent =
     ap (λ (g : ℕ). (l == 0) || (g == (line_in lines' n l).sent)) got
     ∙ ap (λ (s : ℕ). (l == 0) || (got_in lines (end_at net n l) == s)) sent
 
--- MORE IS KNOWN
+-- MORE JOBS ARE KNOWN
 
 pub recounted : (net : Net) (dests : List Name8) (want want' : ℕ → ℕ) (w : NetWorld) → ((i : ℕ) → want i ≡ want' i) → Holds net dests want w → Holds net dests want' w
 recounted net dests want want' w same h = record {

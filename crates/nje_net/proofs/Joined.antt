@@ -62,7 +62,7 @@ module _ (net : Net) (ok : is_net net ≡ true) where
 pub end_is : (n l : ℕ) (e : End) → is_end n l e ≡ true → (e.node ≡ n) × (e.line ≡ l)
 end_is n l e h = (same_number e.node n (and_left (e.node == n) (e.line == l) h), same_number e.line l (and_right (e.node == n) (e.line == l) h))
 
--- the other end of a line is a line of a node, and leads back
+-- the end to which a line leads is a line of a node, and leads back
 pub record IsOther (net : Net) (n l : ℕ) (e : End) : Type 0 where
   pub node : is_node net e.node ≡ true
   pub line : is_line e.line ≡ true

@@ -132,7 +132,7 @@ start_inv net = record { entered = refl; holds = start_holds net }
 -- EVENTS
 
 module _ (net : Net) (ok : is_net net ≡ true) (dests : List Name8) where
-  -- more jobs are known
+  -- the invariant holds where one more job is known
   more_known : (want : ℕ → ℕ) (w : NetWorld) (d : Name8) → Holds net dests want w → Holds net (dests ++ d ∷ []) want w
   more_known want w d h = record {
     held_long = h.held_long;
@@ -217,7 +217,7 @@ module _ (net : Net) (ok : is_net net ≡ true) (dests : List Name8) where
       window : IsWindow (line_at w f.node f.line) (got_in w.lines e)
       window = subst (λ (x : End). IsWindow (line_at w f.node f.line) (got_in w.lines x)) is (h.windows f.node f.line)
 
-      -- it is the current job, and all before it was acknowledged
+      -- the frame has the line's current job, and all before that job was acknowledged
       number : (g : ℕ) (x : NetLine) → f.number ≡ g + 1 → IsWindow x g → IsNumbered f.number f.id x → (g ≡ x.sent) × (f.id ≡ x.current)
       number g x next (inl all) (inl old) = let no : ⊥ = omega arith in absurd no
       number g x next (inl all) (inr both) = (all, both.1)
@@ -345,7 +345,7 @@ module _ (net : Net) (ok : is_net net ≡ true) (dests : List Name8) where
       (λ t. rw t (give_holds net dests want w h n l t))
       (λ t. rw t h)
 
--- one more job
+-- the invariant holds where one more job is entered
 entered_one : (net : Net) (dests : List Name8) (w : NetWorld) (n : ℕ) (dest : Name8) → is_net net ≡ true → Inv net dests w → is_node net n ≡ true
     → Inv net (dests ++ dest ∷ []) (record (job_at net n (w.entered + 1) dest w) { entered = w.entered + 1 })
 entered_one net dests w n dest ok inv there =

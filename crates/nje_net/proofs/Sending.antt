@@ -115,7 +115,7 @@ module _ (net : Net) (dests : List Name8) (want : ℕ → ℕ) (w : NetWorld) (h
       second_apart : (n l m k : ℕ) → (k == l) ≡ false → ((m == n) && (k == l)) ≡ false
       second_apart n l m k e = rw e (and_false (m == n))
 
-      -- another line doesn't lead to that end
+      -- a line other than the given one doesn't lead to the end of the given one
       elsewhere : (n l : ℕ) (e : End) → IsLink net w n l e → (m k : ℕ) → ((m == n) && (k == l)) ≡ false
           → (((end_at net m k).node == e.node) && ((end_at net m k).line == e.line)) ≡ false
       elsewhere n l e link m k apart =

@@ -82,7 +82,7 @@ each_held P n f held none new old m =
     (subst (P n) (sym (item_kept [] f n held none)) new))
     (λ e. subst (P m) (sym (item_other [] f n m held e)) (old m e))
 
--- the same where the node is there
+-- the jobs of each node, where those of a node that is there are changed
 pub each_held_inside : (P : ℕ → List Held → Type 0) (n : ℕ) (f : List Held → List Held) (held : List (List Held)) → 1 ≤ n → n ≤ length held
     → P n (f (held_in held n)) → ((m : ℕ) → (m == n) ≡ false → P m (held_in held m)) → (m : ℕ) → P m (held_in (change_item n f held) m)
 each_held_inside P n f held low high new old m =

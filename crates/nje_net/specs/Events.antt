@@ -145,7 +145,8 @@ abbrev pub frame_comes : Net → NetWorld → Option NetFrame → NetWorld
 frame_comes net w None = w
 frame_comes net w (Some f) = frame_comes_to net w f (end_at net f.node f.line)
 
--- ACK: an acknowledgement comes to the other end of its line; if it is of the current job, the node holds that job no longer
+-- ACK: an acknowledgement comes to the other end of its line; if it is of the current job, the node holds that job no
+-- longer
 
 abbrev pub is_of_current : ℕ → NetLine → Bool
 is_of_current number x = (number == x.sent + 1) && has_job x

@@ -61,7 +61,8 @@ job_on l = record { id = 1; dest = far; line = l } ∷ []
 -- the job has arrived once, and A and B each hold it still
 abbrev pub BothHoldIt : Type 0
 BothHoldIt =
-    ((after_events carried).arrived ≡ arrived_at 1 3 ∷ []) × ((after_events carried).held ≡ job_on 1 ∷ job_on 2 ∷ [] ∷ [])
+    ((after_events carried).arrived ≡ arrived_at 1 3 ∷ [])
+    × ((after_events carried).held ≡ job_on 1 ∷ job_on 2 ∷ [] ∷ [])
 
 -- after the acknowledgements nobody holds anything
 abbrev pub NobodyHoldsIt : Type 0

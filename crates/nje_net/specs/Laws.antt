@@ -9,4 +9,5 @@ use Rattle.nje_net.specs.Lossless.{NoneIsLost, dests_entered}
 
 -- whatever is lost, comes again or comes late, no job is lost and none arrives twice
 abbrev pub NoRunLoses : Type 0
-NoRunLoses = (net : Net) (events : List NetEvent) → is_net net ≡ true → NoneIsLost net (dests_entered net events) (runs net (start net) events)
+NoRunLoses = (net : Net) (events : List NetEvent) → is_net net ≡ true
+    → NoneIsLost net (dests_entered net events) (runs net (start net) events)

@@ -40,24 +40,24 @@ has_arrived w id = list_any (has_id id) w.arrived
 abbrev pub is_held_somewhere : NetWorld → ℕ → Bool
 is_held_somewhere w id = list_any (list_any (is_job id)) w.held
 
--- it arrived at the node that it is for
+-- the job arrived at the node that it is for
 abbrev pub IsAtItsNode : Net → List Name8 → Arrived → Type 0
 IsAtItsNode net dests a = (is_node net a.node ≡ true) × (numbered a.id dests ≡ Some (node_at net a.node).name)
 
--- it is held for the node that it is for
+-- the job is held for the node that it is for
 abbrev pub IsForItsNode : List Name8 → Held → Type 0
 IsForItsNode dests h = numbered h.id dests ≡ Some h.dest
 
 pub record NoneIsLost (net : Net) (dests : List Name8) (w : NetWorld) : Type 0 where
-  -- so many jobs were entered
+  -- the jobs entered are as many as the destinations
   pub entered : w.entered ≡ length dests
-  -- none arrives twice
+  -- no job arrives twice
   pub once : AreDistinct same_job w.arrived
-  -- each that arrives does so at its node
+  -- each job that arrives does so at its node
   pub there : AllByRecursion (IsAtItsNode net dests) w.arrived
-  -- each that was entered and hasn't arrived is held by some node
+  -- each job that was entered and hasn't arrived is held by some node
   pub held : (id : ℕ) → 1 ≤ id → id ≤ w.entered → has_arrived w id ≡ false → is_held_somewhere w id ≡ true
-  -- what is held is a job that was entered, for its node
+  -- each job that is held was entered, and is held for its node
   pub known : AllByRecursion (AllByRecursion (IsForItsNode dests)) w.held
 
 -- HOW FAR THE NUMBERS HAVE COME

@@ -70,7 +70,8 @@ takes node dest = same_name node.name dest || has_route node.routes dest
 -- line l of node n leads nowhere, or to a line of a node that leads back to it and is another one
 abbrev pub is_joined : Net → ℕ → ℕ → End → Bool
 is_joined net n l e =
-    is_none e || (is_node net e.node && (is_line e.line && (is_end n l (end_at net e.node e.line) && not (is_end n l e))))
+    is_none e || (is_node net e.node &&
+    (is_line e.line && (is_end n l (end_at net e.node e.line) && not (is_end n l e))))
 
 -- the line of the route leads to a node
 abbrev pub is_led : List End → Route → Bool
@@ -79,16 +80,19 @@ is_led ends r = is_line r.line && not (is_none (end_in ends r.line))
 -- at most 63 routes, whose names are different from each other and from the node's own
 abbrev pub are_routes : NetNode → Bool
 are_routes node =
-    nat_le (length node.routes) routes_most && (are_different name_of_route node.routes && not (has_route node.routes node.name))
+    nat_le (length node.routes) routes_most &&
+    (are_different name_of_route node.routes && not (has_route node.routes node.name))
 
 -- node n with its routes and its eight lines
 abbrev pub is_node_right : Net → ℕ → NetNode → Bool
 is_node_right net n node =
     are_routes node
-    && ((length node.ends == wires_most) && (all_numbered (is_joined net n) node.ends && list_all (is_led node.ends) node.routes))
+    && ((length node.ends == wires_most) &&
+    (all_numbered (is_joined net n) node.ends && list_all (is_led node.ends) node.routes))
 
 -- 1 to 64 nodes of different names, each of them right
 abbrev pub is_net : Net → Bool
 is_net net =
     nat_le 1 (length net.nodes)
-    && (nat_le (length net.nodes) nodes_most && (are_different name_of_node net.nodes && all_numbered (is_node_right net) net.nodes))
+    && (nat_le (length net.nodes) nodes_most &&
+    (are_different name_of_node net.nodes && all_numbered (is_node_right net) net.nodes))

@@ -41,12 +41,13 @@ abbrev pub from_first : ℕ → List ℕ → List ℕ
 from_first n [] = []
 from_first n (m ∷ passed) = if is_number n m then m ∷ passed else from_first n passed
 
--- The way from one node to another over those passed, in their order: none of them has the name, and each has a route for it
--- that leads to the one after it.
+-- The way from one node to another over those passed, in their order: none of them has the name, and each has a route
+-- for it that leads to the one after it.
 abbrev pub IsWay : Net → Name8 → ℕ → List ℕ → ℕ → Type 0
 IsWay net to from [] n = n ≡ from
 IsWay net to from (m ∷ passed) n =
-    (m ≡ from) × ((is_named net to m ≡ false) × ((leads_on net to m ≡ true) × IsWay net to (next_node net to m) passed n))
+    (m ≡ from) × ((is_named net to m ≡ false)
+    × ((leads_on net to m ≡ true) × IsWay net to (next_node net to m) passed n))
 
 abbrev pub same_node : ℕ → ℕ → Bool
 same_node n m = m == n
@@ -56,17 +57,19 @@ pub record ComesTo (net : Net) (to : Name8) (from : ℕ) (passed : List ℕ) (n 
   pub way : IsWay net to from passed n
   pub different : AreDistinct same_node passed
 
--- it comes to the node of the name: the nodes passed and that one
+-- the way comes to the node of the name: these are the nodes passed and that node
 abbrev pub IsPath : Net → Name8 → ℕ → List ℕ → Type 0
 IsPath net to from nodes =
-    (passed : List ℕ) × ((n : ℕ) × (ComesTo net to from passed n × ((is_named net to n ≡ true) × (nodes ≡ passed ++ n ∷ []))))
+    (passed : List ℕ) × ((n : ℕ) × (ComesTo net to from passed n
+    × ((is_named net to n ≡ true) × (nodes ≡ passed ++ n ∷ []))))
 
--- it comes to a node that was passed: the nodes from its first passing on
+-- the way comes to a node that was passed: these are the nodes from its first passing on
 abbrev pub IsLoop : Net → Name8 → ℕ → List ℕ → Type 0
 IsLoop net to from nodes =
-    (passed : List ℕ) × ((n : ℕ) × (ComesTo net to from passed n × ((was_passed passed n ≡ true) × (nodes ≡ from_first n passed))))
+    (passed : List ℕ) × ((n : ℕ) × (ComesTo net to from passed n
+    × ((was_passed passed n ≡ true) × (nodes ≡ from_first n passed))))
 
--- it comes to a node that has no route for the name, has another name and was not passed
+-- the way comes to a node that has no route for the name, has another name and was not passed
 abbrev pub IsEnd : Net → Name8 → ℕ → ℕ → Type 0
 IsEnd net to from n =
     (passed : List ℕ) × (ComesTo net to from passed n
@@ -80,6 +83,6 @@ WhyNoPath net to from (why.Loop nodes) = IsLoop net to from nodes
 WhyNoPath net to from (why.NoRoute n) = IsEnd net to from n
 WhyNoPath net to from why.NoMemory = Unit {0}
 
--- it answers so, or there was no memory
+-- the result is this answer, or out of memory
 abbrev pub IsUnlessMemory : Result (List ℕ) PathNo → Result (List ℕ) PathNo → Type 0
 IsUnlessMemory answer result = (result ≡ answer) ⊎ (result ≡ Err why.NoMemory)

@@ -169,7 +169,8 @@ fn ack_comes(net: &Net, world: &mut NetWorld, number: u32)
     ack_comes_to(world, ack.number, end_at(net, ack.node, ack.line))
 }
 
-/// One event. The numbers of jobs, frames and acknowledgements are below the greatest u32, and none grows by more than one.
+/// One event. The numbers of jobs, frames and acknowledgements are below the greatest u32, and none grows by more than
+/// one.
 pub fn net_step(net: &Net, world: &mut NetWorld, event: &NetEvent) -> Result<(), NoMemory>
     requires { IsBelow 4294967295 world.old }
     ensures ok { OnOk result (world.new ≡ moved net.now world.old event.now) }

@@ -7,7 +7,7 @@ pub fn example_of_a_run()
     ensures acknowledged { NobodyHoldsIt }
 {}
 
-/// The path of such a job, where the middle node sends on, back, or not at all.
+/// The path of a job to C, where the middle node sends on, back, or not at all.
 pub fn example_of_paths()
     ensures nets { AreNets }
     ensures paths { PathsToC }

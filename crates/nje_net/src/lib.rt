@@ -1,6 +1,7 @@
 //! A net of nodes that send jobs to one another over lines, any number of hops far. A node on the way stores a job and
-//! forwards it (NJE, Network Job Entry, of z/OS JES2); frames and acknowledgements, their numbers and the rules of custody are
-//! this project's own. Over a line frames and acknowledgements may be lost, come again, and come in another order.
+//! forwards it (NJE, Network Job Entry, of z/OS JES2); frames and acknowledgements, their numbers and the rules of
+//! custody are this project's own. Over a line frames and acknowledgements may be lost, come again, and come in another
+//! order.
 #![tactic(auto)]
 
 ghost use Rattle.nje_net.specs.Laws.{NoRunLoses};

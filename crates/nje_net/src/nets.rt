@@ -202,9 +202,9 @@ fn are_nodes_right(net: &Net) -> bool
         .all(|(place, node)| is_node_right(net, place + 1, node))
 }
 
-/// Whether it is a net: 1 to 64 nodes of different names; at each at most 63 routes, their names different from each other and
-/// from its own; eight lines, each of which leads nowhere or to another line, which leads back to it; and each route goes by a
-/// line that leads to a node.
+/// Whether it is a net: 1 to 64 nodes of different names; at each at most 63 routes, their names different from each
+/// other and from its own; eight lines, each of which leads nowhere or to another line, which leads back to it; and
+/// each route goes by a line that leads to a node.
 pub fn net_ok(net: &Net) -> bool
     ensures { result ≡ is_net net.now }
 {

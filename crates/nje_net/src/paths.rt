@@ -21,7 +21,7 @@ pub enum PathNo {
     /// It comes to a node that has no route for the name.
     #[error("node {0} has no route")]
     NoRoute(u8),
-    /// There was no memory.
+    /// Out of memory.
     #[error("no memory")]
     NoMemory,
 }
@@ -97,9 +97,9 @@ fn loop_of(passed: List<u8>, at: u8) -> List<u8>
     nodes
 }
 
-/// The nodes that a job passes from a node to the one of the name, both among them. Loop where it comes to a node that it has
-/// passed, NoRoute where it comes to one that has no route for the name; at each node it is first seen whether the node has the
-/// name, then whether it was passed.
+/// The nodes that a job passes from a node to the one of the name, both among them. Loop where it comes to a node that
+/// it has passed, NoRoute where it comes to one that has no route for the name; at each node it is first seen whether
+/// the node has the name, then whether it was passed.
 pub fn path(alloc: Global, net: &Net, from: u8, to: Name8) -> Result<List<u8>, PathNo>
     requires ok { is_net net.now ≡ true }
     requires there { is_node_lem net.now from ≡ true }

@@ -11,8 +11,9 @@ use crate::worlds::{NetEvent, NetWorld};
 use mas_types::{List, NoMemory};
 use std::alloc::Global;
 
-/// Plays the events in order, those skipped that aren't possible: what has then come of the net. Whatever they are, each job has
-/// arrived at most once, at the node of the name that it was entered for, and until then some node holds it.
+/// Plays the events in order, those skipped that aren't possible: what has then come of the net. Whatever they are,
+/// each job has arrived at most once, at the node of the name that it was entered for, and until then some node holds
+/// it.
 pub fn no_net_loses(alloc: Global, net: &Net, events: &List<NetEvent>) -> Result<NetWorld, NoMemory>
     requires ok { is_net net.now ≡ true }
     requires few { length events.now < 4294967295 }

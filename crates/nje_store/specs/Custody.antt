@@ -14,9 +14,10 @@ use Rattle.nje_store.specs.declared.custody.Custody.TheVariants.{Next, Again, Ga
 
 -- the number was got before; it leaves one out; or it is the next
 abbrev pub custody_of : ℕ → ℕ → Custody
-custody_of kept number = if nat_le number kept then Again number else (if nat_lt (kept + 1) number then Gap number kept else Next)
+custody_of kept number = if nat_le number kept then Again number else
+    (if nat_lt (kept + 1) number then Gap number kept else Next)
 
--- the refusal with which Got meets such a number
+-- the refusal with which Got meets a number of this custody
 abbrev pub refusal_of : Custody → Option Refusal
 refusal_of Next = None
 refusal_of (Again number) = Some (refusal.Again number)

@@ -1,6 +1,6 @@
--- A wire with two ends. The sender loads jobs one after another and gives frames of them; the receiver keeps each job whose
--- number is the next, and gives acknowledgements. Every frame and acknowledgement ever given may come again, in any order,
--- or never.
+-- A wire with two ends. The sender loads jobs one after another and gives frames of them; the receiver keeps each job
+-- whose number is the next, and gives acknowledgements. Every frame and acknowledgement ever given may come again, in
+-- any order, or never.
 use Rattle.std.specs.Prelude.{◌≡◌, ℕ, zero, suc, ◌+◌, ◌-◌, ◌≤◌, ◌==◌, ◌⊎◌, true, false, ◌&&◌, if◌then◌else◌, List, [], ◌∷◌, ◌++◌, length, Option, Some, None, slice_get}
 use Rattle.nje_store.specs.declared.wire.WireWorld.{WireWorld}
 use Rattle.nje_store.specs.declared.wire.WireFrame.{WireFrame}
@@ -10,7 +10,7 @@ use Rattle.nje_store.specs.declared.custody.Custody.{Custody}
 use Rattle.nje_store.specs.declared.custody.Custody.TheVariants.{Next, Again, Gap}
 use Rattle.nje_store.specs.Custody.{custody_of}
 
--- nothing was loaded yet
+-- a wire with which nothing was loaded yet
 abbrev pub quiet : WireWorld
 quiet = record { loaded = []; busy = false; sent = 0; frames = []; kept = []; acks = [] }
 
@@ -103,7 +103,7 @@ abbrev pub NoneIsLost : WireWorld → Type 0
 NoneIsLost w = (w.loaded ≡ w.kept) ⊎ ((text : List (List ℕ)) × (w.busy ≡ true) × (w.loaded ≡ w.kept ++ text ∷ []))
 
 -- no job doubles, and none is lost: what the receiver kept was loaded, in its order, each once; what left the sender is
--- kept; what was loaded has left, but for the one on its way
+-- kept; what was loaded has left, except the one on its way
 pub record HasCustody (w : WireWorld) : Type 0 where
   pub front : IsFrontOf w.kept w.loaded
   pub sent : w.sent ≤ length w.kept

@@ -29,7 +29,7 @@ pub enum FrameOfNo {
     /// Its text is gone.
     #[error("the text is gone")]
     NoText,
-    /// There was no memory.
+    /// Out of memory.
     #[error("no memory")]
     NoMemory,
 }
@@ -44,8 +44,8 @@ impl From<NoMemory> for FrameOfNo {
 
 ghost use Rattle.nje_store.specs.Custody.{custody_of, refusal_of, number_refusal, job_frame};
 
-/// Judges the number of a job that a line brought, by the conditions of the command Got: `Again` where it is at most the
-/// last number that was got, `Gap` where it exceeds that by more than one, else `Next`.
+/// Judges the number of a job that a line brought, by the conditions of the command Got: `Again` where it is at most
+/// the last number that was got, `Gap` where it exceeds that by more than one, else `Next`.
 pub fn judge(count: &LineCount, number: u32) -> Custody
     ensures custody { result ≡ custody_of count.now.got number }
     ensures as_got { refusal_of result ≡ number_refusal count.now.got number }
@@ -62,8 +62,8 @@ pub fn judge(count: &LineCount, number: u32) -> Custody
     Custody::Next
 }
 
-/// The frame of a job with the number that it has on its line: its origin, its node and its whole text. `NoText` exactly
-/// where the text is gone.
+/// The frame of a job with the number that it has on its line: its origin, its node and its whole text. `NoText`
+/// exactly where the text is gone.
 pub fn frame_of(alloc: Global, job: &Job, number: u32) -> Result<Frame, FrameOfNo>
     ensures ok { IfOk result (λ frame. job_frame job.now number ≡ Some frame) }
     ensures no_text { result ≡ Err FrameOfNo.NoText → job_frame job.now number ≡ None }

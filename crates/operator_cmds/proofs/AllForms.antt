@@ -220,7 +220,7 @@ stop_of f text longest all =
 pub no_command : (text : List ℕ) (longest : ℕ) (c : Command) → LeaveBy FORMS 18 text longest → IsSpelling c text → ⊥
 no_command text longest c all s = let there = stop_of s.kind text longest all in follows_none text c s.kind there.0 s refl there.1
 
--- and where it leaves them last is the end of the longest front that begins a command
+-- where a text leaves the last of the forms, its longest front that begins a command ends
 pub longest_of : (text : List ℕ) (longest : ℕ) → LeaveBy FORMS 18 text longest → IsLongestBeginning text longest
 longest_of text longest all = record {
   within = all.within;

@@ -365,7 +365,7 @@ reach-within p front (b ∷ text) = by_test (reach-within p (front ++ b ∷ []) 
     by_test go true h = rw (step_true p front b text h) (omega arith)
     by_test go false h = rw (step_false p front b text h) (omega arith)
 
--- and at most 36
+-- a text that may begin what stands in a place has at most 36 bytes
 begins_short : (p : Place) (d : List ℕ) → may_begin p d ≡ true → length d ≤ 36
 begins_short (place.Byte b) d h =
     let whole : d ≡ b ∷ [] = (bytes_eq-Decides d (b ∷ [])).0 h in
@@ -391,14 +391,14 @@ reach-short p front (b ∷ text) few = by_test (λ less. reach-short p (front ++
         rw (step_true p front b text h) (omega (arith, long, rest))
     by_test go false h = rw (step_false p front b text h) (omega arith)
 
--- a byte further
+-- the reach goes one byte further where the next byte may go on
 pub reach_more : (p : Place) (text : List ℕ) (n : ℕ) → n < length text → may_begin p (take (n + 1) text) ≡ true → reach p (take n text) (drop n text) ≡ suc (reach p (take (n + 1) text) (drop (n + 1) text))
 reach_more p text n inside h =
     let front : take (n + 1) text ≡ take n text ++ get_or text n 0 ∷ [] = take_more text n 0 inside in
     let begins : may_begin p (take n text ++ get_or text n 0 ∷ []) ≡ true = ap (may_begin p) (sym front) ∙ h in
     ap (reach p (take n text)) (drop_more text n 0 inside) ∙ step_true p (take n text) (get_or text n 0) (drop (n + 1) text) begins ∙ ap (λ (f : List ℕ). suc (reach p f (drop (n + 1) text))) (sym front)
 
--- and no further
+-- the reach ends where the next byte may not go on
 pub reach_ends : (p : Place) (text : List ℕ) (n : ℕ) → n < length text → may_begin p (take (n + 1) text) ≡ false → reach p (take n text) (drop n text) ≡ 0
 reach_ends p text n inside h =
     let front : take (n + 1) text ≡ take n text ++ get_or text n 0 ∷ [] = take_more text n 0 inside in

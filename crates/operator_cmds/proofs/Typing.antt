@@ -365,7 +365,7 @@ spelled_may c text s =
 pub no_form : (c : Command) (text : List ℕ) → form_of c ≡ None → IsSpelling c text → ⊥
 no_form c text e s = let may = spelled_may c text s in let there : form_of c ≡ Some may.0 = may.1 in cc
 
--- nor one that may not be written at a letter of its form
+-- a command that may not be written at a letter of its form is not spelled
 pub no_letter : (c : Command) (f : Form) (l : ℕ) (text : List ℕ) → form_of c ≡ Some f → list_any (λ k. k == l) (form_text f) ≡ true → may_write c l ≡ false → IsSpelling c text → ⊥
 no_letter c f l text e is h s =
     let may = spelled_may c text s in

@@ -31,7 +31,8 @@ mark_numbers = record { width = 10; least = 1; most = 9999999 }
 
 -- a text is one of the numbers. Leading zeros are accepted
 abbrev pub is_number : Numbers → List ℕ → Bool
-is_number numbers text = is_numeral text && nat_le (length text) numbers.width && nat_le numbers.least (value_of text) && nat_le (value_of text) numbers.most
+is_number numbers text = is_numeral text && nat_le (length text) numbers.width && nat_le numbers.least (value_of text)
+    && nat_le (value_of text) numbers.most
 
 -- CLASSES AND MEMBERS
 
@@ -42,7 +43,8 @@ are_different (b ∷ bs) = not (list_any (λ c. c == b) bs) && are_different bs
 
 -- 1 to 36 different classes
 abbrev pub are_classes : List ℕ → Bool
-are_classes text = nat_le 1 (length text) && nat_le (length text) classes_most && list_all is_class_byte text && are_different text
+are_classes text = nat_le 1 (length text) && nat_le (length text) classes_most && list_all is_class_byte text &&
+    are_different text
 
 -- A to H, the last letter of a member's name
 abbrev pub is_member_letter : ℕ → Bool

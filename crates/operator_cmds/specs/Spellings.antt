@@ -65,7 +65,8 @@ command_of form.ShowOutputs texts = command.Show what.Outputs
 command_of form.ShowSpool texts = command.Show what.Spool
 command_of form.ShowMembers texts = command.Show what.Members
 command_of form.SetInit texts = command.SetInit (classes_in (texts 115))
-command_of form.SetPrt texts = command.SetPrt (classes_in (texts 115)) (forms_of texts) (number_of line_numbers (texts 108))
+command_of form.SetPrt texts = command.SetPrt (classes_in (texts 115)) (forms_of texts)
+    (number_of line_numbers (texts 108))
 command_of form.Back texts = command.Back (number_of mark_numbers (texts 98))
 command_of form.Forward texts = command.Forward (number_of mark_numbers (texts 98))
 command_of form.Reset texts = command.Reset (record { 0 = slice_index (texts 109) 0 - 64 })

@@ -13,7 +13,8 @@ use Rattle.operator_cmds.specs.Places.{is_member_letter, are_different, place_of
 
 -- a numeral that is a number or becomes one by more digits
 abbrev pub may_begin_number : Numbers → List ℕ → Bool
-may_begin_number numbers text = is_numeral text && nat_le (value_of text) numbers.most && (nat_lt (length text) numbers.width || ((length text == numbers.width) && nat_le numbers.least (value_of text)))
+may_begin_number numbers text = is_numeral text && nat_le (value_of text) numbers.most &&
+    (nat_lt (length text) numbers.width || ((length text == numbers.width) && nat_le numbers.least (value_of text)))
 
 -- a text of at least one byte begins one that may stand in the place
 abbrev pub may_begin : Place → List ℕ → Bool

@@ -135,7 +135,7 @@ written_text c = option_map_or (λ f. concat (map (written c) (form_text f))) (f
 
 -- WRITING
 
--- a text that may not be written is refused; want of memory says nothing
+-- a text that may not be written is refused; an answer of out of memory says nothing
 abbrev pub IsRefused : WriteNo → Bool → Type 0
 IsRefused NotTyped may = may ≡ false
 IsRefused NoMemory may = Unit {0}

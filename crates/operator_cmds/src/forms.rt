@@ -48,9 +48,9 @@ pub const FORMS: [Form; 18] = [
     Form::Reset,
 ];
 
-/// How a command is typed. A small letter stands for a text: n for a job's number, k for the index of an output, p for a
-/// priority, c for a class, s for classes, f for forms, l for lines of a printer, b for lines of a mark, m for the last
-/// letter of a member's name. Any other byte stands for itself.
+/// How a command is typed. A small letter stands for a text: n for a job's number, k for the index of an output, p for
+/// a priority, c for a class, s for classes, f for forms, l for lines of a printer, b for lines of a mark, m for the
+/// last letter of a member's name. Any other byte stands for itself.
 pub(crate) fn form_text(form: Form) -> &'static [u8]
     ensures { result.now ≡ form_text_lem form }
 {

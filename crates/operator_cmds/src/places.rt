@@ -20,7 +20,7 @@ pub struct Numbers {
 /// What may stand in a place of a form.
 #[derive(Clone, Copy, PartialEq, Eq)]
 pub enum Place {
-    /// This byte.
+    /// The place takes this byte.
     Byte(u8),
     /// One of these numbers.
     Number(Numbers),

@@ -25,7 +25,7 @@ pub enum CommandNo {
     /// The text is no command. Its longest front that begins a command has so many bytes.
     #[error("no command")]
     BadCommand(u32),
-    /// There was no memory.
+    /// Out of memory.
     #[error("no memory")]
     NoMemory,
 }
@@ -41,8 +41,8 @@ impl From<NoMemory> for CommandNo {
 ghost use Rattle.operator_cmds.specs.Read.{IsReadAs, ComesTo};
 ghost use Rattle.operator_cmds.specs.Typed.{command_in};
 
-/// Reads a command as the operator types it. `BadCommand` exactly where the text is none, with the length of its longest
-/// front that can be gone on with to a command.
+/// Reads a command as the operator types it. `BadCommand` exactly where the text is none, with the length of its
+/// longest front that can be gone on with to a command.
 pub fn read_command(alloc: Global, text: &[u8]) -> Result<Command, CommandNo>
     // What is read is spelled so.
     ensures found { IfOk result (λ typed. IsSpelling typed text.now) }

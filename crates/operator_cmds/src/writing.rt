@@ -23,7 +23,7 @@ pub enum WriteNo {
     /// No text is read as the command.
     #[error("the command is not typed")]
     NotTyped,
-    /// There was no memory.
+    /// Out of memory.
     #[error("no memory")]
     NoMemory,
 }
@@ -39,8 +39,8 @@ impl From<NoMemory> for WriteNo {
 ghost use Rattle.operator_cmds.specs.Written.{form_of as form_of_lem, job_in, index_in, prio_in, class_in, classes_of as classes_of_lem, forms_in, lines_in, marks_in, member_in, is_within as is_within_lem, is_written_name, may_write, written, written_text, Adds};
 ghost use Rattle.operator_cmds.specs.Places.{stands_in as stands_in_lem, are_classes};
 
-/// Writes a command as the operator types it, its numbers without leading zeros. `NotTyped` exactly where no text is read
-/// as the command: only steps of the program give it, or what it carries has no spelling.
+/// Writes a command as the operator types it, its numbers without leading zeros. `NotTyped` exactly where no text is
+/// read as the command: only steps of the program give it, or what it carries has no spelling.
 pub fn write_command(alloc: Global, command: &Command) -> Result<List<u8>, WriteNo>
     ensures text { IfOk result (λ text. text ≡ written_text command.now) }
     ensures spelled { IfOk result (λ text. IsSpelling command.now text) }

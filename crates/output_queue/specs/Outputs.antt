@@ -43,8 +43,8 @@ rec_of o = record {
 abbrev pub AreOutputs : List (Option OutRec) → List Output → Type 0
 AreOutputs slots outputs = Tell order_of unordered rec_of slots outputs
 
--- a slot has the first of the outputs that the test picks; where the slot is written, that output is changed, and where it is
--- emptied, that output is gone
+-- a slot has the first of the outputs that the test picks; where the slot is written, that output is changed, and where
+-- it is emptied, that output is gone
 abbrev pub HasOutput : (Output → Bool) → List (Option OutRec) → List Output → ℕ → OutRec → Type 0
 HasOutput test slots outputs at x = TellsFirst order_of unordered rec_of test slots outputs at x
 
@@ -78,7 +78,7 @@ is_hardcopy slots n = option_map_or (λ r. in_hardcopy r.phase) (job_rec slots n
 abbrev pub prio_of : List (Option JobRec) → JobNo → ℕ
 prio_of slots n = option_map_or (λ r. r.fields.prio.0) (job_rec slots n) 0
 
--- it has the forms, and goes to any printer or to the member's
+-- the output has the forms, and goes to any printer or to the member's
 abbrev pub fits_printer : MemberId → Name8 → OutRec → Bool
 fits_printer m forms r = same_name r.forms forms && (same_name r.dest local_name || same_name r.dest (member_name m))
 

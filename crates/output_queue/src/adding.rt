@@ -27,8 +27,10 @@ pub fn add(
 ) -> Result<(), OutputsFull>
     requires fit { IsOutSpec spec.now }
     requires above { All (λ r. r.order < order) (used outputs.old) }
-    ensures added { OnOk result ((os : List Output) → AreOutputs outputs.old os → AreOutputs outputs.new (os ++ new_output job index.0 spec.now ∷ [])) }
-    ensures placed { OnOk result ((at : ℕ) × (position is_none outputs.old ≡ Some at) × (outputs.new ≡ slice_set outputs.old at (Some (new_rec job index spec.now order)))) }
+    ensures added { OnOk result ((os : List Output) → AreOutputs outputs.old os
+        → AreOutputs outputs.new (os ++ new_output job index.0 spec.now ∷ [])) }
+    ensures placed { OnOk result ((at : ℕ) × (position is_none outputs.old ≡ Some at)
+        × (outputs.new ≡ slice_set outputs.old at (Some (new_rec job index spec.now order)))) }
     ensures room { OnOk result ((os : List Output) → AreOutputs outputs.old os → length os < length outputs.old) }
     ensures full { OnErr result ((os : List Output) → AreOutputs outputs.old os → length os ≡ length outputs.old) }
     ensures unchanged { OnErr result (outputs.new ≡ outputs.old) }

@@ -20,7 +20,8 @@ pub struct NoOutput;
 /// The slot of the output of a job with an index, the first where there are several; none exactly where there is none.
 pub fn find_output(outputs: &[Option<OutRec>], job: JobNo, index: OutNo) -> Option<Found<OutRec>>
     ensures here { IfSome result (λ f. slice_get outputs.now f.at ≡ Some (Some f.item)) }
-    ensures some { IfSome result (λ f. (os : List Output) → AreOutputs outputs.now os → HasOutput (has_key job index) outputs.now os f.at f.item) }
+    ensures some { IfSome result (λ f. (os : List Output) → AreOutputs outputs.now os
+        → HasOutput (has_key job index) outputs.now os f.at f.item) }
     ensures none { IfNone result ((os : List Output) → AreOutputs outputs.now os → find (has_key job index) os ≡ None) }
 {
     first_slot(outputs, &Keyed { job, index })
@@ -29,7 +30,8 @@ pub fn find_output(outputs: &[Option<OutRec>], job: JobNo, index: OutNo) -> Opti
 /// The place of the slot of the output of a job with an index. `NoOutput` exactly where there is none.
 pub fn place_of(outputs: &[Option<OutRec>], job: JobNo, index: OutNo) -> Result<usize, NoOutput>
     ensures within { IfOk result (λ at. at < length outputs.now) }
-    ensures at { IfOk result (λ at. (os : List Output) → AreOutputs outputs.now os → (r : _) × HasOutput (has_key job index) outputs.now os at r) }
+    ensures at { IfOk result (λ at. (os : List Output) → AreOutputs outputs.now os → (r : _)
+        × HasOutput (has_key job index) outputs.now os at r) }
     ensures none { OnErr result ((os : List Output) → AreOutputs outputs.now os → find (has_key job index) os ≡ None) }
 {
     match find_output(outputs, job, index) {
@@ -38,10 +40,12 @@ pub fn place_of(outputs: &[Option<OutRec>], job: JobNo, index: OutNo) -> Result<
     }
 }
 
-/// The slot of the first output that is busy at a member, or at nobody where the member is 0; none exactly where there is none.
+/// The slot of the first output that is busy at a member, or at nobody where the member is 0; none exactly where there
+/// is none.
 pub fn find_printing(outputs: &[Option<OutRec>], by: MemberId) -> Option<Found<OutRec>>
     ensures here { IfSome result (λ f. slice_get outputs.now f.at ≡ Some (Some f.item)) }
-    ensures some { IfSome result (λ f. (os : List Output) → AreOutputs outputs.now os → HasOutput (prints_at by) outputs.now os f.at f.item) }
+    ensures some { IfSome result (λ f. (os : List Output) → AreOutputs outputs.now os
+        → HasOutput (prints_at by) outputs.now os f.at f.item) }
     ensures none { IfNone result ((os : List Output) → AreOutputs outputs.now os → find (prints_at by) os ≡ None) }
 {
     first_slot(outputs, &PrintingAt(by))
@@ -50,8 +54,11 @@ pub fn find_printing(outputs: &[Option<OutRec>], by: MemberId) -> Option<Found<O
 /// The slot of the first output of a job that is busy at another than the member; none exactly where there is none.
 pub fn find_elsewhere(outputs: &[Option<OutRec>], job: JobNo, by: MemberId) -> Option<Found<OutRec>>
     ensures here { IfSome result (λ f. slice_get outputs.now f.at ≡ Some (Some f.item)) }
-    ensures some { IfSome result (λ f. (os : List Output) → AreOutputs outputs.now os → HasOutput (λ o. is_of job o && is_somebody o.busy && not (same_member o.busy by)) outputs.now os f.at f.item) }
-    ensures none { IfNone result ((os : List Output) → AreOutputs outputs.now os → find (λ o. is_of job o && is_somebody o.busy && not (same_member o.busy by)) os ≡ None) }
+    ensures some { IfSome result (λ f. (os : List Output) → AreOutputs outputs.now os
+        → HasOutput (λ o. is_of job o && is_somebody o.busy && not (same_member o.busy by)) outputs.now os f.at
+        f.item) }
+    ensures none { IfNone result ((os : List Output) → AreOutputs outputs.now os
+        → find (λ o. is_of job o && is_somebody o.busy && not (same_member o.busy by)) os ≡ None) }
 {
     first_slot(outputs, &Elsewhere { job, by })
 }

@@ -1,5 +1,5 @@
-//! The outputs of the queue in their slots: each call is the definition's on the list of outputs, which the slots give by
-//! ascending order.
+//! The outputs of the queue in their slots: each call is the definition's on the list of outputs, which the slots give
+//! by ascending order.
 #![tactic(auto)]
 
 mod adding;

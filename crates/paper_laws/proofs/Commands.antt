@@ -52,7 +52,7 @@ pub fewer : (On : JobNo → OutNo → ℕ → Text → Type 0) (base : Queue) (c
 fewer On base counts counts' es le h n i o found un line low high =
     h n i o found un line low (le_trans high (add_le o.mark (printed_at counts' o.busy) (printed_at counts o.busy) (printed_at_le counts counts' o.busy (le o.busy))))
 
--- more on paper
+-- what stands on paper stays there with more lines on paper
 pub stays_on : (On After : JobNo → OutNo → ℕ → Text → Type 0) (base : Queue) (counts : Counts) (es : List Entry) → ((n : JobNo) (i : OutNo) (line : ℕ) (text : Text) → On n i line text → After n i line text)
     → AreLinesOn On base counts es → AreLinesOn After base counts es
 stays_on On After base counts es so h n i o found un line low high = so n i line o.text (h n i o found un line low high)

@@ -18,7 +18,7 @@ Counts = MemberId → ℕ
 abbrev pub none_printed : Counts
 none_printed m = 0
 
--- with these commands a member begins to count anew, refused or not
+-- the commands with which a member begins to count its printed lines anew, refused or not
 abbrev pub counts_anew : Command → Bool
 counts_anew command.Pick = true
 counts_anew (command.Mark job index line) = true
@@ -26,7 +26,7 @@ counts_anew (command.Back lines) = true
 counts_anew (command.Forward lines) = true
 counts_anew _ = false
 
--- the entry is such a command of the member
+-- with this entry the member begins to count its printed lines anew
 abbrev pub begins_anew : MemberId → Entry → Bool
 begins_anew m e = same_member e.by m && counts_anew e.command
 
@@ -47,18 +47,21 @@ may_mark m printed at None = true
 may_mark m printed at (Some o) = not (same_member o.busy m) || nat_le at (o.mark + printed)
 
 abbrev pub IsMarkRight : Queue → MemberId → ℕ → Command → Type 0
-IsMarkRight Q m printed (command.Mark job index at) = (is_somebody m ≡ true) × (may_mark m printed at (output_at Q job index) ≡ true)
+IsMarkRight Q m printed (command.Mark job index at) = (is_somebody m ≡ true)
+    × (may_mark m printed at (output_at Q job index) ≡ true)
 IsMarkRight Q m printed _ = Unit {0}
 
--- An entry is within the limits, given by a member of the base that may give it, and if it is a Mark, then one of what its member has printed.
+-- An entry is within the limits, given by a member of the base that may give it, and if it is a Mark, then one of what
+-- its member has printed.
 pub record IsAllowed (base Q : Queue) (counts : Counts) (e : Entry) : Type 0 where
   pub given : IsGiven base e
   pub mark : IsMarkRight Q e.by (counts e.by) e.command
 
--- so are entries, each at its place
+-- each of the entries is allowed, at its place
 abbrev pub AreAllowed : Queue → Queue → Counts → List Entry → Type 0
 AreAllowed base Q counts [] = Unit {0}
-AreAllowed base Q counts (e ∷ es) = IsAllowed base Q counts e × AreAllowed base (step Q e.by e.command).0 (count_after e counts) es
+AreAllowed base Q counts (e ∷ es) = IsAllowed base Q counts e
+    × AreAllowed base (step Q e.by e.command).0 (count_after e counts) es
 
 -- the entry is a Mark
 abbrev pub is_mark : Command → Bool

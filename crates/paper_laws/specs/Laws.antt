@@ -24,22 +24,28 @@ Passed test n i line text = test n i line text ≡ true
 -- allowed entries keep it, at each of their places: what is marked stands on paper
 abbrev pub EntriesKeepLines : Type 0
 EntriesKeepLines =
-    (on : Test) (base : Queue) (counts : Counts) (K es : List Entry) → IsSound base → All (IsGiven base) K → AreAllowed base (run base K) counts es
-    → AreLinesOn (Passed on) base counts K → AreMarksOn (Passed on) base K → AreLinesOn (Passed on) base (counts_after es counts) (K ++ es) × AreMarksOn (Passed on) base (K ++ es)
+    (on : Test) (base : Queue) (counts : Counts) (K es : List Entry) → IsSound base → All (IsGiven base) K
+    → AreAllowed base (run base K) counts es
+    → AreLinesOn (Passed on) base counts K → AreMarksOn (Passed on) base K
+    → AreLinesOn (Passed on) base (counts_after es counts) (K ++ es) × AreMarksOn (Passed on) base (K ++ es)
 
 -- a line that the member prints behind those that it has printed keeps it, with entries of others in flight
 abbrev pub LinesKeepLines : Type 0
 LinesKeepLines =
-    (on after : Test) (base : Queue) (counts : Counts) (K es : List Entry) (m : MemberId) (o : Output) → IsSound base → All (IsGiven base) K → All (IsGiven base) es
+    (on after : Test) (base : Queue) (counts : Counts) (K es : List Entry) (m : MemberId) (o : Output) → IsSound base
+    → All (IsGiven base) K → All (IsGiven base) es
     → is_somebody m ≡ true → All (λ e. same_member e.by m ≡ false) es → printing_at (run base K) m ≡ Some o
-    → ((n : JobNo) (i : OutNo) (line : ℕ) (text : Text) → on n i line text ≡ true → after n i line text ≡ true) → after o.job o.index (o.mark + counts m + 1) o.text ≡ true
+    → ((n : JobNo) (i : OutNo) (line : ℕ) (text : Text) → on n i line text ≡ true → after n i line text ≡ true)
+    → after o.job o.index (o.mark + counts m + 1) o.text ≡ true
     → AreLinesOn (Passed on) base counts (K ++ es) → AreLinesOn (Passed after) base (one_more m counts) (K ++ es)
 
 -- what stands on paper at each place is what each Mark answered
 abbrev pub MarksAnswerLines : Type 0
 MarksAnswerLines =
-    (on : Test) (base : Queue) (es : List Entry) → IsSound base → All (IsGiven base) es → AreMarksOn (Passed on) base es → AreMarkedLinesOn (Passed on) base es
+    (on : Test) (base : Queue) (es : List Entry) → IsSound base → All (IsGiven base) es → AreMarksOn (Passed on) base es
+    → AreMarkedLinesOn (Passed on) base es
 
 -- entries without a Mark are allowed where they are within the limits, and given by members that may give them
 abbrev pub PlainEntriesAreAllowed : Type 0
-PlainEntriesAreAllowed = (base Q : Queue) (counts : Counts) (es : List Entry) → All (IsGiven base) es → All (λ e. is_mark e.command ≡ false) es → AreAllowed base Q counts es
+PlainEntriesAreAllowed = (base Q : Queue) (counts : Counts) (es : List Entry) → All (IsGiven base) es
+    → All (λ e. is_mark e.command ≡ false) es → AreAllowed base Q counts es

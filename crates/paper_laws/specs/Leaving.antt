@@ -12,10 +12,12 @@ use Rattle.mas_types.specs.Run.{run}
 use Rattle.mas_types.specs.Step.{step}
 use Rattle.queue_laws.specs.Marks.{MayTake}
 
--- An output that a command takes away was taken by Done, where its mark is at its total, by CancelOut of its key, or by Cancel of its job.
+-- An output that a command takes away was taken by Done, where its mark is at its total, by CancelOut of its key, or by
+-- Cancel of its job.
 abbrev pub CommandsTakeOutputs : Type 0
 CommandsTakeOutputs =
-    (Q : Queue) (m : MemberId) (c : Command) (n : JobNo) (i : OutNo) (o : Output) → output_at Q n i ≡ Some o → output_at (step Q m c).0 n i ≡ None → MayTake c o
+    (Q : Queue) (m : MemberId) (c : Command) (n : JobNo) (i : OutNo) (o : Output) → output_at Q n i ≡ Some o
+    → output_at (step Q m c).0 n i ≡ None → MayTake c o
 
 -- One of the entries takes the output with this key away, as it is by then.
 pub record IsTakenBy (base : Queue) (es : List Entry) (n : JobNo) (i : OutNo) : Type 0 where
@@ -30,4 +32,5 @@ pub record IsTakenBy (base : Queue) (es : List Entry) (n : JobNo) (i : OutNo) : 
 
 -- Where an output was there and isn't after entries, one of them took it.
 abbrev pub EntriesTakeOutputs : Type 0
-EntriesTakeOutputs = (base : Queue) (es : List Entry) (n : JobNo) (i : OutNo) (o : Output) → output_at base n i ≡ Some o → output_at (run base es) n i ≡ None → IsTakenBy base es n i
+EntriesTakeOutputs = (base : Queue) (es : List Entry) (n : JobNo) (i : OutNo) (o : Output) → output_at base n i ≡ Some o
+    → output_at (run base es) n i ≡ None → IsTakenBy base es n i

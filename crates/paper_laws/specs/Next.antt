@@ -15,8 +15,8 @@ use Rattle.paper_laws.specs.Paper.{busy_in}
 abbrev pub limit_of : Queue → MemberId → ℕ
 limit_of Q m = option_map_or (λ s. s.lines) (setting_of Q m) 0
 
--- The bytes are the line behind so many, which the member has printed of the output that is busy at it behind that output's mark. There is one, and the
--- member's limit isn't reached.
+-- The bytes are the line behind so many, which the member has printed of the output that is busy at it behind that
+-- output's mark. There is one, and the member's limit isn't reached.
 pub record IsNextLine (Q : Queue) (m : MemberId) (printed : ℕ) (bytes : List ℕ) : Type 0 where
   pub output : Output
   pub busy : printing_at Q m ≡ Some output
@@ -26,7 +26,7 @@ pub record IsNextLine (Q : Queue) (m : MemberId) (printed : ℕ) (bytes : List �
   pub below : output.mark + printed < total output
   pub limit : printed < limit_of Q m
 
--- so it is after the kept entries, and the output is busy at the member with those in flight too
+-- the bytes are the member's next line after the kept entries; with those in flight too, its output is busy at it
 pub record MayPrint (base : Queue) (K F : List Entry) (m : MemberId) (printed : ℕ) (bytes : List ℕ) : Type 0 where
   pub next : IsNextLine (run base K) m printed bytes
   pub still : busy_in (output_at (run base (K ++ F)) next.output.job next.output.index) m ≡ true

@@ -1,4 +1,5 @@
--- Which lines of outputs stand on paper after commands. What stands on paper is any property of an output's key, a line's number and the output's text.
+-- Which lines of outputs stand on paper after commands. What stands on paper is any property of an output's key, a
+-- line's number and the output's text.
 use Rattle.std.specs.Prelude.{◌≡◌, ℕ, ◌+◌, ◌≤◌, ◌<◌, Bool, true, false, not, ◌&&◌, ◌||◌, if◌then◌else◌, List, [], ◌∷◌, ◌++◌, Option, Some, None}
 use Rattle.mas_types.specs.declared.ids.MemberId.{MemberId}
 use Rattle.mas_types.specs.declared.ids.JobNo.{JobNo}
@@ -35,7 +36,7 @@ is_forward _ = false
 abbrev pub touches : Queue → Entry → JobNo → OutNo → Bool
 touches Q e n i = is_forward e.command && (not (is_refusal (step Q e.by e.command).1) && busy_in (output_at Q n i) e.by)
 
--- there is one among the entries
+-- a Forward among the entries touches the output
 abbrev pub touched : Queue → List Entry → JobNo → OutNo → Bool
 touched Q [] n i = false
 touched Q (e ∷ es) n i = touches Q e n i || touched (step Q e.by e.command).0 es n i
@@ -46,8 +47,8 @@ touched Q (e ∷ es) n i = touches Q e n i || touched (step Q e.by e.command).0 
 abbrev pub printed_at : Counts → MemberId → ℕ
 printed_at counts m = if is_somebody m then counts m else 0
 
--- Of each output after the entries that no Forward among them has touched, each line from behind its mark in the base (0 if it wasn't there) up to its
--- mark, and those that its member has printed behind that.
+-- Of each output after the entries that no Forward among them has touched, each line from behind its mark in the base
+-- (0 if it wasn't there) up to its mark, and those that its member has printed behind that.
 abbrev pub AreLinesOn : (JobNo → OutNo → ℕ → Text → Type 0) → Queue → Counts → List Entry → Type 0
 AreLinesOn On base counts es =
     (n : JobNo) (i : OutNo) (o : Output) → output_at (run base es) n i ≡ Some o → touched base es n i ≡ false
@@ -57,9 +58,12 @@ AreLinesOn On base counts es =
 abbrev pub AreMarksOn : (JobNo → OutNo → ℕ → Text → Type 0) → Queue → List Entry → Type 0
 AreMarksOn On base es = (before after : List Entry) → es ≡ before ++ after → AreLinesOn On base none_printed before
 
--- So where a Mark among the entries answered a count, each line of its output up to that, where no Forward before it has touched the output.
+-- So where a Mark among the entries answered a count, each line of its output up to that, where no Forward before it
+-- has touched the output.
 abbrev pub AreMarkedLinesOn : (JobNo → OutNo → ℕ → Text → Type 0) → Queue → List Entry → Type 0
 AreMarkedLinesOn On base es =
-    (before after : List Entry) (e : Entry) (n : JobNo) (i : OutNo) (at count : ℕ) (o : Output) → es ≡ before ++ e ∷ after → e.command ≡ command.Mark n i at
-    → (step (run base before) e.by e.command).1 ≡ reply.Count count → output_at (run base before) n i ≡ Some o → touched base before n i ≡ false
+    (before after : List Entry) (e : Entry) (n : JobNo) (i : OutNo) (at count : ℕ) (o : Output)
+    → es ≡ before ++ e ∷ after → e.command ≡ command.Mark n i at
+    → (step (run base before) e.by e.command).1 ≡ reply.Count count → output_at (run base before) n i ≡ Some o
+    → touched base before n i ≡ false
     → (line : ℕ) → mark_of (output_at base n i) < line → line ≤ count → On n i line o.text

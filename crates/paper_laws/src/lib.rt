@@ -1,5 +1,5 @@
-//! Printed lines over plain data: what a member may print next, which Marks its printed lines allow, and what commands and lines keep
-//! of what stands on paper.
+//! Printed lines over plain data: what a member may print next, which Marks its printed lines allow, and what commands
+//! and lines keep of what stands on paper.
 #![tactic(auto)]
 
 mod laws;

@@ -19,7 +19,14 @@ size_of (Spool n) = if nat_le 1 n && nat_le n 8 then 16777216 else 0
 
 -- a world of which nothing is told
 abbrev pub untold : World
-untold = record { disk = λ d. record { bytes = []; unsynced = []; lost = false }; console = []; paper = λ m. []; taken = λ w m. []; given = λ w m. [] }
+untold = record {
+  disk = λ d. record { bytes = []; unsynced = []; lost = false };
+  console = [];
+  paper = λ m.
+      [];
+  taken = λ w m. [];
+  given = λ w m. [];
+}
 
 -- what is counted
 pub record Shown : Type 0 where
@@ -43,7 +50,14 @@ view_of s = record {
 }
 
 abbrev pub shown_of : Tally → Shown
-shown_of t = record { now = t.moment; parts = t.counts.parts.items; stops = t.counts.stops.items; loses = t.counts.loses.items; arms = t.counts.arms.items }
+shown_of t = record {
+  now = t.moment;
+  parts = t.counts.parts.items;
+  stops = t.counts.stops.items;
+  loses
+      = t.counts.loses.items;
+  arms = t.counts.arms.items;
+}
 
 abbrev pub tally_view : Tally → View
 tally_view t = view_of (shown_of t)
@@ -52,7 +66,8 @@ tally_view t = view_of (shown_of t)
 abbrev pub counted : List ℕ → ℕ → List ℕ
 counted counts at = slice_set counts at (next (slice_index counts at))
 
--- an act that was done, one on a part that failed, a call that lost a device, one that renewed it, and one that armed a stop
+-- an act that was done, one on a part that failed, a call that lost a device, one that renewed it, and one that armed a
+-- stop
 abbrev pub done_by : Shown → Shown
 done_by s = record { now = s.now + 1; parts = s.parts; stops = s.stops; loses = s.loses; arms = s.arms }
 
@@ -84,7 +99,14 @@ renewed_by dev s = record {
 }
 
 abbrev pub armed_by : ℕ → Shown → Shown
-armed_by member s = record { now = s.now; parts = s.parts; stops = s.stops; loses = s.loses; arms = counted s.arms member }
+armed_by member s = record {
+  now = s.now;
+  parts = s.parts;
+  stops = s.stops;
+  loses = s.loses;
+  arms = counted s.arms
+      member;
+}
 
 -- no act was made, and each count is 0
 pub record IsFresh (v : View) : Type 0 where

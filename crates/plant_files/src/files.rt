@@ -89,7 +89,8 @@ pub(crate) fn read_next<F: Read>(file: &mut F, into: &mut [u8]) -> io::Result<us
     Err(io::Error::from(ErrorKind::Interrupted))
 }
 
-// Leaves what was written to a file on its disk. A device that keeps nothing, as a terminal or the null device, has nothing to leave.
+// Leaves what was written to a file on its disk. A device that keeps nothing, as a terminal or the null device, has
+// nothing to leave.
 pub(crate) fn sync_written<F: OpenFile>(file: &F) -> io::Result<()> {
     match file.sync_all() {
         Err(error) if error.kind() == ErrorKind::InvalidInput => Ok(()),

@@ -146,8 +146,8 @@ impl<F: OpenFile + Drop> Folder<F> {
 }
 
 impl Folder<File> {
-    // Locks the files of the devices too, which another folder may name by links, or another machine by the folder itself.
-    // One that can't be locked is held by the folder's lock alone.
+    // Locks the files of the devices too, which another folder may name by links, or another machine by the folder
+    // itself. One that can't be locked is held by the folder's lock alone.
     pub(crate) fn lock_devices(&self, opening: Opening) -> Result<(), FolderError> {
         self.ckpt1.lock(opening)?;
         self.ckpt2.lock(opening)?;
@@ -196,8 +196,8 @@ impl<F: Read + Write + Seek + FileExt + OpenFile + Drop> Folder<F> {
         Ok(())
     }
 
-    // Syncs a device. A batch may say of lines that they are printed: so they are on the disk before a copy of the checkpoint is
-    // synced, and where a printer can't be synced no copy is from then on.
+    // Syncs a device. A batch may say of lines that they are printed: so they are on the disk before a copy of the
+    // checkpoint is synced, and where a printer can't be synced no copy is from then on.
     pub(crate) fn sync(&mut self, dev: Dev) -> io::Result<()> {
         if let Dev::Ckpt1 | Dev::Ckpt2 = dev {
             self.sync_paper()?;

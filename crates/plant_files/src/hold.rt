@@ -10,8 +10,8 @@ use thiserror::Error;
 pub enum Opening {
     /// The run formats the devices: the folder and all files that are missing are made.
     Make,
-    /// The run goes on with what is there. Where the folder is missing, or has no file of either copy of the checkpoint,
-    /// nothing is made, and the run goes as with `Look`. Else all files that are missing are made.
+    /// The run goes on with what is there. Where the folder is missing, or has no file of either copy of the
+    /// checkpoint, nothing is made, and the run goes as with `Look`. Else all files that are missing are made.
     GoOn,
     /// The run only looks: nothing is made, the devices are opened to be read alone, and others may look beside it.
     Look,
@@ -105,8 +105,8 @@ pub(crate) fn lock(file: &File, opening: Opening) -> Result<(), FolderError> {
     }
 }
 
-// Holds a folder until the file that it answers is closed, which the system does where the program ends, however it ends.
-// None where the folder isn't there, and isn't to be made.
+// Holds a folder until the file that it answers is closed, which the system does where the program ends, however it
+// ends. None where the folder isn't there, and isn't to be made.
 pub(crate) fn hold_folder<R: Files<File = File>>(
     rt: &R,
     folder: &str,

@@ -1,4 +1,5 @@
-//! Devices, printers and lines as files of a folder that is held, standard output as the console, and standard input as a source.
+//! Devices, printers and lines as files of a folder that is held, standard output as the console, and standard input as
+//! a source.
 #![tactic(auto)]
 
 mod files;

@@ -16,7 +16,7 @@ pub(crate) enum How {
     MakeToRead,
     // To be read. Where it is missing it reads as zeros.
     Look,
-    // Not at all.
+    // Not to be opened.
     Leave,
 }
 
@@ -149,7 +149,7 @@ impl<F: Drop> Marked<F> {
         }
     }
 
-    // Another file comes in its place.
+    // Puts another file in the place of this one.
     pub(crate) fn put(&mut self, file: F) {
         self.kept = Kept::Open(file);
         self.is_whole = false;

@@ -18,9 +18,9 @@ use std::rt::Files;
 /// The bytes of each device that has a file.
 pub const DEVICE_SIZE: u64 = 16_777_216;
 
-/// Devices, printers and lines as files of a folder, and standard output as the console. What the files of a system hold
-/// can't be known, so this plant tells nothing of it. No act of it halts, and arming a stop is only counted. As long as it is there
-/// its folder is held, and the standard streams are open.
+/// Devices, printers and lines as files of a folder, and standard output as the console. What the files of a system
+/// hold can't be known, so this plant tells nothing of it. No act of it halts, and arming a stop is only counted. As
+/// long as it is there its folder is held, and the standard streams are open.
 #[derive(Drop)]
 pub struct FilePlant<R: Files + Print + Drop> {
     rt: R,
@@ -63,11 +63,11 @@ fn lost_parts<F: Read + Write + Seek + FileExt + OpenFile + Drop>(
 impl<R: Files<File = File> + Print + Drop> FilePlant<R> {
     ghost use Rattle.plant_files.specs.FileView.{IsFresh};
 
-    /// A plant over a folder's files CKPT1, CKPT2, SPOOL1 to SPOOL8, PRT1 to PRT8, LINE1.IN to LINE8.IN and LINE1.OUT to
-    /// LINE8.OUT. First the folder is held, and then the files of its devices: until this plant is dropped, or the program ends, no
-    /// other run opens them, but that any number may look at them at once. A part is lost whose file can't be opened, or beside which stands a file of its name and
-    /// `.LOST`. Which files are made, and how they are opened, is said by `opening`. Each error comes as it says, and changes no
-    /// byte of a file.
+    /// A plant over a folder's files CKPT1, CKPT2, SPOOL1 to SPOOL8, PRT1 to PRT8, LINE1.IN to LINE8.IN and LINE1.OUT
+    /// to LINE8.OUT. First the folder is held, and then the files of its devices: until this plant is dropped, or the
+    /// program ends, no other run opens them, but that any number may look at them at once. A part is lost whose file
+    /// can't be opened, or beside which stands a file of its name and `.LOST`. Which files are made, and how they are
+    /// opened, is said by `opening`. Each error comes as it says, and changes no byte of a file.
     pub fn open(
         rt: R,
         alloc: Global,

@@ -8,9 +8,9 @@ use std::os::fd::AsFd;
 // What stands in the place of a stream that is closed. It is opened to be written alone, so that a read of it fails.
 const NULL_DEVICE: &str = "/dev/null";
 
-/// Standard input, output and error, of which each is open, so that no file of a folder gets its number. A read of standard
-/// input that was closed fails, and so does a line on standard output that was closed; what is written to standard error that was
-/// closed is dropped.
+/// Standard input, output and error, of which each is open, so that no file of a folder gets its number. A read of
+/// standard input that was closed fails, and so does a line on standard output that was closed; what is written to
+/// standard error that was closed is dropped.
 #[derive(Drop)]
 pub struct Streams {
     // The null devices in the places of those that were closed, which stay open as long as these streams.
@@ -28,8 +28,8 @@ fn are_open(rt: &HostRuntime) -> bool {
 }
 
 impl Streams {
-    /// Opens the null device in the place of each standard stream that is closed. No other file may be opened before. An error
-    /// comes where that can't be done.
+    /// Opens the null device in the place of each standard stream that is closed. No other file may be opened before.
+    /// An error comes where that can't be done.
     pub fn open(rt: &HostRuntime, alloc: Global) -> io::Result<Streams> {
         let has_console = is_open(&rt.stdout());
         let mut nulls = Vec::new(alloc);
@@ -46,7 +46,8 @@ impl Streams {
         Ok(Streams { nulls, has_console })
     }
 
-    // Writes a line with its end to standard output. A program ignores the signal of a pipe that has ended, so the write fails there.
+    // Writes a line with its end to standard output. A program ignores the signal of a pipe that has ended, so the
+    // write fails there.
     pub(crate) fn say<R: Print>(&self, rt: &R, line: &[u8]) -> io::Result<()> {
         if !self.has_console {
             return Err(not_there());

@@ -68,7 +68,7 @@ module _ (old new : ℕ → List Line) (place now : ℕ) (past : (i : ℕ) → i
       step h now later (torn_before new place hs later) (torn_before old place hs now) (torn_cong old new place now later h here (past (h.1 + 1) (omega (arith, early))) (first ∙ sym second)) here
       (torn_now hs later le (All-tail (λ (x : Halved). x.1 < now) h hs before))
 
--- one more is halved
+-- the torn lines with one more act that is halved
 pub torn_push : (lines : ℕ → List Line) (place later : ℕ) (h : Halved) (hs : List Halved)
     → torn_before lines place (hs ++ h ∷ []) later ≡ torn_before lines place hs later ++ (if is_torn lines place later h then length (lines h.1) ∷ [] else [])
 torn_push lines place later h [] = refl

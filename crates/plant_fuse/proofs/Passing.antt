@@ -145,7 +145,7 @@ passed_loses part old new hs stops arms act = record {
   arms = λ m. refl;
 }
 
--- a view with other parts lost: what a renewal leaves but for its device's loss goes on from what was
+-- a view with other parts lost: what a renewal leaves except its device's loss goes on from what was
 abbrev pub with_lost : View → (Part → Bool) → View
 with_lost v lost = record { now = v.now; world = v.world; size = v.size; lost = lost; faults = v.faults; stops = v.stops; loses = v.loses; waiting = v.waiting; arms = v.arms }
 
@@ -178,7 +178,7 @@ arms_one v hs stops arms member there = record {
   else_counted = λ m ne. get_or-set_other arms member m _ 0 ne;
 }
 
--- at first
+-- a plant of which nothing is armed or halved shows its inner plant
 pub shows_inner : (v : View) → ShowsInner v (fused_view v [] (replicate 256 0) (replicate 256 0))
 shows_inner v = record {
   now = refl;

@@ -5,8 +5,8 @@ use Rattle.spool_disk.specs.declared.plant.Act.TheVariants.{Done, Failed, Halted
 use Rattle.plant_fuse.specs.Counted.{counted}
 use Rattle.plant_fuse.specs.Torn.{Halved}
 
--- What was passed on was answered so, and the counts of stops before and after: where it was done, the member halts and its
--- stop is counted; else that is the answer.
+-- What was passed on was answered so, and the counts of stops before and after: where it was done, the member halts and
+-- its stop is counted; else that is the answer.
 abbrev pub Closes : ℕ → Act → List ℕ → List ℕ → Act → Type 0
 Closes by Done old new result = (result ≡ Halted) × (new ≡ counted old by)
 Closes by Failed old new result = (result ≡ Failed) × (new ≡ old)

@@ -21,8 +21,8 @@ world_of worlds hs t = record {
   given = (worlds t).given;
 }
 
--- An inner plant's view, with the lines that were halved, the stops that were counted beside those of the inner plant, and
--- the calls that armed stops.
+-- An inner plant's view, with the lines that were halved, the stops that were counted beside those of the inner plant,
+-- and the calls that armed stops.
 abbrev pub fused_view : View → List Halved → List ℕ → List ℕ → View
 fused_view v hs stops arms = record {
   now = v.now;
@@ -39,8 +39,10 @@ fused_view v hs stops arms = record {
 -- an act that was halved was made by now, and a line that it added stands among the lines of its place
 pub record IsWithin (v : View) (h : Halved) : Type 0 where
   pub before : h.1 < v.now
-  pub console : h.0 ≡ 0 → length (consoles v.world h.1) < length (consoles v.world (h.1 + 1)) → length (consoles v.world h.1) < length (consoles v.world v.now)
-  pub paper : (m : ℕ) → h.0 ≡ m + 1 → length (papers v.world m h.1) < length (papers v.world m (h.1 + 1)) → length (papers v.world m h.1) < length (papers v.world m v.now)
+  pub console : h.0 ≡ 0 → length (consoles v.world h.1) < length (consoles v.world (h.1 + 1))
+      → length (consoles v.world h.1) < length (consoles v.world v.now)
+  pub paper : (m : ℕ) → h.0 ≡ m + 1 → length (papers v.world m h.1) < length (papers v.world m (h.1 + 1))
+      → length (papers v.world m h.1) < length (papers v.world m v.now)
 
 abbrev pub AreWithin : View → List Halved → Type 0
 AreWithin v hs = All (IsWithin v) hs

@@ -12,10 +12,10 @@ use http_server::Log;
 use mas_types::{Dev, MemberId};
 use spool_disk::{Act, Fuse, Fuses, Part, Plant, Took};
 
-/// A plant over an inner plant, which keeps armed stops to itself and passes every other call on, but for the acts that it
-/// halts: of a halted write, line or gift it passes on the first half of the bytes, of a halted read or sync a read of no
-/// bytes, and of a halted `take` one into no bytes. Where the inner plant answers Failed or Halted to what was passed on,
-/// that is the answer. A line of which the half was passed on counts as torn.
+/// A plant over an inner plant, which keeps armed stops to itself and passes every other call on, except the acts that
+/// it halts: of a halted write, line or gift it passes on the first half of the bytes, of a halted read or sync a read
+/// of no bytes, and of a halted `take` one into no bytes. Where the inner plant answers Failed or Halted to what was
+/// passed on, that is the answer. A line of which the half was passed on counts as torn.
 #[derive(Drop)]
 pub struct Fused<P: Plant + Drop> {
     pub inner: P,
@@ -25,8 +25,8 @@ pub struct Fused<P: Plant + Drop> {
     pub stops: Tally,
     /// The calls that armed a stop of each member.
     pub arms: Tally,
-    /// The acts that passed on the half of a line: the place, which is 0 for the console and else the member's number and
-    /// one more, and the moment of the act. They take no memory.
+    /// The acts that passed on the half of a line: the place, which is 0 for the console and else the member's number
+    /// and one more, and the moment of the act. They take no memory.
     pub halved: Log<u64, u64>,
     ghost within: { P.tells → AreWithin (P.view inner) halved.items },
 }
@@ -88,7 +88,8 @@ impl<P: Plant + Drop> Fused<P> {
 
     /// Nothing is armed, and no line was halved.
     pub fn new(inner: P) -> Fused<P>
-        ensures view { ShowsInner (P.view inner) (fused_view (P.view result.inner) result.halved.items result.stops.counts result.arms.counts) }
+        ensures view { ShowsInner (P.view inner)
+            (fused_view (P.view result.inner) result.halved.items result.stops.counts result.arms.counts) }
         ensures none { armed_of result.fuses ≡ none_armed }
     {
         Fused {
@@ -129,11 +130,18 @@ impl<P: Plant + Drop> Plant for Fused<P> {
 
     fn read(&mut self, by: MemberId, dev: Dev, at: u64, into: &mut [u8]) -> Act
         requires { at + length into.old ≤ (P.view self.old.inner).size dev }
-        ensures acts { Acts by.0 (Disk dev) (fused_view (P.view self.old.inner) self.old.halved.items self.old.stops.counts self.old.arms.counts) (fused_view (P.view self.new.inner) self.new.halved.items self.new.stops.counts self.new.arms.counts) result }
-        ensures content { P.tells → Reads dev at (fused_view (P.view self.old.inner) self.old.halved.items self.old.stops.counts self.old.arms.counts) (fused_view (P.view self.new.inner) self.new.halved.items self.new.stops.counts self.new.arms.counts) into.new result }
+        ensures acts { Acts by.0 (Disk dev)
+            (fused_view (P.view self.old.inner) self.old.halved.items self.old.stops.counts self.old.arms.counts)
+            (fused_view (P.view self.new.inner) self.new.halved.items self.new.stops.counts self.new.arms.counts)
+            result }
+        ensures content { P.tells → Reads dev at
+            (fused_view (P.view self.old.inner) self.old.halved.items self.old.stops.counts self.old.arms.counts)
+            (fused_view (P.view self.new.inner) self.new.halved.items self.new.stops.counts self.new.arms.counts)
+            into.new result }
         ensures armed { armed_of self.new.fuses ≡ burnt (armed_of self.old.fuses) by.0 false }
         ensures halts { to_halt (armed_of self.old.fuses) by.0 false ≡ true → result ≢ Done }
-        ensures passes { to_halt (armed_of self.old.fuses) by.0 false ≡ false → self.new.stops.counts ≡ self.old.stops.counts }
+        ensures passes { to_halt (armed_of self.old.fuses) by.0 false ≡ false
+            → self.new.stops.counts ≡ self.old.stops.counts }
     {
         if self.fuses.fire(by, false) {
             let passed = self.inner.read(by, dev, 0, &mut []);
@@ -145,12 +153,20 @@ impl<P: Plant + Drop> Plant for Fused<P> {
 
     fn write(&mut self, by: MemberId, dev: Dev, at: u64, bytes: &[u8]) -> Act
         requires { at + length bytes.now ≤ (P.view self.old.inner).size dev }
-        ensures acts { Acts by.0 (Disk dev) (fused_view (P.view self.old.inner) self.old.halved.items self.old.stops.counts self.old.arms.counts) (fused_view (P.view self.new.inner) self.new.halved.items self.new.stops.counts self.new.arms.counts) result }
-        ensures content { P.tells → Writes dev at bytes.now (fused_view (P.view self.old.inner) self.old.halved.items self.old.stops.counts self.old.arms.counts) (fused_view (P.view self.new.inner) self.new.halved.items self.new.stops.counts self.new.arms.counts) result }
+        ensures acts { Acts by.0 (Disk dev)
+            (fused_view (P.view self.old.inner) self.old.halved.items self.old.stops.counts self.old.arms.counts)
+            (fused_view (P.view self.new.inner) self.new.halved.items self.new.stops.counts self.new.arms.counts)
+            result }
+        ensures content { P.tells → Writes dev at bytes.now
+            (fused_view (P.view self.old.inner) self.old.halved.items self.old.stops.counts self.old.arms.counts)
+            (fused_view (P.view self.new.inner) self.new.halved.items self.new.stops.counts self.new.arms.counts)
+            result }
         ensures armed { armed_of self.new.fuses ≡ burnt (armed_of self.old.fuses) by.0 false }
         ensures halts { to_halt (armed_of self.old.fuses) by.0 false ≡ true → result ≢ Done }
-        ensures passes { to_halt (armed_of self.old.fuses) by.0 false ≡ false → self.new.stops.counts ≡ self.old.stops.counts }
-        ensures half { P.tells → to_halt (armed_of self.old.fuses) by.0 false ≡ true → (r : Act) × Writes dev at (take (length bytes.now / 2) bytes.now) (P.view self.old.inner) (P.view self.new.inner) r }
+        ensures passes { to_halt (armed_of self.old.fuses) by.0 false ≡ false
+            → self.new.stops.counts ≡ self.old.stops.counts }
+        ensures half { P.tells → to_halt (armed_of self.old.fuses) by.0 false ≡ true → (r : Act)
+            × Writes dev at (take (length bytes.now / 2) bytes.now) (P.view self.old.inner) (P.view self.new.inner) r }
     {
         if self.fuses.fire(by, false) {
             let passed = self.inner.write(by, dev, at, half(bytes));
@@ -161,11 +177,18 @@ impl<P: Plant + Drop> Plant for Fused<P> {
     }
 
     fn sync(&mut self, by: MemberId, dev: Dev) -> Act
-        ensures acts { Acts by.0 (Disk dev) (fused_view (P.view self.old.inner) self.old.halved.items self.old.stops.counts self.old.arms.counts) (fused_view (P.view self.new.inner) self.new.halved.items self.new.stops.counts self.new.arms.counts) result }
-        ensures content { P.tells → Syncs dev (fused_view (P.view self.old.inner) self.old.halved.items self.old.stops.counts self.old.arms.counts) (fused_view (P.view self.new.inner) self.new.halved.items self.new.stops.counts self.new.arms.counts) result }
+        ensures acts { Acts by.0 (Disk dev)
+            (fused_view (P.view self.old.inner) self.old.halved.items self.old.stops.counts self.old.arms.counts)
+            (fused_view (P.view self.new.inner) self.new.halved.items self.new.stops.counts self.new.arms.counts)
+            result }
+        ensures content { P.tells → Syncs dev
+            (fused_view (P.view self.old.inner) self.old.halved.items self.old.stops.counts self.old.arms.counts)
+            (fused_view (P.view self.new.inner) self.new.halved.items self.new.stops.counts self.new.arms.counts)
+            result }
         ensures armed { armed_of self.new.fuses ≡ burnt (armed_of self.old.fuses) by.0 false }
         ensures halts { to_halt (armed_of self.old.fuses) by.0 false ≡ true → result ≢ Done }
-        ensures passes { to_halt (armed_of self.old.fuses) by.0 false ≡ false → self.new.stops.counts ≡ self.old.stops.counts }
+        ensures passes { to_halt (armed_of self.old.fuses) by.0 false ≡ false
+            → self.new.stops.counts ≡ self.old.stops.counts }
     {
         if self.fuses.fire(by, false) {
             let passed = self.inner.read(by, dev, 0, &mut []);
@@ -176,12 +199,20 @@ impl<P: Plant + Drop> Plant for Fused<P> {
     }
 
     fn say(&mut self, by: MemberId, line: &[u8]) -> Act
-        ensures acts { Acts by.0 Console (fused_view (P.view self.old.inner) self.old.halved.items self.old.stops.counts self.old.arms.counts) (fused_view (P.view self.new.inner) self.new.halved.items self.new.stops.counts self.new.arms.counts) result }
-        ensures content { P.tells → Says line.now (fused_view (P.view self.old.inner) self.old.halved.items self.old.stops.counts self.old.arms.counts) (fused_view (P.view self.new.inner) self.new.halved.items self.new.stops.counts self.new.arms.counts) result }
+        ensures acts { Acts by.0 Console
+            (fused_view (P.view self.old.inner) self.old.halved.items self.old.stops.counts self.old.arms.counts)
+            (fused_view (P.view self.new.inner) self.new.halved.items self.new.stops.counts self.new.arms.counts)
+            result }
+        ensures content { P.tells → Says line.now
+            (fused_view (P.view self.old.inner) self.old.halved.items self.old.stops.counts self.old.arms.counts)
+            (fused_view (P.view self.new.inner) self.new.halved.items self.new.stops.counts self.new.arms.counts)
+            result }
         ensures armed { armed_of self.new.fuses ≡ burnt (armed_of self.old.fuses) by.0 false }
         ensures halts { to_halt (armed_of self.old.fuses) by.0 false ≡ true → result ≢ Done }
-        ensures passes { to_halt (armed_of self.old.fuses) by.0 false ≡ false → self.new.stops.counts ≡ self.old.stops.counts }
-        ensures half { P.tells → to_halt (armed_of self.old.fuses) by.0 false ≡ true → (r : Act) × Says (take (length line.now / 2) line.now) (P.view self.old.inner) (P.view self.new.inner) r }
+        ensures passes { to_halt (armed_of self.old.fuses) by.0 false ≡ false
+            → self.new.stops.counts ≡ self.old.stops.counts }
+        ensures half { P.tells → to_halt (armed_of self.old.fuses) by.0 false ≡ true → (r : Act)
+            × Says (take (length line.now / 2) line.now) (P.view self.old.inner) (P.view self.new.inner) r }
     {
         if self.fuses.fire(by, false) {
             let moment = self.inner.now();
@@ -194,12 +225,20 @@ impl<P: Plant + Drop> Plant for Fused<P> {
     }
 
     fn print(&mut self, by: MemberId, line: &[u8]) -> Act
-        ensures acts { Acts by.0 (Printer by) (fused_view (P.view self.old.inner) self.old.halved.items self.old.stops.counts self.old.arms.counts) (fused_view (P.view self.new.inner) self.new.halved.items self.new.stops.counts self.new.arms.counts) result }
-        ensures content { P.tells → Prints by.0 line.now (fused_view (P.view self.old.inner) self.old.halved.items self.old.stops.counts self.old.arms.counts) (fused_view (P.view self.new.inner) self.new.halved.items self.new.stops.counts self.new.arms.counts) result }
+        ensures acts { Acts by.0 (Printer by)
+            (fused_view (P.view self.old.inner) self.old.halved.items self.old.stops.counts self.old.arms.counts)
+            (fused_view (P.view self.new.inner) self.new.halved.items self.new.stops.counts self.new.arms.counts)
+            result }
+        ensures content { P.tells → Prints by.0 line.now
+            (fused_view (P.view self.old.inner) self.old.halved.items self.old.stops.counts self.old.arms.counts)
+            (fused_view (P.view self.new.inner) self.new.halved.items self.new.stops.counts self.new.arms.counts)
+            result }
         ensures armed { armed_of self.new.fuses ≡ burnt (armed_of self.old.fuses) by.0 true }
         ensures halts { to_halt (armed_of self.old.fuses) by.0 true ≡ true → result ≢ Done }
-        ensures passes { to_halt (armed_of self.old.fuses) by.0 true ≡ false → self.new.stops.counts ≡ self.old.stops.counts }
-        ensures half { P.tells → to_halt (armed_of self.old.fuses) by.0 true ≡ true → (r : Act) × Prints by.0 (take (length line.now / 2) line.now) (P.view self.old.inner) (P.view self.new.inner) r }
+        ensures passes { to_halt (armed_of self.old.fuses) by.0 true ≡ false
+            → self.new.stops.counts ≡ self.old.stops.counts }
+        ensures half { P.tells → to_halt (armed_of self.old.fuses) by.0 true ≡ true → (r : Act)
+            × Prints by.0 (take (length line.now / 2) line.now) (P.view self.old.inner) (P.view self.new.inner) r }
     {
         if self.fuses.fire(by, true) {
             let moment = self.inner.now();
@@ -212,12 +251,21 @@ impl<P: Plant + Drop> Plant for Fused<P> {
     }
 
     fn give(&mut self, by: MemberId, wire: u8, bytes: &[u8]) -> Act
-        ensures acts { Acts by.0 (Wire wire) (fused_view (P.view self.old.inner) self.old.halved.items self.old.stops.counts self.old.arms.counts) (fused_view (P.view self.new.inner) self.new.halved.items self.new.stops.counts self.new.arms.counts) result }
-        ensures content { P.tells → GivesOn wire by.0 bytes.now (fused_view (P.view self.old.inner) self.old.halved.items self.old.stops.counts self.old.arms.counts) (fused_view (P.view self.new.inner) self.new.halved.items self.new.stops.counts self.new.arms.counts) result }
+        ensures acts { Acts by.0 (Wire wire)
+            (fused_view (P.view self.old.inner) self.old.halved.items self.old.stops.counts self.old.arms.counts)
+            (fused_view (P.view self.new.inner) self.new.halved.items self.new.stops.counts self.new.arms.counts)
+            result }
+        ensures content { P.tells → GivesOn wire by.0 bytes.now
+            (fused_view (P.view self.old.inner) self.old.halved.items self.old.stops.counts self.old.arms.counts)
+            (fused_view (P.view self.new.inner) self.new.halved.items self.new.stops.counts self.new.arms.counts)
+            result }
         ensures armed { armed_of self.new.fuses ≡ burnt (armed_of self.old.fuses) by.0 false }
         ensures halts { to_halt (armed_of self.old.fuses) by.0 false ≡ true → result ≢ Done }
-        ensures passes { to_halt (armed_of self.old.fuses) by.0 false ≡ false → self.new.stops.counts ≡ self.old.stops.counts }
-        ensures half { P.tells → to_halt (armed_of self.old.fuses) by.0 false ≡ true → (r : Act) × GivesOn wire by.0 (take (length bytes.now / 2) bytes.now) (P.view self.old.inner) (P.view self.new.inner) r }
+        ensures passes { to_halt (armed_of self.old.fuses) by.0 false ≡ false
+            → self.new.stops.counts ≡ self.old.stops.counts }
+        ensures half { P.tells → to_halt (armed_of self.old.fuses) by.0 false ≡ true → (r : Act)
+            × GivesOn wire by.0 (take (length bytes.now / 2) bytes.now) (P.view self.old.inner) (P.view self.new.inner)
+            r }
     {
         if self.fuses.fire(by, false) {
             let passed = self.inner.give(by, wire, half(bytes));
@@ -228,12 +276,19 @@ impl<P: Plant + Drop> Plant for Fused<P> {
     }
 
     fn take(&mut self, by: MemberId, wire: u8, into: &mut [u8]) -> Took
-        ensures acts { Acts by.0 (Wire wire) (fused_view (P.view self.old.inner) self.old.halved.items self.old.stops.counts self.old.arms.counts) (fused_view (P.view self.new.inner) self.new.halved.items self.new.stops.counts self.new.arms.counts) (act_of result) }
+        ensures acts { Acts by.0 (Wire wire)
+            (fused_view (P.view self.old.inner) self.old.halved.items self.old.stops.counts self.old.arms.counts)
+            (fused_view (P.view self.new.inner) self.new.halved.items self.new.stops.counts self.new.arms.counts)
+            (act_of result) }
         ensures fits { FitsInto (length into.old) result }
-        ensures content { P.tells → Takes wire by.0 (fused_view (P.view self.old.inner) self.old.halved.items self.old.stops.counts self.old.arms.counts) (fused_view (P.view self.new.inner) self.new.halved.items self.new.stops.counts self.new.arms.counts) into.new result }
+        ensures content { P.tells → Takes wire by.0
+            (fused_view (P.view self.old.inner) self.old.halved.items self.old.stops.counts self.old.arms.counts)
+            (fused_view (P.view self.new.inner) self.new.halved.items self.new.stops.counts self.new.arms.counts)
+            into.new result }
         ensures armed { armed_of self.new.fuses ≡ burnt (armed_of self.old.fuses) by.0 false }
         ensures halts { to_halt (armed_of self.old.fuses) by.0 false ≡ true → (act_of result) ≢ Done }
-        ensures passes { to_halt (armed_of self.old.fuses) by.0 false ≡ false → self.new.stops.counts ≡ self.old.stops.counts }
+        ensures passes { to_halt (armed_of self.old.fuses) by.0 false ≡ false
+            → self.new.stops.counts ≡ self.old.stops.counts }
     {
         if self.fuses.fire(by, false) {
             let passed = act_taken(self.inner.take(by, wire, &mut []));
@@ -244,7 +299,9 @@ impl<P: Plant + Drop> Plant for Fused<P> {
     }
 
     fn arm(&mut self, member: MemberId, fuse: Fuse, n: u32)
-        ensures arms { Arms member.0 (fused_view (P.view self.old.inner) self.old.halved.items self.old.stops.counts self.old.arms.counts) (fused_view (P.view self.new.inner) self.new.halved.items self.new.stops.counts self.new.arms.counts) }
+        ensures arms { Arms member.0 (fused_view (P.view self.old.inner) self.old.halved.items self.old.stops.counts
+            self.old.arms.counts) (fused_view (P.view self.new.inner) self.new.halved.items self.new.stops.counts
+            self.new.arms.counts) }
         ensures armed { armed_of self.new.fuses ≡ with_fuse (armed_of self.old.fuses) member.0 fuse n }
         ensures inner { P.view self.new.inner ≡ P.view self.old.inner }
     {
@@ -253,8 +310,13 @@ impl<P: Plant + Drop> Plant for Fused<P> {
     }
 
     fn renew(&mut self, dev: Dev) -> Act
-        ensures acts { Renews dev (fused_view (P.view self.old.inner) self.old.halved.items self.old.stops.counts self.old.arms.counts) (fused_view (P.view self.new.inner) self.new.halved.items self.new.stops.counts self.new.arms.counts) result }
-        ensures content { P.tells → RenewsThere dev (fused_view (P.view self.old.inner) self.old.halved.items self.old.stops.counts self.old.arms.counts) (fused_view (P.view self.new.inner) self.new.halved.items self.new.stops.counts self.new.arms.counts) result }
+        ensures acts { Renews dev (fused_view (P.view self.old.inner) self.old.halved.items self.old.stops.counts
+            self.old.arms.counts) (fused_view (P.view self.new.inner) self.new.halved.items self.new.stops.counts
+            self.new.arms.counts) result }
+        ensures content { P.tells → RenewsThere dev
+            (fused_view (P.view self.old.inner) self.old.halved.items self.old.stops.counts self.old.arms.counts)
+            (fused_view (P.view self.new.inner) self.new.halved.items self.new.stops.counts self.new.arms.counts)
+            result }
         ensures armed { armed_of self.new.fuses ≡ armed_of self.old.fuses }
     {
         self.inner.renew(dev)

@@ -20,7 +20,7 @@ impl Tally {
         Tally { counts: [0; 256] }
     }
 
-    // One more of a member.
+    // Counts one more act of a member.
     pub(crate) fn count(&mut self, member: MemberId)
         ensures { self.new.counts ≡ counted self.old.counts member.0 }
     {

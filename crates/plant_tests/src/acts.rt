@@ -15,7 +15,8 @@ const SIZES: Sizes = Sizes {
 /// An act that no line comes to.
 const NEVER: u64 = u64::MAX;
 
-/// A plant that was never written, with room for so many acts and bytes, and with one act that fails and four that halt.
+/// A plant that was never written, with room for so many acts and bytes, and with one act that fails and four that
+/// halt.
 fn plant(alloc: Global, line: &str) -> Result<MemPlant, NoMemory> {
     let number = |at: usize| number_at(line, at).unwrap_or(NEVER);
     let keep = |at: usize| (number_at(line, at).unwrap_or(0) % 4096) as u32;

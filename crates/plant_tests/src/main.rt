@@ -1,5 +1,6 @@
-//! Acts on a plant in memory, as the lines of standard input ask for them: each line is told again, and behind it how the act ended or
-//! what stands there. Checkpoints have four bytes and the one volume eight; a zero is told as a point and a byte of ones as #.
+//! Acts on a plant in memory, as the lines of standard input ask for them: each line is told again, and behind it how
+//! the act ended or what stands there. Checkpoints have four bytes and the one volume eight; a zero is told as a point
+//! and a byte of ones as #.
 #![tactic(auto)]
 
 mod acts;

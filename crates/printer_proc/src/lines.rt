@@ -6,8 +6,8 @@ use mas_types::words::{push_digits, push_output_key, push_text};
 use mas_types::{JobNo, Lines, List, NoMemory, OutNo};
 use std::alloc::Global;
 
-/// A line of an output on paper: the job identifier, a point and the index in two digits, a blank, the line's number in eight
-/// digits, a blank, and its text. Lines are counted from 1 over all copies, which follow one another.
+/// A line of an output on paper: the job identifier, a point and the index in two digits, a blank, the line's number in
+/// eight digits, a blank, and its text. Lines are counted from 1 over all copies, which follow one another.
 pub fn print_line(
     alloc: Global,
     job: JobNo,

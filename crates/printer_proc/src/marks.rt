@@ -1,8 +1,8 @@
 //! Marks.
 ghost use Rattle.std.specs.Prelude.{◌≡◌, ◌+◌, ◌-◌, ◌<◌, ◌≤◌, min};
 
-/// The first and the last line that are printed next, counted from 1: from the one after the mark on, as many as the printer's
-/// limit, but none above the total.
+/// The first and the last line that are printed next, counted from 1: from the one after the mark on, as many as the
+/// printer's limit, but none above the total.
 pub fn next_chunk(mark: u32, total: u32, limit: u16) -> (u32, u32)
     requires below { mark < total }
     requires some { 1 ≤ limit }

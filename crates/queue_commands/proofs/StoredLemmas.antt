@@ -54,7 +54,7 @@ use Rattle.queue_laws.proofs.SoundRemove.{All-without_first}
 use Rattle.queue_commands.specs.Given.{IsGiver, IsInRange}
 use Rattle.queue_commands.proofs.BroughtLemmas.{deck_owners, output_owners, All-at_end, few_at_end, either_small, All-change_at}
 
--- a job, an output and a queue that can be spelled, but for their orders and texts
+-- a job, an output and a queue that can be spelled, except their orders and texts
 abbrev pub IsStoredJob : Job → Type 0
 IsStoredJob j = IsJobRec (jobs.rec_of j)
 

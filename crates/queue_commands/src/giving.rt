@@ -19,13 +19,14 @@ use queue_effect::apply;
 use queue_tables::law_of_told_queues;
 use std::alloc::Global;
 
-/// Gives a command of a member, or Restart by the operator: for each queue that the tables tell, whatever its texts are, they tell
-/// what the command leaves of it, and the reply is the command's.
-/// The tables can be spelled by pages as before, and where they told a sound queue, and the command's giver may give it, they still do. A refused command, or one for which there is no memory, changes nothing. Where no two jobs or outputs had one order, none have;
-/// so tables without a fault stay so.
+/// Gives a command of a member, or Restart by the operator: for each queue that the tables tell, whatever its texts
+/// are, they tell what the command leaves of it, and the reply is the command's. The tables can be spelled by pages as
+/// before, and where they told a sound queue, and the command's giver may give it, they still do. A refused command, or
+/// one for which there is no memory, changes nothing. Where no two jobs or outputs had one order, none have; so tables
+/// without a fault stay so.
 ///
-/// The orders of jobs and outputs are below the next one, which is below 2^63 - 32, and what is busy is so at nobody or at one of
-/// at most eight members. What the command carries is within the limits.
+/// The orders of jobs and outputs are below the next one, which is below 2^63 - 32, and what is busy is so at nobody or
+/// at one of at most eight members. What the command carries is within the limits.
 pub fn give(
     alloc: Global,
     tables: &mut Tables,
@@ -38,8 +39,11 @@ pub fn give(
     requires giver { IsGiver by command.now }
     requires command { IsFit command.now }
     ensures plays { IfOk result (λ reply. Plays tables.old tables.new (λ Q. row_of Q by command.now) reply) }
-    ensures sound { OnOk result ((s : TellSound tables.old) → may_give s.queue by command.now ≡ true → TellSound tables.new) }
-    ensures faultless { OnOk result (AreSound tables.old → (s : TellSound tables.old) → may_give s.queue by command.now ≡ true → AreSound tables.new) }
+    ensures sound { OnOk result ((s : TellSound tables.old) → may_give s.queue by command.now ≡ true
+        → TellSound tables.new) }
+    ensures faultless { OnOk result
+        (AreSound tables.old → (s : TellSound tables.old) → may_give s.queue by command.now ≡ true
+        → AreSound tables.new) }
     ensures named { IfOk result IsReplyNamed }
     ensures refused { IfOk result (λ reply. IfRefused reply (tables.new ≡ tables.old)) }
     ensures no_memory { OnErr result (tables.new ≡ tables.old) }

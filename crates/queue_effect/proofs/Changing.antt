@@ -68,7 +68,7 @@ job_entered t Q m n text at x stands has =
       last = stands.last;
     }
 
--- where none is found none is changed
+-- where a test finds no item of a list none is changed
 pub change_none : {A : Type 0} (test : A → Bool) (f : A → A) (xs : List A) → find test xs ≡ None → change_first test f xs ≡ xs
 change_none test f [] none = refl
 change_none test f (x ∷ xs) none =

@@ -33,7 +33,7 @@ used-append (Some x ∷ xs) ys = ap (λ zs. x ∷ zs) (used-append xs ys)
 pub used_more : {X : Type 0} (xs : List (Option X)) (i : ℕ) (d : Option X) → i < length xs → used (take (i + 1) xs) ≡ used (take i xs) ++ used (get_or xs i d ∷ [])
 used_more xs i d inside = rw (take_more xs i d inside) (used-append (take i xs) (get_or xs i d ∷ []))
 
--- and those in it that a test picks are counted
+-- how many records a test picks, with one more slot
 pub counted_more : {X : Type 0} (p : X → Bool) (xs : List (Option X)) (i : ℕ) (d : Option X) → i < length xs
     → count_by p (used (take (i + 1) xs)) ≡ count_by p (used (take i xs)) + count_by p (used (get_or xs i d ∷ []))
 counted_more p xs i d inside = rw (used_more xs i d inside) (sum_by-append (λ y. if p y then 1 else 0) (used (take i xs)) (used (get_or xs i d ∷ [])))

@@ -51,7 +51,7 @@ module _ (phase : Phase) (slots : List (Option JobRec)) (answer : Bool) (tells :
       find_none-alike unordered rec_of (λ r. in_phase phase r.phase && same_member r.busy m) (listed order_of slots) js are
       (find-All_false (λ r. in_phase phase r.phase && same_member r.busy m) (listed order_of slots) (none_of (λ r. same_member r.busy m)))
 
--- then nobody is at work in the phase
+-- where no slot tells a job in the phase, nobody is at work in it
 pub none_at_work : (phase : Phase) (slots : List (Option JobRec)) (answer : Bool) → Tells phase slots (length slots) answer → answer ≡ false → (Q : Queue) → AreJobs slots Q.jobs → (m : MemberId) → None ≡ option_map (λ j. j.number) (working_at Q m (in_phase phase))
 none_at_work phase slots answer tells no_one Q are m =
     test_cases (is_somebody m) (None ≡ option_map (λ j. j.number) (working_at Q m (in_phase phase)))

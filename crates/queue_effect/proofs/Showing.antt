@@ -89,7 +89,7 @@ pub told_outputs : (xs : List OutRec) → map outputs.rec_of (map output_of xs) 
 told_outputs [] = refl
 told_outputs (x ∷ xs) = ap (λ (rs : List OutRec). outputs.unordered x ∷ rs) (told_outputs xs)
 
--- there are outputs of which slots tell
+-- the outputs of a queue of which the slots tell
 pub some_outputs : (slots : List (Option OutRec)) → AreOutputs slots (map output_of (listed outputs.order_of slots))
 some_outputs slots = sym (told_outputs (listed outputs.order_of slots))
 

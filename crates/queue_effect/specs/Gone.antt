@@ -17,6 +17,6 @@ job_of r = job_with (λ x. Gone (record { 0 = 0 }) x.cards) r
 abbrev pub output_of : OutRec → Output
 output_of r = output_with (λ x. Gone (record { 0 = 0 }) x.lines) r
 
--- a display of one queue says what one of the other says
+-- a display of one queue says what the same display of another says
 abbrev pub SaysAs : What → Queue → Queue → Type 0
 SaysAs what a b = (done a (show_row a what)).1 ≡ (done b (show_row b what)).1

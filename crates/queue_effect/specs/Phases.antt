@@ -11,4 +11,5 @@ stands_in phase slot = option_map_or (λ r. in_phase phase r.phase) slot false
 
 -- where the answer is no, none of the first k slots has a job in the phase
 abbrev pub Tells : Phase → List (Option JobRec) → ℕ → Bool → Type 0
-Tells phase slots k answer = answer ≡ false → (j : ℕ) (y : JobRec) → j < k → slice_get slots j ≡ Some (Some y) → in_phase phase y.phase ≡ false
+Tells phase slots k answer = answer ≡ false → (j : ℕ) (y : JobRec) → j < k → slice_get slots j ≡ Some (Some y)
+    → in_phase phase y.phase ≡ false

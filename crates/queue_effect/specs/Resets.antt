@@ -9,13 +9,17 @@ use Rattle.lay_bytes.specs.declared.records.OutRec.{OutRec}
 use Rattle.queue_effect.specs.declared.members.Who.{Who}
 use Rattle.queue_effect.specs.declared.members.Who.TheVariants as who
 
--- the member is one of those
+-- the member is one of those that are reset
 abbrev pub is_one_of : Who → MemberId → Bool
 is_one_of (who.One m) h = same_member h m
 is_one_of (who.Every members) h = is_somebody h && nat_le h.0 members
 
 abbrev pub job_reset : JobRec → JobRec
-job_reset r = record r { busy = nobody; phase = if r.cancelled then phase.Purge else phase_reset r.fields.restart r.phase }
+job_reset r = record r {
+  busy = nobody;
+  phase = if r.cancelled then phase.Purge else phase_reset r.fields.restart
+      r.phase;
+}
 
 abbrev pub output_reset : OutRec → OutRec
 output_reset r = record r { busy = nobody }

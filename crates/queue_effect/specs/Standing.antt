@@ -17,11 +17,11 @@ pub record Leaves (t : Tables) (Q : Queue) (row : Row) (r : Reply) : Type 0 wher
   pub stands : Tell t (done Q row).0
   pub reply : (done Q row).1 ≡ r
 
--- so for each queue that the tables told
+-- the new tables tell what the row leaves of each queue that the old ones told, and the reply is the row's
 abbrev pub Plays : Tables → Tables → (Queue → Row) → Reply → Type 0
 Plays old new row r = (Q : Queue) → Tell old Q → Leaves new Q (row Q) r
 
--- it holds where the reply is a refusal
+-- what is said holds if the reply is a refusal
 abbrev pub IfRefused : Reply → Type 0 → Type 0
 IfRefused (reply.No why) A = A
 IfRefused _ A = Unit {0}
@@ -31,12 +31,12 @@ pub record IsFitJob (order : ℕ) (j : JobRec) : Type 0 where
   pub below : j.order < order
   pub busy : j.busy.0 ≤ members_most
 
--- the same of an output
+-- an output's order is below the next one, and nobody or a member that there may be is at work on it
 pub record IsFitOutput (order : ℕ) (o : OutRec) : Type 0 where
   pub below : o.order < order
   pub busy : o.busy.0 ≤ members_most
 
--- the tables have their shape, and their jobs and outputs are such
+-- the tables have their shape, and the orders and members of their jobs and outputs fit
 pub record AreFit (t : Tables) : Type 0 where
   pub shape : HasShape t
   pub jobs : All (IsFitJob t.order) (used t.jobs)

@@ -20,4 +20,5 @@ in_stage stage.Run = runs
 
 -- the refusals of a job that has to be in a phase and busy at the member
 abbrev pub not_at_work : Queue → MemberId → JobNo → (Phase → Bool) → List (Option Refusal)
-not_at_work Q m n right = none_such refusal.NoJob (job_at Q n) ∷ wrong_phase right (job_at Q n) ∷ job_not_at m (job_at Q n) ∷ []
+not_at_work Q m n right = none_such refusal.NoJob (job_at Q n) ∷ wrong_phase right (job_at Q n)
+    ∷ job_not_at m (job_at Q n) ∷ []

@@ -19,11 +19,12 @@ use mas_types::{Command, MemberId, NoMemory, Reply};
 use std::alloc::Global;
 
 /// Gives a command of a member: for each queue that the tables tell, they tell what the command leaves of it, and the
-/// reply is the command's. A refused command changes nothing, and neither does one for which there is no memory. Where no two jobs or
-/// outputs had one order, none have.
+/// reply is the command's. A refused command changes nothing, and neither does one for which there is no memory. Where
+/// no two jobs or outputs had one order, none have.
 ///
-/// The tables have their shape, their orders are below the next one, which is below 2^63 - 32, and what is busy is so at nobody
-/// or at one of at most eight members, as is the member itself. What the command carries is within the limits.
+/// The tables have their shape, their orders are below the next one, which is below 2^63 - 32, and what is busy is so
+/// at nobody or at one of at most eight members, as is the member itself. What the command carries is within the
+/// limits.
 pub fn apply(
     alloc: Global,
     tables: &mut Tables,

@@ -121,7 +121,16 @@ fn listed_outputs(alloc: Global, slots: &[Option<OutRec>]) -> Result<List<Output
 
 /// A queue of these jobs and outputs.
 fn jobs_part(alloc: Global, tables: &Tables, jobs: List<Job>, outputs: List<Output>) -> Queue
-    ensures { result ≡ record { config = tables.now.config; jobs = jobs; outputs = outputs; owners = []; members = []; routes = []; lines = []; last = tables.now.last } }
+    ensures { result ≡ record {
+      config = tables.now.config;
+      jobs = jobs;
+      outputs = outputs;
+      owners = [];
+      members = [];
+      routes = [];
+      lines = [];
+      last = tables.now.last;
+    } }
 {
     Queue {
         config: tables.config,
@@ -137,7 +146,16 @@ fn jobs_part(alloc: Global, tables: &Tables, jobs: List<Job>, outputs: List<Outp
 
 /// A queue of these groups and settings.
 fn groups_part(alloc: Global, tables: &Tables, owners: List<Owner>, members: List<Setting>) -> Queue
-    ensures { result ≡ record { config = tables.now.config; jobs = []; outputs = []; owners = owners; members = members; routes = []; lines = []; last = tables.now.last } }
+    ensures { result ≡ record {
+      config = tables.now.config;
+      jobs = [];
+      outputs = [];
+      owners = owners;
+      members = members;
+      routes = [];
+      lines = [];
+      last = tables.now.last;
+    } }
 {
     Queue {
         config: tables.config,

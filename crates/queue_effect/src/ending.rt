@@ -26,7 +26,8 @@ use spool_text::groups_needed;
 use track_groups::{law_of_giving, member_count};
 
 fn ended_record(job: &JobRec) -> JobRec
-    ensures value { result ≡ record job.now { phase = if job.now.cancelled then Phase.Purge else Phase.Output; busy = nobody } }
+    ensures value { result ≡ record job.now
+        { phase = if job.now.cancelled then Phase.Purge else Phase.Output; busy = nobody } }
     ensures fit { (n : ℕ) → IsFitJob n job.now → IsFitJob n result }
     ensures same_order { result.order ≡ job.now.order }
 {
@@ -66,8 +67,13 @@ fn add_output(tables: &mut Tables, by: MemberId, job: JobNo, index: OutNo, outpu
     requires slot { length (used tables.old.outputs) < length tables.old.outputs }
     requires groups { groups_needed_lem output.now.text ≤ member_count_lem by tables.old.owners }
     requires order { tables.old.order < 2 ^ 63 }
-    ensures stands { (Q : Queue) → Tell tables.old Q → Tell tables.new (record Q { outputs = Q.outputs ++ new_outputs job index.0 (output.now ∷ []); owners = given by (output_places job index (groups_needed_lem output.now.text)) Q.owners }) }
-    ensures left { member_count_lem by tables.new.owners + groups_needed_lem output.now.text ≡ member_count_lem by tables.old.owners }
+    ensures stands { (Q : Queue) → Tell tables.old Q
+        → Tell tables.new (record Q {
+          outputs = Q.outputs ++ new_outputs job index.0 (output.now ∷ []);
+          owners = given by (output_places job index (groups_needed_lem output.now.text)) Q.owners;
+        }) }
+    ensures left { member_count_lem by tables.new.owners + groups_needed_lem output.now.text
+        ≡ member_count_lem by tables.old.owners }
     ensures slots { length tables.new.outputs ≡ length tables.old.outputs }
     ensures used { length (used tables.new.outputs) ≡ length (used tables.old.outputs) + 1 }
     ensures order { tables.new.order ≡ tables.old.order + 1 }
@@ -95,7 +101,11 @@ fn add_outputs(tables: &mut Tables, by: MemberId, job: JobNo, first: u8, outputs
     requires slots { length (used tables.old.outputs) + length outputs.now ≤ length tables.old.outputs }
     requires groups { groups_of_outputs outputs.now ≤ member_count_lem by tables.old.owners }
     requires order { tables.old.order + length outputs.now ≤ 2 ^ 63 }
-    ensures stands { (Q : Queue) → Tell tables.old Q → Tell tables.new (record Q { outputs = Q.outputs ++ new_outputs job first outputs.now; owners = given by (places_of_outputs job first outputs.now) Q.owners }) }
+    ensures stands { (Q : Queue) → Tell tables.old Q
+        → Tell tables.new (record Q {
+          outputs = Q.outputs ++ new_outputs job first outputs.now;
+          owners = given by (places_of_outputs job first outputs.now) Q.owners;
+        }) }
     ensures order { tables.new.order ≡ tables.old.order + length outputs.now }
     ensures fits { AreFit tables.new }
     ensures orders { HaveOrders tables.old → HaveOrders tables.new }
@@ -123,7 +133,9 @@ fn end_with(
     requires slots { length (used tables.old.outputs) + length outputs.now ≤ length tables.old.outputs }
     requires groups { groups_of_outputs outputs.now ≤ member_count_lem by tables.old.owners }
     requires order { tables.old.order + length outputs.now ≤ 2 ^ 63 }
-    ensures stands { (Q : Queue) → Tell tables.old Q → HasJob (has_number job) tables.old.jobs Q.jobs found.now.at found.now.item → Tell tables.new (with_outputs by job outputs.now (change_job job ended Q)) }
+    ensures stands { (Q : Queue) → Tell tables.old Q
+        → HasJob (has_number job) tables.old.jobs Q.jobs found.now.at found.now.item
+        → Tell tables.new (with_outputs by job outputs.now (change_job job ended Q)) }
     ensures order { tables.new.order ≡ tables.old.order + length outputs.now }
     ensures fits { AreFit tables.new }
     ensures orders { HaveOrders tables.old → HaveOrders tables.new }

@@ -61,7 +61,8 @@ pub fn give_groups(tables: &mut Tables, by: MemberId, thing: Thing, count: u32)
 pub fn hand_out(tables: &mut Tables, by: MemberId, thing: Thing, count: u32)
     requires few { count ≤ 65536 }
     requires room { count ≤ member_count by tables.old.owners }
-    ensures value { tables.new ≡ record tables.old { owners = handed_out by (first_places thing count) tables.old.owners } }
+    ensures value { tables.new ≡ record tables.old
+        { owners = handed_out by (first_places thing count) tables.old.owners } }
     ensures fit { AreFit tables.old → AreFit tables.new }
     ensures orders { HaveOrders tables.old → HaveOrders tables.new }
 {
@@ -88,7 +89,8 @@ fn free_if(test: bool, owner: Owner) -> Owner
 }
 
 fn free_owners(owners: &mut [Owner], outputs: &[Option<OutRec>], job: JobNo)
-    ensures value { (os : List Output) → AreOutputs outputs.now os → owners.new ≡ freed (is_of_any (filter (is_of job) os)) owners.old }
+    ensures value { (os : List Output) → AreOutputs outputs.now os
+        → owners.new ≡ freed (is_of_any (filter (is_of job) os)) owners.old }
     ensures length { length owners.new ≡ length owners.old }
 {
     for owner in owners.iter_mut() {
@@ -98,7 +100,8 @@ fn free_owners(owners: &mut [Owner], outputs: &[Option<OutRec>], job: JobNo)
 
 /// The groups of the outputs of a job become free.
 pub fn free_prints(tables: &mut Tables, job: JobNo)
-    ensures value { (os : List Output) → AreOutputs tables.old.outputs os → tables.new ≡ record tables.old { owners = freed (is_of_any (filter (is_of job) os)) tables.old.owners } }
+    ensures value { (os : List Output) → AreOutputs tables.old.outputs os
+        → tables.new ≡ record tables.old { owners = freed (is_of_any (filter (is_of job) os)) tables.old.owners } }
     ensures fit { AreFit tables.old → AreFit tables.new }
     ensures orders { HaveOrders tables.old → HaveOrders tables.new }
     ensures jobs { tables.new.jobs ≡ tables.old.jobs }

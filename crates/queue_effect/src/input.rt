@@ -121,7 +121,8 @@ pub fn drop_job(tables: &mut Tables, by: MemberId, job: JobNo) -> Reply
 }
 
 fn phase_entered(node: &Name8, job: &JobRec) -> Phase
-    ensures { result ≡ (if job.now.cancelled then Phase.Purge else (if same_name_lem job.now.fields.node node.now then Phase.Convert else Phase.Xmit)) }
+    ensures { result ≡ (if job.now.cancelled then Phase.Purge else
+        (if same_name_lem job.now.fields.node node.now then Phase.Convert else Phase.Xmit)) }
 {
     if job.cancelled {
         Phase::Purge
@@ -134,7 +135,13 @@ fn phase_entered(node: &Name8, job: &JobRec) -> Phase
 
 fn entered_record(node: &Name8, job: &JobRec, text: &Lines) -> JobRec
     requires { AreLines text.now }
-    ensures value { result ≡ record job.now { phase = if job.now.cancelled then Phase.Purge else (if same_name_lem job.now.fields.node node.now then Phase.Convert else Phase.Xmit); busy = nobody; cards = length text.now } }
+    ensures value { result ≡ record job.now {
+      phase = if job.now.cancelled then Phase.Purge else
+          (if same_name_lem job.now.fields.node node.now then Phase.Convert else Phase.Xmit);
+      busy = nobody;
+      cards
+          = length text.now;
+    } }
     ensures fit { (n : ℕ) → IsFitJob n job.now → IsFitJob n result }
     ensures same_order { result.order ≡ job.now.order }
 {
@@ -156,10 +163,13 @@ pub fn entering(
     requires text { AreLines text.now }
     requires fit { AreFit tables.now }
     ensures here { IfOk result (λ f. slice_get tables.now.jobs f.at ≡ Some (Some f.item)) }
-    ensures some { IfOk result (λ f. (Q : Queue) → Tell tables.now Q → HasJob (has_number job) tables.now.jobs Q.jobs f.at f.item) }
+    ensures some { IfOk result (λ f. (Q : Queue) → Tell tables.now Q
+        → HasJob (has_number job) tables.now.jobs Q.jobs f.at f.item) }
     ensures room { OnOk result (groups_needed_lem text.now ≤ member_count_lem by tables.now.owners) }
-    ensures allowed { OnOk result ((Q : Queue) → Tell tables.now Q → first_some (not_entered Q by job text.now) ≡ None) }
-    ensures refused { IfErr result (λ why. (Q : Queue) → Tell tables.now Q → first_some (not_entered Q by job text.now) ≡ Some why) }
+    ensures allowed { OnOk result ((Q : Queue) → Tell tables.now Q
+        → first_some (not_entered Q by job text.now) ≡ None) }
+    ensures refused { IfErr result
+        (λ why. (Q : Queue) → Tell tables.now Q → first_some (not_entered Q by job text.now) ≡ Some why) }
 {
     let found = job_at_work(tables, by, job, Stage::Input)?;
     if member_count(tables.owners.as_slice(), by) < groups_needed(text) {
@@ -173,7 +183,9 @@ pub fn enter_job(tables: &mut Tables, found: &Found<JobRec>, by: MemberId, job: 
     requires text { AreLines text.now }
     requires here { slice_get tables.old.jobs found.now.at ≡ Some (Some found.now.item) }
     requires room { groups_needed_lem text.now ≤ member_count_lem by tables.old.owners }
-    ensures stands { (Q : Queue) → Tell tables.old Q → HasJob (has_number job) tables.old.jobs Q.jobs found.now.at found.now.item → Tell tables.new (entered by job text.now Q) }
+    ensures stands { (Q : Queue) → Tell tables.old Q
+        → HasJob (has_number job) tables.old.jobs Q.jobs found.now.at found.now.item
+        → Tell tables.new (entered by job text.now Q) }
     ensures fit { AreFit tables.old → AreFit tables.new }
     ensures orders { HaveOrders tables.old → HaveOrders tables.new }
     ensures order { tables.new.order ≡ tables.old.order }

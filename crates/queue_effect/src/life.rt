@@ -23,7 +23,8 @@ use queue_slots::Found;
 
 fn for_convert(tables: &Tables) -> Option<Found<JobRec>>
     ensures here { IfSome result (λ f. slice_get tables.now.jobs f.at ≡ Some (Some f.item)) }
-    ensures some { IfSome result (λ f. (Q : Queue) → Tell tables.now Q → HasJob (is_for_convert Q) tables.now.jobs Q.jobs f.at f.item) }
+    ensures some { IfSome result (λ f. (Q : Queue) → Tell tables.now Q
+        → HasJob (is_for_convert Q) tables.now.jobs Q.jobs f.at f.item) }
     ensures none { IfNone result ((Q : Queue) → Tell tables.now Q → for_convert_lem Q ≡ None) }
 {
     find_convert(tables.jobs.as_slice())
@@ -31,7 +32,8 @@ fn for_convert(tables: &Tables) -> Option<Found<JobRec>>
 
 fn for_execute(tables: &Tables, by: MemberId) -> Option<Found<JobRec>>
     ensures here { IfSome result (λ f. slice_get tables.now.jobs f.at ≡ Some (Some f.item)) }
-    ensures some { IfSome result (λ f. (Q : Queue) → Tell tables.now Q → HasJob (is_for_execute Q by) tables.now.jobs Q.jobs f.at f.item) }
+    ensures some { IfSome result (λ f. (Q : Queue) → Tell tables.now Q
+        → HasJob (is_for_execute Q by) tables.now.jobs Q.jobs f.at f.item) }
     ensures none { IfNone result ((Q : Queue) → Tell tables.now Q → for_execute_lem Q by ≡ None) }
 {
     match setting(tables, by) {
@@ -42,7 +44,8 @@ fn for_execute(tables: &Tables, by: MemberId) -> Option<Found<JobRec>>
 
 fn first_job_in(tables: &Tables, phase: Phase) -> Option<Found<JobRec>>
     ensures here { IfSome result (λ f. slice_get tables.now.jobs f.at ≡ Some (Some f.item)) }
-    ensures some { IfSome result (λ f. (Q : Queue) → Tell tables.now Q → HasJob (is_in (in_phase phase)) tables.now.jobs Q.jobs f.at f.item) }
+    ensures some { IfSome result (λ f. (Q : Queue) → Tell tables.now Q
+        → HasJob (is_in (in_phase phase)) tables.now.jobs Q.jobs f.at f.item) }
     ensures none { IfNone result ((Q : Queue) → Tell tables.now Q → first_in_lem (in_phase phase) Q ≡ None) }
 {
     find_in(tables.jobs.as_slice(), phase)
@@ -98,7 +101,8 @@ pub fn take_exec(tables: &mut Tables, by: MemberId) -> Reply
 }
 
 fn outputs_phase(tables: &Tables, job: JobNo) -> Phase
-    ensures { (Q : Queue) → Tell tables.now Q → result ≡ (if has_output_lem job Q then Phase.Hardcopy else Phase.Purge) }
+    ensures { (Q : Queue) → Tell tables.now Q
+        → result ≡ (if has_output_lem job Q then Phase.Hardcopy else Phase.Purge) }
 {
     if has_output(tables.outputs.as_slice(), job) {
         Phase::Hardcopy
@@ -140,7 +144,8 @@ pub fn purge(tables: &mut Tables) -> Reply
 }
 
 fn converted_record(job: &JobRec) -> JobRec
-    ensures value { result ≡ record job.now { phase = if job.now.cancelled then Phase.Purge else Phase.Execute; busy = nobody } }
+    ensures value { result ≡ record job.now
+        { phase = if job.now.cancelled then Phase.Purge else Phase.Execute; busy = nobody } }
     ensures fit { (n : ℕ) → IsFitJob n job.now → IsFitJob n result }
     ensures same_order { result.order ≡ job.now.order }
 {

@@ -41,7 +41,8 @@ pub fn wire(tables: &Tables, line: u8) -> Option<LineCount>
 /// The job with a number.
 pub fn job_at(tables: &Tables, job: JobNo) -> Option<Found<JobRec>>
     ensures here { IfSome result (λ f. slice_get tables.now.jobs f.at ≡ Some (Some f.item)) }
-    ensures some { IfSome result (λ f. (Q : Queue) → Tell tables.now Q → HasJob (has_number job) tables.now.jobs Q.jobs f.at f.item) }
+    ensures some { IfSome result (λ f. (Q : Queue) → Tell tables.now Q
+        → HasJob (has_number job) tables.now.jobs Q.jobs f.at f.item) }
     ensures none { IfNone result ((Q : Queue) → Tell tables.now Q → job_at_lem Q job ≡ None) }
 {
     find_job(tables.jobs.as_slice(), job)
@@ -50,7 +51,8 @@ pub fn job_at(tables: &Tables, job: JobNo) -> Option<Found<JobRec>>
 /// The output of a job with an index.
 pub fn output_at(tables: &Tables, job: JobNo, index: OutNo) -> Option<Found<OutRec>>
     ensures here { IfSome result (λ f. slice_get tables.now.outputs f.at ≡ Some (Some f.item)) }
-    ensures some { IfSome result (λ f. (Q : Queue) → Tell tables.now Q → HasOutput (has_key job index) tables.now.outputs Q.outputs f.at f.item) }
+    ensures some { IfSome result (λ f. (Q : Queue) → Tell tables.now Q
+        → HasOutput (has_key job index) tables.now.outputs Q.outputs f.at f.item) }
     ensures none { IfNone result ((Q : Queue) → Tell tables.now Q → output_at_lem Q job index ≡ None) }
 {
     find_output(tables.outputs.as_slice(), job, index)
@@ -59,7 +61,8 @@ pub fn output_at(tables: &Tables, job: JobNo, index: OutNo) -> Option<Found<OutR
 /// The output that is busy at a member; none at nobody.
 pub fn printing_at(tables: &Tables, by: MemberId) -> Option<Found<OutRec>>
     ensures here { IfSome result (λ f. slice_get tables.now.outputs f.at ≡ Some (Some f.item)) }
-    ensures some { IfSome result (λ f. (Q : Queue) → Tell tables.now Q → HasOutput (prints_at by) tables.now.outputs Q.outputs f.at f.item) }
+    ensures some { IfSome result (λ f. (Q : Queue) → Tell tables.now Q
+        → HasOutput (prints_at by) tables.now.outputs Q.outputs f.at f.item) }
     ensures somebody { IfSome result (λ f. is_somebody by ≡ true) }
     ensures none { IfNone result ((Q : Queue) → Tell tables.now Q → printing_at_lem Q by ≡ None) }
 {
@@ -77,7 +80,8 @@ fn is_sent(counts: &[LineCount], job: JobNo) -> bool
 
 /// Whether a line sends the job.
 pub fn is_current(counts: &[LineCount], job: &JobRec) -> bool
-    ensures { result ≡ (in_xmit job.now.phase && list_any (λ count. same_number count.current job.now.number) counts.now) }
+    ensures { result ≡ (in_xmit job.now.phase && list_any (λ count. same_number count.current job.now.number)
+        counts.now) }
 {
     matches!(job.phase, Phase::Xmit) && is_sent(counts, job.number)
 }
@@ -86,8 +90,10 @@ pub fn is_current(counts: &[LineCount], job: &JobRec) -> bool
 pub fn put_job(tables: &mut Tables, at: usize, job: JobRec)
     requires { at < length tables.old.jobs }
     ensures value { tables.new ≡ record tables.old { jobs = slice_set tables.old.jobs at (Some job) } }
-    ensures fit { (x : JobRec) → slice_get tables.old.jobs at ≡ Some (Some x) → (IsFitJob tables.old.order x → IsFitJob tables.old.order job) → AreFit tables.old → AreFit tables.new }
-    ensures orders { (x : JobRec) → slice_get tables.old.jobs at ≡ Some (Some x) → job.order ≡ x.order → HaveOrders tables.old → HaveOrders tables.new }
+    ensures fit { (x : JobRec) → slice_get tables.old.jobs at ≡ Some (Some x)
+        → (IsFitJob tables.old.order x → IsFitJob tables.old.order job) → AreFit tables.old → AreFit tables.new }
+    ensures orders { (x : JobRec) → slice_get tables.old.jobs at ≡ Some (Some x) → job.order ≡ x.order
+        → HaveOrders tables.old → HaveOrders tables.new }
 {
     *tables.jobs.item_mut(at) = Some(job);
 }
@@ -106,8 +112,11 @@ pub fn take_job(tables: &mut Tables, at: usize)
 pub fn put_output(tables: &mut Tables, at: usize, output: OutRec)
     requires { at < length tables.old.outputs }
     ensures value { tables.new ≡ record tables.old { outputs = slice_set tables.old.outputs at (Some output) } }
-    ensures fit { (x : OutRec) → slice_get tables.old.outputs at ≡ Some (Some x) → (IsFitOutput tables.old.order x → IsFitOutput tables.old.order output) → AreFit tables.old → AreFit tables.new }
-    ensures orders { (x : OutRec) → slice_get tables.old.outputs at ≡ Some (Some x) → output.order ≡ x.order → HaveOrders tables.old → HaveOrders tables.new }
+    ensures fit { (x : OutRec) → slice_get tables.old.outputs at ≡ Some (Some x)
+        → (IsFitOutput tables.old.order x → IsFitOutput tables.old.order output) → AreFit tables.old
+        → AreFit tables.new }
+    ensures orders { (x : OutRec) → slice_get tables.old.outputs at ≡ Some (Some x) → output.order ≡ x.order
+        → HaveOrders tables.old → HaveOrders tables.new }
 {
     *tables.outputs.item_mut(at) = Some(output);
 }

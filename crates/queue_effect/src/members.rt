@@ -19,7 +19,8 @@ use std::alloc::Global;
 
 fn put_init_at(tables: &mut Tables, at: usize, init: List<Class>)
     requires { AreClasses init }
-    ensures value { tables.new ≡ record tables.old { members = change_at at (λ s. record s { init = init }) tables.old.members } }
+    ensures value { tables.new ≡ record tables.old
+        { members = change_at at (λ s. record s { init = init }) tables.old.members } }
     ensures fit { AreFit tables.old → AreFit tables.new }
     ensures orders { HaveOrders tables.old → HaveOrders tables.new }
 {
@@ -31,7 +32,8 @@ fn put_init_at(tables: &mut Tables, at: usize, init: List<Class>)
 
 fn put_init(tables: &mut Tables, by: MemberId, init: List<Class>)
     requires { AreClasses init }
-    ensures value { tables.new ≡ record tables.old { members = setting_changed by (λ s. record s { init = init }) tables.old.members } }
+    ensures value { tables.new ≡ record tables.old
+        { members = setting_changed by (λ s. record s { init = init }) tables.old.members } }
     ensures fit { AreFit tables.old → AreFit tables.new }
     ensures orders { HaveOrders tables.old → HaveOrders tables.new }
 {
@@ -65,7 +67,8 @@ fn put_prt_at(tables: &mut Tables, at: usize, prt: List<Class>, forms: Name8, li
     requires classes { AreClasses prt }
     requires forms { IsName forms }
     requires lines { ArePrinterLines lines }
-    ensures value { tables.new ≡ record tables.old { members = change_at at (λ s. record s { prt = prt; forms = forms; lines = lines }) tables.old.members } }
+    ensures value { tables.new ≡ record tables.old
+        { members = change_at at (λ s. record s { prt = prt; forms = forms; lines = lines }) tables.old.members } }
     ensures fit { AreFit tables.old → AreFit tables.new }
     ensures orders { HaveOrders tables.old → HaveOrders tables.new }
 {
@@ -82,7 +85,9 @@ fn put_prt(tables: &mut Tables, by: MemberId, prt: List<Class>, forms: Name8, li
     requires classes { AreClasses prt }
     requires forms { IsName forms }
     requires lines { ArePrinterLines lines }
-    ensures value { tables.new ≡ record tables.old { members = setting_changed by (λ s. record s { prt = prt; forms = forms; lines = lines }) tables.old.members } }
+    ensures value { tables.new ≡ record tables.old {
+      members = setting_changed by (λ s. record s { prt = prt; forms = forms; lines = lines }) tables.old.members;
+    } }
     ensures fit { AreFit tables.old → AreFit tables.new }
     ensures orders { HaveOrders tables.old → HaveOrders tables.new }
 {
@@ -104,7 +109,8 @@ pub fn set_prt(
     requires classes { AreClasses classes.now }
     requires forms { IsName forms }
     requires lines { ArePrinterLines lines }
-    ensures plays { IfOk result (λ reply. Plays tables.old tables.new (λ Q. set_prt_row Q by classes.now forms lines) reply) }
+    ensures plays { IfOk result (λ reply.
+        Plays tables.old tables.new (λ Q. set_prt_row Q by classes.now forms lines) reply) }
     ensures refused { IfOk result (λ reply. IfRefused reply (tables.new ≡ tables.old)) }
     ensures unchanged { OnErr result (tables.new ≡ tables.old) }
     ensures fit { AreFit tables.old → AreFit tables.new }
@@ -120,7 +126,7 @@ pub fn set_prt(
 #[derive(Clone, Copy)]
 enum Who {
     One(MemberId),
-    /// Those up to the greatest one of the configuration.
+    /// The members up to the greatest one of the configuration.
     Every(u8),
 }
 
@@ -144,7 +150,8 @@ fn phase_reset(restart: bool, phase: Phase) -> Phase
 }
 
 fn phase_of(job: &JobRec) -> Phase
-    ensures { result ≡ (if job.now.cancelled then Phase.Purge else phase_reset_lem job.now.fields.restart job.now.phase) }
+    ensures { result ≡ (if job.now.cancelled then Phase.Purge else phase_reset_lem job.now.fields.restart
+        job.now.phase) }
 {
     if job.cancelled {
         return Phase::Purge;
@@ -211,7 +218,8 @@ fn reset_owner_list(owners: &mut [Owner], who: Who)
 }
 
 fn reset_jobs(tables: &mut Tables, who: Who)
-    ensures value { tables.new ≡ record tables.old { jobs = map (changed_where (λ r. is_one_of_lem who r.busy) job_reset) tables.old.jobs } }
+    ensures value { tables.new ≡ record tables.old
+        { jobs = map (changed_where (λ r. is_one_of_lem who r.busy) job_reset) tables.old.jobs } }
     ensures fit { AreFit tables.old → AreFit tables.new }
     ensures orders { HaveOrders tables.old → HaveOrders tables.new }
 {
@@ -219,7 +227,8 @@ fn reset_jobs(tables: &mut Tables, who: Who)
 }
 
 fn reset_outputs(tables: &mut Tables, who: Who)
-    ensures value { tables.new ≡ record tables.old { outputs = map (changed_where (λ r. is_one_of_lem who r.busy) output_reset) tables.old.outputs } }
+    ensures value { tables.new ≡ record tables.old
+        { outputs = map (changed_where (λ r. is_one_of_lem who r.busy) output_reset) tables.old.outputs } }
     ensures fit { AreFit tables.old → AreFit tables.new }
     ensures orders { HaveOrders tables.old → HaveOrders tables.new }
 {
@@ -227,7 +236,8 @@ fn reset_outputs(tables: &mut Tables, who: Who)
 }
 
 fn reset_owners(tables: &mut Tables, who: Who)
-    ensures value { tables.new ≡ record tables.old { owners = freed (is_held_by (is_one_of_lem who)) tables.old.owners } }
+    ensures value { tables.new ≡ record tables.old
+        { owners = freed (is_held_by (is_one_of_lem who)) tables.old.owners } }
     ensures fit { AreFit tables.old → AreFit tables.new }
     ensures orders { HaveOrders tables.old → HaveOrders tables.new }
 {

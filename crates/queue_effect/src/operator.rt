@@ -154,7 +154,8 @@ fn cancelled(job: &JobRec) -> JobRec
 }
 
 fn is_past_cancel(tables: &Tables, job: &JobRec) -> bool
-    ensures { result ≡ (in_purge job.now.phase || (in_xmit job.now.phase && list_any (λ count. same_number count.current job.now.number) tables.now.lines)) }
+    ensures { result ≡ (in_purge job.now.phase ||
+        (in_xmit job.now.phase && list_any (λ count. same_number count.current job.now.number) tables.now.lines)) }
 {
     matches!(job.phase, Phase::Purge) || is_current(tables.lines.as_slice(), job)
 }
@@ -177,7 +178,8 @@ fn empty_slots(outputs: &mut [Option<OutRec>], job: JobNo)
 }
 
 fn empty_outputs(tables: &mut Tables, job: JobNo)
-    ensures value { tables.new ≡ record tables.old { outputs = map (emptied_where (λ r. same_number r.job job)) tables.old.outputs } }
+    ensures value { tables.new ≡ record tables.old
+        { outputs = map (emptied_where (λ r. same_number r.job job)) tables.old.outputs } }
     ensures fit { AreFit tables.old → AreFit tables.new }
     ensures orders { HaveOrders tables.old → HaveOrders tables.new }
 {
@@ -198,7 +200,9 @@ fn drop_outputs(tables: &mut Tables, job: JobNo)
 
 /// The first output of the job that is busy at another than the member.
 fn printing_elsewhere(tables: &Tables, by: MemberId, job: JobNo) -> Option<Found<OutRec>>
-    ensures some { IfSome result (λ f. (Q : Queue) → Tell tables.now Q → HasOutput (λ o. is_of job o && is_somebody o.busy && not (same_member o.busy by)) tables.now.outputs Q.outputs f.at f.item) }
+    ensures some { IfSome result (λ f. (Q : Queue) → Tell tables.now Q
+        → HasOutput (λ o. is_of job o && is_somebody o.busy && not (same_member o.busy by)) tables.now.outputs Q.outputs
+        f.at f.item) }
     ensures none { IfNone result ((Q : Queue) → Tell tables.now Q → printing_elsewhere_lem Q by job ≡ None) }
 {
     find_elsewhere(tables.outputs.as_slice(), job, by)
@@ -249,7 +253,8 @@ fn released(slot: Option<OutRec>, job: JobNo) -> Option<OutRec>
 }
 
 fn release_slots(outputs: &mut [Option<OutRec>], job: JobNo)
-    ensures { outputs.new ≡ map (changed_where (λ r. same_number r.job job && r.held) (λ r. record r { held = Bool.false })) outputs.old }
+    ensures { outputs.new ≡ map (changed_where (λ r. same_number r.job job && r.held)
+        (λ r. record r { held = Bool.false })) outputs.old }
 {
     for slot in outputs.iter_mut() {
         *slot = released(*slot, job);
@@ -285,8 +290,12 @@ fn held_outputs(tables: &Tables, job: JobNo) -> u32
 }
 
 fn release_outputs(tables: &mut Tables, job: JobNo)
-    ensures value { tables.new ≡ record tables.old { outputs = map (changed_where (λ r. same_number r.job job && r.held) (λ r. record r { held = Bool.false })) tables.old.outputs } }
-    ensures stands { (Q : Queue) → Tell tables.old Q → Tell tables.new (record Q { outputs = change (is_held_of job) released_lem Q.outputs }) }
+    ensures value { tables.new ≡ record tables.old {
+      outputs = map (changed_where (λ r. same_number r.job job && r.held) (λ r. record r { held = Bool.false }))
+          tables.old.outputs;
+    } }
+    ensures stands { (Q : Queue) → Tell tables.old Q
+        → Tell tables.new (record Q { outputs = change (is_held_of job) released_lem Q.outputs }) }
     ensures fit { AreFit tables.old → AreFit tables.new }
     ensures orders { HaveOrders tables.old → HaveOrders tables.new }
 {

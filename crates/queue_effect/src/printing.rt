@@ -25,7 +25,8 @@ use queue_slots::Found;
 fn for_printer(tables: &Tables, by: MemberId) -> Option<Found<OutRec>>
     requires { by.0 ≤ members_most }
     ensures here { IfSome result (λ f. slice_get tables.now.outputs f.at ≡ Some (Some f.item)) }
-    ensures some { IfSome result (λ f. (Q : Queue) → Tell tables.now Q → HasOutput (is_for_printer Q by) tables.now.outputs Q.outputs f.at f.item) }
+    ensures some { IfSome result (λ f. (Q : Queue) → Tell tables.now Q
+        → HasOutput (is_for_printer Q by) tables.now.outputs Q.outputs f.at f.item) }
     ensures none { IfNone result ((Q : Queue) → Tell tables.now Q → for_printer_lem Q by ≡ None) }
 {
     match setting(tables, by) {
@@ -135,7 +136,9 @@ pub fn set_forward(tables: &mut Tables, by: MemberId, lines: u32) -> Reply
 }
 
 fn phase_over(tables: &Tables, job: &JobRec) -> Phase
-    ensures { (Q : Queue) → Tell tables.now Q → result ≡ (if in_hardcopy job.now.phase && not (has_output_lem job.now.number Q) then Phase.Purge else job.now.phase) }
+    ensures { (Q : Queue) → Tell tables.now Q
+        → result ≡ (if in_hardcopy job.now.phase && not (has_output_lem job.now.number Q) then Phase.Purge else
+        job.now.phase) }
 {
     if matches!(job.phase, Phase::Hardcopy) && !has_output(tables.outputs.as_slice(), job.number) {
         Phase::Purge
@@ -161,7 +164,9 @@ fn close_job(tables: &mut Tables, job: JobNo)
 /// The output goes, its groups become free, and its job goes to Purge where it was the last one.
 fn remove_output(tables: &mut Tables, found: &Found<OutRec>, job: JobNo, index: OutNo)
     requires { slice_get tables.old.outputs found.now.at ≡ Some (Some found.now.item) }
-    ensures stands { (Q : Queue) → Tell tables.old Q → HasOutput (has_key job index) tables.old.outputs Q.outputs found.now.at found.now.item → Tell tables.new (output_gone job index Q) }
+    ensures stands { (Q : Queue) → Tell tables.old Q
+        → HasOutput (has_key job index) tables.old.outputs Q.outputs found.now.at found.now.item
+        → Tell tables.new (output_gone job index Q) }
     ensures fit { AreFit tables.old → AreFit tables.new }
     ensures orders { HaveOrders tables.old → HaveOrders tables.new }
     ensures order { tables.new.order ≡ tables.old.order }

@@ -50,7 +50,8 @@ pub fn unit(tables: &Tables, by: MemberId) -> Unit
 }
 
 fn print_unit(output: &OutRec) -> Unit
-    ensures { result ≡ (if nat_lt output.now.mark (output.now.lines * output.now.copies) then Unit.Print output.now.job output.now.index else Unit.Finish output.now.job output.now.index) }
+    ensures { result ≡ (if nat_lt output.now.mark (output.now.lines * output.now.copies) then Unit.Print output.now.job
+        output.now.index else Unit.Finish output.now.job output.now.index) }
 {
     if output.mark < output.lines as u32 * output.copies as u32 {
         Unit::Print(output.job, output.index)

@@ -44,7 +44,9 @@ struct ForLine<'a> {
 }
 
 impl<'a> Test<JobRec> for ForLine<'a> {
-    ghost picks = { λ s r. in_xmit r.phase && not r.fields.held && not (in_xmit r.phase && list_any (λ count. same_number count.current r.number) s.counts.now) && list_any (λ route. same_name_lem r.fields.node route.name && (route.line == s.line)) s.routes.now };
+    ghost picks = { λ s r. in_xmit r.phase && not r.fields.held
+        && not (in_xmit r.phase && list_any (λ count. same_number count.current r.number) s.counts.now)
+        && list_any (λ route. same_name_lem r.fields.node route.name && (route.line == s.line)) s.routes.now };
 
     fn picks(&self, item: &JobRec) -> bool {
         matches!(item.phase, Phase::Xmit)
@@ -77,7 +79,8 @@ fn leads_to(routes: &[Route], line: u8, node: &Name8) -> bool
 /// The job that is current on a line.
 fn current_on(tables: &Tables, line: u8) -> Option<Found<JobRec>>
     ensures here { IfSome result (λ f. slice_get tables.now.jobs f.at ≡ Some (Some f.item)) }
-    ensures some { IfSome result (λ f. (Q : Queue) → Tell tables.now Q → HasJob (is_current_on Q line) tables.now.jobs Q.jobs f.at f.item) }
+    ensures some { IfSome result (λ f. (Q : Queue) → Tell tables.now Q
+        → HasJob (is_current_on Q line) tables.now.jobs Q.jobs f.at f.item) }
     ensures none { IfNone result ((Q : Queue) → Tell tables.now Q → current_on_lem Q line ≡ None) }
 {
     match wire(tables, line) {
@@ -86,15 +89,18 @@ fn current_on(tables: &Tables, line: u8) -> Option<Found<JobRec>>
     }
 }
 
-/// The slot of the job selected for a line: of those that may be sent over it, of those of the greatest priority, the first.
+/// The slot of the job selected for a line: of those that may be sent over it, of those of the greatest priority, the
+/// first.
 fn find_for_line(
     jobs: &[Option<JobRec>],
     counts: &[LineCount],
     routes: &[Route],
     line: u8,
 ) -> Option<Found<JobRec>>
-    ensures some { IfSome result (λ f. (Q : Queue) → AreJobs jobs.now Q.jobs → Q.lines ≡ counts.now → Q.routes ≡ routes.now → HasJob (is_for_wire Q line) jobs.now Q.jobs f.at f.item) }
-    ensures none { IfNone result ((Q : Queue) → AreJobs jobs.now Q.jobs → Q.lines ≡ counts.now → Q.routes ≡ routes.now → for_wire_lem Q line ≡ None) }
+    ensures some { IfSome result (λ f. (Q : Queue) → AreJobs jobs.now Q.jobs → Q.lines ≡ counts.now
+        → Q.routes ≡ routes.now → HasJob (is_for_wire Q line) jobs.now Q.jobs f.at f.item) }
+    ensures none { IfNone result ((Q : Queue) → AreJobs jobs.now Q.jobs → Q.lines ≡ counts.now → Q.routes ≡ routes.now
+        → for_wire_lem Q line ≡ None) }
 {
     let test = ForLine {
         counts,
@@ -106,7 +112,8 @@ fn find_for_line(
 
 /// The job selected for a line.
 fn for_line(tables: &Tables, line: u8) -> Option<Found<JobRec>>
-    ensures some { IfSome result (λ f. (Q : Queue) → Tell tables.now Q → HasJob (is_for_wire Q line) tables.now.jobs Q.jobs f.at f.item) }
+    ensures some { IfSome result (λ f. (Q : Queue) → Tell tables.now Q
+        → HasJob (is_for_wire Q line) tables.now.jobs Q.jobs f.at f.item) }
     ensures none { IfNone result ((Q : Queue) → Tell tables.now Q → for_wire_lem Q line ≡ None) }
 {
     find_for_line(
@@ -119,7 +126,8 @@ fn for_line(tables: &Tables, line: u8) -> Option<Found<JobRec>>
 
 /// The number of the job that is current on a line, or else of the one selected for it.
 fn loaded(tables: &Tables, line: u8) -> Option<JobNo>
-    ensures { (Q : Queue) → Tell tables.now Q → result ≡ option_map (λ j. j.number) (either (current_on_lem Q line) (for_wire_lem Q line)) }
+    ensures { (Q : Queue) → Tell tables.now Q
+        → result ≡ option_map (λ j. j.number) (either (current_on_lem Q line) (for_wire_lem Q line)) }
 {
     if let Some(found) = current_on(tables, line) {
         return Some(found.item.number);
@@ -133,7 +141,8 @@ fn loaded(tables: &Tables, line: u8) -> Option<JobNo>
 fn put_current(tables: &mut Tables, line: u8, job: JobNo)
     requires some { 1 ≤ line }
     requires within { line ≤ length tables.old.lines }
-    ensures value { tables.new ≡ record tables.old { lines = count_changed line (λ count. record count { current = job }) tables.old.lines } }
+    ensures value { tables.new ≡ record tables.old
+        { lines = count_changed line (λ count. record count { current = job }) tables.old.lines } }
     ensures fit { AreFit tables.old → AreFit tables.new }
     ensures orders { HaveOrders tables.old → HaveOrders tables.new }
 {
@@ -191,7 +200,8 @@ fn got(tables: &Tables, line: u8) -> u32
 fn put_sent(tables: &mut Tables, line: u8, number: u32)
     requires some { 1 ≤ line }
     requires within { line ≤ length tables.old.lines }
-    ensures value { tables.new ≡ record tables.old { lines = count_changed line (λ count. record count { sent = number; current = no_number }) tables.old.lines } }
+    ensures value { tables.new ≡ record tables.old
+        { lines = count_changed line (λ count. record count { sent = number; current = no_number }) tables.old.lines } }
     ensures fit { AreFit tables.old → AreFit tables.new }
     ensures orders { HaveOrders tables.old → HaveOrders tables.new }
 {
@@ -224,7 +234,8 @@ pub fn acknowledge(tables: &mut Tables, line: u8, number: u32) -> Reply
 fn put_got(tables: &mut Tables, line: u8, number: u32)
     requires some { 1 ≤ line }
     requires within { line ≤ length tables.old.lines }
-    ensures value { tables.new ≡ record tables.old { lines = count_changed line (λ count. record count { got = number }) tables.old.lines } }
+    ensures value { tables.new ≡ record tables.old
+        { lines = count_changed line (λ count. record count { got = number }) tables.old.lines } }
     ensures fit { AreFit tables.old → AreFit tables.new }
     ensures orders { HaveOrders tables.old → HaveOrders tables.new }
 {

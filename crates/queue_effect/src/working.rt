@@ -34,8 +34,8 @@ fn is_at(phase: Phase, stage: Stage) -> bool
     }
 }
 
-/// The job with a number, which has to be in the phases of a stage and busy at the member: `NoJob`, `WrongPhase` and `InUse`
-/// where it isn't, tried in this order.
+/// The job with a number, which has to be in the phases of a stage and busy at the member: `NoJob`, `WrongPhase` and
+/// `InUse` where it isn't, tried in this order.
 pub fn job_at_work(
     tables: &Tables,
     by: MemberId,
@@ -43,9 +43,12 @@ pub fn job_at_work(
     stage: Stage,
 ) -> Result<Found<JobRec>, Refusal>
     ensures here { IfOk result (λ f. slice_get tables.now.jobs f.at ≡ Some (Some f.item)) }
-    ensures some { IfOk result (λ f. (Q : Queue) → Tell tables.now Q → HasJob (has_number job) tables.now.jobs Q.jobs f.at f.item) }
-    ensures allowed { OnOk result ((Q : Queue) → Tell tables.now Q → first_some (not_at_work Q by job (in_stage stage)) ≡ None) }
-    ensures refused { IfErr result (λ why. (Q : Queue) → Tell tables.now Q → first_some (not_at_work Q by job (in_stage stage)) ≡ Some why) }
+    ensures some { IfOk result (λ f. (Q : Queue) → Tell tables.now Q
+        → HasJob (has_number job) tables.now.jobs Q.jobs f.at f.item) }
+    ensures allowed { OnOk result ((Q : Queue) → Tell tables.now Q
+        → first_some (not_at_work Q by job (in_stage stage)) ≡ None) }
+    ensures refused { IfErr result
+        (λ why. (Q : Queue) → Tell tables.now Q → first_some (not_at_work Q by job (in_stage stage)) ≡ Some why) }
 {
     let Some(found) = job_at(tables, job) else {
         return Err(Refusal::NoJob);

@@ -5,7 +5,7 @@ use Rattle.mas_types.specs.Lists.{change_first, without_first}
 use Rattle.mas_types.specs.Fit.{AreDistinct}
 use Rattle.queue_laws.proofs.Finds.{test_cases, find-All, any_none}
 
--- where none is found, none is changed
+-- where no item is found, none is changed
 pub change_first-none : {A : Type 0} (p : A → Bool) (f : A → A) (xs : List A) → find p xs ≡ None → change_first p f xs ≡ xs
 change_first-none p f [] none = refl
 change_first-none p f (y ∷ ys) none =

@@ -11,7 +11,7 @@ test_cases true P at_true at_false = at_true refl
 test_cases false P at_true at_false = at_false refl
 
 module _ {A : Type 0} where
-  -- one that is found is in the list, and passes
+  -- an item that is found is in the list, and passes the test
   pub find-All : (P : A → Type 0) (p : A → Bool) (xs : List A) (x : A) → All P xs → find p xs ≡ Some x → P x × (p x ≡ true)
   find-All P p [] x all h = absurd (cc)
   find-All P p (y ∷ ys) x all h =
@@ -19,7 +19,7 @@ module _ {A : Type 0} where
       (λ e. let same : y ≡ x = (let w = rw e at h in cc) in rw (← same) (All-head P y ys all, e))
       (λ e. find-All P p ys x (All-tail P y ys all) (rw e at h))
 
-  -- where none is found, none passes
+  -- where no item is found, none passes the test
   pub find_none : (p : A → Bool) (xs : List A) → find p xs ≡ None → All (λ x. p x ≡ false) xs
   find_none p [] h = All-nil (λ x. p x ≡ false)
   find_none p (y ∷ ys) h =
@@ -27,7 +27,7 @@ module _ {A : Type 0} where
       (λ e. absurd (let w = rw e at h in cc))
       (λ e. All-cons (λ x. p x ≡ false) y ys e (find_none p ys (rw e at h)))
 
-  -- none passes
+  -- where no item passes the test, each fails it
   pub any_none : (p : A → Bool) (xs : List A) → list_any p xs ≡ false → All (λ x. p x ≡ false) xs
   any_none p [] h = All-nil (λ x. p x ≡ false)
   any_none p (y ∷ ys) h =
@@ -44,7 +44,7 @@ module _ {A : Type 0} where
         (λ e. rw (same y, e, keeps y, e) refl)
         (λ e. rw (same y, e, e) (find-change_same f ys same keeps))
 
-    -- it is another
+    -- the item that is changed is another than the one that is sought
     pub find-change_apart : (f : A → A) (xs : List A) → ((x : A) → p x ≡ true → q x ≡ false) → ((x : A) → p (f x) ≡ p x) → find p (change_first q f xs) ≡ find p xs
     find-change_apart f [] apart keeps = refl
     find-change_apart f (y ∷ ys) apart keeps =
@@ -54,7 +54,7 @@ module _ {A : Type 0} where
         (λ d. rw (d, keeps y, e) refl)
         (λ d. rw (d, e) (find-change_apart f ys apart keeps)))
 
-    -- another is taken away
+    -- an item other than the one that is sought is taken away
     pub find-without_first : (xs : List A) → ((x : A) → p x ≡ true → q x ≡ false) → find p (without_first q xs) ≡ find p xs
     find-without_first [] apart = refl
     find-without_first (y ∷ ys) apart =
@@ -64,7 +64,7 @@ module _ {A : Type 0} where
         (λ d. rw (d, e) refl)
         (λ d. rw (d, e) (find-without_first ys apart)))
 
-    -- others are taken away
+    -- items other than the one that is sought are taken away
     pub find-without : (xs : List A) → ((x : A) → p x ≡ true → q x ≡ false) → find p (without q xs) ≡ find p xs
     find-without [] apart = refl
     find-without (y ∷ ys) apart =
@@ -83,7 +83,7 @@ module _ {A : Type 0} where
         (λ e. rw (keeps y, e) refl)
         (λ e. rw (keeps y, e) (find-map f ys keeps))
 
-    -- one more at the end
+    -- what is found in a list is found in the list with more at its end
     pub find-append : (xs ys : List A) (x : A) → find p xs ≡ Some x → find p (xs ++ ys) ≡ Some x
     find-append [] ys x h = absurd (cc)
     find-append (y ∷ zs) ys x h =

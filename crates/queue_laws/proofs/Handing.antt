@@ -11,7 +11,7 @@ use Rattle.mas_types.specs.Owners.{is_members, handed_out}
 pub handed_out-mine : (m : MemberId) (new : List Owner) (g : Owner) (gs : List Owner) → is_members m g ≡ true → handed_out m new (g ∷ gs) ≡ unwrap_or (head new) owner.Free ∷ handed_out m (tail new) gs
 handed_out-mine m new g gs h = rw h refl
 
--- another group stays
+-- a group that isn't the member's stays
 pub handed_out-other : (m : MemberId) (new : List Owner) (g : Owner) (gs : List Owner) → is_members m g ≡ false → handed_out m new (g ∷ gs) ≡ g ∷ handed_out m new gs
 handed_out-other m new g gs h = rw h refl
 

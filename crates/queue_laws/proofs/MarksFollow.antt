@@ -34,7 +34,7 @@ use Rattle.queue_laws.proofs.Kept.{key_cases, key_alike, key_found_alike}
 use Rattle.queue_laws.proofs.Others.{IsKeyFoundIn, key_found_itself, change-by_key, second_none, third_none, at_member_output}
 use Rattle.queue_laws.proofs.SoundRemove.{other_keys_left}
 
--- where none passes, none is found
+-- where no item passes the test, none is found
 find_nowhere : (p : Output → Bool) (os : List Output) → All (λ o. p o ≡ false) os → find p os ≡ None
 find_nowhere p [] all = refl
 find_nowhere p (o ∷ os) all = rw (All-head (λ o. p o ≡ false) o os all) (find_nowhere p os (All-tail (λ o. p o ≡ false) o os all))

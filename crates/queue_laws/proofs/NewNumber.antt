@@ -19,7 +19,7 @@ length-numbers_from : (n more : ℕ) → length (numbers_from n more) ≡ more +
 length-numbers_from n zero = refl
 length-numbers_from n (suc more) = omega (arith, length-numbers_from (after n) more)
 
--- THEY ARE DIFFERENT
+-- THE NUMBERS THAT ARE TRIED ARE DIFFERENT
 
 after_cases : (n : ℕ) → ((n < 99999) × (after n ≡ n + 1)) ⊎ ((99999 ≤ n) × (after n ≡ 1))
 after_cases n = elim (leb_tells (suc n) 99999) [ inl w ↦ inl (w.1, rw w.0 refl) | inr w ↦ inr (omega (arith, w.1), rw w.0 refl) ]
@@ -62,7 +62,7 @@ all_different (suc more) n low high small = (
   all_different more (after n) (after_right n).0 (after_right n).1 (omega arith),
 )
 
--- NOT ALL OF THEM ARE TAKEN
+-- NOT ALL NUMBERS THAT ARE TRIED ARE TAKEN
 
 -- a job goes: the numbers of others are taken still
 any-without_first : (p q : Job → Bool) (js : List Job) → ((j : Job) → q j ≡ true → p j ≡ false) → list_any q (without_first p js) ≡ list_any q js
@@ -106,7 +106,7 @@ few_taken (c ∷ cs) js distinct all =
       length-without_first (λ j. j.number.0 == c) js (All-head (λ d. is_number_used js d ≡ true) c cs all),
     )
 
--- where the number that is found is taken, all are
+-- where the number that is found is taken, all numbers that were tried are
 all_taken : (js : List Job) (n more : ℕ) → is_number_used js (free_from js n more) ≡ true → All (λ d. is_number_used js d ≡ true) (numbers_from n more)
 all_taken js n zero taken = All-cons (λ d. is_number_used js d ≡ true) n [] taken (All-nil (λ d. is_number_used js d ≡ true))
 all_taken js n (suc more) taken =

@@ -233,11 +233,11 @@ module _ (Q : Queue) (m h : MemberId) (sound : IsSound Q) (somebody : is_somebod
       let theirs = rw busy at mine in
       cc
 
-  -- nor is one that nobody is busy with
+  -- a job that nobody is busy with isn't busy at another member
   idle : (j : Job) → is_somebody j.busy ≡ false → j.busy ≡ h → ⊥
   idle j none busy = let w = rw busy at none in cc
 
-  -- nor one in a phase in which no job is busy
+  -- a job in a phase in which no job is busy isn't busy at another member
   resting : (n : JobNo) (j : Job) → job_at Q n ≡ Some j → may_be_busy j.phase ≡ false → j.busy ≡ h → ⊥
   resting n j found rests busy =
       let right = (find-All (IsSoundJob Q.config) (has_number n) Q.jobs j sound.jobs found).0 in

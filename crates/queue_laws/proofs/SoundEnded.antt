@@ -359,7 +359,7 @@ room Q given o sound none =
     (λ e. rw e (omega (arith, sound.few_outputs)))
     (λ e. rw e (not_below Q.config.outputs (length Q.outputs + length given) (where_not (are_outputs_full Q given) refusal.OutputsFull (rw e at none))))
 
--- and so are their groups
+-- the outputs of a cancelled job need no groups, and those of any other need few enough
 space : (Q : Queue) (m : MemberId) (given : List OutSpec) (o : Option Job) → refused_where (not (is_cancelled o) && lacks_groups Q m (outputs_at_end o given)) refusal.Nothing ≡ None → groups_of_outputs (outputs_at_end o given) ≤ member_count m Q.owners
 space Q m given o none =
     test_cases (is_cancelled o) (groups_of_outputs (outputs_at_end o given) ≤ member_count m Q.owners)

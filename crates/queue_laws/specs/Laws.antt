@@ -37,11 +37,13 @@ KeepsConfiguration = (Q : Queue) (m : MemberId) (c : Command) → IsConfiguratio
 
 -- a command within its limits, by one who may give it, keeps the sound parts
 abbrev pub KeepsSound : Type 0
-KeepsSound = (Q : Queue) (m : MemberId) (c : Command) → IsSound Q → IsFit c → may_give Q m c ≡ true → IsSound (step Q m c).0
+KeepsSound = (Q : Queue) (m : MemberId) (c : Command) → IsSound Q → IsFit c → may_give Q m c ≡ true
+    → IsSound (step Q m c).0
 
 -- a reply names nobody but the operator and members that there may be
 abbrev pub NamesMembers : Type 0
-NamesMembers = (Q : Queue) (m : MemberId) (c : Command) → IsSound Q → may_give Q m c ≡ true → IsReplyNamed (step Q m c).1
+NamesMembers = (Q : Queue) (m : MemberId) (c : Command) → IsSound Q → may_give Q m c ≡ true
+    → IsReplyNamed (step Q m c).1
 
 -- WHAT STAYS BUSY
 
@@ -61,12 +63,14 @@ pub record IsOutputKept (h : MemberId) (old new : Output) : Type 0 where
 -- each job that is busy at the member is kept
 abbrev pub AreJobsKept : MemberId → List Job → List Job → Type 0
 AreJobsKept h old new =
-    (n : JobNo) (j : Job) → find (has_number n) old ≡ Some j → j.busy ≡ h → (j' : Job) × (find (has_number n) new ≡ Some j') × IsJobKept h j j'
+    (n : JobNo) (j : Job) → find (has_number n) old ≡ Some j → j.busy ≡ h → (j' : Job)
+    × (find (has_number n) new ≡ Some j') × IsJobKept h j j'
 
 -- each output that is busy at the member is kept
 abbrev pub AreOutputsKept : MemberId → List Output → List Output → Type 0
 AreOutputsKept h old new =
-    (n : JobNo) (i : OutNo) (o : Output) → find (has_key n i) old ≡ Some o → o.busy ≡ h → (o' : Output) × (find (has_key n i) new ≡ Some o') × IsOutputKept h o o'
+    (n : JobNo) (i : OutNo) (o : Output) → find (has_key n i) old ≡ Some o → o.busy ≡ h → (o' : Output)
+    × (find (has_key n i) new ≡ Some o') × IsOutputKept h o o'
 
 pub record IsBusyKept (h : MemberId) (old new : Queue) : Type 0 where
   pub jobs : AreJobsKept h old.jobs new.jobs
@@ -80,4 +84,5 @@ resets h _ = false
 
 -- what is busy at a member stays so under the commands of others that don't reset it
 abbrev pub KeepsBusy : Type 0
-KeepsBusy = (Q : Queue) (m h : MemberId) (c : Command) → IsSound Q → is_somebody h ≡ true → same_member h m ≡ false → resets h c ≡ false → IsBusyKept h Q (step Q m c).0
+KeepsBusy = (Q : Queue) (m h : MemberId) (c : Command) → IsSound Q → is_somebody h ≡ true → same_member h m ≡ false
+    → resets h c ≡ false → IsBusyKept h Q (step Q m c).0

@@ -37,8 +37,8 @@ MayTake (command.CancelOut n i) old = has_key n i old ≡ true
 MayTake (command.Cancel n) old = is_of n old ≡ true
 MayTake _ old = ⊥
 
--- an output before and after a command of m: its lines stay; its mark stays, or the command marks it and m prints it; it is
--- busy as before, or with nobody, or m picked it
+-- an output before and after a command of m: its lines stay; its mark stays, or the command marks it and m prints it;
+-- it is busy as before, or with nobody, or m picked it
 pub record OutputFollows (m : MemberId) (c : Command) (old new : Output) : Type 0 where
   pub text : new.text ≡ old.text
   pub copies : new.copies ≡ old.copies
@@ -51,7 +51,7 @@ pub record OutputComes (c : Command) (new : Output) : Type 0 where
   pub mark : new.mark ≡ 0
   pub busy : is_somebody new.busy ≡ false
 
--- the same of an output that may come or go
+-- an output before and after a command of m, where it may also come or go
 abbrev pub FollowsAt : MemberId → Command → Option Output → Option Output → Type 0
 FollowsAt m c None None = Unit {0}
 FollowsAt m c None (Some new) = OutputComes c new
@@ -60,9 +60,12 @@ FollowsAt m c (Some old) (Some new) = OutputFollows m c old new
 
 -- each output goes so, by every command
 abbrev pub MarksFollow : Type 0
-MarksFollow = (Q : Queue) (m : MemberId) (c : Command) → IsSound Q → (n : JobNo) (i : OutNo) → FollowsAt m c (output_at Q n i) (output_at (step Q m c).0 n i)
+MarksFollow = (Q : Queue) (m : MemberId) (c : Command) → IsSound Q → (n : JobNo) (i : OutNo)
+    → FollowsAt m c (output_at Q n i) (output_at (step Q m c).0 n i)
 
 -- a Mark that isn't refused leaves the output with a mark of at most its number, and answers that mark
 abbrev pub MarkIsAtMost : Type 0
-MarkIsAtMost = (Q : Queue) (m : MemberId) (n : JobNo) (i : OutNo) (at : ℕ) → is_refusal (step Q m (command.Mark n i at)).1 ≡ false
-    → (o : Output) × (output_at (step Q m (command.Mark n i at)).0 n i ≡ Some o) × (o.mark ≤ at) × ((step Q m (command.Mark n i at)).1 ≡ reply.Count o.mark)
+MarkIsAtMost = (Q : Queue) (m : MemberId) (n : JobNo) (i : OutNo) (at : ℕ)
+    → is_refusal (step Q m (command.Mark n i at)).1 ≡ false
+    → (o : Output) × (output_at (step Q m (command.Mark n i at)).0 n i ≡ Some o) × (o.mark ≤ at)
+    × ((step Q m (command.Mark n i at)).1 ≡ reply.Count o.mark)

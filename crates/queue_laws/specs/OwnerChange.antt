@@ -21,9 +21,9 @@ is_thing (owner.Deck n p) = true
 is_thing (owner.Output n i p) = true
 is_thing _ = false
 
--- a group before and after a command of m, where the members of the test are reset: it stays, a Free one becomes m's, one
--- of m's becomes a deck's, an output's or Free, one of a deck or an output becomes Free, and so does one of a member
--- that is reset
+-- a group before and after a command of m, where the members of the test are reset: it stays, a Free one becomes m's,
+-- one of m's becomes a deck's, an output's or Free, one of a deck or an output becomes Free, and so does one of a
+-- member that is reset
 pub data OwnerChange (m : MemberId) (is_reset : MemberId → Bool) : Owner → Owner → Type 0 where
   Stays : (g : Owner) → OwnerChange m is_reset g g
   Taken : OwnerChange m is_reset owner.Free (owner.Member m)
@@ -34,9 +34,10 @@ pub data OwnerChange (m : MemberId) (is_reset : MemberId → Bool) : Owner → O
 
 -- each group goes so, by every command
 abbrev pub OwnersFollow : Type 0
-OwnersFollow = (Q : Queue) (m : MemberId) (c : Command) → AllZip (OwnerChange m (λ h. resets h c)) Q.owners (step Q m c).0.owners
+OwnersFollow = (Q : Queue) (m : MemberId) (c : Command)
+    → AllZip (OwnerChange m (λ h. resets h c)) Q.owners (step Q m c).0.owners
 
--- a group that a member has is that member's still, but for commands of that member and resets of it
+-- a group that a member has is still the member's, except after its own commands and its resets
 abbrev pub GroupsStay : Type 0
 GroupsStay = (Q : Queue) (m h : MemberId) (c : Command) (g : ℕ) → same_member h m ≡ false → resets h c ≡ false
     → slice_get Q.owners g ≡ Some (owner.Member h) → slice_get (step Q m c).0.owners g ≡ Some (owner.Member h)
@@ -49,4 +50,5 @@ GroupsTaken = (Q : Queue) (m h : MemberId) (c : Command) (g : ℕ) (old : Owner)
 -- a group that becomes a deck's or an output's was the commanding member's
 abbrev pub GroupsGiven : Type 0
 GroupsGiven = (Q : Queue) (m : MemberId) (c : Command) (g : ℕ) (old new : Owner) → is_thing new ≡ true
-    → slice_get Q.owners g ≡ Some old → slice_get (step Q m c).0.owners g ≡ Some new → (old ≡ new) ⊎ (old ≡ owner.Member m)
+    → slice_get Q.owners g ≡ Some old → slice_get (step Q m c).0.owners g ≡ Some new → (old ≡ new)
+    ⊎ (old ≡ owner.Member m)

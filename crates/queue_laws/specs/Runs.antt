@@ -18,10 +18,10 @@ pub record IsGiven (Q : Queue) (e : Entry) : Type 0 where
 abbrev pub RunsKeepConfiguration : Type 0
 RunsKeepConfiguration = (Q : Queue) (es : List Entry) → IsConfigurationKept Q (run Q es)
 
--- a run of such entries keeps the sound parts
+-- a run of entries that may be given keeps the sound parts
 abbrev pub RunsKeepSound : Type 0
 RunsKeepSound = (Q : Queue) (es : List Entry) → IsSound Q → All (IsGiven Q) es → IsSound (run Q es)
 
--- and each of its replies names nobody but the operator and members that there may be
+-- each reply of a run names only the operator and members that there may be
 abbrev pub RunsNameMembers : Type 0
 RunsNameMembers = (Q : Queue) (es : List Entry) → IsSound Q → All (IsGiven Q) es → All IsReplyNamed (replies Q es)

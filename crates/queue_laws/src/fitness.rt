@@ -11,10 +11,11 @@ use mas_types::limits::{
 };
 use mas_types::{Class, Command, JobFields, Lines, List, Name8, OutNo, OutSpec, Prio};
 
-/// Whether all that a command carries is within the limits: names are 1 to 8 bytes of A to Z, 0 to 9, `@`, `#` and `$`, padded
-/// with blanks; classes are A to Z and 0 to 9, a list of them has 1 to 36 different ones; priorities are at most 15, indexes of
-/// outputs 1 to 32, lines to other nodes 1 to 8, lines at a time of a printer 1 to 9,999; a text has at most 9,999 lines of at
-/// most 132 bytes from 0x20 to 0x7E; a job ends with at most 32 outputs, each of at least one line and one copy.
+/// Whether all that a command carries is within the limits: names are 1 to 8 bytes of A to Z, 0 to 9, `@`, `#` and `$`,
+/// padded with blanks; classes are A to Z and 0 to 9, a list of them has 1 to 36 different ones; priorities are at most
+/// 15, indexes of outputs 1 to 32, lines to other nodes 1 to 8, lines at a time of a printer 1 to 9,999; a text has at
+/// most 9,999 lines of at most 132 bytes from 0x20 to 0x7E; a job ends with at most 32 outputs, each of at least one
+/// line and one copy.
 pub fn is_fit(command: &Command) -> bool
     ensures { IsTrue result ↔ IsFit command.now }
 {

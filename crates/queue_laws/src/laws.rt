@@ -27,8 +27,8 @@ pub fn law_of_groups()
     ensures given { GroupsGiven }
 {}
 
-/// An output's lines stay, and its mark changes only by the member at which it is busy. It comes by Ended with mark 0, and goes
-/// by Done where all is printed, by CancelOut and by Cancel. A Mark leaves at most its number.
+/// An output's lines stay, and its mark changes only by the member at which it is busy. It comes by Ended with mark 0,
+/// and goes by Done where all is printed, by CancelOut and by Cancel. A Mark leaves at most its number.
 pub fn law_of_marks()
     ensures follow { MarksFollow }
     ensures at_most { MarkIsAtMost }
@@ -44,8 +44,9 @@ pub fn law_of_replies()
     ensures { NamesMembers }
 {}
 
-/// A run of entries keeps the configuration and the routes. Where each command is within the limits and given by a member that
-/// may give it, it keeps the sound parts too, and each reply names nobody but the operator and members that there may be.
+/// A run of entries keeps the configuration and the routes. Where each command is within the limits and given by a
+/// member that may give it, it keeps the sound parts too, and each reply names nobody but the operator and members that
+/// there may be.
 pub fn law_of_runs()
     ensures configuration { RunsKeepConfiguration }
     ensures sound { RunsKeepSound }

@@ -1,5 +1,5 @@
-//! What holds of every command on the queue, as contracts of functions that do nothing, worked examples of commands, and the
-//! test of a command's limits.
+//! What holds of every command on the queue, as contracts of functions that do nothing, worked examples of commands,
+//! and the test of a command's limits.
 #![tactic(auto)]
 
 pub mod examples;

@@ -9,4 +9,5 @@ use Rattle.cmd_report.specs.Named.{IsNamed}
 
 -- in the queue of tables that pages spell each member has a name, whatever its texts are
 abbrev pub SpelledAreNamed : Type 0
-SpelledAreNamed = (t : Tables) (deck : JobRec → Text) (print : OutRec → Text) → HasSpelling t → IsNamed (queue_of t deck print)
+SpelledAreNamed = (t : Tables) (deck : JobRec → Text) (print : OutRec → Text) → HasSpelling t
+    → IsNamed (queue_of t deck print)

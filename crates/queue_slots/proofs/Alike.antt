@@ -144,7 +144,7 @@ module _ {A B C : Type 0} (u : A → C) (v : B → C) where
   map-append [] x = refl
   map-append (y ∷ xs) x = ap (λ zs. u y ∷ zs) (map-append xs x)
 
-  -- one more at the end
+  -- lists that are alike stay so with one more item at the end
   pub push-alike : (xs : List A) (ys : List B) (x : A) (b : B) → Alike xs ys → u x ≡ v b → Alike (xs ++ x ∷ []) (ys ++ b ∷ [])
   push-alike xs ys x b same last = rw (map-append xs x, last) (append-alike (map u xs) ys b same)
 
@@ -162,7 +162,7 @@ module _ {A B C : Type 0} (u : A → C) (v : B → C) where
         removed = rw stands.removed (without_first-alike p (listed number slots) items tell);
       }
 
-  -- the same of the one that goes first by rank
+  -- what slots tell of the item that goes first by rank
   module _ (number : A → ℕ) (n : C → ℕ) (slots : List (Option A)) (items : List B) (tell : Tell number u v slots items) where
     to_greatest : (t : C → Bool) → (λ (b : B). is_greatest_of n t (map u (listed number slots)) (v b)) ≡ is_greatest_of (λ b. n (v b)) (λ b. t (v b)) items
     to_greatest t = ap (λ (zs : List C). λ (b : B). is_greatest_of n t zs (v b)) tell ∙ is_greatest-map v n t items
@@ -181,7 +181,7 @@ module _ {A B C : Type 0} (u : A → C) (v : B → C) where
         (find_none-alike (is_greatest_of n t (map u (listed number slots))) (listed number slots) items tell
         (subst (λ (test : A → Bool). find test (listed number slots) ≡ None) (sym (is_greatest-map u n t (listed number slots))) none))
 
-    -- and of the one that goes first by its key
+    -- what slots tell of the item that goes first by its key
     module _ {K : Type 0} (has : K → C → Bool) (ks : List K) (t : C → Bool) where
       abbrev keyed : C → Bool
       keyed = has_first_key_of has ks t (map u (listed number slots))

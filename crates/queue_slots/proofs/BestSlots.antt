@@ -83,7 +83,7 @@ module _ {X : Type 0} (number key rank : X → ℕ) (weighs : X → Bool) where
   abbrev Nothing : List (Option X) → ℕ → Type 0
   Nothing slots k = NonePicked number key rank weighs slots k
 
-  -- a slot up to the last one is that one or one before it
+  -- a slot up to the last one is the last or one before it
   at_last : (slots : List (Option X)) (k : ℕ) (s : Option X) → slice_get slots k ≡ Some s → (j : ℕ) (y : X) → j < k + 1 → slice_get slots j ≡ Some (Some y) → (P : Type 0) → (j < k → P) → (s ≡ Some y → P) → P
   at_last slots k s is j y within e P early late =
       test_cases (nat_lt j k) P (λ t. early (grind (arith, nat_tests))) (λ t. let same : j ≡ k = grind (arith, nat_tests) in late (cc))
@@ -91,7 +91,7 @@ module _ {X : Type 0} (number key rank : X → ℕ) (weighs : X → Bool) where
   none_more : (slots : List (Option X)) (k : ℕ) (s : Option X) → slice_get slots k ≡ Some s → Nothing slots k → ((y : X) → s ≡ Some y → weighs y ≡ false) → Nothing slots (k + 1)
   none_more slots k s is none last j y within e = at_last slots k s is j y within e (weighs y ≡ false) (λ early. none j y early e) (λ late. last y late)
 
-  -- it is no better than the best so far
+  -- the item is no better than the best so far
   record IsNoBetter (f : Found X) (y : X) : Type 0 where
     up : key y ≤ key f.item
     level : key y ≡ key f.item → rank y ≤ rank f.item
@@ -120,7 +120,7 @@ module _ {X : Type 0} (number key rank : X → ℕ) (weighs : X → Bool) where
     least = λ j y within e sure one same. at_last slots k (Some x) is j y within e (number x ≤ number y) (λ early. absurd (let no' = none j y early e in cc)) (λ late. let is' : x ≡ y = cc in rw is' (omega arith));
   }
 
-  -- it is better than the best so far
+  -- the item is better than the best so far
   record IsBetter (x : X) (f : Found X) : Type 0 where
     up : key f.item ≤ key x
     level : key f.item ≡ key x → rank f.item ≤ rank x
@@ -200,7 +200,7 @@ module _ {X : Type 0} (number key rank : X → ℕ) (weighs : X → Bool) where
     best = best_stays slots k s (record { at = b.at; item = so_far.item }) is so_far.best (λ y same sure. absurd (let no' = passed y same in cc));
   }
 
-  -- one more slot
+  -- the best of the slots, where one more slot is seen
   pub best_more : (slots : List (Option X)) (k : ℕ) (s : Option X) (best : Option Best) → slice_get slots k ≡ Some s → IsWalked number key rank weighs slots k best
       → IsWalked number key rank weighs slots (k + 1) (better_slot number key rank weighs best k s)
   best_more slots k None best is so_far = same_best slots k None best is (λ y same. absurd (cc)) so_far
@@ -230,7 +230,7 @@ module _ {X : Type 0} (number rank : X → ℕ) (picks : X → Bool) where
   abbrev is_best : X → X → Bool
   is_best x z = picks z && (rank z == rank x)
 
-  -- none has a greater rank
+  -- the greatest rank of the picked items is at most this one, if none of them has a greater rank
   greatest_low : (r : ℕ) (xs : List X) → All (λ z. picks z ≡ true → rank z ≤ r) xs → greatest rank (filter picks xs) ≤ r
   greatest_low r [] all = omega arith
   greatest_low r (z ∷ zs) all =

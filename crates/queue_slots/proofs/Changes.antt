@@ -57,7 +57,7 @@ module _ {X : Type 0} (number : X → ℕ) where
         (λ h. rw (insert_by-before number (f x) (f y) (map f ys) (rw (keeps x, keeps y) h), insert_by-before number x y ys h) refl)
         (λ h. rw (insert_by-after number (f x) (f y) (map f ys) (rw (keeps x, keeps y) h), insert_by-after number x y ys h) (ap (λ zs. f y ∷ zs) (insert_by-map x ys)))
 
-    -- where what stands in each slot is changed and keeps its number, each of the list is
+    -- where what stands in each slot is changed and keeps its number, each item of the list is changed so
     pub listed-map : (slots : List (Option X)) → listed number (map (option_map f) slots) ≡ map f (listed number slots)
     listed-map [] = refl
     listed-map (None ∷ slots) = listed-map slots
@@ -114,7 +114,7 @@ length-used_last : {X : Type 0} (xs : List X) (s : Option X) → length (xs ++ u
 length-used_last xs None = length-append xs [] ∙ (omega arith)
 length-used_last xs (Some x) = length-append xs (x ∷ []) ∙ (omega arith)
 
--- one more slot
+-- the number of used slots, where one more slot is seen
 pub length-used_more : {X : Type 0} (xs : List (Option X)) (i : ℕ) (s : Option X) → i < length xs → s ≡ get_or xs i s → length (used (take (i + 1) xs)) ≡ length (used (take i xs)) + (if is_some s then 1 else 0)
 length-used_more xs i s inside is =
     rw (take_more xs i s inside, ← is, used-append (take i xs) (s ∷ [])) (length-used_last (used (take i xs)) s)

@@ -15,7 +15,7 @@ All-used P (None ∷ slots) each = All-used P slots (λ j y h. each (suc j) y h)
 All-used P (Some x ∷ slots) each = All-cons P x (used slots) (each 0 x refl) (All-used P slots (λ j y h. each (suc j) y h))
 
 module _ {X : Type 0} (number : X → ℕ) (p : X → Bool) where
-  -- of those in slots that the test picks, one stands in this slot, and it is the first of those of the least number
+  -- the test picks the slot's item, which is the first of those of the least number that it picks
   pub record IsFirstSlot (slots : List (Option X)) (at : ℕ) (x : X) : Type 0 where
     pub here : slice_get slots at ≡ Some (Some x)
     pub picked : p x ≡ true
@@ -50,7 +50,7 @@ module _ {X : Type 0} (number : X → ℕ) (p : X → Bool) where
         removed = ap (insert_by number w) h.removed ∙ without-insert_other number p x w (behind w refl) (listed number slots) up h.first;
       }
 
-  -- such a slot is that of the first of the list
+  -- the first slot of the least number holds the first item that is picked from the list
   pub stands_first : (slots : List (Option X)) (at : ℕ) (x : X) → IsFirstSlot slots at x → StandsFirst number p slots at x
   stands_first [] at x h = absurd (let w = h.here in cc)
   stands_first (s ∷ slots) zero x h = first_here s slots x (let w = h.here in cc) h

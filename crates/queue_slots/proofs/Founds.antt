@@ -8,7 +8,7 @@ use Rattle.queue_slots.specs.Listed.{listed, StandsFirst}
 use Rattle.queue_slots.specs.Telling.{Tell, TellsFirst}
 use Rattle.queue_slots.proofs.Alike.{tells_first, find_none-alike, tells_best, tells_no_best, tells_keyed, tells_no_keyed}
 
--- where it stands
+-- an item that is found stands in the slot of its place
 pub found_here : {A : Type 0} (number : A → ℕ) (p : A → Bool) (slots : List (Option A)) (o : Option (Found A))
     → IfSome o (λ f. StandsFirst number p slots f.at f.item) → IfSome o (λ f. slice_get slots f.at ≡ Some (Some f.item))
 found_here number p slots None h = tt

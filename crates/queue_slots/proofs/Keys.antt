@@ -22,13 +22,13 @@ use Rattle.queue_slots.proofs.FirstSlots.{All-used, stands_first}
 use Rattle.queue_slots.proofs.BestSlots.{both_true, and_true, walked_some, walked_none, nothing_listed, best_of_all}
 
 module _ {X : Type 0} where
-  -- where none is found, none is there
+  -- where no item is found, none passes the test
   pub any-none : (t : X → Bool) (xs : List X) → find t xs ≡ None → list_any t xs ≡ false
   any-none t [] none = refl
   any-none t (x ∷ xs) none =
       test_cases (t x) (list_any t (x ∷ xs) ≡ false) (λ e. absurd (let w = rw e at none in cc)) (λ e. rw e (any-none t xs (rw e at none)))
 
-  -- where one is found, one is there
+  -- where an item is found, one passes the test
   pub any-some : (t : X → Bool) (xs : List X) (x : X) → find t xs ≡ Some x → list_any t xs ≡ true
   any-some t [] x some = absurd (cc)
   any-some t (y ∷ xs) x some =
@@ -136,7 +136,7 @@ zeros zero c = refl
 zeros (suc n) zero = refl
 zeros (suc n) (suc c) = zeros n c
 
--- before the first is written
+-- before the key of any class is written, all keys are 0
 pub keys_start : (ks : List Class) (c : ℕ) → get_or (replicate {A = ℕ} 256 0) c 0 ≡ class_key (drop (length ks) ks) c
 keys_start ks c = zeros 256 c ∙ sym (ap (λ (left : List Class). class_key left c) (drop_all (length ks) ks (omega arith)))
 
@@ -202,7 +202,7 @@ module _ {X : Type 0} (number rank : X → ℕ) (class : X → Class) (picks : X
         (both_true (not (key f.item == 0)) (picks f.item) best.picked).1 (some_key f.item best.picked)
         (All-in_order number (λ y. picks y ≡ true → key y ≤ key f.item) (used slots) (All-used (λ y. picks y ≡ true → key y ≤ key f.item) slots low))
 
-    -- of those of its class it is the best
+    -- an item that is picked and of the best one's class has the best one's key, and weighs
     same_key : (j : ℕ) (y : X) → slice_get slots j ≡ Some (Some y) → (picks y && is_of class first.key y) ≡ true → (weighs y ≡ true) × (key y ≡ key f.item)
     same_key j y e h =
         let parts = both_true (picks y) (is_of class first.key y) h in

@@ -81,7 +81,7 @@ module _ {X : Type 0} (number : X → ℕ) where
         (λ e. let same : y ≡ x = (let w = rw e at h in cc) in rw (← same) (All-head P y ys all))
         (λ e. find-number P ys x (All-tail P y ys all) (rw e at h))
 
-    -- another item is put in, which the test doesn't pick or which has a greater number than the first that is picked
+    -- an item is put in that the test doesn't pick, or that has a greater number than the first that is picked
     module _ (x w : X) (behind : p w ≡ true → number x < number w) where
       not_picked : (m : X) (ms : List X) → Rises number (m ∷ ms) → find p (m ∷ ms) ≡ Some x → number w ≤ number m → p w ≡ false
       not_picked m ms up found low =

@@ -6,7 +6,8 @@ use Rattle.queue_slots.specs.declared.walking.Weight.{Weight}
 
 -- one that is kept goes before another
 abbrev pub goes_before : Best → Best → Bool
-goes_before a b = nat_lt b.key a.key || ((a.key == b.key) && (nat_lt b.rank a.rank || ((a.rank == b.rank) && nat_lt a.order b.order)))
+goes_before a b = nat_lt b.key a.key ||
+    ((a.key == b.key) && (nat_lt b.rank a.rank || ((a.rank == b.rank) && nat_lt a.order b.order)))
 
 -- the best so far, where one more was weighed
 abbrev pub better : Option Best → Best → Option Best
@@ -32,7 +33,8 @@ module _ {X : Type 0} (number key rank : X → ℕ) (weighs : X → Bool) where
   -- the best so far, where one more slot was seen
   abbrev pub better_slot : Option Best → ℕ → Option X → Option Best
   better_slot best at None = best
-  better_slot best at (Some x) = if weighs x then better best (record { at = at; key = key x; rank = rank x; order = number x }) else best
+  better_slot best at (Some x) = if weighs x then better best
+      (record { at = at; key = key x; rank = rank x; order = number x }) else best
 
   -- the best of the first k slots
   pub record IsBestOf (slots : List (Option X)) (k : ℕ) (f : Found X) : Type 0 where
@@ -40,9 +42,12 @@ module _ {X : Type 0} (number key rank : X → ℕ) (weighs : X → Bool) where
     pub below : f.at < k
     pub picked : weighs f.item ≡ true
     pub keys : (j : ℕ) (y : X) → j < k → slice_get slots j ≡ Some (Some y) → weighs y ≡ true → key y ≤ key f.item
-    pub ranks : (j : ℕ) (y : X) → j < k → slice_get slots j ≡ Some (Some y) → weighs y ≡ true → key y ≡ key f.item → rank y ≤ rank f.item
-    pub before : (j : ℕ) (y : X) → j < f.at → slice_get slots j ≡ Some (Some y) → weighs y ≡ true → key y ≡ key f.item → rank y ≡ rank f.item → number f.item < number y
-    pub least : (j : ℕ) (y : X) → j < k → slice_get slots j ≡ Some (Some y) → weighs y ≡ true → key y ≡ key f.item → rank y ≡ rank f.item → number f.item ≤ number y
+    pub ranks : (j : ℕ) (y : X) → j < k → slice_get slots j ≡ Some (Some y) → weighs y ≡ true → key y ≡ key f.item
+        → rank y ≤ rank f.item
+    pub before : (j : ℕ) (y : X) → j < f.at → slice_get slots j ≡ Some (Some y) → weighs y ≡ true → key y ≡ key f.item
+        → rank y ≡ rank f.item → number f.item < number y
+    pub least : (j : ℕ) (y : X) → j < k → slice_get slots j ≡ Some (Some y) → weighs y ≡ true → key y ≡ key f.item
+        → rank y ≡ rank f.item → number f.item ≤ number y
 
   abbrev pub NonePicked : List (Option X) → ℕ → Type 0
   NonePicked slots k = (j : ℕ) (y : X) → j < k → slice_get slots j ≡ Some (Some y) → weighs y ≡ false

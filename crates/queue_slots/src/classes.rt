@@ -19,7 +19,8 @@ pub trait Classed<T>: Rank<T> {
         ensures { result ≡ class self.now item.now };
 }
 
-/// The key of each class: that of the first in a list is how many they are, and so on down to 1; 0 of one that isn't in it.
+/// The key of each class: that of the first in a list is how many they are, and so on down to 1; 0 of one that isn't in
+/// it.
 fn class_keys(classes: &[Class]) -> [usize; 256]
     ensures { (c : ℕ) → slice_index result c ≡ class_key classes.now c }
 {
@@ -32,7 +33,7 @@ fn class_keys(classes: &[Class]) -> [usize; 256]
     keys
 }
 
-/// Those that are picked and have one of the classes, by the key of their class and by their rank.
+/// The records that are picked and have one of the classes, by the key of their class and by their rank.
 #[derive(Drop)]
 struct ByClass<'a, P> {
     test: &'a P,
@@ -59,16 +60,22 @@ impl<'a, T, P: Classed<T>> Weigh<T> for ByClass<'a, P> {
     }
 }
 
-/// The slot of the record that goes first by class: of those that are picked, of those of the first class that any of them has, of
-/// those of the greatest rank, the first in the list by ascending order; none exactly where none is picked that has one of the
-/// classes.
+/// The slot of the record that goes first by class: of those that are picked, of those of the first class that any of
+/// them has, of those of the greatest rank, the first in the list by ascending order; none exactly where none is picked
+/// that has one of the classes.
 pub fn best_slot_by_class<T: Ordered + Copy, P: Classed<T>>(
     slots: &[Option<T>],
     classes: &List<Class>,
     test: &P,
 ) -> Option<Found<T>>
-    ensures some { IfSome result (λ f. StandsFirst T.order (is_greatest_of (P.rank test.now) (has_first_key_of (is_of (P.class test.now)) classes.now (P.picks test.now) (listed T.order slots.now)) (listed T.order slots.now)) slots.now f.at f.item) }
-    ensures none { IfNone result (find (is_greatest_of (P.rank test.now) (has_first_key_of (is_of (P.class test.now)) classes.now (P.picks test.now) (listed T.order slots.now)) (listed T.order slots.now)) (listed T.order slots.now) ≡ None) }
+    ensures some { IfSome result (λ f.
+        StandsFirst T.order (is_greatest_of (P.rank test.now)
+        (has_first_key_of (is_of (P.class test.now)) classes.now (P.picks test.now) (listed T.order slots.now))
+        (listed T.order slots.now)) slots.now f.at f.item) }
+    ensures none { IfNone result (find
+        (is_greatest_of (P.rank test.now)
+        (has_first_key_of (is_of (P.class test.now)) classes.now (P.picks test.now) (listed T.order slots.now))
+        (listed T.order slots.now)) (listed T.order slots.now) ≡ None) }
 {
     let by_class = ByClass {
         test,

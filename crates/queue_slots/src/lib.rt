@@ -1,5 +1,5 @@
-//! Slots in which records stand, and the list of them in ascending order: which slot a record of the list has, and what becomes of
-//! the list where a slot is written.
+//! Slots in which records stand, and the list of them in ascending order: which slot a record of the list has, and what
+//! becomes of the list where a slot is written.
 #![tactic(auto)]
 
 mod classes;

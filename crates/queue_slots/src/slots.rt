@@ -59,7 +59,7 @@ pub struct Found<T> {
     pub item: T,
 }
 
-/// Those that are picked, without a rank.
+/// The records that are picked, without a rank.
 #[derive(Clone, Copy)]
 struct Picked<'a, P> {
     test: &'a P,
@@ -81,7 +81,7 @@ impl<'a, T, P: Test<T>> Weigh<T> for Picked<'a, P> {
     }
 }
 
-/// Those that are picked, by their rank.
+/// The records that are picked, by their rank.
 #[derive(Clone, Copy)]
 struct Ranked<'a, P> {
     test: &'a P,
@@ -111,11 +111,14 @@ pub fn first_slot<T: Ordered + Copy, P: Test<T>>(slots: &[Option<T>], test: &P) 
     found_at(slots, best)
 }
 
-/// The slot of the record that goes first: of those that are picked, of those of the greatest rank, the first in the list by
-/// ascending order; none exactly where none is picked.
+/// The slot of the record that goes first: of those that are picked, of those of the greatest rank, the first in the
+/// list by ascending order; none exactly where none is picked.
 pub fn best_slot<T: Ordered + Copy, P: Rank<T>>(slots: &[Option<T>], test: &P) -> Option<Found<T>>
-    ensures some { IfSome result (λ f. StandsFirst T.order (is_greatest_of (P.rank test.now) (P.picks test.now) (listed T.order slots.now)) slots.now f.at f.item) }
-    ensures none { IfNone result (find (is_greatest_of (P.rank test.now) (P.picks test.now) (listed T.order slots.now)) (listed T.order slots.now) ≡ None) }
+    ensures some { IfSome result (λ f.
+        StandsFirst T.order (is_greatest_of (P.rank test.now) (P.picks test.now) (listed T.order slots.now)) slots.now
+        f.at f.item) }
+    ensures none { IfNone result (find (is_greatest_of (P.rank test.now) (P.picks test.now) (listed T.order slots.now))
+        (listed T.order slots.now) ≡ None) }
     ensures none_picked { IfNone result (find (P.picks test.now) (listed T.order slots.now) ≡ None) }
 {
     let best = walk(slots, &Ranked { test });

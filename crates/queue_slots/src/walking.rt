@@ -35,7 +35,8 @@ pub struct Best {
 
 /// The best of the slots: of the greatest key, of these of the greatest rank, and of these of the least order.
 pub fn walk<T: Ordered, P: Weigh<T>>(slots: &[Option<T>], test: &P) -> Option<Best>
-    ensures { IsWalked T.order (P.key test.now) (P.rank test.now) (P.weighs test.now) slots.now (length slots.now) result }
+    ensures { IsWalked T.order (P.key test.now) (P.rank test.now) (P.weighs test.now) slots.now (length slots.now)
+        result }
 {
     let mut best = None;
     for (at, slot) in slots.iter().enumerate() {

@@ -15,7 +15,7 @@ use Rattle.queue_slots.specs.Listed.{listed}
 
 -- NONE IS WRONG
 
--- where each is right of which none before it is the same, and all are different, none is wrong
+-- where items are all different, and each of which none before is the same is right, no item is wrong
 module _ {X : Type 0} (wrong : List X → X → Bool) (P : X → Type 0) (same : X → X → Bool) (says : (before : List X) (x : X) → P x → list_any (λ y. same y x) before ≡ false → wrong before x ≡ false) where
   none_before : (x : X) (xs before : List X) → All (λ y. list_any (same y) (x ∷ xs) ≡ false) before → list_any (λ y. same y x) before ≡ false
   none_before x xs [] all = refl
@@ -38,7 +38,7 @@ module _ {X : Type 0} (wrong : List X → X → Bool) (P : X → Type 0) (same :
   pub all_are_right : (at : ℕ) (xs : List X) → All P xs → AreDistinct same xs → first_wrong wrong [] at xs ≡ None
   all_are_right at xs all d = right_from [] at xs all d (All-nil (λ y. list_any (same y) xs ≡ false))
 
--- none that is wrong by itself
+-- where no item is wrong by itself, no first wrong item is found
 pub each_is_right : {X : Type 0} (wrong : X → Bool) (before : List X) (at : ℕ) (xs : List X) → All (λ x. wrong x ≡ false) xs → first_wrong (λ b x. wrong x) before at xs ≡ None
 each_is_right wrong before at [] all = refl
 each_is_right wrong before at (x ∷ xs) all =

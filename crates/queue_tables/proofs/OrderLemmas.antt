@@ -62,7 +62,7 @@ module _ (t : Tables) where
   job_below before None h = tt
   job_below before (Some j) h = (new_job before j h).below
 
-  -- and of an output's
+  -- the order of an output's record is new, and below the next order
   pub record IsNewOutput (before : List (Option OutRec)) (o : OutRec) : Type 0 where
     pub apart : is_there (λ j. j.order == o.order) t.jobs ≡ false
     pub new : is_there (λ p. p.order == o.order) before ≡ false

@@ -69,7 +69,7 @@ second_of false b e = e
 
 -- JOBS
 
--- what a job's slot says that isn't wrong, but for its number and order
+-- what a job's slot says that isn't wrong, except its number and order
 abbrev RightJob : Tables → JobRec → Type 0
 RightJob t r =
     (is_above t r.busy ≡ false) × ((is_somebody r.busy && not (may_be_busy r.phase)) ≡ false) × ((in_input r.phase && nat_lt 0 r.cards) ≡ false)

@@ -1,4 +1,4 @@
--- Tables tell the queue that they give, and a queue that they tell is known but for its texts.
+-- Tables tell the queue that they give, and a queue that they tell is known except its texts.
 use Rattle.std.proofs.Common.{◌≡◌, ℕ, List, [], ◌∷◌, map, refl, ap, sym, ◌∙◌, subst}
 use Rattle.std.specs.List.{All}
 use Rattle.std.proofs.lemmas.List.Elements.{All-nil, All-cons, All-head, All-tail, All-weaker}

@@ -28,24 +28,27 @@ pub record HaveLines (t : Tables) (deck : JobRec → Text) (print : OutRec → T
 
 -- tables tell the queue that they give with texts of as many lines
 abbrev pub TellTheirQueue : Type 0
-TellTheirQueue = (t : Tables) (deck : JobRec → Text) (print : OutRec → Text) → HaveLines t deck print → Tell t (queue_of t deck print)
+TellTheirQueue = (t : Tables) (deck : JobRec → Text) (print : OutRec → Text) → HaveLines t deck print
+    → Tell t (queue_of t deck print)
 
 -- the texts are those of the queue's jobs and outputs in order
 pub record AreTextsOf (t : Tables) (Q : Queue) (deck : JobRec → Text) (print : OutRec → Text) : Type 0 where
   pub decks : map deck (listed jobs.order_of t.jobs) ≡ map (λ j. j.text) Q.jobs
   pub prints : map print (listed outputs.order_of t.outputs) ≡ map (λ o. o.text) Q.outputs
 
--- and a queue that they tell is the one that they give with its texts
+-- a queue that tables tell is the one that they give with its texts
 abbrev pub GiveTheirQueue : Type 0
-GiveTheirQueue = (t : Tables) (Q : Queue) (deck : JobRec → Text) (print : OutRec → Text) → Tell t Q → AreTextsOf t Q deck print → queue_of t deck print ≡ Q
+GiveTheirQueue = (t : Tables) (Q : Queue) (deck : JobRec → Text) (print : OutRec → Text) → Tell t Q
+    → AreTextsOf t Q deck print → queue_of t deck print ≡ Q
 
 -- queues that the same tables tell differ in their texts alone
 abbrev pub TellAlike : Type 0
 TellAlike = (t : Tables) (Q R : Queue) → Tell t Q → Tell t R → AreToldAlike Q R
 
--- and so do queues that the same pages tell, which have one level
+-- queues that the same pages tell differ in their texts alone, and have one level
 abbrev pub PagesTellAlike : Type 0
-PagesTellAlike = (pages : List Page) (level age : ℕ) (Q R : Queue) → PagesTell pages level Q → PagesTell pages age R → AreToldAlike Q R × (level ≡ age)
+PagesTellAlike = (pages : List Page) (level age : ℕ) (Q R : Queue) → PagesTell pages level Q → PagesTell pages age R
+    → AreToldAlike Q R × (level ≡ age)
 
 -- empty tables tell the empty queue
 abbrev pub EmptyTellEmpty : Type 0
@@ -57,14 +60,14 @@ SoundTellSound = (t : Tables) → HasSpelling t → AreSound t → TellSound t
 
 -- ORDERS
 
--- tables without a fault have no order twice, and each below the next one
+-- tables without a fault have no order twice, and each of their orders is below the next one
 abbrev pub SoundHaveOrders : Type 0
 SoundHaveOrders = (t : Tables) → AreSound t → HaveOrders t
 
--- and tables of such orders that tell a queue with the sound parts have no fault
+-- tables with different orders below the next one have no fault if they tell a queue with the sound parts
 abbrev pub ToldAreSound : Type 0
 ToldAreSound = (t : Tables) (Q : Queue) → Tell t Q → IsSound Q → HaveOrders t → AreSound t
 
--- empty tables have such orders, having none
+-- empty tables have different orders below the next one, since they have none
 abbrev pub EmptyHaveOrders : Type 0
 EmptyHaveOrders = (config : Config) (routes : List Route) → HaveOrders (empty_tables config routes)

@@ -21,7 +21,7 @@ pub record Tell (t : Tables) (Q : Queue) : Type 0 where
   pub lines : Q.lines ≡ t.lines
   pub last : Q.last ≡ t.last
 
--- they tell a queue with the sound parts
+-- the tables tell a queue with the sound parts
 pub record TellSound (t : Tables) : Type 0 where
   pub queue : Queue
   pub told : Tell t queue

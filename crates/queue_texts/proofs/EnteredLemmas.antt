@@ -54,11 +54,11 @@ module _ (laws : GroupLaws) (m : MemberId) (n : JobNo) (count : ℕ) (gs : List 
   as_given : hs ≡ freed (is_members m) its
   as_given = sym (laws.hands_out m (first_places (thing.Deck n) count) gs (laws.no_members m (thing.Deck n) count))
 
-  -- the deck gets the lowest ones of the member, where it had none
+  -- the deck gets the lowest groups of the member, where it had none
   groups_given : All (λ g. is_things (thing.Deck n) g ≡ false) gs → groups_of (thing.Deck n) hs ≡ take count (held_by m gs)
   groups_given none = ap (groups_of (thing.Deck n)) as_given ∙ laws.freeing m (thing.Deck n) its ∙ laws.lowest m (thing.Deck n) count gs none
 
-  -- another text keeps its groups
+  -- a text other than the deck keeps its groups
   groups_beside : (t : Thing) → AreNotOf t (first_places (thing.Deck n) count) → groups_of t hs ≡ groups_of t gs
   groups_beside t other = ap (groups_of t) as_given ∙ laws.freeing m t its ∙ laws.others m t (first_places (thing.Deck n) count) gs other
 

@@ -142,7 +142,7 @@ any_spares_deck os k (owner.Member m) e = refl
 any_spares_deck os k (owner.Deck l p) e = absurd (cc)
 any_spares_deck os k (owner.Output l j p) e = refl
 
--- those of a job's outputs are none of another job's
+-- groups of one job's outputs are none of another job's outputs
 any_spares_output : (n k : JobNo) (l : OutNo) (os : List QueueOutput) → same_number k n ≡ false → Spares (is_of_any (filter (is_of n) os)) (Output k l)
 any_spares_output n k l os apart owner.Free e = refl
 any_spares_output n k l os apart (owner.Member m) e = refl
@@ -190,7 +190,7 @@ module _ (P : Thing → Text → List GroupNo → Type 0) where
   abbrev O : List Owner → QueueOutput → Type 0
   O gs o = P (Output o.job o.index) o.text (groups_of (Output o.job o.index) gs)
 
-  -- the same with other owners
+  -- what holds of each text with its groups holds with other owners that give each text the same groups
   jobs_of : (gs hs : List Owner) (js : List Job) → All (λ j. groups_of (Deck j.number) hs ≡ groups_of (Deck j.number) gs) js → All (J gs) js → All (J hs) js
   jobs_of gs hs js same all = All-both (λ j. groups_of (Deck j.number) hs ≡ groups_of (Deck j.number) gs) (J gs) (J hs) js (λ j e is. subst (P (Deck j.number) j.text) (sym e) is) same all
 
@@ -329,7 +329,7 @@ module _ (P : Thing → Text → List GroupNo → Type 0) where
         outputs = All-map (O hs) (λ o. if picks o.busy then reset_output o else o) Q.outputs (All-weaker (O hs) (λ o. O hs (if picks o.busy then reset_output o else o)) (reset_output_left hs picks) Q.outputs (outputs_all Q.owners hs Q.outputs same h.outputs));
       }
 
-  -- nothing of it changes
+  -- where jobs, outputs and owners stay, texts stay in their groups
   same_left : (Q R : Queue) → R.jobs ≡ Q.jobs → R.outputs ≡ Q.outputs → R.owners ≡ Q.owners → HoldsOfTexts P Q → HoldsOfTexts P R
   same_left Q R jobs outputs owners h = record {
     decks = subst (λ (gs : List Owner). All (J gs) R.jobs) (sym owners) (subst (All (J Q.owners)) (sym jobs) h.decks);

@@ -22,20 +22,24 @@ abbrev pub groups_for : Queue → MemberId → List (List ℕ) → List GroupNo
 groups_for Q m text = take (groups_needed text) (held_by m Q.owners)
 
 -- the text of one deck or output, and the groups in which it stands
-pub record IsBrought (its : Thing) (lines : List (List ℕ)) (where_it_stands : List GroupNo) (t : Thing) (text : Text) (groups : List GroupNo) : Type 0 where
+pub record IsBrought (its : Thing) (lines : List (List ℕ)) (where_it_stands : List GroupNo) (t : Thing) (text : Text)
+    (groups : List GroupNo) : Type 0 where
   pub of_it : t ≡ its
   pub whole : text ≡ Whole lines
   pub there : groups ≡ where_it_stands
 
 -- each text stands in the groups in which it stood before, or is the one that is brought, in these groups
 abbrev pub BringsText : Queue → Thing → List (List ℕ) → List GroupNo → Queue → Type 0
-BringsText Q its lines groups R = HoldsOfTexts (λ t text gs. IsBrought its lines groups t text gs ⊎ WasThere Q t text gs) R
+BringsText Q its lines groups R = HoldsOfTexts
+    (λ t text gs. IsBrought its lines groups t text gs ⊎ WasThere Q t text gs) R
 
--- so it is where a job in Input is entered
+-- where a job in Input is entered, its text is brought, and each other text stays in its groups
 abbrev pub EntersText : Type 0
-EntersText = (Q : Queue) (m : MemberId) (n : JobNo) (text : List (List ℕ)) → AreTheirOwn Q → ((j : Job) → job_at Q n ≡ Some j → in_input j.phase ≡ true)
+EntersText = (Q : Queue) (m : MemberId) (n : JobNo) (text : List (List ℕ)) → AreTheirOwn Q
+    → ((j : Job) → job_at Q n ≡ Some j → in_input j.phase ≡ true)
     → BringsText Q (Deck n) text (groups_for Q m text) (entered m n text Q)
 
--- and after the command, refused or not
+-- after Enter, refused or not, each text stands where it stood, or is the one that is brought, in its groups
 abbrev pub EnterBringsText : Type 0
-EnterBringsText = (Q : Queue) (m : MemberId) (n : JobNo) (text : List (List ℕ)) → AreTheirOwn Q → BringsText Q (Deck n) text (groups_for Q m text) (step Q m (command.Enter n text)).0
+EnterBringsText = (Q : Queue) (m : MemberId) (n : JobNo) (text : List (List ℕ)) → AreTheirOwn Q
+    → BringsText Q (Deck n) text (groups_for Q m text) (step Q m (command.Enter n text)).0

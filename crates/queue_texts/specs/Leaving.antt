@@ -39,7 +39,7 @@ pub record WasDeck (Q : Queue) (n : JobNo) (text : Text) (groups : List GroupNo)
   pub same : job.text ≡ text
   pub where_it_was : groups_of (Deck n) Q.owners ≡ groups
 
--- and so had an output
+-- an output of this job and index had the text, in these groups
 pub record WasOutput (Q : Queue) (n : JobNo) (i : OutNo) (text : Text) (groups : List GroupNo) : Type 0 where
   pub output : QueueOutput
   pub there : Contains Q.outputs output
@@ -63,21 +63,23 @@ brings_text (command.Ended job specs) = true
 brings_text (command.Got line number job text) = true
 brings_text _ = false
 
--- what of a sound queue doesn't look into its texts: jobs and outputs have numbers of their own, and whose a group is is there
+-- what of a sound queue doesn't look into its texts: jobs and outputs have numbers of their own, and whose a group is
+-- is there
 pub record AreTheirOwn (Q : Queue) : Type 0 where
   pub config : IsConfig Q.config
   pub numbers : AreDistinct (λ a b. same_number a.number b.number) Q.jobs
   pub keys : AreDistinct same_key Q.outputs
   pub owners : All (λ g. is_owner_there Q.config Q.jobs Q.outputs g ≡ true) Q.owners
 
--- a command that brings none leaves the texts of such a queue
+-- a command that brings no text leaves the texts of a queue with different numbers and owners that are there
 abbrev pub OthersLeaveTexts : Type 0
-OthersLeaveTexts = (Q : Queue) (m : MemberId) (c : Command) → brings_text c ≡ false → AreTheirOwn Q → LeavesTexts Q (step Q m c).0
+OthersLeaveTexts = (Q : Queue) (m : MemberId) (c : Command) → brings_text c ≡ false → AreTheirOwn Q
+    → LeavesTexts Q (step Q m c).0
 
--- a sound queue is such
+-- a sound queue has different numbers, and owners that are there
 abbrev pub SoundAreTheirOwn : Type 0
 SoundAreTheirOwn = (Q : Queue) → IsSound Q → AreTheirOwn Q
 
--- and so is a queue of tables that tell a sound one
+-- a queue has different numbers, and owners that are there, if its tables tell a sound queue
 abbrev pub ToldAreTheirOwn : Type 0
 ToldAreTheirOwn = (t : Tables) (Q : Queue) → TellSound t → Tell t Q → AreTheirOwn Q

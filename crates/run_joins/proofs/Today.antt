@@ -113,7 +113,7 @@ module _ (cuts : AreCut) (Q : Queue) (at : ℕ) (b : Book) (free : IsFree Q.conf
   agrees_closed : (end : Closing) → Agrees Q at (course_at Q b sysa at sight (Refused sysa end)) b (Closed end) b
   agrees_closed end = record { outcome = refl; book = refl; free_now = free }
 
-  -- of a member that is up, or none
+  -- the step on a member that is up, or that isn't a member
   by_member : (c : Command) (r : Option LockNo) (of : MemberId) (m : Bool)
       → Agrees Q at (course_at Q b sysa at sight (if not m then Refused sysa no_member else Refused sysa (closing.Up of))) (book_at b sysa (if not m then Refused sysa no_member else Refused sysa (closing.Up of))) (Closed (if m then closing.Up of else no_member)) b
   by_member c r of true = agrees_closed (closing.Up of)

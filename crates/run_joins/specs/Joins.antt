@@ -45,6 +45,8 @@ as_course o = record { batches = o.batches; lines = o.lines }
 
 abbrev pub RunsAreToday : Type 0
 RunsAreToday = (Q : Queue) (seen : List Sight) (steps : List Step)
-    → is_member Q.config sysa ≡ true → Q.config.members ≤ members_most → All (λ step. IsPlain sysa step.by step.what) steps
+    → is_member Q.config sysa ≡ true → Q.config.members ≤ members_most
+    → All (λ step. IsPlain sysa step.by step.what) steps
     → MayFindAll Q 1 (turns_of Q.config seen steps)
-    → map shown (members.outcomes_of Q (found_all seen steps) steps) ≡ map (λ o. shown_whole sysa (as_course o)) (outcomes_of Q (turns_of Q.config seen steps))
+    → map shown (members.outcomes_of Q (found_all seen steps) steps)
+    ≡ map (λ o. shown_whole sysa (as_course o)) (outcomes_of Q (turns_of Q.config seen steps))

@@ -136,7 +136,7 @@ module _ (spells : SpellsOneAtMost) (configs : RunsKeepConfiguration) (sounds : 
       (λ s. usable_of (run base (kept_at J t ++ flying_at J t)) bytes s coming_sound lows)
       (stand_by form_reads base J t last old bytes alike one)
 
-  -- it isn't so that no copy can be used
+  -- a start can't find that no copy can be used
   some_found : (disk_now new Ckpt1).bytes ≡ (disk_now old Ckpt1).bytes → (disk_now new Ckpt2).bytes ≡ (disk_now old Ckpt2).bytes → (one two : CopyState) → StartCauses tells (no_start.NotFormatted one two) old new → ⊥
   some_found same1 same2 one two causes =
       let x = causes.cause in
@@ -179,7 +179,7 @@ pub hinders : SpellsOneAtMost → RunsKeepConfiguration → RunsKeepSound → (f
 hinders spells configs sounds first_tells next_tells told also cold script answer ends base found J since t first last old new was ge le left low large ended e =
     hindered ends ended.begun (ended.unstarted e) (ended.untouched e) ended.cause e
   where
-    -- so what a start would have found isn't so
+    -- what clashes with copies that agree isn't so
     never : (A : Type 0) → (AreGivenIn base J.batches → AreAlike form_reads base J t (left_at last t Ckpt1) (left_at last t Ckpt2) → A → ⊥) → A → ⊥
     never A clash a =
         ∥∥₁_elim (was.steps.safe.alike told) (λ x y. absurd x) (λ (alike : AreAlwaysAlike form_reads base J since last).

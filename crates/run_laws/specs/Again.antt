@@ -27,7 +27,7 @@ pub record IsOutputAgain (gone : ℕ → Bool) (per : ℕ) (owners : List Owner)
   pub same : again ≡ record output { text = again.text }
   pub text : IsTextAgain gone per (groups_of (Output output.job output.index) owners) output.text again.text
 
--- The queue again: all of it, but for texts with a group on a volume that is gone. Each volume has so many groups.
+-- The queue again: all of it, except texts with a group on a volume that is gone. Each volume has so many groups.
 pub record IsQueueAgain (gone : ℕ → Bool) (per : ℕ) (queue again : Queue) : Type 0 where
   pub config : again.config ≡ queue.config
   pub jobs : AllZip (IsJobAgain gone per queue.owners) queue.jobs again.jobs

@@ -27,11 +27,12 @@ pub record IsLow (pages : List Page) (t : Tables) : Type 0 where
   pub low_level : level (bytes_of pages) < 2 ^ 62
   pub low_order : t.order < 2 ^ 62
 
--- so it is of pages that are these bytes, one after another
+-- levels and orders are left on pages that are these bytes, one after another
 abbrev pub AreLow : List ℕ → Type 0
-AreLow bytes = (pages : List Page) (t : Tables) → HaveSize pages → bytes_of pages ≡ bytes → IsCheckpoint pages t → IsLow pages t
+AreLow bytes = (pages : List Page) (t : Tables) → HaveSize pages → bytes_of pages ≡ bytes → IsCheckpoint pages t
+    → IsLow pages t
 
--- and of the pages that each copy reads as
+-- levels and orders are left on the pages that each copy reads as
 pub record BothLow (v : View) : Type 0 where
   pub first : (bytes : List ℕ) → form_reads (disk_now v Ckpt1).bytes ≡ Some bytes → AreLow bytes
   pub second : (bytes : List ℕ) → form_reads (disk_now v Ckpt2).bytes ≡ Some bytes → AreLow bytes
@@ -52,9 +53,9 @@ pub record HasEnded (tells : Type 0) (ends : Status) (found : Queue) (old new : 
   pub cause : IsCaused ends old new
   pub goes : Goes old new
 
--- What hinders a run from beginning is not what stands on the copies, nor a device's size: its words, its script or their source, want of
--- memory, or that both copies were lost: before it, or in it, one at least that wasn't before by an act that failed, and the other so or
--- by the start.
+-- What hinders a run from beginning is not what stands on the copies, nor a device's size: its words, its script or
+-- their source, a lack of memory, or that both copies were lost. The copies were lost before it, or in it, one at least
+-- that wasn't before by an act that failed, and the other so or by the start.
 abbrev pub IsHindered : Status → View → View → Type 0
 IsHindered status.Done old new = ⊥
 IsHindered status.ConsoleFault old new = ⊥

@@ -15,12 +15,13 @@ pub record GivesPages (dev : Dev) (v : View) (found : List ℕ) : Type 0 where
   pub from : (image ≡ (disk_now v dev).bytes) ⊎ IsImage (disk_now v dev) image
   pub read : form_reads image ≡ Some found
 
--- A warm start held the copies so up to a moment, for these pages, and at a moment up to it a crash left what a plant shows. A warm run
--- on that plant finds these pages, or pages that one of the copies gave before the start.
+-- A warm start held the copies so up to a moment, for these pages, and at a moment up to it a crash left what a plant
+-- shows. A warm run on that plant finds these pages, or pages that one of the copies gave before the start.
 abbrev pub FindsWhatWasThere : Type 0 → Type 0
 FindsWhatWasThere next_tells =
     next_tells
     → (since from t : ℕ) (pages : List ℕ) (lost : Dev → ℕ) (found : Queue) (first last old new : View)
     → IsHeldUntil since pages first last → first.now ≤ t → t ≤ since → IsLeftBy t last old
     → (next : IsFoundQueue next_tells old new from lost found)
-    → (bytes_of next.pages ≡ pages) ⊎ (GivesPages Ckpt1 first (bytes_of next.pages) ⊎ GivesPages Ckpt2 first (bytes_of next.pages))
+    → (bytes_of next.pages ≡ pages)
+    ⊎ (GivesPages Ckpt1 first (bytes_of next.pages) ⊎ GivesPages Ckpt2 first (bytes_of next.pages))

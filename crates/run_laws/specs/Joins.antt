@@ -23,19 +23,21 @@ IsQueueOf gone base J t found =
     IsQueueAgain gone base.config.groups (run base (kept_at J t)) found
     ⊎ IsQueueAgain gone base.config.groups (run base (kept_at J t ++ flying_at J t)) found
 
--- The next run begins, with the queue of the moment. Or it doesn't, and where levels and orders are left and the devices are large enough
--- something else hinders it.
+-- The next run begins, with the queue of the moment. Or it doesn't, and where levels and orders are left and the
+-- devices are large enough something else hinders it.
 abbrev pub GoesOn : Queue → Journal → ℕ → View → Status → Queue → View → View → Type 0
 GoesOn base J t last ends found old new =
     ((has_begun found ≡ true) × ∥ IsQueueOf (lost_in last new) base J t found ∥₁)
     ⊎ ((has_begun found ≡ false) × (BothLow old → AreLarge base.config old → IsHindered ends old new))
 
--- A run was played, cold or warm, and at a moment of it a crash left what a plant shows. A warm run on that plant goes on so, whatever its
--- contract says of it.
+-- A run was played, cold or warm, and at a moment of it a crash left what a plant shows. A warm run on that plant goes
+-- on so, whatever its contract says of it.
 abbrev pub FindsWhatIsLeft : Type 0 → Type 0 → Type 0
 FindsWhatIsLeft first_tells next_tells =
     first_tells → next_tells
-    → (cold : Bool) (script next : Script) (answer ends : Status) (base found : Queue) (J K : Journal) (since from t : ℕ) (first last old new : View)
+    → (cold : Bool) (script next : Script) (answer ends : Status) (base found : Queue) (J K : Journal)
+    (since from t : ℕ) (first last old new : View)
     → IsRun cold first_tells script answer base J since first last → since ≤ t → t ≤ last.now → IsLeftBy t last old
-    → HasEnded next_tells ends found old new → (has_begun found ≡ true → IsRun false next_tells next ends found K from old new)
+    → HasEnded next_tells ends found old new
+    → (has_begun found ≡ true → IsRun false next_tells next ends found K from old new)
     → GoesOn base J t last ends found old new

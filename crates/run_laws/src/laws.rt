@@ -12,13 +12,13 @@ pub fn law_of_crashes()
     ensures { CrashesLeave }
 {}
 
-/// A warm run on a plant that shows what a crash at a moment of a run may leave begins, with the queue after the entries that were
-/// kept at the moment, or with the one after these and those that were in flight. Of a text with a group on a volume that either run
-/// lost, only the number of lines is said.
+/// A warm run on a plant that shows what a crash at a moment of a run may leave begins, with the queue after the
+/// entries that were kept at the moment, or with the one after these and those that were in flight. Of a text with a
+/// group on a volume that either run lost, only the number of lines is said.
 ///
-/// It begins: what the copies hold and the sizes of devices don't hinder it, where levels and orders are left and the devices are
-/// large enough. Else want of memory may, or its words or script, or that both copies are lost: the crash left none, or an act failed
-/// in the new run on one that it left.
+/// It begins: what the copies hold and the sizes of devices don't hinder it, where levels and orders are left and the
+/// devices are large enough. Else a lack of memory may, or its words or script, or that both copies are lost: the crash
+/// left none, or an act failed in the new run on one that it left.
 pub fn law_of_next_runs<P: Plant, N: Plant>(left: &P, next: &N)
     ensures { FindsWhatIsLeft P.tells N.tells }
 {
@@ -28,8 +28,8 @@ pub fn law_of_next_runs<P: Plant, N: Plant>(left: &P, next: &N)
     law_of_runs();
 }
 
-/// A warm run on a plant that shows what a crash in a warm start may leave, before the first moment of its run, finds the pages that the
-/// start found, or pages that one of the copies gave before it.
+/// A warm run on a plant that shows what a crash in a warm start may leave, before the first moment of its run, finds
+/// the pages that the start found, or pages that one of the copies gave before it.
 pub fn law_of_early_crashes<N: Plant>(next: &N)
     ensures { FindsWhatWasThere N.tells }
 {

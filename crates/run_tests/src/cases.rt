@@ -50,7 +50,8 @@ pub struct Case {
 }
 
 impl Case {
-    /// A case in which nothing goes wrong, without lines, over devices that have just room for six pages and four groups.
+    /// A case in which nothing goes wrong, without lines, over devices that have just room for six pages and four
+    /// groups.
     pub fn new(alloc: Global) -> Case {
         Case {
             ckpt: 4096 * 35,

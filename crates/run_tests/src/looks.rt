@@ -88,7 +88,8 @@ fn add_outside(
     add_lines(line, &plant.printer_lines(alloc, SYSA)?, 0)
 }
 
-/// How a run ended: its status, how many batches are kept and how many in flight, what is lost, and what it said and printed.
+/// How a run ended: its status, how many batches are kept and how many in flight, what is lost, and what it said and
+/// printed.
 pub fn add_ended(
     alloc: Global,
     line: &mut Vec<u8>,

@@ -1,4 +1,5 @@
-// The modes: a run with its end, a block that it leaves, a crash at each moment, and acts that fail or halt one after another.
+// The modes: a run with its end, a block that it leaves, a crash at each moment, and acts that fail or halt one after
+// another.
 use crate::cases::{Case, device};
 use crate::looks::{add_ended, block, found, kept_and_begun};
 use mas_run::Ended;
@@ -13,7 +14,8 @@ const CHOICES: [(Choice, &[u8]); 3] = [
     (Choice::Ones, b", ones "),
 ];
 
-/// What is told: the lines, the states that starts found, by number, and the stretch of moments or acts with one outcome that isn't told yet.
+/// What is told: the lines, the states that starts found, by number, and the stretch of moments or acts with one
+/// outcome that isn't told yet.
 #[derive(Drop)]
 pub struct Told {
     pub alloc: Global,
@@ -143,7 +145,8 @@ impl Told {
         self.end()
     }
 
-    // The outcome of a run, and what a start finds behind a crash at its end, by an act's number or that of the last moment.
+    // The outcome of a run, and what a start finds behind a crash at its end, by an act's number or that of the last
+    // moment.
     fn ended(&mut self, case: &Case, number: Option<u64>) -> Result<(), NoMemory> {
         let run = case.run(self.alloc)?;
         let mut line = Vec::new(self.alloc);

@@ -1,4 +1,5 @@
--- A step that takes the lock for it, and that nothing cuts, is what its sittings give one after another; afterwards the lock is nobody's.
+-- A step that takes the lock for it, and that nothing cuts, is what its sittings give one after another; afterwards the
+-- lock is nobody's.
 use Rattle.std.proofs.Common.{◌≡◌, ◌⊎◌, inl, inr, ⊎_elim, ℕ, zero, suc, ◌-◌, ◌≤◌, ◌<◌, Bool, true, false, ◌||◌, if◌then◌else◌, List, [], ◌∷◌, ◌++◌, get_or, length, map, set, append_assoc, append-nil, Option, Some, None, is_some, refl, sym, ap, ◌∙◌, subst, arith}
 use Rattle.std.proofs.lemmas.Bool.{eq-eqb, ne_eqb}
 use Rattle.std.proofs.lemmas.List.{get_or-set_same, map-append}
@@ -123,7 +124,7 @@ pub record Holds (b : Book) (m : MemberId) : Type 0 where
   pub up : is_stopped b m ≡ false
   pub holder : b.holder ≡ m
 
--- it gave the lock up
+-- the member gave the lock up: it is up, and nobody holds the lock
 pub record Freed (b : Book) (m : MemberId) : Type 0 where
   pub up : is_stopped b m ≡ false
   pub holder : b.holder ≡ nobody
@@ -197,7 +198,7 @@ module _ (m : MemberId) (some : 0 < m.0) where
   freed_after b p may either =
       freed_as (spent (entered b m) m p.sitting.batches) (spent_holds (entered b m) p.sitting.batches (entered_holds b may)) p.sitting.release either
 
-  -- each of these pieces gives the lock up
+  -- each piece gives the lock up
   abbrev pub GiveUp : List Piece → Type 0
   GiveUp [] = Unit {0}
   GiveUp (p ∷ ps) = ((p.sitting.release ≡ Inner) ⊎ (p.sitting.release ≡ Outer)) × GiveUp ps

@@ -17,11 +17,11 @@ both_entries : (xs ys : List Batched) → entries_of (xs ++ ys) ≡ entries_of x
 both_entries [] ys = refl
 both_entries (x ∷ xs) ys = ap (λ (es : List Entry). x.entries ++ es) (both_entries xs ys) ∙ sym (append_assoc x.entries (entries_of xs) (entries_of ys))
 
--- the same before two lists
+-- a list that begins another does so with the same entries before both
 first_after : (es fs gs : List Entry) → IsFirst fs gs → IsFirst (es ++ fs) (es ++ gs)
 first_after es fs gs p = record { rest = p.rest; are = append_assoc es fs p.rest ∙ ap (λ (xs : List Entry). es ++ xs) p.are }
 
--- and more behind the second
+-- a list that begins another begins it with more entries at its end
 first_more : (es fs gs : List Entry) → IsFirst es fs → IsFirst es (fs ++ gs)
 first_more es fs gs p = record { rest = p.rest ++ gs; are = sym (append_assoc es p.rest gs) ∙ ap (λ (xs : List Entry). xs ++ gs) p.are }
 

@@ -66,7 +66,7 @@ module _ (m : MemberId) (some : 0 < m.0) where
   may_after b (p ∷ ps) may gives =
       let freed = freed_after m some b p may gives.0 in may_after (after_piece b m p) ps (record { up = freed.up; holder = inr freed.holder }) gives.1
 
-  -- at the piece that is cut
+  -- where the member stops at the piece that is cut
   cut_where : (halt : Halt) (b : Book) (p : Piece) → MayHold b m → (p.sitting.release ≡ Inner) ⊎ (p.sitting.release ≡ Outer) → StopsWhere halt m (book_cut m halt b p)
   cut_where (Writing n g) b p may gives = (spent_holds m some (entered b m) (take n p.sitting.batches) (entered_holds m some b may)).holder
   cut_where (Saying n tail) b p may gives = (spent_holds m some (entered b m) p.sitting.batches (entered_holds m some b may)).holder
@@ -88,7 +88,7 @@ module _ (m : MemberId) (some : 0 < m.0) where
   now_stopped b few =
       ap (λ (s : Standing). s.stopped) (get_or-set_same b.members (m.0 - 1) (record (standing b m) { stopped = true }) (beginner 0) (omega (arith, some, few)))
 
-  -- of the pieces from the first that isn't whole on, there is one
+  -- a cut in a step stops its member at a piece: there is a first one that isn't whole
   cut_here : (k : ℕ) (halt : Halt) (l : Left) (ps : List Piece) → k < length ps → GiveUp m some ps → MayHold l.book m
       → let b = (adds_first m true halt (adds_all m true l (take k ps)) (drop k ps)).book in StopsWhere halt m b × (many b ≡ many l.book)
   cut_here zero halt l [] lt gives may = absurd (omega (arith, lt))

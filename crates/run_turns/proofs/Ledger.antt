@@ -223,7 +223,7 @@ module _ (base : Queue) (h : List Batched) (Q : Queue) where
     queue = l.queue;
   }
 
-  -- it becomes a batch with this fate, that isn't in flight
+  -- the batch in flight becomes one with this fate, that isn't in flight
   front_with : (found fate : Fate) (es : List Entry) → settled found (in_flight (Some es)) ≡ with_fate fate es ∷ [] → IsQuiet (with_fate fate es ∷ [])
       → (now : Queue) → ((front : List Batched) → Q ≡ run base (kept_in front) → now ≡ run base (kept_in (front ++ with_fate fate es ∷ [])))
       → Ledger base h Q (Some es) → Ledger base (settled found h) now None
@@ -316,7 +316,7 @@ module _ (base : Queue) where
   silent_keeps S h l =
       add base (settled Flying h) S.queue [] (quiet_splits [] refl) S.flight (λ es is. refl) (settle base h S.queue Flying S.flight l)
 
-  -- of two scenes with that queue and that flight
+  -- a line that is silent keeps the ledger, in either of two scenes
   either_keeps : (u : Bool) (h : List Batched) (one two : Scene) → HasLedger base h one → HasLedger base h two → Keeps base h (if u then silent one else silent two)
   either_keeps true h one two l m = silent_keeps one h l
   either_keeps false h one two l m = silent_keeps two h m

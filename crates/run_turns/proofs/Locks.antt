@@ -47,7 +47,7 @@ use Rattle.run_turns.proofs.Alone.{at_free, at_holder, batches_in, batches_left,
 use Rattle.run_turns.proofs.Tests.{asked_up, reset_as}
 use Rattle.run_turns.proofs.Told.{none_after, told_or}
 
--- A LINE THAT DOESN'T GET THE LOCK leaves the book but for the tick, and for its member's stop
+-- A LINE THAT DOESN'T GET THE LOCK leaves the book except for the tick, and for its member's stop
 
 module _ (by : MemberId) where
   unlocked_whole : (l : Left) (ps : List Piece) → (adds_all by false l ps).book ≡ l.book
@@ -72,7 +72,7 @@ module _ (by : MemberId) where
       ∙ ap (λ (b : Book). b.holder)
       (unlocked_first c.halt (adds_all by false (none_left by play.book count) (take c.sittings play.pieces)) (drop c.sittings play.pieces) ∙ unlocked_whole (none_left by play.book count) (take c.sittings play.pieces))
 
--- such a line
+-- the admission of a line that doesn't get the lock
 abbrev IsIdle : Admission → Type 0
 IsIdle (Refused m end) = Unit {0}
 IsIdle (Denied why) = Unit {0}
@@ -152,14 +152,14 @@ others_leave_the_lock S by at sight what up somebody other ne =
 
 -- A MEMBER THAT HOLDS BY LOCK
 
--- it holds, with so much left
+-- the member holds the lock, with so much of its hold left
 record InHand (b : Book) (m : MemberId) (hold : ℕ) : Type 0 where
   member : IsMember b m
   up : is_stopped b m ≡ false
   holder : b.holder ≡ m
   left : left_of b m ≡ hold
 
--- of a hold so many were spent: it holds on while some is left, and else nobody does
+-- of a hold so many were spent: its member holds the lock while some is left, and else nobody does
 record IsSpent (b : Book) (m : MemberId) (hold total : ℕ) : Type 0 where
   up : is_stopped b m ≡ false
   left : left_of b m ≡ hold - total

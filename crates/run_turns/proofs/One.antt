@@ -141,7 +141,8 @@ module _ (config : Config) (b : Book) (by : MemberId) (up : AreUp b) (member : i
 
 -- A LINE
 
--- where a run of one member stands: nobody holds, nobody is stopped, nothing is in flight; and the book of whole lines beside it
+-- where a run of one member stands: nobody holds, nobody is stopped, nothing is in flight; and the book of whole lines
+-- beside it
 record Stands (by : MemberId) (S : Scene) (c : Book) : Type 0 where
   near : Near S.book c
   up : AreUp c
@@ -346,7 +347,7 @@ module _ (S : Scene) (by : MemberId) (at : ℕ) (sight : Sight) (c : Book) (st :
       let co = course_at S.queue c by at sight d in
       Meets by S.queue (book_at c by d) (shown_whole by co) (all_entries co.batches) (played_as S by at sight a)
 
-  -- the same is admitted at either book
+  -- a step's line is admitted alike at either book
   step_meets : (what : Ask) → IsStep what → MeetsAs (admitted S.queue.config S.book by what) (admitted S.queue.config c by what)
   step_meets what step =
       let r = try_refusal S.book by false in

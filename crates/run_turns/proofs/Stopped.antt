@@ -39,7 +39,7 @@ line_nothing S by at sight what stopped =
     subst (λ (s : Bool). PlaysNothing S (played_as S by at sight (admitted_as (is_member S.queue.config by) s (asked S.queue.config S.book by what)))) (sym stopped)
     (by_whether (is_member S.queue.config by) S by at sight (asked S.queue.config S.book by what))
 
--- of two scenes with the queue and the flight
+-- a line that plays nothing leaves the queue and the flight, in either of two scenes
 either_nothing : (S : Scene) (u : Bool) (one : Scene) → one.queue ≡ S.queue → one.flight ≡ S.flight → PlaysNothing S (if u then silent one else silent S)
 either_nothing S true one q f = record { batches = refl; printed = refl; queue = q; flight = f }
 either_nothing S false one q f = record { batches = refl; printed = refl; queue = refl; flight = refl }

@@ -23,12 +23,12 @@ use Rattle.run_turns.specs.Pieces.{sayer_of}
 
 -- THE TESTS AS TABLES
 
--- by whether the line's member is one, and was stopped
+-- an admission by whether the line's member is one, and was stopped
 abbrev pub admitted_as : Bool → Bool → Admission → Admission
 admitted_as m s a = if not m then Refused nobody no_member else if s then Refused nobody closing.Down else a
 
 module _ (b : Book) (by : MemberId) where
-  -- by whether the member to be reset is one, was stopped and holds
+  -- an admission of a reset by whether the member to be reset is one, was stopped and holds
   abbrev pub reset_as : MemberId → Bool → Bool → Bool → Admission
   reset_as of m s h =
       if not m then Refused by no_member
@@ -45,7 +45,8 @@ not_nobody config m is same = let none : is_member config nobody ≡ true = subs
 
 -- WHAT AN ADMISSION IS
 
--- it isn't a refusal said by another than this member, nor a task that resets, nor the reset of a member that isn't stopped
+-- the admission isn't a refusal said by another than this member, nor a task that resets, nor the reset of a member
+-- that isn't stopped
 record Asked (b : Book) (by : MemberId) (tries : Bool) (a : Admission) : Type 0 where
   sayer : (m : MemberId) (end : Closing) → a ≡ Refused m end → m ≡ by
   says : sayer_of by a ≡ by

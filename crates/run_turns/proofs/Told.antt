@@ -82,7 +82,7 @@ module _ (by : MemberId) (locked : Bool) (halt : Halt) where
   abbrev cut_left_of : ℕ → Left → List Piece → Left
   cut_left_of n l ps = adds_first by locked halt (adds_all by locked l (take n ps)) (drop n ps)
 
-  -- where all pieces are whole
+  -- a cut adds nothing where all pieces are whole
   at_end : (n : ℕ) (l : Left) (ps : List Piece) → ps ≡ [] → cut_left_of n l ps ≡ l
   at_end zero l [] e = refl
   at_end (suc n) l [] e = refl

@@ -1,5 +1,5 @@
--- What a line is tested for before its commands, in this order: whether its member is one, whether it was stopped, what its deck or its reset
--- says, and whether its member gets the lock.
+-- What a line is tested for before its commands, in this order: whether its member is one, whether it was stopped, what
+-- its deck or its reset says, and whether its member gets the lock.
 use Rattle.std.specs.Prelude.{ℕ, false, not, if◌then◌else◌, List, Option, Some, None, Result, Ok, Err}
 use Rattle.mas_types.specs.declared.answers.Closing.{Closing}
 use Rattle.mas_types.specs.declared.answers.Closing.TheVariants as closing
@@ -24,9 +24,9 @@ use Rattle.step_turns.specs.declared.states.Task.TheVariants.{Deck, Give, Work}
 use Rattle.step_turns.specs.declared.states.Grant.{Grant}
 use Rattle.step_turns.specs.declared.states.Grant.TheVariants.{ByLock, ForStep}
 
--- What becomes of a line: it closes so before any try, and this member says it; or its member doesn't get the lock. Else it has the lock, and
--- plays a task, or resets a member; it takes the lock of a stopped holder, and resets that; or it keeps the lock, or gives it up. A line of
--- another kind isn't played.
+-- What becomes of a line: it closes so before any try, and this member says it; or its member doesn't get the lock.
+-- Else it has the lock, and plays a task, or resets a member; it takes the lock of a stopped holder, and resets that;
+-- or it keeps the lock, or gives it up. A line of another kind isn't played.
 pub data Admission : Type 0 where
   Refused : MemberId → Closing → Admission
   Denied : LockNo → Admission

@@ -1,5 +1,5 @@
--- A script of one member that takes no lock from one line to another: decks, commands, work, and losses of devices. Each of its lines gives what
--- it gives as a whole, at the queue and at a book of the lock that knows of no sittings.
+-- A script of one member that takes no lock from one line to another: decks, commands, work, and losses of devices.
+-- Each of its lines gives what it gives as a whole, at the queue and at a book of the lock that knows of no sittings.
 use Rattle.std.specs.Prelude.{◌≡◌, ℕ, ◌+◌, true, false, List, [], ◌∷◌, drop, get_or, map, All, None}
 use Rattle.mas_types.specs.declared.ids.MemberId.{MemberId}
 use Rattle.mas_types.specs.declared.queues.Queue.{Queue}
@@ -20,7 +20,7 @@ use Rattle.run_turns.specs.Cuts.{kept_all, whole}
 use Rattle.run_turns.specs.Runs.{outcomes_of}
 use Rattle.run_turns.specs.Steps.{Outcome, Said, said_by}
 
--- such a line
+-- a line of a script of one member: a deck, a command or work of this member, or the loss of a device
 abbrev pub IsPlain : MemberId → MemberId → Ask → Type 0
 IsPlain by m (ask.Deck cards) = m ≡ by
 IsPlain by m (ask.Command c) = m ≡ by
@@ -32,7 +32,8 @@ IsPlain by m _ = ⊥
 abbrev pub course_at : Queue → Book → MemberId → ℕ → Sight → Admission → Course
 course_at Q b by at sight (Refused sayer end) = record { batches = []; lines = closing_line by at end ∷ [] }
 course_at Q b by at sight (Denied why) = record { batches = []; lines = closing_line by at (denied_closing why) ∷ [] }
-course_at Q b by at sight (Plays task) = course sight.finds Q (record { by = by; step = at; hold = b.hold; grant = ForStep }) task
+course_at Q b by at sight (Plays task) = course sight.finds Q
+    (record { by = by; step = at; hold = b.hold; grant = ForStep }) task
 course_at Q b by at sight _ = record { batches = []; lines = [] }
 
 -- the lock was tried for, and given up at the step's end
@@ -57,7 +58,8 @@ courses_from Q b by at sights (step ∷ steps) =
     c ∷ courses_from (run Q (all_entries c.batches)) (ask_book Q b by step.what) by (at + 1) (drop 1 sights) steps
 
 abbrev pub courses_of : Queue → MemberId → List Sight → List Step → List Course
-courses_of Q by sights steps = courses_from Q (new_book Q.config.members Q.config.hold Q.config.dormancy) by 1 sights steps
+courses_of Q by sights steps = courses_from Q (new_book Q.config.members Q.config.hold Q.config.dormancy) by 1 sights
+    steps
 
 -- batches and lines of a line, all kept and whole
 abbrev pub Shown : Type 0
@@ -71,5 +73,6 @@ shown_whole by c = (kept_all c.batches, map (said_by by) (map whole c.lines))
 
 abbrev pub RunsOfOneAreWhole : Type 0
 RunsOfOneAreWhole = (Q : Queue) (by : MemberId) (sights : List Sight) (steps : List Step)
-    → is_member Q.config by ≡ true → All (λ sight. sight.cut ≡ None) sights → All (λ step. IsPlain by step.by step.what) steps
+    → is_member Q.config by ≡ true → All (λ sight. sight.cut ≡ None) sights
+    → All (λ step. IsPlain by step.by step.what) steps
     → map shown (outcomes_of Q sights steps) ≡ map (shown_whole by) (courses_of Q by sights steps)

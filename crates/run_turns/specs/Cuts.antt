@@ -20,14 +20,14 @@ torn None lines = []
 torn (Some text) [] = []
 torn (Some text) (line ∷ lines) = record { text = text; whole = false } ∷ []
 
--- so many of these lines, and perhaps a torn one in the place of the next
+-- so many of the lines, and perhaps a torn one in the place of the next
 abbrev pub broken : ℕ → Option (List ℕ) → List (List ℕ) → List Line
 broken n tail lines = map whole (take n lines) ++ torn tail (drop n lines)
 
 -- WHAT IS LEFT
 
--- the batches, the lines on the console, those on the member's printer, how many prints were made, the member's count of printed lines, and
--- the book
+-- what a step left: its batches, the lines on the console, those on the member's printer, how many prints were made,
+-- the member's count of printed lines, and the book
 pub record Left : Type 0 where
   pub batches : List Batched
   pub lines : List Line
@@ -46,7 +46,7 @@ entries_of (b ∷ bs) = b.entries ++ entries_of bs
 -- PIECES THAT ARE WHOLE
 
 module _ (by : MemberId) where
-  -- after so much was left, by a member that has the lock or doesn't
+  -- what is left once a whole piece is added, by a member that has the lock or doesn't
   abbrev pub adds : Bool → Left → Piece → Left
   adds locked l p = record {
     batches = l.batches ++ kept_all p.sitting.batches;
@@ -63,7 +63,7 @@ module _ (by : MemberId) where
 
   -- THE PIECE THAT IS CUT
 
-  -- its first entries of the batch that was begun
+  -- the batch that was begun when the piece was cut, with its first entries
   abbrev pub begun : Option Begun → List (List Entry) → List Batched
   begun None ess = []
   begun (Some b) [] = []
@@ -103,7 +103,7 @@ module _ (by : MemberId) where
     book = if locked then book_cut halt l.book p else l.book;
   }
 
-  -- of the first of these pieces, if there is one
+  -- what is left once the first piece is added as the one that is cut, if there is one
   abbrev pub adds_first : Bool → Halt → Left → List Piece → Left
   adds_first locked halt l [] = l
   adds_first locked halt l (p ∷ ps) = adds_part locked halt l p
@@ -125,4 +125,6 @@ module _ (by : MemberId) where
   left_by None play count = adds_all play.locked (none_left play.book count) play.pieces
   left_by (Some cut) play count =
       cut_left cut.cause
-      (adds_first play.locked cut.halt (adds_all play.locked (none_left play.book count) (take cut.sittings play.pieces)) (drop cut.sittings play.pieces))
+      (adds_first play.locked cut.halt
+      (adds_all play.locked (none_left play.book count) (take cut.sittings play.pieces))
+      (drop cut.sittings play.pieces))

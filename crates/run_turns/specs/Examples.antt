@@ -198,7 +198,8 @@ TwoMembers =
     ∷ codes "SYSB 00008 NO NO JOB"
     ∷ [])
 
--- A HOLD IS COUNTED IN COMMANDS: a deck spends three, so that under LOCK a hold of three is spent by it, and one of four isn't.
+-- A HOLD IS COUNTED IN COMMANDS: a deck spends three, so that under LOCK a hold of three is spent by it, and one of
+-- four isn't.
 abbrev pub deck_under_lock : List Step
 deck_under_lock =
     line 1 ask.Lock
@@ -221,11 +222,13 @@ SpentHoldFrees =
 -- The lock is no other member's to give up.
 abbrev pub FreeByAnother : Type 0
 FreeByAnother =
-    Says default_config (line 1 ask.Lock ∷ line 2 ask.Free ∷ line 2 (ask.Command (command.Hold (job 7))) ∷ line 1 ask.Free ∷ line 1 ask.Free ∷ [])
+    Says default_config (line 1 ask.Lock ∷ line 2 ask.Free ∷ line 2 (ask.Command (command.Hold (job 7)))
+    ∷ line 1 ask.Free ∷ line 1 ask.Free ∷ [])
     (codes "SYSA 00001 OK" ∷ codes "SYSB 00002 NO NOT HOLDER" ∷ codes "SYSB 00003 BUSY SYSA" ∷ codes "SYSA 00004 OK" ∷ codes "SYSA 00005 NO NOT HOLDER" ∷ [])
 
 -- A stop of a member above the configured ones does nothing, and so does a second stop.
 abbrev pub StopOfNone : Type 0
 StopOfNone =
-    Says default_config (line 8 ask.Stop ∷ line 8 ask.Lock ∷ line 1 ask.Stop ∷ line 1 ask.Stop ∷ line 1 ask.Lock ∷ line 2 ask.Lock ∷ [])
+    Says default_config (line 8 ask.Stop ∷ line 8 ask.Lock ∷ line 1 ask.Stop ∷ line 1 ask.Stop ∷ line 1 ask.Lock
+    ∷ line 2 ask.Lock ∷ [])
     (codes "SYSH 00002 NO NO MEMBER" ∷ codes "SYSA 00005 DOWN" ∷ codes "SYSB 00006 OK" ∷ [])

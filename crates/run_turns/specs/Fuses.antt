@@ -1,4 +1,5 @@
--- The prints at which a member stops, as a stop was armed at one of its prints. Nothing else of a run tells which act halts.
+-- The prints at which a member stops, as a stop was armed at one of its prints. Nothing else of a run tells which act
+-- halts.
 use Rattle.std.specs.Prelude.{ℕ, ◌+◌, ◌-◌, ◌/◌, nat_le, nat_lt, Bool, ◌&&◌, if◌then◌else◌, List, [], ◌∷◌, drop, length, min, take, Option, Some, None}
 use Rattle.std.specs.Option.{option_map_or}
 use Rattle.mas_types.specs.declared.ids.MemberId.{MemberId}
@@ -36,7 +37,8 @@ half line = take (length line / 2) line
 -- the print after so many of these lines halts at the next one, which is torn; one that fails halts nothing
 abbrev pub halts_after : ℕ → ℕ → List (List ℕ) → Option Cut
 halts_after sittings n [] = None
-halts_after sittings n (line ∷ lines) = Some (record { sittings = sittings; halt = Waiting n (Some (half line)); cause = Stops })
+halts_after sittings n (line ∷ lines) = Some
+    (record { sittings = sittings; halt = Waiting n (Some (half line)); cause = Stops })
 
 -- the n-th print from these pieces on, before which so many sittings stand
 abbrev pub cut_at : ℕ → ℕ → List Piece → Option Cut

@@ -40,43 +40,49 @@ pub record IsUp (config : Config) (b : Book) (m : MemberId) : Type 0 where
   pub member : is_member config m ≡ true
   pub up : is_stopped b m ≡ false
 
--- exactly where the line's member is above the configured ones
+-- a line is refused as one of no member exactly where its member is above the configured ones
 abbrev pub NoSuchMember : Type 0
 NoSuchMember = (config : Config) (b : Book) (by : MemberId) (what : Ask)
     → (admitted config b by what ≡ Refused nobody no_member) ↔ (is_member config by ≡ false)
 
--- exactly where it is one, and was stopped before
+-- a line is refused with Down exactly where its member is a configured one, and was stopped before
 abbrev pub DownIfStopped : Type 0
 DownIfStopped = (config : Config) (b : Book) (by : MemberId) (what : Ask)
-    → (admitted config b by what ≡ Refused nobody closing.Down) ↔ ((is_member config by ≡ true) × (is_stopped b by ≡ true))
+    → (admitted config b by what ≡ Refused nobody closing.Down) ↔
+    ((is_member config by ≡ true) × (is_stopped b by ≡ true))
 
--- of a reset by a member that is up: exactly where the other member is above the configured ones; or is one and isn't stopped
+-- of a reset by a member that is up: exactly where the other member is above the configured ones; or is one and isn't
+-- stopped
 abbrev pub NoSuchReset : Type 0
 NoSuchReset = (config : Config) (b : Book) (by of : MemberId) → IsUp config b by
     → (admitted config b by (ask.Command (command.Reset of)) ≡ Refused by no_member) ↔ (is_member config of ≡ false)
 
 abbrev pub UpIsNotReset : Type 0
 UpIsNotReset = (config : Config) (b : Book) (by of : MemberId) → IsUp config b by
-    → (admitted config b by (ask.Command (command.Reset of)) ≡ Refused by (closing.Up of)) ↔ ((is_member config of ≡ true) × (is_stopped b of ≡ false))
+    → (admitted config b by (ask.Command (command.Reset of)) ≡ Refused by (closing.Up of)) ↔
+    ((is_member config of ≡ true) × (is_stopped b of ≡ false))
 
 -- the lock is taken over exactly from a stopped holder
 abbrev pub HolderIsTakenOver : Type 0
 HolderIsTakenOver = (config : Config) (b : Book) (by of : MemberId) → IsUp config b by
-    → (admitted config b by (ask.Command (command.Reset of)) ≡ TakesOver of) ↔ ((is_member config of ≡ true) × (is_stopped b of ≡ true) × (is_holder b of ≡ true))
+    → (admitted config b by (ask.Command (command.Reset of)) ≡ TakesOver of) ↔
+    ((is_member config of ≡ true) × (is_stopped b of ≡ true) × (is_holder b of ≡ true))
 
 -- no line resets a member that is up, as a command or in another way
 abbrev pub OnlyStoppedAreReset : Type 0
 OnlyStoppedAreReset = (config : Config) (b : Book) (by : MemberId) (what : Ask)
-    → ((of : MemberId) → (admitted config b by what ≡ Resets of) ⊎ (admitted config b by what ≡ TakesOver of) → is_stopped b of ≡ true)
+    → ((of : MemberId) → (admitted config b by what ≡ Resets of) ⊎ (admitted config b by what ≡ TakesOver of)
+    → is_stopped b of ≡ true)
     × ((c : Command) → admitted config b by what ≡ Plays (Give c) → resets c ≡ None)
 
 -- the lock is given up by its holder alone
 abbrev pub OnlyHoldersFree : Type 0
 OnlyHoldersFree = (config : Config) (b : Book) (by : MemberId) → IsUp config b by
-    → ((admitted config b by ask.Free ≡ Refused by closing.NotHolder) ↔ (is_holder b by ≡ false)) × ((admitted config b by ask.Free ≡ Frees) ↔ (is_holder b by ≡ true))
+    → ((admitted config b by ask.Free ≡ Refused by closing.NotHolder) ↔ (is_holder b by ≡ false))
+    × ((admitted config b by ask.Free ≡ Frees) ↔ (is_holder b by ≡ true))
 
--- A line of a member that is up comes to its try of the lock: a deck whose cards are right, a command, also the reset of a stopped member that
--- doesn't hold, work, and LOCK.
+-- A line of a member that is up comes to its try of the lock: a deck whose cards are right, a command, also the reset
+-- of a stopped member that doesn't hold, work, and LOCK.
 abbrev pub deck_tries : Result JobFields BadCard → Bool
 deck_tries (Err bad) = false
 deck_tries (Ok fields) = true
@@ -92,10 +98,11 @@ tries_lock config b (ask.Work n) = true
 tries_lock config b ask.Lock = true
 tries_lock config b _ = false
 
--- then BUSY and DORMANT come exactly as the book says
+-- BUSY and DORMANT come exactly as the book says, to a line that comes to its try of the lock
 abbrev pub DeniedByTheBook : Type 0
 DeniedByTheBook = (config : Config) (b : Book) (by : MemberId) (what : Ask) (why : LockNo) → IsUp config b by
-    → (admitted config b by what ≡ Denied why) ↔ ((tries_lock config b what ≡ true) × (try_refusal b by false ≡ Some why))
+    → (admitted config b by what ≡ Denied why) ↔
+    ((tries_lock config b what ≡ true) × (try_refusal b by false ≡ Some why))
 
 -- who says a line: its member, and the operator for one that is none or was stopped before
 abbrev pub SayersAreRight : Type 0
@@ -112,7 +119,8 @@ NoStopOfTheStopped = (S : Scene) (m : MemberId) → is_up S m ≡ false
 
 -- any other is stopped in the book, and nothing else changes
 abbrev pub StopsAreNoted : Type 0
-StopsAreNoted = (S : Scene) (m : MemberId) → is_up S m ≡ true → stop S m ≡ silent (record S { book = after_stop S.book m })
+StopsAreNoted = (S : Scene) (m : MemberId) → is_up S m ≡ true
+    → stop S m ≡ silent (record S { book = after_stop S.book m })
 
 -- whatever a line of a stopped member asks for, it gives no batch, prints nothing, and leaves the queue
 pub record PlaysNothing (S : Scene) (p : Played) : Type 0 where
@@ -122,7 +130,8 @@ pub record PlaysNothing (S : Scene) (p : Played) : Type 0 where
   pub flight : p.next.flight ≡ S.flight
 
 abbrev pub StoppedPlayNothing : Type 0
-StoppedPlayNothing = (S : Scene) (at : ℕ) (sight : Sight) (step : Step) → is_stopped S.book step.by ≡ true → PlaysNothing S (played S at sight step)
+StoppedPlayNothing = (S : Scene) (at : ℕ) (sight : Sight) (step : Step) → is_stopped S.book step.by ≡ true
+    → PlaysNothing S (played S at sight step)
 
 -- THE HISTORY
 
@@ -132,7 +141,8 @@ pub record IsOfHistory (Q : Queue) (sights : List Sight) (steps : List Step) (S 
   pub flight : S.flight ≡ flying_in (history (outcomes_of Q sights steps))
 
 abbrev pub QueuesAreOfHistory : Type 0
-QueuesAreOfHistory = (Q : Queue) (sights : List Sight) (steps : List Step) → IsOfHistory Q sights steps (scene_after (scene_of Q) 1 sights steps)
+QueuesAreOfHistory = (Q : Queue) (sights : List Sight) (steps : List Step)
+    → IsOfHistory Q sights steps (scene_after (scene_of Q) 1 sights steps)
 
 -- STEPS WITHOUT A CUT
 
@@ -148,7 +158,8 @@ pub record IsAlone (S : Scene) (by : MemberId) (sight : Sight) : Type 0 where
 abbrev pub holds_whole : Scene → MemberId → ℕ → Holder
 holds_whole S by at = record { by = by; step = at; hold = S.book.hold; grant = ForStep }
 
--- It gives what its sittings give one after another, as a whole: its batches are kept, its lines are said, and the lock is nobody's again.
+-- A step gives what its sittings give one after another, as a whole: its batches are kept, its lines are said, and the
+-- lock is nobody's again.
 pub record IsCourse (S : Scene) (by : MemberId) (c : Course) (p : Played) : Type 0 where
   pub batches : p.outcome.batches ≡ kept_all c.batches
   pub said : p.outcome.said ≡ map (said_by by) (map whole c.lines)
@@ -167,10 +178,12 @@ StepsAreCourses = (S : Scene) (by : MemberId) (at : ℕ) (sight : Sight) (task :
 -- a line of another member leaves the lock with its holder, unless it takes it over from a stopped one
 abbrev pub OthersLeaveTheLock : Type 0
 OthersLeaveTheLock = (S : Scene) (by : MemberId) (at : ℕ) (sight : Sight) (what : Ask) → IsUp S.queue.config S.book by
-    → is_somebody S.book.holder ≡ true → is_holder S.book by ≡ false → ((of : MemberId) → admitted S.queue.config S.book by what ≢ TakesOver of)
+    → is_somebody S.book.holder ≡ true → is_holder S.book by ≡ false
+    → ((of : MemberId) → admitted S.queue.config S.book by what ≢ TakesOver of)
     → (played_as S by at sight (admitted S.queue.config S.book by what)).next.book.holder ≡ S.book.holder
 
--- a line of a member that holds by LOCK, of whose hold something is left, while nothing is in flight and where nothing cuts it
+-- a line of a member that holds by LOCK, of whose hold something is left, while nothing is in flight and where nothing
+-- cuts it
 pub record HasLock (S : Scene) (by : MemberId) (sight : Sight) : Type 0 where
   pub member : IsMember S.book by
   pub up : is_stopped S.book by ≡ false
@@ -179,7 +192,8 @@ pub record HasLock (S : Scene) (by : MemberId) (sight : Sight) : Type 0 where
   pub flight : S.flight ≡ None
   pub uncut : sight.cut ≡ None
 
--- Each of its entries spends one of the hold. The member holds on while some of it is left, and nobody does after the line that spent the last.
+-- Each entry of a line of the lock's holder spends one of the hold. The member holds on while some of it is left, and
+-- nobody does after the line that spent the last.
 pub record SpendsHold (S : Scene) (by : MemberId) (p : Played) : Type 0 where
   pub up : is_stopped p.next.book by ≡ false
   pub left : left_of p.next.book by ≡ left_of S.book by - length (entries_of p.outcome.batches)
@@ -187,26 +201,32 @@ pub record SpendsHold (S : Scene) (by : MemberId) (p : Played) : Type 0 where
   pub gives_up : left_of p.next.book by ≡ 0 → p.next.book.holder ≡ nobody
 
 abbrev pub HoldsAreSpent : Type 0
-HoldsAreSpent = (S : Scene) (by : MemberId) (at : ℕ) (sight : Sight) (task : Task) → HasLock S by sight → SpendsHold S by (played_as S by at sight (Plays task))
+HoldsAreSpent = (S : Scene) (by : MemberId) (at : ℕ) (sight : Sight) (task : Task) → HasLock S by sight
+    → SpendsHold S by (played_as S by at sight (Plays task))
 
 -- FREE gives the lock up, LOCK keeps it
 abbrev pub FreeGivesUp : Type 0
-FreeGivesUp = (S : Scene) (by : MemberId) (at : ℕ) (sight : Sight) → HasLock S by sight → (played_as S by at sight Frees).next.book.holder ≡ nobody
+FreeGivesUp = (S : Scene) (by : MemberId) (at : ℕ) (sight : Sight) → HasLock S by sight
+    → (played_as S by at sight Frees).next.book.holder ≡ nobody
 
 abbrev pub LockKeeps : Type 0
 LockKeeps = (S : Scene) (by : MemberId) (at : ℕ) (sight : Sight) → IsAlone S by sight
-    → ((played_as S by at sight Locks).next.book.holder ≡ by) × (left_of (played_as S by at sight Locks).next.book by ≡ S.book.hold)
+    → ((played_as S by at sight Locks).next.book.holder ≡ by)
+    × (left_of (played_as S by at sight Locks).next.book by ≡ S.book.hold)
 
--- WHAT IS SAID IS KEPT: where a line of the step stands, even a torn one, all of its batches are kept, as if nothing had cut it
+-- WHAT IS SAID IS KEPT: where a line of the step stands, even a torn one, all of its batches are kept, as if nothing
+-- had cut it
 
 abbrev pub left_at : Scene → MemberId → ℕ → Sight → Option Cut → Admission → Left
 left_at S by at sight cut a = left_by by cut (play_of S by at sight a) (S.counts by)
 
 abbrev pub SaidIsKept : Type 0
 SaidIsKept = (S : Scene) (by : MemberId) (at : ℕ) (sight : Sight) (a : Admission)
-    → (left_at S by at sight sight.cut a).lines ≢ [] → (left_at S by at sight sight.cut a).batches ≡ (left_at S by at sight None a).batches
+    → (left_at S by at sight sight.cut a).lines ≢ []
+    → (left_at S by at sight sight.cut a).batches ≡ (left_at S by at sight None a).batches
 
--- WHO STOPS in a step that took the lock: at its batches and its lines it holds; in the acts that follow a sitting nobody does
+-- WHO STOPS in a step that took the lock: at its batches and its lines it holds; in the acts that follow a sitting
+-- nobody does
 
 pub record IsGranted (S : Scene) (by : MemberId) : Type 0 where
   pub member : IsMember S.book by
@@ -221,9 +241,11 @@ StopsWhere (Saying n tail) by book = book.holder ≡ by
 StopsWhere (Waiting n tail) by book = book.holder ≡ nobody
 
 abbrev pub StoppedHolders : Type 0
-StoppedHolders = (S : Scene) (by : MemberId) (at : ℕ) (sight : Sight) (task : Task) (cut : Cut) → IsGranted S by → sight.cut ≡ Some cut → cut.cause ≡ Stops
+StoppedHolders = (S : Scene) (by : MemberId) (at : ℕ) (sight : Sight) (task : Task) (cut : Cut) → IsGranted S by
+    → sight.cut ≡ Some cut → cut.cause ≡ Stops
     → cut.sittings < length (play_of S by at sight (Plays task)).pieces
-    → let p = played_as S by at sight (Plays task) in (is_stopped p.next.book by ≡ true) × StopsWhere cut.halt by p.next.book
+    → let p = played_as S by at sight (Plays task) in (is_stopped p.next.book by ≡ true)
+    × StopsWhere cut.halt by p.next.book
 
 -- WHAT A CUT STEP GIVES are the first ones of the entries that it would have given
 
@@ -233,4 +255,5 @@ pub record IsFirst (es fs : List Entry) : Type 0 where
 
 abbrev pub CutsGiveFirst : Type 0
 CutsGiveFirst = (S : Scene) (by : MemberId) (at : ℕ) (sight : Sight) (a : Admission)
-    → IsFirst (entries_of (left_at S by at sight sight.cut a).batches) (entries_of (left_at S by at sight None a).batches)
+    → IsFirst (entries_of (left_at S by at sight sight.cut a).batches)
+    (entries_of (left_at S by at sight None a).batches)

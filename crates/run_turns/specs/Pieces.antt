@@ -1,5 +1,5 @@
--- A line of a member as it goes where nothing cuts it: its sittings one after another, each with the lines that are printed in the acts after it,
--- and what becomes of the lock.
+-- A line of a member as it goes where nothing cuts it: its sittings one after another, each with the lines that are
+-- printed in the acts after it, and what becomes of the lock.
 use Rattle.std.specs.Prelude.{ℕ, zero, suc, ◌+◌, ◌-◌, Bool, true, false, List, [], ◌∷◌, length, take, Option, Some, None}
 use Rattle.std.specs.Option.{option_map_or}
 use Rattle.mas_types.specs.declared.answers.Closing.{Closing}
@@ -38,7 +38,8 @@ use Rattle.run_turns.specs.Sights.{Sight}
 use Rattle.run_turns.specs.Scenes.{Scene, count_then, flight_found, queue_found}
 use Rattle.run_turns.specs.Admissions.{Admission, Denied, Frees, Locks, Plays, Refused, Resets, TakesOver, Unplayed, denied_closing, granted_by, tried}
 
--- a sitting, the lines that are printed in the acts that follow it, and how many prints these are: one more where the printer is found lost
+-- a sitting, the lines that are printed in the acts that follow it, and how many prints these are: one more where the
+-- printer is found lost
 pub record Piece : Type 0 where
   pub sitting : Sitting
   pub printed : List (List ℕ)
@@ -46,7 +47,7 @@ pub record Piece : Type 0 where
 
 -- PRINTING
 
--- so many lines of an output from this one on, as they are printed
+-- so many lines of an output, from line first on, as they are printed
 abbrev pub lines_from : JobNo → OutNo → List (List ℕ) → ℕ → ℕ → List (List ℕ)
 lines_from n i text first zero = []
 lines_from n i text first (suc more) = printed_line n i first text ∷ lines_from n i text (first + 1) more
@@ -56,10 +57,11 @@ abbrev pub chunk_of : ℕ → ℕ → List (List ℕ) → Output → List (List 
 chunk_of count last text o = lines_from o.job o.index text (o.mark + count + 1) (last - (o.mark + count))
 
 abbrev pub chunk : Queue → ℕ → State → Read → List (List ℕ)
-chunk Q count (Away (PrintLines n i last p)) (read.Lines text) = option_map_or (chunk_of count last text) (output_at Q n i) []
+chunk Q count (Away (PrintLines n i last p)) (read.Lines text) = option_map_or (chunk_of count last text)
+    (output_at Q n i) []
 chunk Q count _ _ = []
 
--- where the printer is found lost, so many of them stand on paper, and one more print was tried
+-- a chunk's lines: where the printer is found lost, so many of them stand on paper, and one more print was tried
 abbrev pub inked_of : Bool → ℕ → List (List ℕ) → List (List ℕ)
 inked_of true inked lines = take inked lines
 inked_of false inked lines = lines
@@ -78,22 +80,26 @@ abbrev pub unless_told : State → List Piece → List Piece
 unless_told Told more = []
 unless_told _ more = more
 
--- the next piece of a member that has printed so many lines: its sitting, and the acts that follow it at the queue after it
+-- the next piece of a member that has printed so many lines: its sitting, and the acts that follow it at the queue
+-- after it
 abbrev pub piece_at : Sight → ℕ → Queue → Holder → State → Piece
 piece_at sight count Q h s =
     let t = sit Q h s (sight.finds Q s) in
     let es = all_entries t.batches in
     let now = run Q es in
     let found = sight.finds now t.next in
-    piece_of t found.printer (inked_of found.printer sight.inked (chunk now (count_then h.by es count) t.next found.read))
+    piece_of t found.printer (inked_of found.printer sight.inked
+    (chunk now (count_then h.by es count) t.next found.read))
 
--- so many pieces at most
+-- the pieces of a step from a state on, so many at most
 abbrev pub pieces_from : ℕ → Sight → ℕ → Queue → Holder → State → List Piece
 pieces_from zero sight count Q h s = []
 pieces_from (suc more) sight count Q h s =
     let p = piece_at sight count Q h s in
     let es = all_entries p.sitting.batches in
-    p ∷ unless_told p.sitting.next (pieces_from more sight (count_then h.by es count + length p.printed) (run Q es) (holder_then Q h es) p.sitting.next)
+    p ∷ unless_told p.sitting.next
+    (pieces_from more sight (count_then h.by es count + length p.printed) (run Q es) (holder_then Q h es)
+    p.sitting.next)
 
 abbrev pub task_pieces : Sight → ℕ → Queue → Holder → Task → List Piece
 task_pieces sight count Q h task = pieces_from (task_most task) sight count Q h (Fresh task)
@@ -103,7 +109,8 @@ task_pieces sight count Q h task = pieces_from (task_most task) sight count Q h 
 -- one piece that only closes
 abbrev pub closes_with : MemberId → ℕ → Closing → Release → List Piece
 closes_with by at end release =
-    piece_of (record { batches = []; next = Told; lines = closing_line by at end ∷ []; release = release }) false [] ∷ []
+    piece_of (record { batches = []; next = Told; lines = closing_line by at end ∷ []; release = release }) false []
+    ∷ []
 
 -- a reset closes with the name of the member that was reset
 abbrev pub reset_closing : MemberId → Reply → Closing
@@ -116,16 +123,16 @@ reset_pieces Q h of =
     let t = sit Q h (Fresh (Give c)) nothing_found in
     piece_of (record t { lines = closing_line h.by h.step (reset_closing of (reply_to Q h.by c)) ∷ [] }) false [] ∷ []
 
--- Nobody who has the lock gives anything while nothing is found out of a batch in flight. Its member holds the lock, and is stopped; so only
--- one that took the lock over, and stopped before it found that out, may come so far.
+-- Nobody who has the lock gives anything while nothing is found out of a batch in flight. Its member holds the lock,
+-- and is stopped; so only one that took the lock over, and stopped before it found that out, may come so far.
 abbrev pub once_found : Option (List Entry) → List Piece → List Piece
 once_found None pieces = pieces
 once_found (Some es) pieces = []
 
 -- A LINE
 
--- who says its lines; its pieces; the book once the lock was tried for, and whether its member has the lock; and the queue and the batch in
--- flight as it finds them
+-- a line as it is played: who says its lines; its pieces; the book once the lock was tried for, and whether the member
+-- has the lock; and the queue and the batch in flight as the line finds them
 pub record Play : Type 0 where
   pub sayer : MemberId
   pub pieces : List Piece
@@ -193,7 +200,7 @@ released_by Outer b by = after_free b by false
 abbrev pub entered : Book → MemberId → Book
 entered b by = after_try b by true
 
--- each entry spends one of the hold
+-- the book after batches: each entry spends one of the hold
 abbrev pub spent : Book → MemberId → List (List Entry) → Book
 spent b by ess = after_spend b by (length (all_entries ess))
 

@@ -56,13 +56,14 @@ PrintingIsTakenOver =
     ∷ codes "SYSB 00008 OK DONE 4"
     ∷ [])
 
--- so many lines on paper, from this one on
+-- so many lines of the output on paper, from line first on
 abbrev pub paper_from : ℕ → ℕ → List (List ℕ)
 paper_from first zero = []
 paper_from first (suc more) =
     (codes "JOB00001.01 " ++ in_digits 8 first ++ codes " LINE " ++ decimal first ++ codes " OF 25") ∷ paper_from (first + 1) more
 
--- The first member's paper has lines 1 to 17 and half of line 18; the other's has lines 11 to 25, since the mark stood at 10.
+-- The first member's paper has lines 1 to 17 and half of line 18; the other's has lines 11 to 25, since the mark stood
+-- at 10.
 abbrev pub PaperGoesOnAtTheMark : Type 0
 PaperGoesOnAtTheMark =
     let os = calm_run (empty default_config) printing_lines in

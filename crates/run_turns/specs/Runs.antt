@@ -11,8 +11,8 @@ use Rattle.run_turns.specs.Sights.{Sight, clear}
 use Rattle.run_turns.specs.Scenes.{Batched, Scene, scene_of, with_fate}
 use Rattle.run_turns.specs.Steps.{Outcome, Said, played}
 
--- LINES ONE AFTER ANOTHER, of which the first has this number, up to one that ends the run. What they found stands in a list, and nothing was
--- found lost by those after its end.
+-- LINES ONE AFTER ANOTHER, of which the first has this number, up to one that ends the run. What they found stands in a
+-- list, and nothing was found lost by those after its end.
 
 abbrev pub outcomes_if : Bool → List Outcome → List Outcome
 outcomes_if true os = os

@@ -52,9 +52,9 @@ pub record Armed : Type 0 where
 
 -- THE SCENE
 
--- The queue after what is kept; the book of the lock, which says who holds, who is stopped, and what is left of each hold; a batch in flight,
--- whose member stopped as it wrote it; how many lines each member has printed since it last took up an output or moved its mark; and the
--- stops that were armed.
+-- The queue after what is kept; the book of the lock, which says who holds, who is stopped, and what is left of each
+-- hold; a batch in flight, whose member stopped as it wrote it; how many lines each member has printed since it last
+-- took up an output or moved its mark; and the stops that were armed.
 pub record Scene : Type 0 where
   pub queue : Queue
   pub book : Book
@@ -62,7 +62,7 @@ pub record Scene : Type 0 where
   pub counts : Counts
   pub armed : List Armed
 
--- before the first line
+-- the scene before the first line
 abbrev pub scene_of : Queue → Scene
 scene_of Q = record {
   queue = Q;
@@ -88,6 +88,6 @@ flight_found Flying flight = flight
 abbrev pub count_then : MemberId → List Entry → ℕ → ℕ
 count_then by es count = if list_any (begins_anew by) es then 0 else count
 
--- the member's count is this
+-- the counts, where the member's count is this
 abbrev pub with_count : MemberId → ℕ → Counts → Counts
 with_count by count counts m = if same_member m by then count else counts m

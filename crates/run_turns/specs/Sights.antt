@@ -7,14 +7,15 @@ use Rattle.step_turns.specs.Examples.{calm}
 
 -- WHERE A STEP WAS CUT
 
--- of a batch that its member was about to keep: its first entries, so many, and what had become of them when the step was cut
+-- of a batch that its member was about to keep: its first entries, so many, and what had become of them when the step
+-- was cut
 pub record Begun : Type 0 where
   pub entries : ℕ
   pub fate : Fate
 
--- Under the lock, before the lines: so many batches of the sitting were kept, and one more was begun, perhaps. Or at the lines with which the
--- step closes, of which so many stand, and perhaps a torn one after them. Or in the acts that follow the sitting, in which so many lines were
--- printed, and perhaps a torn one.
+-- Under the lock, before the lines: so many batches of the sitting were kept, and one more was begun, perhaps. Or at
+-- the lines with which the step closes, of which so many stand, and perhaps a torn one after them. Or in the acts that
+-- follow the sitting, in which so many lines were printed, and perhaps a torn one.
 pub data Halt : Type 0 where
   Writing : ℕ → Option Begun → Halt
   Saying : ℕ → Option (List ℕ) → Halt
@@ -25,7 +26,7 @@ pub data Cause : Type 0 where
   Stops : Cause
   Ends : Cause
 
--- So many sittings of the step are whole, with the acts that follow them; the next one was cut.
+-- Where a step was cut: so many of its sittings are whole, with the acts that follow them; the next one was cut.
 pub record Cut : Type 0 where
   pub sittings : ℕ
   pub halt : Halt
@@ -33,8 +34,8 @@ pub record Cut : Type 0 where
 
 -- WHAT A STEP FOUND
 
--- what its acts found, how many lines of a chunk the printer took that was then found lost, what a takeover found of the batch in flight,
--- nothing yet being Flying, and where the step was cut, if it was
+-- what its acts found, how many lines of a chunk the printer took that was then found lost, what a takeover found of
+-- the batch in flight, nothing yet being Flying, and where the step was cut, if it was
 pub record Sight : Type 0 where
   pub finds : Finds
   pub inked : ℕ

@@ -31,8 +31,8 @@ pub record Said : Type 0 where
 abbrev pub said_by : MemberId → Line → Said
 said_by by line = record { by = by; line = line }
 
--- What a line comes to: what it found of a batch in flight, its batches, its lines on the console and on its member's printer, and a device
--- that it lost.
+-- What a line comes to: what it found of a batch in flight, its batches, its lines on the console and on its member's
+-- printer, and a device that it lost.
 pub record Outcome : Type 0 where
   pub found : Fate
   pub batches : List Batched
@@ -40,7 +40,7 @@ pub record Outcome : Type 0 where
   pub printed : List Line
   pub loses : Option Dev
 
--- with what it leaves for the next line, if the run goes on
+-- a line's outcome, with what it leaves for the next line, if the run goes on
 pub record Played : Type 0 where
   pub outcome : Outcome
   pub next : Scene
@@ -62,10 +62,11 @@ is_up S m = if is_member S.queue.config m then not (is_stopped S.book m) else fa
 abbrev pub stop : Scene → MemberId → Played
 stop S m = if is_up S m then silent (record S { book = after_stop S.book m }) else silent S
 
--- or is to halt later
+-- a member that is up is to halt later, at an act or a print
 abbrev pub arm : Scene → MemberId → Fuse → ℕ → Played
 arm S m what n =
-    if is_up S m then silent (record S { armed = S.armed ++ record { member = m; fuse = what; left = n } ∷ [] }) else silent S
+    if is_up S m then silent (record S { armed = S.armed ++ record { member = m; fuse = what; left = n } ∷ [] }) else
+    silent S
 
 abbrev pub lose : Scene → Dev → Played
 lose S dev = record { outcome = record nothing { loses = Some dev }; next = S; goes_on = true }

@@ -31,7 +31,7 @@ stopped_deck =
     ∷ line 2 (ask.Command (command.Show what.Queue))
     ∷ []
 
--- so many sittings are whole, and this is where the next one was cut
+-- a step of which so many sittings are whole, and the next one was cut so
 abbrev pub cut_in : ℕ → Halt → Sight
 cut_in sittings halt = record clear { cut = Some (record { sittings = sittings; halt = halt; cause = Stops }) }
 
@@ -43,7 +43,8 @@ abbrev pub sights_of : ℕ → Halt → Fate → List Sight
 sights_of sittings halt fate = clear ∷ cut_in sittings halt ∷ finds_it fate ∷ []
 
 abbrev pub said_after : ℕ → Halt → Fate → List Line
-said_after sittings halt fate = map (λ s. s.line) (console (outcomes_of (empty default_config) (sights_of sittings halt fate) stopped_deck))
+said_after sittings halt fate = map (λ s. s.line)
+    (console (outcomes_of (empty default_config) (sights_of sittings halt fate) stopped_deck))
 
 -- what is said in any case, between what the deck said and what the queue holds
 abbrev pub says_around : List Line → List (List ℕ) → List Line
@@ -65,8 +66,9 @@ flies entries = Writing 0 (Some (record { entries = entries; fate = Flying }))
 abbrev pub torn_line : Line
 torn_line = record { text = codes "SYSA 00002"; whole = false }
 
--- Before its first batch there is no job, and after it one that never was entered; after its second batch it is entered. A batch in flight counts
--- as the takeover finds it. The job is entered wherever the deck's line stands, even a torn one.
+-- Before its first batch there is no job, and after it one that never was entered; after its second batch it is
+-- entered. A batch in flight counts as the takeover finds it. The job is entered wherever the deck's line stands, even
+-- a torn one.
 abbrev pub DeckStopsAnywhere : Type 0
 DeckStopsAnywhere =
     (said_after 0 (Writing 0 None) Flying ≡ says_around [] no_job)
@@ -80,9 +82,11 @@ DeckStopsAnywhere =
     × (said_after 1 (Saying 0 (Some (codes "SYSA 00002"))) Flying ≡ says_around (torn_line ∷ []) in_convert)
     × (said_after 1 (Saying 1 None) Flying ≡ says_around (whole (codes "SYSA 00002 OK JOB00001") ∷ []) in_convert)
 
--- What became of each batch: the deck's first is kept, its second was in flight and is dropped, then the reset and the display.
+-- What became of each batch: the deck's first is kept, its second was in flight and is dropped, then the reset and the
+-- display.
 abbrev pub fates_after : ℕ → Halt → Fate → List Fate
-fates_after sittings halt fate = map (λ b. b.fate) (history (outcomes_of (empty default_config) (sights_of sittings halt fate) stopped_deck))
+fates_after sittings halt fate = map (λ b. b.fate)
+    (history (outcomes_of (empty default_config) (sights_of sittings halt fate) stopped_deck))
 
 abbrev pub FlightIsSettled : Type 0
 FlightIsSettled =
@@ -107,7 +111,8 @@ StartFindsAlike =
     × (queue_shown 1 (flies 1) Dropped ≡ codes "JOB00001 A A 05 PURGE - -" ∷ [])
     × (queue_shown 1 (flies 1) Kept ≡ codes "JOB00001 A A 05 CONVERT - -" ∷ [])
 
--- THE LOCK IN THE MIDDLE OF A STEP: while a member's text is written another may take the lock, and is busy then to the first
+-- THE LOCK IN THE MIDDLE OF A STEP: while a member's text is written another may take the lock, and is busy then to the
+-- first
 
 abbrev pub LockIsFreeInTheMiddle : Type 0
 LockIsFreeInTheMiddle =
@@ -115,8 +120,8 @@ LockIsFreeInTheMiddle =
     (try_refusal b (member 1) false ≡ None)
     × (try_refusal (after_try b (member 1) false) (member 2) true ≡ Some (lock.Busy (member 1)))
 
--- WHO HELD WHEN IT STOPPED still holds, at its own batches and lines; in acts that want no lock it doesn't, unless LOCK had taken it. Who takes
--- the lock over gives it up at its step's end.
+-- WHO HELD WHEN IT STOPPED still holds, at its own batches and lines; in acts that want no lock it doesn't, unless LOCK
+-- had taken it. Who takes the lock over gives it up at its step's end.
 
 abbrev pub locked_deck : List Step
 locked_deck = line 1 ask.Lock ∷ line 1 (ask.Deck (codes "//A JOB" ∷ [])) ∷ []

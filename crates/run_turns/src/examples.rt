@@ -3,7 +3,8 @@ ghost use Rattle.run_turns.specs.Examples.{DormantOnce, FreeByAnother, HoldOfOne
 ghost use Rattle.run_turns.specs.PrintExamples.{PaperGoesOnAtTheMark, PrintingIsTakenOver};
 ghost use Rattle.run_turns.specs.StopExamples.{DeckStopsAnywhere, FlightIsSettled, LockIsFreeInTheMiddle, StartFindsAlike, StoppedHolderHolds};
 
-/// What scripts of several members say: the lock from one line to another, stops, resets and a takeover, a hold that is spent, and dormancy.
+/// What scripts of several members say: the lock from one line to another, stops, resets and a takeover, a hold that is
+/// spent, and dormancy.
 pub fn examples_of_members()
     ensures busy { LockAndBusy }
     ensures down { MemberNotUp }
@@ -19,7 +20,8 @@ pub fn examples_of_members()
     ensures stop { StopOfNone }
 {}
 
-/// A member that stops at each act of a deck, with what a takeover finds, what a start would find, and who holds the lock.
+/// A member that stops at each act of a deck, with what a takeover finds, what a start would find, and who holds the
+/// lock.
 pub fn examples_of_stops()
     ensures deck { DeckStopsAnywhere }
     ensures settled { FlightIsSettled }

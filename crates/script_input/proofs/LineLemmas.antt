@@ -21,7 +21,7 @@ reached true zero n ns e = refl
 reached true (suc left) n ns e = absurd (let no : suc left ≡ 0 = eqb-true (suc left) 0 e in omega (arith, no))
 reached false left n ns e = absurd (cc)
 
--- behind a line
+-- what a list has at a place is found after an item that was passed
 pub passed : (is : Bool) (left n : ℕ) (ns : List ℕ) → (is && (left == 0)) ≡ false → slice_index_or (if is then n ∷ ns else ns) left 0 ≡ slice_index_or ns (if is then left - 1 else left) 0
 passed true zero n ns e = absurd (cc)
 passed true (suc left) n ns e = let less : suc left - 1 ≡ left = omega arith in rw less refl

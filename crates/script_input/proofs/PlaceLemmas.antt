@@ -35,7 +35,7 @@ use Rattle.script_input.proofs.ByCases.{by_test}
 
 -- WORDS
 
--- the same word at each place
+-- the two lists have the same word at each place
 abbrev AreSame : List (List ℕ) → List (List ℕ) → Type 0
 AreSame one other = (k : ℕ) → slice_index_or one k [] ≡ slice_index_or other k []
 

@@ -11,7 +11,8 @@ use Rattle.script_input.specs.Lines.{step_lines}
 
 -- where a script is read, each of its steps has its line, and no other line is one of a step
 abbrev pub PlacesSteps : Type 0
-PlacesSteps = (run : Run) (bytes : List ℕ) (script : Script) → said run bytes ≡ Ok script → length (step_lines false 1 (lines_of bytes)) ≡ length script.steps
+PlacesSteps = (run : Run) (bytes : List ℕ) (script : Script) → said run bytes ≡ Ok script
+    → length (step_lines false 1 (lines_of bytes)) ≡ length script.steps
 
 -- a command is one that an operator types
 abbrev pub IsTypedIn : Ask → Type 0
@@ -20,4 +21,5 @@ IsTypedIn _ = Unit {0}
 
 -- a script gives no other commands than those that an operator types
 abbrev pub TypesCommands : Type 0
-TypesCommands = (run : Run) (bytes : List ℕ) (script : Script) → said run bytes ≡ Ok script → All (λ step. IsTypedIn step.what) script.steps
+TypesCommands = (run : Run) (bytes : List ℕ) (script : Script) → said run bytes ≡ Ok script
+    → All (λ step. IsTypedIn step.what) script.steps

@@ -12,7 +12,8 @@ use Rattle.script_input.specs.Commands.{is_typed}
 abbrev pub sysa : MemberId
 sysa = record { 0 = 1 }
 
--- What a member may ask for, so far: SYSA reads a deck, gives a command that an operator types, or works; a device is lost.
+-- What a member may ask for, so far: SYSA reads a deck, gives a command that an operator types, or works; a device is
+-- lost.
 abbrev pub may_ask : MemberId → Ask → Bool
 may_ask by (ask.Deck cards) = by.0 == 1
 may_ask by (ask.Command given) = (by.0 == 1) && is_typed given

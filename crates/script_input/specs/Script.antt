@@ -24,7 +24,7 @@ abbrev pub played : List (List ℕ) → Said → Said
 played lines (Ok script) = unless_unbuilt (step_lines false 1 lines) (first_unbuilt script.steps) script
 played lines (Err why) = Err why
 
--- What a script says in a run: what the whole language refuses is refused; else the least step that is not played is refused at its line, by
--- NotBuilt. Lines are numbered from 1.
+-- What a script says in a run: what the whole language refuses is refused; else the least step that is not played is
+-- refused at its line, by NotBuilt. Lines are numbered from 1.
 abbrev pub read_as : Run → List ℕ → Said
 read_as run bytes = played (lines_of bytes) (said run bytes)

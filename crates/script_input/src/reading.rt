@@ -22,7 +22,7 @@ pub enum SourceError {
     /// The source has over `SCRIPT_BYTES` bytes.
     #[error("the script is too long")]
     TooLong,
-    /// There was no memory.
+    /// Out of memory.
     #[error("no memory")]
     NoMemory,
 }
@@ -87,7 +87,8 @@ pub fn read_source<S: Source>(alloc: Global, source: &mut S) -> Result<List<u8>,
 
     // There is a byte too many, and it was taken.
     ensures too_long { S.tells → IsErrOf result SourceError.TooLong → SCRIPT_BYTES < length (S.left source.old) }
-    ensures read { S.tells → IsErrOf result SourceError.TooLong → S.left source.new ≡ drop (SCRIPT_BYTES + 1) (S.left source.old) }
+    ensures read { S.tells → IsErrOf result SourceError.TooLong
+        → S.left source.new ≡ drop (SCRIPT_BYTES + 1) (S.left source.old) }
 
     // Whatever comes, what is left is the rest of what was left.
     ensures taken { S.tells → TakesAtMost (SCRIPT_BYTES + 1) (S.left source.old) (S.left source.new) }

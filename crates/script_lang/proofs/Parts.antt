@@ -42,7 +42,7 @@ more_lines : (part : List ℕ) (parts : List (List ℕ)) → 0 < length parts �
 more_lines part [] h = absurd (omega arith)
 more_lines part (next ∷ parts) h = refl
 
--- there is a part
+-- a text that is split has at least one part
 pub split_some : (p : ℕ → Bool) (text : List ℕ) → 0 < length (slice_split p text)
 split_some p text = omega (arith, length-slice_split p text)
 

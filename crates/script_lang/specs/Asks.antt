@@ -30,8 +30,8 @@ member_of text =
     if (length text == 4) && starts_with nat_eq text (codes "SYS") && is_member_letter (slice_index text 3)
     then Some (record { 0 = slice_index text 3 - 64 }) else None
 
--- The member of a line: of LOSE nobody, of STOP the second word's, else the first word's. None where no member stands there.
--- STOP alone lacks a word, which is another cause.
+-- The member of a line: of LOSE nobody, of STOP the second word's, else the first word's. None where no member stands
+-- there. STOP alone lacks a word, which is another cause.
 abbrev pub member_in : List (List ℕ) → Option MemberId
 member_in words =
     if has_word words 0 (codes "LOSE") then Some nobody
@@ -151,7 +151,7 @@ abbrev pub step_by : Run → List (List ℕ) → Option MemberId → Result Step
 step_by run words None = Err cause.Member
 step_by run words (Some by) = if run.race && is_calm words then Err cause.Race else step_with by (asks words)
 
--- The step of a line other than CONFIG, or the first cause that applies to it: Only, Member, Race, and then Verb, Number or
--- Command
+-- The step of a line other than CONFIG, or the first cause that applies to it: Only, Member, Race, and then Verb,
+-- Number or Command
 abbrev pub step_of : Run → List (List ℕ) → Result Step LineCause
 step_of run words = if run.only then Err cause.Only else step_by run words (member_in words)

@@ -18,9 +18,10 @@ use Rattle.script_lang.specs.Lines.{word_at}
 
 -- a number from the least to the greatest, of 1 to 10 digits
 abbrev pub number_in : ℕ → ℕ → List ℕ → Option ℕ
-number_in least most text = if is_numeral text && nat_le (value_of text) most && nat_le least (value_of text) then Some (value_of text) else None
+number_in least most text = if is_numeral text && nat_le (value_of text) most && nat_le least (value_of text) then Some
+    (value_of text) else None
 
--- the same, where it is a multiple of the step
+-- the number, if it is a multiple of the step
 abbrev pub multiple_of : ℕ → Option ℕ → Option ℕ
 multiple_of step None = None
 multiple_of step (Some n) = if n % step == 0 then Some n else None
@@ -79,8 +80,8 @@ with_other g key value =
     else if bytes_eq key (codes "NODE") then option_map (λ n. record g { node = Some n }) (once g.node (name_in value))
     else None
 
--- One key with its value; none where the key is none or was given before, or its value isn't within the limits. MEMBERS to
--- GROUPS say how many there are of something.
+-- One key with its value; none where the key is none or was given before, or its value isn't within the limits. MEMBERS
+-- to GROUPS say how many there are of something.
 abbrev pub with_size : Given → List ℕ → List ℕ → Option Given
 with_size g key value =
     if bytes_eq key (codes "MEMBERS") then option_map (λ n. record g { members = Some n }) (once g.members (number_in 1 members_most value))
@@ -91,7 +92,8 @@ with_size g key value =
     else with_other g key value
 
 abbrev pub with_routes : Given → List ℕ → Option Given
-with_routes g value = if is_some g.routes then None else option_map (λ rs. record g { routes = Some rs }) (routes_behind [] (between_pluses value))
+with_routes g value = if is_some g.routes then None else option_map (λ rs. record g { routes = Some rs })
+    (routes_behind [] (between_pluses value))
 
 abbrev pub with_key : Given → List ℕ → List ℕ → Option Given
 with_key g key value = if bytes_eq key (codes "ROUTES") then with_routes g value else with_size g key value
@@ -103,12 +105,23 @@ with_halves g (Some (key, value)) = with_key g key value
 -- what operands give, behind others
 abbrev pub with_operands : Given → List (List ℕ) → Option Given
 with_operands g [] = Some g
-with_operands g (operand ∷ operands) = option_and_then (λ h. with_operands h operands) (with_halves g (halves_at_equals operand))
+with_operands g (operand ∷ operands) = option_and_then (λ h. with_operands h operands)
+    (with_halves g (halves_at_equals operand))
 
 -- THE WHOLE LINE
 
 abbrev pub nothing_given : Given
-nothing_given = record { members = None; jobs = None; outputs = None; volumes = None; groups = None; hold = None; dormancy = None; node = None; routes = None }
+nothing_given = record {
+  members = None;
+  jobs = None;
+  outputs = None;
+  volumes = None;
+  groups = None;
+  hold = None;
+  dormancy = None;
+  node = None;
+  routes = None;
+}
 
 -- what is not given has its default
 abbrev pub config_of : Given → Config
@@ -129,9 +142,10 @@ setup_of g = record { config = config_of g; routes = unwrap_or g.routes [] }
 -- no two routes have one name, and none has the own node's
 abbrev pub are_apart : Name8 → List Route → Bool
 are_apart own [] = true
-are_apart own (r ∷ rs) = not (same_name r.name own) && not (list_any (λ s. same_name r.name s.name) rs) && are_apart own rs
+are_apart own (r ∷ rs) = not (same_name r.name own) && not (list_any (λ s. same_name r.name s.name) rs) && are_apart own
+    rs
 
--- at most 63 routes with different names
+-- a setup has at most 63 routes, with different names
 abbrev pub is_sound : Setup → Bool
 is_sound setup = nat_le (length setup.routes) routes_most && are_apart setup.config.node setup.routes
 

@@ -11,7 +11,8 @@ use Rattle.mas_types.specs.Names.{is_blank, unpadded}
 abbrev pub is_line_end : ℕ → Bool
 is_line_end b = b == 10
 
--- The parts between line ends as lines. A last part that is empty is none, and each loses one carriage return at its end.
+-- The parts between line ends as lines. A last part that is empty is none, and each loses one carriage return at its
+-- end.
 abbrev pub lines_of_parts : List (List ℕ) → List (List ℕ)
 lines_of_parts [] = []
 lines_of_parts (part ∷ []) = if length part == 0 then [] else strip_carriage_return part ∷ []
@@ -21,7 +22,7 @@ lines_of_parts (part ∷ next ∷ parts) = strip_carriage_return part ∷ lines_
 abbrev pub lines_of : List ℕ → List (List ℕ)
 lines_of bytes = lines_of_parts (slice_split is_line_end bytes)
 
--- at most 255 text bytes
+-- a line of a script: at most 255 text bytes
 abbrev pub is_line : List ℕ → Bool
 is_line line = nat_le (length line) script_line_bytes && is_text_line line
 

@@ -32,7 +32,12 @@ Next = Result State LineCause
 
 abbrev pub with_setup : State → Option Setup → Next
 with_setup s None = Err cause.Config
-with_setup s (Some setup) = Ok (record { script = record { config = setup.config; routes = setup.routes; steps = s.script.steps }; seen = true; deck = None })
+with_setup s (Some setup) = Ok
+    (record {
+      script = record { config = setup.config; routes = setup.routes; steps = s.script.steps };
+      seen = true;
+      deck = None;
+    })
 
 -- a CONFIG line: the first cause of Late, Warm and Config, or what it sets
 abbrev pub next_config : Run → State → List (List ℕ) → Next
@@ -49,7 +54,12 @@ has_room s = nat_lt (length s.script.steps) steps_most
 
 abbrev pub with_step : State → MemberId → Ask → State
 with_step s by what = record {
-  script = record { config = s.script.config; routes = s.script.routes; steps = s.script.steps ++ (record { by = by; what = what }) ∷ [] };
+  script = record {
+    config = s.script.config;
+    routes = s.script.routes;
+    steps = s.script.steps
+        ++ (record { by = by; what = what }) ∷ [];
+  };
   seen = true;
   deck = None;
 }
@@ -70,7 +80,8 @@ next_deck s ends by = if ends then if_room s (with_deck s by []) else Err cause.
 
 -- the line of a step
 abbrev pub next_asked : State → Bool → Step → Next
-next_asked s ends step = if is_deck step.what then next_deck s ends step.by else if_room s (with_step s step.by step.what)
+next_asked s ends step = if is_deck step.what then next_deck s ends step.by else if_room s
+    (with_step s step.by step.what)
 
 abbrev pub next_step : State → Bool → Result Step LineCause → Next
 next_step s ends (Err why) = Err why
@@ -120,7 +131,8 @@ and_then number more (Err why) = Err (no.BadLine number why)
 -- what the lines from this number on say, behind what was said before
 abbrev pub said_from : Run → ℕ → State → List (List ℕ) → Said
 said_from run number s [] = Ok s.script
-said_from run number s (line ∷ lines) = and_then number (λ t. said_from run (number + 1) t lines) (next run s (list_any is_deck_end lines) line)
+said_from run number s (line ∷ lines) = and_then number (λ t. said_from run (number + 1) t lines)
+    (next run s (list_any is_deck_end lines) line)
 
 -- what a script says. Lines are numbered from 1, skipped ones and cards too
 abbrev pub said : Run → List ℕ → Said

@@ -77,7 +77,8 @@ pub fn is_deck_end(line: &[u8]) -> bool
     line == b"++END".as_slice()
 }
 
-/// The number of lines before the first that ends a deck, and the script from that line on. None where no line ends a deck.
+/// The number of lines before the first that ends a deck, and the script from that line on. None where no line ends a
+/// deck.
 pub(crate) fn deck_end(script: &[u8]) -> Option<(usize, &[u8])>
     ensures found { is_some result ≡ list_any is_deck_end_lem (lines_of script.now) }
     ensures lines { IfSome result (λ end. end.0 ≡ position_or_len is_deck_end_lem (lines_of script.now)) }

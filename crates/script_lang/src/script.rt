@@ -109,7 +109,8 @@ impl State {
         by: MemberId,
         behind: &[u8],
     ) -> Result<Result<(), LineCause>, NoMemory>
-        ensures { IfOk result (λ taken. Takes taken self.new (next_deck self.old (list_any is_deck_end_lem (lines_of behind.now)) by)) }
+        ensures { IfOk result (λ taken.
+            Takes taken self.new (next_deck self.old (list_any is_deck_end_lem (lines_of behind.now)) by)) }
     {
         let Some((lines, end)) = deck_end(behind) else {
             return Ok(Err(LineCause::End));
@@ -140,7 +141,8 @@ impl State {
         step: Step,
         behind: &[u8],
     ) -> Result<Result<(), LineCause>, NoMemory>
-        ensures { IfOk result (λ taken. Takes taken self.new (next_asked self.old (list_any is_deck_end_lem (lines_of behind.now)) step)) }
+        ensures { IfOk result (λ taken.
+            Takes taken self.new (next_asked self.old (list_any is_deck_end_lem (lines_of behind.now)) step)) }
     {
         let Step { by, what } = step;
         if is_deck(&what) {
@@ -157,7 +159,9 @@ impl State {
         text: &[u8],
         behind: &[u8],
     ) -> Result<Result<(), LineCause>, NoMemory>
-        ensures { IfOk result (λ taken. Takes taken self.new (next_words run self.old (list_any is_deck_end_lem (lines_of behind.now)) (words_in text.now))) }
+        ensures { IfOk result (λ taken.
+            Takes taken self.new (next_words run self.old (list_any is_deck_end_lem (lines_of behind.now))
+            (words_in text.now))) }
     {
         if has_word(text, 0, b"CONFIG") {
             return self.take_config(alloc, run, text);
@@ -176,7 +180,9 @@ impl State {
         line: &[u8],
         behind: &[u8],
     ) -> Result<Result<(), LineCause>, NoMemory>
-        ensures { IfOk result (λ taken. Takes taken self.new (next_outside run self.old (list_any is_deck_end_lem (lines_of behind.now)) line.now)) }
+        ensures { IfOk result (λ taken.
+            Takes taken self.new (next_outside run self.old (list_any is_deck_end_lem (lines_of behind.now))
+            line.now)) }
     {
         if !is_line(line) {
             return Ok(Err(LineCause::Text));
@@ -213,7 +219,8 @@ impl State {
         line: &[u8],
         behind: &[u8],
     ) -> Result<Result<(), LineCause>, NoMemory>
-        ensures { IfOk result (λ taken. Takes taken self.new (next run self.old (list_any is_deck_end_lem (lines_of behind.now)) line.now)) }
+        ensures { IfOk result (λ taken.
+            Takes taken self.new (next run self.old (list_any is_deck_end_lem (lines_of behind.now)) line.now)) }
     {
         match self.deck.take() {
             Some(deck) => self.take_card(deck, line),
@@ -225,9 +232,9 @@ impl State {
 /// Reads a script: of a run from an empty queue where `cold` is true, of a race where `race` is true, and of a run that
 /// only formats where `only` is true.
 ///
-/// `BadLine` exactly where a line is outside the grammar, with the least such line and its first cause, in the order Text,
-/// Late, Warm, Config, Only, Member, Race, Verb, Number, Command, End, Steps. `TooLong` exactly where there are over
-/// 16,777,216 bytes.
+/// `BadLine` exactly where a line is outside the grammar, with the least such line and its first cause, in the order
+/// Text, Late, Warm, Config, Only, Member, Race, Verb, Number, Command, End, Steps. `TooLong` exactly where there are
+/// over 16,777,216 bytes.
 pub fn read_script(
     alloc: Global,
     bytes: &[u8],

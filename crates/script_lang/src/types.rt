@@ -56,7 +56,7 @@ pub enum ScriptNo {
     /// The script has over 16,777,216 bytes.
     #[error("the script is too long")]
     TooLong,
-    /// There was no memory.
+    /// Out of memory.
     #[error("no memory")]
     NoMemory,
 }

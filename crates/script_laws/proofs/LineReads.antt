@@ -72,7 +72,7 @@ pair_read verb word a e =
 
 -- THE WHOLE LINE
 
--- of these words, the line of a step
+-- the words are the line of a member's step
 abbrev pub IsLine : List (List ℕ) → MemberId → Ask → Type 0
 IsLine words m a = IsLineOf words (step_of_member m a)
 

@@ -16,7 +16,7 @@ use Rattle.script_lang.specs.Asks.{is_calm, member_in, units_most, fuse_most, nu
 use Rattle.script_lang.specs.Config.{number_in}
 use Rattle.script_lang.specs.Lines.{has_word, word_at}
 
--- it isn't refused as cut off
+-- the result isn't a refusal of a line as cut off
 abbrev pub IsNoEnd : {A : Type 0} → Result A LineCause → Type 0
 IsNoEnd r = r ≡ Err cause.End → ⊥
 

@@ -127,7 +127,7 @@ goes_on run s t line ends other (By_its_deck step text is deck all) opened e =
     let there : other ≡ true = opened (record { by = step.by; cards = [] }) (ap (λ (u : State). u.deck) taken.2) in
     all other ∙ deck_begun (closed s) other step.by there taken.1 ∙ ap (λ (u : State). let x : Next = Ok u in x) (sym taken.2)
 
--- and leaves the same
+-- a line that is taken before any lines leaves the same state before any others
 same_behind : (run : Run) (s t u : State) (line : List ℕ) (ends other : Bool) → Depends run s line → next run s ends line ≡ Ok t → next run s other line ≡ Ok u → t ≡ u
 same_behind run s t u line ends other (Not_at_all r none all) e f = same_ok t u (sym e ∙ all ends ∙ sym (all other) ∙ f)
 same_behind run s t u line ends other (By_its_deck step text is deck all) e f =
@@ -157,7 +157,7 @@ taken_first : (f : State → Next) (r : Next) (t : State) (P : Type 0) → ((u :
 taken_first f (Ok u) t P h e = h u refl e
 taken_first f (Err why) t P h e = not_both why t P e
 
--- behind a card the deck is still open
+-- the deck is still open after a card
 card_open : (run : Run) (s u : State) (d : OpenDeck) (line : List ℕ) (ends : Bool) → s.deck ≡ Some d → is_deck_end line ≡ false → next run s ends line ≡ Ok u → (c : OpenDeck) × (u.deck ≡ Some c)
 card_open run s u d line ends opened other e =
     let card : next_card (closed s) d line ≡ Ok u = sym (ap (λ (o : Option OpenDeck). next_in run (closed s) o ends line) opened) ∙ e in
@@ -185,7 +185,7 @@ goes_far run s t (line ∷ front) rest behind e ends =
     ap (then_take (λ v. after run v front behind)) (goes_on run s u line (list_any is_deck_end (front ++ rest)) (list_any is_deck_end (front ++ behind)) (depends run s line) (λ d opened. open_ends run u t front rest behind more d opened ends) h)
     ∙ goes_far run u t front rest behind more ends) e
 
--- and they leave the same
+-- lines that are taken before any lines leave the same state before any others
 same_after : (run : Run) (s t u : State) (front rest behind : List (List ℕ)) → after run s front rest ≡ Ok t → after run s front behind ≡ Ok u → t ≡ u
 same_after run s t u [] rest behind e f = same_ok t u (sym e ∙ f)
 same_after run s t u (line ∷ front) rest behind e f =

@@ -32,7 +32,7 @@ use Rattle.script_laws.proofs.ScriptFits.{script_more}
 abbrev pub state : Script → Bool → Option OpenDeck → State
 state so_far seen deck = record { script = so_far; seen = seen; deck = deck }
 
--- the steps so far, and these behind them
+-- the script with these steps after the steps so far
 abbrev pub with_steps : Script → List Step → Script
 with_steps so_far steps = record { config = so_far.config; routes = so_far.routes; steps = so_far.steps ++ steps }
 
@@ -48,7 +48,7 @@ pub record ReadsSteps (run : Run) (so_far : Script) (lines : List (List ℕ)) (s
   pub are : AreLinesOf run lines steps
   pub is : script ≡ with_steps so_far steps
 
--- lines of an open deck say the rest of its cards, its end, and steps behind it
+-- lines of an open deck say the rest of its cards, its end, and the steps after its end
 pub record ReadsDeck (run : Run) (so_far : Script) (deck : OpenDeck) (lines : List (List ℕ)) (script : Script) : Type 0 where
   pub cards : List (List ℕ)
   pub rest : List (List ℕ)
@@ -150,7 +150,7 @@ line_deck _ _ (LoseVolumeLine v text number) is = absurd (cc)
 
 -- LINES
 
--- the line of a step, and what the lines behind it say
+-- the line of a step, and what the lines after it say
 asked_read : (run : Run) (number : ℕ) (so_far : Script) (seen : Bool) (t : State) (line : List ℕ) (lines : List (List ℕ)) (step : Step) (script : Script) → ReadsAll run (number + 1) lines script → IsStepLine run line step → next_asked (state so_far seen None) (list_any is_deck_end lines) step ≡ Ok t → said_from run (number + 1) t lines ≡ Ok script → ReadsSteps run so_far (line ∷ lines) script
 asked_read run number so_far seen t line lines step script more is e said =
     if_ok (is_deck step.what) _ _ t (ReadsSteps run so_far (line ∷ lines) script)

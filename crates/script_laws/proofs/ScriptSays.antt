@@ -92,7 +92,7 @@ ends_there : (cards lines : List (List ℕ)) → list_any is_deck_end (cards ++ 
 ends_there [] lines = refl
 ends_there (card ∷ cards) lines = or_right (is_deck_end card) (list_any is_deck_end (cards ++ codes "++END" ∷ lines)) (ends_there cards lines)
 
--- the cards of an open deck and its end, and what the lines behind it say
+-- the cards of an open deck and its end, and what the lines after its end say
 cards_said : (run : Run) (m : MemberId) (lines : List (List ℕ)) (script : Script) (cards : List (List ℕ)) → list_all is_card cards ≡ true → (number : ℕ) (so_far : Script) (before : List (List ℕ)) → ((k : ℕ) → said_from run k (state (with_steps so_far (step_of_member m (ask.Deck (before ++ cards)) ∷ [])) true None) lines ≡ Ok script) → said_from run number (state so_far true (Some (record { by = m; cards = before }))) (cards ++ codes "++END" ∷ lines) ≡ Ok script
 cards_said run m lines script [] each number so_far before h =
     subst (λ (all : List (List ℕ)). said_from run (number + 1) (state (with_steps so_far (step_of_member m (ask.Deck all) ∷ [])) true None) lines ≡ Ok script) (append-nil before) (h (number + 1))

@@ -42,7 +42,8 @@ step_of_member m what = record { by = m; what = what }
 
 -- the words of a line, and its step
 pub data IsLineOf : List (List ℕ) → Step → Type 0 where
-  MemberLine : (m : MemberId) (name : List ℕ) (words : List (List ℕ)) (what : Ask) → IsNameOf m name → AsksFor words what → IsLineOf (name ∷ words) (step_of_member m what)
+  MemberLine : (m : MemberId) (name : List ℕ) (words : List (List ℕ)) (what : Ask) → IsNameOf m name
+      → AsksFor words what → IsLineOf (name ∷ words) (step_of_member m what)
   StopLine : (m : MemberId) (name : List ℕ) → IsNameOf m name → IsLineOf (codes "STOP" ∷ name ∷ []) (step_of_member m ask.Stop)
   StopInLine : (m : MemberId) (name : List ℕ) (n : ℕ) (text : List ℕ) → IsNameOf m name → IsNumber 1 fuse_most n text → IsLineOf (codes "STOP" ∷ name ∷ codes "IN" ∷ text ∷ []) (step_of_member m (ask.StopIn fuse.Any n))
   StopPrintLine : (m : MemberId) (name : List ℕ) (n : ℕ) (text : List ℕ) → IsNameOf m name → IsNumber 1 fuse_most n text → IsLineOf (codes "STOP" ∷ name ∷ codes "PRINT" ∷ text ∷ []) (step_of_member m (ask.StopIn fuse.Print n))

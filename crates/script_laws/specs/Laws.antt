@@ -21,14 +21,19 @@ SaysWithinLimits = (run : Run) (bytes : List ℕ) (script : Script) → said run
 
 -- words are read as a step exactly where they are a line of that step, and where it may stand in a race if this is one
 abbrev pub ReadsLines : Type 0
-ReadsLines = (run : Run) (words : List (List ℕ)) (step : Step) → (step_of run words ≡ Ok step) ↔ (IsLineOf words step × (run.only ≡ false) × (run.race ≡ true → MayRace step.what))
+ReadsLines = (run : Run) (words : List (List ℕ)) (step : Step)
+    → (step_of run words ≡ Ok step) ↔ (IsLineOf words step × (run.only ≡ false) × (run.race ≡ true → MayRace step.what))
 
--- bytes are read as a script exactly where they are at most 16,777,216 and their lines are lines of that script, which has at
--- most 99,999 steps
+-- bytes are read as a script exactly where they are at most 16,777,216 and their lines are lines of that script, which
+-- has at most 99,999 steps
 abbrev pub ReadsScripts : Type 0
-ReadsScripts = (run : Run) (bytes : List ℕ) (script : Script) → (said run bytes ≡ Ok script) ↔ ((length bytes ≤ script_bytes) × (length script.steps ≤ steps_most) × IsScriptOf run (lines_of bytes) script)
+ReadsScripts = (run : Run) (bytes : List ℕ) (script : Script)
+    → (said run bytes ≡ Ok script) ↔
+    ((length bytes ≤ script_bytes) × (length script.steps ≤ steps_most) × IsScriptOf run (lines_of bytes) script)
 
--- A line is refused by the cause End only where it begins a deck that is cut off, and by another cause only where it is the
--- first line with which no script may begin
+-- A line is refused by the cause End only where it begins a deck that is cut off, and by another cause only where it is
+-- the first line with which no script may begin
 abbrev pub RefusesFirst : Type 0
-RefusesFirst = (run : Run) (bytes : List ℕ) (number : ℕ) (why : LineCause) → said run bytes ≡ Err (no.BadLine number why) → ((why ≡ cause.End) × IsCutOff run (lines_of bytes) number) ⊎ IsFirstOutside run (lines_of bytes) number
+RefusesFirst = (run : Run) (bytes : List ℕ) (number : ℕ) (why : LineCause)
+    → said run bytes ≡ Err (no.BadLine number why) → ((why ≡ cause.End) × IsCutOff run (lines_of bytes) number)
+    ⊎ IsFirstOutside run (lines_of bytes) number

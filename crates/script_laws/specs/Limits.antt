@@ -29,7 +29,7 @@ IsDevice dev.Ckpt1 = Unit {0}
 IsDevice dev.Ckpt2 = Unit {0}
 IsDevice (dev.Spool volume) = IsBetween 1 volumes_most volume
 
--- at most 255 text bytes a card
+-- each card of a deck has at most 255 text bytes
 abbrev pub AreCards : List (List ℕ) → Type 0
 AreCards cards = All (λ card. is_line card ≡ true) cards
 

@@ -24,7 +24,8 @@ pub record IsFirstOutside (run : Run) (lines : List (List ℕ)) (number : ℕ) :
   pub before : MayBegin run (take (number - 1) lines)
   pub outside : MayBegin run (take number lines) → ⊥
 
--- the line of this number is a DECK line, behind which no line ends its deck; a script may begin with the lines before it
+-- the line of this number is a DECK line, behind which no line ends its deck; a script may begin with the lines before
+-- it
 pub record IsCutOff (run : Run) (lines : List (List ℕ)) (number : ℕ) : Type 0 where
   pub front : List (List ℕ)
   pub deck : List ℕ

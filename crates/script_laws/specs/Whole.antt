@@ -35,8 +35,10 @@ pub record IsStepLine (run : Run) (line : List ℕ) (step : Step) : Type 0 where
 -- lines and their steps. A deck is its DECK line, its cards and `++END`
 pub data AreLinesOf (run : Run) : List (List ℕ) → List Step → Type 0 where
   NoLine : AreLinesOf run [] []
-  SkippedLine : (line : List ℕ) (lines : List (List ℕ)) (steps : List Step) → is_skipped line ≡ true → AreLinesOf run lines steps → AreLinesOf run (line ∷ lines) steps
-  StepLine : (line : List ℕ) (lines : List (List ℕ)) (step : Step) (steps : List Step) → IsStepLine run line step → is_deck step.what ≡ false → AreLinesOf run lines steps → AreLinesOf run (line ∷ lines) (step ∷ steps)
+  SkippedLine : (line : List ℕ) (lines : List (List ℕ)) (steps : List Step) → is_skipped line ≡ true
+      → AreLinesOf run lines steps → AreLinesOf run (line ∷ lines) steps
+  StepLine : (line : List ℕ) (lines : List (List ℕ)) (step : Step) (steps : List Step) → IsStepLine run line step
+      → is_deck step.what ≡ false → AreLinesOf run lines steps → AreLinesOf run (line ∷ lines) (step ∷ steps)
   DeckLines : (line : List ℕ) (cards : List (List ℕ)) (lines : List (List ℕ)) (m : MemberId) (steps : List Step) → IsStepLine run line (step_of_member m (ask.Deck [])) → list_all is_card cards ≡ true → AreLinesOf run lines steps → AreLinesOf run (line ∷ cards ++ codes "++END" ∷ lines) (step_of_member m (ask.Deck cards) ∷ steps)
 
 -- the line that configures the run: one from an empty queue, or one that only formats
@@ -54,5 +56,8 @@ default_setup = record { config = default_config; routes = [] }
 
 -- the lines of a script: with a CONFIG line before all others that are not skipped, or without one
 pub data IsScriptOf (run : Run) : List (List ℕ) → Script → Type 0 where
-  Plain : (lines : List (List ℕ)) (steps : List Step) → AreLinesOf run lines steps → IsScriptOf run lines (script_of default_setup steps)
-  Configured : (front : List (List ℕ)) (line : List ℕ) (lines : List (List ℕ)) (setup : Setup) (steps : List Step) → list_all is_skipped front ≡ true → IsConfigLine run line setup → AreLinesOf run lines steps → IsScriptOf run (front ++ line ∷ lines) (script_of setup steps)
+  Plain : (lines : List (List ℕ)) (steps : List Step) → AreLinesOf run lines steps
+      → IsScriptOf run lines (script_of default_setup steps)
+  Configured : (front : List (List ℕ)) (line : List ℕ) (lines : List (List ℕ)) (setup : Setup) (steps : List Step)
+      → list_all is_skipped front ≡ true → IsConfigLine run line setup → AreLinesOf run lines steps
+      → IsScriptOf run (front ++ line ∷ lines) (script_of setup steps)

@@ -1,5 +1,5 @@
-//! Reads what standard input gives, line by line, as the first word of a line says: words of the program, operator's commands, scripts,
-//! decks and JCL. It writes each line again, and behind it what was read, or why it was refused.
+//! Reads what standard input gives, line by line, as the first word of a line says: words of the program, operator's
+//! commands, scripts, decks and JCL. It writes each line again, and behind it what was read, or why it was refused.
 #![tactic(auto)]
 
 mod commands;

@@ -292,7 +292,7 @@ module _ (s : State) (full : length s.deeds ≡ s.now) (by_now : (k : ℕ) → s
     arms = λ m. refl;
   }
 
-  -- another device in a device's place
+  -- a renewal puts another device in a device's place
   module _ (dev : Dev) (few : slot_of dev < 258) (there : place_of (DiskPart dev) < length s.parts) where
     abbrev place : ℕ
     place = place_of (DiskPart dev)
@@ -427,7 +427,7 @@ module _ (acts : ℕ) (s s' : State) (part : Part) (h : Health) (small : s.now �
   pub else_same : (p : Part) → (p ≡ part → ⊥) → health_at s'.parts (place_of p) ≡ health_at s.parts (place_of p)
   else_same p ne = ap (λ (l : List Health). health_at l (place_of p)) parts ∙ health_other s.parts (place_of part) h there (place_of p) (λ same. ne (place_same p part same))
 
-  -- what it does to the devices and to the console
+  -- what an act does to the devices and to the console
   whole_after : (slot : ℕ) → after slot (fresh s'.base slot) (take s'.now s'.deeds) ≡ after slot (fresh s.base slot) (take s.now s.deeds)
   whole_after slot =
       same_after slot s'.now

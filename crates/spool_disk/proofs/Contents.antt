@@ -207,7 +207,7 @@ module _ (s : State) (stops : List ℕ) (waiting : ℕ → List ℕ) (side : Boo
   pub passed_other_side : (other : Bool) (w m : ℕ) → same_side other side ≡ false → moved_in new (s.now + 1) other w m ≡ moved_in s s.now other w m
   passed_other_side other w m ne = none_new s full by_now (moved other w m) deed (moved_other other side wire member w m bytes ne)
 
--- another device in a device's place
+-- a renewal puts another device in a device's place
 module _ (s : State) (full : length s.deeds ≡ s.now) (by_now : (k : ℕ) → since_of (health_at s.parts k).since ≤ s.now) (dev : Dev) (few : slot_of dev < 258) (there : place_of (DiskPart dev) < length s.parts) where
   abbrev before : ℕ → Disk
   before slot = after slot (fresh s.base slot) s.deeds

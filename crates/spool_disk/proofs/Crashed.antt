@@ -47,7 +47,7 @@ known_drop k zero log arena x = known_deeds k log arena x
 known_drop k (suc t) [] arena x = refl
 known_drop k (suc t) (e ∷ log) arena x = known_drop k t log (drop (kept_by e) arena) x
 
--- by what the record keeps, and by what the plant shows
+-- what a crash leaves by what the record keeps it leaves by what the plant shows
 leaves_by : (choice : Choice) (s : State) (t : ℕ) (d : Dev) (image : List ℕ) → LeavesAt choice s.base (slot_of d) (take t s.deeds) image → LeavesBy choice (view_of s) t d image
 leaves_by Old s t d image is = is ∙ sym (earlier s d t)
 leaves_by New s t d image is = is

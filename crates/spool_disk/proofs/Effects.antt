@@ -132,7 +132,7 @@ moved_else side wire member w m bytes ne =
 pub moved_other : (other side : Bool) (wire member w m : ℕ) (bytes : List ℕ) → same_side other side ≡ false → gather (moved other w m) (Passed side wire member bytes ∷ []) ≡ []
 moved_other other side wire member w m bytes ne = ap (λ (b : Bool). (if b && (wire == w && member == m) then bytes else []) ++ []) ne
 
--- another device in a device's place
+-- a renewal puts another device in a device's place
 pub renew_there : (slot : ℕ) (since : Option ℕ) (d : Disk) → effect slot d (Renewed slot since) ≡ record { bytes = replicate (length d.bytes) 0; unsynced = []; lost = d.lost }
 renew_there slot since d = rw (same_test slot) refl
 

@@ -14,7 +14,7 @@ use Rattle.spool_disk.specs.Crash.{IsOnes, is_in, is_unsynced}
 use Rattle.spool_disk.specs.Settled.{synced_by, last_synced, Leaves}
 use Rattle.spool_disk.proofs.Crashing.{differs_overwrite, differs_at}
 
--- as an image, of a device lost or not
+-- bytes are as an image of a device, lost or not
 pub record Matches (image : List ℕ) (disk : Disk) : Type 0 where
   pub size : length image ≡ length disk.bytes
   pub synced : (s : Stretch) → Avoids disk.unsynced s → slice s.from s.len image ≡ slice s.from s.len disk.bytes

@@ -274,7 +274,7 @@ module _ (m m' : MemPlant) (small : m.moment ≤ top) where
       subst (λ (x : State). LosesThere dev (mem_view m) (view_of x)) (sym is)
       (loses_there m.kept.acts (state_of m) dev small short m.lost_by_now (omega (arith, few, m.counts.parts_len)))
 
--- another device in a device's place
+-- a renewal puts another device in a device's place
 module _ (m m' : MemPlant) (dev : Dev) (below : m.moment < m.kept.acts) (few : slot_of dev < 258) (is : state_of m' ≡ renewed (state_of m) dev) where
   pub done_renewal : m.moment < top → Renews dev (mem_view m) (mem_view m') Done
   done_renewal below_top =

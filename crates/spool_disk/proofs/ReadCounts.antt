@@ -34,18 +34,18 @@ line_reads slot place keep line = by_test (nat_le (length line) keep) (keep == 0
   by_test false true = refl
   by_test false false = refl
 
--- an act that was recorded
+-- an act that was recorded and is no read adds no read
 pub reads_recorded : (m m' : MemPlant) (e : Deed) (dev : Dev) → m.moment < m.kept.acts → (state_of m').deeds ≡ (state_of m).deeds ++ e ∷ [] → is_read (slot_of dev) e ≡ false → SameReads dev m m'
 reads_recorded m m' e dev below is none t le =
     ap (λ (l : List Deed). length (filter (is_read (slot_of dev)) (drop t l))) is ∙ count_else (slot_of dev) t (state_of m).deeds e (omega (arith, le, in_full m below)) none
 
--- one that halted
+-- an act that halted and is no read adds no read
 pub reads_halted : (m m1 m2 : MemPlant) (e : Deed) (by : ℕ) (dev : Dev) → m.moment < m.kept.acts → state_of m1 ≡ recorded (state_of m) e (state_of m).stops
     → state_of m2 ≡ record (state_of m1) { stops = counted (state_of m1).stops by } → is_read (slot_of dev) e ≡ false → SameReads dev m m2
 reads_halted m m1 m2 e by dev below first next_is none =
     reads_recorded m m2 e dev below (ap (λ (x : State). x.deeds) (halted_state (state_of m) (state_of m1) (state_of m2) e by first next_is)) none
 
--- and a moment in which nothing was done
+-- a moment in which nothing was done adds no read
 pub reads_idled : (m m' : MemPlant) (dev : Dev) → (state_of m').deeds ≡ idled m.kept.acts (state_of m).deeds → SameReads dev m m'
 reads_idled m m' dev is t le =
     let logged = length-deeds m.kept.log.items m.kept.arena.items in

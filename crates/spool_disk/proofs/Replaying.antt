@@ -37,7 +37,7 @@ module _ (log : List Entry) (arena : List ℕ) (i : ℕ) (none : Entry) (below :
   pub next_gather : {T : Type 0} (adds : Deed → List T) → gather adds (deeds_of (take (i + 1) log) arena) ≡ gather adds (deeds_of (take i log) arena) ++ gather adds (deed_of (get_or log i none) (slice (kept_in (take i log)) (kept_by (get_or log i none)) arena) ∷ [])
   next_gather adds = ap (gather adds) next_deeds ∙ gather_append adds (deeds_of (take i log) arena) (deed_of (get_or log i none) (slice (kept_in (take i log)) (kept_by (get_or log i none)) arena) ∷ [])
 
-  -- its bytes are there
+  -- the bytes of the next entry are there
   pub next_within : kept_in log ≤ length arena → kept_in (take i log) + kept_by (get_or log i none) ≤ length arena
   next_within fits =
       let parts : kept_in log ≡ kept_in (take (i + 1) log) + kept_in (drop (i + 1) log) = ap kept_in (sym (take-append-drop (i + 1) log)) ∙ kept_split (take (i + 1) log) (drop (i + 1) log) in

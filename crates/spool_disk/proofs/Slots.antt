@@ -81,7 +81,7 @@ each_or_past vs ws many each s = ⊎_elim
         by_test true e = inl (grind (arith, nat_tests))
         by_test false e = inr (grind (arith, nat_tests))
 
--- a step of a loop that makes them one by one
+-- a loop makes the devices' bytes one by one: its next step
 pub each_more : (vs ws : List (Vec ℕ Global)) (w : Vec ℕ Global) (f : ℕ → List ℕ) (i : ℕ) → length vs ≡ i → ws ≡ vs ++ w ∷ [] → ((s : ℕ) → s < i → bytes_at vs s ≡ f s) → w.items ≡ f i
     → (length ws ≡ i + 1) × ((s : ℕ) → s < i + 1 → bytes_at ws s ≡ f s)
 each_more vs ws w f i many is so_far here = (
@@ -89,7 +89,7 @@ each_more vs ws w f i many is so_far here = (
   λ s lt. ap (λ (l : List (Vec ℕ Global)). bytes_at l s) is ∙ each_push vs w f (λ k h. so_far k (omega (arith, h, many))) (here ∙ sym (ap f many)) s (omega (arith, lt, many)),
 )
 
--- the same for any fact
+-- a loop makes the devices' bytes one by one, and a fact holds of each: its next step
 pub all_more : (P : ℕ → List ℕ → Type 0) (vs ws : List (Vec ℕ Global)) (w : Vec ℕ Global) (i : ℕ) → length vs ≡ i → ws ≡ vs ++ w ∷ [] → ((s : ℕ) → s < i → P s (bytes_at vs s)) → P i w.items
     → (length ws ≡ i + 1) × ((s : ℕ) → s < i + 1 → P s (bytes_at ws s))
 all_more P vs ws w i many is so_far here = (

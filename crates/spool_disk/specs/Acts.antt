@@ -21,8 +21,8 @@ next n = min (n + 1) top
 abbrev pub Rose : ℕ → ℕ → Type 0
 Rose old new = next old ≤ new
 
--- What holds after any number of acts and calls that lose a device: past worlds stay, counts don't fall, a lost part stays
--- lost, and no stop was armed.
+-- What holds after any number of acts and calls that lose a device: past worlds stay, counts don't fall, a lost part
+-- stays lost, and no stop was armed.
 pub record Goes (old new : View) : Type 0 where
   pub later : old.now ≤ new.now
   pub past : (t : ℕ) → t ≤ old.now → new.world t ≡ old.world t
@@ -58,7 +58,7 @@ pub record SameWires (old new : View) : Type 0 where
   pub taken : (w m : ℕ) → taken_now new w m ≡ taken_now old w m
   pub given : (w m : ℕ) → given_now new w m ≡ given_now old w m
 
--- The world is as it was but for this device.
+-- The world is as it was except for this device.
 pub record OnDevice (dev : Dev) (old new : View) : Type 0 where
   pub others : (d : Dev) → d ≢ dev → disk_now new d ≡ disk_now old d
   pub console : (new.world new.now).console ≡ (old.world old.now).console
@@ -87,17 +87,18 @@ DirtiedIn at len old new = (n : ℕ) × (n ≤ len) × Dirtied at n old new
 
 -- a device after a write
 abbrev pub Written : ℕ → List ℕ → Disk → Disk → Act → Type 0
-Written at bytes old new Done = Dirtied at (length bytes) old new × (slice at (length bytes) new.bytes ≡ bytes) × (new.lost ≡ old.lost)
+Written at bytes old new Done = Dirtied at (length bytes) old new × (slice at (length bytes) new.bytes ≡ bytes)
+    × (new.lost ≡ old.lost)
 Written at bytes old new Halted = DirtiedIn at (length bytes) old new × (new.lost ≡ old.lost)
 Written at bytes old new Failed = DirtiedIn at (length bytes) old new ⊎ Untouched old new
 
--- after a sync
+-- a device after a sync
 abbrev pub Synced : Disk → Disk → Act → Type 0
 Synced old new Done = (new.bytes ≡ old.bytes) × (new.unsynced ≡ []) × (new.lost ≡ old.lost)
 Synced old new Halted = new ≡ old
 Synced old new Failed = Untouched old new
 
--- after a read into bytes
+-- a device after a read into bytes
 abbrev pub ReadBy : ℕ → List ℕ → Disk → Disk → Act → Type 0
 ReadBy at into old new Done = (new ≡ old) × (into ≡ slice at (length into) old.bytes)
 ReadBy at into old new Halted = new ≡ old
@@ -145,7 +146,7 @@ pub record Prints (member : ℕ) (line : List ℕ) (old new : View) (result : Ac
   pub console : (new.world new.now).console ≡ (old.world old.now).console
   pub wires : SameWires old new
 
--- what was given on a wire, after bytes are given: with all of them behind it, or with the first of them
+-- what was given on a wire, after bytes are given: with all of them after it, or with the first of them
 abbrev pub Given : List ℕ → List ℕ → List ℕ → Act → Type 0
 Given bytes old new Done = new ≡ old ++ bytes
 Given bytes old new Failed = (n : ℕ) × (new ≡ old ++ take n bytes)
@@ -177,13 +178,15 @@ FitsInto room TookHalted = Unit {0}
 -- bytes that waited. None came only where nothing waited, or there is no room.
 abbrev pub TookFrom : List ℕ → List ℕ → List ℕ → List ℕ → List ℕ → Took → Type 0
 TookFrom waited waits old new into (TookBytes n) =
-    (n ≤ length waited) × (take n into ≡ take n waited) × (waits ≡ drop n waited) × (new ≡ old ++ take n waited) × (n ≡ 0 → (waited ≡ []) ⊎ (into ≡ []))
+    (n ≤ length waited) × (take n into ≡ take n waited) × (waits ≡ drop n waited) × (new ≡ old ++ take n waited)
+    × (n ≡ 0 → (waited ≡ []) ⊎ (into ≡ []))
 TookFrom waited waits old new into TookFailed = (waits ≡ waited) × (new ≡ old)
 TookFrom waited waits old new into TookHalted = (waits ≡ waited) × (new ≡ old)
 
 -- a member takes bytes from a wire
 pub record Takes (wire member : ℕ) (old new : View) (into : List ℕ) (result : Took) : Type 0 where
-  pub took : TookFrom (old.waiting wire) (new.waiting wire) (taken_now old wire member) (taken_now new wire member) into result
+  pub took : TookFrom (old.waiting wire) (new.waiting wire) (taken_now old wire member) (taken_now new wire member) into
+      result
   pub others : (w m : ℕ) → (w ≢ wire) ⊎ (m ≢ member) → taken_now new w m ≡ taken_now old w m
   pub waiting : (w : ℕ) → w ≢ wire → new.waiting w ≡ old.waiting w
   pub given : (w m : ℕ) → given_now new w m ≡ given_now old w m
@@ -238,7 +241,7 @@ pub record Loses (part : Part) (old new : View) : Type 0 where
   pub else_counted : (d : Dev) → DiskPart d ≢ part → new.loses d ≡ old.loses d
   pub arms : (m : ℕ) → new.arms m ≡ old.arms m
 
--- and its device is lost at the moment that the call made
+-- A device is lost by a call that has no answer: in the world it is lost from the moment that the call made.
 pub record LosesThere (dev : Dev) (old new : View) : Type 0 where
   pub disk : Untouched (disk_now old dev) (disk_now new dev)
   pub lost : old.now < top → (disk_now new dev).lost ≡ true

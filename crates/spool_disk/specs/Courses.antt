@@ -14,8 +14,8 @@ use Rattle.spool_disk.specs.Deeds.{Deed, Idle, Said}
 use Rattle.spool_disk.specs.Fuses.{Armed, none_armed, halts_next, burnt, with_fuse}
 use Rattle.spool_disk.specs.View.{View, Line}
 
--- What a plant in memory has room for: so many acts and so many bytes in all, and so many bytes more. And what is planned
--- and armed.
+-- What a plant in memory has room for: so many acts and so many bytes in all, and so many bytes more. And what is
+-- planned and armed.
 pub record Book : Type 0 where
   pub acts : ℕ
   pub bytes : ℕ
@@ -51,7 +51,8 @@ is_print (Wire n) = false
 -- what becomes of an act of a member on a part, with so many bytes to record. Where it doesn't fit it fails
 abbrev pub course_of : Book → View → ℕ → Part → ℕ → Course
 course_of book v by part len =
-    if nat_lt v.now book.acts && nat_le len book.left then as_planned (plan_at book.plans v.now) (halts_next book.armed by (is_print part)) len by (v.lost part) else Fail
+    if nat_lt v.now book.acts && nat_le len book.left then as_planned (plan_at book.plans v.now)
+    (halts_next book.armed by (is_print part)) len by (v.lost part) else Fail
 
 -- a planned act fails
 abbrev pub is_fault : Option Planned → Bool
@@ -65,7 +66,14 @@ renews_now book v = nat_lt v.now book.acts && not (is_fault (plan_at book.plans 
 
 -- a member has made an act on a part
 abbrev pub acted : ℕ → Part → Book → Book
-acted by part book = record { acts = book.acts; bytes = book.bytes; left = book.left; plans = book.plans; armed = burnt book.armed by (is_print part) }
+acted by part book = record {
+  acts = book.acts;
+  bytes = book.bytes;
+  left = book.left;
+  plans = book.plans;
+  armed = burnt
+      book.armed by (is_print part);
+}
 
 abbrev pub answer : Course → Act
 answer Go = Done
@@ -74,7 +82,14 @@ answer (Halt keep) = Halted
 
 -- room for some bytes less
 abbrev pub spent : ℕ → Book → Book
-spent n book = record { acts = book.acts; bytes = book.bytes; left = book.left - n; plans = book.plans; armed = book.armed }
+spent n book = record {
+  acts = book.acts;
+  bytes = book.bytes;
+  left = book.left - n;
+  plans = book.plans;
+  armed
+      = book.armed;
+}
 
 -- the room after an act with so many bytes
 abbrev pub spent_by : Course → ℕ → Book → Book
@@ -94,11 +109,25 @@ empty_book acts bytes = record { acts = acts; bytes = bytes; left = bytes; plans
 
 -- one plan more
 abbrev pub with_plan : Plan → Book → Book
-with_plan plan book = record { acts = book.acts; bytes = book.bytes; left = book.left; plans = book.plans ++ plan ∷ []; armed = book.armed }
+with_plan plan book = record {
+  acts = book.acts;
+  bytes = book.bytes;
+  left = book.left;
+  plans = book.plans
+      ++ plan ∷ [];
+  armed = book.armed;
+}
 
 -- one stop more
 abbrev pub with_stop : ℕ → Fuse → ℕ → Book → Book
-with_stop member fuse n book = record { acts = book.acts; bytes = book.bytes; left = book.left; plans = book.plans; armed = with_fuse book.armed member fuse n }
+with_stop member fuse n book = record {
+  acts = book.acts;
+  bytes = book.bytes;
+  left = book.left;
+  plans = book.plans;
+  armed = with_fuse book.armed member
+      fuse n;
+}
 
 -- what a halted line leaves on the console or a printer: nothing, a torn line, or the whole line
 abbrev pub left_of : ℕ → List ℕ → List Line
@@ -106,6 +135,7 @@ left_of keep line =
     if nat_le (length line) keep then record { text = line; whole = true } ∷ []
     else (if keep == 0 then [] else record { text = take keep line; whole = false } ∷ [])
 
--- and how that is recorded
+-- the act as which the record has what a halted line leaves
 abbrev pub deed_left : ℕ → ℕ → List ℕ → Deed
-deed_left place keep line = if nat_le (length line) keep then Said place line true else (if keep == 0 then Idle else Said place (take keep line) false)
+deed_left place keep line = if nat_le (length line) keep then Said place line true else
+    (if keep == 0 then Idle else Said place (take keep line) false)

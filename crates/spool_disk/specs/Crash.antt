@@ -14,12 +14,13 @@ abbrev pub is_unsynced : List Stretch → ℕ → Bool
 is_unsynced [] i = false
 is_unsynced (r ∷ rs) i = is_in r.from r.len i || is_unsynced rs i
 
--- the bytes of a device, but all ones where they are unsynced
+-- the bytes of a device, with all ones where they are unsynced
 pub record IsOnes (disk : Disk) (image : List ℕ) : Type 0 where
   pub size : length image ≡ length disk.bytes
-  pub each : (i : ℕ) → i < length disk.bytes → slice_index image i ≡ (if is_unsynced disk.unsynced i then 255 else slice_index disk.bytes i)
+  pub each : (i : ℕ) → i < length disk.bytes
+      → slice_index image i ≡ (if is_unsynced disk.unsynced i then 255 else slice_index disk.bytes i)
 
--- these bytes where nothing is unsynced, and else those of earlier
+-- a device's bytes where nothing of it is unsynced, and else those of earlier
 abbrev pub or_earlier : List Stretch → List ℕ → List ℕ → List ℕ
 or_earlier [] bytes earlier = bytes
 or_earlier (r ∷ rs) bytes earlier = earlier
@@ -28,7 +29,8 @@ or_earlier (r ∷ rs) bytes earlier = earlier
 -- was unsynced
 abbrev pub before_writes : View → Dev → ℕ → List ℕ
 before_writes v dev zero = (disk_at v 0 dev).bytes
-before_writes v dev (suc t) = or_earlier (disk_at v (suc t) dev).unsynced (disk_at v (suc t) dev).bytes (before_writes v dev t)
+before_writes v dev (suc t) = or_earlier (disk_at v (suc t) dev).unsynced (disk_at v (suc t) dev).bytes
+    (before_writes v dev t)
 
 -- what a crash at a moment leaves of a device
 abbrev pub LeavesBy : Choice → View → ℕ → Dev → List ℕ → Type 0

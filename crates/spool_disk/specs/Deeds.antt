@@ -2,9 +2,9 @@
 use Rattle.std.specs.Prelude.{ℕ, ◌+◌, nat_le, nat_lt, ◌==◌, ◌&&◌, not, if◌then◌else◌, Bool, true, false, List, [], ◌∷◌, ◌++◌, length, take, drop, replicate, Option}
 use Rattle.spool_disk.specs.View.{Disk, Line}
 
--- An act that a plant recorded. A write has a stretch of a slot, and the bytes that came there; a line has the place of the
--- console or printer that it stands on; bytes on a wire were given or taken by a member. A
--- renewed device was lost since a moment, or wasn't.
+-- An act that a plant recorded. A write has a stretch of a slot, and the bytes that came there; a line has the place of
+-- the console or printer that it stands on; bytes on a wire were given or taken by a member. A renewed device was lost
+-- since a moment, or wasn't.
 pub data Deed : Type 0 where
   Idle : Deed
   Wrote : (slot at len : ℕ) (bytes : List ℕ) → Deed
@@ -14,22 +14,29 @@ pub data Deed : Type 0 where
   Fetched : (slot : ℕ) → Deed
   Renewed : (slot : ℕ) (since : Option ℕ) → Deed
 
--- these bytes put over what is there, if they fit
+-- bytes put over those of a device, if they fit
 abbrev pub overwrite : ℕ → List ℕ → List ℕ → List ℕ
-overwrite at bytes old = if nat_le (at + length bytes) (length old) then take at old ++ bytes ++ drop (at + length bytes) old else old
+overwrite at bytes old = if nat_le (at + length bytes) (length old) then take at old ++ bytes
+    ++ drop (at + length bytes) old else old
 
 -- a device after an act
 abbrev pub effect : ℕ → Disk → Deed → Disk
 effect slot d Idle = d
 effect slot d (Wrote s at len bytes) =
-    if s == slot then record { bytes = overwrite at bytes d.bytes; unsynced = record { from = at; len = len } ∷ d.unsynced; lost = d.lost } else d
+    if s == slot then record {
+      bytes = overwrite at bytes d.bytes;
+      unsynced = record { from = at; len = len }
+          ∷ d.unsynced;
+      lost = d.lost;
+    } else d
 effect slot d (Synced s) = if s == slot then record { bytes = d.bytes; unsynced = []; lost = d.lost } else d
 effect slot d (Said place text whole) = d
 effect slot d (Passed given wire member bytes) = d
 effect slot d (Fetched s) = d
-effect slot d (Renewed s since) = if s == slot then record { bytes = replicate (length d.bytes) 0; unsynced = []; lost = d.lost } else d
+effect slot d (Renewed s since) = if s == slot then record
+    { bytes = replicate (length d.bytes) 0; unsynced = []; lost = d.lost } else d
 
--- and after all of them
+-- a device after all acts of a list
 abbrev pub after : ℕ → Disk → List Deed → Disk
 after slot d [] = d
 after slot d (e ∷ es) = after slot (effect slot d e) es
@@ -63,11 +70,12 @@ moved side wire member Idle = []
 moved side wire member (Wrote s at len bytes) = []
 moved side wire member (Synced s) = []
 moved side wire member (Said p text whole) = []
-moved side wire member (Passed given w m bytes) = if same_side side given && (w == wire && m == member) then bytes else []
+moved side wire member (Passed given w m bytes) = if same_side side given && (w == wire && m == member) then bytes else
+    []
 moved side wire member (Fetched s) = []
 moved side wire member (Renewed s since) = []
 
--- and the bytes that an act of anybody gives on it
+-- the bytes that an act gives on a wire, whoever makes it
 abbrev pub gives : ℕ → Deed → List ℕ
 gives wire Idle = []
 gives wire (Wrote s at len bytes) = []

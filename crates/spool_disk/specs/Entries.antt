@@ -14,7 +14,7 @@ kept_by (EntryPassed given wire member kept) = kept
 kept_by (EntryFetched slot) = 0
 kept_by (EntryRenewed slot since) = 0
 
--- and how many are those of all entries
+-- how many of the record's bytes are those of all entries
 abbrev pub kept_in : List Entry → ℕ
 kept_in [] = 0
 kept_in (e ∷ es) = kept_by e + kept_in es

@@ -3,8 +3,8 @@ use Rattle.std.specs.Prelude.{ℕ, ◌-◌, min, nat_lt, ◌==◌, ◌&&◌, ◌
 use Rattle.spool_disk.specs.declared.plant.Fuse.{Fuse}
 use Rattle.spool_disk.specs.declared.plant.Fuse.TheVariants.{Any, Print}
 
--- By the member's number, how many acts it makes from now up to the one that halts, and how many prints; 0 where none is
--- armed.
+-- By the member's number, how many acts it makes from now up to the one that halts, and how many prints; 0 where none
+-- is armed.
 pub record Armed : Type 0 where
   pub acts : List ℕ
   pub prints : List ℕ
@@ -16,7 +16,7 @@ none_armed = record { acts = replicate 256 0; prints = replicate 256 0 }
 abbrev pub halts_next : Armed → ℕ → Bool → Bool
 halts_next a by prints = (slice_index a.acts by == 1) || (prints && (slice_index a.prints by == 1))
 
--- and it isn't the operator's
+-- the next act of a member halts, and the member isn't the operator
 abbrev pub to_halt : Armed → ℕ → Bool → Bool
 to_halt a by prints = nat_lt 0 by && halts_next a by prints
 

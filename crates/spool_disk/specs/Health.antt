@@ -9,7 +9,7 @@ sound = record { faults = 0; since = None; lost = false }
 abbrev pub health_at : List Health → ℕ → Health
 health_at parts place = slice_index_or parts place sound
 
--- it was lost by a moment
+-- a part was lost by a moment
 abbrev pub was_lost : Option ℕ → ℕ → Bool
 was_lost None t = false
 was_lost (Some since) t = nat_le since t

@@ -28,7 +28,14 @@ abbrev pub mem_view : MemPlant → View
 mem_view m = view_of (state_of m)
 
 abbrev pub mem_book : MemPlant → Book
-mem_book m = record { acts = m.kept.acts; bytes = m.kept.room; left = m.kept.room - length m.kept.arena.items; plans = m.plans.items; armed = armed_of m.fuses }
+mem_book m = record {
+  acts = m.kept.acts;
+  bytes = m.kept.room;
+  left = m.kept.room - length m.kept.arena.items;
+  plans
+      = m.plans.items;
+  armed = armed_of m.fuses;
+}
 
 -- a part was lost by a moment
 abbrev pub mem_lost : MemPlant → ℕ → Part → Bool
@@ -38,7 +45,7 @@ mem_lost m t part = lost_in (state_of m) t (place_of part)
 abbrev pub mem_reads : MemPlant → Dev → ℕ → ℕ
 mem_reads m dev t = length (filter (is_read (slot_of dev)) (drop t (state_of m).deeds))
 
--- since each moment up to then as many reads of a device were done
+-- since each moment up to the old plant's present as many reads of a device were done
 abbrev pub SameReads : Dev → MemPlant → MemPlant → Type 0
 SameReads dev old new = (t : ℕ) → t ≤ (mem_view old).now → mem_reads new dev t ≡ mem_reads old dev t
 

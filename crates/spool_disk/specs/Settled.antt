@@ -18,7 +18,7 @@ synced_by slot bytes d (Passed given wire member some) = bytes
 synced_by slot bytes d (Fetched s) = bytes
 synced_by slot bytes d (Renewed s since) = if s == slot then replicate (length d.bytes) 0 else bytes
 
--- and after all of them
+-- the bytes of the last sync, after all acts of a list
 abbrev pub last_synced : ℕ → List ℕ → Disk → List Deed → List ℕ
 last_synced slot bytes d [] = bytes
 last_synced slot bytes d (e ∷ es) = last_synced slot (synced_by slot bytes d e) (effect slot d e) es
@@ -38,11 +38,12 @@ is_sync slot (EntryPassed given wire member kept) = false
 is_sync slot (EntryFetched s) = false
 is_sync slot (EntryRenewed s since) = s == slot
 
--- no entry does so
+-- no entry is a sync or a renewal of a slot
 abbrev pub IsQuiet : ℕ → List Entry → Type 0
 IsQuiet slot [] = Unit {0}
 IsQuiet slot (e ∷ es) = (is_sync slot e ≡ false) × IsQuiet slot es
 
--- the last entry does so, if there is one
+-- the last entry, if there is one, is a sync or a renewal of a slot
 abbrev pub EndsSynced : ℕ → List Entry → Type 0
-EndsSynced slot es = (es ≡ []) ⊎ ((front : List Entry) × ((e : Entry) × ((is_sync slot e ≡ true) × (es ≡ front ++ e ∷ []))))
+EndsSynced slot es = (es ≡ [])
+    ⊎ ((front : List Entry) × ((e : Entry) × ((is_sync slot e ≡ true) × (es ≡ front ++ e ∷ []))))

@@ -8,7 +8,7 @@ use Rattle.spool_disk.specs.Acts.{Rose}
 abbrev pub IsOver : List ℕ → List ℕ → Type 0
 IsOver left into = (left ≡ []) ⊎ (into ≡ [])
 
--- so many bytes come into so many places, and a failure is counted
+-- a source gives at most as many bytes as there is room for, and a failure is counted
 abbrev pub GivesCount : ℕ → ℕ → ℕ → Got → Type 0
 GivesCount room before faults (Bytes n) = (before ≤ faults) × (n ≤ room)
 GivesCount room before faults End = before ≤ faults
@@ -16,7 +16,8 @@ GivesCount room before faults Failed = (before ≤ faults) × Rose before faults
 
 -- the bytes that come are the next ones
 abbrev pub Gives : List ℕ → List ℕ → List ℕ → Got → Type 0
-Gives left rest into (Bytes n) = (n ≤ length left) × (take n into ≡ take n left) × (rest ≡ drop n left) × (n ≡ 0 → IsOver left into)
+Gives left rest into (Bytes n) = (n ≤ length left) × (take n into ≡ take n left) × (rest ≡ drop n left)
+    × (n ≡ 0 → IsOver left into)
 Gives left rest into End = IsOver left into × (rest ≡ left)
 Gives left rest into Failed = rest ≡ left
 
@@ -24,15 +25,16 @@ Gives left rest into Failed = rest ≡ left
 -- as are left up to there and as there is room for.
 abbrev pub gives_from : Option ℕ → ℕ → ℕ → ℕ → Got
 gives_from None given left room = Bytes (min left room)
-gives_from (Some place) given left room = if nat_le place given then Failed else Bytes (min (min left room) (place - given))
+gives_from (Some place) given left room = if nat_le place given then Failed else Bytes
+    (min (min left room) (place - given))
 
--- how many bytes that gives
+-- how many bytes an answer of a source gives
 abbrev pub given_by : Got → ℕ
 given_by (Bytes n) = n
 given_by End = 0
 given_by Failed = 0
 
--- so many bytes, or a failure
+-- an answer of a source: so many bytes, or a failure
 abbrev pub got_of : Option ℕ → Got
 got_of (Some n) = Bytes n
 got_of None = Failed

@@ -73,7 +73,17 @@ counted counts at = slice_set counts at (next (slice_index counts at))
 
 -- an act that was recorded, with these stops after it
 abbrev pub recorded : State → Deed → List ℕ → State
-recorded s e stops = record { now = s.now + 1; base = s.base; deeds = s.deeds ++ e ∷ []; parts = s.parts; stops = stops; loses = s.loses; arms = s.arms; waiting = s.waiting }
+recorded s e stops = record {
+  now = s.now + 1;
+  base = s.base;
+  deeds = s.deeds
+      ++ e ∷ [];
+  parts = s.parts;
+  stops = stops;
+  loses = s.loses;
+  arms = s.arms;
+  waiting = s.waiting;
+}
 
 abbrev pub failed : ℕ → State → Part → State
 failed acts s part = record {

@@ -11,7 +11,7 @@ IsRead Done = Unit {0}
 IsRead Failed = ⊥
 IsRead Halted = ⊥
 
--- of the number of bytes that were taken
+-- what holds of the number of bytes that were taken, if any were
 abbrev pub IfTook : Took → (ℕ → Type 0) → Type 0
 IfTook (Bytes n) P = P n
 IfTook TookFailed P = Unit {0}

@@ -29,7 +29,8 @@ fn zeros(alloc: Global, n: usize) -> Result<Vec<u8>, AllocError>
 // Zeros for each device.
 fn blank_start(alloc: Global, sizes: &Sizes) -> Result<Vec<Vec<u8>>, AllocError>
     ensures len { IfOk result (λ all. length all.items ≡ 258) }
-    ensures each { IfOk result (λ all. (slot : ℕ) → slot < 258 → bytes_at all.items slot ≡ replicate (size_in sizes.now slot) 0) }
+    ensures each { IfOk result (λ all. (slot : ℕ) → slot < 258
+        → bytes_at all.items slot ≡ replicate (size_in sizes.now slot) 0) }
     ensures none { (slot : ℕ) → 258 ≤ slot → size_in sizes.now slot ≡ 0 }
 {
     let _volumes = sizes.volumes;
@@ -44,7 +45,8 @@ fn blank_start(alloc: Global, sizes: &Sizes) -> Result<Vec<Vec<u8>>, AllocError>
 // Zeroed devices, and no line.
 pub(crate) fn blank_base(alloc: Global, sizes: Sizes) -> Result<Base, AllocError>
     ensures sizes { IfOk result (λ b. b.sizes ≡ sizes) }
-    ensures zeros { IfOk result (λ b. (slot : ℕ) → slot < 258 → bytes_at b.start.items slot ≡ replicate (size_in sizes slot) 0) }
+    ensures zeros { IfOk result (λ b. (slot : ℕ) → slot < 258
+        → bytes_at b.start.items slot ≡ replicate (size_in sizes slot) 0) }
     ensures none { IfOk result (λ b. b.said.items ≡ []) }
 {
     let start = blank_start(alloc, &sizes)?;

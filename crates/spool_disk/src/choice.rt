@@ -1,10 +1,10 @@
 /// What a crash makes of bytes that aren't synced.
 #[derive(Clone, Copy, PartialEq, Eq)]
 pub enum Choice {
-    /// They are as before their writes.
+    /// The unsynced bytes are as before their writes.
     Old,
-    /// They are as written.
+    /// The unsynced bytes are as written.
     New,
-    /// They are all ones.
+    /// The unsynced bytes are all ones.
     Ones,
 }

@@ -26,7 +26,8 @@ fn over(disk: &mut [u8], at: usize, bytes: &[u8])
 
 // Makes ones of a stretch, as far as it is there.
 fn ones(disk: &mut [u8], at: usize, len: usize)
-    ensures { (k : ℕ) → k < length disk.old → slice_index disk.new k ≡ (if is_in at len k then 255 else slice_index disk.old k) }
+    ensures { (k : ℕ) → k < length disk.old
+        → slice_index disk.new k ≡ (if is_in at len k then 255 else slice_index disk.old k) }
 {
     let end = at.saturating_add(len).min(disk.len());
     for i in at.min(end)..end {
@@ -73,7 +74,8 @@ fn replay(log: &[Entry], arena: &[u8], slot: usize, disk: &mut [u8]) -> usize
 
 // Makes ones of what an entry wrote to a slot.
 fn paint_one(entry: &Entry, slot: usize, image: &mut [u8])
-    ensures { (d : Disk) (bytes : List ℕ) → length bytes ≤ kept_by entry.now → is_sync slot entry.now ≡ false → IsOnes d image.old → IsOnes (effect slot d (deed_of entry.now bytes)) image.new }
+    ensures { (d : Disk) (bytes : List ℕ) → length bytes ≤ kept_by entry.now → is_sync slot entry.now ≡ false
+        → IsOnes d image.old → IsOnes (effect slot d (deed_of entry.now bytes)) image.new }
 {
     match *entry {
         Entry::Wrote(place, at, len, kept) if place == slot => {
@@ -86,7 +88,8 @@ fn paint_one(entry: &Entry, slot: usize, image: &mut [u8])
 
 // Makes ones of all that entries wrote to a slot, none of which is a sync of it.
 fn paint(log: &[Entry], slot: usize, image: &mut [u8])
-    ensures { (d : Disk) (arena : List ℕ) → IsQuiet slot log.now → IsOnes d image.old → IsOnes (after slot d (deeds_of log.now arena)) image.new }
+    ensures { (d : Disk) (arena : List ℕ) → IsQuiet slot log.now → IsOnes d image.old
+        → IsOnes (after slot d (deeds_of log.now arena)) image.new }
 {
     for entry in log {
         paint_one(entry, slot, image);
@@ -119,7 +122,9 @@ fn last_sync(log: &[Entry], slot: usize) -> usize
 // Makes what a crash leaves of the bytes that a slot had at first.
 fn shape(log: &[Entry], arena: &[u8], slot: usize, choice: Choice, image: &mut [u8])
     requires { kept_in log.now ≤ length arena.now }
-    ensures { (d : Disk) → image.old ≡ d.bytes → d.unsynced ≡ [] → Leaves choice (last_synced slot d.bytes d (deeds_of log.now arena.now)) (after slot d (deeds_of log.now arena.now)) image.new }
+    ensures { (d : Disk) → image.old ≡ d.bytes → d.unsynced ≡ []
+        → Leaves choice (last_synced slot d.bytes d (deeds_of log.now arena.now))
+        (after slot d (deeds_of log.now arena.now)) image.new }
 {
     if image.is_empty() {
         return;
@@ -146,7 +151,9 @@ fn image_of(
     choice: Choice,
 ) -> Result<Vec<u8>, AllocError>
     requires { kept_in log.now ≤ length arena.now }
-    ensures { IfOk result (λ image. (d : Disk) → start.now ≡ d.bytes → d.unsynced ≡ [] → Leaves choice (last_synced slot d.bytes d (deeds_of log.now arena.now)) (after slot d (deeds_of log.now arena.now)) image.items) }
+    ensures { IfOk result (λ image. (d : Disk) → start.now ≡ d.bytes → d.unsynced ≡ []
+        → Leaves choice (last_synced slot d.bytes d (deeds_of log.now arena.now))
+        (after slot d (deeds_of log.now arena.now)) image.items) }
 {
     let mut image = copy(alloc, start)?;
     shape(log, arena, slot, choice, &mut image);
@@ -163,7 +170,8 @@ fn images(
 ) -> Result<Vec<Vec<u8>>, AllocError>
     requires { kept_in log.now ≤ length arena.now }
     ensures len { IfOk result (λ all. length all.items ≡ 258) }
-    ensures each { IfOk result (λ all. (slot : ℕ) → slot < 258 → LeavesAt choice base.now slot (deeds_of log.now arena.now) (bytes_at all.items slot)) }
+    ensures each { IfOk result (λ all. (slot : ℕ) → slot < 258
+        → LeavesAt choice base.now slot (deeds_of log.now arena.now) (bytes_at all.items slot)) }
 {
     let start = base.start.as_slice();
     let mut all = Vec::with_capacity(alloc, start.len())?;
@@ -183,7 +191,10 @@ fn add_line(
 ) -> Result<(), AllocError>
     requires fits { kept_in said.old.items ≡ length text.old.items }
     requires kept { kept_by entry.now ≡ length bytes.now }
-    ensures lines { OnOk result ((place : ℕ) → lines_of place (deeds_of said.new.items text.new.items) ≡ lines_of place (deeds_of said.old.items text.old.items) ++ lines_of place (deed_of entry.now bytes.now ∷ [])) }
+    ensures lines { OnOk result ((place : ℕ)
+        → lines_of place (deeds_of said.new.items text.new.items)
+        ≡ lines_of place (deeds_of said.old.items text.old.items)
+        ++ lines_of place (deed_of entry.now bytes.now ∷ [])) }
     ensures fits { OnOk result (kept_in said.new.items ≡ length text.new.items) }
 {
     if let Entry::Said(_, _, _) = *entry {
@@ -202,7 +213,9 @@ fn add_lines(
 ) -> Result<(), AllocError>
     requires arena { kept_in log.now ≤ length arena.now }
     requires fits { kept_in said.old.items ≡ length text.old.items }
-    ensures lines { OnOk result ((place : ℕ) → lines_of place (deeds_of said.new.items text.new.items) ≡ lines_of place (deeds_of said.old.items text.old.items) ++ lines_of place (deeds_of log.now arena.now)) }
+    ensures lines { OnOk result ((place : ℕ)
+        → lines_of place (deeds_of said.new.items text.new.items)
+        ≡ lines_of place (deeds_of said.old.items text.old.items) ++ lines_of place (deeds_of log.now arena.now)) }
     ensures fits { OnOk result (kept_in said.new.items ≡ length text.new.items) }
 {
     let mut from = 0;
@@ -224,8 +237,10 @@ pub(crate) fn crashed_base(
 ) -> Result<Base, AllocError>
     requires { kept_in log.now ≤ length arena.now }
     ensures sizes { IfOk result (λ b. b.sizes ≡ base.now.sizes) }
-    ensures each { IfOk result (λ b. (slot : ℕ) → slot < 258 → LeavesAt choice base.now slot (deeds_of log.now arena.now) (bytes_at b.start.items slot)) }
-    ensures lines { IfOk result (λ b. (place : ℕ) → first_lines b place ≡ first_lines base.now place ++ lines_of place (deeds_of log.now arena.now)) }
+    ensures each { IfOk result (λ b. (slot : ℕ) → slot < 258
+        → LeavesAt choice base.now slot (deeds_of log.now arena.now) (bytes_at b.start.items slot)) }
+    ensures lines { IfOk result (λ b. (place : ℕ)
+        → first_lines b place ≡ first_lines base.now place ++ lines_of place (deeds_of log.now arena.now)) }
 {
     let start = images(alloc, base, log, arena, choice)?;
     let mut said = Vec::new(alloc);

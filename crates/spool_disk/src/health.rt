@@ -29,7 +29,7 @@ fn lost_since(since: Option<u64>, now: u64) -> Option<u64>
 }
 
 impl Health {
-    // The same part, lost by an act at a moment.
+    // The part, lost by an act at a moment.
     fn losing(self, now: u64) -> Health
         ensures { result ≡ lost_after self now }
     {
@@ -40,7 +40,7 @@ impl Health {
         }
     }
 
-    // The same part after a fault at a moment.
+    // The part after a fault at a moment.
     fn failing(self, now: u64) -> Health
         ensures value { result ≡ failed_after self now }
         ensures fits { self.faults ≤ top }
@@ -74,7 +74,8 @@ impl Counts {
     /// A fault of a part at a moment.
     pub fn fail(&mut self, place: usize, now: u64)
         requires { place < 1032 }
-        ensures parts { self.new.parts.items ≡ slice_set self.old.parts.items place (failed_after (health_at self.old.parts.items place) now) }
+        ensures parts { self.new.parts.items
+            ≡ slice_set self.old.parts.items place (failed_after (health_at self.old.parts.items place) now) }
         ensures stops { self.new.stops.items ≡ self.old.stops.items }
         ensures loses { self.new.loses.items ≡ self.old.loses.items }
         ensures arms { self.new.arms.items ≡ self.old.arms.items }
@@ -87,9 +88,11 @@ impl Counts {
     /// A call at a moment that loses a device.
     pub fn lose(&mut self, slot: usize, now: u64)
         requires { slot < 258 }
-        ensures parts { self.new.parts.items ≡ slice_set self.old.parts.items (4 * slot) (lost_after (health_at self.old.parts.items (4 * slot)) now) }
+        ensures parts { self.new.parts.items
+            ≡ slice_set self.old.parts.items (4 * slot) (lost_after (health_at self.old.parts.items (4 * slot)) now) }
         ensures stops { self.new.stops.items ≡ self.old.stops.items }
-        ensures loses { self.new.loses.items ≡ slice_set self.old.loses.items slot (next (slice_index self.old.loses.items slot)) }
+        ensures loses { self.new.loses.items
+            ≡ slice_set self.old.loses.items slot (next (slice_index self.old.loses.items slot)) }
         ensures arms { self.new.arms.items ≡ self.old.arms.items }
         ensures fits { slice_index self.old.loses.items slot ≤ top }
     {
@@ -101,7 +104,8 @@ impl Counts {
     /// Another device comes in the place of a slot's.
     pub fn renew(&mut self, slot: usize)
         requires { slot < 258 }
-        ensures parts { self.new.parts.items ≡ slice_set self.old.parts.items (4 * slot) (renewed_after (health_at self.old.parts.items (4 * slot))) }
+        ensures parts { self.new.parts.items
+            ≡ slice_set self.old.parts.items (4 * slot) (renewed_after (health_at self.old.parts.items (4 * slot))) }
         ensures stops { self.new.stops.items ≡ self.old.stops.items }
         ensures loses { self.new.loses.items ≡ self.old.loses.items }
         ensures arms { self.new.arms.items ≡ self.old.arms.items }
@@ -116,7 +120,8 @@ impl Counts {
         ensures parts { self.new.parts.items ≡ self.old.parts.items }
         ensures loses { self.new.loses.items ≡ self.old.loses.items }
         ensures arms { self.new.arms.items ≡ self.old.arms.items }
-        ensures stops { self.new.stops.items ≡ slice_set self.old.stops.items by (next (slice_index self.old.stops.items by)) }
+        ensures stops { self.new.stops.items
+            ≡ slice_set self.old.stops.items by (next (slice_index self.old.stops.items by)) }
         ensures fits { slice_index self.old.stops.items by ≤ top }
     {
         self.stops[by] = self.stops[by].saturating_add(1);
@@ -128,7 +133,8 @@ impl Counts {
         ensures parts { self.new.parts.items ≡ self.old.parts.items }
         ensures stops { self.new.stops.items ≡ self.old.stops.items }
         ensures loses { self.new.loses.items ≡ self.old.loses.items }
-        ensures arms { self.new.arms.items ≡ slice_set self.old.arms.items member (next (slice_index self.old.arms.items member)) }
+        ensures arms { self.new.arms.items
+            ≡ slice_set self.old.arms.items member (next (slice_index self.old.arms.items member)) }
     {
         self.arms[member] = self.arms[member].saturating_add(1);
     }
@@ -168,7 +174,7 @@ pub(crate) fn sound_parts(alloc: Global) -> Result<Vec<Health>, AllocError>
 }
 
 impl Health {
-    // The same part, which has another in its place.
+    // The part, which has another in its place.
     fn renewing(self) -> Health
         ensures { result ≡ renewed_after self }
     {
@@ -179,7 +185,7 @@ impl Health {
         }
     }
 
-    // The same part after a crash at a moment.
+    // The part after a crash at a moment.
     fn restarting(self, t: u64) -> Health
         ensures { result ≡ restarted t self }
     {
@@ -199,7 +205,8 @@ impl Health {
 fn forget(parts: &mut [Health], entry: &Entry)
     requires { length parts.old ≡ 1032 }
     ensures len { length parts.new ≡ 1032 }
-    ensures each { (place : ℕ) → health_at parts.new place ≡ known_health place (entry.now ∷ []) (health_at parts.old place) }
+    ensures each { (place : ℕ) → health_at parts.new place
+        ≡ known_health place (entry.now ∷ []) (health_at parts.old place) }
 {
     match *entry {
         Entry::Renewed(slot, since) if slot < 258 => parts[4 * slot].since = since,
@@ -230,7 +237,7 @@ fn restarted_parts(alloc: Global, parts: &[Health], t: u64) -> Result<Vec<Health
     parts.iter().map(|part| part.restarting(t)).collect(alloc)
 }
 
-// The parts after a crash at a moment, behind which these entries stand.
+// The parts after a crash at a moment, after which the record has these entries.
 pub(crate) fn crashed_parts(
     alloc: Global,
     parts: &[Health],
@@ -239,7 +246,8 @@ pub(crate) fn crashed_parts(
 ) -> Result<Vec<Health>, AllocError>
     requires { length parts.now ≡ 1032 }
     ensures len { IfOk result (λ v. length v.items ≡ 1032) }
-    ensures each { IfOk result (λ v. (place : ℕ) → health_at v.items place ≡ restarted t (known_health place later.now (health_at parts.now place))) }
+    ensures each { IfOk result (λ v. (place : ℕ)
+        → health_at v.items place ≡ restarted t (known_health place later.now (health_at parts.now place))) }
 {
     let mut then = copy_parts(alloc, parts)?;
     forget_all(&mut then, later);

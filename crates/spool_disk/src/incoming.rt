@@ -30,7 +30,7 @@ fn empty_wires(alloc: Global) -> Result<Vec<Vec<u8>>, AllocError>
     Ok(all)
 }
 
-// The bytes behind a place, as many as there is room for.
+// The bytes after a place, as many as there is room for.
 fn copy_from(bytes: &[u8], at: usize, into: &mut [u8])
     requires { at + length into.old ≤ length bytes.now }
     ensures { into.new ≡ take (length into.new) (drop at bytes.now) }
@@ -48,7 +48,9 @@ fn bytes_on(wires: &[Vec<u8>], wire: usize) -> &[u8]
 fn extend(wires: &mut Vec<Vec<u8>>, wire: usize, bytes: &[u8]) -> Result<(), AllocError>
     requires { wire < length wires.old.items }
     ensures len { length wires.new.items ≡ length wires.old.items }
-    ensures added { IfOk result (λ u. (w : ℕ) → bytes_at wires.new.items w ≡ (if wire == w then bytes_at wires.old.items w ++ bytes.now else bytes_at wires.old.items w)) }
+    ensures added { IfOk result (λ u. (w : ℕ)
+        → bytes_at wires.new.items w ≡ (if wire == w then bytes_at wires.old.items w
+        ++ bytes.now else bytes_at wires.old.items w)) }
     ensures none { IfErr result (λ e. (w : ℕ) → bytes_at wires.new.items w ≡ bytes_at wires.old.items w) }
 {
     wires[wire].extend_from_slice(bytes)
@@ -78,7 +80,8 @@ impl Incoming {
     pub(crate) fn take(&mut self, wire: u8, into: &mut [u8])
         requires { length into.old ≤ length (waiting_on self.old wire) }
         ensures into { into.new ≡ take (length into.new) (waiting_on self.old wire) }
-        ensures rest { (w : ℕ) → waiting_on self.new w ≡ (if wire == w then drop (length into.new) (waiting_on self.old w) else waiting_on self.old w) }
+        ensures rest { (w : ℕ) → waiting_on self.new w
+            ≡ (if wire == w then drop (length into.new) (waiting_on self.old w) else waiting_on self.old w) }
     {
         let wire = wire as usize;
         copy_from(bytes_on(&self.came, wire), self.taken[wire], into);
@@ -87,7 +90,9 @@ impl Incoming {
 
     // More bytes come on a wire. After NoMemory there are as many as before.
     pub(crate) fn add(&mut self, wire: u8, bytes: &[u8]) -> Result<(), NoMemory>
-        ensures added { IfOk result (λ u. (w : ℕ) → waiting_on self.new w ≡ (if wire == w then waiting_on self.old w ++ bytes.now else waiting_on self.old w)) }
+        ensures added { IfOk result (λ u. (w : ℕ)
+            → waiting_on self.new w ≡ (if wire == w then waiting_on self.old w
+            ++ bytes.now else waiting_on self.old w)) }
         ensures none { IfErr result (λ e. (w : ℕ) → waiting_on self.new w ≡ waiting_on self.old w) }
     {
         extend(&mut self.came, wire as usize, bytes)?;

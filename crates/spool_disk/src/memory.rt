@@ -26,7 +26,7 @@ use std::alloc::{AllocError, Global};
 pub const PLANS_MOST: usize = 64;
 
 /// A plant in memory, which tells its content and keeps a record of all acts. The record's room is taken when the plant
-/// is made, so no act fails for want of memory. An act that doesn't fit the record fails.
+/// is made, so no act runs out of memory. An act that doesn't fit the record fails.
 #[derive(Drop)]
 pub struct MemPlant {
     moment: u64,
@@ -35,10 +35,12 @@ pub struct MemPlant {
     plans: Vec<Plan>,
     fuses: Fuses,
     incoming: Incoming,
-    ghost in_step: { (length kept.log.items ≤ moment) × (length kept.log.items < kept.acts → length kept.log.items ≡ moment) },
+    ghost in_step: { (length kept.log.items ≤ moment)
+        × (length kept.log.items < kept.acts → length kept.log.items ≡ moment) },
     ghost planned: { (length plans.items ≤ 64) × (64 ≤ vec_capacity plans) },
     ghost lost_by_now: { (place : ℕ) → since_of (health_at counts.parts.items place).since ≤ moment },
-    ghost lost_still: { (place : ℕ) → is_some (health_at counts.parts.items place).since ≡ true → (health_at counts.parts.items place).lost ≡ true },
+    ghost lost_still: { (place : ℕ) → is_some (health_at counts.parts.items place).since ≡ true
+        → (health_at counts.parts.items place).lost ≡ true },
 }
 
 // The first plan of a moment.
@@ -84,8 +86,10 @@ impl MemPlant {
     // What becomes of an act with so many bytes to record.
     fn course(&self, by: MemberId, part: Part, len: usize) -> Course
         ensures course { result ≡ course_of (mem_book self.now) (mem_view self.now) by.0 part len }
-        ensures go { result ≡ Go → (self.now.moment < self.now.kept.acts) × (self.now.moment < top) × (length self.now.kept.arena.items + len ≤ self.now.kept.room) × ((mem_view self.now).lost part ≡ false) }
-        ensures halt { (keep : ℕ) → result ≡ Halt keep → (self.now.moment < self.now.kept.acts) × (self.now.moment < top) × (length self.now.kept.arena.items + len ≤ self.now.kept.room) × (0 < by.0) }
+        ensures go { result ≡ Go → (self.now.moment < self.now.kept.acts) × (self.now.moment < top)
+            × (length self.now.kept.arena.items + len ≤ self.now.kept.room) × ((mem_view self.now).lost part ≡ false) }
+        ensures halt { (keep : ℕ) → result ≡ Halt keep → (self.now.moment < self.now.kept.acts)
+            × (self.now.moment < top) × (length self.now.kept.arena.items + len ≤ self.now.kept.room) × (0 < by.0) }
     {
         let room = self.kept.room - self.kept.arena.len();
         if self.moment < self.kept.acts as u64 && len <= room {
@@ -128,7 +132,8 @@ impl MemPlant {
     fn note_line(&mut self, place: usize, text: &[u8], whole: bool)
         requires acts { self.old.moment < self.old.kept.acts }
         requires room { length self.old.kept.arena.items + length text.now ≤ self.old.kept.room }
-        ensures state { state_of self.new ≡ recorded (state_of self.old) (Said place text.now whole) (state_of self.old).stops }
+        ensures state { state_of self.new
+            ≡ recorded (state_of self.old) (Said place text.now whole) (state_of self.old).stops }
         ensures book { mem_book self.new ≡ spent (length text.now) (mem_book self.old) }
     {
         self.kept.add_line(place, text, whole);
@@ -142,7 +147,8 @@ impl MemPlant {
         requires there { slot < 258 }
         requires within { at + length bytes.now ≤ size_at self.old.kept.base slot }
         requires few { length bytes.now ≤ len }
-        ensures state { state_of self.new ≡ recorded (state_of self.old) (Wrote slot at len bytes.now) (state_of self.old).stops }
+        ensures state { state_of self.new
+            ≡ recorded (state_of self.old) (Wrote slot at len bytes.now) (state_of self.old).stops }
         ensures book { mem_book self.new ≡ spent (length bytes.now) (mem_book self.old) }
     {
         self.kept.add_write(slot, at, len, bytes);
@@ -176,7 +182,8 @@ impl MemPlant {
     fn note_passed(&mut self, given: bool, wire: u8, by: MemberId, bytes: &[u8])
         requires acts { self.old.moment < self.old.kept.acts }
         requires room { length self.old.kept.arena.items + length bytes.now ≤ self.old.kept.room }
-        ensures state { state_of self.new ≡ recorded (state_of self.old) (Passed given wire by.0 bytes.now) (state_of self.old).stops }
+        ensures state { state_of self.new
+            ≡ recorded (state_of self.old) (Passed given wire by.0 bytes.now) (state_of self.old).stops }
         ensures book { mem_book self.new ≡ spent (length bytes.now) (mem_book self.old) }
     {
         self.kept.add_passed(given, wire, by.0, bytes);
@@ -185,7 +192,8 @@ impl MemPlant {
 
     // A stop of a member.
     fn stop(&mut self, by: MemberId)
-        ensures state { state_of self.new ≡ record (state_of self.old) { stops = counted (state_of self.old).stops by.0 } }
+        ensures state { state_of self.new
+            ≡ record (state_of self.old) { stops = counted (state_of self.old).stops by.0 } }
         ensures book { mem_book self.new ≡ mem_book self.old }
         ensures fits { slice_index (state_of self.old).stops by.0 ≤ top }
         ensures there { by.0 < length (state_of self.old).stops }
@@ -262,7 +270,8 @@ impl MemPlant {
     fn note_part(&mut self, place: usize, line: &[u8], keep: usize)
         requires acts { self.old.moment < self.old.kept.acts }
         requires room { length self.old.kept.arena.items + length line.now ≤ self.old.kept.room }
-        ensures state { state_of self.new ≡ recorded (state_of self.old) (deed_left place keep line.now) (state_of self.old).stops }
+        ensures state { state_of self.new
+            ≡ recorded (state_of self.old) (deed_left place keep line.now) (state_of self.old).stops }
         ensures book { mem_book self.new ≡ spent (min keep (length line.now)) (mem_book self.old) }
     {
         if line.len() <= keep {
@@ -297,7 +306,8 @@ impl MemPlant {
         requires many { length parts.items ≡ 1032 }
         requires first { (place : ℕ) → since_of (health_at parts.items place).since ≤ 0 }
         requires none { (place : ℕ) → (health_at parts.items place).faults ≡ 0 }
-        requires lost { (place : ℕ) → is_some (health_at parts.items place).since ≡ true → (health_at parts.items place).lost ≡ true }
+        requires lost { (place : ℕ) → is_some (health_at parts.items place).since ≡ true
+            → (health_at parts.items place).lost ≡ true }
         ensures view { IfOk result (λ p. BeginsWith base parts.items (mem_view p)) }
         ensures book { IfOk result (λ p. mem_book p ≡ empty_book acts bytes) }
     {
@@ -326,8 +336,8 @@ impl MemPlant {
         Ok(MemPlant::begin(alloc, base, parts, acts, bytes)?)
     }
 
-    /// Plans the act that is made while `now` is that number: it fails. The first plan of a moment counts. `lose`, which
-    /// has no answer, passes a plan over.
+    /// Plans the act that is made while `now` is that number: it fails. The first plan of a moment counts. `lose`,
+    /// which has no answer, passes a plan over.
     pub fn fail_at(&mut self, act: u64)
         requires { length (mem_book self.old).plans < PLANS_MOST }
         ensures view { mem_view self.new ≡ mem_view self.old }
@@ -346,7 +356,8 @@ impl MemPlant {
     pub fn halt_at(&mut self, act: u64, keep: u32)
         requires { length (mem_book self.old).plans < PLANS_MOST }
         ensures view { mem_view self.new ≡ mem_view self.old }
-        ensures book { mem_book self.new ≡ with_plan (record { moment = act; planned = Halts keep }) (mem_book self.old) }
+        ensures book { mem_book self.new
+            ≡ with_plan (record { moment = act; planned = Halts keep }) (mem_book self.old) }
         ensures reads { (d : Dev) → SameReads d self.old self.new }
     {
         self.plans.push_reserved(Plan {
@@ -357,7 +368,8 @@ impl MemPlant {
 
     /// What a crash at a moment up to now leaves, with unsynced bytes by the choice. What was lost at that moment is
     /// lost, and the console and the printers hold what they held, a torn line too. Nothing waits on a wire, nothing is
-    /// planned or armed, no act was made, and the record is empty and has the same room. NoMemory comes where the new plant finds none.
+    /// planned or armed, no act was made, and the record is empty and has the same room. NoMemory comes where the new
+    /// plant finds none.
     pub fn crash_at(&self, alloc: Global, t: u64, choice: Choice) -> Result<MemPlant, NoMemory>
         requires { t ≤ (mem_view self.now).now }
         ensures view { IfOk result (λ p. IsCrashed choice t (mem_view self.now) (mem_view p)) }
@@ -388,7 +400,8 @@ impl MemPlant {
 
     /// The lines that stand whole on the console now. NoMemory comes where they find none.
     pub fn console_lines(&self, alloc: Global) -> Result<Lines, NoMemory>
-        ensures { IfOk result (λ lines. lines ≡ whole_lines ((mem_view self.now).world (mem_view self.now).now).console) }
+        ensures { IfOk result (λ lines. lines
+            ≡ whole_lines ((mem_view self.now).world (mem_view self.now).now).console) }
     {
         self.lines_at(alloc, place_number(Part::Console))
     }
@@ -466,7 +479,8 @@ impl Plant for MemPlant {
         ensures content { Reads dev at (mem_view self.old) (mem_view self.new) into.new result }
         ensures course { result ≡ answer (course_of (mem_book self.old) (mem_view self.old) by.0 (Disk dev) 0) }
         ensures book { mem_book self.new ≡ acted by.0 (Disk dev) (mem_book self.old) }
-        ensures reads { IsRead result → (t : ℕ) → t ≤ (mem_view self.old).now → mem_reads self.new dev t ≡ mem_reads self.old dev t + 1 }
+        ensures reads { IsRead result → (t : ℕ) → t ≤ (mem_view self.old).now
+            → mem_reads self.new dev t ≡ mem_reads self.old dev t + 1 }
         ensures else_reads { (d : Dev) → (d ≢ dev) ⊎ (result ≢ Done) → SameReads d self.old self.new }
     {
         let course = self.course(by, Part::Disk(dev), 0);
@@ -494,10 +508,15 @@ impl Plant for MemPlant {
         requires { at + length bytes.now ≤ (mem_view self.old).size dev }
         ensures acts { Acts by.0 (Disk dev) (mem_view self.old) (mem_view self.new) result }
         ensures content { Writes dev at bytes.now (mem_view self.old) (mem_view self.new) result }
-        ensures course { result ≡ answer (course_of (mem_book self.old) (mem_view self.old) by.0 (Disk dev) (length bytes.now)) }
-        ensures kept { (keep : ℕ) → course_of (mem_book self.old) (mem_view self.old) by.0 (Disk dev) (length bytes.now) ≡ Halt keep
-            → (disk_now (mem_view self.new) dev).bytes ≡ overwrite at (take keep bytes.now) (disk_now (mem_view self.old) dev).bytes }
-        ensures book { mem_book self.new ≡ acted by.0 (Disk dev) (spent_by (course_of (mem_book self.old) (mem_view self.old) by.0 (Disk dev) (length bytes.now)) (length bytes.now) (mem_book self.old)) }
+        ensures course { result ≡ answer
+            (course_of (mem_book self.old) (mem_view self.old) by.0 (Disk dev) (length bytes.now)) }
+        ensures kept { (keep : ℕ) → course_of (mem_book self.old) (mem_view self.old) by.0 (Disk dev) (length bytes.now)
+            ≡ Halt keep → (disk_now (mem_view self.new) dev).bytes
+            ≡ overwrite at (take keep bytes.now) (disk_now (mem_view self.old) dev).bytes }
+        ensures book { mem_book self.new
+            ≡ acted by.0 (Disk dev) (spent_by
+            (course_of (mem_book self.old) (mem_view self.old) by.0 (Disk dev) (length bytes.now)) (length bytes.now)
+            (mem_book self.old)) }
         ensures reads { (d : Dev) → SameReads d self.old self.new }
     {
         let course = self.course(by, Part::Disk(dev), bytes.len());
@@ -549,10 +568,15 @@ impl Plant for MemPlant {
     fn say(&mut self, by: MemberId, line: &[u8]) -> Act
         ensures acts { Acts by.0 Console (mem_view self.old) (mem_view self.new) result }
         ensures content { Says line.now (mem_view self.old) (mem_view self.new) result }
-        ensures course { result ≡ answer (course_of (mem_book self.old) (mem_view self.old) by.0 Console (length line.now)) }
-        ensures kept { (keep : ℕ) → course_of (mem_book self.old) (mem_view self.old) by.0 Console (length line.now) ≡ Halt keep
-            → ((mem_view self.new).world (mem_view self.new).now).console ≡ ((mem_view self.old).world (mem_view self.old).now).console ++ left_of keep line.now }
-        ensures book { mem_book self.new ≡ acted by.0 Console (spent_by (course_of (mem_book self.old) (mem_view self.old) by.0 Console (length line.now)) (length line.now) (mem_book self.old)) }
+        ensures course { result ≡ answer
+            (course_of (mem_book self.old) (mem_view self.old) by.0 Console (length line.now)) }
+        ensures kept { (keep : ℕ) → course_of (mem_book self.old) (mem_view self.old) by.0 Console (length line.now)
+            ≡ Halt keep → ((mem_view self.new).world (mem_view self.new).now).console
+            ≡ ((mem_view self.old).world (mem_view self.old).now).console ++ left_of keep line.now }
+        ensures book { mem_book self.new
+            ≡ acted by.0 Console (spent_by
+            (course_of (mem_book self.old) (mem_view self.old) by.0 Console (length line.now)) (length line.now)
+            (mem_book self.old)) }
         ensures reads { (d : Dev) → SameReads d self.old self.new }
     {
         let course = self.course(by, Part::Console, line.len());
@@ -578,10 +602,15 @@ impl Plant for MemPlant {
     fn print(&mut self, by: MemberId, line: &[u8]) -> Act
         ensures acts { Acts by.0 (Printer by) (mem_view self.old) (mem_view self.new) result }
         ensures content { Prints by.0 line.now (mem_view self.old) (mem_view self.new) result }
-        ensures course { result ≡ answer (course_of (mem_book self.old) (mem_view self.old) by.0 (Printer by) (length line.now)) }
-        ensures kept { (keep : ℕ) → course_of (mem_book self.old) (mem_view self.old) by.0 (Printer by) (length line.now) ≡ Halt keep
-            → paper_now (mem_view self.new) by.0 ≡ paper_now (mem_view self.old) by.0 ++ left_of keep line.now }
-        ensures book { mem_book self.new ≡ acted by.0 (Printer by) (spent_by (course_of (mem_book self.old) (mem_view self.old) by.0 (Printer by) (length line.now)) (length line.now) (mem_book self.old)) }
+        ensures course { result ≡ answer
+            (course_of (mem_book self.old) (mem_view self.old) by.0 (Printer by) (length line.now)) }
+        ensures kept { (keep : ℕ) → course_of (mem_book self.old) (mem_view self.old) by.0 (Printer by)
+            (length line.now) ≡ Halt keep → paper_now (mem_view self.new) by.0
+            ≡ paper_now (mem_view self.old) by.0 ++ left_of keep line.now }
+        ensures book { mem_book self.new
+            ≡ acted by.0 (Printer by) (spent_by
+            (course_of (mem_book self.old) (mem_view self.old) by.0 (Printer by) (length line.now)) (length line.now)
+            (mem_book self.old)) }
         ensures reads { (d : Dev) → SameReads d self.old self.new }
     {
         let part = Part::Printer(by);
@@ -608,10 +637,15 @@ impl Plant for MemPlant {
     fn give(&mut self, by: MemberId, wire: u8, bytes: &[u8]) -> Act
         ensures acts { Acts by.0 (Wire wire) (mem_view self.old) (mem_view self.new) result }
         ensures content { GivesOn wire by.0 bytes.now (mem_view self.old) (mem_view self.new) result }
-        ensures course { result ≡ answer (course_of (mem_book self.old) (mem_view self.old) by.0 (Wire wire) (length bytes.now)) }
-        ensures kept { (keep : ℕ) → course_of (mem_book self.old) (mem_view self.old) by.0 (Wire wire) (length bytes.now) ≡ Halt keep
+        ensures course { result ≡ answer
+            (course_of (mem_book self.old) (mem_view self.old) by.0 (Wire wire) (length bytes.now)) }
+        ensures kept { (keep : ℕ) → course_of (mem_book self.old) (mem_view self.old) by.0 (Wire wire)
+            (length bytes.now) ≡ Halt keep
             → given_now (mem_view self.new) wire by.0 ≡ given_now (mem_view self.old) wire by.0 ++ take keep bytes.now }
-        ensures book { mem_book self.new ≡ acted by.0 (Wire wire) (spent_by (course_of (mem_book self.old) (mem_view self.old) by.0 (Wire wire) (length bytes.now)) (length bytes.now) (mem_book self.old)) }
+        ensures book { mem_book self.new
+            ≡ acted by.0 (Wire wire) (spent_by
+            (course_of (mem_book self.old) (mem_view self.old) by.0 (Wire wire) (length bytes.now)) (length bytes.now)
+            (mem_book self.old)) }
         ensures reads { (d : Dev) → SameReads d self.old self.new }
     {
         let course = self.course(by, Part::Wire(wire), bytes.len());
@@ -637,9 +671,14 @@ impl Plant for MemPlant {
         ensures acts { Acts by.0 (Wire wire) (mem_view self.old) (mem_view self.new) (act_of result) }
         ensures fits { FitsInto (length into.old) result }
         ensures content { Takes wire by.0 (mem_view self.old) (mem_view self.new) into.new result }
-        ensures course { act_of result ≡ answer (course_of (mem_book self.old) (mem_view self.old) by.0 (Wire wire) (min (length ((mem_view self.old).waiting wire)) (length into.old))) }
+        ensures course { act_of result
+            ≡ answer (course_of (mem_book self.old) (mem_view self.old) by.0 (Wire wire)
+            (min (length ((mem_view self.old).waiting wire)) (length into.old))) }
         ensures all { IfTook result (λ n. n ≡ min (length ((mem_view self.old).waiting wire)) (length into.old)) }
-        ensures book { mem_book self.new ≡ acted by.0 (Wire wire) (spent_taking (course_of (mem_book self.old) (mem_view self.old) by.0 (Wire wire) (min (length ((mem_view self.old).waiting wire)) (length into.old)))
+        ensures book { mem_book self.new
+            ≡ acted by.0 (Wire wire) (spent_taking
+            (course_of (mem_book self.old) (mem_view self.old) by.0 (Wire wire)
+            (min (length ((mem_view self.old).waiting wire)) (length into.old)))
             (min (length ((mem_view self.old).waiting wire)) (length into.old)) (mem_book self.old)) }
         ensures reads { (d : Dev) → SameReads d self.old self.new }
     {

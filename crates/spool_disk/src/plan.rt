@@ -19,10 +19,10 @@ pub struct Plan {
 /// What becomes of an act.
 #[derive(Clone, Copy)]
 pub enum Course {
-    /// It is done.
+    /// The act is done.
     Go,
-    /// It fails.
+    /// The act fails.
     Fail,
-    /// It halts, and leaves at most so many of its bytes.
+    /// The act halts, and leaves at most so many of its bytes.
     Halt(usize),
 }

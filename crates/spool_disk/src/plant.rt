@@ -131,8 +131,10 @@ pub trait Plant {
         ensures content { tells → LosesThere dev (view self.old) (view self.new) };
 
     /// A device that is told has as many bytes as its size.
-    ghost sized: { (p : Self) → tells → (t : ℕ) → t ≤ (view p).now → (d : Dev) → length (disk_at (view p) t d).bytes ≡ (view p).size d };
+    ghost sized: { (p : Self) → tells → (t : ℕ) → t ≤ (view p).now → (d : Dev)
+        → length (disk_at (view p) t d).bytes ≡ (view p).size d };
 
     /// A device that isn't lost isn't lost in the world of now.
-    ghost there: { (p : Self) → tells → (d : Dev) → (view p).lost (Disk d) ≡ false → (disk_now (view p) d).lost ≡ false };
+    ghost there: { (p : Self) → tells → (d : Dev) → (view p).lost (Disk d) ≡ false
+        → (disk_now (view p) d).lost ≡ false };
 }

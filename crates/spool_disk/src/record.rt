@@ -23,7 +23,8 @@ fn put_at(disks: &mut Vec<Vec<u8>>, slot: usize, at: usize, bytes: &[u8])
     requires there { slot < vec_len disks.old }
     requires room { at + length bytes.now ≤ length (bytes_at disks.old.items slot) }
     ensures len { vec_len disks.new ≡ vec_len disks.old }
-    ensures bytes { (s : ℕ) → bytes_at disks.new.items s ≡ (if slot == s then overwrite at bytes.now (bytes_at disks.old.items s) else bytes_at disks.old.items s) }
+    ensures bytes { (s : ℕ) → bytes_at disks.new.items s
+        ≡ (if slot == s then overwrite at bytes.now (bytes_at disks.old.items s) else bytes_at disks.old.items s) }
 {
     let disk = &mut disks[slot];
     put_over(disk, at, bytes);
@@ -45,7 +46,8 @@ fn clear_all(disk: &mut Vec<u8>)
 fn clear_at(disks: &mut Vec<Vec<u8>>, slot: usize)
     requires { slot < vec_len disks.old }
     ensures len { vec_len disks.new ≡ vec_len disks.old }
-    ensures bytes { (s : ℕ) → bytes_at disks.new.items s ≡ (if slot == s then replicate (length (bytes_at disks.old.items s)) 0 else bytes_at disks.old.items s) }
+    ensures bytes { (s : ℕ) → bytes_at disks.new.items s
+        ≡ (if slot == s then replicate (length (bytes_at disks.old.items s)) 0 else bytes_at disks.old.items s) }
 {
     let disk = &mut disks[slot];
     clear_all(disk);
@@ -73,7 +75,8 @@ fn append(log: &mut Vec<Entry>, arena: &mut Vec<u8>, entry: Entry, bytes: &[u8])
     requires room { length arena.old.items + length bytes.now ≤ vec_capacity arena.old }
     requires kept { kept_by entry ≡ length bytes.now }
     requires fits { kept_in log.old.items ≡ length arena.old.items }
-    ensures added { deeds_of log.new.items arena.new.items ≡ deeds_of log.old.items arena.old.items ++ deed_of entry bytes.now ∷ [] }
+    ensures added { deeds_of log.new.items arena.new.items
+        ≡ deeds_of log.old.items arena.old.items ++ deed_of entry bytes.now ∷ [] }
     ensures fits { kept_in log.new.items ≡ length arena.new.items }
     ensures longer { length log.new.items ≡ length log.old.items + 1 }
     ensures more { length arena.new.items ≡ length arena.old.items + length bytes.now }
@@ -112,11 +115,14 @@ impl Record {
         append(&mut self.log, &mut self.arena, Entry::Idle, &[]);
     }
 
-    // The same, where there is room for it.
+    // An act that changed nothing, where there is room for it.
     pub(crate) fn add_pass(&mut self)
         ensures base { self.new.base ≡ self.old.base }
-        ensures deeds { deeds_of self.new.log.items self.new.arena.items ≡ idled self.old.acts (deeds_of self.old.log.items self.old.arena.items) }
-        ensures longer { length self.new.log.items ≡ (if nat_lt (length self.old.log.items) self.old.acts then length self.old.log.items + 1 else length self.old.log.items) }
+        ensures deeds { deeds_of self.new.log.items self.new.arena.items
+            ≡ idled self.old.acts (deeds_of self.old.log.items self.old.arena.items) }
+        ensures longer { length self.new.log.items
+            ≡ (if nat_lt (length self.old.log.items) self.old.acts then length self.old.log.items
+            + 1 else length self.old.log.items) }
         ensures more { length self.new.arena.items ≡ length self.old.arena.items }
         ensures acts { self.new.acts ≡ self.old.acts }
         ensures room { self.new.room ≡ self.old.room }
@@ -210,7 +216,8 @@ impl Record {
     pub(crate) fn read(&self, slot: usize, at: usize, into: &mut [u8])
         requires there { slot < 258 }
         requires within { at + length into.old ≤ size_at self.now.base slot }
-        ensures { into.new ≡ slice at (length into.new) (after slot (fresh self.now.base slot) (deeds_of self.now.log.items self.now.arena.items)).bytes }
+        ensures { into.new ≡ slice at (length into.new)
+            (after slot (fresh self.now.base slot) (deeds_of self.now.log.items self.now.arena.items)).bytes }
     {
         read_at(&self.disks, slot, at, into);
     }

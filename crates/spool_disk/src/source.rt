@@ -93,7 +93,8 @@ impl Source for MemSource {
     fn next(&mut self, into: &mut [u8]) -> Got
         ensures counts { GivesCount (length into.old) self.old.faults self.new.faults result }
         ensures content { Gives (left_of self.old) (left_of self.new) into.new result }
-        ensures gives { result ≡ gives_from (fault_of self.old) (given_of self.old) (length (left_of self.old)) (length into.old) }
+        ensures gives { result ≡ gives_from (fault_of self.old) (given_of self.old) (length (left_of self.old))
+            (length into.old) }
         ensures given { given_of self.new ≡ given_of self.old + given_by result }
         ensures fault { fault_of self.new ≡ fault_of self.old }
     {

@@ -18,7 +18,7 @@ pub record Pushed (group : List ℕ) (at : ℕ) (old new : List (List ℕ)) : Ty
   pub left : records_in (drop at group) ≡ Some others
   pub is : new ≡ old ++ before
 
--- none is added yet
+-- at the first byte of the group no record is added yet
 pub push_none : (group : List ℕ) (old : List (List ℕ)) → IsSome (records_in group) → Pushed group 0 old old
 push_none group old some = go (records_in group) refl some
   where
@@ -26,7 +26,7 @@ push_none group old some = go (records_in group) refl some
     go None e some = absurd (cc)
     go (Some lines) e some = record { before = []; others = lines; whole = e; left = e; is = sym (append-nil old) }
 
--- those so far are the first ones
+-- the records added so far are the first ones of the group
 pub push_some : (group : List ℕ) (at : ℕ) (old new : List (List ℕ)) → Pushed group at old new → AddsFirst group old new
 push_some group at old new p = record {
   lines = p.before ++ p.others;
@@ -54,7 +54,7 @@ module _ (b : ℕ) (bytes : List ℕ) (others : List (List ℕ)) (go : (b == end
   pub first_other : (rest : List (List ℕ)) × (others ≡ take b bytes ∷ rest) × (records_in (drop b bytes) ≡ Some rest)
   first_other = begins_with (records_in (drop b bytes)) refl (sym (records_in-record b bytes go begins) ∙ left)
 
--- one more record
+-- one more record of the group was added
 push_next : (group : List ℕ) (at b : ℕ) (old now new rest : List (List ℕ)) (p : Pushed group at old now) → p.others ≡ take b (drop (at + 1) group) ∷ rest
     → records_in (drop b (drop (at + 1) group)) ≡ Some rest → new ≡ now ++ take b (drop (at + 1) group) ∷ [] → Pushed group (at + 1 + b) old new
 push_next group at b old now new rest p first left is =
@@ -83,7 +83,7 @@ something_left group at rest left =
       | inr w ↦ let none : drop at group ≡ [] = drop_all at group (omega (arith, w.1)) in absurd (let e = rw none at left in cc)
     ]
 
--- one more record of a page
+-- one more record of a page was read
 pub push_step : (group : List ℕ) (at : ℕ) (old now new : List (List ℕ)) → length group ≡ page_bytes → at < page_bytes → get_or group at 0 ≢ end_byte
     → new ≡ now ++ take (get_or group at 0) (drop (at + 1) group) ∷ [] → Pushed group at old now
     → (at + 1 + get_or group at 0 < page_bytes) × Pushed group (at + 1 + get_or group at 0) old new

@@ -17,7 +17,8 @@ ReadsWhatIsPacked = (lines : List (List ℕ)) → AreLines lines → text_of (pa
 
 -- each group holds its own lines
 abbrev pub HoldsItsLines : Type 0
-HoldsItsLines = (lines : List (List ℕ)) → AreLines lines → All (λ group. HoldsRecords (group_bytes group) group) (grouped lines)
+HoldsItsLines = (lines : List (List ℕ)) → AreLines lines
+    → All (λ group. HoldsRecords (group_bytes group) group) (grouped lines)
 
 -- each line stands in one group, in order
 abbrev pub HasEachLine : Type 0

@@ -40,7 +40,7 @@ group_bytes lines = filled_up (records_of lines ++ end_byte ∷ [])
 abbrev pub packed : List (List ℕ) → List (List ℕ)
 packed lines = map group_bytes (grouped lines)
 
--- the lines before these ones, where both are there
+-- the first lines before the second, where both are there
 abbrev pub joined : Option (List (List ℕ)) → Option (List (List ℕ)) → Option (List (List ℕ))
 joined None rest = None
 joined (Some lines) None = None

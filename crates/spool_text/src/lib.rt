@@ -1,5 +1,5 @@
-//! The text of decks and of output as the track groups of the spool hold it. A group is a page of whole records, each one
-//! length byte and so many text bytes, and the byte 0xFF after them. This layout is the project's own.
+//! The text of decks and of output as the track groups of the spool hold it. A group is a page of whole records, each
+//! one length byte and so many text bytes, and the byte 0xFF after them. This layout is the project's own.
 #![tactic(auto)]
 
 mod laws;

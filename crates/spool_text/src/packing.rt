@@ -11,7 +11,8 @@ use mas_types::limits::PAGE_BYTES;
 use mas_types::{Lines, Page};
 
 /// How many groups the lines take; at least one. A line goes into the present group where its record and the byte after
-/// the records still fit, else into the next. There are at most 9,999 lines, each of at most 132 bytes from 0x20 to 0x7E.
+/// the records still fit, else into the next. There are at most 9,999 lines, each of at most 132 bytes from 0x20 to
+/// 0x7E.
 pub fn groups_needed(lines: &Lines) -> u32
     requires { AreLines lines.now }
     ensures { result ≡ groups_needed_lem lines.now }
@@ -103,8 +104,8 @@ fn put_end(at: usize, into: &mut [u8; 4096])
     into[at + 1..].fill(0);
 }
 
-/// Writes one group of the lines, counted from 0 and below `groups_needed`: the records of its lines, the byte 0xFF, and
-/// zeros. The lines are as in `groups_needed`.
+/// Writes one group of the lines, counted from 0 and below `groups_needed`: the records of its lines, the byte 0xFF,
+/// and zeros. The lines are as in `groups_needed`.
 pub fn pack(lines: &Lines, group: u32, into: &mut Page)
     requires text { AreLines lines.now }
     requires group { group < groups_needed_lem lines.now }

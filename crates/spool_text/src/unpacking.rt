@@ -16,7 +16,7 @@ pub enum TextNo {
     /// The group holds no records.
     #[error("the group holds no records")]
     Bad,
-    /// There was no memory.
+    /// Out of memory.
     #[error("no memory")]
     NoMemory,
 }

@@ -168,7 +168,7 @@ spares_act by per g stopped old new act why acts = record {
   apart : (p : Part) → IsElsewhere per (g ∷ []) p → p ≢ DiskPart (Spool (volume_of per g))
   apart p else = All-head (λ h. p ≢ DiskPart (Spool (volume_of per h))) g [] else
 
--- and then one more of the groups
+-- acts on the volumes of the groups, and of one more of them
 pub spares_then : (by per : ℕ) (groups : List GroupNo) (i : ℕ) (d : GroupNo) (stopped : Bool) (old mid new : View) → i < length groups
     → SparesOthers by per groups false old mid → SparesOthers by per (get_or groups i d ∷ []) stopped mid new → SparesOthers by per groups stopped old new
 spares_then by per groups i d stopped old mid new there x y = record {

@@ -168,7 +168,7 @@ gone_next tells by first now new per groups g rest old told have goes steady non
     = same_unless (slice (start_of per g) page_bytes) (first.lost (part v)) (now.lost (part v)) (disk_now first (Spool v)).bytes (disk_now now (Spool v)).bytes lost (same_bytes first now (have.looks.during told) (Spool v)) ∙ none still in
     gone_more (records_on (volumes_now first) per) groups (g ∷ rest) (have.none told) ∙ rw here refl
 
--- and so it is on what is shown, where none of the groups lies on a lost volume
+-- the group that comes next is gone from what is shown, where none of the groups lies on a lost volume
 pub left_next : (tells : Type 0) (by : ℕ) (first now new : View) (per : ℕ) (groups : List GroupNo) (g : GroupNo) (rest : List GroupNo) (old : List (List ℕ)) → tells
     → HaveRead tells by first now per groups old → (new.lost (DiskPart (Spool (volume_of per g))) ≡ false → records_on (volumes_shown now) per g ≡ None)
     → lie_on_lost new per (groups ++ g ∷ rest) ≡ false → first_gone (records_on (volumes_shown first) per) (groups ++ g ∷ rest) ≡ Some g
@@ -187,7 +187,7 @@ left_whole tells by first now per count groups lines told have =
 
 -- LIMITS
 
--- records behind records
+-- records after records
 pub are_records : (old lines new : List (List ℕ)) → new ≡ old ++ lines → All (λ line. is_record line ≡ true) lines → All (λ line. is_record line ≡ true) old → All (λ line. is_record line ≡ true) new
 are_records old lines new is more all = subst (All (λ line. is_record line ≡ true)) (sym is) (All-append (λ line. is_record line ≡ true) old lines all more)
 

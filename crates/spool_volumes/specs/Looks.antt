@@ -22,8 +22,8 @@ volumes_shown v n = Some (disk_now v (Spool n)).bytes
 abbrev pub lie_on_lost : View → ℕ → List GroupNo → Bool
 lie_on_lost v per groups = list_any (λ g. v.lost (DiskPart (Spool (volume_of per g)))) groups
 
--- At each moment of a call no byte of a volume has changed and nothing more of it is unsynced, and nothing else in the world
--- changes.
+-- At each moment of a call no byte of a volume has changed and nothing more of it is unsynced, and nothing else in the
+-- world changes.
 pub record OnlyLooksAt (old new : View) : Type 0 where
   pub goes : Goes old new
   pub volumes : Throughout old.now new.now (λ t. (n : ℕ) → NoMore (disk_now old (Spool n)) (disk_at new t (Spool n)))
@@ -32,8 +32,8 @@ pub record OnlyLooksAt (old new : View) : Type 0 where
   pub console : Throughout old.now new.now (λ t. (new.world t).console ≡ (old.world old.now).console)
   pub sides : Throughout old.now new.now (λ t. SameSides (old.world old.now) (new.world t))
 
--- A call of a member that only looks at volumes: no other part is lost in it, and nobody but the member is stopped, nor the
--- operator.
+-- A call of a member that only looks at volumes: no other part is lost in it, and nobody but the member is stopped, nor
+-- the operator.
 pub record LooksAt (tells : Type 0) (by : ℕ) (old new : View) : Type 0 where
   pub goes : Goes old new
   pub during : tells → OnlyLooksAt old new
@@ -41,12 +41,12 @@ pub record LooksAt (tells : Type 0) (by : ℕ) (old new : View) : Type 0 where
   pub loses : (d : Dev) → new.loses d ≡ old.loses d
   pub no_other_stop : (m : ℕ) → (m ≢ by) ⊎ (by ≡ 0) → new.stops m ≡ old.stops m
 
--- this part is no volume on which one of the groups lies
+-- a part is no volume on which one of the groups lies
 abbrev pub IsElsewhere : ℕ → List GroupNo → Part → Type 0
 IsElsewhere per groups p = All (λ g. p ≢ DiskPart (Spool (volume_of per g))) groups
 
--- A call of a member that reads groups: no part is lost in it, and of none a fault is counted, but of a volume on which one of the groups
--- lies; and nobody is stopped, but the member where the call says so.
+-- A call of a member that reads groups: no part is lost in it, and of none a fault is counted, but of a volume on which
+-- one of the groups lies; and nobody is stopped, but the member where the call says so.
 pub record SparesOthers (by per : ℕ) (groups : List GroupNo) (stopped : Bool) (old new : View) : Type 0 where
   pub lost : (p : Part) → IsElsewhere per groups p → new.lost p ≡ old.lost p
   pub faults : (p : Part) → IsElsewhere per groups p → new.faults p ≡ old.faults p

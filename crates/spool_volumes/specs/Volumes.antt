@@ -35,11 +35,13 @@ volumes_now v n = bytes_unless (v.lost (DiskPart (Spool n))) (disk_now v (Spool 
 -- a group's page lies within its volume, unless that is lost
 pub record IsPlaced (v : View) (per : ℕ) (g : GroupNo) : Type 0 where
   pub volume : volume_of per g ≤ 255
-  pub within : v.lost (DiskPart (Spool (volume_of per g))) ≡ false → start_of per g + page_bytes ≤ v.size (Spool (volume_of per g))
+  pub within : v.lost (DiskPart (Spool (volume_of per g))) ≡ false
+      → start_of per g + page_bytes ≤ v.size (Spool (volume_of per g))
 
 -- each volume of the configuration that isn't lost has the size that its groups need
 abbrev pub AreRoomy : View → Config → Type 0
-AreRoomy v config = (n : ℕ) → 1 ≤ n → n ≤ config.volumes → v.lost (DiskPart (Spool n)) ≡ false → page_bytes * config.groups ≤ v.size (Spool n)
+AreRoomy v config = (n : ℕ) → 1 ≤ n → n ≤ config.volumes → v.lost (DiskPart (Spool n)) ≡ false
+    → page_bytes * config.groups ≤ v.size (Spool n)
 
 -- no volume was lost in between
 abbrev pub IsSteady : View → View → Type 0

@@ -10,7 +10,8 @@ pub fn law_of_read_texts()
     law_of_texts();
 }
 
-/// A text that is there and synced is read from whatever a crash leaves, unless one of its groups lies on a lost volume.
+/// A text that is there and synced is read from whatever a crash leaves, unless one of its groups lies on a lost
+/// volume.
 pub fn law_of_left_texts()
     ensures { LeavesTexts }
 {

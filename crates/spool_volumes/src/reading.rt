@@ -43,9 +43,11 @@ fn read_page<P: Plant>(
     ensures looks { LooksAt P.tells by.0 (P.view plant.old) (P.view plant.new) }
     ensures spares { SparesOthers by.0 per (group ∷ []) (read_stopped result) (P.view plant.old) (P.view plant.new) }
     ensures read { result ≡ OkLem true → P.tells → page_of (volumes_now (P.view plant.old)) per group ≡ Some into.new }
-    ensures lost { result ≡ OkLem false → IsSteady (P.view plant.old) (P.view plant.new) → page_of (volumes_now (P.view plant.old)) per group ≡ None }
+    ensures lost { result ≡ OkLem false → IsSteady (P.view plant.old) (P.view plant.new)
+        → page_of (volumes_now (P.view plant.old)) per group ≡ None }
     ensures out { result ≡ OkLem false → (P.view plant.new).lost (Disk (Spool (volume_of per group))) ≡ true }
-    ensures halted { IsErrOf result ReadErrorHalted → (0 < by.0) × Rose ((P.view plant.old).stops by.0) ((P.view plant.new).stops by.0) }
+    ensures halted { IsErrOf result ReadErrorHalted → (0 < by.0)
+        × Rose ((P.view plant.old).stops by.0) ((P.view plant.new).stops by.0) }
 {
     let dev = Dev::Spool((group.0 / per) as u8 + 1);
     if plant.lost(Part::Disk(dev)) {
@@ -72,11 +74,16 @@ fn add_group<P: Plant>(
     requires placed { IsPlaced (P.view plant.old) per group }
     ensures looks { LooksAt P.tells by.0 (P.view plant.old) (P.view plant.new) }
     ensures spares { SparesOthers by.0 per (group ∷ []) (read_stopped result) (P.view plant.old) (P.view plant.new) }
-    ensures added { result ≡ OkLem true → P.tells → Adds (records_on (volumes_now (P.view plant.old)) per group) lines.old lines.new }
-    ensures records { result ≡ OkLem true → All (λ line. is_record line ≡ true) lines.old → All (λ line. is_record line ≡ true) lines.new }
-    ensures none { result ≡ OkLem false → P.tells → IsSteady (P.view plant.old) (P.view plant.new) → records_on (volumes_now (P.view plant.old)) per group ≡ None }
-    ensures out { result ≡ OkLem false → P.tells → (P.view plant.new).lost (Disk (Spool (volume_of per group))) ≡ false → records_on (volumes_shown (P.view plant.old)) per group ≡ None }
-    ensures halted { IsErrOf result ReadErrorHalted → (0 < by.0) × Rose ((P.view plant.old).stops by.0) ((P.view plant.new).stops by.0) }
+    ensures added { result ≡ OkLem true → P.tells
+        → Adds (records_on (volumes_now (P.view plant.old)) per group) lines.old lines.new }
+    ensures records { result ≡ OkLem true → All (λ line. is_record line ≡ true) lines.old
+        → All (λ line. is_record line ≡ true) lines.new }
+    ensures none { result ≡ OkLem false → P.tells → IsSteady (P.view plant.old) (P.view plant.new)
+        → records_on (volumes_now (P.view plant.old)) per group ≡ None }
+    ensures out { result ≡ OkLem false → P.tells → (P.view plant.new).lost (Disk (Spool (volume_of per group))) ≡ false
+        → records_on (volumes_shown (P.view plant.old)) per group ≡ None }
+    ensures halted { IsErrOf result ReadErrorHalted → (0 < by.0)
+        × Rose ((P.view plant.old).stops by.0) ((P.view plant.new).stops by.0) }
 {
     law_of_reading();
     let mut page = Page([0; 4096]);
@@ -111,14 +118,16 @@ pub fn last_group(groups: &[GroupNo]) -> GroupNo
     }
 }
 
-/// The text of groups in the order of their places, of which its slot counts so many lines; each volume has `per` groups,
-/// at least one, and each group lies within its volume, where that isn't lost. It is whole, or gone with the first group that
-/// lies on a lost volume or holds no records; the last group counts as such where the lines are not as many as the slot counts.
+/// The text of groups in the order of their places, of which its slot counts so many lines; each volume has `per`
+/// groups, at least one, and each group lies within its volume, where that isn't lost. It is whole, or gone with the
+/// first group that lies on a lost volume or holds no records; the last group counts as such where the lines are not as
+/// many as the slot counts.
 ///
-/// Its lines are within the limits of a text, whatever the volumes hold. What else is said of the text holds where no volume was lost in the call, and so it does where none of its groups lies on a
-/// volume that is lost then: else read again. Halted comes only where the member was stopped inside a read, never for the
-/// operator; else nobody is stopped. No byte of a volume is changed, and nothing more is unsynced. A volume on which none of the groups
-/// lies isn't lost, and no fault of it is counted.
+/// Its lines are within the limits of a text, whatever the volumes hold. What else is said of the text holds where no
+/// volume was lost in the call, and so it does where none of its groups lies on a volume that is lost then: else read
+/// again. Halted comes only where the member was stopped inside a read, never for the operator; else nobody is stopped.
+/// No byte of a volume is changed, and nothing more is unsynced. A volume on which none of the groups lies isn't lost,
+/// and no fault of it is counted.
 pub fn read_text<P: Plant>(
     alloc: Global,
     plant: &mut P,
@@ -133,9 +142,12 @@ pub fn read_text<P: Plant>(
     ensures spares { SparesOthers by.0 per groups.now (read_stopped result) (P.view plant.old) (P.view plant.new) }
     ensures count { IfOk result (λ text. line_count text ≡ count) }
     ensures limited { IfOk result IsLimited }
-    ensures left { IfOk result (λ text. P.tells → lie_on_lost (P.view plant.new) per groups.now ≡ false → text ≡ text_of (records_on (volumes_shown (P.view plant.old)) per) count groups.now) }
-    ensures text { IfOk result (λ text. P.tells → IsSteady (P.view plant.old) (P.view plant.new) → text ≡ text_of (records_on (volumes_now (P.view plant.old)) per) count groups.now) }
-    ensures halted { IsErrOf result ReadErrorHalted → (0 < by.0) × Rose ((P.view plant.old).stops by.0) ((P.view plant.new).stops by.0) }
+    ensures left { IfOk result (λ text. P.tells → lie_on_lost (P.view plant.new) per groups.now ≡ false
+        → text ≡ text_of (records_on (volumes_shown (P.view plant.old)) per) count groups.now) }
+    ensures text { IfOk result (λ text. P.tells → IsSteady (P.view plant.old) (P.view plant.new)
+        → text ≡ text_of (records_on (volumes_now (P.view plant.old)) per) count groups.now) }
+    ensures halted { IsErrOf result ReadErrorHalted → (0 < by.0)
+        × Rose ((P.view plant.old).stops by.0) ((P.view plant.new).stops by.0) }
 {
     let mut lines = Lines::new(alloc);
     for group in groups {

@@ -38,7 +38,7 @@ no_course = record { batches = []; lines = [] }
 
 -- BATCHES OF WHAT IS WRITTEN
 
--- some of it perhaps empty
+-- batches of which the first part is perhaps empty
 pub batches_first : (es : List Entry) (ess : List (List Entry)) → batches_in (es ∷ ess) ≡ batch_of es ++ batches_in ess
 batches_first [] ess = refl
 batches_first (e ∷ es) ess = refl
@@ -148,7 +148,7 @@ not_idle (reply.No why) e = absurd (cc)
 -- COURSES OF TURNS
 
 module _ (finds : Finds) (h : Holder) where
-  -- the rest of a step from a state on
+  -- what a step gives from a state on
   abbrev pub later : ℕ → Queue → State → Course
   later n Q s = course_of (sittings n finds Q h s)
 
@@ -185,7 +185,7 @@ module _ (finds : Finds) (h : Holder) where
         (λ e. rw e (ap (λ (first : List (List Entry)). record { batches = first ++ (finishes n (run Q es) [] t).batches; lines = (finishes n (run Q es) [] t).lines }) (full_batch (so_far ++ es) e)))
         (λ e. rw e refl)
 
-    -- where a sitting ends after a last part
+    -- what a sitting that ends after a last part finishes with
     pub finishes_last : (n : ℕ) (Q : Queue) (so_far es : List Entry) (s : State) (lines : List (List ℕ))
         → finishes n Q so_far (record { parts = es ∷ []; next = s; lines = lines }) ≡ record { batches = batch_of (so_far ++ es) ++ (later n (run Q es) s).batches; lines = lines ++ (later n (run Q es) s).lines }
     finishes_last n Q so_far es s lines =

@@ -80,7 +80,7 @@ module _ (Q : Queue) (by : MemberId) (at : ℕ) (fields : JobFields) (text : Lis
   abbrev es : List Entry
   es = given_in Q by at (opening Q by fields groups)
 
-  -- as it ends so, with the second batch where the job has its groups
+  -- the deck's course as it ends, with the second batch where the job has its groups
   abbrev whole : Opened → Course
   whole o = record {
     batches = es ∷ batches_behind (run Q es) by at text lost o;

@@ -153,7 +153,7 @@ module _ (finds : Finds) (h : Holder) (for_step : h.grant ≡ ForStep) where
         (sym (ap (λ (l : Look). read_of l.read o.text) same ∙ so.0), sym (ap (λ (l : Look). l.printer) same ∙ so.1)));
   }
 
-  -- one for each unit, also for those that aren't begun
+  -- a look for each unit, also for those that aren't begun
   pub looks_from : ℕ → ℕ → Queue → List Look
   looks_from zero k Q = []
   looks_from (suc left) k Q = found_look left k Q ∷ looks_from left (k + 1) (queue_behind h.by h.step (round_of Q (found_look left k Q)))

@@ -82,7 +82,7 @@ module _ (finds : Finds) (h : Holder) (for_step : h.grant ≡ ForStep) (look : �
   abbrev Wants : ℕ → List Entry → ℕ → UnitPlay → List Round → Course
   Wants given so_far done u rs = works_by h.by h.step h.hold given so_far done u rs
 
-  -- so many units at most go on from each queue as they should
+  -- work of so many units at most goes on from each queue as it should
   abbrev GoOn : ℕ → Type 0
   GoOn left = (n given done : ℕ) (so_far : List Entry) (Q : Queue) → 3 * left ≤ n → Q.config.hold ≡ h.hold
       → finishes finds h n Q so_far (units_from h left Q given done) ≡ works h.by h.step h.hold given so_far done (rounds_at left done Q)
@@ -110,7 +110,7 @@ module _ (finds : Finds) (h : Holder) (for_step : h.grant ≡ ForStep) (look : �
       ∙ ap (λ (c : Course). written_first (so_far ++ es) c) more
       ∙ sym (works_spent h.by h.step h.hold given so_far done es (rounds_at (suc left) (done + 1) (run Q es)) e)
 
-  -- it isn't
+  -- the hold isn't spent, and more may follow
   going_part : (left : ℕ) → GoOn (suc left) → (n given done : ℕ) (so_far es : List Entry) (Q : Queue) → 3 * suc left + 1 ≤ n → Q.config.hold ≡ h.hold → nat_le h.hold (given + length es) ≡ false
       → finishes finds h n Q so_far (after_part es (goes_on h (suc left) (units_from h (suc left)) (run Q es) (given + length es) (done + 1)))
       ≡ Wants given so_far done (record { parts = es ∷ []; ends = ends.Done }) (rounds_at (suc left) (done + 1) (run Q es))
@@ -148,7 +148,7 @@ module _ (finds : Finds) (h : Holder) (for_step : h.grant ≡ ForStep) (look : �
   last_part_works left may n given done so_far es Q ends.Idle ne few whole = absurd (ne refl)
   last_part_works left may n given done so_far es Q (ends.Refused end) ne few whole = closed_part n given done so_far es Q end
 
-  -- the same, with its entries written as those of all parts
+  -- a unit's last part, with its entries written as those of all parts
   whole_part_works : (left : ℕ) → GoOn left → (n given done : ℕ) (so_far es : List Entry) (Q : Queue) (e : UnitEnd) → e ≢ ends.Idle → 3 * left + 1 ≤ n → Q.config.hold ≡ h.hold
       → finishes finds h n Q so_far (after_part es (goes_on_by h e left (units_from h left) (run Q es) (given + length es) done))
       ≡ Wants given so_far done (record { parts = es ∷ []; ends = e }) (rounds_at left (done + 1) (run Q (es ++ [])))
@@ -216,7 +216,7 @@ module _ (finds : Finds) (h : Holder) (for_step : h.grant ≡ ForStep) (look : �
     end_works zero n Q m specs lost few whole same = spooled_works None n Q m specs (omega (arith, few)) whole
     end_works (suc needed) n Q m specs lost few whole same = taken_works (are_refused (suc needed) Q h.by (suc needed)) n Q m specs (suc needed) lost few whole same
 
-    -- once a text was read
+    -- what work gives once a text was read
     stopped_works : (n : ℕ) (Q : Queue) (end : Closing) (rs : List Round) → finishes finds h n Q [] (closes_as h end) ≡ Wants 0 [] done (record { parts = [] ∷ []; ends = ends.Refused end }) rs
     stopped_works n Q end rs =
         finishes_closed finds h for_step n Q [] end

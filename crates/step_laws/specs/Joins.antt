@@ -1,4 +1,5 @@
--- A step that is cut into sittings gives what its deck, its command or its work gives as a whole, over a queue that nobody else changes.
+-- A step that is cut into sittings gives what its deck, its command or its work gives as a whole, over a queue that
+-- nobody else changes.
 use Rattle.std.specs.Prelude.{◌≡◌, ℕ, List, [], ◌∷◌, drop, length, Option, None}
 use Rattle.std.specs.Option.{option_map_or}
 use Rattle.mas_types.specs.declared.commands.Command.{Command}
@@ -68,9 +69,11 @@ found_with look text = record { read = read_of look.read text; lost = look.lost;
 
 abbrev pub found_in : Look → Queue → Aside → Found
 found_in look Q (SpoolDeck n text) = nothing_found
-found_in look Q (ReadText runs n fields p) = option_map_or (λ (j : Job). found_with look j.text) (job_at Q n) nothing_found
+found_in look Q (ReadText runs n fields p) = option_map_or (λ (j : Job). found_with look j.text) (job_at Q n)
+    nothing_found
 found_in look Q (SpoolOutputs n specs p) = record nothing_found { lost = look.lost }
-found_in look Q (PrintLines n i last p) = option_map_or (λ (o : Output). found_with look o.text) (output_at Q n i) nothing_found
+found_in look Q (PrintLines n i last p) = option_map_or (λ (o : Output). found_with look o.text) (output_at Q n i)
+    nothing_found
 
 -- the looks of units one after another, one for each
 abbrev pub finds_by : List Look → Finds
@@ -84,7 +87,8 @@ abbrev pub WorkIsCut : Type 0
 WorkIsCut = (Q : Queue) (by : MemberId) (at n : ℕ) (looks : List Look)
     → course (finds_by looks) Q (holds_for Q by at) (Work n) ≡ as_worked Q by at n looks
 
--- and whatever the acts find, it is what some looks of the units say
+-- whatever the acts of work find, it is what some looks of the units say
 abbrev pub WorkIsOfLooks : Type 0
 WorkIsOfLooks = (Q : Queue) (by : MemberId) (at n : ℕ) (finds : Finds)
-    → (looks : List Look) × (length looks ≡ n) × (course finds Q (holds_for Q by at) (Work n) ≡ as_worked Q by at n looks)
+    → (looks : List Look) × (length looks ≡ n)
+    × (course finds Q (holds_for Q by at) (Work n) ≡ as_worked Q by at n looks)

@@ -66,7 +66,7 @@ find_with (x ∷ xs) e is =
 first_has : (e : Entry) (es : List Entry) → closes e ≡ true → HasReply (e ∷ es)
 first_has e es is = let found = find_with (reverse es) e is in (found.0, ap (find closes) (reverse-append (e ∷ []) es) ∙ found.1)
 
--- of commands of which the first isn't Drop
+-- commands of which the first isn't Drop give an entry that isn't of Drop
 given_has : (Q : Queue) (by : MemberId) (at : ℕ) (c : Command) (cs : List Command) → is_drop c ≡ false → HasReply (given_in Q by at (c ∷ cs))
 given_has Q by at c cs is = first_has (entry_of Q by at c) (given_in (step Q by c).0 by at cs) (rw is refl)
 

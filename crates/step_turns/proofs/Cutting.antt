@@ -29,12 +29,12 @@ abbrev pub AreSome : List (List Entry) → Type 0
 AreSome [] = Unit {0}
 AreSome (es ∷ parts) = (1 ≤ length es) × AreSome parts
 
--- each has just one
+-- each part has just one entry
 abbrev pub AreOnes : List (List Entry) → Type 0
 AreOnes [] = Unit {0}
 AreOnes (es ∷ parts) = (length es ≡ 1) × AreOnes parts
 
--- the first one has so many at most, and each other just one
+-- the first part has as many entries as a batch at most, and each other part just one
 abbrev pub AreSmall : List (List Entry) → Type 0
 AreSmall [] = Unit {0}
 AreSmall (es ∷ parts) = (1 ≤ length es) × (length es ≤ batch_most) × AreOnes parts

@@ -14,7 +14,7 @@ use Rattle.step_turns.proofs.Cutting.{AreOnes, AreSmall, AreSome}
 use Rattle.step_turns.proofs.Given.{given_append, given_length}
 use Rattle.step_turns.proofs.Shapes.{Begins, Goes, bare, closes_here, first, plays, rests, taken, waits}
 
--- of units one after another
+-- what holds of a turn of units one after another
 record Went (h : Holder) (most : ℕ) (Q : Queue) (given left done : ℕ) (t : Turn) : Type 0 where
   said : t.next ≡ Told → 1 ≤ length t.lines
   silent : t.next ≢ Told → t.lines ≡ []

@@ -1,4 +1,5 @@
--- A hold and LOCK change only how a step's entries are cut into batches: each holder is compared with one by LOCK, whose step no hold cuts.
+-- A hold and LOCK change only how a step's entries are cut into batches: each holder is compared with one by LOCK,
+-- whose step no hold cuts.
 use Rattle.std.proofs.Common.{◌≡◌, ◌≢◌, ℕ, zero, suc, ◌+◌, ◌-◌, ◌*◌, ◌≤◌, Bool, true, false, List, [], ◌∷◌, ◌++◌, length, append_assoc, Option, Some, None, refl, sym, ap, ◌∙◌, arith}
 use Rattle.std.specs.Option.{option_map_or}
 use Rattle.mas_types.specs.declared.answers.Closing.{Closing}
@@ -39,11 +40,11 @@ use Rattle.step_turns.proofs.Given.{entries_append, run_append}
 use Rattle.step_turns.proofs.Sittings.{by_state, some_may_follow}
 
 module _ (finds : Finds) (by : MemberId) (at : ℕ) where
-  -- this member in this step
+  -- this member in this step, with a hold and a grant
   abbrev holds : ℕ → Grant → Holder
   holds hold grant = record { by = by; step = at; hold = hold; grant = grant }
 
-  -- by LOCK, with a hold that is spent
+  -- the member that holds by LOCK, with a hold that is spent
   abbrev locked : Holder
   locked = holds 0 ByLock
 
@@ -54,7 +55,7 @@ module _ (finds : Finds) (by : MemberId) (at : ℕ) where
   abbrev later : ℕ → Holder → Queue → State → Given
   later n h Q s = all_given (course_of (sittings n finds Q h s))
 
-  -- of a sitting under way, and those after it
+  -- the entries and the lines of a sitting under way, and of those after it
   abbrev finish : ℕ → Holder → Queue → Turn → Given
   finish n h Q t = (all_entries t.parts ++ (later n h (run Q (all_entries t.parts)) t.next).0, t.lines ++ (later n h (run Q (all_entries t.parts)) t.next).1)
 
@@ -67,7 +68,7 @@ module _ (finds : Finds) (by : MemberId) (at : ℕ) where
       ap (λ (fs : List Entry). let given : Given = (fs, t.lines ++ (rest es).lines) in given) (entries_append (cut [] t.parts) (rest es).batches)
       ∙ ap (λ (fs : List Entry). let given : Given = (fs ++ all_entries (rest fs).batches, t.lines ++ (rest fs).lines) in given) (cut_entries [] t.parts)
 
-  -- by LOCK with a spent hold it stays so
+  -- a member that holds by LOCK with a spent hold holds on so
   none_left : (k : ℕ) → holds (0 - k) ByLock ≡ locked
   none_left k = let none : 0 - k ≡ 0 = omega arith in ap (λ (hold : ℕ). holds hold ByLock) none
 
@@ -98,7 +99,7 @@ module _ (finds : Finds) (by : MemberId) (at : ℕ) where
   SameBelow most = (s : State) → sittings_most s ≤ most → Same s
 
   module _ (most : ℕ) (same : SameBelow most) (m n : ℕ) (enough : most ≤ m) (enough' : most ≤ n) where
-    -- the same turn, whoever holds after it
+    -- a turn goes on alike, whoever holds after it
     same_turn : (hold : ℕ) (grant : Grant) (Q : Queue) (t : Turn) → sittings_most t.next ≤ most → finish m (holds hold grant) Q t ≡ finish n locked Q t
     same_turn hold grant Q t few =
         ap (λ (g : Given). let given : Given = (all_entries t.parts ++ g.0, t.lines ++ g.1) in given)
@@ -117,7 +118,7 @@ module _ (finds : Finds) (by : MemberId) (at : ℕ) where
     closes_same m n hold grant Q end =
         ap (λ (g : Given). let given : Given = ([] ++ g.0, (closes_as locked end).lines ++ g.1) in given) (told_none m (holds hold grant) Q ∙ sym (told_none n locked Q))
 
-    -- after a unit that is done
+    -- a step goes on alike after a unit that is done
     goes_same : (left : ℕ) → SameUnits left → (m n : ℕ) (hold hold' : ℕ) (grant grant' : Grant) (Q : Queue) (given given' done : ℕ) → 3 * left + 1 ≤ m → 3 * left + 1 ≤ n
         → finish m (holds hold' grant') Q (goes_on (holds hold grant) left (units_from (holds hold grant) left) Q given done) ≡ finish n locked Q (goes_on locked left (units_from locked left) Q given' done)
     goes_same zero may m n hold hold' grant grant' Q given given' done few few' = closes_same m n hold' grant' Q (closing.DoneUnits done)

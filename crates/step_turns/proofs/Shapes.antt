@@ -1,4 +1,5 @@
--- How a sitting may go: the units that it plays one after another, each of one command, after a first part of a unit under way.
+-- How a sitting may go: the units that it plays one after another, each of one command, after a first part of a unit
+-- under way.
 use Rattle.std.proofs.Common.{◌≡◌, ◌≢◌, ℕ, zero, suc, ◌+◌, ◌-◌, ◌*◌, ◌≤◌, Bool, true, false, List, [], ◌∷◌, length, Option, Some, None, refl, arith}
 use Rattle.std.proofs.lemmas.Bool.Decides.{nat_tests}
 use Rattle.std.proofs.lemmas.List.{length-append}
@@ -37,8 +38,9 @@ use Rattle.step_turns.specs.States.{Aside, Away, ByLock, Deck, ForStep, Found, F
 use Rattle.step_turns.specs.Turns.{Turn, Units, after_part, aside_turn, closes_as, deck_opens, ends_with, goes_on, goes_on_by, groups_taken, is_spent, job_ends, leaves, lines_printed, next_unit, one_command, outputs_stand, prints_output, reads_job, says, task_turn, text_read, turn, units_from}
 use Rattle.step_turns.proofs.Takes.{few_ending, few_opening, few_taking, some_ending, some_opening, some_taking, takes_few, takes_some}
 
--- From a queue, with so many commands given in the sitting, so many units that may still be played, and so many done: the step closes; it
--- waits for acts; its hold is spent; or a unit of one command is played. The state that it leaves may have so many sittings at most.
+-- From a queue, with so many commands given in the sitting, so many units that may still be played, and so many done:
+-- the step closes; it waits for acts; its hold is spent; or a unit of one command is played. The state that it leaves
+-- may have so many sittings at most.
 pub data Goes (h : Holder) (most : ℕ) : Queue → ℕ → ℕ → ℕ → Turn → Type 0 where
   closes_here : (Q : Queue) (given left done : ℕ) (lines : List (List ℕ)) → 1 ≤ length lines → Goes h most Q given left done (says lines)
   waits : (Q : Queue) (given left done : ℕ) (a : Aside) → aside_units a ≡ left → aside_done a ≡ done → aside_most a ≤ most → Goes h most Q given left done (leaves (Away a))
@@ -47,7 +49,7 @@ pub data Goes (h : Holder) (most : ℕ) : Queue → ℕ → ℕ → ℕ → Turn
       → Goes h most (run Q (given_in Q h.by h.step (c ∷ []))) (given + length (given_in Q h.by h.step (c ∷ []))) left (done + 1) t
       → Goes h most Q given (suc left) done (after_part (given_in Q h.by h.step (c ∷ [])) t)
 
--- the same as a sitting begins
+-- how a turn goes at the beginning of a sitting: bare, or after a first unit of up to four commands
 pub data Begins (h : Holder) (most : ℕ) (Q : Queue) : ℕ → ℕ → Turn → Type 0 where
   bare : (left done : ℕ) (t : Turn) → Goes h most Q 0 left done t → Begins h most Q left done t
   first : (left done : ℕ) (cs : List Command) (t : Turn) → 1 ≤ length cs → length cs ≤ 4

@@ -16,7 +16,7 @@ use Rattle.step_turns.proofs.Shapes.{begins}
 
 -- STATES
 
--- of a state that is told, and of every other one
+-- what holds of a state that is told, and of every other one, holds of all
 pub by_state : (P : State → Type 0) → P Told → ((s : State) → s ≢ Told → P s) → (s : State) → P s
 by_state P at_told else_so (Fresh task) = else_so (Fresh task) (λ e. absurd (cc))
 by_state P at_told else_so (Away aside) = else_so (Away aside) (λ e. absurd (cc))

@@ -61,13 +61,13 @@ module _ (m : MemberId) where
 
 -- HOW MANY TAKES
 
--- where nothing is free the first one is refused
+-- where no group is free the first Take is refused, and is the last
 takes_dry : (times : ℕ) (Q : Queue) (by : MemberId) (missing : ℕ) → free_count Q.owners ≡ 0 → length (takes times Q by missing) ≤ 1
 takes_dry zero Q by missing none = omega arith
 takes_dry (suc times) Q by zero none = omega arith
 takes_dry (suc times) Q by (suc missing) none = let e : (free_count Q.owners == 0) ≡ true = eq-eqb (free_count Q.owners) 0 none in rw e (omega arith)
 
--- after a Take of so many groups where so many were free
+-- how many Takes follow a Take of so many groups where so many were free
 takes_then : (times : ℕ) (Q : Queue) (by : MemberId) (left want free : ℕ) → left ≡ want - min want free → free_count Q.owners ≡ free - want → length (takes times Q by left) ≤ 1
 takes_then zero Q by left want free is count = omega arith
 takes_then (suc times) Q by zero want free is count = omega arith

@@ -1,5 +1,5 @@
--- The batches of a sitting: what its units give, part after part, is written as soon as it has as many entries as a batch may, and at the
--- sitting's end.
+-- The batches of a sitting: what its units give, part after part, is written as soon as it has as many entries as a
+-- batch may, and at the sitting's end.
 use Rattle.std.specs.Prelude.{◌≡◌, ℕ, nat_le, Bool, if◌then◌else◌, List, [], ◌∷◌, ◌++◌, length, map}
 use Rattle.mas_types.specs.declared.journals.Entry.{Entry}
 use Rattle.step_turns.specs.Entries.{all_entries}
@@ -16,7 +16,7 @@ abbrev pub batch_of : List Entry → List (List Entry)
 batch_of [] = []
 batch_of (e ∷ es) = (e ∷ es) ∷ []
 
--- after a part: what was given since the last batch is written where that is full
+-- the batches after a part: what was given since the last batch is written where that is full
 abbrev pub cut_after : List Entry → (List Entry → List (List Entry)) → List (List Entry)
 cut_after es more = if is_full es then es ∷ more [] else more es
 

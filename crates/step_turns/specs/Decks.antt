@@ -1,5 +1,5 @@
--- What a deck's step gives: Begin, then Take of what is still missing until the text's groups are there, and then Enter; or Drop of
--- the job after a refused Take, or where a volume of a group taken for it is lost.
+-- What a deck's step gives: Begin, then Take of what is still missing until the text's groups are there, and then
+-- Enter; or Drop of the job after a refused Take, or where a volume of a group taken for it is lost.
 use Rattle.std.specs.Prelude.{ℕ, zero, suc, ◌-◌, Bool, true, false, if◌then◌else◌, List, [], ◌∷◌, ◌++◌, Option, Some, None}
 use Rattle.std.specs.Option.{option_map_or}
 use Rattle.mas_types.specs.declared.ids.MemberId.{MemberId}
@@ -21,8 +21,8 @@ abbrev pub left_after : ℕ → Reply → Option ℕ
 left_after missing (reply.Count n) = Some (missing - n)
 left_after missing _ = None
 
--- Take of what is missing, as often as needed, at most so many times, or up to one that is refused. Each that isn't refused takes
--- at least one, so as many times as groups are missing are enough.
+-- Take of what is missing, as often as needed, at most so many times, or up to one that is refused. Each that isn't
+-- refused takes at least one, so as many times as groups are missing are enough.
 abbrev pub takes : ℕ → Queue → MemberId → ℕ → List Command
 takes zero Q by missing = []
 takes (suc times) Q by zero = []
@@ -30,7 +30,7 @@ takes (suc times) Q by (suc missing) =
     let c = command.Take (suc missing) in
     c ∷ option_map_or (λ left. takes times (step Q by c).0 by left) (left_after (suc missing) (step Q by c).1) []
 
--- whether one of them is refused
+-- whether one of the Takes is refused
 abbrev pub are_refused : ℕ → Queue → MemberId → ℕ → Bool
 are_refused zero Q by missing = false
 are_refused (suc times) Q by zero = false
@@ -42,13 +42,14 @@ are_refused (suc times) Q by (suc missing) =
 
 -- the commands after Begin, by its reply
 abbrev pub after_begin : Queue → MemberId → ℕ → Reply → List Command
-after_begin Q by groups (reply.Job n) = takes groups Q by groups ++ (if are_refused groups Q by groups then command.Drop n ∷ [] else [])
+after_begin Q by groups (reply.Job n) = takes groups Q by groups
+    ++ (if are_refused groups Q by groups then command.Drop n ∷ [] else [])
 after_begin Q by groups _ = []
 
 abbrev pub opening : Queue → MemberId → JobFields → ℕ → List Command
 opening Q by fields groups = let c = command.Begin fields in c ∷ after_begin (step Q by c).0 by groups (step Q by c).1
 
--- the job that has its groups then, if one
+-- the job that has its groups after the opening, if one
 abbrev pub job_begun : Queue → MemberId → ℕ → Reply → Option JobNo
 job_begun Q by groups (reply.Job n) = if are_refused groups Q by groups then None else Some n
 job_begun Q by groups _ = None

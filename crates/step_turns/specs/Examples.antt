@@ -66,7 +66,7 @@ one_group = empty (record default_config { groups = 1 })
 abbrev pub for_step : ℕ → Holder
 for_step hold = record { by = member 1; step = 1; hold = hold; grant = ForStep }
 
--- that holds it by LOCK
+-- member 1 in step 1, that holds the lock by LOCK, with so much of its hold left
 abbrev pub by_lock : ℕ → Holder
 by_lock hold = record { by = member 1; step = 1; hold = hold; grant = ByLock }
 
@@ -82,7 +82,7 @@ DeckIsTwoSittings =
     ∷ [])
     × ((course calm one_group (for_step 64) deck_of_one_card).lines ≡ codes "SYSA 00001 OK JOB00001" ∷ [])
 
--- under LOCK the same batches, and the lock is never given up
+-- under LOCK a deck of one card gives the same batches, and the lock is never given up
 abbrev pub DeckUnderLock : Type 0
 DeckUnderLock =
     map shown (sittings 2 calm one_group (by_lock 64) (Fresh deck_of_one_card))
@@ -90,7 +90,7 @@ DeckUnderLock =
     ∷ is ((command.Enter (job 1) (cards 0) ∷ []) ∷ []) Told Keep
     ∷ []
 
--- where the hold is spent by the step's end it is given up then
+-- where a deck spends the hold by the step's end, the lock is given up there
 abbrev pub DeckSpendsTheLock : Type 0
 DeckSpendsTheLock =
     map shown (sittings 2 calm one_group (by_lock 3) (Fresh deck_of_one_card))
@@ -121,10 +121,12 @@ LostVolumeDropsTheDeck =
 
 abbrev pub CommandIsOneSitting : Type 0
 CommandIsOneSitting =
-    (map shown (sittings 1 calm one_group (for_step 64) (Fresh (Give (command.Hold (job 7))))) ≡ is ((command.Hold (job 7) ∷ []) ∷ []) Told Outer ∷ [])
+    (map shown (sittings 1 calm one_group (for_step 64) (Fresh (Give (command.Hold (job 7)))))
+    ≡ is ((command.Hold (job 7) ∷ []) ∷ []) Told Outer ∷ [])
     × ((course calm one_group (for_step 64) (Give (command.Hold (job 7)))).lines ≡ codes "SYSA 00001 NO NO JOB" ∷ [])
 
--- ANOTHER MEMBER ACTS BETWEEN TWO SITTINGS: the job whose text is written is cancelled; it is entered, and is to be purged
+-- ANOTHER MEMBER ACTS BETWEEN TWO SITTINGS: the job whose text is written is cancelled; it is entered, and is to be
+-- purged
 
 abbrev pub after_both : Queue → List (MemberId × Command) → Queue
 after_both Q theirs =
@@ -156,12 +158,13 @@ null_fields = fields_of (codes "N")
 abbrev pub null_job : Queue
 null_job = queue_of four_groups (codes "N") (codes "//N JOB" ∷ codes "//S EXEC PGM=IEFBR14" ∷ [])
 
--- It is converted and executed, each after its text was read without the lock, gathered and purged.
+-- A job is converted and executed, each after its text was read without the lock, gathered and purged.
 abbrev pub NullJobIsThreeSittings : Type 0
 NullJobIsThreeSittings =
     (map shown (sittings 3 calm null_job (for_step 64) (Fresh (Work 9)))
     ≡ is ((command.TakeConvert ∷ []) ∷ []) (Away (ReadText false (job 1) null_fields (at 1 7))) Inner
-    ∷ is ((command.Converted (job 1) ∷ command.TakeExec ∷ []) ∷ []) (Away (ReadText true (job 1) null_fields (at 3 5))) Inner
+    ∷ is ((command.Converted (job 1) ∷ command.TakeExec ∷ []) ∷ []) (Away (ReadText true (job 1) null_fields (at 3 5)))
+    Inner
     ∷ is ((command.Ended (job 1) [] ∷ command.Gather ∷ command.Purge ∷ []) ∷ []) Told Outer
     ∷ [])
     × ((course calm null_job (for_step 64) (Work 9)).lines ≡ codes "SYSA 00001 OK DONE 6" ∷ [])
@@ -169,13 +172,15 @@ NullJobIsThreeSittings =
 -- the last unit that may be done closes the step, and no other is looked for
 abbrev pub OneUnitIsDone : Type 0
 OneUnitIsDone =
-    (map shown (sittings 1 calm null_job (for_step 64) (Fresh (Work 1))) ≡ is ((command.TakeConvert ∷ []) ∷ []) Told Outer ∷ [])
+    (map shown (sittings 1 calm null_job (for_step 64) (Fresh (Work 1)))
+    ≡ is ((command.TakeConvert ∷ []) ∷ []) Told Outer ∷ [])
     × ((course calm null_job (for_step 64) (Work 1)).lines ≡ codes "SYSA 00001 OK DONE 1" ∷ [])
 
 abbrev pub with_hold : ℕ → Queue
 with_hold hold = record null_job { config = record four_groups { hold = hold } }
 
--- A hold of two commands is spent between two units, twice: the lock is given up there, and the next unit is looked for after it.
+-- A hold of two commands is spent between two units, twice: the lock is given up there, and the next unit is looked for
+-- after it.
 abbrev pub SpentHoldIsGivenUp : Type 0
 SpentHoldIsGivenUp =
     map shown (sittings 5 calm (with_hold 2) (for_step 2) (Fresh (Work 9)))
@@ -186,18 +191,20 @@ SpentHoldIsGivenUp =
     ∷ is ((command.Purge ∷ []) ∷ []) Told Outer
     ∷ []
 
--- under LOCK it cuts nothing; the lock is given up at the step's end
+-- under LOCK a hold cuts no step; the lock is given up at the step's end
 abbrev pub SpentHoldUnderLock : Type 0
 SpentHoldUnderLock =
     map shown (sittings 3 calm (with_hold 2) (by_lock 2) (Fresh (Work 9)))
     ≡ is ((command.TakeConvert ∷ []) ∷ []) (Away (ReadText false (job 1) null_fields (at 1 7))) Keep
-    ∷ is ((command.Converted (job 1) ∷ command.TakeExec ∷ []) ∷ []) (Away (ReadText true (job 1) null_fields (at 3 5))) Keep
+    ∷ is ((command.Converted (job 1) ∷ command.TakeExec ∷ []) ∷ []) (Away (ReadText true (job 1) null_fields (at 3 5)))
+    Keep
     ∷ is ((command.Ended (job 1) [] ∷ command.Gather ∷ command.Purge ∷ []) ∷ []) Told Outer
     ∷ []
 
 -- sixty-six parts of an entry each are two batches
 abbrev pub FullBatchIsWritten : Type 0
-FullBatchIsWritten = map length (cut [] (replicate 66 (entry_of one_group (member 1) 1 command.Purge ∷ []))) ≡ 64 ∷ 2 ∷ []
+FullBatchIsWritten = map length (cut [] (replicate 66 (entry_of one_group (member 1) 1 command.Purge ∷ [])))
+    ≡ 64 ∷ 2 ∷ []
 
 -- A JOB OF TWO OUTPUTS, of one line and of three
 
@@ -221,7 +228,8 @@ two_outputs = output_of (codes "ONE" ∷ []) ∷ output_of (codes "A" ∷ codes 
 abbrev pub first_sittings : List Shown
 first_sittings =
     is ((command.TakeConvert ∷ []) ∷ []) (Away (ReadText false (job 1) copies_fields (at 1 14))) Inner
-    ∷ is ((command.Converted (job 1) ∷ command.TakeExec ∷ []) ∷ []) (Away (ReadText true (job 1) copies_fields (at 3 12))) Inner
+    ∷ is ((command.Converted (job 1) ∷ command.TakeExec ∷ []) ∷ [])
+    (Away (ReadText true (job 1) copies_fields (at 3 12))) Inner
     ∷ []
 
 abbrev pub CopiesArePrinted : Type 0
@@ -229,8 +237,10 @@ CopiesArePrinted =
     (map shown (sittings 6 calm (copies_job four_groups) (for_step 64) (Fresh (Work 16)))
     ≡ first_sittings
     ++ is ((command.Take 2 ∷ []) ∷ []) (Away (SpoolOutputs (job 1) two_outputs (at 3 12))) Inner
-    ∷ is ((command.Ended (job 1) two_outputs ∷ command.Gather ∷ command.Pick ∷ []) ∷ []) (Away (PrintLines (job 1) (index 1) 1 (at 6 9))) Inner
-    ∷ is ((command.Mark (job 1) (index 1) 1 ∷ command.Done (job 1) (index 1) ∷ command.Pick ∷ []) ∷ []) (Away (PrintLines (job 1) (index 2) 3 (at 9 6))) Inner
+    ∷ is ((command.Ended (job 1) two_outputs ∷ command.Gather ∷ command.Pick ∷ []) ∷ [])
+    (Away (PrintLines (job 1) (index 1) 1 (at 6 9))) Inner
+    ∷ is ((command.Mark (job 1) (index 1) 1 ∷ command.Done (job 1) (index 1) ∷ command.Pick ∷ []) ∷ [])
+    (Away (PrintLines (job 1) (index 2) 3 (at 9 6))) Inner
     ∷ is ((command.Mark (job 1) (index 2) 3 ∷ command.Done (job 1) (index 2) ∷ command.Purge ∷ []) ∷ []) Told Outer
     ∷ [])
     × ((course calm (copies_job four_groups) (for_step 64) (Work 16)).lines ≡ codes "SYSA 00001 OK DONE 12" ∷ [])
@@ -258,14 +268,15 @@ LostVolumeRefusesTheUnit =
     ∷ [])
     × ((course loses_outputs (copies_job four_groups) (for_step 64) (Work 16)).lines ≡ codes "SYSA 00001 NO SPOOL LOST 1" ∷ [])
 
--- or before the text is read
+-- volume 1 is lost before the text is read
 abbrev pub loses_text : Finds
 loses_text Q s = record nothing_found { read = read.Lost 1 }
 
 abbrev pub LostTextRefusesTheUnit : Type 0
 LostTextRefusesTheUnit =
     (map shown (sittings 2 loses_text null_job (for_step 64) (Fresh (Work 9)))
-    ≡ is ((command.TakeConvert ∷ []) ∷ []) (Away (ReadText false (job 1) null_fields (at 1 7))) Inner ∷ is [] Told Outer ∷ [])
+    ≡ is ((command.TakeConvert ∷ []) ∷ []) (Away (ReadText false (job 1) null_fields (at 1 7))) Inner ∷ is [] Told Outer
+    ∷ [])
     × ((course loses_text null_job (for_step 64) (Work 9)).lines ≡ codes "SYSA 00001 NO SPOOL LOST 1" ∷ [])
 
 -- the printer is lost: no line is marked
@@ -277,7 +288,8 @@ LostPrinterRefusesTheUnit =
     (map shown (sittings 5 loses_printer (copies_job four_groups) (for_step 64) (Fresh (Work 16)))
     ≡ first_sittings
     ++ is ((command.Take 2 ∷ []) ∷ []) (Away (SpoolOutputs (job 1) two_outputs (at 3 12))) Inner
-    ∷ is ((command.Ended (job 1) two_outputs ∷ command.Gather ∷ command.Pick ∷ []) ∷ []) (Away (PrintLines (job 1) (index 1) 1 (at 6 9))) Inner
+    ∷ is ((command.Ended (job 1) two_outputs ∷ command.Gather ∷ command.Pick ∷ []) ∷ [])
+    (Away (PrintLines (job 1) (index 1) 1 (at 6 9))) Inner
     ∷ is [] Told Outer
     ∷ [])
     × ((course loses_printer (copies_job four_groups) (for_step 64) (Work 16)).lines ≡ codes "SYSA 00001 NO PRINTER LOST" ∷ [])

@@ -1,5 +1,6 @@
--- How a job ends in a unit of work: Take of the groups that its outputs need, as often as needed, and Ended once their texts stand in
--- them. After a refused Take or Ended, or where a volume of a group is lost, Drop of the member's groups. And how a chunk of lines ends.
+-- How a job ends in a unit of work: Take of the groups that its outputs need, as often as needed, and Ended once their
+-- texts stand in them. After a refused Take or Ended, or where a volume of a group is lost, Drop of the member's
+-- groups. And how a chunk of lines ends.
 use Rattle.std.specs.Prelude.{ℕ, ◌+◌, min, Bool, true, false, if◌then◌else◌, List, [], ◌∷◌, ◌++◌, Option, Some, None}
 use Rattle.mas_types.specs.declared.ids.MemberId.{MemberId}
 use Rattle.mas_types.specs.declared.ids.JobNo.{JobNo}
@@ -42,11 +43,13 @@ ending Q by n specs = ended_as (reply_to Q by (command.Ended n specs)) (command.
 
 -- PRINTING
 
--- the last line that is printed next: as many after the mark as the member's printer prints at a time, but none above the total
+-- the last line that is printed next: as many after the mark as the member's printer prints at a time, but none above
+-- the total
 abbrev pub chunk_end : Queue → MemberId → Output → ℕ
 chunk_end Q by o = min (o.mark + limit_of Q by) (total o)
 
--- how the unit is refused once the text was read and the lines were to be printed; None where each of them stands on paper
+-- how the unit is refused once the text was read and the lines were to be printed; None where each of them stands on
+-- paper
 abbrev pub printed_end : Bool → Read → Option Closing
 printed_end lost (read.Gone group) = Some (closing.NoText group)
 printed_end lost (read.Lost volume) = Some (closing.SpoolLost volume)

@@ -21,14 +21,14 @@ OfSittings holds = (Q : Queue) (h : Holder) (s : State) (found : Found) → hold
 
 -- THE LOCK
 
--- A member that took the lock for its step gives it up at the end of each sitting: before the acts that the step waits for, where
--- its hold is spent between two units, and at the step's end.
+-- A member that took the lock for its step gives it up at the end of each sitting: before the acts that the step waits
+-- for, where its hold is spent between two units, and at the step's end.
 pub record GivesUp (h : Holder) (t : Sitting) : Type 0 where
   pub inner : t.next ≢ Told → t.release ≡ Inner
   pub outer : t.next ≡ Told → t.release ≡ Outer
 
--- One that the operator took is never given up within a step: only at its end, and there only where the hold is spent. No hold
--- cuts the step.
+-- A lock that the operator took is never given up within a step: only at its end, and there only where the hold is
+-- spent. No hold cuts the step.
 pub record KeepsLock (h : Holder) (t : Sitting) : Type 0 where
   pub within : t.next ≢ Told → t.release ≡ Keep
   pub never_inner : t.release ≢ Inner
@@ -40,7 +40,7 @@ pub record HoldsRightly (h : Holder) (t : Sitting) : Type 0 where
   pub by_lock : h.grant ≡ ByLock → KeepsLock h t
   -- the lock is held in acts that the step waits for only where LOCK took it
   pub aside : (a : Aside) → t.next ≡ Away a → (t.release ≡ Inner) ⊎ (h.grant ≡ ByLock)
-  -- and given up between two units only where the hold is spent
+  -- the lock is given up between two units only where the hold is spent
   pub rest : (p : Progress) → t.next ≡ Rested p → h.hold ≤ length (all_entries t.batches)
 
 abbrev pub LockIsHeldRightly : Type 0
@@ -97,7 +97,8 @@ units_done (Away aside) = aside_done aside
 units_done (Rested p) = p.done
 units_done Told = 0
 
--- A sitting gives the parts of as many units as the step may still play, at most; and as many are done and left after it as before it.
+-- A sitting gives the parts of as many units as the step may still play, at most; and as many are done and left after
+-- it as before it.
 pub record PlaysUnits (s : State) (parts : List (List Entry)) (next : State) : Type 0 where
   pub few : length parts ≤ units_left s
   pub same : next ≢ Told → units_done next + units_left next ≡ units_done s + units_left s
@@ -122,8 +123,8 @@ lines_of by at end = closing_line by at end ∷ []
 abbrev pub IsReplyOf : List Entry → Reply → Type 0
 IsReplyOf es r = (r ≡ closing_reply es) ⊎ ((e : Entry) × (es ≡ e ∷ []) × (r ≡ e.reply))
 
--- Why a step closes so that may play so many units: as its last command was answered; with the units that are done; or by a text that is
--- gone, a volume or a printer that is lost, as its member found.
+-- Why a step closes so that may play so many units: as its last command was answered; with the units that are done; or
+-- by a text that is gone, a volume or a printer that is lost, as its member found.
 abbrev pub IsCaused : Found → ℕ → List Entry → Closing → Type 0
 IsCaused found most es (closing.Reply answer) = IsReplyOf es answer
 IsCaused found most es (closing.DoneUnits n) = n ≤ most
@@ -134,19 +135,20 @@ IsCaused found most es _ = ⊥
 
 abbrev pub LinesAreCaused : Type 0
 LinesAreCaused = OfSittings (λ Q h s found t. s ≢ Told → t.next ≡ Told
-    → (end : Closing) × IsCaused found (units_done s + units_left s) (all_entries t.batches) end × (t.lines ≡ lines_of h.by h.step end))
+    → (end : Closing) × IsCaused found (units_done s + units_left s) (all_entries t.batches) end
+    × (t.lines ≡ lines_of h.by h.step end))
 
 -- each sitting of a step that isn't told leaves fewer that may follow
 abbrev pub StepsEnd : Type 0
 StepsEnd = OfSittings (λ Q h s found t. s ≢ Told → sittings_most t.next < sittings_most s)
 
--- so many sittings as a task may have tell the step; more of them add nothing
+-- as many sittings as a task may have give the whole step; more of them add nothing
 abbrev pub CoursesEnd : Type 0
 CoursesEnd = (finds : Finds) (Q : Queue) (h : Holder) (task : Task) (more : ℕ)
     → course_of (sittings (task_most task + more) finds Q h (Fresh task)) ≡ course finds Q h task
 
--- WHATEVER HOLD a member has, and however it came to the lock, a step gives the same entries and closes with the same lines: a hold
--- and LOCK change only how the entries are cut into batches
+-- WHATEVER HOLD a member has, and however it came to the lock, a step gives the same entries and closes with the same
+-- lines: a hold and LOCK change only how the entries are cut into batches
 
 abbrev pub all_given : Course → List Entry × List (List ℕ)
 all_given c = (all_entries c.batches, c.lines)

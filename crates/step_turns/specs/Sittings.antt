@@ -14,8 +14,8 @@ pub record Sitting : Type 0 where
   pub lines : List (List ℕ)
   pub release : Release
 
--- What becomes of the lock after so many commands. One that was taken for the step is given up at each sitting's end. One that the operator
--- took is kept, but for the end of a step in which its hold is spent.
+-- What becomes of the lock after so many commands. A lock that was taken for the step is given up at the end of each
+-- sitting. A lock that the operator took is kept, except at the end of a step in which its hold is spent.
 abbrev pub released : Grant → ℕ → ℕ → State → Release
 released ForStep hold given Told = Outer
 released ForStep hold given _ = Inner
@@ -30,7 +30,7 @@ sitting_of h t = record {
   release = released h.grant h.hold (length (all_entries t.parts)) t.next;
 }
 
--- The sitting of a member that holds the lock, at the queue that it finds. It stands in this state of its step, and this is what it found
--- in the acts for which that waited.
+-- The sitting of a member that holds the lock, at the queue that it finds. It stands in this state of its step, and
+-- this is what it found in the acts for which that waited.
 abbrev pub sit : Queue → Holder → State → Found → Sitting
 sit Q h s found = sitting_of h (turn h Q s found)

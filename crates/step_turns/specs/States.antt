@@ -1,4 +1,5 @@
--- A step as a machine: what it is asked to do, where it stands, and what its member found. The types are those of the code.
+-- A step as a machine: what it is asked to do, where it stands, and what its member found. The types are those of the
+-- code.
 use Rattle.std.specs.Prelude.{false, [], None}
 use Rattle.job_outcome.specs.declared.outcomes.Read.TheVariants as read
 pub use Rattle.step_turns.specs.declared.states.Task.{Task}

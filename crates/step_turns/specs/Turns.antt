@@ -1,5 +1,5 @@
--- What a sitting gives at a queue: the commands of its units, part after part, the state that it leaves, and the lines where the
--- step closes.
+-- What a sitting gives at a queue: the commands of its units, part after part, the state that it leaves, and the lines
+-- where the step closes.
 use Rattle.std.specs.Prelude.{ℕ, zero, suc, ◌+◌, nat_le, Bool, true, false, if◌then◌else◌, List, [], ◌∷◌, length, Option, Some, None}
 use Rattle.std.specs.Option.{option_map_or}
 use Rattle.mas_types.specs.declared.ids.JobNo.{JobNo}
@@ -44,11 +44,12 @@ leaves next = record { parts = []; next = next; lines = [] }
 abbrev pub says : List (List ℕ) → Turn
 says lines = record { parts = []; next = Told; lines = lines }
 
--- these entries are given first
+-- entries that a turn gives before all others
 abbrev pub after_part : List Entry → Turn → Turn
 after_part es t = record { parts = es ∷ t.parts; next = t.next; lines = t.lines }
 
--- where the units that may follow go on: at a queue, with so many commands given in the sitting, and so many units done in the step
+-- where the units that may follow go on: at a queue, with so many commands given in the sitting, and so many units done
+-- in the step
 abbrev pub Units : Type 0
 Units = Queue → ℕ → ℕ → Turn
 
@@ -60,7 +61,7 @@ is_spent ByLock hold given = false
 module _ (h : Holder) where
   -- UNITS ONE AFTER ANOTHER
 
-  -- the step closes so
+  -- the step closes with the line of this closing
   abbrev pub closes_as : Closing → Turn
   closes_as end = says (closing_line h.by h.step end ∷ [])
 
@@ -76,14 +77,15 @@ module _ (h : Holder) where
   abbrev pub gives : Queue → List Command → List Entry
   gives Q cs = given_in Q h.by h.step cs
 
-  -- After a done unit, where so many may follow: none is begun after the last, and the lock is given up where the hold is spent.
+  -- After a done unit, where so many may follow: none is begun after the last, and the lock is given up where the hold
+  -- is spent.
   abbrev pub goes_on : ℕ → Units → Units
   goes_on zero more Q given done = more Q given done
   goes_on (suc left) more Q given done =
       if is_spent h.grant h.hold given then leaves (Rested (record { done = done; left = suc left }))
       else more Q given done
 
-  -- after a unit that ended so, with so many units done before it
+  -- the turn after a unit that ended in this way, with so many units done before it
   abbrev pub goes_on_by : UnitEnd → ℕ → Units → Units
   goes_on_by ends.Done left more Q given done = goes_on left more Q given (done + 1)
   goes_on_by ends.Idle left more Q given done = no_more done
@@ -108,18 +110,20 @@ module _ (h : Holder) where
 
   -- the next unit, where so many may follow it; none applies where there is no unit, or not what it is about
   abbrev pub next_unit : units.Unit → ℕ → Units → Units
-  next_unit (unit.Print n i) left more Q given done = option_map_or (prints_output Q left done) (output_at Q n i) (no_more done)
+  next_unit (unit.Print n i) left more Q given done = option_map_or (prints_output Q left done) (output_at Q n i)
+      (no_more done)
   next_unit (unit.Finish n i) left more Q given done = one_command (command.Done n i) left more Q given done
   next_unit unit.Pick left more Q given done = one_command command.Pick left more Q given done
   next_unit unit.Purge left more Q given done = one_command command.Purge left more Q given done
   next_unit unit.Gather left more Q given done = one_command command.Gather left more Q given done
   next_unit (unit.Run n) left more Q given done = option_map_or (reads_job true left done) (job_at Q n) (no_more done)
-  next_unit (unit.Convert n) left more Q given done = option_map_or (reads_job false left done) (job_at Q n) (no_more done)
+  next_unit (unit.Convert n) left more Q given done = option_map_or (reads_job false left done) (job_at Q n)
+      (no_more done)
   next_unit unit.TakeExec left more Q given done = one_command command.TakeExec left more Q given done
   next_unit unit.TakeConvert left more Q given done = one_command command.TakeConvert left more Q given done
   next_unit unit.Idle left more Q given done = no_more done
 
-  -- so many units at most, up to one that reads a text
+  -- a member's units one after another, so many at most, up to one that reads a text
   abbrev pub units_from : ℕ → Units
   units_from zero Q given done = no_more done
   units_from (suc left) Q given done = next_unit (unit_of Q h.by) left (units_from left) Q given done
@@ -129,28 +133,30 @@ module _ (h : Holder) where
   abbrev pub ends_with : List Entry → Progress → Queue → Turn
   ends_with es p Q = last_part es p.left (units_from p.left) Q 0 p.done
 
-  -- once a job's outputs stand in the member's groups, or a volume of theirs was found lost
+  -- the turn once a job's outputs stand in the member's groups, or a volume of theirs was found lost
   abbrev pub outputs_stand : Option ℕ → Queue → JobNo → List OutSpec → Progress → Turn
   outputs_stand None Q n specs p = ends_with (gives Q (ending Q h.by n specs)) p Q
-  outputs_stand (Some volume) Q n specs p = after_part (gives Q (drop_groups ∷ [])) (closes_as (closing.SpoolLost volume))
+  outputs_stand (Some volume) Q n specs p = after_part (gives Q (drop_groups ∷ []))
+      (closes_as (closing.SpoolLost volume))
 
-  -- once the groups are taken, or a Take was refused
+  -- the turn once the groups are taken, or a Take was refused
   abbrev pub groups_taken : Bool → ℕ → Queue → JobNo → List OutSpec → Progress → Turn
   groups_taken true needed Q n specs p = ends_with (gives Q (taking Q h.by needed)) p Q
-  groups_taken false needed Q n specs p = after_part (gives Q (takes needed Q h.by needed)) (waits_for (SpoolOutputs n specs p))
+  groups_taken false needed Q n specs p = after_part (gives Q (takes needed Q h.by needed))
+      (waits_for (SpoolOutputs n specs p))
 
   abbrev pub job_ends : ℕ → Queue → JobNo → List OutSpec → Progress → Turn
   job_ends zero Q n specs p = outputs_stand None Q n specs p
   job_ends (suc needed) Q n specs p =
       groups_taken (are_refused (suc needed) Q h.by (suc needed)) (suc needed) Q n specs p
 
-  -- once a job's text was read
+  -- the turn once a job's text was read
   abbrev pub text_read : Outcome → Queue → JobNo → Progress → Turn
   text_read outcome.Convert Q n p = ends_with (gives Q (command.Converted n ∷ [])) p Q
   text_read (outcome.End specs) Q n p = job_ends (groups_for_end Q n specs) Q n specs p
   text_read (outcome.Stop end) Q n p = closes_as end
 
-  -- once lines were to be printed, up to this one: they are marked where they stand on paper
+  -- the turn once lines were to be printed, up to this one: they are marked where they stand on paper
   abbrev pub lines_printed : Option Closing → Queue → JobNo → OutNo → ℕ → Progress → Turn
   lines_printed None Q n i last p = ends_with (gives Q (command.Mark n i last ∷ [])) p Q
   lines_printed (Some end) Q n i last p = closes_as end

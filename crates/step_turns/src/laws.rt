@@ -1,13 +1,14 @@
 //! What holds of every sitting, whatever queue it finds, and of every step.
 ghost use Rattle.step_turns.specs.Laws.{BatchesAreWithinLimits, CoursesEnd, EntriesAreGiven, HoldsChangeNoEntry, LinesAreCaused, LinesAreSaidAtTheEnd, LockIsHeldRightly, NoUnitAfterTheLast, NoUnitIsSplit, StepsEnd};
 
-/// A lock that was taken for a step is given up at each sitting's end; one that the operator took only at the end of a step, and there only
-/// where its hold is spent. So the lock is held in acts that a step waits for only under LOCK.
+/// A lock that was taken for a step is given up at each sitting's end; one that the operator took only at the end of a
+/// step, and there only where its hold is spent. So the lock is held in acts that a step waits for only under LOCK.
 pub fn law_of_the_lock()
     ensures { LockIsHeldRightly }
 {}
 
-/// Each batch of a sitting has 1 to 64 entries and splits no unit; and each entry has the reply that its command has at its place.
+/// Each batch of a sitting has 1 to 64 entries and splits no unit; and each entry has the reply that its command has at
+/// its place.
 pub fn law_of_batches()
     ensures limits { BatchesAreWithinLimits }
     ensures whole { NoUnitIsSplit }
@@ -26,14 +27,14 @@ pub fn law_of_ends()
     ensures enough { CoursesEnd }
 {}
 
-/// A hold and LOCK change only how a step's entries are cut into batches: it gives the same entries, and closes with the same lines, whatever
-/// is left of the hold and however the member came to the lock.
+/// A hold and LOCK change only how a step's entries are cut into batches: it gives the same entries, and closes with
+/// the same lines, whatever is left of the hold and however the member came to the lock.
 pub fn law_of_holds()
     ensures { HoldsChangeNoEntry }
 {}
 
-/// Why a step closes as it does: as its last command was answered, with the units that are done, or by a text, a volume or a printer that its
-/// member found gone or lost.
+/// Why a step closes as it does: as its last command was answered, with the units that are done, or by a text, a volume
+/// or a printer that its member found gone or lost.
 pub fn law_of_causes()
     ensures { LinesAreCaused }
 {}

@@ -1,4 +1,5 @@
-//! A member's step as a machine on plain data: its states, what a sitting under the lock gives from each of them, and what holds of all.
+//! A member's step as a machine on plain data: its states, what a sitting under the lock gives from each of them, and
+//! what holds of all.
 #![tactic(auto)]
 
 mod examples;

@@ -1,7 +1,7 @@
 //! A step as a machine: what it is asked to do, where it stands, and what its member found.
 //!
-//! A member's step is cut into sittings. A sitting runs from having the lock to the next acts that want no lock, to a spent hold, or to the
-//! line with which the step closes. Between two sittings other members may act.
+//! A member's step is cut into sittings. A sitting runs from having the lock to the next acts that want no lock, to a
+//! spent hold, or to the line with which the step closes. Between two sittings other members may act.
 
 use job_outcome::Read;
 use mas_types::{Command, JobFields, JobNo, Lines, List, MemberId, OutNo, OutSpec};
@@ -17,14 +17,16 @@ pub enum Task {
     Work(u16),
 }
 
-/// Where a step of work stands: the units that are done, and how many may still follow, after the one under way if there is one.
+/// Where a step of work stands: the units that are done, and how many may still follow, after the one under way if
+/// there is one.
 #[derive(Clone, Copy, PartialEq, Eq)]
 pub struct Progress {
     pub done: u16,
     pub left: u16,
 }
 
-/// Acts that want no lock, and that the step waits for. A frame that goes over a line to another node will be one more of these.
+/// Acts that want no lock, and that the step waits for. A frame that goes over a line to another node will be one more
+/// of these.
 #[derive(Drop)]
 pub enum Aside {
     /// A deck's text goes into the groups that were taken for its job.
@@ -57,13 +59,13 @@ pub enum Aside {
 /// Where a step stands.
 #[derive(Drop)]
 pub enum State {
-    /// It is to begin.
+    /// The step is to begin.
     Fresh(Task),
-    /// It waits for these acts.
+    /// The step waits for these acts.
     Away(Aside),
-    /// Its hold was spent between two units.
+    /// The step's hold was spent between two units.
     Rested(Progress),
-    /// Its lines are said, and it is over.
+    /// The step's lines are said, and it is over.
     Told,
 }
 
@@ -99,10 +101,10 @@ pub struct Holder {
 /// What a sitting leaves of the lock.
 #[derive(Clone, Copy, PartialEq, Eq)]
 pub enum Release {
-    /// It is kept.
+    /// The lock is kept.
     Keep,
-    /// It is given up, and taken again in this step.
+    /// The lock is given up, and taken again in this step.
     Inner,
-    /// It is given up at the step's end.
+    /// The lock is given up at the step's end.
     Outer,
 }

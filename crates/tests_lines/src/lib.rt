@@ -1,4 +1,5 @@
-//! Lines that tell of numbers, names, lines, jobs' fields and configurations, for programs that test by what they write.
+//! Lines that tell of numbers, names, lines, jobs' fields and configurations, for programs that test by what they
+//! write.
 #![tactic(auto)]
 
 use itoa::Buffer;

@@ -26,7 +26,7 @@ pub given-other : (m : MemberId) (new : List Owner) (g : Owner) (gs : List Owner
 given-other m [] g gs h = rw (given-none m gs) refl
 given-other m (o ∷ new) g gs h = rw h refl
 
--- one step of a loop that gives groups away: the rest gets these new owners, and all is what comes of it
+-- a step of a loop that gives groups away: the groups left get these owners, and `all` is the loop's result
 module _ (m : MemberId) (all gs : List Owner) (i : ℕ) (inside : i < length gs) where
   pub give_mine : (o : Owner) (new : List Owner) → take i gs ++ given m (o ∷ new) (drop i gs) ≡ all → is_members m (get_or gs i owner.Free) ≡ true → take (i + 1) (set gs i o) ++ given m new (drop (i + 1) gs) ≡ all
   give_mine o new so_far mine =

@@ -15,7 +15,7 @@ use Rattle.track_groups.proofs.Walks.{test_cases}
 use Rattle.mas_types.proofs.Sorting.{Rises, Rises-in_order}
 
 module _ {X : Type 0} (key : X → ℕ) where
-  -- the same items in another order
+  -- an item put in by its key gives the same items in another order
   insert_by-permutes : (x : X) (ys : List X) → IsPermutation (x ∷ ys) (insert_by key x ys)
   insert_by-permutes x [] = IsPermutation-refl (x ∷ [])
   insert_by-permutes x (y ∷ ys) =

@@ -18,7 +18,7 @@ abbrev pub owner_at : Thing → ℕ → Owner
 owner_at (thing.Deck n) place = owner.Deck n place
 owner_at (thing.Output n i) place = owner.Output n i place
 
--- so many places from the first one on
+-- the first places of a deck or an output, as many as are counted
 abbrev pub first_places : Thing → ℕ → List Owner
 first_places t count = places (λ p. owner_at t p) 0 count
 

@@ -1,6 +1,6 @@
-//! Whose the track groups are: who takes them, who gets them, and which are a text's. A track group is the unit in which
-//! the space of the spool is given out (z/OS JES2 Initialization and Tuning Guide). All calls are over the owners of all
-//! groups in order; group 0 is the first.
+//! Whose the track groups are: who takes them, who gets them, and which are a text's. A track group is the unit in
+//! which the space of the spool is given out (z/OS JES2 Initialization and Tuning Guide). All calls are over the owners
+//! of all groups in order; group 0 is the first.
 #![tactic(auto)]
 
 mod changes;

@@ -23,7 +23,7 @@ seen_is : (reads : List ℕ → Option (List ℕ)) (dev : Dev) (old new : View) 
 seen_is reads dev old new none None seen = ⊎_elim (λ r. absurd (none r.failed)) (λ e. sym e) seen
 seen_is reads dev old new none (Some bytes) seen = sym seen.1
 
--- of two copies that read so, one list of pages counts
+-- of what two copies read as one list of pages counts at most
 best_one : (one two : Option (List ℕ)) (f g : List ℕ) → AreUsable f → AreUsable g → IsBest one two f → IsBest one two g → g ≡ f
 best_one one two f g uf ug bf bg =
     ⊎_elim

@@ -69,7 +69,7 @@ gone_later dev old mid new mark before goes x = record {
   gone = λ lt. ap (λ (w : World). (w.disk dev).lost) (goes.past mark.at before) ∙ x.gone lt;
 }
 
--- and at the end of a call in which no call lost it
+-- a copy that had gone has gone at the end of a later call in which no call lost it
 pub gone_on_to : (dev : Dev) (old mid new : View) → Goes mid new → new.loses dev ≡ mid.loses dev → (new.now < top → (disk_now new dev).lost ≡ true) → HasGone dev old mid (mark_of mid) → HasGone dev old new (mark_of new)
 gone_on_to dev old mid new goes same gone x = record {
   failed = omega (arith, x.failed, goes.faults (DiskPart dev));
@@ -100,8 +100,7 @@ one_called old mid new start looked kept1 kept2 = by_dev start.dev refl where
   by_dev Ckpt2 e = inr (kept2 (ap (λ (d : Dev). are_beside Ckpt2 d && not start.stays) e) ∙ looked Ckpt2)
   by_dev (Spool n) e = inl (kept1 (ap (λ (d : Dev). are_beside Ckpt1 d && not start.stays) e) ∙ looked Ckpt1)
 
--- both are lost where the operator's call isn't done
--- what holds where both copies were lost, since nobody is stopped
+-- where the operator's call isn't done both copies were lost, since nobody is stopped: what follows from that holds
 pub by_loss : (F : Type 0) (why : PairNo) → (why ≡ BothLost → F) → (why ≡ Halted → ⊥) → F
 by_loss F BothLost lost halts = lost refl
 by_loss F Halted lost halts = absurd (halts refl)

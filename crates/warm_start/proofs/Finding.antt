@@ -216,7 +216,7 @@ module _ {C : Type 0} (count room : C → ℕ) (room_most : ℕ) (room_in : List
     }
     chosen_found (Bad first) (Bad second) j1 j2 s1 s2 r1 r2 = tt
 
-    -- a choice that names none
+    -- a choice that names no copy
     pub chosen_none : (needs : ℕ → ℕ) (one two : Judged) → J1 one → J2 two → IfErr (chosen one (room first) two (room second)) (IsCauseOf reads tells needs old v alive1 alive2)
     chosen_none needs (Good one) (Good two) j1 j2 = no_error (is_lower one two) (started Ckpt2 two one (room first)) (started Ckpt1 one two (room second)) (IsCauseOf reads tells needs old v alive1 alive2)
     chosen_none needs (Good one) (Bad why) j1 j2 = tt
@@ -239,7 +239,7 @@ module _ {C : Type 0} (count room : C → ℕ) (room_most : ℕ) (room_in : List
       by_states state.Unsound state.Unread s t = (s, t, tt)
       by_states state.Unsound state.Unsound s t = (s, t, tt)
 
-    -- and why there is no queue then
+    -- why no queue is found where a choice names no copy
     pub chosen_nothing : (needs : ℕ → ℕ) (one two : Judged) → J1 one → J2 two → PairActed 0 true alive1 true alive2 false old v → IfErr (chosen one (room first) two (room second)) (FindsNone reads tells needs old v)
     chosen_nothing needs (Good one) (Good two) j1 j2 acted = no_error (is_lower one two) (started Ckpt2 two one (room first)) (started Ckpt1 one two (room second)) (FindsNone reads tells needs old v)
     chosen_nothing needs (Good one) (Bad why) j1 j2 acted = tt
@@ -276,7 +276,7 @@ pub small_volume : (config : Config) (n size needed : ℕ) (v : View) (why : Sta
 small_volume config n size needed v why need some few is at before =
     subst (IsSmallVolumeAt config v) (sym is.0) (at, record { some = some; few = few; there = is.2; small = omega (arith, is.1, at, need); before = before })
 
--- behind copies that are large enough
+-- a volume is too small, after copies that are large enough
 pub small_behind : (needed : ℕ) (config : Config) (v : View) (r : Result (Unit {0}) StartNo) → needed ≤ v.size Ckpt1 → needed ≤ v.size Ckpt2 → IfErr r (IsSmallVolumeAt config v) → IfErr r (IsSmallAt needed config v)
 small_behind needed config v (Ok done) one two small = tt
 small_behind needed config v (Err (no_start.DeviceSize (Spool n) size)) one two small = (small.0, small.1, one, two)

@@ -155,7 +155,7 @@ texts_left per Q P R mid new held has =
     texts_same per (spools_at mid mid.now) (spools_at new new.now) (lost_now new) Q (λ n. held.others new.now held.goes.later (omega arith) (Spool n) (no_volume n) (no_volume_too n))
     (texts_fewer (lost_now mid) (lost_now new) (spools_at mid mid.now) per Q (λ n lost. held.goes.lost (DiskPart (Spool n)) lost) has)
 
--- and so does what the volumes give
+-- the volumes give a queue's texts at any time at which they give the same bytes
 pub given_alike : (per : ℕ) (Q : Queue) (v w : View) → ((n : ℕ) → volumes_now w n ≡ volumes_now v n) → AreGiven v per Q → AreGiven w per Q
 given_alike per Q v w same given = record {
   decks = All-weaker (λ (j : Job). IsGiven v per j.text (groups_of (Deck j.number) Q.owners)) (λ (j : Job). IsGiven w per j.text (groups_of (Deck j.number) Q.owners))
@@ -171,7 +171,7 @@ given_kept per Q P R mid new held steady given = given_alike per Q mid new same 
       ap (λ (b : Bool). bytes_unless b (disk_now new (Spool n)).bytes) (steady n)
       ∙ ap (λ (d : Disk). bytes_unless (mid.lost (DiskPart (Spool n))) d.bytes) (held.others new.now held.goes.later (omega arith) (Spool n) (no_volume n) (no_volume_too n))
 
--- it is what they gave before the start
+-- what the volumes give after the start is what they gave before it
 pub given_before : (per : ℕ) (Q : Queue) (P R : Disk → Type 0) (old new : View) → WhileStarting P R old new → IsSteady old new → AreGiven new per Q → AreGiven old per Q
 given_before per Q P R old new held steady given = given_alike per Q new old same given where
   same : (n : ℕ) → volumes_now old n ≡ volumes_now new n

@@ -234,12 +234,12 @@ module _ {R X C : Type 0} (shown : R → C) (shows : X → C) (text : X → Text
   next_one first now new records at d things x lt have looks is read is_given limited =
       subst (λ (rs : List R). HaveTexts first new rs (things ++ x ∷ [])) (sym (take_more records at d lt)) (one_more first now new (take at records) things (get_or records at d) x have looks is read is_given limited)
 
-  -- and later
+  -- texts that were read are read of what the volumes show later
   pub later_texts : (first now new : View) (things : List X) → OnlyLooksAt first new → Goes now new → All (IsReadOf first now) things → All (IsReadOf new new) things
   later_texts first now new things only goes all =
       All-weaker (IsReadOf first now) (IsReadOf new new) (λ x was. read_later first now new new per (text x) (groups x) (shown_same first new only) goes was) things all
 
-  -- and so is what is given
+  -- texts that were given are given by what the volumes give later
   pub given_later : (first new : View) (things : List X) → OnlyLooksAt first new → IsSteady first new → All (IsGivenOf first) things → All (IsGivenOf new) things
   given_later first new things only steady all =
       All-weaker (IsGivenOf first) (IsGivenOf new) (λ x was. given_same first new per (text x) (groups x) (volumes_same first new only steady) was) things all

@@ -158,7 +158,7 @@ lost_one dev old new x = record {
   part_is : (d e : Dev) → DiskPart d ≡ DiskPart e → d ≡ e
   part_is d e is = cc
 
--- and one that loses none
+-- a call that loses no copy
 pub lost_none : (dev : Dev) (a : Bool) (v : View) → MayLose dev a a v v
 lost_none dev a v = record {
   goes = goes_none v;
@@ -294,7 +294,7 @@ not_before : (was is : Bool) → (was ≡ true → is ≡ true) → is ≡ false
 not_before true is later there = absurd (no is (later refl) there)
 not_before false is later there = refl
 
--- one of them counted as alive before the mend, so it wasn't lost before, and an act on it failed
+-- one copy counted as alive before the mend, so it wasn't lost before, and an act on it failed
 pub one_failed : (A B : Type 0) (old mid new : View) (a a' b b' stopped : Bool) → Starts a b old mid → PairActed 0 a a' b b' stopped mid new → IsBothLost a' b' → ((a ≡ true) × A) ⊎ ((b ≡ true) × B) → OneFailed old new
 one_failed A B old mid new a a' b b' stopped s acted both (inl one) = inl (
   not_before (old.lost (DiskPart Ckpt1)) (mid.lost (DiskPart Ckpt1)) (s.goes.lost (DiskPart Ckpt1)) (s.there1 one.0),
@@ -305,7 +305,7 @@ one_failed A B old mid new a a' b b' stopped s acted both (inr two) = inr (
   rose_later (old.faults (DiskPart Ckpt2)) (mid.faults (DiskPart Ckpt2)) (new.faults (DiskPart Ckpt2)) (s.goes.faults (DiskPart Ckpt2)) (acted.failed2 two.0 both.1),
 )
 
--- where an act on each of them failed, it did so on one that wasn't lost, if one wasn't
+-- where an act on each copy failed, it did so on one that wasn't lost, if one wasn't
 pub each_failed : (old new : View) → Rose (old.faults (DiskPart Ckpt1)) (new.faults (DiskPart Ckpt1)) → Rose (old.faults (DiskPart Ckpt2)) (new.faults (DiskPart Ckpt2)) → NoneOrFailed old new
 each_failed old new one two =
     by_copy (old.lost (DiskPart Ckpt1))

@@ -24,7 +24,7 @@ IsJudged look.Unread judged = judged ≡ Bad state.Unread
 IsJudged (look.Pages pages) (Good good) = (good.pages ≡ pages) × AreOf pages good.tables
 IsJudged (look.Pages pages) (Bad why) = (why ≡ state.Unsound) × (IsUsable pages → ⊥)
 
--- they are as many as a checkpoint may have, at most
+-- the pages are as many as a checkpoint may have, at most
 abbrev pub IsFew : GoodPages → Type 0
 IsFew good = length good.pages ≤ pages_most
 
@@ -35,7 +35,7 @@ HasFew (Bad why) = Unit {0}
 abbrev pub is_lower : GoodPages → GoodPages → Bool
 is_lower one two = nat_lt (level (bytes_of one.pages)) (level (bytes_of two.pages))
 
--- this copy counts; the other stays where it fits, with so much room
+-- the copy on this device counts; the other stays where it fits, with so much room
 abbrev pub started : Dev → GoodPages → GoodPages → ℕ → Start
 started dev found other room = record { dev = dev; found = found; stays = fits found.pages other.pages room }
 
@@ -46,9 +46,10 @@ abbrev pub neither : CopyState → CopyState → StartNo
 neither state.Lost state.Lost = BothLost
 neither first second = NotFormatted first second
 
--- of the copies that can be used the one of greater level, the first on a tie
+-- the choice: of the copies that can be used the one of greater level, the first on a tie
 abbrev pub chosen : Judged → ℕ → Judged → ℕ → Result Start StartNo
-chosen (Good one) room1 (Good two) room2 = if is_lower one two then Ok (started Ckpt2 two one room1) else Ok (started Ckpt1 one two room2)
+chosen (Good one) room1 (Good two) room2 = if is_lower one two then Ok (started Ckpt2 two one room1) else Ok
+    (started Ckpt1 one two room2)
 chosen (Good one) room1 (Bad why) room2 = Ok (alone Ckpt1 one)
 chosen (Bad why) room1 (Good two) room2 = Ok (alone Ckpt2 two)
 chosen (Bad first) room1 (Bad second) room2 = Err (neither first second)

@@ -31,8 +31,8 @@ use Rattle.warm_start.specs.Starting.{IsSeen, IsFound, mark_of, IsSmall, AreNotL
 abbrev pub HasFailed : Dev → View → View → Type 0
 HasFailed dev old new = (new.lost (DiskPart dev) ≡ true) × Rose (old.faults (DiskPart dev)) (new.faults (DiskPart dev))
 
--- A call that looks at both copies. At each moment of it no byte has changed, no copy is lost by a call, and one is lost only
--- where an act on it failed.
+-- A call that looks at both copies. At each moment of it no byte has changed, no copy is lost by a call, and one is
+-- lost only where an act on it failed.
 pub record Looks (tells : Type 0) (old new : View) : Type 0 where
   pub goes : Goes old new
   pub during : tells → OnlyLooked old new
@@ -49,14 +49,18 @@ SomeThere v = (v.lost (DiskPart Ckpt1) ≡ false) ⊎ (v.lost (DiskPart Ckpt2) �
 -- the state of a copy that can't be used: it is lost, reads as none, or as pages that can't be used
 abbrev pub HasState : (List ℕ → Option (List ℕ)) → Type 0 → Dev → View → CopyState → Type 0
 HasState reads tells dev v state.Lost = v.lost (DiskPart dev) ≡ true
-HasState reads tells dev v state.Unread = (v.lost (DiskPart dev) ≡ false) × (tells → reads (disk_now v dev).bytes ≡ None)
+HasState reads tells dev v state.Unread = (v.lost (DiskPart dev) ≡ false)
+    × (tells → reads (disk_now v dev).bytes ≡ None)
 HasState reads tells dev v state.Unsound =
-    (v.lost (DiskPart dev) ≡ false) × (tells → (bytes : List ℕ) × (reads (disk_now v dev).bytes ≡ Some bytes) × (AreUsable bytes → ⊥))
+    (v.lost (DiskPart dev) ≡ false) × (tells → (bytes : List ℕ) × (reads (disk_now v dev).bytes ≡ Some bytes)
+    × (AreUsable bytes → ⊥))
 
 -- THE QUEUE THAT A START WOULD FIND
 
--- The queue of the pages that count, of a copy that isn't lost, without its texts. The devices are large enough for them.
-pub record HasFound (reads : List ℕ → Option (List ℕ)) (tells : Type 0) (needs : ℕ → ℕ) (old new : View) (Q : Queue) : Type 0 where
+-- The queue of the pages that count, of a copy that isn't lost, without its texts. The devices are large enough for
+-- them.
+pub record HasFound (reads : List ℕ → Option (List ℕ)) (tells : Type 0) (needs : ℕ → ℕ) (old new : View)
+    (Q : Queue) : Type 0 where
   pub pages : List Page
   pub tables : Tables
   pub usable : AreOf pages tables
@@ -70,7 +74,8 @@ pub record HasFound (reads : List ℕ → Option (List ℕ)) (tells : Type 0) (n
   pub roomy : AreRoomy new tables.config
 
 -- a device is too small for the pages that count or for the groups of their configuration, the first such
-pub record IsTooSmall (reads : List ℕ → Option (List ℕ)) (tells : Type 0) (needs : ℕ → ℕ) (old new : View) (dev : Dev) (size : ℕ) : Type 0 where
+pub record IsTooSmall (reads : List ℕ → Option (List ℕ)) (tells : Type 0) (needs : ℕ → ℕ) (old new : View) (dev : Dev)
+    (size : ℕ) : Type 0 where
   pub pages : List Page
   pub tables : Tables
   pub usable : AreOf pages tables
@@ -81,7 +86,8 @@ pub record IsTooSmall (reads : List ℕ → Option (List ℕ)) (tells : Type 0) 
 
 -- why no queue is found
 abbrev pub FindsNone : (List ℕ → Option (List ℕ)) → Type 0 → (ℕ → ℕ) → View → View → StartNo → Type 0
-FindsNone reads tells needs old new (no_start.NotFormatted first second) = HasState reads tells Ckpt1 new first × HasState reads tells Ckpt2 new second × AreNotLost first second
+FindsNone reads tells needs old new (no_start.NotFormatted first second) = HasState reads tells Ckpt1 new first
+    × HasState reads tells Ckpt2 new second × AreNotLost first second
 FindsNone reads tells needs old new no_start.BothLost = HasFailed Ckpt1 old new × HasFailed Ckpt2 old new
 FindsNone reads tells needs old new (no_start.DeviceSize dev size) = IsTooSmall reads tells needs old new dev size
 FindsNone reads tells needs old new no_start.NoMemory = Unit {0}
@@ -96,11 +102,12 @@ pub record IsGreatest (reads : List ℕ → Option (List ℕ)) (old new : View) 
   pub seen2 : IsSeen reads Ckpt2 old new (mark_of new) two
   pub is : best one two ≡ Some found
 
--- these pages, of a copy that isn't lost
-pub record HasLooked (reads : List ℕ → Option (List ℕ)) (tells : Type 0) (old new : View) (pages : List Page) : Type 0 where
-  pub sized : HaveSize pages
-  pub found : tells → IsGreatest reads old new (bytes_of pages)
-  pub there : SomeThere new
+-- these pages are the ones of greatest level, and a copy isn't lost
+pub record HasLooked (reads : List ℕ → Option (List ℕ)) (tells : Type 0) (old new : View) (pages : List Page) : Type 0
+  where
+    pub sized : HaveSize pages
+    pub found : tells → IsGreatest reads old new (bytes_of pages)
+    pub there : SomeThere new
 
 -- the state of a copy without pages
 abbrev pub HasNoPages : (List ℕ → Option (List ℕ)) → Type 0 → Dev → View → CopyState → Type 0
@@ -108,9 +115,10 @@ HasNoPages reads tells dev v state.Lost = HasState reads tells dev v state.Lost
 HasNoPages reads tells dev v state.Unread = HasState reads tells dev v state.Unread
 HasNoPages reads tells dev v state.Unsound = ⊥
 
--- why there are no such pages
+-- why looks at both copies find no pages
 abbrev pub SeesNone : (List ℕ → Option (List ℕ)) → Type 0 → View → View → StartNo → Type 0
-SeesNone reads tells old new (no_start.NotFormatted first second) = HasNoPages reads tells Ckpt1 new first × HasNoPages reads tells Ckpt2 new second × AreNotLost first second
+SeesNone reads tells old new (no_start.NotFormatted first second) = HasNoPages reads tells Ckpt1 new first
+    × HasNoPages reads tells Ckpt2 new second × AreNotLost first second
 SeesNone reads tells old new no_start.BothLost = HasFailed Ckpt1 old new × HasFailed Ckpt2 old new
 SeesNone reads tells old new (no_start.DeviceSize dev size) = ⊥
 SeesNone reads tells old new no_start.NoMemory = Unit {0}
@@ -131,11 +139,13 @@ greatest look.Unread look.Unread = Err (no_start.NotFormatted state.Unread state
 
 -- no act on a copy failed between the two
 abbrev pub NoneFailed : View → View → Type 0
-NoneFailed old new = (Rose (old.faults (DiskPart Ckpt1)) (new.faults (DiskPart Ckpt1)) → ⊥) × (Rose (old.faults (DiskPart Ckpt2)) (new.faults (DiskPart Ckpt2)) → ⊥)
+NoneFailed old new = (Rose (old.faults (DiskPart Ckpt1)) (new.faults (DiskPart Ckpt1)) → ⊥)
+    × (Rose (old.faults (DiskPart Ckpt2)) (new.faults (DiskPart Ckpt2)) → ⊥)
 
--- Whoever comes behind a look, another look or a start, finds the pages and the tables that the look found, where no act on a
--- copy failed.
+-- Whoever comes after a look, another look or a start, finds the pages and the tables that the look found, where no
+-- act on a copy failed.
 abbrev pub AreFoundAgain : Type 0
 AreFoundAgain = (reads : List ℕ → Option (List ℕ)) (old mid new : View) (pages later : List Page) (t u : Tables)
-    → OnlyLooked old mid → NoneFailed old mid → NoneFailed mid new → IsFound reads old mid (mark_of mid) (bytes_of pages) → IsFound reads mid new (mark_of new) (bytes_of later)
+    → OnlyLooked old mid → NoneFailed old mid → NoneFailed mid new
+    → IsFound reads old mid (mark_of mid) (bytes_of pages) → IsFound reads mid new (mark_of new) (bytes_of later)
     → HaveSize pages → HaveSize later → AreOf pages t → AreOf later u → (later ≡ pages) × (u ≡ t)

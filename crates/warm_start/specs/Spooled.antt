@@ -10,12 +10,12 @@ use Rattle.track_groups.specs.Places.{groups_of}
 use Rattle.spool_volumes.specs.Volumes.{volumes_now}
 use Rattle.spool_volumes.specs.Texts.{records_on, text_of}
 
--- The text is what its groups give, of which so many lines are counted. With a group on a lost volume, or with one that holds no
--- records, it is gone, and names the first such group.
+-- The text is what its groups give, of which so many lines are counted. With a group on a lost volume, or with one that
+-- holds no records, it is gone, and names the first such group.
 abbrev pub IsGiven : View → ℕ → Text → List GroupNo → Type 0
 IsGiven v per text groups = text_of (records_on (volumes_now v) per) (line_count text) groups ≡ text
 
--- so is each text of a queue
+-- each text of a queue is what its groups give
 pub record AreGiven (v : View) (per : ℕ) (Q : Queue) : Type 0 where
   pub decks : All (λ j. IsGiven v per j.text (groups_of (Deck j.number) Q.owners)) Q.jobs
   pub outputs : All (λ o. IsGiven v per o.text (groups_of (Output o.job o.index) Q.owners)) Q.outputs

@@ -20,7 +20,7 @@ pub record MayStart (pages : List Page) (t : Tables) : Type 0 where
 abbrev pub AreOf : List Page → Tables → Type 0
 AreOf pages t = IsCheckpoint pages t × MayStart pages t
 
--- the pages spell such tables
+-- the pages spell tables with which a run may start
 abbrev pub IsUsable : List Page → Type 0
 IsUsable pages = (t : Tables) × AreOf pages t
 
@@ -28,7 +28,7 @@ IsUsable pages = (t : Tables) × AreOf pages t
 abbrev pub HaveSize : List Page → Type 0
 HaveSize pages = All (λ page. length page.0 ≡ page_bytes) pages
 
--- the bytes are those of such pages, one after another
+-- the bytes are those of pages that spell tables with which a run may start
 pub record AreUsable (bytes : List ℕ) : Type 0 where
   pub pages : List Page
   pub sized : HaveSize pages
@@ -37,4 +37,5 @@ pub record AreUsable (bytes : List ℕ) : Type 0 where
 
 -- pages stand for each queue that the tables tell which they spell, where these have no fault
 abbrev pub StandForWhatIsTold : Type 0
-StandForWhatIsTold = (pages : List Page) (t : Tables) (Q : Queue) → HaveSize pages → IsCheckpoint pages t → AreSound t → Tell t Q → StandFor Q (bytes_of pages)
+StandForWhatIsTold = (pages : List Page) (t : Tables) (Q : Queue) → HaveSize pages → IsCheckpoint pages t → AreSound t
+    → Tell t Q → StandFor Q (bytes_of pages)

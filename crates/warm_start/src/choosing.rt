@@ -15,16 +15,16 @@ use thiserror::Error;
 pub struct Good {
     /// The pages of one copy.
     pub pages: List<Page>,
-    /// What they spell. They are sound.
+    /// The tables that the pages spell. They are sound.
     pub tables: Tables,
 }
 
 /// What a start makes of one copy.
 #[derive(Drop)]
 pub enum Judged {
-    /// It can be used.
+    /// The copy can be used.
     Good(Good),
-    /// It can't.
+    /// The copy can't be used.
     Bad(CopyState),
 }
 
@@ -33,7 +33,7 @@ pub enum Judged {
 pub struct Start {
     /// The copy that counts.
     pub dev: Dev,
-    /// Its pages.
+    /// The pages of the copy that counts.
     pub found: Good,
     /// Whether the other copy stays. Else the start loses it.
     pub stays: bool,
@@ -106,9 +106,9 @@ fn start_alone(dev: Dev, found: Good) -> Start
     }
 }
 
-/// The copy that counts: of those that can be used the one of greater level, the first on a tie. The other stays where it
-/// can be used and fits, with so many puts possible on it. `BothLost` comes exactly where both are lost, and `NotFormatted`
-/// where else neither can be used, with the reason of each.
+/// The copy that counts: of those that can be used the one of greater level, the first on a tie. The other stays where
+/// it can be used and fits, with so many puts possible on it. `BothLost` comes exactly where both are lost, and
+/// `NotFormatted` where else neither can be used, with the reason of each.
 pub fn choose(
     first: Judged,
     first_room: u8,

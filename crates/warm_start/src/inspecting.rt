@@ -95,14 +95,15 @@ fn find_pages<P: Plant, C: Steady + Drop>(
     greatest(first, second)
 }
 
-/// The queue that a warm start would find, without its texts: that of the usable copy of greatest level, CKPT1 on a tie.
+/// The queue that a warm start would find, without its texts: that of the usable copy of greatest level, CKPT1 on a
+/// tie.
 ///
-/// Both copies are synced and read. No byte is changed and no copy is lost by a call; an act that fails loses its device, as
-/// ever. Restart isn't given.
+/// Both copies are synced and read. No byte is changed and no copy is lost by a call; an act that fails loses its
+/// device, as ever. Restart isn't given.
 ///
-/// NotFormatted comes where no copy can be used while one isn't lost, with the state of each; BothLost where an act on each
-/// copy failed; DeviceSize where a device is too small for the pages found, or a volume that isn't lost for the groups of their
-/// configuration, the first such; NoMemory for want of memory.
+/// NotFormatted comes where no copy can be used while one isn't lost, with the state of each; BothLost where an act on
+/// each copy failed; DeviceSize where a device is too small for the pages found, or a volume that isn't lost for the
+/// groups of their configuration, the first such; NoMemory if the run is out of memory.
 pub fn found<P: Plant>(alloc: Global, plant: &mut P) -> Result<Queue, StartNo>
     ensures queue { IfOk result (HasFound form_reads P.tells form_needs (P.view plant.old) (P.view plant.new)) }
     ensures none { IfErr result (FindsNone form_reads P.tells form_needs (P.view plant.old) (P.view plant.new)) }
@@ -114,11 +115,11 @@ pub fn found<P: Plant>(alloc: Global, plant: &mut P) -> Result<Queue, StartNo>
 
 /// The pages of the copy of greatest level that reads, CKPT1 on a tie, whether they can be used or not.
 ///
-/// Both copies are synced and read. No byte is changed and no copy is lost by a call; an act that fails loses its device, as
-/// ever.
+/// Both copies are synced and read. No byte is changed and no copy is lost by a call; an act that fails loses its
+/// device, as ever.
 ///
-/// NotFormatted comes where no copy reads while one isn't lost, with the state of each; BothLost where an act on each copy
-/// failed; NoMemory for want of memory. DeviceSize never comes.
+/// NotFormatted comes where no copy reads while one isn't lost, with the state of each; BothLost where an act on each
+/// copy failed; NoMemory if the run is out of memory. DeviceSize never comes.
 pub fn looked<P: Plant>(alloc: Global, plant: &mut P) -> Result<List<Page>, StartNo>
     ensures pages { IfOk result (HasLooked form_reads P.tells (P.view plant.old) (P.view plant.new)) }
     ensures none { IfErr result (SeesNone form_reads P.tells (P.view plant.old) (P.view plant.new)) }
@@ -128,8 +129,8 @@ pub fn looked<P: Plant>(alloc: Global, plant: &mut P) -> Result<List<Page>, Star
     find_pages(alloc, plant, &mut pair)
 }
 
-/// Whoever comes behind a look, another look or a start, finds the pages and the tables that the look found, unless an act on
-/// a copy failed.
+/// Whoever comes after a look, another look or a start, finds the pages and the tables that the look found, unless an
+/// act on a copy failed.
 pub fn law_of_looks()
     ensures again { AreFoundAgain }
 {

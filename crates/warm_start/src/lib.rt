@@ -1,5 +1,5 @@
-//! A warm start: what the copies of the checkpoint hold is found, the copy that counts, the queue that it stands for, and what
-//! becomes of the other copy. Or these are only looked at.
+//! A warm start: what the copies of the checkpoint hold is found, the copy that counts, the queue that it stands for,
+//! and what becomes of the other copy. Or these are only looked at.
 #![tactic(auto)]
 
 mod choosing;

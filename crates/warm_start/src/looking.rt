@@ -40,11 +40,17 @@ fn look_at<P: Plant, C: Steady + Drop>(
     requires ckpt { IsCkpt dev }
     requires alive { (pick dev pair.old.first pair.old.second).alive ≡ true }
     ensures other { other dev pair.new.first pair.new.second ≡ other dev pair.old.first pair.old.second }
-    ensures acted { Acted 0 dev true (pick dev pair.new.first pair.new.second).alive false (P.view plant.old) (P.view plant.new) }
+    ensures acted { Acted 0 dev true (pick dev pair.new.first pair.new.second).alive false (P.view plant.old)
+        (P.view plant.new) }
     ensures gone { P.tells → IsGone dev true (pick dev pair.new.first pair.new.second).alive (P.view plant.new) }
-    ensures during { P.tells → Meanwhile dev (NoMore (disk_now (P.view plant.old) dev)) (P.view plant.old) (P.view plant.new) }
-    ensures seen { IfOk result (WasLooked C.count C.room C.room_most C.ready C.reads C.rests P.tells dev (P.view plant.new) (pick dev pair.new.first pair.new.second).copy (pick dev pair.new.first pair.new.second).alive (pick dev pair.new.first pair.new.second).found) }
-    ensures room { IfOk result (λ look. P.tells → HasRoom C.room C.room_in (pick dev pair.new.first pair.new.second).copy look (disk_now (P.view plant.new) dev).bytes) }
+    ensures during { P.tells → Meanwhile dev (NoMore (disk_now (P.view plant.old) dev)) (P.view plant.old)
+        (P.view plant.new) }
+    ensures seen { IfOk result (WasLooked C.count C.room C.room_most C.ready C.reads C.rests P.tells dev
+        (P.view plant.new) (pick dev pair.new.first pair.new.second).copy
+        (pick dev pair.new.first pair.new.second).alive (pick dev pair.new.first pair.new.second).found) }
+    ensures room { IfOk result (λ look. P.tells
+        → HasRoom C.room C.room_in (pick dev pair.new.first pair.new.second).copy look
+        (disk_now (P.view plant.new) dev).bytes) }
 {
     let Ok(look) = pair.look(alloc, plant, OPERATOR, dev) else {
         return Err(NoMemory);
@@ -61,14 +67,22 @@ pub(crate) fn look_at_both<P: Plant, C: Steady + Drop>(
 ) -> Result<(Look, Look), NoMemory>
     requires alive1 { pair.old.first.alive ≡ true }
     requires alive2 { pair.old.second.alive ≡ true }
-    ensures acted { PairActed 0 true pair.new.first.alive true pair.new.second.alive false (P.view plant.old) (P.view plant.new) }
+    ensures acted { PairActed 0 true pair.new.first.alive true pair.new.second.alive false (P.view plant.old)
+        (P.view plant.new) }
     ensures gone1 { P.tells → IsGone Ckpt1 true pair.new.first.alive (P.view plant.new) }
     ensures gone2 { P.tells → IsGone Ckpt2 true pair.new.second.alive (P.view plant.new) }
-    ensures during { P.tells → BothMeanwhile (NoMore (disk_now (P.view plant.old) Ckpt1)) (NoMore (disk_now (P.view plant.old) Ckpt2)) (P.view plant.old) (P.view plant.new) }
-    ensures first { IfOk result (λ both. WasLooked C.count C.room C.room_most C.ready C.reads C.rests P.tells Ckpt1 (P.view plant.new) pair.new.first.copy pair.new.first.alive pair.new.first.found both.0) }
-    ensures second { IfOk result (λ both. WasLooked C.count C.room C.room_most C.ready C.reads C.rests P.tells Ckpt2 (P.view plant.new) pair.new.second.copy pair.new.second.alive pair.new.second.found both.1) }
-    ensures room1 { IfOk result (λ both. P.tells → HasRoom C.room C.room_in pair.new.first.copy both.0 (disk_now (P.view plant.new) Ckpt1).bytes) }
-    ensures room2 { IfOk result (λ both. P.tells → HasRoom C.room C.room_in pair.new.second.copy both.1 (disk_now (P.view plant.new) Ckpt2).bytes) }
+    ensures during { P.tells → BothMeanwhile (NoMore (disk_now (P.view plant.old) Ckpt1))
+        (NoMore (disk_now (P.view plant.old) Ckpt2)) (P.view plant.old) (P.view plant.new) }
+    ensures first { IfOk result (λ both.
+        WasLooked C.count C.room C.room_most C.ready C.reads C.rests P.tells Ckpt1 (P.view plant.new)
+        pair.new.first.copy pair.new.first.alive pair.new.first.found both.0) }
+    ensures second { IfOk result (λ both.
+        WasLooked C.count C.room C.room_most C.ready C.reads C.rests P.tells Ckpt2 (P.view plant.new)
+        pair.new.second.copy pair.new.second.alive pair.new.second.found both.1) }
+    ensures room1 { IfOk result (λ both. P.tells
+        → HasRoom C.room C.room_in pair.new.first.copy both.0 (disk_now (P.view plant.new) Ckpt1).bytes) }
+    ensures room2 { IfOk result (λ both. P.tells
+        → HasRoom C.room C.room_in pair.new.second.copy both.1 (disk_now (P.view plant.new) Ckpt2).bytes) }
 {
     let first = look_at(alloc, plant, pair, Dev::Ckpt1)?;
     let second = look_at(alloc, plant, pair, Dev::Ckpt2)?;
@@ -83,14 +97,22 @@ pub(crate) fn judge_both<P: Plant, C: Steady + Drop>(
 ) -> Result<(Judged, Judged), NoMemory>
     requires alive1 { pair.old.first.alive ≡ true }
     requires alive2 { pair.old.second.alive ≡ true }
-    ensures acted { PairActed 0 true pair.new.first.alive true pair.new.second.alive false (P.view plant.old) (P.view plant.new) }
+    ensures acted { PairActed 0 true pair.new.first.alive true pair.new.second.alive false (P.view plant.old)
+        (P.view plant.new) }
     ensures gone1 { P.tells → IsGone Ckpt1 true pair.new.first.alive (P.view plant.new) }
     ensures gone2 { P.tells → IsGone Ckpt2 true pair.new.second.alive (P.view plant.new) }
-    ensures during { P.tells → BothMeanwhile (NoMore (disk_now (P.view plant.old) Ckpt1)) (NoMore (disk_now (P.view plant.old) Ckpt2)) (P.view plant.old) (P.view plant.new) }
-    ensures first { IfOk result (λ both. WasJudged C.count C.room C.room_most C.ready C.reads C.rests P.tells Ckpt1 (P.view plant.new) pair.new.first.copy pair.new.first.alive pair.new.first.found both.0) }
-    ensures second { IfOk result (λ both. WasJudged C.count C.room C.room_most C.ready C.reads C.rests P.tells Ckpt2 (P.view plant.new) pair.new.second.copy pair.new.second.alive pair.new.second.found both.1) }
-    ensures room1 { IfOk result (λ both. P.tells → HasRoomBy C.room C.room_in pair.new.first.copy both.0 (disk_now (P.view plant.new) Ckpt1).bytes) }
-    ensures room2 { IfOk result (λ both. P.tells → HasRoomBy C.room C.room_in pair.new.second.copy both.1 (disk_now (P.view plant.new) Ckpt2).bytes) }
+    ensures during { P.tells → BothMeanwhile (NoMore (disk_now (P.view plant.old) Ckpt1))
+        (NoMore (disk_now (P.view plant.old) Ckpt2)) (P.view plant.old) (P.view plant.new) }
+    ensures first { IfOk result (λ both.
+        WasJudged C.count C.room C.room_most C.ready C.reads C.rests P.tells Ckpt1 (P.view plant.new)
+        pair.new.first.copy pair.new.first.alive pair.new.first.found both.0) }
+    ensures second { IfOk result (λ both.
+        WasJudged C.count C.room C.room_most C.ready C.reads C.rests P.tells Ckpt2 (P.view plant.new)
+        pair.new.second.copy pair.new.second.alive pair.new.second.found both.1) }
+    ensures room1 { IfOk result (λ both. P.tells
+        → HasRoomBy C.room C.room_in pair.new.first.copy both.0 (disk_now (P.view plant.new) Ckpt1).bytes) }
+    ensures room2 { IfOk result (λ both. P.tells
+        → HasRoomBy C.room C.room_in pair.new.second.copy both.1 (disk_now (P.view plant.new) Ckpt2).bytes) }
     ensures few1 { IfOk result (λ both. HasFew both.0) }
     ensures few2 { IfOk result (λ both. HasFew both.1) }
 {

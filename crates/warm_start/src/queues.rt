@@ -82,7 +82,8 @@ fn jobs_of(alloc: Global, slots: &[Option<JobRec>]) -> Result<List<Job>, NoMemor
 
 // The outputs of the slots, whose texts are gone.
 fn outputs_of(alloc: Global, slots: &[Option<OutRec>]) -> Result<List<Output>, NoMemory>
-    ensures { IfOk result (λ outputs. outputs ≡ map (output_with bare_print) (in_order (λ r. r.order) (used slots.now))) }
+    ensures { IfOk result (λ outputs. outputs
+        ≡ map (output_with bare_print) (in_order (λ r. r.order) (used slots.now))) }
 {
     let records = outputs_in_order(alloc, slots)?;
     let mut outputs = List::new(alloc);
@@ -103,8 +104,8 @@ fn outputs_of(alloc: Global, slots: &[Option<OutRec>]) -> Result<List<Output>, N
     Ok(outputs)
 }
 
-/// The queue of tables: jobs and outputs by ascending order, whose texts are gone where they have lines, and all else as the
-/// tables have it.
+/// The queue of tables: jobs and outputs by ascending order, whose texts are gone where they have lines, and all else
+/// as the tables have it.
 pub fn queue_of(alloc: Global, tables: &Tables) -> Result<Queue, NoMemory>
     ensures { IfOk result (λ queue. queue ≡ queue_of_lem tables.now bare_deck bare_print) }
 {

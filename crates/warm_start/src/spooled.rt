@@ -31,7 +31,8 @@ use track_groups::{groups_of, law_of_places};
 // Syncs each volume of the configuration. One that fails is lost.
 fn sync_volumes<P: Plant>(plant: &mut P, volumes: u8)
     ensures looks { LooksAt P.tells 0 (P.view plant.old) (P.view plant.new) }
-    ensures synced { P.tells → (n : ℕ) → 1 ≤ n → n ≤ volumes → (P.view plant.new).lost (Disk (Spool n)) ≡ false → (disk_now (P.view plant.new) (Spool n)).unsynced ≡ [] }
+    ensures synced { P.tells → (n : ℕ) → 1 ≤ n → n ≤ volumes → (P.view plant.new).lost (Disk (Spool n)) ≡ false
+        → (disk_now (P.view plant.new) (Spool n)).unsynced ≡ [] }
 {
     for volume in 0..volumes {
         let _act = plant.sync(OPERATOR, Dev::Spool(volume + 1));
@@ -61,8 +62,11 @@ fn text_in<P: Plant>(
     ensures looks { LooksAt P.tells 0 (P.view plant.old) (P.view plant.new) }
     ensures count { IfOk result (λ text. line_count text ≡ count) }
     ensures limited { IfOk result IsLimited }
-    ensures text { IfOk result (λ text. P.tells → IsReadUnless (lost_now (P.view plant.new)) (bytes_on (spools_at (P.view plant.old) (P.view plant.old).now)) tables.now.config.groups text (groups_of_lem thing tables.now.owners)) }
-    ensures given { IfOk result (λ text. P.tells → IsSteady (P.view plant.old) (P.view plant.new) → IsGiven (P.view plant.old) tables.now.config.groups text (groups_of_lem thing tables.now.owners)) }
+    ensures text { IfOk result (λ text. P.tells
+        → IsReadUnless (lost_now (P.view plant.new)) (bytes_on (spools_at (P.view plant.old) (P.view plant.old).now))
+        tables.now.config.groups text (groups_of_lem thing tables.now.owners)) }
+    ensures given { IfOk result (λ text. P.tells → IsSteady (P.view plant.old) (P.view plant.new)
+        → IsGiven (P.view plant.old) tables.now.config.groups text (groups_of_lem thing tables.now.owners)) }
 {
     let per = tables.config.groups as u32;
     let groups = groups_in(alloc, tables.owners.as_slice(), thing)?;
@@ -80,8 +84,13 @@ fn jobs_on<P: Plant>(alloc: Global, plant: &mut P, tables: &Tables) -> Result<Li
     ensures looks { LooksAt P.tells 0 (P.view plant.old) (P.view plant.new) }
     ensures jobs { IfOk result (λ jobs. AreJobs tables.now.jobs jobs) }
     ensures limited { IfOk result (λ jobs. All (λ j. IsLimited j.text) jobs) }
-    ensures texts { IfOk result (λ jobs. P.tells → All (λ j. IsReadUnless (lost_now (P.view plant.new)) (bytes_on (spools_at (P.view plant.old) (P.view plant.old).now)) tables.now.config.groups j.text (groups_of_lem (Deck j.number) tables.now.owners)) jobs) }
-    ensures given { IfOk result (λ jobs. P.tells → IsSteady (P.view plant.old) (P.view plant.new) → All (λ j. IsGiven (P.view plant.old) tables.now.config.groups j.text (groups_of_lem (Deck j.number) tables.now.owners)) jobs) }
+    ensures texts { IfOk result (λ jobs. P.tells
+        → All (λ j. IsReadUnless (lost_now (P.view plant.new))
+        (bytes_on (spools_at (P.view plant.old) (P.view plant.old).now)) tables.now.config.groups j.text
+        (groups_of_lem (Deck j.number) tables.now.owners)) jobs) }
+    ensures given { IfOk result (λ jobs. P.tells → IsSteady (P.view plant.old) (P.view plant.new)
+        → All (λ j. IsGiven (P.view plant.old) tables.now.config.groups j.text
+        (groups_of_lem (Deck j.number) tables.now.owners)) jobs) }
 {
     let records = jobs_in_order(alloc, tables.jobs.as_slice())?;
     let mut jobs = List::new(alloc);
@@ -116,8 +125,13 @@ fn outputs_on<P: Plant>(
     ensures looks { LooksAt P.tells 0 (P.view plant.old) (P.view plant.new) }
     ensures outputs { IfOk result (λ outputs. AreOutputs tables.now.outputs outputs) }
     ensures limited { IfOk result (λ outputs. All (λ o. IsLimited o.text) outputs) }
-    ensures texts { IfOk result (λ outputs. P.tells → All (λ o. IsReadUnless (lost_now (P.view plant.new)) (bytes_on (spools_at (P.view plant.old) (P.view plant.old).now)) tables.now.config.groups o.text (groups_of_lem (OutputOf o.job o.index) tables.now.owners)) outputs) }
-    ensures given { IfOk result (λ outputs. P.tells → IsSteady (P.view plant.old) (P.view plant.new) → All (λ o. IsGiven (P.view plant.old) tables.now.config.groups o.text (groups_of_lem (OutputOf o.job o.index) tables.now.owners)) outputs) }
+    ensures texts { IfOk result (λ outputs. P.tells
+        → All (λ o. IsReadUnless (lost_now (P.view plant.new))
+        (bytes_on (spools_at (P.view plant.old) (P.view plant.old).now)) tables.now.config.groups o.text
+        (groups_of_lem (OutputOf o.job o.index) tables.now.owners)) outputs) }
+    ensures given { IfOk result (λ outputs. P.tells → IsSteady (P.view plant.old) (P.view plant.new)
+        → All (λ o. IsGiven (P.view plant.old) tables.now.config.groups o.text
+        (groups_of_lem (OutputOf o.job o.index) tables.now.owners)) outputs) }
 {
     let records = outputs_in_order(alloc, tables.outputs.as_slice())?;
     let mut outputs = List::new(alloc);
@@ -140,15 +154,15 @@ fn outputs_on<P: Plant>(
     Ok(outputs)
 }
 
-/// The queue of tables with its texts, as they stand on the spool volumes: the operator syncs each volume of the configuration,
-/// and then reads the text of each deck and each output.
+/// The queue of tables with its texts, as they stand on the spool volumes: the operator syncs each volume of the
+/// configuration, and then reads the text of each deck and each output.
 ///
-/// Each volume that isn't lost has room for its groups. A text is what its groups hold, with as many lines as its slot counts,
-/// and all of it is synced. One with a group on a volume that is lost, or with one that holds no records, is gone, and names the
-/// first such group; only where a volume is lost in the call is no more said of a text with a group on it than the number of its
-/// lines. No byte of a device is changed, and no volume is lost but by an act that failed.
+/// Each volume that isn't lost has room for its groups. A text is what its groups hold, with as many lines as its slot
+/// counts, and all of it is synced. One with a group on a volume that is lost, or with one that holds no records, is
+/// gone, and names the first such group; only where a volume is lost in the call is no more said of a text with a group
+/// on it than the number of its lines. No byte of a device is changed, and no volume is lost but by an act that failed.
 ///
-/// NoMemory comes for want of memory alone.
+/// NoMemory comes only if the run is out of memory.
 pub fn spooled_queue<P: Plant>(
     alloc: Global,
     plant: &mut P,
@@ -158,9 +172,13 @@ pub fn spooled_queue<P: Plant>(
     requires roomy { AreRoomy (P.view plant.old) tables.now.config }
     ensures looks { LooksAt P.tells 0 (P.view plant.old) (P.view plant.new) }
     ensures tell { IfOk result (Tell tables.now) }
-    ensures limited { IfOk result (λ queue. All (λ j. IsLimited j.text) queue.jobs × All (λ o. IsLimited o.text) queue.outputs) }
-    ensures texts { IfOk result (λ queue. P.tells → HasTexts (lost_now (P.view plant.new)) (spools_at (P.view plant.new) (P.view plant.new).now) tables.now.config.groups queue) }
-    ensures given { IfOk result (λ queue. P.tells → IsSteady (P.view plant.old) (P.view plant.new) → AreGiven (P.view plant.new) tables.now.config.groups queue) }
+    ensures limited { IfOk result (λ queue. All (λ j. IsLimited j.text) queue.jobs
+        × All (λ o. IsLimited o.text) queue.outputs) }
+    ensures texts { IfOk result (λ queue. P.tells
+        → HasTexts (lost_now (P.view plant.new)) (spools_at (P.view plant.new) (P.view plant.new).now)
+        tables.now.config.groups queue) }
+    ensures given { IfOk result (λ queue. P.tells → IsSteady (P.view plant.old) (P.view plant.new)
+        → AreGiven (P.view plant.new) tables.now.config.groups queue) }
 {
     law_of_places();
     sync_volumes(plant, tables.config.volumes);

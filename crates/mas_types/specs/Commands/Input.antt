@@ -57,7 +57,8 @@ with_groups_freed m Q = record Q { owners = freed (is_members m) Q.owners }
 
 -- the refusals of a job that has to be in Input and busy at the member
 abbrev pub not_in_input : Queue → MemberId → JobNo → List (Option Refusal)
-not_in_input Q m n = none_such refusal.NoJob (job_at Q n) ∷ wrong_phase in_input (job_at Q n) ∷ job_not_at m (job_at Q n) ∷ []
+not_in_input Q m n = none_such refusal.NoJob (job_at Q n) ∷ wrong_phase in_input (job_at Q n)
+    ∷ job_not_at m (job_at Q n) ∷ []
 
 abbrev pub drop_row : Queue → MemberId → JobNo → Row
 drop_row Q m n = record {
@@ -74,9 +75,10 @@ phase_entered own j =
     if j.cancelled then phase.Purge else (if same_name j.fields.node own then phase.Convert else phase.Xmit)
 
 abbrev pub entered : MemberId → JobNo → List (List ℕ) → Queue → Queue
-entered m n text Q = record (change_job n (λ j. record j { text = Whole text; busy = nobody; phase = phase_entered Q.config.node j }) Q) {
-  owners = handed_out m (deck_places n (groups_needed text)) Q.owners;
-}
+entered m n text Q = record (change_job n
+    (λ j. record j { text = Whole text; busy = nobody; phase = phase_entered Q.config.node j }) Q) {
+      owners = handed_out m (deck_places n (groups_needed text)) Q.owners;
+    }
 
 abbrev pub not_entered : Queue → MemberId → JobNo → List (List ℕ) → List (Option Refusal)
 not_entered Q m n text =

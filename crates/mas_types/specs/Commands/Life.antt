@@ -46,7 +46,8 @@ converted j = record j { phase = if j.cancelled then phase.Purge else phase.Exec
 
 abbrev pub converted_row : Queue → MemberId → JobNo → Row
 converted_row Q m n = record {
-  refusals = none_such refusal.NoJob (job_at Q n) ∷ wrong_phase in_convert (job_at Q n) ∷ job_not_at m (job_at Q n) ∷ [];
+  refusals = none_such refusal.NoJob (job_at Q n) ∷ wrong_phase in_convert (job_at Q n) ∷ job_not_at m (job_at Q n)
+      ∷ [];
   effect = change_job n converted Q;
   answer = reply.Job n;
 }

@@ -40,7 +40,8 @@ with_prio prio j = record j { fields = record j.fields { prio = prio } }
 
 abbrev pub set_prio_row : Queue → JobNo → Prio → Row
 set_prio_row Q n prio =
-    job_row Q (none_such refusal.NoJob (job_at Q n) ∷ wrong_phase (λ p. not (in_purge p)) (job_at Q n) ∷ []) n (with_prio prio)
+    job_row Q (none_such refusal.NoJob (job_at Q n) ∷ wrong_phase (λ p. not (in_purge p)) (job_at Q n) ∷ []) n
+    (with_prio prio)
 
 abbrev pub with_class : Class → Job → Job
 with_class class j = record j { fields = record j.fields { class = class } }
@@ -67,7 +68,7 @@ without_outputs_of n Q = record Q {
 abbrev pub is_busy : Option Job → Bool
 is_busy found = option_map_or (λ j. is_somebody j.busy) found false
 
--- it is purged already, or a line sends it
+-- the job can't be cancelled any more: it is in Purge already, or a line sends it
 abbrev pub is_past_cancel : Queue → Job → Bool
 is_past_cancel Q j = in_purge j.phase || is_current Q j
 
@@ -83,7 +84,8 @@ abbrev pub cancel_row : Queue → MemberId → JobNo → Row
 cancel_row Q m n =
     let found = job_at Q n in
     job_row (if is_busy found then Q else without_outputs_of n Q)
-    (none_such refusal.NoJob found ∷ past_cancel Q found ∷ output_elsewhere m (printing_elsewhere Q m n) ∷ []) n cancelled
+    (none_such refusal.NoJob found ∷ past_cancel Q found ∷ output_elsewhere m (printing_elsewhere Q m n) ∷ []) n
+    cancelled
 
 -- OUT: the job's held outputs are released
 

@@ -37,7 +37,8 @@ too_long =
 abbrev pub SpoolFullDropsTheDeck : Type 0
 SpoolFullDropsTheDeck =
     replies_to one_group (too_long ++ deck 1 2) ≡
-    reply.Job (job 1) ∷ reply.Count 1 ∷ reply.No refusal.SpoolFull ∷ reply.Plain ∷ reply.Job (job 2) ∷ reply.Count 1 ∷ reply.Job (job 2) ∷ []
+    reply.Job (job 1) ∷ reply.Count 1 ∷ reply.No refusal.SpoolFull ∷ reply.Plain ∷ reply.Job (job 2) ∷ reply.Count 1
+    ∷ reply.Job (job 2) ∷ []
 
 abbrev pub DroppedGroupIsFree : Type 0
 DroppedGroupIsFree = shown (queue_after one_group too_long) what.Spool ≡ codes "VOL1 FREE 1 OF 1" ∷ []
@@ -46,18 +47,20 @@ DroppedGroupIsFree = shown (queue_after one_group too_long) what.Spool ≡ codes
 
 abbrev pub SecondDeckIsOnSecondVolume : Type 0
 SecondDeckIsOnSecondVolume =
-    (queue_after (empty (record default_config { volumes = 2; groups = 1 })) (decks 1 2)).owners ≡ owner.Deck (job 1) 0 ∷ owner.Deck (job 2) 0 ∷ []
+    (queue_after (empty (record default_config { volumes = 2; groups = 1 })) (decks 1 2)).owners
+    ≡ owner.Deck (job 1) 0 ∷ owner.Deck (job 2) 0 ∷ []
 
 -- AS MANY JOBS AS THERE MAY BE
 
 abbrev pub sixteen_jobs : Queue
 sixteen_jobs = queue_after (empty (record default_config { jobs = 16 })) (decks 1 16)
 
--- one more is refused. A cancelled one makes room, and its number is not given again
+-- one more deck is refused. A cancelled job makes room, and its number is not given again
 abbrev pub SeventeenthDeckIsRefused : Type 0
 SeventeenthDeckIsRefused =
     replies_to sixteen_jobs ((member 1, command.Begin (fields_of (codes "A"))) ∷ (member 1, command.Cancel (job 1)) ∷ (member 1, command.Purge) ∷ deck 1 17)
-    ≡ reply.No refusal.JobsFull ∷ reply.Job (job 1) ∷ reply.Job (job 1) ∷ reply.Job (job 17) ∷ reply.Count 1 ∷ reply.Job (job 17) ∷ []
+    ≡ reply.No refusal.JobsFull ∷ reply.Job (job 1) ∷ reply.Job (job 1) ∷ reply.Job (job 17) ∷ reply.Count 1
+    ∷ reply.Job (job 17) ∷ []
 
 -- NUMBERS
 

@@ -21,8 +21,11 @@ card = codes "//X JOB" ∷ []
 -- a job for the node goes over the line once, under the number 1
 abbrev pub SentJobIsNumbered : Type 0
 SentJobIsNumbered =
-    replies_to with_route (deck_of 1 1 for_far card ++ (member 1, command.Sent 1 2) ∷ (member 1, command.Sent 1 1) ∷ (member 1, command.Load 1) ∷ (member 1, command.Sent 1 1) ∷ (member 1, command.Sent 1 1) ∷ (member 1, command.Load 1) ∷ [])
-    ≡ reply.Job (job 1) ∷ reply.Count 1 ∷ reply.Job (job 1) ∷ reply.No (refusal.Gap 2 0) ∷ reply.No refusal.Nothing ∷ reply.Job (job 1)
+    replies_to with_route (deck_of 1 1 for_far card
+    ++ (member 1, command.Sent 1 2) ∷ (member 1, command.Sent 1 1) ∷ (member 1, command.Load 1)
+    ∷ (member 1, command.Sent 1 1) ∷ (member 1, command.Sent 1 1) ∷ (member 1, command.Load 1) ∷ [])
+    ≡ reply.Job (job 1) ∷ reply.Count 1 ∷ reply.Job (job 1) ∷ reply.No (refusal.Gap 2 0) ∷ reply.No refusal.Nothing
+    ∷ reply.Job (job 1)
     ∷ reply.Count 1 ∷ reply.No (refusal.Again 1) ∷ reply.No refusal.Nothing ∷ []
 
 -- a job that came under the number 1 comes once
@@ -31,8 +34,10 @@ GotJobIsNumbered =
     replies_to (empty default_config) (
     (member 1, command.Begin (fields_of (codes "A"))) ∷ (member 1, command.Take 1) ∷ (member 1, command.Got 1 1 (job 1) card)
     ∷ (member 1, command.Got 1 1 (job 1) card) ∷ (member 1, command.Got 1 3 (job 1) card) ∷ [])
-    ≡ reply.Job (job 1) ∷ reply.Count 1 ∷ reply.Job (job 1) ∷ reply.No (refusal.Again 1) ∷ reply.No (refusal.Gap 3 1) ∷ []
+    ≡ reply.Job (job 1) ∷ reply.Count 1 ∷ reply.Job (job 1) ∷ reply.No (refusal.Again 1) ∷ reply.No (refusal.Gap 3 1)
+    ∷ []
 
 -- a job for a node that no route names is refused
 abbrev pub UnknownNodeIsRefused : Type 0
-UnknownNodeIsRefused = replies_to (empty default_config) ((member 1, command.Begin for_far) ∷ []) ≡ reply.No refusal.NoNode ∷ []
+UnknownNodeIsRefused = replies_to (empty default_config) ((member 1, command.Begin for_far) ∷ [])
+    ≡ reply.No refusal.NoNode ∷ []

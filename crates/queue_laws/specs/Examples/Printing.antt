@@ -25,7 +25,8 @@ listing lines = record {
 abbrev pub to_printer : ℕ → List Given
 to_printer lines =
     deck 1 1 ++ three_units 1 1
-    ++ (member 1, command.Take 1) ∷ (member 1, command.Ended (job 1) (listing lines ∷ [])) ∷ (member 1, command.Gather) ∷ (member 1, command.Pick) ∷ []
+    ++ (member 1, command.Take 1) ∷ (member 1, command.Ended (job 1) (listing lines ∷ [])) ∷ (member 1, command.Gather)
+    ∷ (member 1, command.Pick) ∷ []
 
 -- ten lines of 25 are printed
 abbrev pub ten_printed : Queue
@@ -52,12 +53,14 @@ MarksMoveAtTheirMember =
 abbrev pub DoneWaitsForTheLastLine : Type 0
 DoneWaitsForTheLastLine =
     replies_to ten_printed (
-    (member 1, command.Done (job 1) (index 1)) ∷ (member 1, command.Mark (job 1) (index 1) 99) ∷ (member 1, command.Done (job 1) (index 1)) ∷ [])
+    (member 1, command.Done (job 1) (index 1)) ∷ (member 1, command.Mark (job 1) (index 1) 99)
+    ∷ (member 1, command.Done (job 1) (index 1)) ∷ [])
     ≡ reply.No refusal.Nothing ∷ reply.Count 25 ∷ reply.Output (job 1) (index 1) ∷ []
 
--- a job that is printed and purged leaves the empty queue, but for its number
+-- a job that is printed and purged leaves the empty queue, except its number
 abbrev pub PurgedJobLeavesNothing : Type 0
 PurgedJobLeavesNothing =
     queue_after (empty default_config) (
-    to_printer 1 ++ (member 1, command.Mark (job 1) (index 1) 1) ∷ (member 1, command.Done (job 1) (index 1)) ∷ (member 1, command.Purge) ∷ [])
+    to_printer 1 ++ (member 1, command.Mark (job 1) (index 1) 1) ∷ (member 1, command.Done (job 1) (index 1))
+    ∷ (member 1, command.Purge) ∷ [])
     ≡ record (empty default_config) { last = job 1 }

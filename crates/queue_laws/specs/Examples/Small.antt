@@ -70,17 +70,19 @@ fields_of text = record {
 -- a member reads a deck: the job comes with the number n and its text gets groups
 abbrev pub deck_of : ℕ → ℕ → JobFields → List (List ℕ) → List Given
 deck_of m n fields text =
-    (member m, command.Begin fields) ∷ (member m, command.Take (groups_needed text)) ∷ (member m, command.Enter (job n) text) ∷ []
+    (member m, command.Begin fields) ∷ (member m, command.Take (groups_needed text))
+    ∷ (member m, command.Enter (job n) text) ∷ []
 
 -- the deck of the one card //A JOB
 abbrev pub deck : ℕ → ℕ → List Given
 deck m n = deck_of m n (fields_of (codes "A")) (codes "//A JOB" ∷ [])
 
--- so many of these decks at member 1, with the numbers from n on
+-- one-card decks at member 1, as many as are counted, with the numbers from n on
 abbrev pub decks : ℕ → ℕ → List Given
 decks n zero = []
 decks n (suc more) = deck 1 n ++ decks (n + 1) more
 
 -- a member converts a job that was selected, and takes one to execute
 abbrev pub three_units : ℕ → ℕ → List Given
-three_units m n = (member m, command.TakeConvert) ∷ (member m, command.Converted (job n)) ∷ (member m, command.TakeExec) ∷ []
+three_units m n = (member m, command.TakeConvert) ∷ (member m, command.Converted (job n)) ∷ (member m, command.TakeExec)
+    ∷ []

@@ -22,7 +22,8 @@ GreatestPriorityIsConverted =
 
 abbrev pub HeldJobIsPassedOver : Type 0
 HeldJobIsPassedOver =
-    two_jobs_after ((member 1, command.SetPrio (job 2) (record { 0 = 15 })) ∷ (member 1, command.Hold (job 2)) ∷ (member 1, command.TakeConvert) ∷ [])
+    two_jobs_after ((member 1, command.SetPrio (job 2) (record { 0 = 15 })) ∷ (member 1, command.Hold (job 2))
+    ∷ (member 1, command.TakeConvert) ∷ [])
     ≡ codes "JOB00001 A A 05 CONVERT SYSA -" ∷ codes "JOB00002 A A 15 CONVERT - HELD" ∷ []
 
 -- RESETS

@@ -2,7 +2,7 @@ use Rattle.std.proofs.Common.{◌≡◌, ◌+◌, ◌-◌, ◌≤◌, drop, leng
 use Rattle.card_reader.specs.Cards.{word}
 use Rattle.card_reader.proofs.cards.word_length.Given as goal
 
--- the rest decides
+-- the word's length is the bytes passed and the length of the word in what is left
 abbrev pub invariant-loop-n : goal.invariant-loop-n
 invariant-loop-n l = record {
   within : l.n ≤ length l.text;

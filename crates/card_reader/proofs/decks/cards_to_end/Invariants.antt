@@ -2,7 +2,7 @@ use Rattle.std.proofs.Common.{◌≡◌, ◌+◌, ◌-◌, ◌≤◌, drop, leng
 use Rattle.card_reader.specs.Statements.{cards_to_end}
 use Rattle.card_reader.proofs.decks.cards_to_end.Given as goal
 
--- the rest decides
+-- the cards before the end are the cards passed and those before the end in what is left
 abbrev pub invariant-loop-at : goal.invariant-loop-at
 invariant-loop-at l = record {
   within : l.at ≤ length l.cards;

@@ -3,7 +3,7 @@ use Rattle.mas_types.specs.Limits.{text_lines_most}
 use Rattle.card_reader.specs.Decks.{refused_card}
 use Rattle.card_reader.proofs.decks.refused_card.Given as goal
 
--- the rest decides
+-- the cards that are left decide which card is refused
 abbrev pub invariant-loop-at : goal.invariant-loop-at
 invariant-loop-at l = record {
   within : l.at ≤ length l.cards;

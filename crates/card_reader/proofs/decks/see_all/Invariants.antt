@@ -3,7 +3,7 @@ use Rattle.card_reader.specs.Decks.{seen_after, nothing_seen}
 use Rattle.card_reader.specs.Statements.{items_from, items_of, up_to_end}
 use Rattle.card_reader.proofs.decks.see_all.Given as goal
 
--- the rest decides
+-- the cards that are left decide what is seen of the deck, after what was seen so far
 abbrev pub invariant-loop-at : goal.invariant-loop-at
 invariant-loop-at l = record {
   within : l.at ≤ length l.cards;

@@ -2,7 +2,7 @@ use Rattle.std.proofs.Common.{◌≡◌, ◌≤◌, false, drop}
 use Rattle.card_reader.specs.Operands.{is_balanced_in}
 use Rattle.card_reader.proofs.operands.is_balanced.Given as goal
 
--- the rest decides
+-- the bytes that are left decide whether the field is balanced
 abbrev pub invariant-loop-b : goal.invariant-loop-b
 invariant-loop-b l = record {
   shallow : l.depth ≤ l.b-index;

@@ -2,7 +2,7 @@ use Rattle.std.proofs.Common.{◌≡◌, ◌+◌, ◌-◌, ◌≤◌, false, dro
 use Rattle.card_reader.specs.Operands.{operand_in}
 use Rattle.card_reader.proofs.operands.operand_length.Given as goal
 
--- the rest decides
+-- the operand's length is the bytes passed and the length of the operand in what is left
 abbrev pub invariant-loop-n : goal.invariant-loop-n
 invariant-loop-n l = record {
   within : l.n ≤ length l.text;

@@ -2,7 +2,7 @@ use Rattle.std.proofs.Common.{◌≡◌, ◌+◌, ◌-◌, ◌≤◌, ◌++◌, 
 use Rattle.card_reader.specs.Statements.{continued}
 use Rattle.card_reader.proofs.statements.append_continued.Given as goal
 
--- the rest decides
+-- the cards that are left continue the text that was joined so far
 abbrev pub invariant-loop-at : goal.invariant-loop-at
 invariant-loop-at l = record {
   behind : l.from ≤ l.at;

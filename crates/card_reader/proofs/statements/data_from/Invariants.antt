@@ -2,7 +2,7 @@ use Rattle.std.proofs.Common.{◌≡◌, ◌+◌, ◌-◌, ◌≤◌, drop, leng
 use Rattle.card_reader.specs.Statements.{data_behind}
 use Rattle.card_reader.proofs.statements.data_from.Given as goal
 
--- the rest decides
+-- the data is the cards passed and the data in the cards that are left
 abbrev pub invariant-loop-at : goal.invariant-loop-at
 invariant-loop-at l = record {
   behind : l.from ≤ l.at;

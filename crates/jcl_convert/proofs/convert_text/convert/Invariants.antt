@@ -3,7 +3,7 @@ use Rattle.card_reader.specs.Statements.{items_from, up_to_end}
 use Rattle.jcl_convert.specs.Jcl.{converted_after, converted}
 use Rattle.jcl_convert.proofs.convert_text.convert.Given as goal
 
--- the rest decides
+-- the cards that are left decide the conversion, after what was converted so far
 abbrev pub invariant-loop-at : goal.invariant-loop-at
 invariant-loop-at l = record {
   within : l.at ≤ length l.text;

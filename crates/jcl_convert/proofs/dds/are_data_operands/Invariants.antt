@@ -5,7 +5,7 @@ use Rattle.card_reader.proofs.Parts.{length_left}
 use Rattle.jcl_convert.specs.Dds.{is_data_operand}
 use Rattle.jcl_convert.proofs.dds.are_data_operands.Given as goal
 
--- the rest decides
+-- the operands that are left decide whether all may stand after `*` and `DATA`
 abbrev pub invariant-loop-rest : goal.invariant-loop-rest
 invariant-loop-rest l = list_all is_data_operand (operands_left l.rest) ≡ list_all is_data_operand (operands_left l.fn.rest)
 

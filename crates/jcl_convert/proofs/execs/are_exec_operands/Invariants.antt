@@ -5,7 +5,7 @@ use Rattle.card_reader.proofs.Parts.{length_left}
 use Rattle.jcl_convert.specs.Execs.{is_exec_operand}
 use Rattle.jcl_convert.proofs.execs.are_exec_operands.Given as goal
 
--- the rest decides
+-- the operands that are left decide whether all may stand on an EXEC statement
 abbrev pub invariant-loop-rest : goal.invariant-loop-rest
 invariant-loop-rest l = list_all is_exec_operand (operands_left l.rest) ≡ list_all is_exec_operand (operands_left l.fn.rest)
 

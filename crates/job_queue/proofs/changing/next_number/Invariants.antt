@@ -5,7 +5,7 @@ use Rattle.mas_types.specs.Number.{free_from, after}
 use Rattle.job_queue.specs.Jobs.{AreJobs}
 use Rattle.job_queue.proofs.changing.next_number.Given as goal
 
--- from here on the same number is found
+-- the search from this number on finds the same number as the whole search
 abbrev pub invariant-loop-more : goal.invariant-loop-more
 invariant-loop-more l = record {
   small : l.n ≤ number_most;

@@ -3,7 +3,7 @@ use Rattle.mas_types.specs.Lists.{has_first_key_of}
 use Rattle.queue_slots.specs.Listed.{listed}
 use Rattle.job_select.proofs.classes.best_by_class.Given as goal
 
--- none has one of the classes so far
+-- no job that is picked has one of the classes so far
 abbrev pub invariant-loop-class : goal.invariant-loop-class
 invariant-loop-class g l =
     has_first_key_of (g.C.Classed.has_class l.choice) l.class-items (g.C.Choice.picks l.choice) (listed g.T.Ordered.order l.slots)

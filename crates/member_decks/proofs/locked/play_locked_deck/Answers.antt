@@ -105,7 +105,7 @@ returns-in-Err-BadCard-clause-level g c =
     let d = c.refuse.ensures in
     ok_of c.refuse.result (subst (λ (n : ℕ). n ≤ x.level + 2) (sym (d.level)) (omega arith))
 
--- WHERE MEMORY WANTS FOR READING
+-- OUT OF MEMORY FOR READING
 
 pub returns-in-Err-NoMemory-clause-granted : goal.returns-in-Err-NoMemory-clause-granted
 returns-in-Err-NoMemory-clause-granted g c fields is got =
@@ -246,7 +246,7 @@ returns-in-Err-clause-level g c =
     let d = c.deny.ensures in
     ok_of c.deny.result (subst (λ (n : ℕ). n ≤ x.level + 2) (sym (d.level ∙ e.level)) (omega arith))
 
--- WHERE IT GETS IT: it takes in the copies
+-- WHERE THE MEMBER GETS THE LOCK: it takes in the copies
 
 pub take_hold-requires-clause-may : goal.take_hold-requires-clause-may
 take_hold-requires-clause-may g c =
@@ -295,7 +295,7 @@ returns-in_err-take_hold-clause-granted g c fields is got =
 pub returns-in_err-take_hold-clause-denied : goal.returns-in_err-take_hold-clause-denied
 returns-in_err-take_hold-clause-denied g c fields why is refused = no_answer _ why c.in_default.ensures.ok refused
 
--- and plays the deck
+-- THE DECK IS PLAYED
 
 pub play_deck-requires-clause-may : goal.play_deck-requires-clause-may
 play_deck-requires-clause-may g c =

@@ -20,7 +20,7 @@ use Rattle.member_decks.proofs.DeckLemmas.{ends_alone, ends_dropped, ends_taken}
 use Rattle.member_decks.proofs.OpenLemmas.{is_not, named_push, not_is, only_named, opening_cut, opening_dropped, opening_got, opening_refused, opening_undropped, opening_wanted, reply_done, tells_some, tells_taken}
 use Rattle.member_decks.proofs.opening.open_deck.Goals as goal
 
--- MEMORY WANTED FOR BEGIN
+-- OUT OF MEMORY FOR BEGIN
 
 pub returns-in_err-do_command-clause-opening : goal.returns-in_err-do_command-clause-opening
 returns-in_err-do_command-clause-opening c Q told =
@@ -37,7 +37,7 @@ returns-in_err-do_command-clause-named c =
 pub returns-in_err-do_command-clause-done : goal.returns-in_err-do_command-clause-done
 returns-in_err-do_command-clause-done c Q done = rw (c.in_err-do_command.ensures.err, c.requires.nothing) done
 
--- IT WAS REFUSED
+-- BEGIN WAS REFUSED
 
 pub returns-in_default : goal.returns-in_default
 returns-in_default c =
@@ -66,7 +66,7 @@ returns-in_default c =
       config = d.config;
     }
 
--- MEMORY WANTED FOR A TAKE
+-- OUT OF MEMORY FOR A TAKE
 
 pub returns-in_err-take_groups-clause-opening : goal.returns-in_err-take_groups-clause-opening
 returns-in_err-take_groups-clause-opening c Q told =
@@ -151,7 +151,7 @@ returns-then-branch-clause-sound c s =
     let m = c.args.member.now in
     c.take_groups.ensures.sound (c.in_ok-do_command.ensures.sound s (ap (λ (k : Config). is_member k m.id) s.told.config ∙ c.requires.member))
 
--- A TAKE WAS REFUSED, AND MEMORY WANTED FOR DROP
+-- A TAKE WAS REFUSED, AND OUT OF MEMORY FOR DROP
 
 pub returns-in_err-do_command-2-clause-opening : goal.returns-in_err-do_command-2-clause-opening
 returns-in_err-do_command-2-clause-opening c Q told =

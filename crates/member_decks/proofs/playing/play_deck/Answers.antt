@@ -45,7 +45,7 @@ open_deck-requires-clause-order g c =
     let few = groups_few c.args.text c.requires.text in
     omega (arith, groups, few, c.requires.order)
 
--- MEMORY WANTED IN THE MIDDLE OF THE FIRST BATCH
+-- OUT OF MEMORY IN THE MIDDLE OF THE FIRST BATCH
 
 pub give_up-requires-clause-may : goal.give_up-requires-clause-may
 give_up-requires-clause-may g c =

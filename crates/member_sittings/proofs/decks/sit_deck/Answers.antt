@@ -41,7 +41,7 @@ open_deck-requires-clause-order g c =
     let order = c.requires.may.bounds.order in
     omega (arith, groups, few, order)
 
--- MEMORY WANTED
+-- OUT OF MEMORY
 
 pub give_up_sitting-requires : goal.give_up_sitting-requires
 give_up_sitting-requires g c =

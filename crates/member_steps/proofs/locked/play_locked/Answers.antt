@@ -134,7 +134,7 @@ returns-in-Err-clause-level g c =
     let x = c.args.complex.now in
     ok_of c.deny.result (subst (λ (n : ℕ). n ≤ x.level + 1) (sym (c.deny.ensures.level ∙ c.lock.ensures.level)) (omega arith))
 
--- WHERE IT GETS IT: it reads
+-- WHERE THE MEMBER GETS THE LOCK: it reads
 
 pub read_in-requires-clause-may : goal.read_in-requires-clause-may
 read_in-requires-clause-may g c =
@@ -196,7 +196,7 @@ returns-in_err-read_in-clause-held g c = err_of c.from_residual.result (c.read_i
 pub returns-in_err-read_in-clause-denied : goal.returns-in_err-read_in-clause-denied
 returns-in_err-read_in-clause-denied g c why refused = no_answer _ why c.in_default.ensures.ok refused
 
--- IT MAKES ROOM
+-- THE MEMBER MAKES ROOM
 
 pub primary-requires-clause-may : goal.primary-requires-clause-may
 primary-requires-clause-may g c =
@@ -238,7 +238,7 @@ returns-in_err-primary-clause-held g c = err_of c.from_residual-in_err-primary.r
 pub returns-in_err-primary-clause-denied : goal.returns-in_err-primary-clause-denied
 returns-in_err-primary-clause-denied g c why refused = no_answer _ why c.in_default.ensures.ok refused
 
--- AND GIVES ITS COMMAND
+-- THE MEMBER GIVES ITS COMMAND
 
 pub play_command-requires-clause-may : goal.play_command-requires-clause-may
 play_command-requires-clause-may g c =

@@ -40,7 +40,7 @@ use Rattle.step_turns.specs.declared.states.Found.{Found}
 use Rattle.member_units.proofs.Shown.{chunk_from, failed_later, gone_is, none_refused, printer_lost}
 use Rattle.member_units.proofs.asides.print_next_lines.Goals as goal
 
--- ONE THAT WAS GONE
+-- A TEXT THAT WAS GONE
 
 pub gone_output-requires : goal.gone_output-requires
 gone_output-requires g c = record { base_sound = c.requires.may.sound }
@@ -90,7 +90,7 @@ read_text-requires-clause-count g c =
     let f = c.in-Some-find_output.found in
     (told_output t c.args.job c.args.output f.at f.item c.requires.may.spelling (rw c.as_slice.ensures at c.in-Some-find_output.ensures.some) (rw c.as_slice.ensures at c.in-Some-find_output.ensures.here)).few
 
--- ITS LINES MAY BE PRINTED
+-- THE OUTPUT'S LINES MAY BE PRINTED
 
 pub print_text-requires-clause-member : goal.print_text-requires-clause-member
 print_text-requires-clause-member g c = subst (λ (k : Book). IsMember k c.args.member.now.id) (sym c.read_text.ensures.book) c.requires.seated
@@ -148,7 +148,7 @@ print_text-requires-clause-may g c told lines is =
     subst (λ (q : Queue). MayPrintTo q y.journal.batches y.current m.id r.job r.index r.mark c.args.last lines) (sym c.read_text.ensures.base)
     (subst (λ (j : Journal). MayPrintTo x.base j.batches y.current m.id r.job r.index r.mark c.args.last lines) (sym c.read_text.ensures.journal) may)
 
--- THEY ARE PRINTED
+-- THE OUTPUT'S LINES ARE PRINTED
 
 pub returns-in_default-groups_of-clause-prints : goal.returns-in_default-groups_of-clause-prints
 returns-in_default-groups_of-clause-prints g c =

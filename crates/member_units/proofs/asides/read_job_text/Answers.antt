@@ -23,7 +23,7 @@ use Rattle.member_units.specs.Asides.{FindsText, read_found}
 use Rattle.member_units.proofs.Shown.{gone_is, job_seen}
 use Rattle.member_units.proofs.asides.read_job_text.Goals as goal
 
--- ONE THAT WAS GONE
+-- A TEXT THAT WAS GONE
 
 pub gone_deck-requires-clause-numbers : goal.gone_deck-requires-clause-numbers
 gone_deck-requires-clause-numbers g c told = (c.requires.may.sound told).numbers
@@ -73,7 +73,7 @@ read_text-requires-clause-count g c =
     let here = rw c.as_slice.ensures at c.in-Some-find_job.ensures.here in
     (told_job t c.args.job f.at f.item c.requires.may.spelling some here).few
 
--- IT IS READ
+-- THE JOB'S TEXT IS READ
 
 pub returns-in_default-groups_of-clause-reads : goal.returns-in_default-groups_of-clause-reads
 returns-in_default-groups_of-clause-reads g c =

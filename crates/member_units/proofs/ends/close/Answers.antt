@@ -15,7 +15,7 @@ use Rattle.member_units.proofs.Seated.{closes_said, said_apart, seat_said}
 use Rattle.member_units.proofs.Working.{own_batch, same_run}
 use Rattle.member_units.proofs.ends.close.Goals as goal
 
--- MEMORY WANTED FOR THE LINE
+-- OUT OF MEMORY FOR THE LINE
 
 pub give_up-requires-clause-untold : goal.give_up-requires-clause-untold
 give_up-requires-clause-untold g c told = c.requires.works.untold told c.args.member.now.batch c.requires.works.of

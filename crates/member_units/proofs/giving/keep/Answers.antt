@@ -13,7 +13,7 @@ use Rattle.member_units.proofs.giving.keep.Goals as goal
 pub keep_given-requires-clause-untold : goal.keep_given-requires-clause-untold
 keep_given-requires-clause-untold g c told = c.requires.works.untold told c.args.member.now.batch c.requires.works.of
 
--- IT COULDN'T BE KEPT
+-- THE BATCH COULDN'T BE KEPT
 
 pub returns-in_err-keep_given-clause-run : goal.returns-in_err-keep_given-clause-run
 returns-in_err-keep_given-clause-run g c =
@@ -29,7 +29,7 @@ returns-in_err-keep_given-clause-keeps g c =
 pub returns-in_err-keep_given-clause-spares : goal.returns-in_err-keep_given-clause-spares
 returns-in_err-keep_given-clause-spares g c told = spares_of c.args.complex.now c.keep_given.new.complex (c.keep_given.ensures.apart told)
 
--- IT WAS KEPT
+-- THE BATCH WAS KEPT
 
 pub returns-clause-run : goal.returns-clause-run
 returns-clause-run g c =

@@ -58,7 +58,7 @@ returns-then-needed-eq0-clause-plays g c =
     let is = rw c.as_slice.ensures at (c.groups_for_end-needed.ensures.groups Q (tells_here x m h c.requires.works told)) in
     ap (wrote_of []) (sym (ends_none h Q n specs p (groups_for_end Q n specs) (sym is ∙ c.if-needed-eq0.true)))) c.outputs_stand.ensures.plays
 
--- THEY ARE TAKEN
+-- THE GROUPS ARE TAKEN
 
 pub take_groups-requires-clause-needed : goal.take_groups-requires-clause-needed
 take_groups-requires-clause-needed g c = let not = c.if-needed-eq0.false in omega (arith, not)
@@ -78,7 +78,7 @@ returns-in_err-end-clause-plays g c =
     rw (q.1, q.2) (taken_error x c.take_groups.new.complex m c.take_groups.new.member h c.requires.works c.requires.nothing n specs p needed some
     (λ told. rw c.as_slice.ensures at (c.groups_for_end-needed.ensures.groups Q (tells_here x m h c.requires.works told))) _ c.in_err-end.ensures.given)
 
--- AND ITS OUTPUTS WAIT FOR THEM
+-- THE JOB'S OUTPUTS WAIT FOR THE VOLUMES
 
 pub leave-requires-clause-room : goal.leave-requires-clause-room
 leave-requires-clause-room g c = c.in_ok-end.ensures.room 1 (omega arith) (omega arith)

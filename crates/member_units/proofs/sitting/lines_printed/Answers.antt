@@ -17,7 +17,7 @@ use Rattle.member_units.proofs.Resting.{again_told, if_ok, reached_left, ready_t
 use Rattle.member_units.proofs.Working.{kept_here, less_room, room_low, uses_one}
 use Rattle.member_units.proofs.sitting.lines_printed.Goals as goal
 
--- THEY ARE MARKED
+-- THE PRINTED LINES ARE MARKED
 
 pub give-requires-clause-room : goal.give-requires-clause-room
 give-requires-clause-room g c = room_low c.args.complex.now c.args.member.now c.requires.low 1 (omega arith) (omega arith)

@@ -16,7 +16,7 @@ use Rattle.member_units.proofs.Resting.{again_told, if_ok, reached_left, ready_t
 use Rattle.member_units.proofs.Working.{less_room, room_low, uses_one}
 use Rattle.member_units.proofs.sitting.text_read.Goals as goal
 
--- IT IS CONVERTED
+-- THE JOB IS CONVERTED
 
 pub give-requires-clause-room : goal.give-requires-clause-room
 give-requires-clause-room g c = room_low c.args.complex.now c.args.member.now c.requires.low 1 (omega arith) (omega arith)
@@ -94,7 +94,7 @@ returns-in-Stop-clause-ready g c = ready_told c.close.new.member.checkpoint.tabl
 pub returns-in-Stop-clause-reached : goal.returns-in-Stop-clause-reached
 returns-in-Stop-clause-reached g c = reached_left c.close.new.complex (c.args.complex.now.level + c.args.job.progress.left + 2) c.args.complex.now.level c.close.result Told (omega arith) c.close.ensures.told c.close.ensures.reached
 
--- IT ENDS
+-- THE JOB ENDS
 
 pub job_ends-requires-clause-outputs : goal.job_ends-requires-clause-outputs
 job_ends-requires-clause-outputs g c = rw c.in-End.is at c.requires.fits

@@ -95,7 +95,7 @@ returns-in_ok-end-in-Give-clause-reached g c =
     let same = c.in_ok-end-in-Give.ensures.reached in
     if_ok c.go_on.result _ _ (λ e le. omega (arith, le, same, some)) c.go_on.ensures.reached
 
--- IT WAITS
+-- THE SITTING WAITS
 
 pub leave-requires-clause-room : goal.leave-requires-clause-room
 leave-requires-clause-room g c = less_room c.args.complex.now c.args.member.now 1 (c.args.progress.left + 3) (omega arith) c.requires.room

@@ -215,7 +215,7 @@ loop-end-preserved g c =
           (let one = e.one in let longer = ap (λ (es : List Entry). length es) e.given.left in let both = length-append k.batch e.given.es in omega (arith, one, longer, both)) p)));
     }
 
--- IT WAITS
+-- THE SITTING WAITS
 
 pub leave-requires-in-Wait-clause-room : goal.leave-requires-in-Wait-clause-room
 leave-requires-in-Wait-clause-room g c = c.in_ok-keep_full.ensures.uses 1 (less_room c.loop-end.complex c.loop-end.member 2 (c.loop-end.at.progress.left + 3) (omega arith) c.loop-end.invariant.room)

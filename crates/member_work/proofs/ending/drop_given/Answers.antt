@@ -21,7 +21,7 @@ use Rattle.member_work.proofs.ending.drop_given.Goals as goal
 pub give_back-requires-clause-member : goal.give_back-requires-clause-member
 give_back-requires-clause-member g c = subst (λ (k : Config). is_member k c.args.member.now.id ≡ true) c.requires.work.config c.requires.member
 
--- MEMORY WANTED
+-- OUT OF MEMORY
 
 pub give_up-requires-clause-may : goal.give_up-requires-clause-may
 give_up-requires-clause-may g c = rw c.give_back.ensures.has.id c.requires.may

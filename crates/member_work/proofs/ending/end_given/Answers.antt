@@ -19,7 +19,7 @@ use Rattle.member_work.proofs.ending.end_given.Goals as goal
 pub give_end-requires-clause-member : goal.give_end-requires-clause-member
 give_end-requires-clause-member g c = subst (λ (k : Config). is_member k c.args.member.now.id ≡ true) c.requires.work.config c.requires.member
 
--- MEMORY WANTED
+-- OUT OF MEMORY
 
 pub give_up-requires-clause-may : goal.give_up-requires-clause-may
 give_up-requires-clause-may g c = rw c.give_end.ensures.has.id c.requires.may

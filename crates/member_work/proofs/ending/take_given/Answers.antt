@@ -20,7 +20,7 @@ use Rattle.member_work.proofs.ending.take_given.Goals as goal
 pub take_for_end-requires-clause-member : goal.take_for_end-requires-clause-member
 take_for_end-requires-clause-member g c = subst (λ (k : Config). is_member k c.args.member.now.id ≡ true) c.requires.work.config c.requires.member
 
--- MEMORY WANTED
+-- OUT OF MEMORY
 
 pub give_up-requires-clause-may : goal.give_up-requires-clause-may
 give_up-requires-clause-may g c = rw c.take_for_end.ensures.has.id c.requires.may

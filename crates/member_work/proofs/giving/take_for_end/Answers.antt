@@ -75,7 +75,7 @@ returns-in_default c =
       enough = λ done. absurd (take_not_done s.0 m.id c.args.needed (other s.0 s.1) (sym (c.in_ok-end.ensures.end s.0 s.1) ∙ sym (done_is c.give_back.result _ ends.Done done c.give_back.ensures.end)));
     }
 
--- IT GAVE ALL
+-- TAKES THAT GAVE ALL GROUPS
 
 pub returns-then-taken-needed-clause-gives : goal.returns-then-taken-needed-clause-gives
 returns-then-taken-needed-clause-gives c Q told =
@@ -104,7 +104,7 @@ returns-then-taken-needed-clause-enough c done =
     let got : (step s.0 m.id c1).1 ≡ reply.Count c.args.needed = one_reply s.0 m.id c.args.step c1 _ m n _ c.last_reply.result.now one c.last_reply.ensures ∙ c.in-Count.is ∙ ap reply.Count c.if-taken-needed.true in
     has_told s.0 m.id n.id n.checkpoint.tables c.args.needed c.give.ensures.has.id (one_told s.0 m.id c.args.step c1 _ m n _ one) got
 
--- IT GAVE SOME
+-- TAKES THAT GAVE SOME GROUPS
 
 pub overflow_sub-want : goal.overflow_sub-want
 overflow_sub-want c =

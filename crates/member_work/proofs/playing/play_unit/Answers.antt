@@ -141,7 +141,7 @@ play_job-requires-in-Convert-clause-numbers g c told = (c.requires.base_sound to
 pub play_job-requires-in-Convert-clause-configured : goal.play_job-requires-in-Convert-clause-configured
 play_job-requires-in-Convert-clause-configured g c told = (c.requires.base_sound told).config
 
--- its command is within the limits, and no Mark
+-- the command of a unit is within the limits, and no Mark
 pub play_command-requires-clause-right : goal.play_command-requires-clause-right
 play_command-requires-clause-right g c told sound =
     let x = c.args.complex.now in

@@ -192,7 +192,7 @@ returns-in_err-write_pages-clause-spares g t c told h none =
     let e = c.write_pages.ensures in
     e.spares told h (subst (All (λ (j : GroupNo). h.0 ≢ j.0)) (sym front) (All-take (λ (j : GroupNo). h.0 ≢ j.0) k gs none))
 
--- AND THE OTHERS
+-- THE OTHER OUTPUTS
 
 pub other_groups-requires : goal.other_groups-requires
 other_groups-requires g t c =

@@ -2,7 +2,7 @@ use Rattle.std.proofs.Common.{◌≡◌, ◌≤◌, ◌*◌, take}
 use Rattle.mas_types.specs.Commands.Life.{groups_of_outputs}
 use Rattle.member_work.proofs.spooling.groups_of_outputs.Given as goal
 
--- those so far
+-- the groups that the outputs before this one need
 abbrev pub invariant-loop-spec : goal.invariant-loop-spec
 invariant-loop-spec l = record {
   sum : l.groups ≡ groups_of_outputs (take l.spec-index l.specs);

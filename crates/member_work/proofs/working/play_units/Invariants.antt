@@ -17,7 +17,7 @@ use Rattle.member_work.proofs.working.play_units.Given as goal
 abbrev pub decreases-loop-done : goal.decreases-loop-done
 decreases-loop-done g l = l.units - l.done
 
--- so many units are done, and what the rest of the step gives behind them is what the step gives
+-- so many units are done, and what the rest of the step gives after them is what the step gives
 abbrev pub invariant-loop-done : goal.invariant-loop-done
 invariant-loop-done g l =
     let P = g.P.Plant in

@@ -6,7 +6,7 @@ use Rattle.mas_types.specs.Queue.{is_of}
 use Rattle.output_queue.specs.Outputs.{AreOutputs}
 use Rattle.queue_effect.proofs.groups.free_owners.Given as goal
 
--- those so far are changed
+-- the owners so far are freed where an output of the job has them
 abbrev pub invariant-loop-owner : goal.invariant-loop-owner
 invariant-loop-owner l = record {
   rest : (os : List Output) → AreOutputs l.outputs os → take l.owner-index l.owners ++ freed (is_of_any (filter (is_of l.job) os)) (drop l.owner-index l.owners) ≡ freed (is_of_any (filter (is_of l.job) os)) l.fn.owners;

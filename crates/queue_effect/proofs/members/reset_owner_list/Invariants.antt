@@ -6,6 +6,6 @@ use Rattle.mas_types.specs.Owners.{is_held_by}
 use Rattle.queue_effect.specs.Resets.{is_one_of}
 use Rattle.queue_effect.proofs.members.reset_owner_list.Given as goal
 
--- those so far are changed
+-- the owners so far are free where one of the members holds them
 abbrev pub invariant-loop-owner : goal.invariant-loop-owner
 invariant-loop-owner l = take l.owner-index l.owners ++ map (λ (g : Owner). if is_held_by (is_one_of l.who) g then owner.Free else g) (drop l.owner-index l.owners) ≡ map (λ (g : Owner). if is_held_by (is_one_of l.who) g then owner.Free else g) l.fn.owners

@@ -5,7 +5,7 @@ use Rattle.lay_bytes.specs.declared.records.OutRec.{OutRec}
 use Rattle.ckpt_pages.specs.QueueOf.{used}
 use Rattle.queue_effect.proofs.operator.held_count.Given as goal
 
--- those so far
+-- the held outputs of the job in the slots so far
 abbrev pub invariant-loop-slot : goal.invariant-loop-slot
 invariant-loop-slot l = record {
   counted : l.count ≡ count_by (λ (r : OutRec). same_number r.job l.job && r.held) (used (take l.slot-index l.outputs));

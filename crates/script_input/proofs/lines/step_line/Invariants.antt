@@ -4,7 +4,7 @@ use Rattle.script_lang.specs.Lines.{lines_of}
 use Rattle.script_input.specs.Lines.{step_lines}
 use Rattle.script_input.proofs.lines.step_line.Given as goal
 
--- the rest decides
+-- the lines that are left decide at which line the step stands
 abbrev pub invariant-loop-rest : goal.invariant-loop-rest
 invariant-loop-rest l = record {
   fits : l.number + length l.rest < 2 ^ 32;

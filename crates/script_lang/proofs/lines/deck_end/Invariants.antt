@@ -3,7 +3,7 @@ use Rattle.std.specs.List.{list_any, position_or_len}
 use Rattle.script_lang.specs.Lines.{is_deck_end, lines_of}
 use Rattle.script_lang.proofs.lines.deck_end.Given as goal
 
--- the rest decides, behind the lines that were passed
+-- the lines after those passed decide whether the deck has an end, and where
 abbrev pub invariant-loop-rest : goal.invariant-loop-rest
 invariant-loop-rest l = record {
   found : list_any is_deck_end (lines_of l.rest) ≡ list_any is_deck_end (lines_of l.fn.script);

@@ -3,7 +3,7 @@ use Rattle.std.specs.Prelude.{min}
 use Rattle.mas_types.specs.Owners.{taken, free_count}
 use Rattle.track_groups.proofs.changes.take.Given as goal
 
--- the groups so far are taken, and of the rest so many are wanted; whether a Free one was found so far
+-- the groups so far are taken, and of those left so many are wanted; whether a Free one was found so far
 abbrev pub invariant-loop-owner : goal.invariant-loop-owner
 invariant-loop-owner l = record {
   within : l.count ≤ l.want;

@@ -2,6 +2,6 @@ use Rattle.std.proofs.Common.{◌≡◌, ◌++◌, drop}
 use Rattle.track_groups.specs.Places.{placed_from}
 use Rattle.track_groups.proofs.places.placed_groups.Given as goal
 
--- those so far, and those of the rest
+-- the placed groups are those found so far and those among the owners that are left
 abbrev pub invariant-loop-at : goal.invariant-loop-at
 invariant-loop-at l = l.groups.items ++ placed_from l.thing l.at (drop l.at l.owners) ≡ placed_from l.thing 0 l.owners

@@ -13,7 +13,7 @@ use Rattle.member_node.proofs.member.Member.read_in.Given as goal
 abbrev pub decreases-loop-complex : goal.decreases-loop-complex
 decreases-loop-complex g l = copies_alive l.complex.pair.first.alive l.complex.pair.second.alive
 
--- all was read, and its tables aren't brought up to it
+-- all pages were read, and the member's tables aren't brought up to them
 abbrev pub invariant-loop-complex : goal.invariant-loop-complex
 invariant-loop-complex g l =
     let P = g.P.Plant in
