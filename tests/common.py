@@ -14,8 +14,7 @@ PAGE = 4096
 # The byte of an open gate. The gates of a copy follow its byte 8.
 OPEN = 0xA5
 GATES_AT = 8
-# The forms of a copy: two areas of pages, and home pages with a log of four slots.
-AREAS, LOG = 1, 2
+# A copy has home pages and a log of four slots.
 SLOTS = 4
 
 
@@ -57,18 +56,14 @@ def number_at(held, place, width):
 
 
 def directory_place(copy, slot):
-    """Where the directory of a slot stands in a copy of the log form."""
+    """Where the directory of a slot stands in a copy."""
     pages = number_at(copy, 2, 2)
     return PAGE * (1 + pages + slot * (pages + 1))
 
 
 def page_places(copy):
-    """Where each page stands that a sound copy reads as, by its form."""
+    """Where each page stands that a sound copy reads as."""
     pages = number_at(copy, 2, 2)
-    if copy[1] == AREAS:
-        starts = [PAGE * (1 + area * pages) for area in (0, 1) if copy[GATES_AT + area] == OPEN]
-        first = max(starts, key=lambda start: number_at(copy, start + 8, 8))
-        return [first + PAGE * page for page in range(pages)]
     places = [PAGE * (1 + page) for page in range(pages)]
     for slot in range(SLOTS):
         if copy[GATES_AT + slot] == OPEN:

@@ -12,7 +12,7 @@ use Rattle.ckpt_copy.specs.Moments.{either_way, meanwhile_weaker, meanwhile_end}
 use Rattle.ckpt_copy.specs.Pages.{page_in}
 use Rattle.ckpt_copy.specs.Reading.{AllRead, EachReads}
 use Rattle.ckpt_copy.specs.Slices.{stretch, has_spreads}
-use Rattle.ckpt_copy.specs.Areas.{is_open}
+use Rattle.ckpt_copy.specs.Heads.{is_open}
 use Rattle.change_log.specs.Logs.{reads, slots, gate_of, home_block, image_block, place, laid}
 use Rattle.change_log.specs.LogStates.{Lists, SlotStands, Logged, Stands, AreHome, Turning, lists_any, with_list}
 use Rattle.change_log.specs.LogImages.{ArePlaced, turning_kept, opening_reads, closing_reads, placed_without, turned_shut, turned_open, byte_at}

@@ -11,7 +11,7 @@ use Rattle.mas_types.specs.declared.ids.Page.{Page}
 use Rattle.ckpt_copy.specs.Pages.{bytes_of, page_in}
 use Rattle.ckpt_copy.specs.Reading.{IsNone}
 use Rattle.ckpt_copy.specs.Slices.{stretch, byte_in}
-use Rattle.ckpt_copy.specs.Areas.{is_open, pages_in}
+use Rattle.ckpt_copy.specs.Heads.{is_open, pages_in}
 use Rattle.ckpt_copy.specs.Images.{open_at}
 use Rattle.ckpt_copy.proofs.Spreading.{bytes_of-push}
 use Rattle.change_log.specs.declared.layout.TheConstants.{FORM_LOG}

@@ -9,8 +9,7 @@ use Rattle.ckpt_copy.specs.Has.{Has}
 use Rattle.ckpt_copy.specs.Changes.{Spreads, IsPut}
 use Rattle.ckpt_copy.specs.Reading.{EachForms}
 use Rattle.ckpt_copy.specs.Meanwhile.{Meanwhile}
-use Rattle.ckpt_copy.specs.Areas.{is_open, pages_in}
-use Rattle.ckpt_copy.specs.AreaStates.{IsClosed}
+use Rattle.ckpt_copy.specs.Heads.{is_open, pages_in, IsClosed}
 use Rattle.ckpt_copy.specs.Slices.{Fits, stretch, fits_image, slice_apart, slice_in, has_spreads, has_put, has_image, byte_in}
 use Rattle.ckpt_copy.specs.Images.{open_at}
 use Rattle.ckpt_copy.specs.Moments.{meanwhile_then, meanwhile_weaker, meanwhile_end}

@@ -49,12 +49,12 @@ small_device = refl
 pub room_of_head : room_in head ≡ 2
 room_of_head = refl
 
--- heads that aren't valid: with VALID closed, and of the areas form
+-- heads that aren't valid: with VALID closed, and of another form
 pub shut_head : is_valid (0 ∷ 2 ∷ 0 ∷ 36 ∷ []) 757760 ≡ false
 shut_head = refl
 
-pub areas_head : is_valid (165 ∷ 1 ∷ 0 ∷ 36 ∷ []) 757760 ≡ false
-areas_head = refl
+pub other_head : is_valid (165 ∷ 1 ∷ 0 ∷ 36 ∷ []) 757760 ≡ false
+other_head = refl
 
 -- the directory of pages 0, 3 and 259 at level 9, up to its last number
 pub front_of_three : directory_front (0 ∷ 0 ∷ 0 ∷ 0 ∷ 0 ∷ 0 ∷ 0 ∷ 9 ∷ []) (0 ∷ 3 ∷ 259 ∷ [])

@@ -1,6 +1,6 @@
 -- What is learnt of a copy in the log form from its bytes.
 use Rattle.std.specs.Prelude.{◌≡◌, ℕ, ◌<◌, true, false, Option, Some, None, List, slice_index}
-use Rattle.ckpt_copy.specs.Areas.{pages_in}
+use Rattle.ckpt_copy.specs.Heads.{pages_in}
 use Rattle.change_log.specs.declared.finding.Head.{Head}
 use Rattle.change_log.specs.Logs.{is_valid, are_listed, slot_lists, gates_in, place, slots}
 

@@ -10,7 +10,7 @@ use Rattle.ckpt_copy.specs.declared.layout.TheConstants.{GATE_OPEN}
 use Rattle.ckpt_copy.specs.Has.{Has}
 use Rattle.ckpt_copy.specs.Pages.{page_in}
 use Rattle.ckpt_copy.specs.Reading.{AllRead, EachReads}
-use Rattle.ckpt_copy.specs.Areas.{is_open, pages_in}
+use Rattle.ckpt_copy.specs.Heads.{is_open, pages_in}
 use Rattle.ckpt_copy.specs.Slices.{Fits, fits_image, has_image, byte_in}
 use Rattle.change_log.specs.declared.layout.TheConstants.{FORM_LOG}
 use Rattle.change_log.specs.Directories.{numbers_in, is_directory}

@@ -5,7 +5,7 @@ use Rattle.mas_types.specs.Limits.{page_bytes, pages_least, pages_most}
 use Rattle.ckpt_copy.specs.declared.layout.TheConstants.{GATE_OPEN}
 use Rattle.ckpt_copy.specs.Has.{Has}
 use Rattle.ckpt_copy.specs.Pages.{page_in}
-use Rattle.ckpt_copy.specs.AreaStates.{IsClosed}
+use Rattle.ckpt_copy.specs.Heads.{IsClosed}
 use Rattle.change_log.specs.declared.layout.TheConstants.{FORM_LOG}
 use Rattle.change_log.specs.Directories.{numbers_in, is_directory}
 use Rattle.change_log.specs.Logs.{slots, gate_of, home_block, directory_block, log_size, place}

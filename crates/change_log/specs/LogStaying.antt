@@ -9,7 +9,7 @@ use Rattle.ckpt_copy.specs.Changes.{NoMore}
 use Rattle.ckpt_copy.specs.Pages.{page_in}
 use Rattle.ckpt_copy.specs.Reading.{AllRead}
 use Rattle.ckpt_copy.specs.Slices.{stretch}
-use Rattle.ckpt_copy.specs.Areas.{is_open, pages_in}
+use Rattle.ckpt_copy.specs.Heads.{is_open, pages_in}
 use Rattle.ckpt_copy.specs.Images.{blank_form}
 use Rattle.change_log.specs.declared.layout.TheConstants.{FORM_LOG}
 use Rattle.change_log.specs.Logs.{reads, is_valid, are_listed, slots, place, block, gathered, page_read, directory_block}

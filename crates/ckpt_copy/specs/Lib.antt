@@ -4,10 +4,8 @@ pub mod Meanwhile
 pub mod Causes
 pub mod Changes
 pub mod Reading
-pub mod Areas
-pub mod AreaStates
+pub mod Heads
 pub mod Slices
 pub mod Moments
 pub mod Images
 pub mod Staying
-pub mod Found

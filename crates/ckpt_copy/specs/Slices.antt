@@ -1,5 +1,5 @@
 -- Stretches of bytes before and after an act.
-use Rattle.std.proofs.Common.{◌≡◌, inl, inr, ℕ, ◌+◌, ◌-◌, ◌≤◌, ◌<◌, List, length, get_or, take, drop, refl, sym, ◌∙◌, ap, subst, arith}
+use Rattle.std.proofs.Common.{◌≡◌, inl, inr, ℕ, ◌+◌, ◌-◌, ◌≤◌, ◌<◌, List, length, get_or, take, drop, sym, ◌∙◌, ap, subst, arith}
 use Rattle.std.proofs.lemmas.List.{drop-drop, drop-take, take-take, get_or-take, get_or-drop}
 use Rattle.spool_disk.specs.View.{Disk, Stretch, Apart, Avoids, IsImage, slice}
 use Rattle.spool_disk.specs.Acts.{DiffersIn}
@@ -66,9 +66,6 @@ pub record Fits (disk : Disk) (image : List ℕ) : Type 0 where
 
 pub fits_image : (disk : Disk) (image : List ℕ) → IsImage disk image → Fits disk image
 fits_image disk image is = record { size = is.size; synced = is.synced }
-
-pub fits_own : (disk : Disk) → Fits disk disk.bytes
-fits_own disk = record { size = refl; synced = λ s avoids. refl }
 
 pub has_image : (at len : ℕ) (bytes : List ℕ) (disk : Disk) (image : List ℕ) → Has at len bytes disk → Fits disk image
     → slice at len image ≡ bytes

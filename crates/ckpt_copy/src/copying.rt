@@ -273,29 +273,37 @@ pub trait Copying {
     ghost stays_ready: { (copy : Self) (old new : View) → Goes old new → ready copy old → ready copy new };
 
     /// The number of pages is in range.
-    ghost ready_count: { (copy : Self) (v : View) → ready copy v → (pages_least ≤ count copy) × (count copy ≤ pages_most) };
+    ghost ready_count: { (copy : Self) (v : View) → ready copy v → (pages_least ≤ count copy)
+        × (count copy ≤ pages_most) };
 
     /// At rest each image reads as the pages.
-    ghost rests_reads: { (copy : Self) (pages : List ℕ) (disk : Disk) → rests copy pages disk → AllRead reads pages disk };
+    ghost rests_reads: { (copy : Self) (pages : List ℕ) (disk : Disk) → rests copy pages disk
+        → AllRead reads pages disk };
 
     /// So do the bytes of the device themselves.
-    ghost rests_now: { (copy : Self) (pages : List ℕ) (disk : Disk) → rests copy pages disk → reads disk.bytes ≡ Some pages };
+    ghost rests_now: { (copy : Self) (pages : List ℕ) (disk : Disk) → rests copy pages disk
+        → reads disk.bytes ≡ Some pages };
 
     /// While the next pages wait, each image reads as before.
-    ghost holds_reads: { (copy : Self) (was next : List ℕ) (disk : Disk) → holds copy was next disk → AllRead reads was disk };
+    ghost holds_reads: { (copy : Self) (was next : List ℕ) (disk : Disk) → holds copy was next disk
+        → AllRead reads was disk };
 
     /// The copy may be put again before its gate is opened: the pages that wait count for nothing.
-    ghost holds_rests: { (copy : Self) (was next : List ℕ) (disk : Disk) → holds copy was next disk → rests copy was disk };
+    ghost holds_rests: { (copy : Self) (was next : List ℕ) (disk : Disk) → holds copy was next disk
+        → rests copy was disk };
 
     /// Reads and syncs leave it at rest.
-    ghost rests_stays: { (copy : Self) (pages : List ℕ) (old new : Disk) → NoMore old new → rests copy pages old → rests copy pages new };
+    ghost rests_stays: { (copy : Self) (pages : List ℕ) (old new : Disk) → NoMore old new → rests copy pages old
+        → rests copy pages new };
 
     /// And they leave the pages that wait.
-    ghost holds_stays: { (copy : Self) (was next : List ℕ) (old new : Disk) → NoMore old new → holds copy was next old → holds copy was next new };
+    ghost holds_stays: { (copy : Self) (was next : List ℕ) (old new : Disk) → NoMore old new → holds copy was next old
+        → holds copy was next new };
 
     /// A device of zeros reads as none, whatever stands in its VALID gate.
     ghost blank_reads: { (size : ℕ) (image : List ℕ) → DiffersIn 0 1 (replicate size 0) image → reads image ≡ None };
 
     /// The pages that wait stand on the device.
-    ghost holds_behind: { (copy : Self) (was next : List ℕ) (disk : Disk) → holds copy was next disk → behind copy disk.bytes ≡ next };
+    ghost holds_behind: { (copy : Self) (was next : List ℕ) (disk : Disk) → holds copy was next disk
+        → behind copy disk.bytes ≡ next };
 }
