@@ -1,10 +1,10 @@
 -- The end of a journal is written.
-use Rattle.std.proofs.Common.{◌≡◌, ℕ, suc, ◌-◌, ◌≤◌, ◌<◌, List, [], ◌∷◌, ◌++◌, length, drop, slice_set, refl, ap, sym, subst, ◌∙◌, arith}
+use Rattle.std.proofs.Common.{◌≡◌, ℕ, suc, ◌-◌, ◌≤◌, ◌<◌, Bool, true, false, List, [], ◌∷◌, ◌++◌, length, drop, slice_set, Option, Some, None, refl, ap, sym, subst, ◌∙◌, arith, le_trans}
 use Rattle.std.proofs.lemmas.List.{take-append-le, take_all, length-set}
 use Rattle.std.specs.List.{refill}
 use Rattle.std.specs.Prelude.{remove}
 use Rattle.mas_types.specs.declared.journals.Batch.{Batch}
-use Rattle.mas_complex.specs.Journals.{journal_most, with_last, without_last}
+use Rattle.mas_complex.specs.Journals.{journal_most, with_last, without_last, end_of}
 
 -- a slice that was written as a whole is what was written
 refilled : {X : Type 0} (xs ws : List X) → length ws ≡ length xs → refill (length xs) xs ws ≡ ws
@@ -47,3 +47,17 @@ few_with_last b js few = subst (λ (n : ℕ). n ≤ journal_most) (sym (as_many 
   as_many [] = refl
   as_many (a ∷ []) = refl
   as_many (a ∷ next ∷ l) = ap suc (as_many (next ∷ l))
+
+-- nor has a journal more at its end
+pub few_at_end : (placed : Bool) (c : Option Batch) (js : List Batch) → length js ≤ journal_most → length (end_of placed c js) ≤ journal_most
+few_at_end placed (Some b) js few = few_with_last b js few
+few_at_end false None js few = few
+few_at_end true None js few = le_trans (fewer js) few
+  where
+    fewer : (l : List Batch) → length (without_last l) ≤ length l
+    fewer [] = omega arith
+    fewer (a ∷ []) = omega arith
+    fewer (a ∷ next ∷ l) = one_more (length (without_last (next ∷ l))) (length (next ∷ l)) (fewer (next ∷ l))
+      where
+        one_more : (m n : ℕ) → m ≤ n → suc m ≤ suc n
+        one_more m n le = omega (arith, le)

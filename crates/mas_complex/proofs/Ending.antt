@@ -1,5 +1,5 @@
 -- From the invariant of the shared value to its headline.
-use Rattle.std.proofs.Common.{◌≡◌, inl, inr, ⊎_elim, ℕ, ◌+◌, ◌≤◌, ◌<◌, ◌==◌, ◌&&◌, cond, Bool, true, false, List, [], ◌∷◌, ◌++◌, filter, All, Contains, Option, Some, None, refl, subst, sym, ◌∙◌, ap, arith}
+use Rattle.std.proofs.Common.{◌≡◌, inl, inr, ⊎_elim, ℕ, ◌+◌, ◌≤◌, ◌<◌, ◌==◌, ◌&&◌, cond, Bool, true, false, List, [], ◌∷◌, ◌++◌, length, filter, All, Contains, Option, Some, None, refl, subst, sym, ◌∙◌, ap, arith}
 use Rattle.std.proofs.lemmas.List.Elements.{All-nil, All-cons}
 use Rattle.mas_types.specs.declared.ids.MemberId.{MemberId}
 use Rattle.mas_types.specs.declared.journals.Batch.{Batch}
@@ -21,7 +21,7 @@ use Rattle.std.proofs.lemmas.Bool.{ne_eqb, true≢false}
 use Rattle.spool_volumes.specs.Laws.{IsLeftOf}
 use Rattle.mas_complex.specs.Texts.{spools_at, lost_now, GivesTexts}
 use Rattle.mas_complex.proofs.Spooled.{gives_texts}
-use Rattle.mas_complex.specs.Journals.{kept, flying, kept_all, entries_in, in_flight, StepIsKept, has_step, EndsInPlace, HasPlace, end_of, with_last, without_last}
+use Rattle.mas_complex.specs.Journals.{kept, flying, kept_all, batches_kept, entries_in, in_flight, StepIsKept, has_step, EndsInPlace, HasPlace, end_of, journal_most, with_last, without_last}
 use Rattle.std.specs.Prelude.{IsSome, IfSome}
 use Rattle.ckpt_copy.specs.Pages.{level}
 use Rattle.std.proofs.lemmas.List.{append-nil}
@@ -29,10 +29,11 @@ use Rattle.mas_complex.proofs.BatchEnds.{with_last-append, without_last-append}
 use Rattle.mas_complex.proofs.Batches.{now_kept, now_flying}
 use Rattle.mas_complex.proofs.Present.{alike_as, alike_found, top_reads}
 use Rattle.mas_complex.proofs.Moves.{unplace_keeps}
+use Rattle.mas_complex.proofs.Rising.{kept_append, less_up, one_up}
 use Rattle.mas_complex.specs.Meaning.{Closes, run, StandFor}
-use Rattle.mas_complex.specs.Crash.{Setting, setting, Stands, IsNext, Alike, Copy, Keeps, IsFound, IsAfter, EachTells, said, found, lost_if, left_at, IsLeft}
+use Rattle.mas_complex.specs.Crash.{Setting, setting, Stands, IsNext, Alike, Copy, Keeps, IsFound, IsAfter, EachTells, said, found, lost_if, left_at, IsLeft, ReadsUpTo}
 use Rattle.mas_complex.specs.Paper.{PaperKept}
-use Rattle.mas_complex.specs.Headline.{AreAlike, AreAlwaysAlike, AreTextsLeft, AreToldKept, FoundFor, Headline, IsAfterKept, IsCrashSafe, whole}
+use Rattle.mas_complex.specs.Headline.{AreAlike, AreAlwaysAlike, AreLevelsLow, AreTextsLeft, AreToldKept, FoundFor, Headline, IsAfterKept, IsCrashSafe, whole}
 
 pub kept_is : (bs : List Batch) (t : ℕ) → kept bs t ≡ entries_of (filter (is_kept_by t) bs)
 kept_is [] t = refl
@@ -81,6 +82,7 @@ pub record Parts (reads : List ℕ → Option (List ℕ)) (base : Queue) (since 
   pub alike : AreAlwaysAlike reads base J since v
   pub texts : AreTextsLeft base since J v
   pub told : AreToldKept J since v
+  pub levels : AreLevelsLow reads since J v
 
 module _ (reads : List ℕ → Option (List ℕ)) (base : Queue) (since : ℕ) (js : List Batch) (c : Option Batch) (reached : ℕ) (first second : Copy) (v : View) where
   abbrev S : Setting
@@ -140,11 +142,44 @@ module _ (reads : List ℕ → Option (List ℕ)) (base : Queue) (since : ℕ) (
         (subst (λ (d : Disk). Alike S (kept (js ++ in_flight c) t) (flying (js ++ in_flight c) t) (disk_at v t Ckpt1) d) (sym (left_below v t Ckpt2 lt)) (keeps.crash t from le lt)))
         (either_way top t)
 
+    up_to : (t : ℕ) → since ≤ t → t ≤ v.now → ReadsUpTo reads (reached + 1) (left_at v t Ckpt1) × ReadsUpTo reads (reached + 1) (left_at v t Ckpt2)
+    up_to t from le = ⊎_elim
+        (λ h. let last : v.now ≡ top = omega (arith, most, le, h) in let e : v.now ≡ t = omega (arith, most, le, h) in
+        subst (λ (m : ℕ). ReadsUpTo reads (reached + 1) (left_at v m Ckpt1) × ReadsUpTo reads (reached + 1) (left_at v m Ckpt2)) e (
+          one_up S reached (kept_all js) (entries_in c) keeps.was keeps.coming keeps.stands keeps.comes (left_at v v.now Ckpt1)
+              (top_reads S keeps.was first.rests first.holds rests_reads1 holds_reads1 keeps.coming first.place first.alive Ckpt1 v last keeps.first_at lost1),
+          one_up S reached (kept_all js) (entries_in c) keeps.was keeps.coming keeps.stands keeps.comes (left_at v v.now Ckpt2)
+              (top_reads S keeps.was second.rests second.holds rests_reads2 holds_reads2 keeps.coming second.place second.alive Ckpt2 v last keeps.second_at lost2),
+        ))
+        (λ lt. (
+          subst (λ (d : Disk). ReadsUpTo reads (reached + 1) d) (sym (left_below v t Ckpt1 lt)) (keeps.rises.most1 t from le lt),
+          subst (λ (d : Disk). ReadsUpTo reads (reached + 1) d) (sym (left_below v t Ckpt2 lt)) (keeps.rises.most2 t from le lt),
+        ))
+        (either_way top t)
+
+    levels_of : AreLevelsLow reads since (record { batches = js ++ in_flight c }) v
+    levels_of = record {
+      first_level = keeps.rises.first_level;
+      first1 = keeps.rises.first1;
+      first2 = keeps.rises.first2;
+      most1 = λ t from le. less_up reads (reached + 1) most_level low (left_at v t Ckpt1) (up_to t from le).0;
+      most2 = λ t from le. less_up reads (reached + 1) most_level low (left_at v t Ckpt2) (up_to t from le).1;
+    } where
+      most_level : ℕ
+      most_level = keeps.rises.first_level + batches_kept (js ++ in_flight c) + 1
+
+      through : (f a b n r : ℕ) → r ≤ f + a → n ≡ a + b → r + 1 ≤ f + n + 1
+      through f a b n r x y = omega (arith, x, y)
+
+      low : reached + 1 ≤ most_level
+      low = through keeps.rises.first_level (batches_kept js) (batches_kept (in_flight c)) (batches_kept (js ++ in_flight c)) reached keeps.rises.risen (kept_append js (in_flight c))
+
     pub headline_of : Parts reads base since (record { batches = js ++ in_flight c }) v
     headline_of = record {
       crash = λ t from le one two left right some. after_kept t (found S one two)
           (alike_found S (kept (js ++ in_flight c) t) (flying (js ++ in_flight c) t) (left_at v t Ckpt1) (left_at v t Ckpt2) (at_any t from le) one two left right some);
       alike = λ t from le. are_alike t (at_any t from le);
+      levels = levels_of;
       texts = λ t from le volumes left.
           let at = keeps.texts t from le in
           let images = λ (n : ℕ) (there : lost_now v n ≡ false). image_left (t == top) (lost_now v n) (spools_at v t n) (volumes n) there (keeps.sunk t from le n) (left n) in (
@@ -184,7 +219,7 @@ module _ (reads : List ℕ → Option (List ℕ)) (base : Queue) (since : ℕ) (
     clash e = cc
 
   pub ended_headline : (placed : Bool) (c : Option Batch) (J : List Batch) → (IsSome c → placed ≡ true) → HasPlace placed J → Keeps (setting reads base since) J c reached first second v
-      → (IsSound base → ∥ PaperKept base since (end_of placed c J) v ∥₁) → Headline reads base since (record { batches = end_of placed c J }) v
-  ended_headline placed c J some p keeps paper =
+      → length (end_of placed c J) ≤ journal_most → (IsSound base → ∥ PaperKept base since (end_of placed c J) v ∥₁) → Headline reads base since (record { batches = end_of placed c J }) v
+  ended_headline placed c J some p keeps few paper =
       let h : Parts reads base since (record { batches = end_of placed c J }) v = ended_parts placed c J some p keeps in
-      record { crash = h.crash; alike = h.alike; texts = h.texts; told = h.told; paper = paper }
+      record { crash = h.crash; alike = h.alike; texts = h.texts; told = h.told; levels = h.levels; few = few; paper = paper }

@@ -1,5 +1,5 @@
 -- Copies once the batch in flight has its fate, and lines that are said.
-use Rattle.std.proofs.Common.{◌≡◌, inl, inr, ⊎_elim, ℕ, ◌+◌, ◌≤◌, ◌<◌, ◌||◌, Bool, true, false, List, [], ◌∷◌, ◌++◌, if◌then◌else◌, Option, Some, None, refl, subst, sym, ◌∙◌, ap, arith}
+use Rattle.std.proofs.Common.{◌≡◌, inl, inr, ⊎_elim, ℕ, ◌+◌, ◌≤◌, ◌<◌, ◌||◌, Bool, true, false, List, [], ◌∷◌, ◌++◌, if◌then◌else◌, Option, Some, None, refl, subst, sym, ◌∙◌, ap, arith, le_refl}
 use Rattle.std.proofs.lemmas.List.{append-nil}
 use Rattle.std.proofs.lemmas.Bool.{or_cases}
 use Rattle.mas_types.specs.declared.ids.Dev.{Dev}
@@ -15,17 +15,27 @@ use Rattle.mas_types.specs.declared.journals.Entry.{Entry}
 use Rattle.mas_types.specs.declared.journals.Fate.TheVariants.{Kept, Dropped}
 use Rattle.mas_complex.specs.declared.places.Place.{Place}
 use Rattle.mas_complex.specs.declared.places.Place.TheVariants.{Before, Opened}
-use Rattle.mas_complex.specs.Journals.{kept_all, in_flight, entries_in, StepIsKept}
+use Rattle.mas_complex.specs.Journals.{kept_all, batches_kept, in_flight, entries_in, StepIsKept}
 use Rattle.mas_complex.proofs.Texting.{stays_same}
 use Rattle.mas_types.specs.Journal.{is_kept, is_flying}
 use Rattle.mas_complex.specs.Crash.{Setting, Stands, IsNext, ReadsOne, OnComing, IsAt, OneCopy, Copy, copy_of, Keeps}
 use Rattle.mas_complex.proofs.Batches.{kept_all_append}
 use Rattle.mas_complex.proofs.Present.{copy_reads}
+use Rattle.mas_complex.proofs.Rising.{kept_one}
 use Rattle.mas_complex.proofs.Moves.{Adds, acts_keep, fate_keeps}
 use Rattle.mas_complex.proofs.Sides.{moved}
 
 pub one_kept : (c : Batch) → c.fate ≡ Kept → kept_all (c ∷ []) ≡ c.entries
 one_kept c fate = ap (λ f. (if is_kept f then c.entries else []) ++ []) fate ∙ append-nil c.entries
+
+one_least : (n : ℕ) → n ≤ n + 1
+one_least n = omega arith
+
+one_most : (n k : ℕ) → k ≡ 1 → n + 1 ≤ n + k
+one_most n k is = omega (arith, is)
+
+pub no_fewer : (n k : ℕ) → n ≤ n + k
+no_fewer n k = omega arith
 
 one_dropped : (c : Batch) → c.fate ≡ Dropped → kept_all (c ∷ []) ≡ []
 one_dropped c fate = ap (λ f. (if is_kept f then c.entries else []) ++ []) fate
@@ -58,11 +68,11 @@ module _ (S : Setting) (js : List Batch) (b c : Batch) (reached : ℕ) (first se
     (rests_reads1 : (pages : List ℕ) (d : Disk) → first.rests pages d → AllRead S.reads pages d) (holds_reads1 : (was next : List ℕ) (d : Disk) → first.holds was next d → AllRead S.reads was d)
     (rests_reads2 : (pages : List ℕ) (d : Disk) → second.rests pages d → AllRead S.reads pages d) (holds_reads2 : (was next : List ℕ) (d : Disk) → second.holds was next d → AllRead S.reads was d) where
   -- the kept pages once the batch in flight has its fate, which each alive copy reads
-  at_rest : (reached' : ℕ) (pages : List ℕ) → is_flying c.fate ≡ false → Stands S reached' (kept_all (js ++ c ∷ [])) pages
+  at_rest : (reached' : ℕ) (pages : List ℕ) → reached ≤ reached' → reached' ≤ reached + batches_kept (c ∷ []) → is_flying c.fate ≡ false → Stands S reached' (kept_all (js ++ c ∷ [])) pages
       → OneCopy S first.rests first.holds pages None Before first.alive v.now (disk_now v Ckpt1) → OneCopy S second.rests second.holds pages None Before second.alive v.now (disk_now v Ckpt2)
       → Keeps S (js ++ c ∷ []) None reached' (copy_of first.rests first.holds first.alive Before) (copy_of second.rests second.holds second.alive Before) v
-  at_rest reached' pages fated stands x y =
-      fate_keeps S js b c reached reached' first second (copy_of first.rests first.holds first.alive Before) (copy_of second.rests second.holds second.alive Before) v keeps fated same_first same_entries last pages stands
+  at_rest reached' pages least most fated stands x y =
+      fate_keeps S js b c reached reached' first second (copy_of first.rests first.holds first.alive Before) (copy_of second.rests second.holds second.alive Before) v least most keeps fated same_first same_entries last pages stands
       (λ lt. (
         copy_reads S pages first.rests first.holds rests_reads1 holds_reads1 None Before first.alive v.now (disk_now v Ckpt1) lt x,
         copy_reads S pages second.rests second.holds rests_reads2 holds_reads2 None Before second.alive v.now (disk_now v Ckpt2) lt y,
@@ -78,7 +88,7 @@ module _ (S : Setting) (js : List Batch) (b c : Batch) (reached : ℕ) (first se
     by_coming : (n : Option (List ℕ)) → keeps.coming ≡ n → IsNext S reached (kept_all js) b.entries n → Keeps S (js ++ c ∷ []) None (reached + 1) (copy_of first.rests first.holds first.alive Before) (copy_of second.rests second.holds second.alive Before) v
     by_coming None same comes = absurd (opened_some S js (Some b) reached first second v keeps some one two same)
     by_coming (Some pages) same comes =
-        at_rest (reached + 1) pages (ap is_flying fate) (subst (λ (l : List Entry). Stands S (reached + 1) l pages) (sym all) comes)
+        at_rest (reached + 1) pages (one_least reached) (one_most reached (batches_kept (c ∷ [])) (kept_one c fate)) (ap is_flying fate) (subst (λ (l : List Entry). Stands S (reached + 1) l pages) (sym all) comes)
         (after_kept S first.rests first.holds keeps.was keeps.coming first.place first.alive v.now (disk_now v Ckpt1) pages same one keeps.first_at)
         (after_kept S second.rests second.holds keeps.was keeps.coming second.place second.alive v.now (disk_now v Ckpt2) pages same two keeps.second_at)
 
@@ -86,7 +96,7 @@ module _ (S : Setting) (js : List Batch) (b c : Batch) (reached : ℕ) (first se
       → Keeps S (js ++ c ∷ []) None reached (copy_of first.rests first.holds first.alive Before) (copy_of second.rests second.holds second.alive Before) v
   dropped_keeps fate one two =
       let all : kept_all (js ++ c ∷ []) ≡ kept_all js = kept_all_append js (c ∷ []) ∙ ap (λ (l : List Entry). kept_all js ++ l) (one_dropped c fate) ∙ append-nil (kept_all js) in
-      at_rest reached keeps.was (ap is_flying fate) (subst (λ (l : List Entry). Stands S reached l keeps.was) (sym all) keeps.stands)
+      at_rest reached keeps.was (le_refl reached) (no_fewer reached (batches_kept (c ∷ []))) (ap is_flying fate) (subst (λ (l : List Entry). Stands S reached l keeps.was) (sym all) keeps.stands)
       (after_dropped S first.rests first.holds keeps.was keeps.coming first.place first.alive v.now (disk_now v Ckpt1) one keeps.first_at)
       (after_dropped S second.rests second.holds keeps.was keeps.coming second.place second.alive v.now (disk_now v Ckpt2) two keeps.second_at)
 

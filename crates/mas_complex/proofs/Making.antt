@@ -1,6 +1,6 @@
 -- How the shared value begins and ends, and a batch that changes no page.
 use Rattle.std.proofs.lemmas.Bool.{true≢false}
-use Rattle.std.proofs.Common.{◌≡◌, ℕ, Bool, true, false, List, [], ◌∷◌, ◌++◌, length, drop, Option, None, refl, subst, sym, ◌∙◌, ap, arith}
+use Rattle.std.proofs.Common.{◌≡◌, ℕ, Bool, true, false, List, [], ◌∷◌, ◌++◌, length, drop, Option, None, refl, subst, sym, ◌∙◌, ap, arith, le_refl}
 use Rattle.std.proofs.lemmas.List.{append-nil}
 use Rattle.mas_types.specs.declared.ids.Dev.TheVariants.{Ckpt1, Ckpt2, Spool}
 use Rattle.spool_disk.specs.View.{View, Disk, Line, disk_at, disk_now}
@@ -9,13 +9,14 @@ use Rattle.mas_types.specs.declared.ids.MemberId.{MemberId}
 use Rattle.mas_types.specs.declared.journals.Batch.{Batch}
 use Rattle.mas_types.specs.declared.journals.Entry.{Entry}
 use Rattle.mas_types.specs.declared.journals.Fate.TheVariants.{Kept, Flying}
-use Rattle.mas_complex.specs.Journals.{kept_all, StepIsKept}
+use Rattle.mas_complex.specs.Journals.{kept_all, batches_kept, StepIsKept}
 use Rattle.mas_types.specs.Journal.{is_flying}
 use Rattle.mas_complex.specs.Crash.{Setting, EachTells, IsUntold, ReadsOne, Copy, CopyAt, Keeps, BeginsWith}
 use Rattle.mas_complex.proofs.Batches.{kept_all_append}
 use Rattle.mas_complex.proofs.Present.{copy_reads}
 use Rattle.mas_complex.proofs.Moves.{begins_keep, fate_keeps}
-use Rattle.mas_complex.proofs.Fates.{one_kept}
+use Rattle.mas_complex.proofs.Rising.{make_rise}
+use Rattle.mas_complex.proofs.Fates.{one_kept, no_fewer}
 use Rattle.mas_complex.specs.Texts.{spools_at, lost_now, HasTexts}
 use Rattle.mas_complex.proofs.Texting.{make_texts}
 
@@ -52,6 +53,11 @@ module _ (S : Setting) (reached : ℕ) (first second : Copy) (v : View)
     grows = λ t from le. let e : v.now ≡ t = omega (arith, since) in
         record { more = []; is = ap (λ (m : ℕ). (v.world m).console) e ∙ sym (append-nil (v.world t).console) };
     texts = make_texts S v since begins.texts;
+    rises = make_rise S reached begins.pages v since begins.stands
+        (λ lt. (
+          copy_reads S begins.pages first.rests first.holds rests_reads1 holds_reads1 None first.place first.alive v.now (disk_now v Ckpt1) lt begins.first_at,
+          copy_reads S begins.pages second.rests second.holds rests_reads2 holds_reads2 None second.place second.alive v.now (disk_now v Ckpt2) lt begins.second_at,
+        ));
     sunk = λ t from le n lost. let e : t ≡ v.now = omega (arith, since) in sunk n (subst (λ (m : ℕ). (disk_at v m (Spool n)).lost ≡ true) e lost);
     was = begins.pages;
     coming = None;
@@ -75,7 +81,7 @@ module _ (S : Setting) (reached : ℕ) (first second : Copy) (v : View)
         let flying = begins_keep S js b reached first second v keeps flies b_first untold has in
         let x : CopyAt S keeps.was None first v.now (disk_now v Ckpt1) = subst (λ (n : Option (List ℕ)). CopyAt S keeps.was n first v.now (disk_now v Ckpt1)) (keeps.none refl) keeps.first_at in
         let y : CopyAt S keeps.was None second v.now (disk_now v Ckpt2) = subst (λ (n : Option (List ℕ)). CopyAt S keeps.was n second v.now (disk_now v Ckpt2)) (keeps.none refl) keeps.second_at in
-        fate_keeps S js b c reached reached first second first second v flying (ap is_flying fate) same_first same_entries last keeps.was
+        fate_keeps S js b c reached reached first second first second v (le_refl reached) (no_fewer reached (batches_kept (c ∷ []))) flying (ap is_flying fate) same_first same_entries last keeps.was
         (record { at_level = keeps.stands.at_level; queue = subst (λ (l : List Entry). S.stand (S.run S.base l) keeps.was) (sym all) (alike keeps.was keeps.stands.queue) })
         (λ lt. (
           copy_reads S keeps.was first.rests first.holds rests_reads1 holds_reads1 None first.place first.alive v.now (disk_now v Ckpt1) lt x,

@@ -1,5 +1,5 @@
 -- How the shared value goes on: over acts, and over a batch that begins or gets its fate.
-use Rattle.std.proofs.Common.{◌≡◌, ⊎_elim, ℕ, ◌≤◌, ◌<◌, false, refl, List, [], ◌∷◌, ◌++◌, length, drop, Option, Some, None, subst, sym, ◌∙◌, ap, arith, append_assoc}
+use Rattle.std.proofs.Common.{◌≡◌, ⊎_elim, ℕ, ◌+◌, ◌≤◌, ◌<◌, false, refl, List, [], ◌∷◌, ◌++◌, length, drop, Option, Some, None, subst, sym, ◌∙◌, ap, arith, append_assoc}
 use Rattle.std.proofs.lemmas.List.{append-nil}
 use Rattle.mas_types.specs.declared.ids.Dev.TheVariants.{Ckpt1, Ckpt2}
 use Rattle.spool_disk.specs.View.{View, World, Line, disk_at, disk_now}
@@ -9,11 +9,12 @@ use Rattle.mas_types.specs.declared.ids.MemberId.{MemberId}
 use Rattle.mas_types.specs.declared.journals.Batch.{Batch}
 use Rattle.mas_types.specs.declared.journals.Entry.{Entry}
 use Rattle.mas_types.specs.declared.journals.Fate.TheVariants.{Flying}
-use Rattle.mas_complex.specs.Journals.{kept, flying, kept_all, in_flight, entries_in, AreSettled, StepIsKept, has_step, IsPlace}
+use Rattle.mas_complex.specs.Journals.{kept, flying, kept_all, in_flight, entries_in, batches_kept, AreSettled, StepIsKept, has_step, IsPlace}
 use Rattle.mas_types.specs.Journal.{is_flying}
 use Rattle.mas_complex.specs.Crash.{Setting, Stands, IsNext, Alike, CrashAt, EachTells, said, ToldAt, ReadsOne, Copy, CopyAt, Keeps}
 use Rattle.mas_complex.proofs.Batches.{now_kept, now_flying, settled_later, settled_push, begun_later, begins_kept, begins_flying, fated_kept, fated_flying, step_later, step_push, step_fate, placed_kept, placed_flying, placed_all, placed_step, unplaced_step, placed_settled, unplaced_settled}
 use Rattle.mas_complex.proofs.Present.{alike_as, alike_none}
+use Rattle.mas_complex.proofs.Rising.{one_up, kept_place, acts_rise, fated_rise, same_rise}
 use Rattle.mas_complex.specs.Texts.{spools_at, lost_now, HasTexts}
 use Rattle.mas_complex.proofs.Texting.{Stays, acts_texts, acts_sunk, begins_texts, fated_texts, same_texts}
 use Rattle.mas_complex.proofs.Lines.{each_map, each_both, each_more, each_less}
@@ -73,6 +74,12 @@ module _ (S : Setting) (js : List Batch) (c : Option Batch) (reached : ℕ) (fir
         (either_way t old.now);
     texts = acts_texts S js c old new keeps.settled keeps.begun keeps.started goes stays keeps.texts;
     sunk = acts_sunk S js c old new keeps.settled keeps.begun keeps.started goes stays keeps.sunk;
+    rises = acts_rise S js reached old new goes keeps.started
+        (λ t h le lt. let both = reads t h le lt in (
+          one_up S reached (kept_all js) (entries_in c) keeps.was coming keeps.stands comes (disk_at new t Ckpt1) both.0,
+          one_up S reached (kept_all js) (entries_in c) keeps.was coming keeps.stands comes (disk_at new t Ckpt2) both.1,
+        ))
+        keeps.rises;
     was = keeps.was;
     coming = coming;
     stands = keeps.stands;
@@ -120,6 +127,7 @@ module _ (S : Setting) (js : List Batch) (b : Batch) (reached : ℕ) (first seco
     grows = keeps.grows;
     texts = begins_texts S js b v keeps.settled fate begun has keeps.texts;
     sunk = keeps.sunk;
+    rises = keeps.rises;
     was = keeps.was;
     coming = None;
     stands = keeps.stands;
@@ -137,12 +145,12 @@ module _ (S : Setting) (js : List Batch) (b c : Batch) (reached reached' : ℕ) 
       (fated_kept js b c t fate lt) (fated_flying js b c t fate same_first same_entries lt) crash
 
   -- the kept pages once the batch in flight has its fate
-  pub fate_keeps : Keeps S js (Some b) reached first second v → is_flying c.fate ≡ false → c.first ≡ b.first → c.entries ≡ b.entries → c.last ≡ v.now
+  pub fate_keeps : reached ≤ reached' → reached' ≤ reached + batches_kept (c ∷ []) → Keeps S js (Some b) reached first second v → is_flying c.fate ≡ false → c.first ≡ b.first → c.entries ≡ b.entries → c.last ≡ v.now
       → (was : List ℕ) → Stands S reached' (kept_all (js ++ c ∷ [])) was
       → (v.now < top → ReadsOne S was None (disk_now v Ckpt1) × ReadsOne S was None (disk_now v Ckpt2))
       → CopyAt S was None first' v.now (disk_now v Ckpt1) → CopyAt S was None second' v.now (disk_now v Ckpt2)
       → Keeps S (js ++ c ∷ []) None reached' first' second' v
-  fate_keeps keeps fated same_first same_entries last was stands reads one two = record {
+  fate_keeps least most keeps fated same_first same_entries last was stands reads one two = record {
     started = keeps.started;
     settled = settled;
     begun = tt;
@@ -166,6 +174,7 @@ module _ (S : Setting) (js : List Batch) (b c : Batch) (reached reached' : ℕ) 
     grows = keeps.grows;
     texts = fated_texts S js b c v keeps.settled keeps.begun fated same_first same_entries last keeps.texts;
     sunk = keeps.sunk;
+    rises = fated_rise S js c reached reached' v least most keeps.rises;
     was = was;
     coming = None;
     stands = stands;
@@ -181,8 +190,9 @@ module _ (S : Setting) (js : List Batch) (b c : Batch) (reached reached' : ℕ) 
 module _ (S : Setting) (js ks : List Batch) (c : Option Batch) (reached : ℕ) (first second : Copy) (v : View) where
   pub same_keep : Keeps S js c reached first second v → AreSettled ks v.now → ((t : ℕ) → kept (ks ++ in_flight c) t ≡ kept (js ++ in_flight c) t) → ((t : ℕ) → flying (ks ++ in_flight c) t ≡ flying (js ++ in_flight c) t)
       → ((t : ℕ) (m : MemberId) (s : ℕ) → StepIsKept (js ++ in_flight c) t m s → StepIsKept (ks ++ in_flight c) t m s) → kept_all ks ≡ kept_all js
+      → batches_kept ks ≡ batches_kept js
       → Keeps S ks c reached first second v
-  same_keep keeps settled same_kept same_flying same_step same_all = record {
+  same_keep keeps settled same_kept same_flying same_step same_all same_many = record {
     started = keeps.started;
     settled = settled;
     begun = keeps.begun;
@@ -193,6 +203,7 @@ module _ (S : Setting) (js ks : List Batch) (c : Option Batch) (reached : ℕ) (
     grows = keeps.grows;
     texts = same_texts S (js ++ in_flight c) (ks ++ in_flight c) v same_kept same_flying keeps.texts;
     sunk = keeps.sunk;
+    rises = same_rise S js ks reached v same_many keeps.rises;
     was = keeps.was;
     coming = keeps.coming;
     stands = subst (λ (l : List Entry). Stands S reached l keeps.was) (sym same_all) keeps.stands;
@@ -206,8 +217,8 @@ module _ (S : Setting) (js ks : List Batch) (c : Option Batch) (reached : ℕ) (
 module _ (S : Setting) (js : List Batch) (b : Batch) (c : Option Batch) (reached : ℕ) (first second : Copy) (v : View) (place : IsPlace b) where
   pub place_keeps : b.first ≤ b.last → b.last ≤ v.now → Keeps S js c reached first second v → Keeps S (js ++ b ∷ []) c reached first second v
   place_keeps ends past keeps = same_keep S js (js ++ b ∷ []) c reached first second v keeps (placed_settled b place js v.now keeps.settled ends past) (placed_kept b place js (in_flight c)) (placed_flying b place js (in_flight c))
-      (placed_step b place js (in_flight c)) (placed_all b place js)
+      (placed_step b place js (in_flight c)) (placed_all b place js) (kept_place b place js)
 
   pub unplace_keeps : Keeps S (js ++ b ∷ []) c reached first second v → Keeps S js c reached first second v
   unplace_keeps keeps = same_keep S (js ++ b ∷ []) js c reached first second v keeps (unplaced_settled js b v.now keeps.settled) (λ t. sym (placed_kept b place js (in_flight c) t)) (λ t. sym (placed_flying b place js (in_flight c) t))
-      (unplaced_step b place js (in_flight c)) (sym (placed_all b place js))
+      (unplaced_step b place js (in_flight c)) (sym (placed_all b place js)) (sym (kept_place b place js))

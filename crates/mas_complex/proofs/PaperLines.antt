@@ -17,7 +17,7 @@ use Rattle.mas_types.specs.Sound.{IsSound}
 use Rattle.lock_cycle.specs.Books.{Book, is_stopped, after_stop}
 use Rattle.queue_laws.specs.Runs.{IsGiven}
 use Rattle.spool_disk.specs.View.{View, World, Line, paper_now}
-use Rattle.spool_disk.specs.Acts.{Goes, Prints, Said, SamePaper, next, top}
+use Rattle.spool_disk.specs.Acts.{Goes, Prints, Said, SamePaper, Rose, next, top}
 use Rattle.spool_disk.specs.declared.plant.Act.{Act}
 use Rattle.spool_disk.specs.declared.plant.Act.TheVariants.{Done, Failed, Halted}
 use Rattle.paper_laws.specs.Counts.{one_more}
@@ -119,9 +119,9 @@ module _ (base : Queue) (since : ℕ) (js : List Batch) (c : Option Batch) (prin
 
   -- a line more on paper, and which counts there are once it stands
   line_on_paper : (l : Line) (printed' : List ℕ) (book' : Book) → new.now ≡ old.now + 1 → (new.world new.now).paper m.0 ≡ (old.world old.now).paper m.0 ++ l ∷ [] → ((j : ℕ) → j ≢ m.0 → (new.world new.now).paper j ≡ (old.world old.now).paper j)
-      → (l.whole ≡ true → l.text ≡ bytes) → AreLinesOn New base (counts_of printed') K → AreLinesOn New base (counts_of printed') (K ++ F)
+      → (l.whole ≡ true → l.text ≡ bytes) → (l.whole ≡ false → 0 < new.stops m.0) → AreLinesOn New base (counts_of printed') K → AreLinesOn New base (counts_of printed') (K ++ F)
       → ((j : MemberId) → j.0 < length printed' → is_stopped book' j ≡ false → counts_of printed' j ≡ count_at J since new new.now j) → KeepsPaper base since js c printed' book' new
-  line_on_paper l printed' book' time more others whole kept_lines coming_lines counted = record {
+  line_on_paper l printed' book' time more others whole torn kept_lines coming_lines counted = record {
     given = k.given;
     own = k.own;
     marks = λ t from le. test_cases (nat_le t old.now) (MarksAt base J new t)
@@ -161,6 +161,7 @@ module _ (base : Queue) (since : ℕ) (js : List Batch) (c : Option Batch) (prin
           line = l;
           more = at_new m.0 ∙ more ∙ ap (λ (ls : List Line). ls ++ l ∷ []) (sym (past m.0));
           next = λ w. next_is (whole w);
+          torn = torn;
         })))
         (λ e. inl (at_new j.0 ∙ others j.0 (λ same. apart_is j.0 m.0 e same) ∙ sym (past j.0)))
       where
@@ -219,12 +220,15 @@ module _ (base : Queue) (since : ℕ) (js : List Batch) (c : Option Batch) (prin
   done_on_paper : (l : Line) → l ≡ record { text = bytes; whole = true } → new.now ≡ old.now + 1 → (new.world new.now).paper m.0 ≡ (old.world old.now).paper m.0 ++ l ∷ [] → ((j : ℕ) → j ≢ m.0 → (new.world new.now).paper j ≡ (old.world old.now).paper j)
       → KeepsPaper base since js c (slice_set printed m.0 (counts_of printed m + 1)) book new
   done_on_paper l is time more others =
-      line_on_paper l printed' book time more others (λ w. ap (λ (x : Line). x.text) is)
+      line_on_paper l printed' book time more others (λ w. ap (λ (x : Line). x.text) is) (λ w. absurd (not_torn (sym (ap (λ (x : Line). x.whole) is) ∙ w)))
       (lower K (subst (λ (es : List Entry). AreLinesOn New base (one_more m (counts_of printed)) es) (append-nil K)
       (lines_keep Old New base (counts_of printed) K [] m may.next.output sound given_K (All-nil _) some (All-nil _) may.next.busy so (line_on l is more) (subst (λ (es : List Entry). AreLinesOn Old base (counts_of printed) es) (sym (append-nil K)) k.kept_lines))))
       (lower (K ++ F) (lines_keep Old New base (counts_of printed) K F m may.next.output sound given_K given_F some (none_in_flight m c apart k.own) may.next.busy so (line_on l is more) k.coming_lines))
       counted
     where
+      not_torn : true ≡ false → ⊥
+      not_torn e = cc
+
       printed' : List ℕ
       printed' = slice_set printed m.0 (counts_of printed m + 1)
 
@@ -266,10 +270,10 @@ module _ (base : Queue) (since : ℕ) (js : List Batch) (c : Option Batch) (prin
 
   -- HALTED
 
-  halted_on_paper : (l : Line) → (l.whole ≡ true → l.text ≡ bytes) → (book' : Book) → ((j : MemberId) → is_stopped book' j ≡ false → (j.0 ≢ m.0) × (is_stopped book j ≡ false)) → new.now ≡ old.now + 1
+  halted_on_paper : (l : Line) → (l.whole ≡ true → l.text ≡ bytes) → 0 < new.stops m.0 → (book' : Book) → ((j : MemberId) → is_stopped book' j ≡ false → (j.0 ≢ m.0) × (is_stopped book j ≡ false)) → new.now ≡ old.now + 1
       → (new.world new.now).paper m.0 ≡ (old.world old.now).paper m.0 ++ l ∷ [] → ((j : ℕ) → j ≢ m.0 → (new.world new.now).paper j ≡ (old.world old.now).paper j) → KeepsPaper base since js c printed book' new
-  halted_on_paper l whole book' rest time more others =
-      line_on_paper l printed book' time more others whole (stays_on Old New base (counts_of printed) K so k.kept_lines) (stays_on Old New base (counts_of printed) (K ++ F) so k.coming_lines)
+  halted_on_paper l whole stopped book' rest time more others =
+      line_on_paper l printed book' time more others whole (λ w. stopped) (stays_on Old New base (counts_of printed) K so k.kept_lines) (stays_on Old New base (counts_of printed) (K ++ F) so k.coming_lines)
       (λ j inside is_up. let other = rest j is_up in k.counted j inside other.1 ∙ sym (other_counted j (others j.0 other.0)))
     where
       so : (n : JobNo) (i : OutNo) (line : ℕ) (text : Text) → Old n i line text → New n i line text
@@ -277,9 +281,9 @@ module _ (base : Queue) (since : ℕ) (js : List Batch) (c : Option Batch) (prin
 
   -- THE ANSWER
 
-  pub prints_on_paper : (result : Act) → new.now ≡ next old.now → (old.now ≡ top → result ≡ Failed) → Prints m.0 bytes old new result → ((j : MemberId) → is_stopped (after_stop book m) j ≡ false → (j.0 ≢ m.0) × (is_stopped book j ≡ false))
+  pub prints_on_paper : (result : Act) → new.now ≡ next old.now → (old.now ≡ top → result ≡ Failed) → (result ≡ Halted → Rose (old.stops m.0) (new.stops m.0)) → Prints m.0 bytes old new result → ((j : MemberId) → is_stopped (after_stop book m) j ≡ false → (j.0 ≢ m.0) × (is_stopped book j ≡ false))
       → KeepsPaper base since js c (printed_by m result printed) (book_by m result book) new
-  prints_on_paper result time last prints rest = by result prints.paper last
+  prints_on_paper result time last halts prints rest = by result prints.paper last halts
     where
       same_paper : paper_now new m.0 ≡ paper_now old m.0 → SamePaper old new
       same_paper is j = test_cases (j == m.0) (paper_now new j ≡ paper_now old j)
@@ -304,18 +308,21 @@ module _ (base : Queue) (since : ℕ) (js : List Batch) (c : Option Batch) (prin
       still : (book' : Book) → ((j : MemberId) → is_stopped book' j ≡ false → is_stopped book j ≡ false) → paper_now new m.0 ≡ paper_now old m.0 → KeepsPaper base since js c printed book' new
       still book' is_up is = stays_on_paper base since js c printed book book' old new started settled begun goes (same_papers old new goes time (same_paper is)) is_up k
 
-      by : (r : Act) → Said bytes (paper_now old m.0) (paper_now new m.0) r → (old.now ≡ top → r ≡ Failed) → KeepsPaper base since js c (printed_by m r printed) (book_by m r book) new
-      by Done is last = done_on_paper (record { text = bytes; whole = true }) refl (one_later (λ e. absurd (no_done (last e)))) is prints.others
+      rose_some : (a b : ℕ) → Rose a b → 0 < b
+      rose_some a b rose = omega (arith, rose)
+
+      by : (r : Act) → Said bytes (paper_now old m.0) (paper_now new m.0) r → (old.now ≡ top → r ≡ Failed) → (r ≡ Halted → Rose (old.stops m.0) (new.stops m.0)) → KeepsPaper base since js c (printed_by m r printed) (book_by m r book) new
+      by Done is last halts = done_on_paper (record { text = bytes; whole = true }) refl (one_later (λ e. absurd (no_done (last e)))) is prints.others
         where
           no_done : Done ≡ Failed → ⊥
           no_done e = cc
-      by Failed is last = still book (λ j u. u) is
-      by Halted (inl is) last = still (after_stop book m) (λ j u. (rest j u).1) is
-      by Halted (inr (inl torn)) last = halted_on_paper (record { text = torn.0; whole = false }) (λ w. absurd (cc)) (after_stop book m) rest (one_later (λ e. absurd (no_halt (last e)))) torn.1 prints.others
+      by Failed is last halts = still book (λ j u. u) is
+      by Halted (inl is) last halts = still (after_stop book m) (λ j u. (rest j u).1) is
+      by Halted (inr (inl torn)) last halts = halted_on_paper (record { text = torn.0; whole = false }) (λ w. absurd (cc)) (rose_some (old.stops m.0) (new.stops m.0) (halts refl)) (after_stop book m) rest (one_later (λ e. absurd (no_halt (last e)))) torn.1 prints.others
         where
           no_halt : Halted ≡ Failed → ⊥
           no_halt e = cc
-      by Halted (inr (inr is)) last = halted_on_paper (record { text = bytes; whole = true }) (λ w. refl) (after_stop book m) rest (one_later (λ e. absurd (no_halt (last e)))) is prints.others
+      by Halted (inr (inr is)) last halts = halted_on_paper (record { text = bytes; whole = true }) (λ w. refl) (rose_some (old.stops m.0) (new.stops m.0) (halts refl)) (after_stop book m) rest (one_later (λ e. absurd (no_halt (last e)))) is prints.others
         where
           no_halt : Halted ≡ Failed → ⊥
           no_halt e = cc

@@ -169,12 +169,16 @@ module _ (base : Queue) (since : ℕ) (J : List Batch) (old new : View) (goes : 
   pub count_past : (m : MemberId) (t : ℕ) → since ≤ t → t ≤ old.now → count_at J since new t m ≡ count_at J since old t m
   count_past m t from le = count_eq (paper_past m.0 t le) (paper_past m.0 (turned m J t since) (le_trans (turned_by m J t since from) le))
 
+  more_stops : (a b : ℕ) → 0 < a → a ≤ b → 0 < b
+  more_stops a b some le = omega (arith, some, le)
+
   pub line_past : (m : MemberId) (t : ℕ) → since ≤ t → t < old.now → LineAt base J since old t m → LineAt base J since new t m
   line_past m t from lt (inl e) = inl (paper_past m.0 (t + 1) (omega (arith, lt)) ∙ e ∙ sym (paper_past m.0 t (omega (arith, lt))))
   line_past m t from lt (inr p) = inr (record {
     line = p.line;
     more = paper_past m.0 (t + 1) (omega (arith, lt)) ∙ p.more ∙ ap (λ (l : List Line). l ++ p.line ∷ []) (sym (paper_past m.0 t (omega (arith, lt))));
     next = λ whole. subst (λ (n : ℕ). IsNextLine (run base (kept J t)) m n p.line.text) (sym (count_past m t from (omega (arith, lt)))) (p.next whole);
+    torn = λ torn. more_stops (old.stops m.0) (new.stops m.0) (p.torn torn) (goes.stops m.0);
   })
 
 -- ACTS THAT PRINT NOTHING
@@ -257,6 +261,7 @@ module _ (base : Queue) (since : ℕ) (js ks : List Batch) (c d : Option Batch) 
       more = p.more;
       next = λ whole. subst (λ (es : List Entry). IsNextLine (run base es) m (count_at (ks ++ in_flight d) since v t m) p.line.text) (sym is)
           (subst (λ (n : ℕ). IsNextLine (run base (kept (js ++ in_flight c) t)) m n p.line.text) (sym (count_as m t)) (p.next whole));
+      torn = p.torn;
     })
 
 -- the journal gets the place of a batch to come, or loses it
@@ -459,6 +464,7 @@ module _ (base : Queue) (since : ℕ) (js : List Batch) (b : Batch) (printed : L
           more = p.more;
           next = λ whole. subst (λ (l : List Entry). IsNextLine (run base l) m (count_at (js ++ b ∷ []) since v t m) p.line.text) (sym (begins_kept js b t flies))
               (subst (λ (n : ℕ). IsNextLine (run base (kept (js ++ []) t)) m n p.line.text) (sym turn) (p.next whole));
+          torn = p.torn;
         })
 
     counted_as : (m : MemberId) → m.0 < length (printed_after b.by es printed) → is_stopped book m ≡ false → counts m ≡ count_at (js ++ b ∷ []) since v v.now m

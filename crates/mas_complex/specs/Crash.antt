@@ -15,7 +15,7 @@ use Rattle.mas_types.specs.declared.queues.Queue.{Queue}
 use Rattle.duplex_pair.specs.Finds.{best}
 use Rattle.mas_complex.specs.Meaning.{StandFor, run, Closes}
 use Rattle.mas_complex.specs.Texts.{spools_at, lost_now, HasTexts}
-use Rattle.mas_complex.specs.Journals.{kept, flying, kept_all, in_flight, entries_in, StepIsKept, has_step, AreSettled, IsBegun}
+use Rattle.mas_complex.specs.Journals.{kept, flying, kept_all, in_flight, entries_in, batches_kept, StepIsKept, has_step, AreSettled, IsBegun}
 
 -- what pages, entries and lines mean, and where the value began
 pub record Setting : Type 1 where
@@ -171,6 +171,25 @@ KeepsTexts S J v = (t : ℕ) → S.since ≤ t → t ≤ v.now → TextsAt S J v
 abbrev pub AreSunk : Setting → View → Type 0
 AreSunk S v = (t : ℕ) → S.since ≤ t → t ≤ v.now → (n : ℕ) → (spools_at v t n).lost ≡ true → lost_now v n ≡ true
 
+-- an image of a device that reads as pages reads as ones of this level
+abbrev pub ReadsAtLevel : (List ℕ → Option (List ℕ)) → ℕ → Disk → Type 0
+ReadsAtLevel reads l disk = LeavesOnly disk (λ image. (pages : List ℕ) → reads image ≡ Some pages → level pages ≡ l)
+
+-- or as ones of at most this level
+abbrev pub ReadsUpTo : (List ℕ → Option (List ℕ)) → ℕ → Disk → Type 0
+ReadsUpTo reads most disk = LeavesOnly disk
+    (λ image. (pages : List ℕ) → reads image ≡ Some pages → level pages ≤ most)
+
+-- How levels rise: at first both copies read at one level, the level reached is at most as many more as batches are
+-- kept, and at no moment does a copy read at a level above the one reached and one more.
+pub record Rises (S : Setting) (js : List Batch) (reached : ℕ) (v : View) : Type 0 where
+  pub first_level : ℕ
+  pub first1 : S.since < top → ReadsAtLevel S.reads first_level (disk_at v S.since Ckpt1)
+  pub first2 : S.since < top → ReadsAtLevel S.reads first_level (disk_at v S.since Ckpt2)
+  pub risen : reached ≤ first_level + batches_kept js
+  pub most1 : (t : ℕ) → S.since ≤ t → t ≤ v.now → t < top → ReadsUpTo S.reads (reached + 1) (disk_at v t Ckpt1)
+  pub most2 : (t : ℕ) → S.since ≤ t → t ≤ v.now → t < top → ReadsUpTo S.reads (reached + 1) (disk_at v t Ckpt2)
+
 -- What the shared value keeps of its past, and of its present below the greatest moment: the pages of the kept entries,
 -- and those in flight, are the same for both copies.
 pub record Keeps (S : Setting) (js : List Batch) (current : Option Batch) (reached : ℕ) (first second : Copy)
@@ -183,6 +202,7 @@ pub record Keeps (S : Setting) (js : List Batch) (current : Option Batch) (reach
   pub grows : (t : ℕ) → S.since ≤ t → t ≤ v.now → Begins (v.world t).console (v.world v.now).console
   pub texts : KeepsTexts S (js ++ in_flight current) v
   pub sunk : AreSunk S v
+  pub rises : Rises S js reached v
   pub was : List ℕ
   pub coming : Option (List ℕ)
   pub stands : Stands S reached (kept_all js) was

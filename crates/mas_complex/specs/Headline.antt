@@ -1,5 +1,5 @@
 -- What holds at each moment since a shared value was made, in the words of journal, images and console.
-use Rattle.std.specs.Prelude.{◌≡◌, ◌⊎◌, ℕ, ◌+◌, ◌≤◌, true, List, [], ◌++◌, length, drop, Option, Some, None, All, Contains, IfSome}
+use Rattle.std.specs.Prelude.{◌≡◌, ◌⊎◌, ℕ, ◌+◌, ◌≤◌, ◌<◌, true, List, [], ◌++◌, length, drop, Option, Some, None, All, Contains, IfSome}
 use Rattle.mas_types.specs.declared.ids.Dev.TheVariants.{Ckpt1, Ckpt2, Spool}
 use Rattle.mas_types.specs.declared.ids.MemberId.{MemberId}
 use Rattle.mas_types.specs.declared.journals.Journal.{Journal}
@@ -9,15 +9,16 @@ use Rattle.mas_types.specs.declared.answers.Closing.{Closing}
 use Rattle.mas_types.specs.Journal.{kept_at, flying_at}
 use Rattle.mas_types.specs.Sound.{IsSound}
 use Rattle.mas_types.specs.Closings.{closing_line}
-use Rattle.spool_disk.specs.View.{View, Disk, Line, Throughout, LeavesOnly}
+use Rattle.spool_disk.specs.View.{View, Disk, Line, Throughout, LeavesOnly, disk_at}
+use Rattle.spool_disk.specs.Acts.{top}
 use Rattle.ckpt_copy.specs.Pages.{level}
 use Rattle.duplex_pair.specs.Finds.{best}
 use Rattle.mas_complex.specs.Meaning.{run, StandFor, is_telling}
-use Rattle.mas_complex.specs.Journals.{has_step}
+use Rattle.mas_complex.specs.Journals.{batches_kept, has_step, journal_most}
 use Rattle.spool_volumes.specs.Volumes.{Volumes}
 use Rattle.mas_complex.specs.Texts.{lost_now, GivesTexts}
 use Rattle.mas_complex.specs.Paper.{PaperKept}
-use Rattle.mas_complex.specs.Crash.{IsLeft, SomeLeft, read_left, left_at, IsOneOf}
+use Rattle.mas_complex.specs.Crash.{IsLeft, SomeLeft, read_left, left_at, IsOneOf, ReadsAtLevel, ReadsUpTo}
 
 -- pages are found, which stand for the queue
 abbrev pub FoundFor : Queue → Option (List ℕ) → Type 0
@@ -85,6 +86,17 @@ AreTextsLeft base since J v = (t : ℕ) → since ≤ t → t ≤ v.now → (vol
     → GivesTexts (lost_now v) volumes base.config.groups (run base (kept_at J t))
     × GivesTexts (lost_now v) volumes base.config.groups (run base (kept_at J t ++ flying_at J t))
 
+-- At the first moment the images of the copies that read as pages read as ones of one level. At each moment they read
+-- as ones of at most that level, as many more as batches are kept, and one more for a batch in flight.
+pub record AreLevelsLow (reads : List ℕ → Option (List ℕ)) (since : ℕ) (J : Journal) (v : View) : Type 0 where
+  pub first_level : ℕ
+  pub first1 : since < top → ReadsAtLevel reads first_level (disk_at v since Ckpt1)
+  pub first2 : since < top → ReadsAtLevel reads first_level (disk_at v since Ckpt2)
+  pub most1 : (t : ℕ) → since ≤ t → t ≤ v.now
+      → ReadsUpTo reads (first_level + batches_kept J.batches + 1) (left_at v t Ckpt1)
+  pub most2 : (t : ℕ) → since ≤ t → t ≤ v.now
+      → ReadsUpTo reads (first_level + batches_kept J.batches + 1) (left_at v t Ckpt2)
+
 -- the whole headline: what stands on paper is in it only where the base has the sound parts
 pub record Headline (reads : List ℕ → Option (List ℕ)) (base : Queue) (since : ℕ) (J : Journal) (v : View) : Type 0
   where
@@ -92,4 +104,6 @@ pub record Headline (reads : List ℕ → Option (List ℕ)) (base : Queue) (sin
     pub alike : AreAlwaysAlike reads base J since v
     pub texts : AreTextsLeft base since J v
     pub told : AreToldKept J since v
+    pub levels : AreLevelsLow reads since J v
+    pub few : length J.batches ≤ journal_most
     pub paper : IsSound base → ∥ PaperKept base since J.batches v ∥₁

@@ -1,5 +1,5 @@
 -- What the batches of a journal say of a moment, batch by batch.
-use Rattle.std.specs.Prelude.{◌≡◌, ℕ, ◌^◌, ◌≤◌, ◌==◌, ◌&&◌, if◌then◌else◌, Bool, true, false, List, [], ◌∷◌, ◌++◌, Option, Some, None}
+use Rattle.std.specs.Prelude.{◌≡◌, ℕ, ◌+◌, ◌^◌, ◌≤◌, ◌==◌, ◌&&◌, if◌then◌else◌, Bool, true, false, List, [], ◌∷◌, ◌++◌, Option, Some, None}
 use Rattle.std.specs.List.{list_any}
 use Rattle.mas_types.specs.declared.ids.MemberId.{MemberId}
 use Rattle.mas_types.specs.declared.journals.Batch.{Batch}
@@ -31,6 +31,11 @@ flying (b ∷ bs) t = flying_of b t ++ flying bs t
 abbrev pub kept_all : List Batch → List Entry
 kept_all [] = []
 kept_all (b ∷ bs) = (if is_kept b.fate then b.entries else []) ++ kept_all bs
+
+-- how many batches are kept
+abbrev pub batches_kept : List Batch → ℕ
+batches_kept [] = 0
+batches_kept (b ∷ bs) = (if is_kept b.fate then 1 else 0) + batches_kept bs
 
 -- a journal has at most so many batches
 abbrev pub journal_most : ℕ

@@ -64,11 +64,13 @@ abbrev pub count_at : List Batch → ℕ → View → ℕ → Counts
 count_at J since v t m = length ((v.world t).paper m.0) - length ((v.world (turned m J t since)).paper m.0)
 
 -- A line more stands on the member's printer at the next moment. A whole one is the line after those that the member
--- has printed of the output that is busy at it after the kept entries.
+-- has printed of the output that is busy at it after the kept entries. A torn one stands only there where an act of the
+-- member was halted: its count of stops isn't 0.
 pub record IsPrintedAt (base : Queue) (J : List Batch) (since : ℕ) (v : View) (t : ℕ) (m : MemberId) : Type 0 where
   pub line : Line
   pub more : (v.world (t + 1)).paper m.0 ≡ (v.world t).paper m.0 ++ line ∷ []
   pub next : line.whole ≡ true → IsNextLine (run base (kept J t)) m (count_at J since v t m) line.text
+  pub torn : line.whole ≡ false → 0 < v.stops m.0
 
 -- between two moments a member's printer keeps its lines, or has one more: the next one, or a torn one
 abbrev pub LineAt : Queue → List Batch → ℕ → View → ℕ → MemberId → Type 0

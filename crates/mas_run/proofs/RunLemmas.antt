@@ -1,5 +1,5 @@
 -- A run, from what its step leaves.
-use Rattle.std.proofs.Common.{◌≡◌, ◌≢◌, ◌⊎◌, inl, inr, ⊎_elim, ℕ, zero, suc, ◌+◌, ◌<◌, ◌≤◌, nat_lt, Bool, true, false, List, [], ◌∷◌, ◌++◌, length, map, take, drop, None, Result, Ok, Err, refl, sym, ◌∙◌, ap, subst, arith, replicate, All}
+use Rattle.std.proofs.Common.{◌≡◌, ◌≢◌, ◌⊎◌, inl, inr, ⊎_elim, ℕ, zero, suc, ◌+◌, ◌<◌, ◌≤◌, nat_lt, Bool, true, false, List, [], ◌∷◌, ◌++◌, length, map, take, drop, Some, None, Result, Ok, Err, refl, sym, ◌∙◌, ap, subst, arith, le_refl, replicate, All}
 use Rattle.std.proofs.Math.Logic.{∥∥₁_map, ∥∥₁_elim, ∥∥₁_prop}
 use Rattle.std.specs.Coded.{Coded, Coded-set, coded_ℕ, code_by, ×_prop, le_prop}
 use Rattle.std.proofs.lemmas.Bool.Decides.{nat_tests}
@@ -56,7 +56,7 @@ use Rattle.script_lang.specs.declared.types.Step.{Step}
 use Rattle.mas_run.specs.Turns.{Sight, Turn, turns_from, turns_of}
 use Rattle.mas_run.specs.Steps.{ArePassed, LeavesVolumes, lines_in, loses_after, next_in, outcomes_of}
 use Rattle.mas_run.specs.Plays.{Ends, IfNotLost, ArePlayed, HasPlay}
-use Rattle.mas_run.specs.Runs.{has_begun, IsRun, Adds, HasLost, IsSettled, IsStopped, IsUnclosed, IsUncut, IsRestart, IsReset, HavePassed, IsSafe, IsPlay, HasSteps}
+use Rattle.mas_run.specs.Runs.{has_begun, IsRun, Adds, HasLost, IsSettled, IsStopped, IsUnclosed, IsUncut, IsRestart, IsReset, HavePassed, IsSafe, IsPlay, HasSteps, ReadsThere}
 use Rattle.mas_run.specs.Volumes.{AreVolumesKept, AreVolumesKeptUntil}
 use Rattle.mas_run.proofs.PlayLemmas.{shapes_of}
 use Rattle.mas_run.proofs.PaperLemmas.{papers_at, papers_past, papers_then}
@@ -194,6 +194,12 @@ module _ {T : Type 0} (told : Type 0) (asked : List Turn) (from : Queue) (per : 
     there = λ ne. left_now old new a a' b b' there1 there2 p.course (not_lost answer (SomeAlive a' b' ⊎ HasLost old new) ne p.left);
   }
 
+-- a copy that was there at a moment, with these pages, was so then whatever came later
+pub reads_there : (dev : Dev) (pages : List ℕ) (old new : View) → Goes old new → (disk_now old dev).lost ≡ false → form_reads (disk_now old dev).bytes ≡ Some pages → ReadsThere dev pages old.now new
+reads_there dev pages old new goes there reads =
+    let same : disk_at new old.now dev ≡ disk_now old dev = ap (λ (w : World). w.disk dev) (goes.past old.now (le_refl old.now)) in
+    (ap (λ (d : Disk). d.lost) same ∙ there, ap (λ (d : Disk). form_reads d.bytes) same ∙ reads)
+
 -- what holds at each moment
 safe_of : (told : Type 0) (base : Queue) (journal : Journal) (since : ℕ) (new : View) → IsSound base → (told → ∥ Headline form_reads base since journal new ∥₁) → IsSafe told base journal since new
 safe_of told base journal since new sound head = record {
@@ -202,6 +208,8 @@ safe_of told base journal since new sound head = record {
   texts = λ t. ∥∥₁_map (head t) (λ h. h.texts);
   told = λ t. told_of base since journal new (head t);
   paper = λ t. ∥∥₁_elim (head t) ∥∥₁_prop (λ h. h.paper sound);
+  levels = λ t. ∥∥₁_map (head t) (λ h. h.levels);
+  few = λ t. ∥∥₁_elim (head t) le_prop (λ h. h.few);
 }
 
 -- what was played, from what its steps leave

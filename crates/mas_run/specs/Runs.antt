@@ -1,5 +1,5 @@
 -- What a run did.
-use Rattle.std.specs.Prelude.{◌≡◌, ◌≢◌, ◌⊎◌, ℕ, ◌+◌, ◌≤◌, ◌<◌, nat_lt, Bool, true, false, List, [], ◌∷◌, ◌++◌, drop, length, take, map, All}
+use Rattle.std.specs.Prelude.{◌≡◌, ◌≢◌, ◌⊎◌, ℕ, ◌+◌, ◌≤◌, ◌<◌, nat_lt, Bool, true, false, List, [], ◌∷◌, ◌++◌, drop, length, take, map, Some, All}
 use Rattle.mas_types.specs.declared.ids.Dev.{Dev}
 use Rattle.mas_types.specs.declared.ids.Dev.TheVariants.{Ckpt1, Ckpt2, Spool}
 use Rattle.mas_types.specs.declared.journals.Batch.{Batch}
@@ -26,7 +26,7 @@ use Rattle.ckpt_pages.specs.Starts.{empty_tables}
 use Rattle.mas_types.specs.declared.ids.Page.{Page}
 use Rattle.mas_types.specs.Ids.{nobody}
 use Rattle.mas_types.specs.Sound.{IsSound}
-use Rattle.mas_complex.specs.Journals.{kept_all}
+use Rattle.mas_complex.specs.Journals.{journal_most, kept_all}
 use Rattle.mas_complex.specs.Meaning.{run}
 use Rattle.mas_complex.specs.Texts.{HasTexts, lost_now, spools_at}
 use Rattle.queue_tables.specs.Telling.{Tell}
@@ -39,7 +39,7 @@ use Rattle.member_node.specs.Calls.{console_now}
 use Rattle.member_steps.specs.Saying.{torn}
 use Rattle.member_decks.specs.Batches.{AreAll, AreCut, AreSome, OneFlies}
 use Rattle.mas_complex.specs.Paper.{PaperKept}
-use Rattle.mas_complex.specs.Headline.{whole, IsCrashSafe, AreAlwaysAlike, AreTextsLeft, LeavesQueue, AreToldKept}
+use Rattle.mas_complex.specs.Headline.{whole, IsCrashSafe, AreAlwaysAlike, AreLevelsLow, AreTextsLeft, LeavesQueue, AreToldKept}
 use Rattle.script_input.specs.Played.{sysa}
 use Rattle.mas_run.specs.Turns.{Sight, Turn, turns_of}
 use Rattle.mas_run.specs.Steps.{AreOutcomes, ArePassed, BeginsWork, LeavesVolumes, Outcome, batches_in, lines_in, loses_after, next_in, outcomes_of}
@@ -153,6 +153,13 @@ pub record IsHeldUntil (since : ℕ) (found : List ℕ) (old new : View) : Type 
   pub first : Throughout old.now since (λ t. IsHeld form_reads (disk_now old Ckpt1) found (disk_at new t Ckpt1))
   pub second : Throughout old.now since (λ t. IsHeld form_reads (disk_now old Ckpt2) found (disk_at new t Ckpt2))
 
+-- at a moment a copy isn't lost, and its bytes read as these pages
+abbrev pub ReadsThere : Dev → List ℕ → ℕ → View → Type 0
+ReadsThere dev found at v = ((disk_at v at dev).lost ≡ false) × (form_reads (disk_at v at dev).bytes ≡ Some found)
+
+abbrev pub OneReadsThere : List ℕ → ℕ → View → Type 0
+OneReadsThere found at v = ReadsThere Ckpt1 found at v ⊎ ReadsThere Ckpt2 found at v
+
 -- the first moment of a run, and how often a call had lost each device then
 abbrev pub begins_at : ℕ → (Dev → ℕ) → Mark
 begins_at since first = record { at = since; loses = first }
@@ -161,7 +168,8 @@ begins_at since first = record { at = since; loses = first }
 -- run's first moment, all of them synced, except those with a group on a volume that is lost. Where no volume is lost
 -- in the run, each text is what the volumes gave at the entry: one with a group on a lost volume is gone, and names the
 -- first such group. A copy had been lost by a call before the steps only where it may not stay beside these pages, and
--- not both had. Up to the first moment a crash leaves of a copy what was there, or these pages.
+-- not both had. Up to the first moment a crash leaves of a copy what was there, or these pages. At the
+-- first moment a copy is there with them.
 pub record IsFoundQueue (tells : Type 0) (old new : View) (since : ℕ) (first : Dev → ℕ) (base : Queue) : Type 0 where
   pub pages : List Page
   pub tables : Tables
@@ -177,6 +185,7 @@ pub record IsFoundQueue (tells : Type 0) (old new : View) (since : ℕ) (first :
   pub kept2 : tells → (first Ckpt2 ≡ old.loses Ckpt2)
       ⊎ IsUnfit form_reads Ckpt2 old new (begins_at since first) (form_room (disk_now old Ckpt2).bytes) pages
   pub held : tells → IsHeldUntil since (bytes_of pages) old new
+  pub there : tells → OneReadsThere (bytes_of pages) since new
 
 -- a cold run begins with the empty queue of the script's configuration and routes, a warm one with the queue found
 abbrev pub HasBase : Bool → Type 0 → Script → View → View → ℕ → (Dev → ℕ) → Queue → Type 0
@@ -184,15 +193,17 @@ HasBase true tells script old new since first base = base ≡ empty_queue script
 HasBase false tells script old new since first base = IsFoundQueue tells old new since first base
 
 -- At a cold run's first moment whatever a crash leaves of a copy reads as pages of level 1, which spell the empty
--- tables of its configuration and routes, so that their next order is 0. At the greatest moment, at which the world
--- stays while acts fail, no more is said.
+-- tables of its configuration and routes, so that their next order is 0, and a copy is there with them. At the greatest
+-- moment, at which the world stays while acts fail, no more is said.
 pub record IsFormatted (config : Config) (routes : List Route) (since : ℕ) (v : View) : Type 0 where
   pub pages : List Page
+  pub sized : HaveSize pages
   pub spell : IsCheckpoint pages (empty_tables config routes)
   pub at_level : level (bytes_of pages) ≡ 1
   pub next_order : (empty_tables config routes).order ≡ 0
   pub first : since < top → AllRead form_reads (bytes_of pages) (disk_at v since Ckpt1)
   pub second : since < top → AllRead form_reads (bytes_of pages) (disk_at v since Ckpt2)
+  pub there : OneReadsThere (bytes_of pages) since v
 
 -- how often a call lost a device before the steps: a warm start may lose a copy once, and no volume
 abbrev pub LosesFirst : Bool → Dev → ℕ → ℕ → Type 0
@@ -242,13 +253,16 @@ pub record HavePassed (tells : Type 0) (asked : List Turn) (answer : Status) (fr
 -- What holds at each moment from a run's first on: a crash leaves the queue after what was kept, both copies read the
 -- same pages or those on either side of the batch in flight, each text is left, and what is told is kept; the lines
 -- that each kept Mark answered stand on paper, and each line that a printer has more is the next one of the output that
--- is busy at its member.
+-- is busy at its member, and whole unless an act of the member was halted. The levels on the copies rise by one for
+-- each batch that is kept, of which there are at most 2^40.
 pub record IsSafe (tells : Type 0) (base : Queue) (journal : Journal) (since : ℕ) (new : View) : Type 0 where
   pub crash : tells → ∥ IsCrashSafe form_reads base journal since new ∥₁
   pub alike : tells → ∥ AreAlwaysAlike form_reads base journal since new ∥₁
   pub texts : tells → ∥ AreTextsLeft base since journal new ∥₁
   pub told : tells → AreToldKept journal since new
   pub paper : tells → ∥ PaperKept base since journal.batches new ∥₁
+  pub levels : tells → ∥ AreLevelsLow form_reads since journal new ∥₁
+  pub few : tells → length journal.batches ≤ journal_most
 
 -- What was played, by a run on a base, whose journal had these batches then, on a plant that showed `old` before and
 -- `new` after it.

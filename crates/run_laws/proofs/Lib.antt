@@ -1,5 +1,7 @@
 mod Copies
 mod Rows
+mod Levels
 mod Beginning
 mod Found
 mod Early
+mod Unstopped

@@ -1,12 +1,15 @@
 -- What may keep a next run from beginning.
-use Rattle.std.specs.Prelude.{◌≡◌, ◌⊎◌, ℕ, ◌≤◌, ◌<◌, ◌^◌, false, List, Some}
+use Rattle.std.specs.Prelude.{◌≡◌, ◌⊎◌, ℕ, ◌≤◌, ◌<◌, ◌^◌, Bool, true, false, List, Some}
 use Rattle.mas_types.specs.declared.answers.Status.{Status}
 use Rattle.mas_types.specs.declared.answers.Status.TheVariants as status
+use Rattle.mas_types.specs.declared.ids.Dev.{Dev}
 use Rattle.mas_types.specs.declared.ids.Dev.TheVariants.{Ckpt1, Ckpt2}
 use Rattle.mas_types.specs.declared.ids.Page.{Page}
 use Rattle.mas_types.specs.declared.queues.Config.{Config}
 use Rattle.mas_types.specs.declared.queues.Queue.{Queue}
-use Rattle.spool_disk.specs.Acts.{Goes}
+use Rattle.script_lang.specs.declared.types.Script.{Script}
+use Rattle.spool_disk.specs.declared.plant.Part.TheVariants.{Disk as DiskPart}
+use Rattle.spool_disk.specs.Acts.{Goes, top}
 use Rattle.spool_disk.specs.View.{View, disk_now}
 use Rattle.ckpt_form.specs.Form.{form_reads, form_needs}
 use Rattle.ckpt_copy.specs.Pages.{bytes_of, level}
@@ -16,26 +19,38 @@ use Rattle.ckpt_pages.specs.Shape.{page_count}
 use Rattle.spool_volumes.specs.Volumes.{AreRoomy}
 use Rattle.warm_start.specs.Starting.{NoneOrFailed, OnlyLookedAtAll, WasTaken}
 use Rattle.warm_start.specs.Usable.{HaveSize}
-use Rattle.mas_run.specs.Runs.{has_begun, Begins}
+use Rattle.mas_run.specs.Runs.{has_begun, Begins, HasBase}
 use Rattle.mas_run.specs.Statuses.{IsCaused}
 use Rattle.mas_run.specs.Unstarted.{IsNotStarted}
 
 -- WHAT IS LEFT
 
--- levels and orders are left on these pages, which spell these tables
-pub record IsLow (pages : List Page) (t : Tables) : Type 0 where
-  pub low_level : level (bytes_of pages) < 2 ^ 62
+-- the level with which a run begins: 1 of a cold one, and that of the pages found of a warm one
+abbrev pub level_first : (cold : Bool) (tells : Type 0) (script : Script) (old new : View) (since : ℕ) (first : Dev → ℕ)
+    (base : Queue) → HasBase cold tells script old new since first base → ℕ
+level_first true tells script old new since first base begins = 1
+level_first false tells script old new since first base begins = level (bytes_of begins.pages)
+
+-- a run that begins with such a level, or at the greatest moment: else the levels that it leaves are known to be low
+abbrev pub IsUnbounded : ℕ → ℕ → Type 0
+IsUnbounded l since = (2 ^ 61 ≤ l) ⊎ (top ≤ since)
+
+-- levels and orders are left on these pages, which spell these tables: levels, where the run is such a one
+pub record IsLow (l since : ℕ) (pages : List Page) (t : Tables) : Type 0 where
+  pub low_level : IsUnbounded l since → level (bytes_of pages) < 2 ^ 62
   pub low_order : t.order < 2 ^ 62
 
 -- levels and orders are left on pages that are these bytes, one after another
-abbrev pub AreLow : List ℕ → Type 0
-AreLow bytes = (pages : List Page) (t : Tables) → HaveSize pages → bytes_of pages ≡ bytes → IsCheckpoint pages t
-    → IsLow pages t
+abbrev pub AreLow : ℕ → ℕ → List ℕ → Type 0
+AreLow l since bytes = (pages : List Page) (t : Tables) → HaveSize pages → bytes_of pages ≡ bytes
+    → IsCheckpoint pages t → IsLow l since pages t
 
--- levels and orders are left on the pages that each copy reads as
-pub record BothLow (v : View) : Type 0 where
-  pub first : (bytes : List ℕ) → form_reads (disk_now v Ckpt1).bytes ≡ Some bytes → AreLow bytes
-  pub second : (bytes : List ℕ) → form_reads (disk_now v Ckpt2).bytes ≡ Some bytes → AreLow bytes
+-- levels and orders are left on the pages that each copy reads as that isn't lost
+pub record BothLow (l since : ℕ) (v : View) : Type 0 where
+  pub first : v.lost (DiskPart Ckpt1) ≡ false → (bytes : List ℕ) → form_reads (disk_now v Ckpt1).bytes ≡ Some bytes
+      → AreLow l since bytes
+  pub second : v.lost (DiskPart Ckpt2) ≡ false → (bytes : List ℕ) → form_reads (disk_now v Ckpt2).bytes ≡ Some bytes
+      → AreLow l since bytes
 
 -- the devices are as large as a configuration asks
 pub record AreLarge (config : Config) (v : View) : Type 0 where

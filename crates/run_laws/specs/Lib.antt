@@ -3,3 +3,4 @@ pub mod Again
 pub mod Beginning
 pub mod Joins
 pub mod Early
+pub mod Unstopped

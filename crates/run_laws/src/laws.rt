@@ -2,6 +2,7 @@
 ghost use Rattle.run_laws.specs.Left.{CrashesLeave};
 ghost use Rattle.run_laws.specs.Joins.{FindsWhatIsLeft};
 ghost use Rattle.run_laws.specs.Early.{FindsWhatWasThere};
+ghost use Rattle.run_laws.specs.Unstopped.{PlaysOn};
 
 use ckpt_pages::law_of_checkpoints;
 use queue_laws::laws::law_of_runs;
@@ -34,4 +35,13 @@ pub fn law_of_early_crashes<N: Plant>(next: &N)
     ensures { FindsWhatWasThere N.tells }
 {
     let _next = next;
+}
+
+/// Where the member's count of stops is 0 at the end of a run, no clause of the run speaks of a stop: a run that ends
+/// with Done closed all its steps, nothing is in flight unless both copies were lost, and each line of the console is
+/// whole. Stops are counted where an act was halted, and no line of a script arms one.
+pub fn law_of_unstopped_runs<P: Plant>(plant: &P)
+    ensures { PlaysOn P.tells }
+{
+    let _plant = plant;
 }

@@ -25,10 +25,11 @@ use Rattle.warm_start.proofs.Prepared.{given_before}
 use Rattle.warm_start.proofs.Spooling.{steady_first}
 use Rattle.script_input.specs.Played.{sysa}
 use Rattle.member_node.specs.Calls.{console_now}
+use Rattle.member_node.proofs.CourseLemmas.{left}
 use Rattle.mas_run.specs.Turns.{Sight, turns_of}
 use Rattle.mas_run.proofs.LockLemmas.{begins_open}
 use Rattle.mas_run.specs.Runs.{HasSteps}
-use Rattle.mas_run.proofs.RunLemmas.{steps_since}
+use Rattle.mas_run.proofs.RunLemmas.{reads_there, steps_since}
 use Rattle.mas_run.proofs.WarmLemmas.{texts_later, found_drawn, found_begun, not_source, not_text, play_not_text, play_not_source, play_begins, not_begun, why_not_lost, not_started, start_caused, starts_first, start_causes, held_until, held_whole, no}
 use Rattle.mas_run.proofs.ScriptLemmas.{roomy_later}
 use Rattle.mas_run.proofs.PaperLemmas.{papers_of}
@@ -262,6 +263,9 @@ returns-clause-run g c begun =
         one = s.one;
         kept1 = λ t. rw since (⊎_elim inl (λ y. inr (unfit_later form_reads Ckpt1 v0 v1 v2 (mark_of v1) (mark_of v1) (form_room (disk_now v0 Ckpt1).bytes) w.pages (gone_later Ckpt1 v0 v1 v2 (mark_of v1) (omega arith) goes) y)) (s.kept1 t));
         held = λ t. rw since (held_until v0 v1 v2 (bytes_of w.pages) goes (s.held t));
+        there = λ t. rw since (left x.pair.first.alive x.pair.second.alive s.some
+            (λ is. reads_there Ckpt1 (bytes_of w.pages) v1 v2 goes (g.met.P.Plant.there x.plant t Ckpt1 (s.starts.there1 is)) (s.reads1 t is))
+            (λ is. reads_there Ckpt2 (bytes_of w.pages) v1 v2 goes (g.met.P.Plant.there x.plant t Ckpt2 (s.starts.there2 is)) (s.reads2 t is)));
         kept2 = λ t. rw since (⊎_elim inl (λ y. inr (unfit_later form_reads Ckpt2 v0 v1 v2 (mark_of v1) (mark_of v1) (form_room (disk_now v0 Ckpt2).bytes) w.pages (gone_later Ckpt2 v0 v1 v2 (mark_of v1) (omega arith) goes) y)) (s.kept2 t));
       };
       sound = subst IsSound (sym base0) s.base_sound;

@@ -17,6 +17,7 @@ use Rattle.mas_complex.specs.Meaning.{StandFor, run}
 use Rattle.member_node.specs.Calls.{IsOnlyOn, console_now}
 use Rattle.queue_tables.specs.Telling.{Tell}
 use Rattle.mas_complex.specs.Texts.{lost_now, spools_at}
+use Rattle.member_node.proofs.CourseLemmas.{left}
 use Rattle.member_node.proofs.DrawnLemmas.{drawn_stand, drawn_level}
 use Rattle.member_steps.specs.Steps.{AreAllKept}
 use Rattle.member_steps.proofs.ReadLemmas.{low_written, told_sound}
@@ -29,7 +30,7 @@ use Rattle.script_input.specs.Played.{sysa}
 use Rattle.mas_run.specs.Turns.{Sight, turns_from, turns_of}
 use Rattle.mas_run.proofs.LockLemmas.{begins_open}
 use Rattle.mas_types.specs.Limits.{members_most}
-use Rattle.mas_run.proofs.RunLemmas.{begun_empty, caused_unformed, cold_steps, steps_since, none_kept, caused_since, formed_copy, formed_images, empty_texts, low_empty, orders_empty, sound_base, sound_empty, told_empty}
+use Rattle.mas_run.proofs.RunLemmas.{begun_empty, caused_unformed, cold_steps, steps_since, none_kept, caused_since, formed_copy, formed_images, empty_texts, low_empty, orders_empty, reads_there, sound_base, sound_empty, told_empty}
 use Rattle.mas_run.proofs.ScriptLemmas.{roomy_later}
 use Rattle.mas_run.proofs.VolumeLemmas.{kept_on}
 use Rattle.mas_run.proofs.WarmLemmas.{no, play_begins, play_not_text}
@@ -244,6 +245,7 @@ returns-clause-run g c begun =
       fresh = λ t. rw (base, since) (∥∥₁_map (m.fresh t) (λ k. k w goes));
       formatted = λ cold t. rw since (record {
         pages = k.pages;
+        sized = i.drawn.sized;
         spell = subst (λ (u : Tables). IsCheckpoint k.pages u) i.tables (record { level = k.level; levels = k.levels; fit = i.drawn.spelling; ages = i.drawn.leveled; spell = i.drawn.spelled });
         at_level = drawn_level k.tables k.level k.levels k.pages i.drawn ∙ i.level;
         next_order = refl;
@@ -251,6 +253,9 @@ returns-clause-run g c begun =
             (λ d. form_rests_reads n.first.copy (bytes_of k.pages) d) (λ is. rw c.as_slice.ensures at (f.formed1 t is)) (λ not lt. f.gone1 t c.new-pair.ensures.alive.0 not lt);
         second = formed_images Ckpt2 (form_rests n.second.copy) (bytes_of k.pages) n.second.alive v1 w goes
             (λ d. form_rests_reads n.second.copy (bytes_of k.pages) d) (λ is. rw c.as_slice.ensures at (f.formed2 t is)) (λ not lt. f.gone2 t c.new-pair.ensures.alive.1 not lt);
+        there = left n.first.alive n.second.alive f.ok
+            (λ is. reads_there Ckpt1 (bytes_of k.pages) v1 w goes (g.met.P.Plant.there c.form.new.plant t Ckpt1 (f.there1 is)) (form_rests_now n.first.copy (bytes_of k.pages) (disk_now v1 Ckpt1) (rw c.as_slice.ensures at (f.formed1 t is))))
+            (λ is. reads_there Ckpt2 (bytes_of k.pages) v1 w goes (g.met.P.Plant.there c.form.new.plant t Ckpt2 (f.there2 is)) (form_rests_now n.second.copy (bytes_of k.pages) (disk_now v1 Ckpt2) (rw c.as_slice.ensures at (f.formed2 t is))));
       });
       quiet = λ t. ap (λ (n : ℕ). (w.world n).console) since ∙ ap (λ (u : World). u.console) (goes.past v1.now (omega arith)) ∙ quiet t;
       dry = λ t. rw since (subst (λ (u : World). SameSides (v0.world v0.now) u) (sym (goes.past v1.now (omega arith))) ((f.during t).sides v1.now f.acted.goes.later (omega arith)));

@@ -3,6 +3,7 @@ use Rattle.std.proofs.Math.Logic.{∥∥₁_map, ∥∥₁_elim, ∥∥₁_prop}
 use Rattle.mas_types.specs.declared.journals.Batch.{Batch}
 use Rattle.mas_complex.specs.Crash.{copy_of}
 use Rattle.mas_complex.specs.Headline.{Headline}
+use Rattle.mas_complex.proofs.BatchEnds.{few_at_end}
 use Rattle.mas_complex.proofs.Ending.{ended_headline}
 use Rattle.mas_complex.specs.Replies.{AreReplied}
 use Rattle.mas_complex.proofs.Replied.{ended_replied}
@@ -20,7 +21,7 @@ returns-clause-headline g c told =
     subst (λ (l : List Batch). Headline C.reads s.base s.since (record { batches = l }) v) (sym c.finished-journal.ensures)
     (ended_headline C.reads s.base s.since s.level first second v c.moment_of-last.ensures.most s.first_lost s.second_lost
     (λ pages d r. g.met.C.Copying.rests_reads s.pair.first.copy pages d r) (λ was next d r. g.met.C.Copying.holds_reads s.pair.first.copy was next d r) (λ pages d r. g.met.C.Copying.rests_reads s.pair.second.copy pages d r) (λ was next d r. g.met.C.Copying.holds_reads s.pair.second.copy was next d r)
-    s.placed s.current s.journal.batches s.place_current has k
+    s.placed s.current s.journal.batches s.place_current has k (few_at_end s.placed s.current s.journal.batches s.few)
     (λ sound. ∥∥₁_map (s.paper told sound) (λ on. ended_paper s.base s.since s.placed s.journal.batches s.current s.printed s.book v s.place_current has sound on)))))
 
 pub returns-clause-replied : goal.returns-clause-replied

@@ -20,7 +20,7 @@ invariant_of-self-clause-paper g c told sound =
     let content = c.print-done.ensures.content told in
     ∥∥₁_elim (s.kept told) ∥∥₁_prop (λ k. ∥∥₁_map₂ (s.paper told sound) (c.requires.next told sound) (λ on may. rw (c.count_line.ensures.counted, c.stop_halted.ensures.book)
     (prints_on_paper s.base s.since s.journal.batches s.current s.printed s.book old new k.started k.settled k.begun acts.goes sound on c.args.by (somebody_is c.args.by c.requires.member.0)
-    (omega (arith, c.count_line.ensures.whole, c.requires.few)) c.requires.up c.requires.other c.args.line.now may c.print-done.result acts.time acts.last content (stopped_up s.book c.args.by c.requires.member))))
+    (omega (arith, c.count_line.ensures.whole, c.requires.few)) c.requires.up c.requires.other c.args.line.now may c.print-done.result acts.time acts.last acts.halted content (stopped_up s.book c.args.by c.requires.member))))
 
 pub invariant_of-self-clause-kept : goal.invariant_of-self-clause-kept
 invariant_of-self-clause-kept g c told =

@@ -1,0 +1,161 @@
+-- How the levels on the copies rise.
+use Rattle.std.proofs.Common.{◌≡◌, ◌⊎◌, inl, inr, ⊎_elim, ℕ, suc, ◌+◌, ◌≤◌, ◌<◌, Bool, true, false, List, [], ◌∷◌, ◌++◌, length, if◌then◌else◌, Option, Some, None, subst, sym, ◌∙◌, ap, arith}
+use Rattle.mas_types.specs.declared.ids.Dev.TheVariants.{Ckpt1, Ckpt2}
+use Rattle.mas_types.specs.declared.journals.Batch.{Batch}
+use Rattle.mas_types.specs.declared.journals.Entry.{Entry}
+use Rattle.mas_types.specs.declared.journals.Fate.TheVariants.{Kept}
+use Rattle.mas_types.specs.Journal.{is_kept}
+use Rattle.spool_disk.specs.View.{View, World, Disk, disk_at}
+use Rattle.spool_disk.specs.Acts.{Goes, top}
+use Rattle.ckpt_copy.specs.Moments.{either_way}
+use Rattle.ckpt_copy.specs.Pages.{level}
+use Rattle.mas_complex.specs.Journals.{batches_kept, IsPlace}
+use Rattle.mas_complex.specs.Crash.{Setting, Stands, IsNext, IsOneOf, ReadsOne, ReadsAtLevel, ReadsUpTo, Rises}
+
+-- HOW MANY BATCHES ARE KEPT
+
+plus_assoc : (a b c : ℕ) → a + (b + c) ≡ (a + b) + c
+plus_assoc a b c = omega arith
+
+pub kept_append : (js ks : List Batch) → batches_kept (js ++ ks) ≡ batches_kept js + batches_kept ks
+kept_append [] ks = zero_plus (batches_kept ks)
+  where
+    zero_plus : (n : ℕ) → n ≡ 0 + n
+    zero_plus n = omega arith
+kept_append (b ∷ js) ks =
+    ap (λ (n : ℕ). (if is_kept b.fate then 1 else 0) + n) (kept_append js ks)
+    ∙ plus_assoc (if is_kept b.fate then 1 else 0) (batches_kept js) (batches_kept ks)
+
+-- a place isn't kept
+pub kept_place : (b : Batch) → IsPlace b → (js : List Batch) → batches_kept (js ++ b ∷ []) ≡ batches_kept js
+kept_place b place js =
+    kept_append js (b ∷ []) ∙ ap (λ f. batches_kept js + ((if is_kept f then 1 else 0) + 0)) place.dropped ∙ plus_zero (batches_kept js)
+  where
+    plus_zero : (n : ℕ) → n + (0 + 0) ≡ n
+    plus_zero n = omega arith
+
+-- no more are kept than there are
+pub kept_fewer : (js : List Batch) → batches_kept js ≤ length js
+kept_fewer [] = omega arith
+kept_fewer (b ∷ js) = by_fate (is_kept b.fate) (kept_fewer js)
+  where
+    one : (m n : ℕ) → m ≤ n → 1 + m ≤ suc n
+    one m n le = omega (arith, le)
+
+    none : (m n : ℕ) → m ≤ n → 0 + m ≤ suc n
+    none m n le = omega (arith, le)
+
+    by_fate : (k : Bool) → batches_kept js ≤ length js → (if k then 1 else 0) + batches_kept js ≤ suc (length js)
+    by_fate true le = one (batches_kept js) (length js) le
+    by_fate false le = none (batches_kept js) (length js) le
+
+pub kept_one : (c : Batch) → c.fate ≡ Kept → batches_kept (c ∷ []) ≡ 1
+kept_one c fate = ap (λ f. (if is_kept f then 1 else 0) + 0) fate
+
+-- LEVELS
+
+-- the kept pages or those in flight have at most the next level
+level_of : (S : Setting) (reached : ℕ) (K F : List Entry) (was : List ℕ) (coming : Option (List ℕ)) (pages : List ℕ) → Stands S reached K was → IsNext S reached K F coming → IsOneOf was coming (Some pages) → level pages ≤ reached + 1
+level_of S reached K F was coming pages stands comes (inl e) = subst (λ (p : List ℕ). level p ≤ reached + 1) (sym e) (same_up (level was) stands.at_level)
+  where
+    same_up : (n : ℕ) → n ≡ reached → n ≤ reached + 1
+    same_up n is = omega (arith, is)
+level_of S reached K F was coming pages stands comes (inr e) = next_up (subst (λ (n : Option (List ℕ)). IsNext S reached K F n) e comes)
+  where
+    equal_up : (n : ℕ) → n ≡ reached + 1 → n ≤ reached + 1
+    equal_up n is = omega (arith, is)
+
+    next_up : Stands S (reached + 1) (K ++ F) pages → level pages ≤ reached + 1
+    next_up s = equal_up (level pages) s.at_level
+
+pub one_up : (S : Setting) (reached : ℕ) (K F : List Entry) (was : List ℕ) (coming : Option (List ℕ)) → Stands S reached K was → IsNext S reached K F coming → (disk : Disk) → ReadsOne S was coming disk → ReadsUpTo S.reads (reached + 1) disk
+one_up S reached K F was coming stands comes disk reads image is pages e =
+    level_of S reached K F was coming pages stands comes (subst (λ (q : Option (List ℕ)). IsOneOf was coming q) e (reads image is))
+
+-- with none in flight they have the level reached
+none_coming : (was pages : List ℕ) → IsOneOf was None (Some pages) → pages ≡ was
+none_coming was pages (inl e) = e
+none_coming was pages (inr e) = absurd (clash e)
+  where
+    clash : None ≡ Some pages → ⊥
+    clash e = cc
+
+at_kept : (S : Setting) (reached : ℕ) (K : List Entry) (was : List ℕ) → Stands S reached K was → (disk : Disk) → ReadsOne S was None disk → ReadsAtLevel S.reads reached disk
+at_kept S reached K was stands disk reads image is pages e =
+    ap level (none_coming was pages (subst (λ (q : Option (List ℕ)). IsOneOf was None q) e (reads image is))) ∙ stands.at_level
+
+-- a greater bound
+pub less_up : (reads : List ℕ → Option (List ℕ)) (a b : ℕ) → a ≤ b → (disk : Disk) → ReadsUpTo reads a disk → ReadsUpTo reads b disk
+less_up reads a b le disk up image is pages e = through (level pages) (up image is pages e)
+  where
+    through : (n : ℕ) → n ≤ a → n ≤ b
+    through n h = omega (arith, h, le)
+
+-- WHAT THE SHARED VALUE KEEPS
+
+module _ (S : Setting) where
+  -- acts
+  pub acts_rise : (js : List Batch) (reached : ℕ) (old new : View) → Goes old new → S.since ≤ old.now
+      → ((t : ℕ) → old.now < t → t ≤ new.now → t < top → ReadsUpTo S.reads (reached + 1) (disk_at new t Ckpt1) × ReadsUpTo S.reads (reached + 1) (disk_at new t Ckpt2))
+      → Rises S js reached old → Rises S js reached new
+  acts_rise js reached old new goes started later r = record {
+    first_level = r.first_level;
+    first1 = λ lt. subst (λ (w : World). ReadsAtLevel S.reads r.first_level (w.disk Ckpt1)) (sym (goes.past S.since started)) (r.first1 lt);
+    first2 = λ lt. subst (λ (w : World). ReadsAtLevel S.reads r.first_level (w.disk Ckpt2)) (sym (goes.past S.since started)) (r.first2 lt);
+    risen = r.risen;
+    most1 = λ t from le lt. ⊎_elim
+        (λ h. subst (λ (w : World). ReadsUpTo S.reads (reached + 1) (w.disk Ckpt1)) (sym (goes.past t h)) (r.most1 t from h lt))
+        (λ h. (later t h le lt).0)
+        (either_way t old.now);
+    most2 = λ t from le lt. ⊎_elim
+        (λ h. subst (λ (w : World). ReadsUpTo S.reads (reached + 1) (w.disk Ckpt2)) (sym (goes.past t h)) (r.most2 t from h lt))
+        (λ h. (later t h le lt).1)
+        (either_way t old.now);
+  }
+
+  -- a batch gets its fate, and the level has risen by one at most, where it is kept
+  pub fated_rise : (js : List Batch) (c : Batch) (reached reached' : ℕ) (v : View) → reached ≤ reached' → reached' ≤ reached + batches_kept (c ∷ [])
+      → Rises S js reached v → Rises S (js ++ c ∷ []) reached' v
+  fated_rise js c reached reached' v least most r = record {
+    first_level = r.first_level;
+    first1 = r.first1;
+    first2 = r.first2;
+    risen = through r.first_level (batches_kept js) (batches_kept (c ∷ [])) (batches_kept (js ++ c ∷ [])) r.risen most (kept_append js (c ∷ []));
+    most1 = λ t from le lt. less_up S.reads (reached + 1) (reached' + 1) (one_more least) (disk_at v t Ckpt1) (r.most1 t from le lt);
+    most2 = λ t from le lt. less_up S.reads (reached + 1) (reached' + 1) (one_more least) (disk_at v t Ckpt2) (r.most2 t from le lt);
+  } where
+    one_more : reached ≤ reached' → reached + 1 ≤ reached' + 1
+    one_more h = omega (arith, h)
+
+    through : (f a b n : ℕ) → reached ≤ f + a → reached' ≤ reached + b → n ≡ a + b → reached' ≤ f + n
+    through f a b n x y z = omega (arith, x, y, z)
+
+  -- another journal with as many kept batches
+  pub same_rise : (js ks : List Batch) (reached : ℕ) (v : View) → batches_kept ks ≡ batches_kept js → Rises S js reached v → Rises S ks reached v
+  same_rise js ks reached v same r = record {
+    first_level = r.first_level;
+    first1 = r.first1;
+    first2 = r.first2;
+    risen = subst (λ (n : ℕ). reached ≤ r.first_level + n) (sym same) r.risen;
+    most1 = r.most1;
+    most2 = r.most2;
+  }
+
+  -- at the first moment
+  pub make_rise : (reached : ℕ) (was : List ℕ) (v : View) → S.since ≡ v.now → Stands S reached [] was
+      → (v.now < top → ReadsOne S was None (disk_at v v.now Ckpt1) × ReadsOne S was None (disk_at v v.now Ckpt2)) → Rises S [] reached v
+  make_rise reached was v since stands reads = record {
+    first_level = reached;
+    first1 = λ lt. subst (λ (m : ℕ). ReadsAtLevel S.reads reached (disk_at v m Ckpt1)) (sym since) (at_kept S reached [] was stands (disk_at v v.now Ckpt1) (reads (now_low lt)).0);
+    first2 = λ lt. subst (λ (m : ℕ). ReadsAtLevel S.reads reached (disk_at v m Ckpt2)) (sym since) (at_kept S reached [] was stands (disk_at v v.now Ckpt2) (reads (now_low lt)).1);
+    risen = no_more reached;
+    most1 = λ t from le lt. let e : v.now ≡ t = omega (arith, since, from, le) in
+        subst (λ (m : ℕ). ReadsUpTo S.reads (reached + 1) (disk_at v m Ckpt1)) e (one_up S reached [] [] was None stands tt (disk_at v v.now Ckpt1) (reads (omega (arith, e, lt))).0);
+    most2 = λ t from le lt. let e : v.now ≡ t = omega (arith, since, from, le) in
+        subst (λ (m : ℕ). ReadsUpTo S.reads (reached + 1) (disk_at v m Ckpt2)) e (one_up S reached [] [] was None stands tt (disk_at v v.now Ckpt2) (reads (omega (arith, e, lt))).1);
+  } where
+    now_low : S.since < top → v.now < top
+    now_low lt = omega (arith, since, lt)
+
+    no_more : (n : ℕ) → n ≤ n + 0
+    no_more n = omega arith
