@@ -1,4 +1,4 @@
-// What a recovery makes of a batch whose member is stopped at an act.
+// What a takeover makes of a batch whose member is stopped at an act.
 ghost use Rattle.std.specs.Prelude.{◌≡◌, ◌≤◌, ◌<◌, length, true, None};
 ghost use Rattle.spool_disk.specs.Acts.{top};
 ghost use Rattle.mas_complex.specs.declared.places.Place.TheVariants.{Before as AtBefore};
@@ -10,12 +10,13 @@ use crate::writing::{formed, write};
 use ckpt_copy::Copying;
 use ckpt_form::CopyForm;
 use duplex_pair::pages_level;
-use mas_complex::{Complex, RecoverNo};
+use mas_complex::Complex;
 use mas_types::{Batch, Dev, MemberId, Page};
 use spool_disk::Plant;
 use std::alloc::Global;
 use std::process::Abort;
 use std::test::Fail;
+use warm_start::{TakeNo, takeover};
 
 // The number of acts that format both copies.
 const FORMED: u64 = 24;
@@ -49,32 +50,23 @@ fn lose_copy(complex: &mut Complex<Quiet, CopyForm>, lost: Option<Dev>)
     }
 }
 
-// The first member is stopped, and the second takes the lock over and recovers: the level of the pages found, none
-// where the second is stopped too.
-fn taken_over(
-    alloc: Global,
-    complex: &mut Complex<Quiet, CopyForm>,
-) -> Result<Option<u64>, RecoverNo>
+// The first member is stopped, and the second takes its lock over: the level of the pages found, none where the second
+// is stopped too.
+fn taken_over(alloc: Global, complex: &mut Complex<Quiet, CopyForm>) -> Result<Option<u64>, TakeNo>
     requires members { length complex.old.book.members ≡ 2 }
 {
     complex.stop(FIRST);
-    if complex.stopped(SECOND) {
+    if complex.stopped(SECOND) || !is_of_other(&complex.current, SECOND) {
         return Ok(None);
     }
-    let Ok(()) = complex.seize(SECOND, FIRST) else {
-        return Ok(None);
-    };
-    if !may_act(complex, SECOND) || !is_of_other(&complex.current, SECOND) {
-        return Ok(None);
-    }
-    match complex.recover(alloc, SECOND) {
+    match takeover(alloc, complex, SECOND, FIRST) {
         Ok(pages) => Ok(Some(pages_level(pages.as_slice()))),
-        Err(RecoverNo::Halted) => Ok(None),
+        Err(TakeNo::Halted) => Ok(None),
         Err(why) => Err(why),
     }
 }
 
-// The first member writes a batch as far as the plant lets it, a copy is lost, and the second member recovers: the
+// The first member writes a batch as far as the plant lets it, a copy is lost, and the second member takes over: the
 // level of the pages found, and the number of kept entries.
 fn recovered_on(
     alloc: Global,

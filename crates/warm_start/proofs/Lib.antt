@@ -10,3 +10,4 @@ mod Brought
 pub mod Prepared
 pub mod Spooling
 pub mod SoundTold
+pub mod Taking

@@ -5,3 +5,4 @@ pub mod Judging
 pub mod Starting
 pub mod Inspecting
 pub mod Spooled
+pub mod Takeover

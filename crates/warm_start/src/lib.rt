@@ -1,5 +1,6 @@
 //! A warm start: what the copies of the checkpoint hold is found, the copy that counts, the queue that it stands for,
-//! and what becomes of the other copy. Or these are only looked at.
+//! and what becomes of the other copy. Or these are only looked at. And a takeover in a run: a member takes the lock of
+//! a stopped one, and finds out what became of its batch.
 #![tactic(auto)]
 
 mod choosing;
@@ -9,6 +10,7 @@ mod queues;
 mod sound_pages;
 mod spooled;
 mod starting;
+mod takeovers;
 
 pub use choosing::{Good, Judged, Start, StartNo, choose, judge};
 pub use inspecting::{found, law_of_looks, looked};
@@ -16,3 +18,4 @@ pub use queues::{law_of_found_queues, queue_of};
 pub use sound_pages::usable;
 pub use spooled::spooled_queue;
 pub use starting::{Started, Unstarted, refuse_small, warm};
+pub use takeovers::{TakeNo, takeover};
