@@ -1,5 +1,5 @@
 -- What follows in a sitting by the next unit.
-use Rattle.std.proofs.Common.{◌≡◌, ◌∙◌, ℕ, zero, suc, ◌+◌, ◌-◌, ◌≤◌, Bool, true, false, List, [], ◌∷◌, Option, Some, None, ap, refl, sym, subst, arith}
+use Rattle.std.proofs.Common.{◌≡◌, ◌∙◌, ℕ, zero, suc, ◌+◌, ◌-◌, ◌≤◌, Bool, true, false, [], ◌∷◌, Option, Some, None, ap, refl, sym, arith}
 use Rattle.std.specs.Option.{option_map_or}
 use Rattle.mas_types.specs.declared.commands.Command.{Command}
 use Rattle.mas_types.specs.declared.commands.Command.TheVariants as command
@@ -21,9 +21,7 @@ use Rattle.member_work.specs.Units.{command_of}
 use Rattle.member_work.proofs.UnitStepLemmas.{each_command}
 use Rattle.step_turns.specs.Entries.{is_drop}
 use Rattle.step_turns.specs.declared.states.Holder.{Holder}
-use Rattle.step_turns.specs.declared.states.Progress.{Progress}
-use Rattle.step_turns.specs.Turns.{Turn, Units, next_unit, no_more, one_command, units_from}
-use Rattle.member_units.specs.declared.nexts.Next.{Next}
+use Rattle.step_turns.specs.Turns.{Turn, next_unit, no_more, one_command, units_from}
 use Rattle.member_units.specs.declared.nexts.Next.TheVariants as next
 use Rattle.member_units.specs.Nexts.{IsOfUnit, lines_of, text_of, turn_by}
 use Rattle.member_units.specs.Ready.{MayBeGiven}

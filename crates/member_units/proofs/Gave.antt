@@ -1,6 +1,6 @@
 -- What was given in a part of a unit, and what was kept, as whole values.
-use Rattle.std.proofs.Common.{◌≡◌, ◌∙◌, ℕ, Bool, true, false, not, List, [], ◌∷◌, ◌++◌, length, All, Result, Ok, Err, ap, append-nil, append_assoc, refl, sym, subst}
-use Rattle.std.specs.Prelude.{IfOk, OnOk}
+use Rattle.std.proofs.Common.{◌≡◌, ◌∙◌, ℕ, true, false, not, List, [], ◌∷◌, ◌++◌, All, Result, Ok, Err, ap, append_assoc, refl, sym, subst}
+use Rattle.std.specs.Prelude.{OnOk}
 use Rattle.std.proofs.lemmas.List.Elements.{All-head}
 use Rattle.mas_types.specs.declared.commands.Command.{Command}
 use Rattle.mas_types.specs.declared.commands.Reply.{Reply}
@@ -27,8 +27,8 @@ use Rattle.step_turns.specs.Batches.{batch_of}
 use Rattle.step_turns.specs.Entries.{closes, closing_reply, entry_of, given_in, is_drop, reply_to}
 use Rattle.step_turns.specs.declared.states.Holder.{Holder}
 use Rattle.step_turns.proofs.Given.{run_append}
-use Rattle.member_units.specs.Plays.{HasGiven, Keeps, SparesVolumes, given_by}
-use Rattle.member_units.specs.Works.{Outside, Works, outside, place_of, queue_here, queue_kept}
+use Rattle.member_units.specs.Plays.{HasGiven, Keeps, SparesVolumes}
+use Rattle.member_units.specs.Works.{Works, outside, place_of, queue_here, queue_kept}
 use Rattle.member_units.proofs.Cuts.{one_batch}
 use Rattle.member_units.proofs.Working.{AtWork, kept_here, none_flies}
 

@@ -2,23 +2,19 @@
 use Rattle.std.proofs.Common.{◌≡◌, ◌∙◌, ◌⊎◌, inl, inr, ⊎_elim, ℕ, zero, suc, ◌+◌, ◌≤◌, Bool, true, false, List, [], ◌∷◌, ◌++◌, length, map, take, All, append_assoc, append-nil, Result, Ok, Err, ap, refl, sym, subst, arith}
 use Rattle.std.proofs.lemmas.List.{length-append}
 use Rattle.std.proofs.lemmas.List.Elements.{All-append, All-cons, All-nil}
-use Rattle.std.specs.Prelude.{IfOk, OnOk}
-use Rattle.mas_types.specs.declared.answers.Closing.{Closing}
+use Rattle.std.specs.Prelude.{IfOk}
 use Rattle.mas_types.specs.declared.commands.Command.{Command}
 use Rattle.mas_types.specs.declared.ids.MemberId.{MemberId}
 use Rattle.mas_types.specs.declared.journals.Batch.{Batch}
 use Rattle.mas_types.specs.declared.journals.Entry.{Entry}
 use Rattle.mas_types.specs.declared.queues.Queue.{Queue}
-use Rattle.mas_types.specs.Closings.{closing_line}
 use Rattle.mas_types.specs.Run.{run}
-use Rattle.queue_laws.proofs.Finds.{test_cases}
 use Rattle.spool_disk.specs.declared.plant.Part.TheVariants.{Console}
 use Rattle.spool_disk.specs.Acts.{Goes}
 use Rattle.spool_disk.specs.View.{Line, View}
 use Rattle.mas_complex.specs.Headline.{whole}
 use Rattle.job_outcome.specs.declared.units.UnitEnd.{UnitEnd}
 use Rattle.job_outcome.specs.declared.units.UnitEnd.TheVariants as ends
-use Rattle.job_outcome.specs.Next.{end_by}
 use Rattle.member_node.specs.declared.member.NodeNo.{NodeNo}
 use Rattle.member_node.specs.declared.member.NodeNo.TheVariants.{BothLost, Halted, ConsoleFault, NoMemory}
 use Rattle.member_node.proofs.CourseLemmas.{course_then, only_none, only_on, papers_none, papers_on, rose_later}
@@ -31,11 +27,11 @@ use Rattle.member_decks.specs.Steps.{AreOf}
 use Rattle.member_steps.specs.Saying.{Breaks}
 use Rattle.member_steps.specs.Steps.{StepCauses, StepTells}
 use Rattle.member_decks.proofs.OutcomeLemmas.{left_then}
-use Rattle.member_work.specs.Steps.{IsClosing, IsKeeping, WorkLeaves}
-use Rattle.member_work.proofs.KeepingLemmas.{keeping_starts, never_console}
+use Rattle.member_work.specs.Steps.{WorkLeaves}
+use Rattle.member_work.proofs.KeepingLemmas.{keeping_starts}
 use Rattle.member_work.proofs.LeavesLemmas.{StartsAs, work_then}
 use Rattle.step_turns.specs.Batches.{batch_of, cut, cut_after}
-use Rattle.step_turns.specs.Entries.{all_entries, closing_reply, given_in}
+use Rattle.step_turns.specs.Entries.{all_entries, given_in}
 use Rattle.step_turns.specs.Sittings.{released}
 use Rattle.step_turns.specs.declared.states.Holder.{Holder}
 use Rattle.step_turns.specs.declared.states.State.{State}
@@ -43,10 +39,10 @@ use Rattle.step_turns.specs.declared.states.State.TheVariants.{Rested, Told}
 use Rattle.step_turns.specs.Turns.{Turn, after_part, goes_on, goes_on_by, leaves, says, units_from}
 use Rattle.step_turns.proofs.Given.{entries_append}
 use Rattle.member_sittings.specs.declared.ends.SittingEnd.{SittingEnd}
-use Rattle.member_units.specs.Plays.{Closes, EndsAs, HasGiven, Keeps, Plays, SparesVolumes, Wrote, after_full, full_of, given_by, rests, wrote_after, wrote_of}
+use Rattle.member_units.specs.Plays.{Closes, EndsAs, HasGiven, Keeps, Plays, SparesVolumes, Wrote, after_full, full_of, rests, wrote_after, wrote_of}
 use Rattle.member_units.specs.Works.{Outside, Place}
-use Rattle.member_units.proofs.Cuts.{batch_entries, cut_end, full_entries, full_first, of_after, of_batch, of_cut, of_full_batches, one_batch, starts_after, starts_cut, starts_full, starts_itself}
-use Rattle.member_units.proofs.Ours.{AreIts, after_its}
+use Rattle.member_units.proofs.Cuts.{batch_entries, cut_end, full_entries, full_first, of_after, of_batch, of_cut, of_full_batches, starts_after, starts_full}
+use Rattle.member_units.proofs.Ours.{after_its}
 
 -- BATCHES THAT ARE KEPT, AND THEN OTHERS OR LINES
 

@@ -11,3 +11,5 @@ pub mod Resting
 pub mod Firsts
 pub mod Taking
 pub mod Shown
+pub mod Printed
+pub mod Resumes

@@ -1,11 +1,10 @@
 -- What is still to come of a sitting of work has entries of the member's step alone.
-use Rattle.std.proofs.Common.{◌≡◌, ℕ, zero, suc, ◌+◌, Bool, true, false, List, [], ◌∷◌, ◌++◌, length, Option, None, Some, All, refl, ap, subst, arith}
+use Rattle.std.proofs.Common.{◌≡◌, ℕ, zero, suc, ◌+◌, Bool, true, false, List, [], ◌∷◌, ◌++◌, length, Option, None, Some, All}
 use Rattle.std.proofs.lemmas.List.Elements.{All-cons, All-nil}
 use Rattle.std.specs.Option.{option_map_or}
 use Rattle.mas_types.specs.declared.commands.Command.{Command}
 use Rattle.mas_types.specs.declared.commands.Command.TheVariants as command
 use Rattle.mas_types.specs.declared.ids.JobNo.{JobNo}
-use Rattle.mas_types.specs.declared.ids.OutNo.{OutNo}
 use Rattle.mas_types.specs.declared.answers.Closing.TheVariants as closing
 use Rattle.mas_types.specs.declared.jobs.Job.{Job}
 use Rattle.mas_types.specs.declared.jobs.Output.{Output}
@@ -30,7 +29,7 @@ use Rattle.step_turns.specs.Entries.{closing_reply, given_in}
 use Rattle.step_turns.specs.JobEnds.{drop_groups, ending, groups_for_end, taking}
 use Rattle.step_turns.specs.declared.states.Holder.{Holder}
 use Rattle.step_turns.specs.declared.states.Progress.{Progress}
-use Rattle.step_turns.specs.Turns.{Turn, Units, after_part, closes_as, goes_on, goes_on_by, groups_taken, is_spent, job_ends, last_part, lines_printed, next_unit, one_command, outputs_stand, prints_output, reads_job, text_read, units_from}
+use Rattle.step_turns.specs.Turns.{Turn, Units, after_part, closes_as, goes_on, goes_on_by, groups_taken, is_spent, job_ends, next_unit, one_command, outputs_stand, prints_output, reads_job, text_read, units_from}
 
 module _ (h : Holder) where
   -- the parts of a turn are of the holder's step

@@ -1,5 +1,5 @@
 -- What is known of acts for which a unit waits.
-use Rattle.std.proofs.Common.{◌≡◌, ℕ, zero, suc, ◌+◌, ◌-◌, Bool, refl, subst, sym, arith}
+use Rattle.std.proofs.Common.{◌≡◌, ◌∙◌, ℕ, zero, suc, ◌+◌, ◌-◌, Bool, ap, refl, subst, sym, arith}
 use Rattle.mas_types.specs.declared.ids.JobNo.{JobNo}
 use Rattle.mas_types.specs.declared.ids.MemberId.{MemberId}
 use Rattle.mas_types.specs.declared.ids.OutNo.{OutNo}
@@ -10,6 +10,8 @@ use Rattle.queue_tables.specs.Telling.{Tell, TellSound}
 use Rattle.member_work.specs.Printing.{IsPrinting}
 use Rattle.member_work.specs.Steps.{IsUnderWay}
 use Rattle.member_decks.proofs.OpenLemmas.{tells_some}
+use Rattle.step_turns.specs.JobEnds.{chunk_end}
+use Rattle.step_turns.specs.declared.states.Aside.{Aside}
 use Rattle.step_turns.specs.declared.states.Progress.{Progress}
 use Rattle.step_turns.specs.declared.states.Aside.TheVariants.{PrintLines, ReadText, SpoolDeck, SpoolOutputs}
 use Rattle.member_units.specs.declared.nexts.Next.{Next}
@@ -19,6 +21,7 @@ use Rattle.std.proofs.Common.{Option, Some, None}
 use Rattle.mas_types.specs.declared.jobs.Job.{Job}
 use Rattle.mas_types.specs.declared.jobs.Output.{Output}
 use Rattle.member_units.specs.Nexts.{AreFieldsOf, IsOfOutput, WaitsFor}
+use Rattle.member_units.specs.Ready.{IsReadyFor, IsReadyUnit}
 
 pub text_ready : (t : Tables) (by : MemberId) (runs : Bool) (n : JobNo) (p : Progress) (x : Next) → IsText t runs n p x → ((Q : Queue) → Tell t Q → TellSound t → IsUnderWay Q n) → IsRightNext t by x
 text_ready t by runs n p x text job = let s = tells_some t in by_job (job_at s.0 n) (text.is s.0 s.1) where
@@ -28,16 +31,28 @@ text_ready t by runs n p x text job = let s = tells_some t in by_job (job_at s.0
       let right = subst (AreFieldsOf n) is text.right in
       subst (IsRightNext t by) (sym is) (right.1, λ Q told sound. subst (λ (k : JobNo). IsUnderWay Q k) (sym right.0) (job Q told sound))
 
+same_chunk : (n m : JobNo) (i j : OutNo) (a b : ℕ) (p : Progress) → next.Wait (PrintLines n i a p) ≡ next.Wait (PrintLines m j b p) → a ≡ b
+same_chunk n m i j a b p e = cc
+
 pub lines_ready : (t : Tables) (by : MemberId) (n : JobNo) (i : OutNo) (p : Progress) (x : Next) → AreLines t by n i p x → ((Q : Queue) → Tell t Q → TellSound t → IsPrinting Q by n i) → IsRightNext t by x
 lines_ready t by n i p x lines printing = let s = tells_some t in by_output s.0 (output_at s.0 n i) (lines.is s.0 s.1) where
   by_output : (R : Queue) (o : Option Output) → x ≡ lines_of by p R o → IsRightNext t by x
   by_output R None is = subst (IsRightNext t by) (sym is) tt
   by_output R (Some o) is =
       let right = subst (IsOfOutput n i) is lines.right in
+      let named : (Q : Queue) → output_at Q o.job o.index ≡ output_at Q n i = λ Q. ap (λ (k : JobNo). output_at Q k o.index) right.job ∙ ap (output_at Q n) right.output in
       subst (IsRightNext t by) (sym is) (record {
         index = right.index;
         printing = λ Q told sound. subst (λ (k : JobNo). IsPrinting Q by k o.index) (sym right.job) (subst (λ (j : OutNo). IsPrinting Q by n j) (sym right.output) (printing Q told sound));
+        chunk = λ Q o' told there. same_chunk o.job o'.job o.index o'.index (chunk_end R by o) (chunk_end Q by o') p (sym is ∙ lines.is Q told ∙ ap (lines_of by p Q) (sym (named Q) ∙ there));
       })
+
+-- so a step that waits for it is ready
+pub unit_ready : (told : Type 0) (Q : Queue) (t : Tables) (by : MemberId) (a : Aside) → IsReadyUnit t by a → IsReadyFor told Q t by a
+unit_ready told Q t by (SpoolDeck n text) ready = absurd ready
+unit_ready told Q t by (ReadText runs n fields p) ready = ready
+unit_ready told Q t by (SpoolOutputs n specs p) ready = absurd ready
+unit_ready told Q t by (PrintLines n i last p) ready = ready
 
 -- THE UNIT THAT WAITS is one of those that may be played
 

@@ -1,5 +1,5 @@
 -- Where a sitting ends: what is known of its answer.
-use Rattle.std.proofs.Common.{◌≡◌, ◌∙◌, ℕ, zero, suc, ◌+◌, ◌≤◌, List, [], ◌∷◌, ◌++◌, length, Result, Ok, Err, ap, refl, sym, subst, arith}
+use Rattle.std.proofs.Common.{◌≡◌, ◌∙◌, ℕ, zero, suc, ◌+◌, ◌*◌, ◌≤◌, ◌<◌, [], ◌∷◌, ◌++◌, Result, Ok, Err, refl, sym, subst, arith}
 use Rattle.std.specs.Prelude.{IfOk, OnOk}
 use Rattle.mas_types.specs.declared.commands.Command.{Command}
 use Rattle.mas_types.specs.declared.ids.MemberId.{MemberId}
@@ -13,8 +13,10 @@ use Rattle.ckpt_form.specs.declared.steady.Steady.{Ghosts as SteadyGhosts}
 use Rattle.member_node.specs.declared.member.Member.{Member}
 use Rattle.member_node.specs.declared.member.NodeNo.{NodeNo}
 use Rattle.member_work.proofs.GivenLemmas.{work_tells}
-use Rattle.step_turns.specs.Laws.{units_left}
+use Rattle.step_turns.specs.Courses.{sittings_most}
+use Rattle.step_turns.specs.Laws.{aside_units, units_left}
 use Rattle.step_turns.specs.declared.states.Aside.{Aside}
+use Rattle.step_turns.specs.declared.states.Aside.TheVariants.{PrintLines, ReadText, SpoolDeck, SpoolOutputs}
 use Rattle.step_turns.specs.declared.states.Holder.{Holder}
 use Rattle.step_turns.specs.declared.states.Progress.{Progress}
 use Rattle.step_turns.specs.declared.states.State.{State}
@@ -23,7 +25,7 @@ use Rattle.member_units.specs.Nexts.{WaitsFor}
 use Rattle.member_sittings.specs.declared.ends.SittingEnd.{SittingEnd}
 use Rattle.member_units.specs.declared.nexts.Next.{Next}
 use Rattle.member_units.specs.declared.nexts.Next.TheVariants as next
-use Rattle.member_units.specs.Ready.{IsReady}
+use Rattle.member_units.specs.Ready.{HasFewer, IsReady}
 use Rattle.member_units.specs.Works.{HasSeat, Sits, SitsIn, Works, queue_here}
 use Rattle.member_units.proofs.Seated.{sits_works}
 
@@ -59,11 +61,49 @@ module _ {P C : Type 0} {plants : PlantGhosts P} {steadies : SteadyGhosts C} {co
   reached_left y most before (Ok e) s few is level = subst (λ (t : State). y.level + units_left t ≤ most) (sym is) (omega (arith, few, level))
   reached_left y most before (Err why) s few is level = tt
 
-pub ready_left : (t t' : Tables) (by by' : MemberId) (r : Result SittingEnd NodeNo) (s : State) → t' ≡ t → by' ≡ by → IsReady t by s → IfOk r (λ e. e.next ≡ s) → IfOk r (λ e. IsReady t' by' e.next)
-ready_left t t' by by' (Ok e) s same own ready is = subst (λ (u : State). IsReady t' by' u) (sym is) (subst (λ (b : MemberId). IsReady t' b s) (sym own) (subst (λ (u : Tables). IsReady u by s) (sym same) ready))
-ready_left t t' by by' (Err why) s same own ready is = tt
+-- what is known where it goes on
+module _ (told : Type 0) (Q : Queue) (t' : Tables) (by' : MemberId) (r : Result SittingEnd NodeNo) where
+  pub ready_once : (t : Tables) (by : MemberId) (s : State) → t' ≡ t → by' ≡ by → OnOk r (IsReady told Q t by s) → IfOk r (λ e. e.next ≡ s) → IfOk r (λ e. IsReady told Q t' by' e.next)
+  ready_once t by s same own ready is = by_answer r ready is where
+    by_answer : (r : Result SittingEnd NodeNo) → OnOk r (IsReady told Q t by s) → IfOk r (λ e. e.next ≡ s) → IfOk r (λ e. IsReady told Q t' by' e.next)
+    by_answer (Ok e) ready is = subst (λ (u : State). IsReady told Q t' by' u) (sym is) (subst (λ (b : MemberId). IsReady told Q t' b s) (sym own) (subst (λ (u : Tables). IsReady told Q u by s) (sym same) ready))
+    by_answer (Err why) ready is = tt
 
--- where the sitting closed its step nothing has to be known
-pub ready_told : (t : Tables) (by : MemberId) (r : Result SittingEnd NodeNo) → IfOk r (λ e. e.next ≡ Told) → IfOk r (λ e. IsReady t by e.next)
-ready_told t by (Ok e) is = subst (λ (u : State). IsReady t by u) (sym is) tt
-ready_told t by (Err why) is = tt
+  pub ready_left : (t : Tables) (by : MemberId) (s : State) → t' ≡ t → by' ≡ by → IsReady told Q t by s → IfOk r (λ e. e.next ≡ s) → IfOk r (λ e. IsReady told Q t' by' e.next)
+  ready_left t by s same own ready is = ready_once t by s same own (on_each r ready) is where
+    on_each : (r : Result SittingEnd NodeNo) → IsReady told Q t by s → OnOk r (IsReady told Q t by s)
+    on_each (Ok e) ready = ready
+    on_each (Err why) ready = tt
+
+  -- where the sitting closed its step nothing has to be known
+  pub ready_told : IfOk r (λ e. e.next ≡ Told) → IfOk r (λ e. IsReady told Q t' by' e.next)
+  ready_told is = by_answer r is where
+    by_answer : (r : Result SittingEnd NodeNo) → IfOk r (λ e. e.next ≡ Told) → IfOk r (λ e. IsReady told Q t' by' e.next)
+    by_answer (Ok e) is = subst (λ (u : State). IsReady told Q t' by' u) (sym is) tt
+    by_answer (Err why) is = tt
+
+-- HOW MANY SITTINGS AND UNITS may follow
+
+module _ (sittings units : ℕ) (r : Result SittingEnd NodeNo) where
+  pub fewer_left : (s : State) → HasFewer sittings units s → IfOk r (λ e. e.next ≡ s) → IfOk r (λ e. HasFewer sittings units e.next)
+  fewer_left s few is = if_ok r (λ e. e.next ≡ s) (λ e. HasFewer sittings units e.next) (λ e same. subst (HasFewer sittings units) (sym same) few) is
+
+  pub fewer_told : 0 < sittings → IfOk r (λ e. e.next ≡ Told) → IfOk r (λ e. HasFewer sittings units e.next)
+  fewer_told some is = fewer_left Told (record { falls = some; few = omega arith }) is
+
+  pub fewer_than : (sittings' units' : ℕ) → sittings' ≤ sittings → units' ≤ units → IfOk r (λ e. HasFewer sittings' units' e.next) → IfOk r (λ e. HasFewer sittings units e.next)
+  fewer_than sittings' units' one two few =
+      if_ok r (λ e. HasFewer sittings' units' e.next) (λ e. HasFewer sittings units e.next) (λ e had. record { falls = let falls = had.falls in omega (arith, falls, one); few = let few = had.few in omega (arith, few, two) }) few
+
+-- a unit that waits
+aside_fewer : (a : Aside) → sittings_most (Away a) ≤ 3 * aside_units a
+aside_fewer (SpoolDeck n text) = omega arith
+aside_fewer (ReadText runs n fields p) = omega arith
+aside_fewer (SpoolOutputs n specs p) = omega arith
+aside_fewer (PrintLines n i last p) = omega arith
+
+pub waits_fewer : (sittings units : ℕ) (p : Progress) (x : Next) (a : Aside) → WaitsFor p x → x ≡ next.Wait a → 3 * p.left < sittings → p.done + p.left ≤ units → HasFewer sittings units (Away a)
+waits_fewer sittings units p x a waits is some few =
+    let same = subst (WaitsFor p) is waits in
+    let most = aside_fewer a in
+    record { falls = omega (arith, most, same.0, some); few = omega (arith, same.0, same.1, few) }

@@ -1,5 +1,5 @@
 -- A whole sitting.
-use Rattle.std.proofs.Common.{◌≡◌, ◌∙◌, ◌⊎◌, inl, inr, ⊎_elim, ℕ, ◌+◌, List, [], ◌∷◌, ◌++◌, length, Result, Ok, Err, append-nil, ap, refl, sym, subst, arith}
+use Rattle.std.proofs.Common.{◌≡◌, ◌∙◌, ◌⊎◌, ⊎_elim, ℕ, ◌+◌, List, [], ◌∷◌, ◌++◌, length, Result, Ok, Err, ap, refl, subst, arith}
 use Rattle.std.specs.Prelude.{IfOk}
 use Rattle.mas_types.specs.declared.ids.MemberId.{MemberId}
 use Rattle.mas_types.specs.declared.journals.Batch.{Batch}
@@ -17,7 +17,7 @@ use Rattle.member_node.specs.declared.member.NodeNo.{NodeNo}
 use Rattle.member_node.specs.declared.member.NodeNo.TheVariants.{BothLost, Halted, ConsoleFault, NoMemory}
 use Rattle.member_node.specs.Calls.{console_now}
 use Rattle.member_steps.specs.Steps.{StepTells}
-use Rattle.member_decks.specs.Batches.{AreAll, HasAll}
+use Rattle.member_decks.specs.Batches.{HasAll}
 use Rattle.member_work.specs.Steps.{WorkLeaves}
 use Rattle.step_turns.specs.Batches.{cut}
 use Rattle.step_turns.specs.Entries.{all_entries}
@@ -25,11 +25,11 @@ use Rattle.step_turns.specs.Sittings.{Sitting, released, sit}
 use Rattle.step_turns.specs.declared.states.Found.{Found}
 use Rattle.step_turns.specs.declared.states.Holder.{Holder}
 use Rattle.step_turns.specs.declared.states.State.{State}
-use Rattle.step_turns.specs.Turns.{Turn, turn}
+use Rattle.step_turns.specs.Turns.{turn}
 use Rattle.step_turns.proofs.Cutting.{cut_entries}
 use Rattle.member_sittings.specs.declared.ends.SittingEnd.{SittingEnd}
 use Rattle.member_sittings.specs.Left.{HasSaid}
-use Rattle.member_sittings.specs.Sat.{HasSat, IsEndOf, Start, sat_in}
+use Rattle.member_sittings.specs.Sat.{HasSat, IsEndOf, sat_in}
 use Rattle.member_sittings.proofs.ReachLemmas.{LeftBy, by_all, by_cut_wanted, by_thirds_halted, by_thirds_lost, said_all, said_broken, said_none, said_some}
 use Rattle.member_units.specs.Plays.{EndsAs, Plays, Wrote, wrote_of}
 use Rattle.member_units.specs.Works.{Run, outside, place_of, queue_kept, run_of}

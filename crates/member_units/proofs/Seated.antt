@@ -1,37 +1,27 @@
 -- A member at the lock, at the beginning of a sitting and at its end.
-use Rattle.std.proofs.Common.{◌≡◌, ◌∙◌, ℕ, ◌+◌, ◌≤◌, ◌<◌, Bool, true, List, [], ◌∷◌, ◌++◌, length, None, Option, Result, ap, refl, sym, subst, arith}
+use Rattle.std.proofs.Common.{◌≡◌, ◌∙◌, ℕ, ◌+◌, ◌≤◌, ◌<◌, List, [], ◌∷◌, ◌++◌, Result, ap, refl, sym, subst, arith}
 use Rattle.std.proofs.lemmas.List.Elements.{All-nil}
-use Rattle.mas_types.specs.declared.ids.Dev.{Dev}
 use Rattle.mas_types.specs.declared.ids.Dev.TheVariants.{Ckpt1, Ckpt2}
 use Rattle.mas_types.specs.declared.ids.MemberId.{MemberId}
-use Rattle.mas_types.specs.declared.journals.Batch.{Batch}
-use Rattle.mas_types.specs.declared.journals.Entry.{Entry}
 use Rattle.mas_types.specs.declared.journals.Journal.{Journal}
 use Rattle.mas_types.specs.declared.queues.Queue.{Queue}
 use Rattle.mas_types.specs.Sound.{IsSound}
-use Rattle.spool_disk.specs.Acts.{Goes}
-use Rattle.spool_disk.specs.View.{View, disk_now}
+use Rattle.spool_disk.specs.View.{disk_now}
 use Rattle.spool_disk.specs.declared.plant.Plant.{Ghosts as PlantGhosts}
-use Rattle.spool_volumes.specs.Volumes.{AreRoomy}
 use Rattle.ckpt_copy.specs.declared.copying.Copying.{Ghosts as CopyGhosts}
 use Rattle.mas_complex.specs.declared.complex.Complex.{Complex}
 use Rattle.ckpt_form.specs.declared.steady.Steady.{Ghosts as SteadyGhosts}
-use Rattle.mas_complex.specs.Journals.{end_of, kept_all}
-use Rattle.mas_complex.specs.Parts.{parts_of}
+use Rattle.mas_complex.specs.Journals.{end_of}
 use Rattle.member_node.specs.declared.member.Member.{Member}
 use Rattle.member_node.specs.declared.member.NodeNo.{NodeNo}
-use Rattle.member_node.specs.Reads.{AreLow}
 use Rattle.member_steps.specs.Saying.{HaveSaid, OnConsole}
-use Rattle.member_steps.specs.Steps.{AreAllKept}
 use Rattle.member_steps.proofs.StepLemmas.{kept_later}
 use Rattle.member_decks.proofs.PageLemmas.{still_roomy}
-use Rattle.member_work.specs.Steps.{IsClosing}
 use Rattle.member_work.proofs.SayingLemmas.{closing_said, rests_as}
 use Rattle.member_work.proofs.StateLemmas.{between_by, work_back, work_between, work_low}
 use Rattle.step_turns.specs.declared.states.Holder.{Holder}
 use Rattle.member_units.specs.Plays.{Closes, SparesVolumes}
-use Rattle.member_units.specs.Works.{HasBounds, HasSeat, IsLow, Outside, Sits, Works, outside}
-use Rattle.member_units.proofs.Working.{AtWork, none_flies}
+use Rattle.member_units.specs.Works.{HasBounds, HasSeat, IsLow, Sits, Works, outside}
 
 module _ {P C : Type 0} {plants : PlantGhosts P} {steadies : SteadyGhosts C} {copies : CopyGhosts C} where
   -- AT THE BEGINNING

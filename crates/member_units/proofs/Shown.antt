@@ -1,5 +1,5 @@
 -- What acts without the lock show of a text.
-use Rattle.std.proofs.Common.{OnOk, Result, Ok, Err, ◌≡◌, ◌∙◌, ℕ, Bool, true, false, List, Option, Some, None, ap, refl, sym, subst, arith}
+use Rattle.std.proofs.Common.{OnOk, Result, Ok, Err, ◌≡◌, ◌∙◌, ℕ, ◌*◌, Bool, true, false, List, ◌++◌, append-nil, Option, Some, None, ap, refl, sym, subst, arith}
 use Rattle.std.proofs.Math.Logic.{∥∥₁_elim}
 use Rattle.std.specs.Coded.{Coded-set}
 use Rattle.queue_laws.proofs.Finds.{find-All}
@@ -14,8 +14,10 @@ use Rattle.mas_types.specs.declared.jobs.Text.{Text}
 use Rattle.mas_types.specs.declared.jobs.Text.TheVariants.{Whole, Gone}
 use Rattle.mas_types.specs.declared.queues.Config.{Config}
 use Rattle.mas_types.specs.declared.queues.Queue.{Queue}
-use Rattle.mas_types.specs.declared.queues.Thing.TheVariants.{Deck}
-use Rattle.mas_types.specs.Queue.{has_key, has_number, job_at, line_count, output_at}
+use Rattle.mas_types.specs.declared.journals.Batch.{Batch}
+use Rattle.mas_types.specs.declared.journals.Entry.{Entry}
+use Rattle.mas_types.specs.declared.queues.Thing.TheVariants.{Deck, Output as OutputThing}
+use Rattle.mas_types.specs.Queue.{has_key, has_number, job_at, line_count, output_at, printing_at, total}
 use Rattle.lay_bytes.specs.declared.records.JobRec.{JobRec}
 use Rattle.lay_bytes.specs.declared.records.OutRec.{OutRec}
 use Rattle.ckpt_pages.specs.Shape.{HasSpelling}
@@ -28,15 +30,18 @@ use Rattle.spool_disk.specs.Acts.{Goes}
 use Rattle.spool_disk.specs.View.{View}
 use Rattle.spool_volumes.specs.Volumes.{AreRoomy}
 use Rattle.track_groups.specs.Places.{groups_of}
+use Rattle.paper_laws.specs.Paper.{busy_in}
+use Rattle.mas_complex.specs.Journals.{kept_all}
+use Rattle.mas_complex.specs.Meaning.{run}
 use Rattle.mas_complex.specs.Texts.{HasTexts, IsThereUnless, lost_now, spools_at}
 use Rattle.job_outcome.specs.declared.outcomes.Read.{Read}
 use Rattle.job_outcome.specs.declared.outcomes.Read.TheVariants as read
 use Rattle.member_work.specs.Gone.{gone_with}
 use Rattle.member_decks.proofs.OpenLemmas.{tells_some}
 use Rattle.member_work.specs.Looks.{as_it_is}
-use Rattle.member_work.specs.Printing.{IsChunkOf, IsToldOutput}
+use Rattle.member_work.specs.Printing.{IsChunkOf, IsPrinting, IsToldOutput, MayPrintTo}
 use Rattle.member_work.specs.Units.{chunk_end, printed_end as printed_by}
-use Rattle.member_work.proofs.PrintedLemmas.{limit_most, output_key}
+use Rattle.member_work.proofs.PrintedLemmas.{key_of, limit_most, output_key, still_busy}
 use Rattle.step_turns.specs.JobEnds.{printed_end}
 use Rattle.member_work.specs.Reading.{IsFailedRead, IsReadOf}
 use Rattle.member_work.specs.Rounds.{HasFailed, IsReadAs, IsWhole}
@@ -51,7 +56,7 @@ use Rattle.member_decks.specs.declared.spooling.SpoolError.TheVariants as spool
 use Rattle.member_decks.specs.Spooling.{OnVolumes, SpoolCauses}
 use Rattle.member_work.specs.Spooled.{AreSpooled}
 use Rattle.member_sittings.specs.Asides.{finds_of}
-use Rattle.member_units.specs.Asides.{HasWritten, IsJobStill, lowest_for}
+use Rattle.member_units.specs.Asides.{HasWritten, IsJobStill, IsOutputStill, lowest_for}
 
 one_group : (a b : GroupNo) → Some a ≡ Some b → a ≡ b
 one_group a b e = cc
@@ -88,6 +93,54 @@ module _ (told : Type 0) (config : Config) (t : Tables) (Q : Queue) (v w : View)
       let there : job_at still.was r.number ≡ Some j = ap (job_at still.was) number ∙ sym still.job ∙ found in
       let its = job.same still.was j still.told there in
       text_seen told config v w j.text r.cards (groups_of (Deck n) t.owners) (groups_of (Deck n) Q.owners) (HasTexts (lost_now v) (spools_at v v.now) config.groups Q) o same its.2 tells whole roomy texts (stands_there found) reads failed
+
+-- the text of an output, and its groups, as the member's tables still tell them
+module _ (told : Type 0) (config : Config) (t : Tables) (Q : Queue) (v w : View) (n : JobNo) (i : OutNo) (by : MemberId) (r : OutRec) (o : Output) where
+  output_there : output_at Q n i ≡ Some o → HasTexts (lost_now v) (spools_at v v.now) config.groups Q → IsThereUnless (lost_now v) (spools_at v v.now) config.groups o.text (groups_of (OutputThing n i) Q.owners)
+  output_there found texts =
+      let key = key_of n i Q.outputs o found in
+      let there : IsThereUnless (lost_now v) (spools_at v v.now) config.groups o.text (groups_of (OutputThing o.job o.index) Q.owners) =
+      (find-All (λ (x : Output). IsThereUnless (lost_now v) (spools_at v v.now) config.groups x.text (groups_of (OutputThing x.job x.index) Q.owners)) (has_key n i) Q.outputs o texts.outputs found).0 in
+      let named : groups_of (OutputThing o.job o.index) Q.owners ≡ groups_of (OutputThing n i) Q.owners = ap (λ (k : JobNo). groups_of (OutputThing k o.index) Q.owners) key.0 ∙ ap (λ (k : OutNo). groups_of (OutputThing n k) Q.owners) key.1 in
+      subst (λ (gs : List GroupNo). IsThereUnless (lost_now v) (spools_at v v.now) config.groups o.text gs) named there
+
+  -- what the record says of it
+  pub output_was : (still : IsOutputStill t by n i Q) → IsToldOutput t r → r.job ≡ n → r.index ≡ i → output_at Q n i ≡ Some o → (o.job ≡ r.job) × (o.index ≡ r.index) × (o.mark ≡ r.mark) × (line_count o.text ≡ r.lines) × (total o ≡ r.lines * r.copies)
+  output_was still rec job index found =
+      rec.same still.was o still.told (ap (λ (k : JobNo). output_at still.was k r.index) job ∙ ap (output_at still.was n) index ∙ sym still.output ∙ found)
+
+  pub output_read : (x : Read) → (still : IsOutputStill t by n i Q) → IsToldOutput t r → r.job ≡ n → r.index ≡ i → output_at Q n i ≡ Some o → told → IsWhole o.text → AreRoomy v config → ∥ HasTexts (lost_now v) (spools_at v v.now) config.groups Q ∥₁
+      → Reads told config v w o.text r.lines (groups_of (OutputThing n i) t.owners) (groups_of (OutputThing n i) Q.owners) x → IsFailedRead config.groups (groups_of (OutputThing n i) t.owners) x v w
+      → IsReadAs told config.groups o.text (groups_of (OutputThing n i) Q.owners) (Some x) v w
+  output_read x still rec job index found tells whole roomy texts reads failed =
+      let same = still.groups ∙ ap (groups_of (OutputThing n i)) still.told.owners in
+      let its = output_was still rec job index found in
+      text_seen told config v w o.text r.lines (groups_of (OutputThing n i) t.owners) (groups_of (OutputThing n i) Q.owners) (HasTexts (lost_now v) (spools_at v v.now) config.groups Q) x same its.3 tells whole roomy texts (output_there found) reads failed
+
+-- its next lines may be printed
+pub may_print_still : (base : Queue) (batches : List Batch) (current : Option Batch) (m : MemberId) (t : Tables) (n : JobNo) (i : OutNo) (r : OutRec) (last : ℕ) (lines : List (List ℕ)) → current ≡ None → (still : IsOutputStill t m n i (run base (kept_all batches))) → IsToldOutput t r → IsChunkOf t m r last
+    → r.job ≡ n → r.index ≡ i → (p : IsPrinting still.was m n i) → p.output.text ≡ Whole lines → MayPrintTo base batches current m r.job r.index r.mark last lines
+may_print_still base batches current m t n i r last lines none still rec chunk job index p text =
+    let Q : Queue = run base (kept_all batches) in
+    let o : Output = p.output in
+    let named : (R : Queue) → output_at R r.job r.index ≡ output_at R n i = λ R. ap (λ (k : JobNo). output_at R k r.index) job ∙ ap (output_at R n) index in
+    let was : output_at still.was r.job r.index ≡ Some o = named still.was ∙ p.there in
+    let there : output_at Q r.job r.index ≡ Some o = named Q ∙ still.output ∙ p.there in
+    let busy : printing_at Q m ≡ Some o = still.busy ∙ p.busy in
+    let is = chunk.is still.was o still.told was in
+    let same = rec.same still.was o still.told was in
+    let limit = still.limit in
+    record {
+      output = o;
+      busy = busy;
+      job = same.0;
+      index = same.1;
+      mark_is = same.2;
+      text = text;
+      upto = omega (arith, is);
+      limit = omega (arith, is, limit);
+      still = rw none (subst (λ (es : List Entry). busy_in (output_at (run base es) r.job r.index) m ≡ true) (sym (append-nil (kept_all batches))) (still_busy Q m r.job r.index o there busy));
+    }
 
 -- THE NEXT LINES OF AN OUTPUT
 

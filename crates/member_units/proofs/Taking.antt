@@ -1,8 +1,7 @@
 -- The groups for a job's outputs, which are taken or not.
-use Rattle.std.proofs.Common.{◌≡◌, ◌∙◌, ℕ, zero, suc, ◌+◌, ◌≤◌, Bool, true, false, if◌then◌else◌, List, [], ◌∷◌, ◌++◌, length, None, Result, Ok, Err, append-nil, ap, refl, sym, subst, arith}
+use Rattle.std.proofs.Common.{◌≡◌, ◌∙◌, ℕ, zero, suc, ◌+◌, ◌≤◌, Bool, true, false, if◌then◌else◌, List, [], ◌∷◌, ◌++◌, length, None, Result, Ok, Err, append-nil, ap, refl, sym, arith}
 use Rattle.mas_types.specs.declared.commands.Command.{Command}
 use Rattle.mas_types.specs.declared.ids.JobNo.{JobNo}
-use Rattle.mas_types.specs.declared.ids.MemberId.{MemberId}
 use Rattle.mas_types.specs.declared.jobs.OutSpec.{OutSpec}
 use Rattle.mas_types.specs.declared.journals.Entry.{Entry}
 use Rattle.mas_types.specs.declared.queues.Queue.{Queue}
@@ -18,8 +17,9 @@ use Rattle.job_outcome.specs.declared.units.UnitEnd.TheVariants as ends
 use Rattle.job_outcome.specs.Next.{end_by}
 use Rattle.member_node.specs.declared.member.Member.{Member}
 use Rattle.member_node.specs.declared.member.NodeNo.{NodeNo}
+use Rattle.member_work.specs.Steps.{IsUnderWay}
 use Rattle.member_work.specs.Units.{taken_end}
-use Rattle.member_work.proofs.PartLemmas.{not_refused, taken_done}
+use Rattle.member_work.proofs.PartLemmas.{not_refused, queue_is, taken_done, under_way_taken}
 use Rattle.step_turns.specs.Decks.{are_refused, takes}
 use Rattle.step_turns.specs.Entries.{closing_reply, given_in}
 use Rattle.step_turns.specs.JobEnds.{drop_groups, groups_for_end, taking}
@@ -118,3 +118,9 @@ module _ {P C : Type 0} {plants : PlantGhosts P} {steadies : SteadyGhosts C} {co
           by_answer : plants.tells → (b : Bool) → are_refused needed Q h.by needed ≡ b → as_taken h Q job specs p needed some ≡ whole
           by_answer t true refused = ends_refused h Q job specs p needed some refused ∙ as_whole t
           by_answer t false all = absurd (not (g.ends t ∙ taken_done Q h.by h.step needed all))
+
+      -- the job is under way still
+      pub still_under_way : plants.tells → (end : UnitEnd) → end ≡ ends.Done → Takes (Ok end) → IsUnderWay Q job → IsUnderWay (queue_here y n) job
+      still_under_way t end done g job_is =
+          let taken = queue_is Q h.by h.step needed some (sym (g.ends t) ∙ done) g.es (g.is t) in
+          under_way_taken Q (queue_here y n) h.by needed job (g.queue ∙ taken) job_is

@@ -1,21 +1,17 @@
 -- A member at work, after a call.
-use Rattle.std.proofs.Common.{◌≡◌, ◌∙◌, ℕ, ◌+◌, ◌*◌, ◌≤◌, ◌<◌, ◌^◌, List, [], ◌∷◌, ◌++◌, length, Ok, ap, append-nil, refl, sym, subst, arith}
+use Rattle.std.proofs.Common.{◌≡◌, ◌∙◌, ℕ, ◌+◌, ◌*◌, ◌≤◌, ◌<◌, ◌^◌, List, [], ◌∷◌, ◌++◌, Ok, ap, append-nil, refl, sym, subst, arith}
 use Rattle.mas_types.specs.declared.ids.Dev.TheVariants.{Ckpt1, Ckpt2}
 use Rattle.mas_types.specs.declared.ids.MemberId.{MemberId}
 use Rattle.mas_types.specs.declared.journals.Batch.{Batch}
 use Rattle.mas_types.specs.declared.journals.Entry.{Entry}
 use Rattle.mas_types.specs.declared.queues.Queue.{Queue}
-use Rattle.mas_types.specs.Queue.{is_member}
-use Rattle.mas_types.specs.Sound.{IsSound}
-use Rattle.lock_cycle.specs.Books.{Book, IsMember}
-use Rattle.spool_disk.specs.View.{View, disk_now}
+use Rattle.spool_disk.specs.View.{disk_now}
 use Rattle.spool_disk.specs.declared.plant.Plant.{Ghosts as PlantGhosts}
 use Rattle.ckpt_copy.specs.declared.copying.Copying.{Ghosts as CopyGhosts}
 use Rattle.mas_complex.specs.declared.complex.Complex.{Complex}
 use Rattle.ckpt_form.specs.declared.steady.Steady.{Ghosts as SteadyGhosts}
 use Rattle.mas_complex.specs.Crash.{setting}
 use Rattle.mas_complex.specs.Journals.{end_of, kept_all}
-use Rattle.mas_complex.specs.Locking.{MayAct}
 use Rattle.mas_complex.specs.Meaning.{run}
 use Rattle.member_node.specs.declared.member.Member.{Member}
 use Rattle.member_node.specs.Reads.{too_high}
@@ -25,7 +21,7 @@ use Rattle.member_work.specs.Steps.{HasCopy, IsAtWork, IsKeeping, IsStepUntold}
 use Rattle.member_work.specs.Work.{batches_in}
 use Rattle.member_work.proofs.PartLemmas.{queue_kept as queue_of_kept}
 use Rattle.step_turns.specs.declared.states.Holder.{Holder}
-use Rattle.member_units.specs.Works.{HasRoom, IsLow, LeavesRoom, Run, UsesOne, Works, outside, queue_here, queue_kept, run_of}
+use Rattle.member_units.specs.Works.{HasRoom, IsLow, LeavesRoom, Run, UsesOne, Works, queue_here, queue_kept, run_of}
 
 module _ {P C : Type 0} {plants : PlantGhosts P} {steadies : SteadyGhosts C} {copies : CopyGhosts C} where
   abbrev pub AtWork : Complex P C plants steadies copies → Member → Type 0

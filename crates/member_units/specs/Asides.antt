@@ -1,5 +1,5 @@
 -- Acts of a step of work that want no lock: which may be done, and what they show.
-use Rattle.std.specs.Prelude.{◌≡◌, ℕ, ◌+◌, ◌≤◌, true, List, take, All, Option, None, Some, Result, IfOk}
+use Rattle.std.specs.Prelude.{◌≡◌, ◌⊎◌, ℕ, ◌+◌, ◌≤◌, true, List, take, All, None, Some, Result, Ok, Err, IfOk}
 use Rattle.mas_types.specs.declared.ids.GroupNo.{GroupNo}
 use Rattle.mas_types.specs.declared.ids.JobNo.{JobNo}
 use Rattle.mas_types.specs.declared.ids.MemberId.{MemberId}
@@ -7,20 +7,21 @@ use Rattle.mas_types.specs.declared.ids.OutNo.{OutNo}
 use Rattle.mas_types.specs.declared.jobs.Job.{Job}
 use Rattle.mas_types.specs.declared.jobs.Output.{Output}
 use Rattle.mas_types.specs.declared.jobs.OutSpec.{OutSpec}
+use Rattle.mas_types.specs.declared.jobs.Text.{Text}
 use Rattle.mas_types.specs.declared.queues.Owner.{Owner}
 use Rattle.mas_types.specs.declared.queues.Queue.{Queue}
-use Rattle.mas_types.specs.declared.queues.Thing.{Thing}
 use Rattle.mas_types.specs.declared.queues.Thing.TheVariants.{Deck, Output as OutputThing}
 use Rattle.mas_types.specs.Commands.Life.{groups_of_outputs}
 use Rattle.mas_types.specs.Limits.{members_most}
 use Rattle.mas_types.specs.Owners.{member_count}
-use Rattle.mas_types.specs.Queue.{job_at, output_at}
+use Rattle.mas_types.specs.Queue.{job_at, output_at, printing_at}
 use Rattle.mas_types.specs.Sound.{IsSound}
 use Rattle.ckpt_copy.specs.declared.copying.Copying.{Ghosts as CopyGhosts}
 use Rattle.ckpt_pages.specs.Shape.{HasSpelling}
 use Rattle.ckpt_pages.specs.declared.tables.Tables.{Tables}
 use Rattle.queue_tables.specs.Telling.{Tell, TellSound}
-use Rattle.lock_cycle.specs.Books.{Book, IsMember}
+use Rattle.lock_cycle.specs.Books.{IsMember, after_stop}
+use Rattle.paper_laws.specs.Next.{limit_of}
 use Rattle.spool_disk.specs.View.{View}
 use Rattle.spool_disk.specs.declared.plant.Plant.{Ghosts as PlantGhosts}
 use Rattle.spool_volumes.specs.Volumes.{AreRoomy}
@@ -31,20 +32,22 @@ use Rattle.job_outcome.specs.declared.outcomes.Read.{Read}
 use Rattle.job_outcome.specs.Outcomes.{IsReadable}
 use Rattle.mas_complex.specs.declared.complex.Complex.{Complex}
 use Rattle.ckpt_form.specs.declared.steady.Steady.{Ghosts as SteadyGhosts}
-use Rattle.mas_complex.specs.Locking.{IsUp}
+use Rattle.mas_complex.specs.Locking.{IsUp, reserved_after_stop}
 use Rattle.mas_complex.specs.Paper.{counts_of}
 use Rattle.mas_complex.specs.Parts.{Parts, parts_of}
 use Rattle.mas_complex.specs.Spool.{IsHeldBy}
 use Rattle.mas_complex.specs.Texts.{spools_at}
 use Rattle.member_node.specs.declared.member.Member.{Member}
 use Rattle.member_node.specs.declared.member.NodeNo.{NodeNo}
+use Rattle.member_node.specs.declared.member.NodeNo.TheVariants.{BothLost, Halted, ConsoleFault, NoMemory}
 use Rattle.member_decks.specs.Spooling.{OnVolumes}
 use Rattle.member_decks.specs.Steps.{SpoolStops}
+use Rattle.member_work.specs.Inked.{HasInked, lines_read}
+use Rattle.member_work.specs.Looks.{as_it_is}
 use Rattle.member_work.specs.Printing.{IsBeside}
 use Rattle.member_work.specs.Reading.{IsFailedRead, OnlyReads}
-use Rattle.member_work.specs.Rounds.{HasPrinterFailed, IsReadAs, IsSpoolLost, IsWhole}
+use Rattle.member_work.specs.Rounds.{HasPrinterFailed, IsReadAs, IsSpoolLost}
 use Rattle.member_work.specs.Spooled.{AreSpooled}
-use Rattle.member_work.specs.Units.{chunk_end}
 use Rattle.step_turns.specs.JobEnds.{printed_end}
 use Rattle.step_turns.specs.States.{nothing_found}
 use Rattle.step_turns.specs.declared.states.Found.{Found}
@@ -67,9 +70,46 @@ pub record IsJobStill (t : Tables) (n : JobNo) (Q : Queue) : Type 0 where
   pub job : job_at Q n ≡ job_at was n
   pub groups : groups_of (Deck n) Q.owners ≡ groups_of (Deck n) was.owners
 
+-- so are an output and its groups, the output that is busy at the member, and the limit of its printer
+pub record IsOutputStill (t : Tables) (by : MemberId) (n : JobNo) (i : OutNo) (Q : Queue) : Type 0 where
+  pub was : Queue
+  pub told : Tell t was
+  pub output : output_at Q n i ≡ output_at was n i
+  pub groups : groups_of (OutputThing n i) Q.owners ≡ groups_of (OutputThing n i) was.owners
+  pub busy : printing_at Q by ≡ printing_at was by
+  pub limit : limit_of Q by ≡ limit_of was by
+
 -- the lowest groups of a member, as many as outputs need
 abbrev pub lowest_for : MemberId → List Owner → List OutSpec → List GroupNo
 lowest_for by owners specs = take (groups_of_outputs specs) (held_by by owners)
+
+-- how a text was read, or as it is, where the acts ended before that was told
+abbrev pub read_by : Result Found NodeNo → Text → Read
+read_by (Ok found) text = found.read
+read_by (Err why) text = as_it_is text
+
+-- the lines of an output up to this one, except so many that the member has printed, by how its text was read
+abbrev pub lines_next : ℕ → ℕ → Output → Read → List (List ℕ)
+lines_next count last o read = lines_read o.job o.index (o.mark + count) last read
+
+-- WHAT ACTS WITHOUT THE LOCK LEAVE ALONE
+
+module _ {P C : Type 0} where
+  -- only the plant differs, and how many lines the members have printed
+  abbrev pub printed_in : Parts P C → Parts P C → Parts P C
+  printed_in is was = record was { plant = is.plant; printed = is.printed }
+
+  -- a member that was stopped is stopped in the book, and what it has reserved is given up
+  abbrev pub stopped_at : MemberId → Parts P C → Parts P C
+  stopped_at by x = record x { book = after_stop x.book by; reserved = reserved_after_stop by x.reserved }
+
+  -- One that was stopped at its printer is stopped so already. Where it was stopped at a volume all is as it was.
+  abbrev pub HasOnlyPrinted : {T : Type 0} → Result T NodeNo → MemberId → Parts P C → Parts P C → Type 0
+  HasOnlyPrinted (Ok done) by x y = y ≡ printed_in y x
+  HasOnlyPrinted (Err Halted) by x y = (y ≡ printed_in y x) ⊎ (y ≡ printed_in y (stopped_at by x))
+  HasOnlyPrinted (Err NoMemory) by x y = y ≡ printed_in y x
+  HasOnlyPrinted (Err BothLost) by x y = y ≡ printed_in y x
+  HasOnlyPrinted (Err ConsoleFault) by x y = y ≡ printed_in y x
 
 module _ {P C : Type 0} (plants : PlantGhosts P) where
   abbrev v : Parts P C → View
@@ -140,10 +180,8 @@ module _ {P C : Type 0} (plants : PlantGhosts P) where
     pub seated : IsMember x.book m.id
     pub none : x.current ≡ None
     pub sound : TellSound m.checkpoint.tables
-    pub output : IsOutputReady m.checkpoint.tables m.id n i
-    pub chunk : (Q : Queue) (o : Output) → Tell m.checkpoint.tables Q → output_at Q n i ≡ Some o
-        → last ≡ chunk_end Q m.id o
-    pub told : plants.tells → Tell m.checkpoint.tables (queue_of x)
+    pub output : IsOutputReady m.checkpoint.tables m.id n i last
+    pub still : plants.tells → IsOutputStill m.checkpoint.tables m.id n i (queue_of x)
     pub roomy : plants.tells → AreRoomy (v x) x.base.config
 
   -- How the text was read, and whether the printer was found lost; where the unit isn't refused for it, the lines stand
@@ -161,9 +199,15 @@ module _ {P C : Type 0} (plants : PlantGhosts P) where
         → output_at (queue_of x) n i ≡ Some o
         → last ≤ o.mark + counts_of y.printed m.id
 
+  -- Printing, by its answer: no volume is written. Of the lines that come next those stand on the member's printer that
+  -- the answer says, and no other printer has any more. Halted comes only where the member was stopped.
   pub record HasPrintedNext (x y : Parts P C) (m : Member) (n : JobNo) (i : OutNo) (last : ℕ)
       (result : Result Found NodeNo) : Type 0 where
     pub acts : IsBeside plants.tells (v x) (v y)
+    pub reads : OnlyReads plants.tells (v x) (v y)
+    pub inks : plants.tells → (o : Output) → output_at (queue_of x) n i ≡ Some o
+        → HasInked plants (λ found. found.printer) m.id
+        (lines_next (counts_of x.printed m.id) last o (read_by result o.text)) x y result
     pub cause : SpoolStops result m.id.0 (v x) (v y)
     pub finds : IfOk result (FindsLines x y m n i last)
 
@@ -186,6 +230,10 @@ module _ {P C : Type 0} {plants : PlantGhosts P} {steadies : SteadyGhosts C} {co
 
   abbrev pub MayPrintLines : Complex P C plants steadies copies → Member → JobNo → OutNo → ℕ → Type 0
   MayPrintLines x m n i last = MayPrintNext plants (parts_of x) m n i last
+
+  abbrev pub OnlyPrints : {T : Type 0} → Result T NodeNo → MemberId → Complex P C plants steadies copies
+      → Complex P C plants steadies copies → Type 0
+  OnlyPrints result by x y = HasOnlyPrinted result by (parts_of x) (parts_of y)
 
   abbrev pub PrintsLines : Complex P C plants steadies copies → Complex P C plants steadies copies → Member → JobNo
       → OutNo → ℕ → Result Found NodeNo → Type 0

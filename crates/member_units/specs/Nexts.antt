@@ -17,12 +17,11 @@ use Rattle.step_turns.specs.JobEnds.{chunk_end}
 use Rattle.step_turns.specs.Laws.{aside_done, aside_units}
 use Rattle.step_turns.specs.declared.states.Holder.{Holder}
 use Rattle.step_turns.specs.declared.states.Progress.{Progress}
-use Rattle.step_turns.specs.declared.states.State.TheVariants.{Away}
 use Rattle.step_turns.specs.declared.states.Aside.TheVariants.{PrintLines, ReadText}
 use Rattle.step_turns.specs.Turns.{Turn, no_more, one_command, units_from, waits_for}
 use Rattle.member_units.specs.declared.nexts.Next.{Next}
 use Rattle.member_units.specs.declared.nexts.Next.TheVariants as next
-use Rattle.member_units.specs.Ready.{IsReadyFor}
+use Rattle.member_units.specs.Ready.{IsReadyUnit}
 
 -- what follows, where so many units may follow the next one, so many are done, and so many commands are given in the
 -- sitting
@@ -39,7 +38,7 @@ pub record IsOfUnit (c : Command) : Type 0 where
 
 abbrev pub IsRightNext : Tables → MemberId → Next → Type 0
 IsRightNext t by (next.Give c) = IsOfUnit c
-IsRightNext t by (next.Wait aside) = IsReadyFor t by aside
+IsRightNext t by (next.Wait aside) = IsReadyUnit t by aside
 IsRightNext t by next.Nothing = Unit {0}
 
 -- the unit that waits is one of those that may be played

@@ -1,17 +1,18 @@
 -- What holds where a sitting of work leaves a step that waits for acts, and what has to hold where it goes on after
 -- them.
-use Rattle.std.specs.Prelude.{◌≡◌, ℕ, ◌≤◌, true, false, List, take, None, Option}
+use Rattle.std.specs.Prelude.{◌≡◌, ℕ, ◌+◌, ◌≤◌, ◌<◌, true, false, List, take, None, Option, Some}
 use Rattle.mas_types.specs.declared.commands.Command.{Command}
 use Rattle.mas_types.specs.declared.commands.Command.TheVariants as command
 use Rattle.mas_types.specs.declared.ids.JobNo.{JobNo}
 use Rattle.mas_types.specs.declared.ids.MemberId.{MemberId}
 use Rattle.mas_types.specs.declared.ids.OutNo.{OutNo}
+use Rattle.mas_types.specs.declared.jobs.Output.{Output}
 use Rattle.mas_types.specs.declared.jobs.OutSpec.{OutSpec}
 use Rattle.mas_types.specs.declared.queues.Queue.{Queue}
 use Rattle.mas_types.specs.Commands.Life.{groups_of_outputs, outputs_at_end}
 use Rattle.mas_types.specs.Fit.{IsFit, IsIndex, IsJobFields}
 use Rattle.mas_types.specs.Owners.{member_count}
-use Rattle.mas_types.specs.Queue.{job_at}
+use Rattle.mas_types.specs.Queue.{job_at, output_at}
 use Rattle.mas_types.specs.Step.{may_give}
 use Rattle.ckpt_pages.specs.declared.tables.Tables.{Tables}
 use Rattle.track_groups.specs.Groups.{held_by}
@@ -24,8 +25,10 @@ use Rattle.job_outcome.specs.Outcomes.{IsReadable}
 use Rattle.member_work.specs.Printing.{IsPrinting}
 use Rattle.member_work.specs.Spooled.{AreSpooled}
 use Rattle.member_work.specs.Steps.{IsUnderWay}
+use Rattle.step_turns.specs.Courses.{sittings_most}
 use Rattle.step_turns.specs.Entries.{is_drop}
-use Rattle.step_turns.specs.JobEnds.{groups_for_end, printed_end}
+use Rattle.step_turns.specs.JobEnds.{chunk_end, groups_for_end, printed_end}
+use Rattle.step_turns.specs.Laws.{units_done, units_left}
 use Rattle.step_turns.specs.declared.states.Aside.{Aside}
 use Rattle.step_turns.specs.declared.states.Found.{Found}
 use Rattle.step_turns.specs.declared.states.State.{State}
@@ -40,32 +43,49 @@ pub record MayBeGiven (base : Queue) (by : MemberId) (c : Command) : Type 0 wher
   pub may : may_give base by c ≡ true
   pub closes : is_drop c ≡ false
 
--- WHERE IT WAITS. The facts on a queue hold of each that the member's tables tell.
+-- WHERE IT WAITS. The facts on a queue hold of each that the member's tables tell, if none is named.
 
 -- the job is under way
 abbrev pub IsJobReady : Tables → JobNo → Type 0
 IsJobReady t n = (Q : Queue) → Tell t Q → TellSound t → IsUnderWay Q n
 
--- the output is busy at the member
-pub record IsOutputReady (t : Tables) (by : MemberId) (n : JobNo) (i : OutNo) : Type 0 where
+-- the output is busy at the member, and this is the last of its lines that are printed next
+pub record IsOutputReady (t : Tables) (by : MemberId) (n : JobNo) (i : OutNo) (last : ℕ) : Type 0 where
   pub index : IsIndex i.0
   pub printing : (Q : Queue) → Tell t Q → TellSound t → IsPrinting Q by n i
+  pub chunk : (Q : Queue) (o : Output) → Tell t Q → output_at Q n i ≡ Some o → last ≡ chunk_end Q by o
 
--- the member has the groups that the outputs of a job need
-pub record AreOutputsReady (t : Tables) (by : MemberId) (specs : List OutSpec) : Type 0 where
+-- The member has the groups that the outputs of a job need. Where content is told the job is under way in the queue.
+pub record AreOutputsReady (told : Type 0) (Q : Queue) (t : Tables) (by : MemberId) (n : JobNo) (specs : List OutSpec)
+    : Type 0 where
   pub outputs : AreOutputs specs
   pub some : 1 ≤ groups_of_outputs specs
   pub enough : groups_of_outputs specs ≤ member_count by t.owners
+  pub job : told → IsUnderWay Q n
 
-abbrev pub IsReadyFor : Tables → MemberId → Aside → Type 0
-IsReadyFor t by (SpoolDeck n text) = ⊥
-IsReadyFor t by (ReadText runs n fields p) = IsJobFields fields × IsJobReady t n
-IsReadyFor t by (SpoolOutputs n specs p) = AreOutputsReady t by specs
-IsReadyFor t by (PrintLines n i last p) = IsOutputReady t by n i
+-- a unit waits for what it begins with
+abbrev pub IsReadyUnit : Tables → MemberId → Aside → Type 0
+IsReadyUnit t by (SpoolDeck n text) = ⊥
+IsReadyUnit t by (ReadText runs n fields p) = IsJobFields fields × IsJobReady t n
+IsReadyUnit t by (SpoolOutputs n specs p) = ⊥
+IsReadyUnit t by (PrintLines n i last p) = IsOutputReady t by n i last
 
-abbrev pub IsReady : Tables → MemberId → State → Type 0
-IsReady t by (Away aside) = IsReadyFor t by aside
-IsReady t by _ = Unit {0}
+-- a step waits, at this queue
+abbrev pub IsReadyFor : Type 0 → Queue → Tables → MemberId → Aside → Type 0
+IsReadyFor told Q t by (SpoolDeck n text) = ⊥
+IsReadyFor told Q t by (ReadText runs n fields p) = IsJobFields fields × IsJobReady t n
+IsReadyFor told Q t by (SpoolOutputs n specs p) = AreOutputsReady told Q t by n specs
+IsReadyFor told Q t by (PrintLines n i last p) = IsOutputReady t by n i last
+
+abbrev pub IsReady : Type 0 → Queue → Tables → MemberId → State → Type 0
+IsReady told Q t by (Away aside) = IsReadyFor told Q t by aside
+IsReady told Q t by _ = Unit {0}
+
+-- Fewer sittings than so many may follow from this state of a step, and of its units at most so many are done or may
+-- still be played.
+pub record HasFewer (sittings units : ℕ) (s : State) : Type 0 where
+  pub falls : sittings_most s < sittings
+  pub few : units_done s + units_left s ≤ units
 
 -- WHERE A STEP GOES ON, by what was found
 

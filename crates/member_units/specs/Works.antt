@@ -26,6 +26,7 @@ use Rattle.step_turns.specs.declared.states.Holder.{Holder}
 use Rattle.mas_complex.specs.Parts.{parts_of}
 use Rattle.step_turns.specs.declared.states.State.{State}
 use Rattle.member_sittings.specs.Whole.{IsBounded, IsLeftIn, IsSeat, IsSitting}
+use Rattle.member_units.specs.Ready.{IsReady}
 
 -- what others see of a shared value: what its plant shows, the journal with a batch in flight at its end, and which
 -- copies count as alive
@@ -119,6 +120,10 @@ module _ {P C : Type 0} {plants : PlantGhosts P} {steadies : SteadyGhosts C} {co
 
   abbrev pub SitsIn : State → Complex P C plants steadies copies → Member → ℕ → Type 0
   SitsIn s x m at = IsLeftIn plants copies s (parts_of x) m at
+
+  -- what is known where it waits in that state
+  abbrev pub ReadyIn : State → Complex P C plants steadies copies → Member → Type 0
+  ReadyIn s x m = IsReady plants.tells (queue_kept x) m.checkpoint.tables m.id s
 
   abbrev pub HasBounds : Complex P C plants steadies copies → Member → Type 0
   HasBounds x m = IsBounded plants copies (parts_of x) m

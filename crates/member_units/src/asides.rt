@@ -4,7 +4,7 @@ ghost use Rattle.std.specs.Prelude.{◌≡◌, true, false, None, Some};
 ghost use Rattle.mas_types.specs.declared.answers.Closing.TheVariants.{PrinterLost};
 ghost use Rattle.mas_complex.specs.Parts.{parts_of};
 ghost use Rattle.member_sittings.specs.Asides.{deck_found, finds_of};
-ghost use Rattle.member_units.specs.Asides.{MayPrintLines, MayReadText, MayWriteOutputs, PrintsLines, ReadsText, WritesOutputs, read_found};
+ghost use Rattle.member_units.specs.Asides.{MayPrintLines, MayReadText, MayWriteOutputs, OnlyPrints, PrintsLines, ReadsText, WritesOutputs, read_found};
 
 use job_outcome::Read;
 use job_queue::find_job;
@@ -80,8 +80,7 @@ pub fn read_job_text<P: Plant + Drop, C: Steady + Drop>(
     job: JobNo,
 ) -> Result<Found, NodeNo>
     requires { MayReadText complex.old member.now job }
-    ensures frame { parts_of complex.new
-        ≡ record (parts_of complex.old) { plant = complex.new.plant; printed = complex.new.printed } }
+    ensures frame { parts_of complex.new ≡ record (parts_of complex.old) { plant = complex.new.plant } }
     ensures reads { ReadsText complex.old complex.new member.now job result }
 {
     if let Some(group) = gone_deck(complex, job) {
@@ -129,9 +128,11 @@ pub fn write_outputs<P: Plant + Drop, C: Steady + Drop>(
 
 /// Reads the text of the output that is busy at the member and prints its lines up to this one on the member's printer,
 /// except those that the member has printed since its last Pick, Mark, Back or Forward. It needs no lock. A text that
-/// was gone when the run began isn't read. Answers how the text was read, and whether the printer was found lost.
+/// was gone when the run began isn't read. Answers how the text was read, and whether the printer was found lost: then
+/// the lines before the one at which it failed stand on paper.
 ///
-/// NoMemory leaves the first of the lines on paper, perhaps. Halted comes only where the member was stopped.
+/// NoMemory leaves the first of the lines on paper, perhaps. Halted comes only where the member was stopped, which
+/// leaves the first of them, perhaps, and one torn; where that was at its printer it is stopped in the book already.
 pub fn print_next_lines<P: Plant + Drop, C: Steady + Drop>(
     member: &Member,
     alloc: Global,
@@ -141,14 +142,7 @@ pub fn print_next_lines<P: Plant + Drop, C: Steady + Drop>(
     last: u32,
 ) -> Result<Found, NodeNo>
     requires { MayPrintLines complex.old member.now job output last }
-    ensures frame { parts_of complex.new
-        ≡ record (parts_of complex.old) {
-          plant = complex.new.plant;
-          printed = complex.new.printed;
-          book = complex.new.book;
-          reserved
-              = complex.new.reserved;
-        } }
+    ensures frame { OnlyPrints result member.now.id complex.old complex.new }
     ensures prints { PrintsLines complex.old complex.new member.now job output last result }
 {
     if let Some(group) = gone_output(complex, job, output) {

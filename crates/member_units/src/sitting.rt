@@ -1,5 +1,5 @@
 //! The sittings of a step of work, from each state of the step.
-ghost use Rattle.std.specs.Prelude.{◌≡◌, ◌+◌, ◌≤◌, ◌<◌, [], length, None, IfOk, IfSome};
+ghost use Rattle.std.specs.Prelude.{◌≡◌, ◌+◌, ◌*◌, ◌≤◌, ◌<◌, [], length, None, IfOk, IfSome};
 ghost use Rattle.mas_types.specs.declared.commands.Command.TheVariants.{Mark};
 ghost use Rattle.mas_types.specs.Closings.{AreMembersNamed};
 ghost use Rattle.mas_types.specs.Fit.{IsIndex, IsJobFields};
@@ -12,6 +12,7 @@ ghost use Rattle.member_node.specs.Reads.{too_high};
 ghost use Rattle.job_exec.specs.Running.{AreOutputs};
 ghost use Rattle.job_outcome.specs.Outcomes.{AreFitOutputs, IsNamedOutcome};
 ghost use Rattle.member_work.specs.Steps.{IsUnderWay};
+ghost use Rattle.step_turns.specs.Courses.{aside_most};
 ghost use Rattle.step_turns.specs.Laws.{aside_done, aside_units, units_left};
 ghost use Rattle.step_turns.specs.declared.states.State.TheVariants.{Fresh, Rested};
 ghost use Rattle.step_turns.specs.declared.states.Task.TheVariants.{Work as WorkTask};
@@ -20,8 +21,8 @@ ghost use Rattle.step_turns.specs.Turns.{aside_turn, job_ends as job_ends_lem, l
 ghost use Rattle.member_sittings.specs.Sat.{HasSat, begins, resumes, sat_in};
 ghost use Rattle.member_sittings.specs.Whole.{MaySit};
 ghost use Rattle.member_units.specs.Plays.{Plays, wrote_of};
-ghost use Rattle.member_units.specs.Ready.{IsReady, MayResume, OutputsStand};
-ghost use Rattle.member_units.specs.Works.{IsLow, SitsIn, Works, outside, place_of, queue_here, queue_kept, run_of};
+ghost use Rattle.member_units.specs.Ready.{HasFewer, MayResume, OutputsStand};
+ghost use Rattle.member_units.specs.Works.{IsLow, ReadyIn, SitsIn, Works, outside, place_of, queue_here, queue_kept, run_of};
 
 use crate::ends::{close, leave};
 use crate::giving::{end_job, free_groups, give, take_groups};
@@ -85,7 +86,9 @@ fn outputs_stand<P: Plant + Drop, C: Steady + Drop>(
         (wrote_of [] (outputs_stand_lem holder lost (queue_here complex.old member.old) ends.job ends.outputs
         ends.progress)) (place_of complex.old member.old) (outside complex.new) result }
     ensures again { IfOk result (λ e. SitsIn e.next complex.new member.new holder.step) }
-    ensures ready { IfOk result (λ e. IsReady member.new.checkpoint.tables member.new.id e.next) }
+    ensures ready { IfOk result (λ e. ReadyIn e.next complex.new member.new) }
+    ensures fewer { IfOk result (λ e.
+        HasFewer (3 * ends.progress.left + 2) (ends.progress.done + ends.progress.left + 1) e.next) }
     ensures reached { IfOk result (λ e. complex.new.level + units_left e.next
         ≤ complex.old.level + ends.progress.left + 2) }
 {
@@ -122,7 +125,9 @@ fn job_ends<P: Plant + Drop, C: Steady + Drop>(
         (queue_here complex.old member.old) ends.job ends.outputs ends.progress)) (place_of complex.old member.old)
         (outside complex.new) result }
     ensures again { IfOk result (λ e. SitsIn e.next complex.new member.new holder.step) }
-    ensures ready { IfOk result (λ e. IsReady member.new.checkpoint.tables member.new.id e.next) }
+    ensures ready { IfOk result (λ e. ReadyIn e.next complex.new member.new) }
+    ensures fewer { IfOk result (λ e.
+        HasFewer (3 * ends.progress.left + 3) (ends.progress.done + ends.progress.left + 1) e.next) }
     ensures reached { IfOk result (λ e. complex.new.level + units_left e.next
         ≤ complex.old.level + ends.progress.left + 2) }
 {
@@ -167,7 +172,9 @@ fn text_read<P: Plant + Drop, C: Steady + Drop>(
         (wrote_of [] (text_read_lem holder outcome (queue_here complex.old member.old) job.job job.progress))
         (place_of complex.old member.old) (outside complex.new) result }
     ensures again { IfOk result (λ e. SitsIn e.next complex.new member.new holder.step) }
-    ensures ready { IfOk result (λ e. IsReady member.new.checkpoint.tables member.new.id e.next) }
+    ensures ready { IfOk result (λ e. ReadyIn e.next complex.new member.new) }
+    ensures fewer { IfOk result (λ e.
+        HasFewer (3 * job.progress.left + 3) (job.progress.done + job.progress.left + 1) e.next) }
     ensures reached { IfOk result (λ e. complex.new.level + units_left e.next
         ≤ complex.old.level + job.progress.left + 2) }
 {
@@ -227,7 +234,9 @@ fn lines_printed<P: Plant + Drop, C: Steady + Drop>(
         (wrote_of [] (lines_printed_lem holder end (queue_here complex.old member.old) lines.job lines.output lines.last
         lines.progress)) (place_of complex.old member.old) (outside complex.new) result }
     ensures again { IfOk result (λ e. SitsIn e.next complex.new member.new holder.step) }
-    ensures ready { IfOk result (λ e. IsReady member.new.checkpoint.tables member.new.id e.next) }
+    ensures ready { IfOk result (λ e. ReadyIn e.next complex.new member.new) }
+    ensures fewer { IfOk result (λ e.
+        HasFewer (3 * lines.progress.left + 2) (lines.progress.done + lines.progress.left + 1) e.next) }
     ensures reached { IfOk result (λ e. complex.new.level + units_left e.next
         ≤ complex.old.level + lines.progress.left + 2) }
 {
@@ -267,7 +276,8 @@ fn resume<P: Plant + Drop, C: Steady + Drop>(
         (wrote_of [] (aside_turn holder (queue_here complex.old member.old) aside found))
         (place_of complex.old member.old) (outside complex.new) result }
     ensures again { IfOk result (λ e. SitsIn e.next complex.new member.new holder.step) }
-    ensures ready { IfOk result (λ e. IsReady member.new.checkpoint.tables member.new.id e.next) }
+    ensures ready { IfOk result (λ e. ReadyIn e.next complex.new member.new) }
+    ensures fewer { IfOk result (λ e. HasFewer (aside_most aside) (aside_done aside + aside_units aside) e.next) }
     ensures reached { IfOk result (λ e. complex.new.level + units_left e.next
         ≤ complex.old.level + aside_units aside + 1) }
 {
@@ -341,7 +351,8 @@ pub fn sit_work<P: Plant + Drop, C: Steady + Drop>(
     ensures fresh { progress.done ≡ 0
         → HasSat (begins holder (Fresh (WorkTask progress.left))) complex.old complex.new result }
     ensures again { IfOk result (λ e. SitsIn e.next complex.new member.new holder.step) }
-    ensures waits { IfOk result (λ e. IsReady member.new.checkpoint.tables member.new.id e.next) }
+    ensures waits { IfOk result (λ e. ReadyIn e.next complex.new member.new) }
+    ensures fewer { IfOk result (λ e. HasFewer (3 * progress.left + 1) (progress.done + progress.left) e.next) }
     ensures reached { IfOk result (λ e. complex.new.level + units_left e.next ≤ complex.old.level + progress.left + 1) }
 {
     begin(member, alloc, complex, holder, progress)
@@ -370,7 +381,8 @@ pub fn resume_work<P: Plant + Drop, C: Steady + Drop>(
     ensures id { member.new.id ≡ member.old.id }
     ensures sat { HasSat (resumes holder aside found) complex.old complex.new result }
     ensures again { IfOk result (λ e. SitsIn e.next complex.new member.new holder.step) }
-    ensures waits { IfOk result (λ e. IsReady member.new.checkpoint.tables member.new.id e.next) }
+    ensures waits { IfOk result (λ e. ReadyIn e.next complex.new member.new) }
+    ensures fewer { IfOk result (λ e. HasFewer (aside_most aside) (aside_done aside + aside_units aside) e.next) }
     ensures reached { IfOk result (λ e. complex.new.level + units_left e.next
         ≤ complex.old.level + aside_units aside + 1) }
 {

@@ -1,11 +1,11 @@
 //! Units of work one after another, within a sitting.
-ghost use Rattle.std.specs.Prelude.{◌≡◌, ◌+◌, ◌≤◌, ◌<◌, ◌^◌, [], length, OnOk, IfOk};
+ghost use Rattle.std.specs.Prelude.{◌≡◌, ◌+◌, ◌*◌, ◌≤◌, ◌<◌, ◌^◌, [], length, OnOk, IfOk};
 ghost use Rattle.job_outcome.specs.Next.{IsNamedEnd};
 ghost use Rattle.step_turns.specs.Laws.{units_left};
 ghost use Rattle.step_turns.specs.Turns.{goes_on_by, units_from};
 ghost use Rattle.member_units.specs.Plays.{Plays, rests as rests_lem, wrote_after, wrote_of};
-ghost use Rattle.member_units.specs.Ready.{IsReady};
-ghost use Rattle.member_units.specs.Works.{HasRoom, SitsIn, Works, outside, place_of, queue_here, run_of};
+ghost use Rattle.member_units.specs.Ready.{HasFewer};
+ghost use Rattle.member_units.specs.Works.{HasRoom, ReadyIn, SitsIn, Works, outside, place_of, queue_here, run_of};
 
 use crate::ends::{close, leave};
 use crate::giving::{give, keep_full};
@@ -63,7 +63,9 @@ pub(crate) fn go_on<P: Plant + Drop, C: Steady + Drop>(
         (queue_here complex.old member.old) from.given from.progress.done)) (place_of complex.old member.old)
         (outside complex.new) result }
     ensures again { IfOk result (λ e. SitsIn e.next complex.new member.new holder.step) }
-    ensures ready { IfOk result (λ e. IsReady member.new.checkpoint.tables member.new.id e.next) }
+    ensures ready { IfOk result (λ e. ReadyIn e.next complex.new member.new) }
+    ensures fewer { IfOk result (λ e.
+        HasFewer (3 * from.progress.left + 2) (from.progress.done + from.progress.left + 1) e.next) }
     ensures reached { IfOk result (λ e. complex.new.level + units_left e.next
         ≤ complex.old.level + from.progress.left + 2) }
 {
@@ -122,7 +124,8 @@ pub(crate) fn go_on_after<P: Plant + Drop, C: Steady + Drop>(
         (queue_here complex.old member.old) (length member.old.batch) progress.done)) (place_of complex.old member.old)
         (outside complex.new) result }
     ensures again { IfOk result (λ e. SitsIn e.next complex.new member.new holder.step) }
-    ensures ready { IfOk result (λ e. IsReady member.new.checkpoint.tables member.new.id e.next) }
+    ensures ready { IfOk result (λ e. ReadyIn e.next complex.new member.new) }
+    ensures fewer { IfOk result (λ e. HasFewer (3 * progress.left + 2) (progress.done + progress.left + 1) e.next) }
     ensures reached { IfOk result (λ e. complex.new.level + units_left e.next ≤ complex.old.level + progress.left + 2) }
 {
     let given = member.batch.len() as u64;
@@ -147,7 +150,8 @@ pub(crate) fn begin<P: Plant + Drop, C: Steady + Drop>(
         (wrote_of [] (units_from holder progress.left (queue_here complex.old member.old) 0 progress.done))
         (place_of complex.old member.old) (outside complex.new) result }
     ensures again { IfOk result (λ e. SitsIn e.next complex.new member.new holder.step) }
-    ensures ready { IfOk result (λ e. IsReady member.new.checkpoint.tables member.new.id e.next) }
+    ensures ready { IfOk result (λ e. ReadyIn e.next complex.new member.new) }
+    ensures fewer { IfOk result (λ e. HasFewer (3 * progress.left + 1) (progress.done + progress.left) e.next) }
     ensures reached { IfOk result (λ e. complex.new.level + units_left e.next ≤ complex.old.level + progress.left + 1) }
 {
     match next_unit(member, progress) {

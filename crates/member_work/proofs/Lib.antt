@@ -24,6 +24,7 @@ pub mod UnderWayLemmas
 pub mod GoneOutputLemmas
 pub mod JobLemmas
 pub mod PrintedLemmas
+pub mod InkedLemmas
 pub mod PrintLemmas
 pub mod UnitStepLemmas
 pub mod UnitsLemmas

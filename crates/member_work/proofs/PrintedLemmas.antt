@@ -165,7 +165,7 @@ print_failed by old new r is acts = record { lost = acts.is_lost is; rose = acts
 
 -- THE RECORD OF AN OUTPUT
 
-key_of : (n : JobNo) (i : OutNo) (os : List Output) (o : Output) → find (has_key n i) os ≡ Some o → (o.job ≡ n) × (o.index ≡ i)
+pub key_of : (n : JobNo) (i : OutNo) (os : List Output) (o : Output) → find (has_key n i) os ≡ Some o → (o.job ≡ n) × (o.index ≡ i)
 key_of n i os o found = same_key_is n o.job i o.index o (find_passes (has_key n i) os o found) (own_key o)
 
 one_output : (a b : Output) → Some a ≡ Some b → a ≡ b
@@ -223,7 +223,7 @@ chunk_of t by r last output limit upto is = record {
   is = λ Q o told found. let same = output.same Q o told found in is Q told ∙ sym (ap (λ (k : ℕ). min (k + limit_of Q by) (total o)) same.2 ∙ ap (λ (k : ℕ). min (r.mark + limit_of Q by) k) same.4);
 }
 
-still_busy : (Q : Queue) (m : MemberId) (n : JobNo) (i : OutNo) (o : Output) → output_at Q n i ≡ Some o → printing_at Q m ≡ Some o → busy_in (output_at Q n i) m ≡ true
+pub still_busy : (Q : Queue) (m : MemberId) (n : JobNo) (i : OutNo) (o : Output) → output_at Q n i ≡ Some o → printing_at Q m ≡ Some o → busy_in (output_at Q n i) m ≡ true
 still_busy Q m n i o there busy =
     test_cases (is_somebody m) (busy_in (output_at Q n i) m ≡ true)
     (λ e. let found : find (prints_at m) Q.outputs ≡ Some o = rw e at busy in rw there (find_passes (prints_at m) Q.outputs o found))

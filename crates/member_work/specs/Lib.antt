@@ -6,6 +6,7 @@ pub mod Causes
 pub mod Reading
 pub mod Steps
 pub mod Printing
+pub mod Inked
 pub mod JobSteps
 pub mod Laws
 pub mod Examples

@@ -25,6 +25,7 @@ use Rattle.track_groups.specs.Places.{groups_of}
 use Rattle.paper_laws.specs.Next.{limit_of}
 use Rattle.paper_laws.specs.Paper.{busy_in}
 use Rattle.mas_complex.specs.Journals.{entries_in, kept_all}
+use Rattle.mas_complex.specs.Locking.{reserved_after_stop}
 use Rattle.mas_complex.specs.Meaning.{run}
 use Rattle.member_node.specs.declared.member.NodeNo.{NodeNo}
 use Rattle.member_node.specs.declared.member.NodeNo.TheVariants.{BothLost, Halted, ConsoleFault, NoMemory}
@@ -59,6 +60,19 @@ IsBookAfterLines (Err Halted) by was is = is ≡ after_stop was by
 IsBookAfterLines (Err NoMemory) by was is = is ≡ was
 IsBookAfterLines (Err BothLost) by was is = is ≡ was
 IsBookAfterLines (Err ConsoleFault) by was is = is ≡ was
+
+-- and what was reserved: that of a member that was stopped in it is given up
+abbrev pub IsReservedAfterLines : {T : Type 0} → Result T NodeNo → MemberId → Option (List Entry) → Option (List Entry)
+    → Type 0
+IsReservedAfterLines (Ok done) by was is = is ≡ was
+IsReservedAfterLines (Err Halted) by was is = is ≡ reserved_after_stop by was
+IsReservedAfterLines (Err NoMemory) by was is = is ≡ was
+IsReservedAfterLines (Err BothLost) by was is = is ≡ was
+IsReservedAfterLines (Err ConsoleFault) by was is = is ≡ was
+
+-- each device holds what it held
+abbrev pub SameDisks : Type 0 → View → View → Type 0
+SameDisks told old new = told → (d : Dev) → disk_now new d ≡ disk_now old d
 
 -- THE OUTPUT
 

@@ -22,7 +22,8 @@ ghost use Rattle.member_node.specs.Reads.{orders_after, too_high};
 ghost use Rattle.member_decks.specs.Steps.{AreOf, SpoolStops};
 ghost use Rattle.job_outcome.specs.declared.outcomes.Read.TheVariants.{Lines as LinesRead};
 ghost use Rattle.job_outcome.specs.Next.{IsNamedEnd};
-ghost use Rattle.member_work.specs.Printing.{IsBeside, IsBookAfterLines, IsChunkOf, IsLinesPrinted, IsLinesStep, IsMarkStep, IsPrinted, IsPrinting, IsPrintStep, IsToldOutput, MayPrintTo};
+ghost use Rattle.member_work.specs.Inked.{Inks, lines_read, lines_upto};
+ghost use Rattle.member_work.specs.Printing.{IsBeside, IsBookAfterLines, IsChunkOf, IsLinesPrinted, IsLinesStep, IsMarkStep, IsPrinted, IsPrinting, IsPrintStep, IsReservedAfterLines, IsToldOutput, MayPrintTo, SameDisks};
 ghost use Rattle.member_work.specs.Reading.{IsCounted};
 ghost use Rattle.member_work.specs.Rounds.{IsWhole};
 ghost use Rattle.member_work.specs.Steps.{HasCopy, IsAtWork, IsKeeping, IsStepUntold, LeavesBook};
@@ -99,8 +100,11 @@ fn print_lines<P: Plant + Drop, C: Steady + Drop>(
     ensures second { complex.new.second ≡ complex.old.second }
     ensures level { complex.new.level ≡ complex.old.level }
     ensures book { IsBookAfterLines result by complex.old.book complex.new.book }
-    ensures reserved { OnOk result (complex.new.reserved ≡ complex.old.reserved) }
+    ensures reserved { IsReservedAfterLines result by complex.old.reserved complex.new.reserved }
     ensures acts { IsBeside P.tells (P.view complex.old.plant) (P.view complex.new.plant) }
+    ensures disks { SameDisks P.tells (P.view complex.old.plant) (P.view complex.new.plant) }
+    ensures inks { Inks by (lines_upto output.now.job output.now.index
+        (output.now.mark + counts_of complex.old.printed by) last text.now) complex.old complex.new result }
     ensures printed { IfOk result (IsLinesPrinted by (LinesRead text.now) (P.view complex.old.plant)
         (P.view complex.new.plant)) }
     ensures counted { IfOk result (λ end. end ≡ None → last ≤ output.now.mark + counts_of complex.new.printed by) }
@@ -150,8 +154,11 @@ pub fn print_text<P: Plant + Drop, C: Steady + Drop>(
     ensures second { complex.new.second ≡ complex.old.second }
     ensures level { complex.new.level ≡ complex.old.level }
     ensures book { IsBookAfterLines result by complex.old.book complex.new.book }
-    ensures reserved { OnOk result (complex.new.reserved ≡ complex.old.reserved) }
+    ensures reserved { IsReservedAfterLines result by complex.old.reserved complex.new.reserved }
     ensures acts { IsBeside P.tells (P.view complex.old.plant) (P.view complex.new.plant) }
+    ensures disks { SameDisks P.tells (P.view complex.old.plant) (P.view complex.new.plant) }
+    ensures inks { Inks by (lines_read output.now.job output.now.index
+        (output.now.mark + counts_of complex.old.printed by) last read.now) complex.old complex.new result }
     ensures printed { IfOk result (IsLinesPrinted by read.now (P.view complex.old.plant) (P.view complex.new.plant)) }
     ensures counted { IfOk result (λ end. end ≡ None → last ≤ output.now.mark + counts_of complex.new.printed by) }
     ensures cause { SpoolStops result by.0 (P.view complex.old.plant) (P.view complex.new.plant) }

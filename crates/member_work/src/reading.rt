@@ -52,6 +52,7 @@ fn read_page<P: Plant + Drop, C: Steady + Drop>(
     ensures journal { complex.new.journal ≡ complex.old.journal }
     ensures current { complex.new.current ≡ complex.old.current }
     ensures reserved { complex.new.reserved ≡ complex.old.reserved }
+    ensures printed { complex.new.printed ≡ complex.old.printed }
     ensures placed { complex.new.placed ≡ complex.old.placed }
     ensures first { complex.new.first ≡ complex.old.first }
     ensures second { complex.new.second ≡ complex.old.second }
@@ -100,6 +101,7 @@ fn add_group<P: Plant + Drop, C: Steady + Drop>(
     ensures journal { complex.new.journal ≡ complex.old.journal }
     ensures current { complex.new.current ≡ complex.old.current }
     ensures reserved { complex.new.reserved ≡ complex.old.reserved }
+    ensures printed { complex.new.printed ≡ complex.old.printed }
     ensures placed { complex.new.placed ≡ complex.old.placed }
     ensures first { complex.new.first ≡ complex.old.first }
     ensures second { complex.new.second ≡ complex.old.second }
@@ -166,6 +168,7 @@ pub fn read_text<P: Plant + Drop, C: Steady + Drop>(
     ensures journal { complex.new.journal ≡ complex.old.journal }
     ensures current { complex.new.current ≡ complex.old.current }
     ensures reserved { complex.new.reserved ≡ complex.old.reserved }
+    ensures printed { complex.new.printed ≡ complex.old.printed }
     ensures placed { complex.new.placed ≡ complex.old.placed }
     ensures first { complex.new.first ≡ complex.old.first }
     ensures second { complex.new.second ≡ complex.old.second }

@@ -1,9 +1,7 @@
-use Rattle.std.proofs.Common.{◌≡◌, ◌∙◌, ◌<◌, ◌≤◌, ℕ, List, All, Bool, true, false, Option, Some, None, Ok, Err, ap, refl, subst, sym, arith}
+use Rattle.std.proofs.Common.{◌≡◌, ◌∙◌, ◌+◌, ◌<◌, ℕ, List, [], All, false, Option, Some, Ok, Err, ap, refl, subst, sym, arith}
 use Rattle.std.proofs.lemmas.Result.{err_from_is_err_and}
 use Rattle.mas_types.specs.declared.answers.Closing.{Closing}
 use Rattle.mas_types.specs.declared.ids.GroupNo.{GroupNo}
-use Rattle.mas_types.specs.declared.ids.JobNo.{JobNo}
-use Rattle.mas_types.specs.declared.ids.OutNo.{OutNo}
 use Rattle.mas_types.specs.Queue.{output_at}
 use Rattle.mas_types.specs.declared.journals.Batch.{Batch}
 use Rattle.mas_types.specs.declared.journals.Journal.{Journal}
@@ -11,33 +9,36 @@ use Rattle.mas_types.specs.declared.jobs.Output.{Output}
 use Rattle.mas_types.specs.declared.jobs.Text.TheVariants.{Whole}
 use Rattle.mas_types.specs.declared.queues.Config.{Config}
 use Rattle.mas_types.specs.declared.queues.Queue.{Queue}
-use Rattle.mas_types.specs.declared.queues.Thing.{Thing}
 use Rattle.mas_types.specs.declared.queues.Thing.TheVariants.{Output as OutputThing}
 use Rattle.lock_cycle.specs.Books.{Book, IsMember, is_stopped}
 use Rattle.track_groups.specs.Places.{groups_of}
-use Rattle.queue_tables.specs.Telling.{Tell}
 use Rattle.mas_complex.specs.Journals.{kept_all}
 use Rattle.mas_complex.specs.Locking.{IsOfOther}
 use Rattle.mas_complex.specs.Meaning.{run}
 use Rattle.mas_complex.specs.Parts.{parts_of}
 use Rattle.mas_complex.specs.Spool.{IsGroupOf}
-use Rattle.spool_disk.specs.View.{View}
 use Rattle.member_node.proofs.SpareLemmas.{spares_none, spares_then}
+use Rattle.mas_complex.specs.Paper.{counts_of}
+use Rattle.mas_complex.specs.Texts.{spools_at}
 use Rattle.member_decks.proofs.OpenLemmas.{tells_some}
+use Rattle.member_decks.proofs.PageLemmas.{quiet_none}
 use Rattle.job_outcome.specs.declared.outcomes.Read.{Read}
 use Rattle.job_outcome.specs.declared.outcomes.Read.TheVariants as read
-use Rattle.member_work.specs.Printing.{IsChunkOf, IsPrinting, MayPrintTo}
+use Rattle.member_work.specs.Inked.{HasInked, is_printer_lost, lines_read}
+use Rattle.member_work.specs.Looks.{as_it_is}
+use Rattle.member_work.specs.Printing.{IsBookAfterLines, IsChunkOf, IsPrinting, IsReservedAfterLines, MayPrintTo}
 use Rattle.member_work.specs.Rounds.{IsReadAs}
+use Rattle.member_work.proofs.InkedLemmas.{inked_after, inked_all, inked_wanting, printed_none}
 use Rattle.member_work.proofs.LookingLemmas.{groups_within}
-use Rattle.member_work.proofs.PrintedLemmas.{beside_none, beside_on, beside_volumes, failed_wider, lines_whole, may_print_to, output_key, output_seen, told_output, whole_output}
+use Rattle.member_work.proofs.PrintedLemmas.{beside_none, beside_on, beside_volumes, failed_wider, lines_whole, output_key, told_output, whole_output}
 use Rattle.member_work.proofs.ReadLemmas.{stops_later}
 use Rattle.member_work.proofs.RoundLemmas.{wider_read}
 use Rattle.member_work.specs.Reading.{IsFailedRead}
-use Rattle.spool_disk.specs.Acts.{Goes}
 use Rattle.ckpt_copy.specs.Moments.{goes_none}
-use Rattle.member_units.specs.Asides.{FindsLines, read_found}
+use Rattle.member_units.specs.Asides.{FindsLines, IsOutputStill, lines_next, printed_in, read_found}
 use Rattle.step_turns.specs.declared.states.Found.{Found}
-use Rattle.member_units.proofs.Shown.{chunk_from, failed_later, gone_is, none_refused, printer_lost}
+use Rattle.member_units.proofs.Printed.{inked_as_it_is, inked_error, inked_found, inked_unread, only_error, only_lines, papers_now, quiet_disks, same_lines, same_lost}
+use Rattle.member_units.proofs.Shown.{chunk_from, failed_later, gone_is, may_print_still, none_refused, output_read, output_was, printer_lost}
 use Rattle.member_units.proofs.asides.print_next_lines.Goals as goal
 
 -- A TEXT THAT WAS GONE
@@ -53,6 +54,10 @@ returns-in-Some-clause-prints g c =
     let v = P.view x.plant in
     record {
       acts = beside_none P.tells v;
+      reads = λ told. quiet_none (spools_at v v.now);
+      inks = λ told o there.
+          subst (λ (f : Found). HasInked P (λ (k : Found). k.printer) m.id (lines_next (counts_of x.printed m.id) c.args.last o f.read) (parts_of x) (parts_of x) (Ok f)) (sym c.found_read.ensures)
+          (inked_all P m.id [] (λ (k : Found). k.printer) (parts_of x) (parts_of x) (printed_none P m.id [] (parts_of x)) (omega arith) (read_found (read.Gone c.in-Some.group)) refl (omega arith));
       cause = spares_none m.id.0 v;
       finds = subst (λ (f : Found). FindsLines P (parts_of x) (parts_of x) m c.args.job c.args.output c.args.last f) (sym c.found_read.ensures)
           (record {
@@ -109,7 +114,7 @@ print_text-requires-clause-limit g c =
     let t = c.args.member.now.checkpoint.tables in
     let f = c.in-Some-find_output.found in
     let its = told_output t c.args.job c.args.output f.at f.item c.requires.may.spelling (rw c.as_slice.ensures at c.in-Some-find_output.ensures.some) (rw c.as_slice.ensures at c.in-Some-find_output.ensures.here) in
-    (chunk_from t c.args.member.now.id c.args.job c.args.output f.at f.item c.args.last c.requires.may.spelling (rw c.as_slice.ensures at c.in-Some-find_output.ensures.some) its c.requires.chunk).limit
+    (chunk_from t c.args.member.now.id c.args.job c.args.output f.at f.item c.args.last c.requires.may.spelling (rw c.as_slice.ensures at c.in-Some-find_output.ensures.some) its c.requires.output.chunk).limit
 
 pub print_text-requires-clause-some : goal.print_text-requires-clause-some
 print_text-requires-clause-some g c =
@@ -124,27 +129,26 @@ print_text-requires-clause-may g c told lines is =
     let y = c.read_text.new.complex in
     let m = c.args.member.now in
     let t = m.checkpoint.tables in
+    let n = c.args.job in
+    let i = c.args.output in
     let f = c.in-Some-find_output.found in
     let r = f.item in
     let some = rw c.as_slice.ensures at c.in-Some-find_output.ensures.some in
-    let rec = told_output t c.args.job c.args.output f.at r c.requires.may.spelling some (rw c.as_slice.ensures at c.in-Some-find_output.ensures.here) in
-    let key = output_key t c.args.job c.args.output f.at r some in
-    let chunk : IsChunkOf t m.id r c.args.last = chunk_from t m.id c.args.job c.args.output f.at r c.args.last c.requires.may.spelling some rec c.requires.chunk in
+    let rec = told_output t n i f.at r c.requires.may.spelling some (rw c.as_slice.ensures at c.in-Some-find_output.ensures.here) in
+    let key = output_key t n i f.at r some in
+    let chunk : IsChunkOf t m.id r c.args.last = chunk_from t m.id n i f.at r c.args.last c.requires.may.spelling some rec c.requires.output.chunk in
     let Q : Queue = run x.base (kept_all x.journal.batches) in
-    let tell : Tell t Q = c.requires.told told in
-    let named : (R : Queue) → output_at R r.job r.index ≡ output_at R c.args.job c.args.output = λ R. ap (λ (k : JobNo). output_at R k r.index) key.0 ∙ ap (output_at R c.args.job) key.1 in
-    let busy : IsPrinting Q m.id c.args.job c.args.output = c.requires.output.printing Q tell c.requires.sound in
+    let still : IsOutputStill t m.id n i Q = c.requires.still told in
+    let busy : IsPrinting still.was m.id n i = c.requires.output.printing still.was still.told c.requires.sound in
     let out : Output = busy.output in
-    let there : output_at Q r.job r.index ≡ Some out = named Q ∙ busy.there in
-    let p : IsPrinting Q m.id r.job r.index = record { output = out; there = there; busy = busy.busy; below = busy.below } in
-    let its = OutputThing r.job r.index in
-    let list : c.as_slice-groups.result.now ≡ groups_of its t.owners = rw (key.0, key.1) (c.as_slice-groups.ensures ∙ c.in-Ok.ensures ∙ ap (groups_of (OutputThing c.args.job c.args.output)) c.as_slice-2.ensures) in
-    let seen : IsReadAs P.tells x.base.config.groups out.text (groups_of its Q.owners) (Some c.in_ok-read.read) (P.view x.plant) (P.view y.plant) =
-    output_seen P.tells x.base.config t Q (P.view x.plant) (P.view y.plant) r out c.in_ok-read.read tell rec there told
-    (whole_output out.text (sym (c.gone_output.ensures.gone told out busy.there) ∙ c.in_default.is)) (c.requires.roomy told) (c.kept_texts.ensures.kept told) (rw list at c.in_ok-read.ensures.read) (rw list at c.in_ok-read.ensures.failed) in
-    let as_lines : IsReadAs P.tells x.base.config.groups out.text (groups_of its Q.owners) (Some (read.Lines lines)) (P.view x.plant) (P.view y.plant) = rw is at seen in
-    let text : out.text ≡ Whole lines = lines_whole P.tells x.base.config.groups out.text (groups_of its Q.owners) lines (P.view x.plant) (P.view y.plant) told as_lines in
-    let may : MayPrintTo x.base x.journal.batches y.current m.id r.job r.index r.mark c.args.last lines = may_print_to x.base x.journal.batches y.current m.id t r c.args.last lines (c.read_text.ensures.current ∙ c.requires.none) tell rec chunk p text in
+    let there : output_at Q n i ≡ Some out = still.output ∙ busy.there in
+    let list : c.as_slice-groups.result.now ≡ groups_of (OutputThing n i) t.owners = c.as_slice-groups.ensures ∙ c.in-Ok.ensures ∙ ap (groups_of (OutputThing n i)) c.as_slice-2.ensures in
+    let seen : IsReadAs P.tells x.base.config.groups out.text (groups_of (OutputThing n i) Q.owners) (Some c.in_ok-read.read) (P.view x.plant) (P.view y.plant) =
+    output_read P.tells x.base.config t Q (P.view x.plant) (P.view y.plant) n i m.id r out c.in_ok-read.read still rec key.0 key.1 there told
+    (whole_output out.text (sym (c.gone_output.ensures.gone told out there) ∙ c.in_default.is)) (c.requires.roomy told) (c.kept_texts.ensures.kept told) (rw list at c.in_ok-read.ensures.read) (rw list at c.in_ok-read.ensures.failed) in
+    let as_lines : IsReadAs P.tells x.base.config.groups out.text (groups_of (OutputThing n i) Q.owners) (Some (read.Lines lines)) (P.view x.plant) (P.view y.plant) = rw is at seen in
+    let text : out.text ≡ Whole lines = lines_whole P.tells x.base.config.groups out.text (groups_of (OutputThing n i) Q.owners) lines (P.view x.plant) (P.view y.plant) told as_lines in
+    let may : MayPrintTo x.base x.journal.batches y.current m.id r.job r.index r.mark c.args.last lines = may_print_still x.base x.journal.batches y.current m.id t n i r c.args.last lines (c.read_text.ensures.current ∙ c.requires.none) still rec chunk key.0 key.1 busy text in
     subst (λ (q : Queue). MayPrintTo q y.journal.batches y.current m.id r.job r.index r.mark c.args.last lines) (sym c.read_text.ensures.base)
     (subst (λ (j : Journal). MayPrintTo x.base j.batches y.current m.id r.job r.index r.mark c.args.last lines) (sym c.read_text.ensures.journal) may)
 
@@ -153,27 +157,60 @@ print_text-requires-clause-may g c told lines is =
 pub returns-in_default-groups_of-clause-prints : goal.returns-in_default-groups_of-clause-prints
 returns-in_default-groups_of-clause-prints g c =
     let P = g.P.Plant in
+    let x = c.args.complex.now in
     let m = c.args.member.now in
-    let v = P.view c.args.complex.now.plant in
-    record { acts = beside_none P.tells v; cause = spares_none m.id.0 v; finds = tt }
+    let v = P.view x.plant in
+    record {
+      acts = beside_none P.tells v;
+      reads = λ told. quiet_none (spools_at v v.now);
+      inks = λ told o there.
+          let lines = lines_next (counts_of x.printed m.id) c.args.last o (as_it_is o.text) in
+          inked_wanting P m.id lines (λ (k : Found). k.printer) (parts_of x) (parts_of x) (printed_none P m.id lines (parts_of x)) (omega arith) (omega arith);
+      cause = spares_none m.id.0 v;
+      finds = tt;
+    }
 
 pub returns-in_err-read-clause-frame : goal.returns-in_err-read-clause-frame
 returns-in_err-read-clause-frame g c =
     let e = c.read_text.ensures in
-    rw (e.pair, e.base, e.since, e.book, e.journal, e.current, e.reserved, e.placed, e.first, e.second, e.level) refl
+    let x = parts_of c.args.complex.now in
+    let y = parts_of c.read_text.new.complex in
+    let same : y ≡ printed_in y x = rw (e.pair, e.base, e.since, e.book, e.journal, e.current, e.reserved, e.placed, e.first, e.second, e.level) refl in
+    let p = err_from_is_err_and c.from_residual.result c.from_residual.ensures.1 in
+    rw (p.1, p.2) (only_error c.args.member.now.id x y Found c.in_err-read.field-0.0 same)
 
 pub returns-in_err-read-clause-prints : goal.returns-in_err-read-clause-prints
 returns-in_err-read-clause-prints g c =
     let P = g.P.Plant in
     let m = c.args.member.now.id in
     let p = err_from_is_err_and c.from_residual.result c.from_residual.ensures.1 in
-    rw (p.1, p.2) (record { acts = beside_volumes P.tells m.0 (P.view c.args.complex.now.plant) (P.view c.read_text.new.complex.plant) c.read_text.ensures.acts; cause = c.in_err-read.ensures.cause; finds = tt })
+    let x = c.args.complex.now in
+    let y = c.read_text.new.complex in
+    let v = P.view x.plant in
+    let w = P.view y.plant in
+    rw (p.1, p.2) (record {
+      acts = beside_volumes P.tells m.0 v w c.read_text.ensures.acts;
+      reads = c.read_text.ensures.reads;
+      inks = λ told o there.
+          inked_unread P m (lines_next (counts_of x.printed m) c.args.last o (as_it_is o.text)) (parts_of x) (parts_of y) (λ (k : Found). k.printer) c.in_err-read.field-0.0 c.in_err-read.ensures.cause
+          (papers_now P.tells m.0 v w c.read_text.ensures.acts told) c.read_text.ensures.printed;
+      cause = c.in_err-read.ensures.cause;
+      finds = tt;
+    })
 
 pub returns-in_err-end-clause-frame : goal.returns-in_err-end-clause-frame
 returns-in_err-end-clause-frame g c =
     let e = c.read_text.ensures in
     let f = c.print_text.ensures in
-    rw (f.pair, f.base, f.since, f.journal, f.current, f.placed, f.first, f.second, f.level, e.pair, e.base, e.since, e.journal, e.current, e.placed, e.first, e.second, e.level) refl
+    let m = c.args.member.now.id in
+    let x = parts_of c.args.complex.now in
+    let z = parts_of c.print_text.new.complex in
+    let same : z ≡ record (printed_in z x) { book = z.book; reserved = z.reserved } =
+    rw (f.pair, f.base, f.since, f.journal, f.current, f.placed, f.first, f.second, f.level, e.pair, e.base, e.since, e.journal, e.current, e.placed, e.first, e.second, e.level) refl in
+    let book : IsBookAfterLines {T = Option Closing} (Err c.in_err-end.field-0.0) m x.book z.book = rw e.book at c.in_err-end.ensures.book in
+    let reserved : IsReservedAfterLines {T = Option Closing} (Err c.in_err-end.field-0.0) m x.reserved z.reserved = rw e.reserved at c.in_err-end.ensures.reserved in
+    let p = err_from_is_err_and c.from_residual-in_err-end.result c.from_residual-in_err-end.ensures.1 in
+    rw (p.1, p.2) (only_lines m x z (Option Closing) Found c.in_err-end.field-0.0 same book reserved)
 
 pub returns-in_err-end-clause-prints : goal.returns-in_err-end-clause-prints
 returns-in_err-end-clause-prints g c =
@@ -185,6 +222,36 @@ returns-in_err-end-clause-prints g c =
     let p = err_from_is_err_and c.from_residual-in_err-end.result c.from_residual-in_err-end.ensures.1 in
     rw (p.1, p.2) (record {
       acts = beside_on P.tells v w z (beside_volumes P.tells m.0 v w c.read_text.ensures.acts) c.print_text.ensures.acts;
+      reads = λ told. quiet_disks (spools_at v v.now) w z (c.print_text.ensures.disks told) (c.read_text.ensures.reads told);
+      inks = λ told o there.
+          let X = c.args.complex.now in
+          let Y = c.read_text.new.complex in
+          let Z = c.print_text.new.complex in
+          let M = c.args.member.now in
+          let t = M.checkpoint.tables in
+          let n = c.args.job in
+          let i = c.args.output in
+          let r = c.in-Some-find_output.found.item in
+          let some = rw c.as_slice.ensures at c.in-Some-find_output.ensures.some in
+          let rec = told_output t n i c.in-Some-find_output.found.at r c.requires.may.spelling some (rw c.as_slice.ensures at c.in-Some-find_output.ensures.here) in
+          let key = output_key t n i c.in-Some-find_output.found.at r some in
+          let Q : Queue = run X.base (kept_all X.journal.batches) in
+          let still : IsOutputStill t m n i Q = c.requires.still told in
+          let same = output_was P.tells X.base.config t Q v w n i m r o still rec key.0 key.1 there in
+          let list : c.as_slice-groups.result.now ≡ groups_of (OutputThing n i) t.owners = c.as_slice-groups.ensures ∙ c.in-Ok.ensures ∙ ap (groups_of (OutputThing n i)) c.as_slice-2.ensures in
+          let a = c.in_ok-read.read in
+          let seen : IsReadAs P.tells X.base.config.groups o.text (groups_of (OutputThing n i) Q.owners) (Some a) v w =
+          output_read P.tells X.base.config t Q v w n i m r o a still rec key.0 key.1 there told
+          (whole_output o.text (sym (c.gone_output.ensures.gone told o there) ∙ c.in_default.is)) (c.requires.roomy told) (c.kept_texts.ensures.kept told) (rw list at c.in_ok-read.ensures.read) (rw list at c.in_ok-read.ensures.failed) in
+          let was : ℕ = counts_of X.printed m in
+          let is : ℕ = counts_of Y.printed m in
+          let counts : is ≡ was = ap (λ (l : List ℕ). counts_of l m) c.read_text.ensures.printed in
+          let lines = lines_read r.job r.index (r.mark + is) c.args.last a in
+          let from_reading : HasInked P is_printer_lost m lines (parts_of X) (parts_of Z) (Err c.in_err-end.field-0.0) =
+          inked_after P is_printer_lost m lines (parts_of X) (parts_of Y) (parts_of Z) (Err c.in_err-end.field-0.0) (papers_now P.tells m.0 v w c.read_text.ensures.acts told) c.read_text.ensures.printed (c.in_err-end.ensures.inks told) in
+          inked_as_it_is P m P.tells X.base.config.groups (groups_of (OutputThing n i) Q.owners) v w o was c.args.last (parts_of X) (parts_of Z) (λ (k : Found). k.printer) c.in_err-end.field-0.0 a told seen
+          (subst (λ (ls : List (List ℕ)). HasInked P (λ (k : Found). k.printer) m ls (parts_of X) (parts_of Z) (Err c.in_err-end.field-0.0)) (same_lines r o was is c.args.last a same.0 same.1 same.2 counts)
+          (inked_error P m lines (parts_of X) (parts_of Z) {S = Option Closing} is_printer_lost (λ (k : Found). k.printer) c.in_err-end.field-0.0 from_reading));
       cause = stops_later {T = Option Closing} m.0 v w z (Err c.in_err-end.field-0.0) c.read_text.ensures.acts.goes c.in_ok-read.ensures.cause c.in_err-end.ensures.cause;
       finds = tt;
     })
@@ -193,7 +260,7 @@ pub returns-clause-frame : goal.returns-clause-frame
 returns-clause-frame g c =
     let e = c.read_text.ensures in
     let f = c.print_text.ensures in
-    rw (f.pair, f.base, f.since, f.journal, f.current, f.placed, f.first, f.second, f.level, e.pair, e.base, e.since, e.journal, e.current, e.placed, e.first, e.second, e.level) refl
+    rw (f.pair, f.base, f.since, f.journal, f.current, f.placed, f.first, f.second, f.level, c.in_ok-end.ensures.book, c.in_ok-end.ensures.reserved, e.pair, e.base, e.since, e.book, e.journal, e.current, e.reserved, e.placed, e.first, e.second, e.level) refl
 
 pub returns-clause-prints : goal.returns-clause-prints
 returns-clause-prints g c =
@@ -203,37 +270,53 @@ returns-clause-prints g c =
     let z = c.print_text.new.complex in
     let m = c.args.member.now in
     let t = m.checkpoint.tables in
+    let n = c.args.job in
+    let i = c.args.output in
     let f = c.in-Some-find_output.found in
     let r = f.item in
     let some = rw c.as_slice.ensures at c.in-Some-find_output.ensures.some in
-    let rec = told_output t c.args.job c.args.output f.at r c.requires.may.spelling some (rw c.as_slice.ensures at c.in-Some-find_output.ensures.here) in
-    let key = output_key t c.args.job c.args.output f.at r some in
+    let rec = told_output t n i f.at r c.requires.may.spelling some (rw c.as_slice.ensures at c.in-Some-find_output.ensures.here) in
+    let key = output_key t n i f.at r some in
     let Q : Queue = run x.base (kept_all x.journal.batches) in
     let o = c.in_ok-read.read in
     let v = P.view x.plant in
     let w = P.view y.plant in
+    let u = P.view z.plant in
     let k = c.in_ok-end.ensures.printed in
-    let list : c.as_slice-groups.result.now ≡ groups_of (OutputThing c.args.job c.args.output) t.owners = c.as_slice-groups.ensures ∙ c.in-Ok.ensures ∙ ap (groups_of (OutputThing c.args.job c.args.output)) c.as_slice-2.ensures in
+    let its : List GroupNo = groups_of (OutputThing n i) t.owners in
+    let list : c.as_slice-groups.result.now ≡ its = c.as_slice-groups.ensures ∙ c.in-Ok.ensures ∙ ap (groups_of (OutputThing n i)) c.as_slice-2.ensures in
     let found = c.found_printed.ensures in
-    let thing : OutputThing r.job r.index ≡ OutputThing c.args.job c.args.output = ap (λ (n : JobNo). OutputThing n r.index) key.0 ∙ ap (λ (i : OutNo). OutputThing c.args.job i) key.1 in
-    let wider : (old mid new : View) → Goes mid new → IsFailedRead x.base.config.groups (groups_of (OutputThing c.args.job c.args.output) t.owners) o old mid → IsFailedRead x.base.config.groups (groups_of (OutputThing c.args.job c.args.output) t.owners) o old new =
-    λ old mid new goes failed. failed_later x.base.config.groups (groups_of (OutputThing c.args.job c.args.output) t.owners) o old mid new goes failed in
+    let was : ℕ = counts_of x.printed m.id in
+    let is : ℕ = counts_of y.printed m.id in
+    let counts : is ≡ was = ap (λ (l : List ℕ). counts_of l m.id) c.read_text.ensures.printed in
+    let wider : IsFailedRead x.base.config.groups its o v u = failed_later x.base.config.groups its o v w u c.print_text.ensures.acts.goes (rw list at c.in_ok-read.ensures.failed) in
     record {
-      acts = beside_on P.tells v w (P.view z.plant) (beside_volumes P.tells m.id.0 v w c.read_text.ensures.acts) c.print_text.ensures.acts;
-      cause = spares_then m.id.0 false v w (P.view z.plant) c.in_ok-read.ensures.cause c.in_ok-end.ensures.cause;
+      acts = beside_on P.tells v w u (beside_volumes P.tells m.id.0 v w c.read_text.ensures.acts) c.print_text.ensures.acts;
+      reads = λ told. quiet_disks (spools_at v v.now) w u (c.print_text.ensures.disks told) (c.read_text.ensures.reads told);
+      inks = λ told out there.
+          let still : IsOutputStill t m.id n i Q = c.requires.still told in
+          let same = output_was P.tells x.base.config t Q v w n i m.id r out still rec key.0 key.1 there in
+          let lines = lines_read r.job r.index (r.mark + is) c.args.last o in
+          let from_reading : HasInked P is_printer_lost m.id lines (parts_of x) (parts_of z) (Ok c.in_ok-end.end) =
+          inked_after P is_printer_lost m.id lines (parts_of x) (parts_of y) (parts_of z) (Ok c.in_ok-end.end) (papers_now P.tells m.id.0 v w c.read_text.ensures.acts told) c.read_text.ensures.printed (c.in_ok-end.ensures.inks told) in
+          subst (λ (b : Read). HasInked P (λ (a : Found). a.printer) m.id (lines_next was c.args.last out b) (parts_of x) (parts_of z) (Ok c.found_printed.result)) (sym found.read)
+          (subst (λ (ls : List (List ℕ)). HasInked P (λ (a : Found). a.printer) m.id ls (parts_of x) (parts_of z) (Ok c.found_printed.result)) (same_lines r out was is c.args.last o same.0 same.1 same.2 counts)
+          (inked_found P m.id lines (parts_of x) (parts_of z) {S = Option Closing} is_printer_lost (λ (a : Found). a.printer) c.in_ok-end.end c.found_printed.result
+          (same_lost c.found_printed.result.printer k.lost o c.in_ok-end.end k.is found.printer found.not) from_reading));
+      cause = spares_then m.id.0 false v w u c.in_ok-read.ensures.cause c.in_ok-end.ensures.cause;
       finds = record {
         only = found.lost;
         fits = rw found.read c.in_ok-read.ensures.fits;
-        failed = rw found.read (wider v w (P.view z.plant) c.print_text.ensures.acts.goes (rw list at c.in_ok-read.ensures.failed));
+        failed = rw found.read wider;
         read = rw found.read (λ told roomy out there.
-            let seen : IsReadAs P.tells x.base.config.groups out.text (groups_of (OutputThing r.job r.index) Q.owners) (Some o) v w = output_seen P.tells x.base.config t Q v w r out o (c.requires.told told) rec (rw (key.0, key.1) there) told (whole_output out.text (sym (c.gone_output.ensures.gone told out there) ∙ c.in_default.is)) roomy (c.kept_texts.ensures.kept told)
-            (rw (key.0, key.1) (rw list at c.in_ok-read.ensures.read)) (rw (key.0, key.1) (rw list at c.in_ok-read.ensures.failed)) in
-            wider_read P.tells x.base.config.groups m.id 0 v v w (P.view z.plant) (goes_none v) c.print_text.ensures.acts.goes out.text (groups_of (OutputThing c.args.job c.args.output) Q.owners) (Some o)
-            (subst (λ (its : Thing). IsReadAs P.tells x.base.config.groups out.text (groups_of its Q.owners) (Some o) v w) thing seen));
-        printer = λ is. failed_wider m.id v w (P.view z.plant) (P.view z.plant) c.read_text.ensures.acts.goes (goes_none (P.view z.plant)) (k.printer (printer_lost k.lost o (sym k.is ∙ found.printer is)));
+            let seen : IsReadAs P.tells x.base.config.groups out.text (groups_of (OutputThing n i) Q.owners) (Some o) v w =
+            output_read P.tells x.base.config t Q v w n i m.id r out o (c.requires.still told) rec key.0 key.1 there told
+            (whole_output out.text (sym (c.gone_output.ensures.gone told out there) ∙ c.in_default.is)) roomy (c.kept_texts.ensures.kept told) (rw list at c.in_ok-read.ensures.read) (rw list at c.in_ok-read.ensures.failed) in
+            wider_read P.tells x.base.config.groups m.id 0 v v w u (goes_none v) c.print_text.ensures.acts.goes out.text (groups_of (OutputThing n i) Q.owners) (Some o) seen);
+        printer = λ is. failed_wider m.id v w u u c.read_text.ensures.acts.goes (goes_none u) (k.printer (printer_lost k.lost o (sym k.is ∙ found.printer is)));
         counted = λ none told out there.
             let done = c.in_ok-end.ensures.counted (k.is ∙ none_refused k.lost c.found_printed.result.printer o (λ no is. found.not no (k.is ∙ is)) (rw found.read at none)) in
-            let same = rec.same Q out (c.requires.told told) (rw (key.0, key.1) there) in
+            let same = output_was P.tells x.base.config t Q v w n i m.id r out (c.requires.still told) rec key.0 key.1 there in
             omega (arith, done, same.2);
       };
     }

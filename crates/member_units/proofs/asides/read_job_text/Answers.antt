@@ -1,12 +1,9 @@
-use Rattle.std.proofs.Common.{◌≡◌, ◌∙◌, List, All, Some, None, ap, refl, subst, sym}
+use Rattle.std.proofs.Common.{◌≡◌, ◌∙◌, List, All, ap, refl, subst, sym}
 use Rattle.std.proofs.lemmas.Result.{err_from_is_err_and}
 use Rattle.mas_types.specs.declared.ids.GroupNo.{GroupNo}
-use Rattle.mas_types.specs.declared.jobs.Job.{Job}
 use Rattle.mas_types.specs.declared.queues.Config.{Config}
 use Rattle.mas_types.specs.declared.queues.Queue.{Queue}
 use Rattle.mas_types.specs.declared.queues.Thing.TheVariants.{Deck}
-use Rattle.mas_types.specs.Queue.{job_at}
-use Rattle.spool_volumes.specs.Volumes.{AreRoomy}
 use Rattle.track_groups.specs.Places.{groups_of}
 use Rattle.mas_complex.specs.Journals.{kept_all}
 use Rattle.mas_complex.specs.Meaning.{run}
@@ -16,10 +13,10 @@ use Rattle.member_node.proofs.SpareLemmas.{spares_none}
 use Rattle.member_decks.proofs.OpenLemmas.{tells_some}
 use Rattle.member_decks.proofs.PageLemmas.{acts_none, quiet_none}
 use Rattle.mas_complex.specs.Texts.{spools_at}
-use Rattle.member_work.proofs.JobLemmas.{found_number, whole_text}
+use Rattle.member_work.proofs.JobLemmas.{whole_text}
 use Rattle.member_work.proofs.LookingLemmas.{groups_within, number_of, told_job}
 use Rattle.step_turns.specs.declared.states.Found.{Found}
-use Rattle.member_units.specs.Asides.{FindsText, read_found}
+use Rattle.member_units.specs.Asides.{FindsText}
 use Rattle.member_units.proofs.Shown.{gone_is, job_seen}
 use Rattle.member_units.proofs.asides.read_job_text.Goals as goal
 
@@ -85,7 +82,7 @@ returns-in_default-groups_of-clause-reads g c =
 pub returns-in_err-read-clause-frame : goal.returns-in_err-read-clause-frame
 returns-in_err-read-clause-frame g c =
     let e = c.read_text.ensures in
-    rw (e.pair, e.base, e.since, e.book, e.journal, e.current, e.reserved, e.placed, e.first, e.second, e.level) refl
+    rw (e.pair, e.base, e.since, e.book, e.journal, e.current, e.reserved, e.printed, e.placed, e.first, e.second, e.level) refl
 
 pub returns-in_err-read-clause-reads : goal.returns-in_err-read-clause-reads
 returns-in_err-read-clause-reads g c =
@@ -95,7 +92,7 @@ returns-in_err-read-clause-reads g c =
 pub returns-clause-frame : goal.returns-clause-frame
 returns-clause-frame g c =
     let e = c.read_text.ensures in
-    rw (e.pair, e.base, e.since, e.book, e.journal, e.current, e.reserved, e.placed, e.first, e.second, e.level) refl
+    rw (e.pair, e.base, e.since, e.book, e.journal, e.current, e.reserved, e.printed, e.placed, e.first, e.second, e.level) refl
 
 pub returns-clause-reads : goal.returns-clause-reads
 returns-clause-reads g c =

@@ -1,4 +1,4 @@
-use Rattle.std.proofs.Common.{Result, ◌≡◌, ◌≤◌, ◌∙◌, ℕ, List, Option, All, None, Some, length, take, refl, ap, subst, sym}
+use Rattle.std.proofs.Common.{Result, ◌≡◌, ◌≤◌, ◌∙◌, ℕ, List, All, length, take, ap, subst, sym}
 use Rattle.mas_types.specs.declared.ids.GroupNo.{GroupNo}
 use Rattle.mas_types.specs.declared.queues.Config.{Config}
 use Rattle.mas_types.specs.Commands.Life.{groups_of_outputs}

@@ -1,8 +1,6 @@
-use Rattle.std.proofs.Common.{◌≡◌, ◌∙◌, [], ◌∷◌, ℕ, List, Ok, Err, ap, refl, sym, subst}
+use Rattle.std.proofs.Common.{◌∙◌, [], ◌∷◌, Ok, Err, refl}
 use Rattle.std.proofs.lemmas.Result.{err_from_is_err_and}
-use Rattle.mas_types.specs.declared.ids.MemberId.{MemberId}
 use Rattle.mas_types.specs.Closings.{closing_line}
-use Rattle.member_decks.specs.Steps.{AreOf}
 use Rattle.member_work.specs.Work.{batches_in}
 use Rattle.step_turns.specs.Batches.{batch_of}
 use Rattle.step_turns.specs.Turns.{says}

@@ -1,7 +1,5 @@
-use Rattle.std.proofs.Common.{◌≡◌, ◌∙◌, [], Ok, Err, refl, sym, subst}
+use Rattle.std.proofs.Common.{refl}
 use Rattle.std.proofs.lemmas.Result.{err_from_is_err_and}
-use Rattle.mas_types.specs.declared.ids.MemberId.{MemberId}
-use Rattle.member_decks.specs.Steps.{AreOf}
 use Rattle.step_turns.specs.Batches.{batch_of}
 use Rattle.step_turns.specs.Turns.{leaves}
 use Rattle.member_units.specs.Plays.{wrote_of}

@@ -1,13 +1,13 @@
-use Rattle.std.proofs.Common.{◌≡◌, ◌∙◌, ◌+◌, ◌≤◌, [], ◌∷◌, Ok, Err, Result, ap, refl, sym, subst, arith}
+use Rattle.std.proofs.Common.{◌∙◌, [], ◌∷◌, Ok, Err, ap, refl, sym}
 use Rattle.std.proofs.lemmas.Result.{err_from_is_err_and}
 use Rattle.mas_types.specs.declared.commands.Reply.{Reply}
 use Rattle.mas_types.specs.declared.ids.MemberId.{MemberId}
 use Rattle.job_outcome.specs.Next.{end_by}
 use Rattle.member_steps.specs.Steps.{entry_with}
-use Rattle.step_turns.specs.Entries.{closing_reply, entry_of, given_in, reply_to}
+use Rattle.step_turns.specs.Entries.{closing_reply, given_in, reply_to}
 use Rattle.member_units.specs.Works.{queue_here}
 use Rattle.member_units.proofs.Gave.{closing_one, played_given}
-use Rattle.member_units.proofs.Working.{same_run, uses_one, works_on}
+use Rattle.member_units.proofs.Working.{same_run, works_on}
 use Rattle.member_units.proofs.giving.give.Goals as goal
 
 pub play_command-requires-clause-right : goal.play_command-requires-clause-right

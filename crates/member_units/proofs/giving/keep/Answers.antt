@@ -1,4 +1,4 @@
-use Rattle.std.proofs.Common.{◌≡◌, ◌∙◌, ◌+◌, ◌≤◌, [], ◌∷◌, Ok, Err, ap, refl, sym, subst, arith}
+use Rattle.std.proofs.Common.{[], ◌∷◌, Ok, Err, ap, arith}
 use Rattle.std.proofs.lemmas.List.Elements.{All-nil}
 use Rattle.std.proofs.lemmas.Result.{err_from_is_err_and}
 use Rattle.ckpt_pages.specs.declared.tables.Tables.{Tables}

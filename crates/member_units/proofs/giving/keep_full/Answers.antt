@@ -1,9 +1,7 @@
-use Rattle.std.proofs.Common.{◌≡◌, ◌∙◌, ◌+◌, ◌≤◌, ◌<◌, [], ◌∷◌, List, Ok, length, ap, refl, sym, subst, arith}
+use Rattle.std.proofs.Common.{◌∙◌, ◌+◌, List, length, ap, refl, sym, arith}
 use Rattle.mas_types.specs.declared.journals.Entry.{Entry}
 use Rattle.member_decks.proofs.OpenLemmas.{on_ok}
 use Rattle.member_work.proofs.KeepingLemmas.{keeping_none}
-use Rattle.step_turns.specs.Batches.{batch_of}
-use Rattle.member_units.specs.Plays.{Keeps, full_of}
 use Rattle.member_units.specs.Works.{outside}
 use Rattle.member_units.proofs.Cuts.{after_all, after_none, full_all, full_none}
 use Rattle.member_units.proofs.Going.{apart_none}

@@ -1,19 +1,11 @@
-use Rattle.std.proofs.Common.{◌≡◌, ◌∙◌, ◌+◌, ◌≤◌, ◌++◌, [], ◌∷◌, List, Ok, Err, Result, append-nil, ap, refl, sym, subst, arith}
+use Rattle.std.proofs.Common.{Ok, Err}
 use Rattle.std.proofs.lemmas.Result.{err_from_is_err_and}
-use Rattle.mas_types.specs.declared.answers.Closing.TheVariants.{SpoolLost}
-use Rattle.mas_types.specs.declared.commands.Command.{Command}
 use Rattle.mas_types.specs.declared.ids.MemberId.{MemberId}
-use Rattle.mas_types.specs.declared.journals.Entry.{Entry}
 use Rattle.mas_types.specs.declared.queues.Queue.{Queue}
-use Rattle.job_outcome.specs.declared.units.UnitEnd.{UnitEnd}
-use Rattle.job_outcome.specs.declared.units.UnitEnd.TheVariants.{Refused}
-use Rattle.job_outcome.specs.Next.{end_by}
 use Rattle.member_work.specs.Units.{taken_end}
-use Rattle.step_turns.specs.Entries.{closing_reply, given_in}
-use Rattle.step_turns.specs.JobEnds.{drop_groups, ending, taking}
-use Rattle.member_units.specs.Works.{queue_here, queue_kept}
+use Rattle.step_turns.specs.JobEnds.{taking}
 use Rattle.member_units.proofs.Gave.{last_given}
-use Rattle.member_units.proofs.Working.{kept_here, leaves_room, same_run, works_on}
+use Rattle.member_units.proofs.Working.{leaves_room, same_run, works_on}
 use Rattle.member_units.proofs.giving.take_groups.Goals as goal
 
 pub returns-in_err-end-clause-run : goal.returns-in_err-end-clause-run

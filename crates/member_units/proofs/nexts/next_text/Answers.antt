@@ -1,7 +1,6 @@
-use Rattle.std.proofs.Common.{◌≡◌, ◌∙◌, ap, refl, sym}
+use Rattle.std.proofs.Common.{◌∙◌, ap, sym}
 use Rattle.lay_bytes.specs.declared.records.JobRec.{JobRec}
 use Rattle.member_decks.proofs.OpenLemmas.{tells_some}
-use Rattle.member_work.proofs.JobLemmas.{found_number}
 use Rattle.member_work.proofs.LookingLemmas.{number_of, told_job}
 use Rattle.step_turns.specs.declared.states.Aside.TheVariants.{ReadText}
 use Rattle.member_units.specs.declared.nexts.Next.TheVariants as next

@@ -1,13 +1,9 @@
-use Rattle.std.proofs.Common.{true, false, ◌≡◌, ◌∙◌, ℕ, ◌-◌, ap, refl, sym, subst}
-use Rattle.mas_types.specs.declared.ids.MemberId.{MemberId}
-use Rattle.mas_types.specs.declared.queues.Queue.{Queue}
+use Rattle.std.proofs.Common.{true, false, ◌≡◌, ◌∙◌, ◌-◌, ap, sym}
 use Rattle.mas_types.specs.declared.units.Unit as units
-use Rattle.mas_types.specs.Queue.{job_at, output_at}
 use Rattle.mas_types.specs.Units.{unit_of}
 use Rattle.member_decks.proofs.OpenLemmas.{tells_some}
 use Rattle.member_work.proofs.UnderWayLemmas.{convert_under_way, finish_indexed, print_under_way, run_under_way}
 use Rattle.member_work.proofs.UnitStepLemmas.{command_fits}
-use Rattle.step_turns.specs.declared.states.Holder.{Holder}
 use Rattle.step_turns.specs.Turns.{next_unit as next_unit_lem, units_from}
 use Rattle.member_units.specs.declared.nexts.Next.{Next}
 use Rattle.member_units.specs.Nexts.{turn_by}

@@ -1,6 +1,5 @@
-use Rattle.std.proofs.Common.{◌≡◌, ◌∙◌, ◌+◌, ◌-◌, ◌≤◌, ◌<◌, ◌++◌, [], ◌∷◌, ℕ, List, Option, Some, None, Ok, Err, length, ap, refl, sym, subst, arith}
+use Rattle.std.proofs.Common.{◌≡◌, ◌∙◌, ◌+◌, ◌*◌, ◌≤◌, [], ℕ, None, Ok, ap, sym, subst, arith}
 use Rattle.std.proofs.lemmas.Result.{err_from_is_err_and}
-use Rattle.mas_types.specs.declared.commands.Command.{Command}
 use Rattle.mas_types.specs.declared.queues.Queue.{Queue}
 use Rattle.mas_types.specs.Commands.Life.{groups_of_outputs, is_cancelled}
 use Rattle.mas_types.specs.Owners.{member_count}
@@ -8,12 +7,11 @@ use Rattle.mas_types.specs.Queue.{job_at}
 use Rattle.queue_tables.specs.Telling.{Tell}
 use Rattle.track_groups.specs.Groups.{held_by}
 use Rattle.mas_complex.specs.Texts.{spools_at}
-use Rattle.job_outcome.specs.declared.units.UnitEnd.TheVariants.{Done}
 use Rattle.member_decks.proofs.OpenLemmas.{tells_some}
-use Rattle.member_work.specs.Units.{taken_end}
+use Rattle.member_work.specs.Steps.{IsUnderWay}
 use Rattle.member_work.proofs.PartLemmas.{spooled_nowhere}
-use Rattle.member_work.proofs.StateLemmas.{work_queue}
-use Rattle.step_turns.specs.JobEnds.{groups_for_end, taking}
+use Rattle.member_work.proofs.StateLemmas.{on_two}
+use Rattle.step_turns.specs.JobEnds.{groups_for_end}
 use Rattle.step_turns.specs.declared.states.State.TheVariants.{Away}
 use Rattle.step_turns.specs.declared.states.Aside.TheVariants.{SpoolOutputs}
 use Rattle.step_turns.specs.Turns.{job_ends as job_ends_lem, outputs_stand as outputs_stand_lem}
@@ -21,8 +19,8 @@ use Rattle.member_units.specs.Plays.{wrote_of}
 use Rattle.member_units.specs.Works.{Run, outside, place_of, queue_here, queue_kept}
 use Rattle.member_units.proofs.Firsts.{first_room}
 use Rattle.member_units.proofs.Going.{plays_as}
-use Rattle.member_units.proofs.Resting.{again_left, if_ok, reached_left, ready_left, tells_here}
-use Rattle.member_units.proofs.Taking.{ends_none, needs_all, refused_then, taken_error, taken_then}
+use Rattle.member_units.proofs.Resting.{again_left, fewer_left, fewer_than, if_ok, reached_left, ready_once, tells_here}
+use Rattle.member_units.proofs.Taking.{ends_none, needs_all, refused_then, still_under_way, taken_error, taken_then}
 use Rattle.member_units.proofs.Working.{kept_here}
 use Rattle.member_units.proofs.sitting.job_ends.Goals as goal
 
@@ -113,12 +111,24 @@ returns-in-Done-clause-ready g c =
     let all : groups_of_outputs specs ≡ needed = sym (needs_all (is_cancelled (job_at s.0 n)) specs (subst (λ (k : ℕ). 1 ≤ k) is some)) ∙ sym is in
     let enough = c.in_ok-end.ensures.enough (ap Ok c.in-Done.is) in
     let by = mid.id in
-    ready_left mid.checkpoint.tables c.leave.new.member.checkpoint.tables by c.leave.new.member.id c.leave.result (Away (SpoolOutputs n specs c.args.ends.progress)) c.leave.ensures.tables (ap (λ (r : Run). r.id) c.leave.ensures.run)
-    (record {
+    let x = c.args.complex.now in
+    let m = c.args.member.now in
+    let h = c.args.holder in
+    let z = c.leave.new.complex in
+    let k = c.leave.new.member in
+    let under_way : g.P.Plant.tells → IsUnderWay (queue_here c.take_groups.new.complex mid) n =
+    λ told. still_under_way x c.take_groups.new.complex m mid h c.requires.works c.requires.nothing n specs c.args.ends.progress needed some
+    (λ t. rw c.as_slice.ensures at (c.groups_for_end-needed.ensures.groups (queue_here x m) (tells_here x m h c.requires.works t))) told c.in_ok-end.end c.in-Done.is c.in_ok-end.ensures.given
+    (subst (λ (Q : Queue). IsUnderWay Q n) (sym (kept_here x m c.requires.nothing)) (c.requires.under_way told)) in
+    ready_once g.P.Plant.tells (queue_kept z) k.checkpoint.tables k.id c.leave.result mid.checkpoint.tables by (Away (SpoolOutputs n specs c.args.ends.progress)) c.leave.ensures.tables (ap (λ (r : Run). r.id) c.leave.ensures.run)
+    (on_two c.leave.result
+    (λ (queue : queue_here z k ≡ queue_here c.take_groups.new.complex mid) (nothing : k.batch ≡ []). record {
       outputs = c.requires.outputs;
       some = subst (λ (k : ℕ). 1 ≤ k) (sym all) some;
       enough = subst (λ (k : ℕ). k ≤ member_count by mid.checkpoint.tables.owners) (sym all) enough;
+      job = λ told. subst (λ (Q : Queue). IsUnderWay Q n) (sym queue ∙ kept_here z k nothing) (under_way told);
     })
+    c.leave.ensures.queue c.leave.ensures.nothing)
     c.leave.ensures.next
 
 pub returns-in-Done-clause-reached : goal.returns-in-Done-clause-reached
@@ -149,3 +159,15 @@ pub returns-clause-reached : goal.returns-clause-reached
 returns-clause-reached g c =
     let same = c.in_ok-end.ensures.reached in
     if_ok c.go_on_after.result _ _ (λ e le. omega (arith, le, same)) c.go_on_after.ensures.reached
+
+-- HOW MANY MAY FOLLOW
+
+pub returns-then-needed-eq0-clause-fewer : goal.returns-then-needed-eq0-clause-fewer
+returns-then-needed-eq0-clause-fewer g c = fewer_than (3 * c.args.ends.progress.left + 3) (c.args.ends.progress.done + c.args.ends.progress.left + 1) c.outputs_stand.result (3 * c.args.ends.progress.left + 2) (c.args.ends.progress.done + c.args.ends.progress.left + 1) (omega arith) (omega arith) c.outputs_stand.ensures.fewer
+
+pub returns-in-Done-clause-fewer : goal.returns-in-Done-clause-fewer
+returns-in-Done-clause-fewer g c =
+    fewer_left (3 * c.args.ends.progress.left + 3) (c.args.ends.progress.done + c.args.ends.progress.left + 1) c.leave.result (Away (SpoolOutputs c.args.ends.job c.args.ends.outputs c.args.ends.progress)) (record { falls = omega arith; few = omega arith }) c.leave.ensures.next
+
+pub returns-clause-fewer : goal.returns-clause-fewer
+returns-clause-fewer g c = fewer_than (3 * c.args.ends.progress.left + 3) (c.args.ends.progress.done + c.args.ends.progress.left + 1) c.go_on_after.result (3 * c.args.ends.progress.left + 2) (c.args.ends.progress.done + c.args.ends.progress.left + 1) (omega arith) (omega arith) c.go_on_after.ensures.fewer

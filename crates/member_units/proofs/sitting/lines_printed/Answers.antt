@@ -1,4 +1,4 @@
-use Rattle.std.proofs.Common.{◌≡◌, ◌∙◌, ◌+◌, ◌-◌, ◌≤◌, ◌<◌, ◌++◌, [], ◌∷◌, ℕ, List, Option, Some, None, Ok, Err, length, ap, refl, sym, subst, arith}
+use Rattle.std.proofs.Common.{◌∙◌, ◌+◌, ◌*◌, [], ◌∷◌, List, None, length, ap, refl, sym, subst, arith}
 use Rattle.std.proofs.lemmas.Result.{err_from_is_err_and}
 use Rattle.mas_types.specs.declared.commands.Command.TheVariants as command
 use Rattle.mas_types.specs.declared.journals.Entry.{Entry}
@@ -13,8 +13,8 @@ use Rattle.member_units.specs.Plays.{wrote_of}
 use Rattle.member_units.specs.Works.{outside, place_of, queue_here, queue_kept}
 use Rattle.member_units.proofs.Firsts.{first_error, first_then}
 use Rattle.member_units.proofs.Going.{plays_as}
-use Rattle.member_units.proofs.Resting.{again_told, if_ok, reached_left, ready_told}
-use Rattle.member_units.proofs.Working.{kept_here, less_room, room_low, uses_one}
+use Rattle.member_units.proofs.Resting.{again_told, fewer_told, if_ok, reached_left, ready_told}
+use Rattle.member_units.proofs.Working.{kept_here, room_low, uses_one}
 use Rattle.member_units.proofs.sitting.lines_printed.Goals as goal
 
 -- THE PRINTED LINES ARE MARKED
@@ -96,7 +96,12 @@ pub returns-in-Some-clause-again : goal.returns-in-Some-clause-again
 returns-in-Some-clause-again g c = again_told c.close.new.complex c.close.new.member c.args.holder.step c.close.result c.close.ensures.told c.close.ensures.seat
 
 pub returns-in-Some-clause-ready : goal.returns-in-Some-clause-ready
-returns-in-Some-clause-ready g c = ready_told c.close.new.member.checkpoint.tables c.close.new.member.id c.close.result c.close.ensures.told
+returns-in-Some-clause-ready g c = ready_told g.P.Plant.tells (queue_kept c.close.new.complex) c.close.new.member.checkpoint.tables c.close.new.member.id c.close.result c.close.ensures.told
 
 pub returns-in-Some-clause-reached : goal.returns-in-Some-clause-reached
 returns-in-Some-clause-reached g c = reached_left c.close.new.complex (c.args.complex.now.level + c.args.lines.progress.left + 2) c.args.complex.now.level c.close.result Told (omega arith) c.close.ensures.told c.close.ensures.reached
+
+-- HOW MANY MAY FOLLOW
+
+pub returns-in-Some-clause-fewer : goal.returns-in-Some-clause-fewer
+returns-in-Some-clause-fewer g c = fewer_told (3 * c.args.lines.progress.left + 2) (c.args.lines.progress.done + c.args.lines.progress.left + 1) c.close.result (omega arith) c.close.ensures.told

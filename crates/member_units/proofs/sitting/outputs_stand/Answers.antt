@@ -1,7 +1,6 @@
-use Rattle.std.proofs.Common.{◌≡◌, ◌∙◌, ◌+◌, ◌-◌, ◌≤◌, ◌<◌, ◌++◌, [], ◌∷◌, ℕ, List, take, Option, Some, None, Ok, Err, length, ap, refl, sym, subst, arith}
+use Rattle.std.proofs.Common.{◌∙◌, [], ◌∷◌, take, Some, None, refl, subst, arith}
 use Rattle.std.proofs.lemmas.Result.{err_from_is_err_and}
 use Rattle.mas_types.specs.declared.answers.Closing.TheVariants.{SpoolLost}
-use Rattle.mas_types.specs.declared.commands.Command.{Command}
 use Rattle.mas_types.specs.declared.queues.Config.{Config}
 use Rattle.mas_types.specs.declared.queues.Queue.{Queue}
 use Rattle.mas_types.specs.Commands.Life.{outputs_at_end}
@@ -11,13 +10,12 @@ use Rattle.mas_complex.specs.Texts.{Spools, spools_at}
 use Rattle.member_work.specs.Spooled.{AreSpooled}
 use Rattle.queue_laws.proofs.RunLaws.{runs_keep_configuration}
 use Rattle.mas_complex.specs.Journals.{kept_all}
-use Rattle.job_outcome.specs.declared.units.UnitEnd.{UnitEnd}
 use Rattle.job_outcome.specs.declared.units.UnitEnd.TheVariants.{Refused}
 use Rattle.job_outcome.specs.Next.{end_by}
 use Rattle.step_turns.specs.Entries.{closing_reply, given_in}
 use Rattle.step_turns.specs.JobEnds.{drop_groups, ending, groups_for_end}
 use Rattle.step_turns.specs.Turns.{outputs_stand as outputs_stand_lem}
-use Rattle.member_units.specs.Works.{outside, place_of, queue_here, queue_kept}
+use Rattle.member_units.specs.Works.{outside, queue_here, queue_kept}
 use Rattle.member_units.proofs.Firsts.{first_error, first_room, first_then}
 use Rattle.member_units.proofs.Resting.{if_ok}
 use Rattle.member_units.proofs.sitting.outputs_stand.Goals as goal

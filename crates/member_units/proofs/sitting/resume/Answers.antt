@@ -1,7 +1,5 @@
-use Rattle.std.proofs.Common.{◌≡◌, ◌∙◌, ◌+◌, ◌≤◌, ◌<◌, [], ◌∷◌, ℕ, List, Ok, Err, ap, refl, sym, subst, arith}
+use Rattle.std.proofs.Common.{◌∙◌, ◌+◌, ◌*◌, [], suc, refl, sym, arith}
 use Rattle.std.proofs.lemmas.List.Elements.{All-nil}
-use Rattle.mas_types.specs.declared.journals.Entry.{Entry}
-use Rattle.job_outcome.specs.declared.outcomes.Outcome.{Outcome}
 use Rattle.job_outcome.specs.Outcomes.{outcome_of}
 use Rattle.member_node.specs.declared.member.NodeNo.TheVariants.{NoMemory}
 use Rattle.member_work.proofs.KeepingLemmas.{keeping_wanted}
@@ -12,7 +10,7 @@ use Rattle.member_units.specs.Works.{outside, place_of, queue_here}
 use Rattle.member_units.proofs.Cuts.{of_cut}
 use Rattle.member_units.proofs.Going.{apart_none, plays_error}
 use Rattle.member_units.proofs.Ours.{text_its}
-use Rattle.member_units.proofs.Resting.{if_ok}
+use Rattle.member_units.proofs.Resting.{fewer_than, if_ok}
 use Rattle.member_units.proofs.sitting.resume.Goals as goal
 
 -- NO DECK
@@ -93,3 +91,14 @@ returns-clause-plays g c = rw (c.in-PrintLines.is, sym c.printed_end-end.ensures
 
 pub returns-clause-reached : goal.returns-clause-reached
 returns-clause-reached g c = rw c.in-PrintLines.is (if_ok c.lines_printed.result _ _ (λ e le. omega (arith, le)) c.lines_printed.ensures.reached)
+
+-- HOW MANY MAY FOLLOW
+
+pub returns-in-ReadText-clause-fewer : goal.returns-in-ReadText-clause-fewer
+returns-in-ReadText-clause-fewer g c = let p = c.in-ReadText.progress in rw c.in-ReadText.is (fewer_than (3 * p.left + 3) (p.done + suc p.left) c.text_read.result (3 * p.left + 3) (p.done + p.left + 1) (omega arith) (omega arith) c.text_read.ensures.fewer)
+
+pub returns-in-SpoolOutputs-clause-fewer : goal.returns-in-SpoolOutputs-clause-fewer
+returns-in-SpoolOutputs-clause-fewer g c = let p = c.in-SpoolOutputs.progress in rw c.in-SpoolOutputs.is (fewer_than (3 * p.left + 2) (p.done + suc p.left) c.outputs_stand.result (3 * p.left + 2) (p.done + p.left + 1) (omega arith) (omega arith) c.outputs_stand.ensures.fewer)
+
+pub returns-clause-fewer : goal.returns-clause-fewer
+returns-clause-fewer g c = let p = c.in-PrintLines.progress in rw c.in-PrintLines.is (fewer_than (3 * p.left + 2) (p.done + suc p.left) c.lines_printed.result (3 * p.left + 2) (p.done + p.left + 1) (omega arith) (omega arith) c.lines_printed.ensures.fewer)

@@ -1,9 +1,9 @@
-use Rattle.std.proofs.Common.{◌≡◌, ◌∙◌, [], ap, refl, sym, subst}
+use Rattle.std.proofs.Common.{[], ap}
 use Rattle.mas_types.specs.declared.queues.Queue.{Queue}
 use Rattle.step_turns.specs.declared.states.State.TheVariants.{Away}
 use Rattle.step_turns.specs.Turns.{aside_turn}
 use Rattle.member_units.specs.Plays.{wrote_of}
-use Rattle.member_units.specs.Works.{Run, queue_here, queue_kept}
+use Rattle.member_units.specs.Works.{Run, queue_here}
 use Rattle.member_units.proofs.Sat.{frame_of, sat_of}
 use Rattle.member_units.proofs.Seated.{low_bounds, works_sits}
 use Rattle.member_units.proofs.Working.{kept_here}

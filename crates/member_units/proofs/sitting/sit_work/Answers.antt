@@ -1,9 +1,9 @@
-use Rattle.std.proofs.Common.{◌≡◌, ◌∙◌, ◌+◌, ◌≤◌, ◌<◌, [], ◌∷◌, ℕ, ap, refl, sym, subst, arith}
+use Rattle.std.proofs.Common.{◌∙◌, ◌+◌, [], ℕ, ap, arith}
 use Rattle.mas_types.specs.declared.queues.Queue.{Queue}
 use Rattle.step_turns.specs.declared.states.State.TheVariants.{Fresh, Rested}
 use Rattle.step_turns.specs.declared.states.Task.TheVariants.{Work}
 use Rattle.step_turns.specs.States.{nothing_found}
-use Rattle.step_turns.specs.Turns.{turn, units_from}
+use Rattle.step_turns.specs.Turns.{units_from}
 use Rattle.member_units.specs.Plays.{wrote_of}
 use Rattle.member_units.specs.Works.{Run, queue_here, queue_kept}
 use Rattle.member_units.proofs.Sat.{frame_of, sat_of}

@@ -1,19 +1,18 @@
-use Rattle.std.proofs.Common.{◌≡◌, ◌∙◌, ◌+◌, ◌-◌, ◌≤◌, ◌<◌, ◌++◌, [], ◌∷◌, ℕ, List, Ok, Err, length, ap, refl, sym, subst, arith}
+use Rattle.std.proofs.Common.{◌∙◌, ◌+◌, ◌*◌, [], ◌∷◌, List, length, ap, refl, arith}
 use Rattle.std.proofs.lemmas.Result.{err_from_is_err_and}
 use Rattle.mas_types.specs.declared.commands.Command.TheVariants as command
 use Rattle.mas_types.specs.declared.journals.Entry.{Entry}
-use Rattle.mas_types.specs.Closings.{closing_line}
 use Rattle.job_outcome.specs.declared.outcomes.Outcome.TheVariants as outcome
 use Rattle.job_outcome.specs.Next.{end_by}
 use Rattle.step_turns.specs.Entries.{closing_reply, given_in}
 use Rattle.step_turns.specs.declared.states.State.TheVariants.{Told}
 use Rattle.step_turns.specs.Turns.{closes_as, text_read as text_read_lem}
 use Rattle.member_units.specs.Plays.{wrote_of}
-use Rattle.member_units.specs.Works.{outside, place_of, queue_here}
+use Rattle.member_units.specs.Works.{outside, place_of, queue_here, queue_kept}
 use Rattle.member_units.proofs.Firsts.{first_error, first_then}
 use Rattle.member_units.proofs.Going.{plays_as}
-use Rattle.member_units.proofs.Resting.{again_told, if_ok, reached_left, ready_told}
-use Rattle.member_units.proofs.Working.{less_room, room_low, uses_one}
+use Rattle.member_units.proofs.Resting.{again_told, fewer_than, fewer_told, if_ok, reached_left, ready_told}
+use Rattle.member_units.proofs.Working.{room_low, uses_one}
 use Rattle.member_units.proofs.sitting.text_read.Goals as goal
 
 -- THE JOB IS CONVERTED
@@ -89,7 +88,7 @@ pub returns-in-Stop-clause-again : goal.returns-in-Stop-clause-again
 returns-in-Stop-clause-again g c = again_told c.close.new.complex c.close.new.member c.args.holder.step c.close.result c.close.ensures.told c.close.ensures.seat
 
 pub returns-in-Stop-clause-ready : goal.returns-in-Stop-clause-ready
-returns-in-Stop-clause-ready g c = ready_told c.close.new.member.checkpoint.tables c.close.new.member.id c.close.result c.close.ensures.told
+returns-in-Stop-clause-ready g c = ready_told g.P.Plant.tells (queue_kept c.close.new.complex) c.close.new.member.checkpoint.tables c.close.new.member.id c.close.result c.close.ensures.told
 
 pub returns-in-Stop-clause-reached : goal.returns-in-Stop-clause-reached
 returns-in-Stop-clause-reached g c = reached_left c.close.new.complex (c.args.complex.now.level + c.args.job.progress.left + 2) c.args.complex.now.level c.close.result Told (omega arith) c.close.ensures.told c.close.ensures.reached
@@ -101,3 +100,11 @@ job_ends-requires-clause-outputs g c = rw c.in-End.is at c.requires.fits
 
 pub returns-in-End-clause-plays : goal.returns-in-End-clause-plays
 returns-in-End-clause-plays g c = rw c.in-End.is c.job_ends.ensures.plays
+
+-- HOW MANY MAY FOLLOW
+
+pub returns-in_ok-end-in-Convert-clause-fewer : goal.returns-in_ok-end-in-Convert-clause-fewer
+returns-in_ok-end-in-Convert-clause-fewer g c = fewer_than (3 * c.args.job.progress.left + 3) (c.args.job.progress.done + c.args.job.progress.left + 1) c.go_on_after.result (3 * c.args.job.progress.left + 2) (c.args.job.progress.done + c.args.job.progress.left + 1) (omega arith) (omega arith) c.go_on_after.ensures.fewer
+
+pub returns-in-Stop-clause-fewer : goal.returns-in-Stop-clause-fewer
+returns-in-Stop-clause-fewer g c = fewer_told (3 * c.args.job.progress.left + 3) (c.args.job.progress.done + c.args.job.progress.left + 1) c.close.result (omega arith) c.close.ensures.told

@@ -1,22 +1,19 @@
-use Rattle.std.proofs.Common.{◌≡◌, ◌∙◌, ◌+◌, ◌-◌, ◌*◌, ◌≤◌, ◌<◌, ◌++◌, [], ◌∷◌, ℕ, List, Ok, Err, length, ap, refl, sym, subst, arith}
+use Rattle.std.proofs.Common.{◌∙◌, ◌+◌, ◌-◌, ◌*◌, [], ◌∷◌, List, Err, length, ap, sym, arith}
 use Rattle.std.proofs.lemmas.List.{length-append}
 use Rattle.std.proofs.lemmas.Result.{err_from_is_err_and}
-use Rattle.mas_types.specs.declared.ids.MemberId.{MemberId}
 use Rattle.mas_types.specs.declared.journals.Entry.{Entry}
 use Rattle.paper_laws.specs.Counts.{counts_after}
 use Rattle.mas_complex.specs.Paper.{counts_of}
 use Rattle.job_outcome.specs.Next.{end_by}
 use Rattle.step_turns.specs.Entries.{closing_reply, given_in}
 use Rattle.step_turns.specs.declared.states.State.TheVariants.{Away, Told}
-use Rattle.step_turns.specs.Turns.{Turn, leaves, no_more, one_command, units_from, waits_for}
-use Rattle.member_units.specs.declared.nexts.Next.{Next}
-use Rattle.member_units.specs.declared.nexts.Next.TheVariants as next
-use Rattle.member_units.specs.Nexts.{turn_by}
-use Rattle.member_units.specs.Plays.{Wrote, wrote_of}
-use Rattle.member_units.specs.Works.{Run, outside, place_of, queue_here}
+use Rattle.step_turns.specs.Turns.{leaves, no_more, one_command, units_from}
+use Rattle.member_units.specs.Plays.{wrote_of}
+use Rattle.member_units.specs.Works.{Run, outside, place_of, queue_here, queue_kept}
 use Rattle.member_units.proofs.Following.{unit_given, unit_unmarked}
 use Rattle.member_units.proofs.Going.{part_error, part_then, plays_as}
-use Rattle.member_units.proofs.Resting.{again_left, again_told, if_ok, left_some, reached_left, ready_left, ready_told, tells_here, waits_few}
+use Rattle.member_units.proofs.Readiness.{unit_ready}
+use Rattle.member_units.proofs.Resting.{again_left, again_told, fewer_left, fewer_than, fewer_told, if_ok, left_some, reached_left, ready_left, ready_told, tells_here, waits_few, waits_fewer}
 use Rattle.member_units.proofs.Working.{less_room, own_batch, uses_one}
 use Rattle.member_units.proofs.units.begin.Goals as goal
 
@@ -118,7 +115,9 @@ returns-in-Wait-clause-again g c = again_left c.leave.new.complex c.leave.new.me
 pub returns-in-Wait-clause-ready : goal.returns-in-Wait-clause-ready
 returns-in-Wait-clause-ready g c =
     let l = c.leave.ensures in
-    ready_left c.args.member.now.checkpoint.tables c.leave.new.member.checkpoint.tables c.args.member.now.id c.leave.new.member.id c.leave.result (Away c.in-Wait.aside) l.tables (ap (λ (r : Run). r.id) l.run) c.in-Wait.ensures.right l.next
+    let Q = queue_kept c.leave.new.complex in
+    ready_left g.P.Plant.tells Q c.leave.new.member.checkpoint.tables c.leave.new.member.id c.leave.result c.args.member.now.checkpoint.tables c.args.member.now.id (Away c.in-Wait.aside) l.tables (ap (λ (r : Run). r.id) l.run)
+    (unit_ready g.P.Plant.tells Q c.args.member.now.checkpoint.tables c.args.member.now.id c.in-Wait.aside c.in-Wait.ensures.right) l.next
 
 pub returns-in-Wait-clause-reached : goal.returns-in-Wait-clause-reached
 returns-in-Wait-clause-reached g c = reached_left c.leave.new.complex (c.args.complex.now.level + c.args.progress.left + 1) c.args.complex.now.level c.leave.result (Away c.in-Wait.aside) (waits_few c.args.complex.now.level c.args.progress _ c.in-Wait.aside c.next_unit.ensures.waits c.in-Wait.is) c.leave.ensures.next c.leave.ensures.reached
@@ -144,7 +143,20 @@ pub returns-in-Nothing-clause-again : goal.returns-in-Nothing-clause-again
 returns-in-Nothing-clause-again g c = again_told c.close.new.complex c.close.new.member c.args.holder.step c.close.result c.close.ensures.told c.close.ensures.seat
 
 pub returns-in-Nothing-clause-ready : goal.returns-in-Nothing-clause-ready
-returns-in-Nothing-clause-ready g c = ready_told c.close.new.member.checkpoint.tables c.close.new.member.id c.close.result c.close.ensures.told
+returns-in-Nothing-clause-ready g c = ready_told g.P.Plant.tells (queue_kept c.close.new.complex) c.close.new.member.checkpoint.tables c.close.new.member.id c.close.result c.close.ensures.told
 
 pub returns-in-Nothing-clause-reached : goal.returns-in-Nothing-clause-reached
 returns-in-Nothing-clause-reached g c = reached_left c.close.new.complex (c.args.complex.now.level + c.args.progress.left + 1) c.args.complex.now.level c.close.result Told (omega arith) c.close.ensures.told c.close.ensures.reached
+
+-- HOW MANY MAY FOLLOW
+
+pub returns-in_ok-end-in-Give-clause-fewer : goal.returns-in_ok-end-in-Give-clause-fewer
+returns-in_ok-end-in-Give-clause-fewer g c =
+    let some = left_some c.args.progress.left _ c.in-Give.command c.next_unit.ensures.none c.in-Give.is in
+    fewer_than (3 * c.args.progress.left + 1) (c.args.progress.done + c.args.progress.left) c.go_on.result (3 * (c.args.progress.left - 1) + 2) (c.args.progress.done + (c.args.progress.left - 1) + 1) (omega (arith, some)) (omega (arith, some)) c.go_on.ensures.fewer
+
+pub returns-in-Wait-clause-fewer : goal.returns-in-Wait-clause-fewer
+returns-in-Wait-clause-fewer g c = fewer_left (3 * c.args.progress.left + 1) (c.args.progress.done + c.args.progress.left) c.leave.result (Away c.in-Wait.aside) (waits_fewer (3 * c.args.progress.left + 1) (c.args.progress.done + c.args.progress.left) c.args.progress _ c.in-Wait.aside c.next_unit.ensures.waits c.in-Wait.is (omega arith) (omega arith)) c.leave.ensures.next
+
+pub returns-in-Nothing-clause-fewer : goal.returns-in-Nothing-clause-fewer
+returns-in-Nothing-clause-fewer g c = fewer_told (3 * c.args.progress.left + 1) (c.args.progress.done + c.args.progress.left) c.close.result (omega arith) c.close.ensures.told

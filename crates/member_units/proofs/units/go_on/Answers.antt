@@ -1,4 +1,4 @@
-use Rattle.std.proofs.Common.{◌≡◌, ◌∙◌, ◌+◌, ◌-◌, ◌≤◌, ◌<◌, ◌++◌, [], ◌∷◌, ℕ, List, Result, Ok, Err, length, ap, refl, sym, subst, arith}
+use Rattle.std.proofs.Common.{◌∙◌, ◌+◌, ◌*◌, ◌-◌, [], ◌∷◌, List, Err, length, ap, refl, sym, arith}
 use Rattle.std.proofs.lemmas.List.{length-append}
 use Rattle.std.proofs.lemmas.Result.{err_from_is_err_and}
 use Rattle.mas_types.specs.declared.answers.Closing.TheVariants as closing
@@ -11,10 +11,11 @@ use Rattle.step_turns.specs.Entries.{closing_reply, given_in}
 use Rattle.step_turns.specs.declared.states.State.TheVariants.{Away, Rested, Told}
 use Rattle.step_turns.specs.Turns.{leaves, no_more, one_command, units_from}
 use Rattle.member_units.specs.Plays.{wrote_of}
-use Rattle.member_units.specs.Works.{Run, outside, place_of, queue_here}
+use Rattle.member_units.specs.Works.{Run, outside, place_of, queue_here, queue_kept}
 use Rattle.member_units.proofs.Following.{unit_given, unit_unmarked}
 use Rattle.member_units.proofs.Going.{closed_after, full_error, on_after, part_error, part_then, plays_as, rest_after}
-use Rattle.member_units.proofs.Resting.{again_left, again_told, left_some, reached_left, ready_left, ready_told, tells_here, waits_few}
+use Rattle.member_units.proofs.Readiness.{unit_ready}
+use Rattle.member_units.proofs.Resting.{again_left, again_told, fewer_left, fewer_told, left_some, reached_left, ready_left, ready_told, tells_here, waits_few, waits_fewer}
 use Rattle.member_units.proofs.Working.{less_room, own_batch}
 use Rattle.member_units.proofs.units.go_on.Goals as goal
 
@@ -26,6 +27,7 @@ loop-end-init g c =
       room = c.requires.room;
       named = c.requires.named;
       units = refl;
+      less = omega arith;
       few = omega arith;
       level = omega arith;
       then = λ new r p. p;
@@ -49,7 +51,7 @@ pub returns-in-Idle-clause-again : goal.returns-in-Idle-clause-again
 returns-in-Idle-clause-again g c = again_told c.close.new.complex c.close.new.member c.args.holder.step c.close.result c.close.ensures.told c.close.ensures.seat
 
 pub returns-in-Idle-clause-ready : goal.returns-in-Idle-clause-ready
-returns-in-Idle-clause-ready g c = ready_told c.close.new.member.checkpoint.tables c.close.new.member.id c.close.result c.close.ensures.told
+returns-in-Idle-clause-ready g c = ready_told g.P.Plant.tells (queue_kept c.close.new.complex) c.close.new.member.checkpoint.tables c.close.new.member.id c.close.result c.close.ensures.told
 
 pub returns-in-Idle-clause-reached : goal.returns-in-Idle-clause-reached
 returns-in-Idle-clause-reached g c =
@@ -69,7 +71,7 @@ pub returns-in-Refused-clause-again : goal.returns-in-Refused-clause-again
 returns-in-Refused-clause-again g c = again_told c.close-in-Refused.new.complex c.close-in-Refused.new.member c.args.holder.step c.close-in-Refused.result c.close-in-Refused.ensures.told c.close-in-Refused.ensures.seat
 
 pub returns-in-Refused-clause-ready : goal.returns-in-Refused-clause-ready
-returns-in-Refused-clause-ready g c = ready_told c.close-in-Refused.new.member.checkpoint.tables c.close-in-Refused.new.member.id c.close-in-Refused.result c.close-in-Refused.ensures.told
+returns-in-Refused-clause-ready g c = ready_told g.P.Plant.tells (queue_kept c.close-in-Refused.new.complex) c.close-in-Refused.new.member.checkpoint.tables c.close-in-Refused.new.member.id c.close-in-Refused.result c.close-in-Refused.ensures.told
 
 pub returns-in-Refused-clause-reached : goal.returns-in-Refused-clause-reached
 returns-in-Refused-clause-reached g c =
@@ -120,7 +122,7 @@ returns-then-rests-clause-again g c = again_left c.leave.new.complex c.leave.new
 pub returns-then-rests-clause-ready : goal.returns-then-rests-clause-ready
 returns-then-rests-clause-ready g c =
     let l = c.leave.ensures in
-    ready_left c.keep_full.new.member.checkpoint.tables c.leave.new.member.checkpoint.tables c.keep_full.new.member.id c.leave.new.member.id c.leave.result _ l.tables (ap (λ (r : Run). r.id) l.run) tt l.next
+    ready_left g.P.Plant.tells (queue_kept c.leave.new.complex) c.leave.new.member.checkpoint.tables c.leave.new.member.id c.leave.result c.keep_full.new.member.checkpoint.tables c.keep_full.new.member.id _ l.tables (ap (λ (r : Run). r.id) l.run) tt l.next
 
 pub returns-then-rests-clause-reached : goal.returns-then-rests-clause-reached
 returns-then-rests-clause-reached g c =
@@ -205,6 +207,7 @@ loop-end-preserved g c =
       room = record { order = omega (arith, some, orders, as_before, order_is); high = omega (arith, some, high, high_is); level = omega (arith, some, reach, same) };
       named = e.named;
       units = omega (arith, some, units);
+      less = let less = i.less in omega (arith, some, less);
       few = omega (arith, some, few);
       level = omega (arith, some, level, more, same);
       then = λ new r p. i.then new r
@@ -248,7 +251,10 @@ returns-in-Wait-clause-again g c = again_left c.leave-in-Wait.new.complex c.leav
 pub returns-in-Wait-clause-ready : goal.returns-in-Wait-clause-ready
 returns-in-Wait-clause-ready g c =
     let l = c.leave-in-Wait.ensures in
-    ready_left c.keep_full.new.member.checkpoint.tables c.leave-in-Wait.new.member.checkpoint.tables c.keep_full.new.member.id c.leave-in-Wait.new.member.id c.leave-in-Wait.result (Away c.in-Wait.aside) l.tables (ap (λ (r : Run). r.id) l.run) c.in-Wait.ensures.right l.next
+    let Q = queue_kept c.leave-in-Wait.new.complex in
+    let k = c.keep_full.new.member in
+    ready_left g.P.Plant.tells Q c.leave-in-Wait.new.member.checkpoint.tables c.leave-in-Wait.new.member.id c.leave-in-Wait.result k.checkpoint.tables k.id (Away c.in-Wait.aside) l.tables (ap (λ (r : Run). r.id) l.run)
+    (unit_ready g.P.Plant.tells Q k.checkpoint.tables k.id c.in-Wait.aside c.in-Wait.ensures.right) l.next
 
 pub returns-in-Wait-clause-reached : goal.returns-in-Wait-clause-reached
 returns-in-Wait-clause-reached g c =
@@ -288,10 +294,36 @@ pub returns-in-Nothing-clause-again : goal.returns-in-Nothing-clause-again
 returns-in-Nothing-clause-again g c = again_told c.close-in-Nothing.new.complex c.close-in-Nothing.new.member c.args.holder.step c.close-in-Nothing.result c.close-in-Nothing.ensures.told c.close-in-Nothing.ensures.seat
 
 pub returns-in-Nothing-clause-ready : goal.returns-in-Nothing-clause-ready
-returns-in-Nothing-clause-ready g c = ready_told c.close-in-Nothing.new.member.checkpoint.tables c.close-in-Nothing.new.member.id c.close-in-Nothing.result c.close-in-Nothing.ensures.told
+returns-in-Nothing-clause-ready g c = ready_told g.P.Plant.tells (queue_kept c.close-in-Nothing.new.complex) c.close-in-Nothing.new.member.checkpoint.tables c.close-in-Nothing.new.member.id c.close-in-Nothing.result c.close-in-Nothing.ensures.told
 
 pub returns-in-Nothing-clause-reached : goal.returns-in-Nothing-clause-reached
 returns-in-Nothing-clause-reached g c =
     let level = c.loop-end.invariant.level in
     let more = c.in_ok-keep_full.ensures.reached in
     reached_left c.close-in-Nothing.new.complex (c.args.complex.now.level + c.args.from.progress.left + 2) c.keep_full.new.complex.level c.close-in-Nothing.result Told (omega (arith, level, more)) c.close-in-Nothing.ensures.told c.close-in-Nothing.ensures.reached
+
+-- HOW MANY MAY FOLLOW
+
+pub returns-in-Idle-clause-fewer : goal.returns-in-Idle-clause-fewer
+returns-in-Idle-clause-fewer g c = fewer_told (3 * c.args.from.progress.left + 2) (c.args.from.progress.done + c.args.from.progress.left + 1) c.close.result (omega arith) c.close.ensures.told
+
+pub returns-in-Refused-clause-fewer : goal.returns-in-Refused-clause-fewer
+returns-in-Refused-clause-fewer g c = fewer_told (3 * c.args.from.progress.left + 2) (c.args.from.progress.done + c.args.from.progress.left + 1) c.close-in-Refused.result (omega arith) c.close-in-Refused.ensures.told
+
+pub returns-in-Nothing-clause-fewer : goal.returns-in-Nothing-clause-fewer
+returns-in-Nothing-clause-fewer g c = fewer_told (3 * c.args.from.progress.left + 2) (c.args.from.progress.done + c.args.from.progress.left + 1) c.close-in-Nothing.result (omega arith) c.close-in-Nothing.ensures.told
+
+pub returns-then-rests-clause-fewer : goal.returns-then-rests-clause-fewer
+returns-then-rests-clause-fewer g c =
+    let units = c.loop-end.invariant.units in
+    let less = c.loop-end.invariant.less in
+    fewer_left (3 * c.args.from.progress.left + 2) (c.args.from.progress.done + c.args.from.progress.left + 1) c.leave.result _ (record { falls = omega (arith, units, less); few = omega (arith, units) }) c.leave.ensures.next
+
+pub returns-in-Wait-clause-fewer : goal.returns-in-Wait-clause-fewer
+returns-in-Wait-clause-fewer g c =
+    let units = c.loop-end.invariant.units in
+    let less = c.loop-end.invariant.less in
+    let at = c.loop-end.at.progress in
+    fewer_left (3 * c.args.from.progress.left + 2) (c.args.from.progress.done + c.args.from.progress.left + 1) c.leave-in-Wait.result (Away c.in-Wait.aside)
+    (waits_fewer (3 * c.args.from.progress.left + 2) (c.args.from.progress.done + c.args.from.progress.left + 1) (record { done = at.done + 1; left = at.left }) _ c.in-Wait.aside c.next_unit.ensures.waits c.in-Wait.is (omega (arith, units, less)) (omega (arith, units)))
+    c.leave-in-Wait.ensures.next

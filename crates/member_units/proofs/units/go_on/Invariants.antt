@@ -1,4 +1,4 @@
-use Rattle.std.proofs.Common.{◌≡◌, ◌+◌, ◌≤◌, ◌<◌, ℕ, Result}
+use Rattle.std.proofs.Common.{◌≡◌, ◌+◌, ◌≤◌, Result}
 use Rattle.job_outcome.specs.Next.{IsNamedEnd}
 use Rattle.member_node.specs.declared.member.NodeNo.{NodeNo}
 use Rattle.step_turns.specs.Turns.{goes_on_by, units_from}
@@ -25,6 +25,7 @@ invariant-loop-end g l =
       room : HasRoom z n (l.at.progress.left + 3);
       named : IsNamedEnd l.end;
       units : l.at.progress.done + l.at.progress.left ≡ l.fn.from.progress.done + l.fn.from.progress.left;
+      less : l.at.progress.left ≤ l.fn.from.progress.left;
       few : l.at.given + l.at.progress.left ≤ l.fn.from.given + l.fn.from.progress.left;
       level : z.level + l.at.progress.left ≤ x.level + l.fn.from.progress.left;
       then : (new : Outside) (r : Result SittingEnd NodeNo)

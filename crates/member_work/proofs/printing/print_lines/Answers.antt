@@ -1,14 +1,17 @@
-use Rattle.std.proofs.Common.{◌≡◌, ◌<◌, ◌≤◌, ◌+◌, ◌∙◌, false, true, Option, Some, None, List, refl, ap, sym, subst, arith}
+use Rattle.std.proofs.Common.{◌≡◌, ◌<◌, ◌≤◌, ◌+◌, ◌-◌, ◌∙◌, ℕ, false, true, Option, Some, None, List, refl, ap, sym, subst, arith}
 use Rattle.mas_types.specs.declared.journals.Batch.{Batch}
 use Rattle.lock_cycle.specs.Books.{Book, IsMember, is_stopped}
-use Rattle.mas_types.specs.Printed.{printed_line}
 use Rattle.mas_complex.specs.Journals.{entries_in, kept_all}
 use Rattle.mas_complex.specs.Locking.{IsOfOther}
 use Rattle.mas_complex.specs.Paper.{counts_of}
+use Rattle.mas_complex.specs.Parts.{parts_of}
 use Rattle.paper_laws.specs.Next.{MayPrint}
 use Rattle.ckpt_copy.specs.Moments.{goes_none}
 use Rattle.spool_disk.specs.declared.plant.Part.TheVariants.{Printer}
 use Rattle.member_node.proofs.SpareLemmas.{spares_done, spares_failed, spares_halted, spares_none, spares_then}
+use Rattle.mas_types.specs.declared.answers.Closing.TheVariants as closing
+use Rattle.member_work.specs.Inked.{is_printer_lost, lines_upto}
+use Rattle.member_work.proofs.InkedLemmas.{all_from, inked_all, inked_halted, inked_lost, inked_wanting, next_less, next_line, printed_failed, printed_none, printed_one}
 use Rattle.member_work.proofs.PrintedLemmas.{beside_none, beside_on, beside_print, failed_wider, lines_lost, lines_printed, may_print, print_failed}
 use Rattle.member_work.proofs.printing.print_lines.Goals as goal
 
@@ -33,6 +36,10 @@ loop-before-init g c =
       acts = beside_none P.tells (P.view x.plant);
       spares = spares_none c.args.by.0 (P.view x.plant);
       upto = omega (arith, sum, count);
+      more = omega arith;
+      most = λ less. omega (arith, less);
+      so = λ told. printed_none P c.args.by (lines_upto c.args.output.now.job c.args.output.now.index (c.args.output.now.mark + counts_of x.printed c.args.by) c.args.last c.args.text.now) (parts_of x);
+      disks = λ told d. refl;
       next = λ small. omega (arith, sum, count, small);
     }
 
@@ -78,6 +85,10 @@ loop-before-preserved g c =
     let small : c.loop-before.before < c.args.last = omega arith in
     let same = i.next small in
     let one : counts_of z.printed c.args.by ≡ counts_of y.printed c.args.by + 1 = e.counted done in
+    let r = c.args.output.now in
+    let text = c.args.text.now in
+    let was : ℕ = counts_of x.printed c.args.by in
+    let is : ℕ = counts_of y.printed c.args.by in
     record {
       pair = e.pair ∙ i.pair;
       base = e.base ∙ i.base;
@@ -93,6 +104,12 @@ loop-before-preserved g c =
       acts = beside_on P.tells (P.view x.plant) (P.view y.plant) (P.view z.plant) i.acts (beside_print P.tells c.args.by line (P.view y.plant) (P.view z.plant) c.print.result e.acts e.content);
       spares = spares_then c.args.by.0 false (P.view x.plant) (P.view y.plant) (P.view z.plant) i.spares (spares_done c.args.by.0 (Printer c.args.by) (P.view y.plant) (P.view z.plant) (rw done at e.acts));
       upto = omega (arith, same, one);
+      more = let few = i.more in omega (arith, few, one);
+      most = λ less. omega (arith, same, one, small);
+      so = λ told. printed_one P c.args.by (lines_upto r.job r.index (r.mark + counts_of x.printed c.args.by) c.args.last text) (parts_of x) (parts_of y) (parts_of z) line (i.so told) i.more one (rw done at e.printed) (rw done at (e.content told))
+          (next_less r.job r.index text r.mark c.args.last was is c.loop-before.before i.more same small)
+          (next_line r.job r.index text r.mark c.args.last was is c.loop-before.before i.more same small line (c.as_slice.ensures ∙ c.in-Ok.ensures));
+      disks = λ told d. (e.content told).disks d ∙ i.disks told d;
       next = λ less. omega (arith, same, one);
     }
 
@@ -153,3 +170,88 @@ pub returns-clause-counted : goal.returns-clause-counted
 returns-clause-counted g c is =
     let upto = c.loop-before.invariant.upto in
     omega (arith, upto)
+
+-- THE LINES ON PAPER
+
+pub returns-in-Failed-clause-inks : goal.returns-in-Failed-clause-inks
+returns-in-Failed-clause-inks g c told =
+    let P = g.P.Plant in
+    let x = c.args.complex.now in
+    let y = c.loop-before.complex in
+    let i = c.loop-before.invariant in
+    let by = c.args.by in
+    let r = c.args.output.now in
+    let text = c.args.text.now in
+    let was : ℕ = counts_of x.printed by in
+    let is : ℕ = counts_of y.printed by in
+    let lines = lines_upto r.job r.index (r.mark + was) c.args.last text in
+    let z = c.print.new.self in
+    let e = c.print.ensures in
+    let line = c.as_slice.result.now in
+    let small : c.loop-before.before < c.args.last = omega arith in
+    let same = i.next small in
+    let less = next_less r.job r.index text r.mark c.args.last was is c.loop-before.before i.more same small in
+    let counts = rw c.in-Failed.is at e.printed in
+    let so = printed_failed P by lines (parts_of x) (parts_of y) (parts_of z) line (i.so told) counts (rw c.in-Failed.is at (e.content told)) in
+    let as_many : counts_of z.printed by ≡ is = ap (λ (l : List ℕ). counts_of l by) counts in
+    inked_lost P by lines is_printer_lost (parts_of x) (parts_of z) so (let more = i.more in omega (arith, more, as_many)) (Some closing.PrinterLost) refl (omega (arith, less, as_many))
+
+pub returns-in-Failed-clause-disks : goal.returns-in-Failed-clause-disks
+returns-in-Failed-clause-disks g c told d = (c.print.ensures.content told).disks d ∙ c.loop-before.invariant.disks told d
+
+pub returns-in-Halted-clause-inks : goal.returns-in-Halted-clause-inks
+returns-in-Halted-clause-inks g c told =
+    let P = g.P.Plant in
+    let x = c.args.complex.now in
+    let y = c.loop-before.complex in
+    let i = c.loop-before.invariant in
+    let by = c.args.by in
+    let r = c.args.output.now in
+    let text = c.args.text.now in
+    let was : ℕ = counts_of x.printed by in
+    let is : ℕ = counts_of y.printed by in
+    let lines = lines_upto r.job r.index (r.mark + was) c.args.last text in
+    let z = c.print.new.self in
+    let e = c.print.ensures in
+    let line = c.as_slice.result.now in
+    let small : c.loop-before.before < c.args.last = omega arith in
+    let same = i.next small in
+    let less = next_less r.job r.index text r.mark c.args.last was is c.loop-before.before i.more same small in
+    inked_halted P by lines is_printer_lost (parts_of x) (parts_of y) (i.so told) i.more (parts_of z) line (rw c.in-Halted.is at e.printed) (rw c.in-Halted.is at (e.content told)) less
+    (next_line r.job r.index text r.mark c.args.last was is c.loop-before.before i.more same small line (c.as_slice.ensures ∙ c.in-Ok.ensures))
+
+pub returns-in-Halted-clause-disks : goal.returns-in-Halted-clause-disks
+returns-in-Halted-clause-disks g c told d = (c.print.ensures.content told).disks d ∙ c.loop-before.invariant.disks told d
+
+pub returns-in_default-clause-inks : goal.returns-in_default-clause-inks
+returns-in_default-clause-inks g c told =
+    let P = g.P.Plant in
+    let x = c.args.complex.now in
+    let y = c.loop-before.complex in
+    let i = c.loop-before.invariant in
+    let by = c.args.by in
+    let r = c.args.output.now in
+    let text = c.args.text.now in
+    let was : ℕ = counts_of x.printed by in
+    let is : ℕ = counts_of y.printed by in
+    let lines = lines_upto r.job r.index (r.mark + was) c.args.last text in
+    let small : c.loop-before.before < c.args.last = omega arith in
+    let same = i.next small in
+    let less = next_less r.job r.index text r.mark c.args.last was is c.loop-before.before i.more same small in
+    inked_wanting P by lines is_printer_lost (parts_of x) (parts_of y) (i.so told) i.more (omega (arith, less))
+
+pub returns-clause-inks : goal.returns-clause-inks
+returns-clause-inks g c told =
+    let P = g.P.Plant in
+    let x = c.args.complex.now in
+    let y = c.loop-before.complex in
+    let i = c.loop-before.invariant in
+    let by = c.args.by in
+    let r = c.args.output.now in
+    let text = c.args.text.now in
+    let was : ℕ = counts_of x.printed by in
+    let is : ℕ = counts_of y.printed by in
+    let lines = lines_upto r.job r.index (r.mark + was) c.args.last text in
+    let upto = i.upto in
+    inked_all P by lines is_printer_lost (parts_of x) (parts_of y) (i.so told) i.more None refl
+    (all_from r.job r.index text r.mark c.args.last was is i.more i.most (omega (arith, upto)))

@@ -1,7 +1,10 @@
 use Rattle.std.proofs.Common.{◌≡◌, ◌≤◌, ◌<◌, ◌+◌, false}
 use Rattle.mas_complex.specs.Paper.{counts_of}
+use Rattle.mas_complex.specs.Parts.{parts_of}
 use Rattle.member_node.specs.Spares.{Spares}
-use Rattle.member_work.specs.Printing.{IsBeside}
+use Rattle.member_work.specs.Inked.{lines_upto}
+use Rattle.member_work.specs.Printing.{IsBeside, SameDisks}
+use Rattle.member_work.proofs.InkedLemmas.{HavePrinted}
 use Rattle.member_work.proofs.printing.print_lines.Given as goal
 
 -- the lines so far are printed
@@ -25,5 +28,9 @@ invariant-loop-before g l =
       acts : IsBeside P.tells (P.view x.plant) (P.view y.plant);
       spares : Spares l.by.0 false (P.view x.plant) (P.view y.plant);
       upto : l.before ≤ l.output.mark + counts_of y.printed l.by;
+      more : counts_of x.printed l.by ≤ counts_of y.printed l.by;
+      most : counts_of x.printed l.by < counts_of y.printed l.by → l.output.mark + counts_of y.printed l.by ≤ l.last;
+      so : P.tells → HavePrinted P l.by (lines_upto l.output.job l.output.index (l.output.mark + counts_of x.printed l.by) l.last l.text) (parts_of x) (parts_of y);
+      disks : SameDisks P.tells (P.view x.plant) (P.view y.plant);
       next : l.before < l.last → l.output.mark + counts_of y.printed l.by ≡ l.before;
     }

@@ -1,7 +1,10 @@
-use Rattle.std.proofs.Common.{◌≡◌, false, None, ap, sym, arith}
+use Rattle.std.proofs.Common.{◌≡◌, ◌∙◌, ◌+◌, ◌-◌, ℕ, false, [], Some, ap, refl, sym, arith}
 use Rattle.mas_types.specs.declared.answers.Closing.TheVariants as closing
 use Rattle.member_work.specs.Units.{printed_end}
 use Rattle.member_node.proofs.SpareLemmas.{spares_none}
+use Rattle.mas_complex.specs.Parts.{parts_of}
+use Rattle.member_work.specs.Inked.{is_printer_lost}
+use Rattle.member_work.proofs.InkedLemmas.{inked_all, printed_none}
 use Rattle.member_work.proofs.PrintedLemmas.{beside_none, unprinted}
 use Rattle.member_work.proofs.printing.print_text.Goals as goal
 
@@ -37,3 +40,16 @@ returns-in-Gone-clause-cause g c = spares_none c.args.by.0 (g.P.Plant.view c.arg
 
 pub returns-in-Lost-clause-cause : goal.returns-in-Lost-clause-cause
 returns-in-Lost-clause-cause g c = spares_none c.args.by.0 (g.P.Plant.view c.args.complex.now.plant)
+
+pub returns-in-Gone-clause-inks : goal.returns-in-Gone-clause-inks
+returns-in-Gone-clause-inks g c =
+    let x = parts_of c.args.complex.now in
+    rw c.in-Gone.is (λ told. inked_all g.P.Plant c.args.by [] is_printer_lost x x (printed_none g.P.Plant c.args.by [] x) (omega arith) (Some (closing.NoText c.in-Gone.group)) refl (omega arith))
+
+pub returns-in-Lost-clause-inks : goal.returns-in-Lost-clause-inks
+returns-in-Lost-clause-inks g c =
+    let x = parts_of c.args.complex.now in
+    rw c.in-Lost.is (λ told. inked_all g.P.Plant c.args.by [] is_printer_lost x x (printed_none g.P.Plant c.args.by [] x) (omega arith) (Some (closing.SpoolLost c.in-Lost.volume)) refl (omega arith))
+
+pub returns-in-Lines-clause-inks : goal.returns-in-Lines-clause-inks
+returns-in-Lines-clause-inks g c = rw c.in-Lines.is c.print_lines.ensures.inks

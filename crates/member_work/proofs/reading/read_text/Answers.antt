@@ -33,6 +33,7 @@ loop-group-preserved g c =
       journal = e.journal ∙ i.journal;
       current = e.current ∙ i.current;
       reserved = e.reserved ∙ i.reserved;
+      printed = e.printed ∙ i.printed;
       placed = e.placed ∙ i.placed;
       first = e.first ∙ i.first;
       second = e.second ∙ i.second;

@@ -16,6 +16,7 @@ invariant-loop-group g l =
       journal : y.journal ≡ x.journal;
       current : y.current ≡ x.current;
       reserved : y.reserved ≡ x.reserved;
+      printed : y.printed ≡ x.printed;
       placed : y.placed ≡ x.placed;
       first : y.first ≡ x.first;
       second : y.second ≡ x.second;

@@ -1,0 +1,97 @@
+-- What stands on paper of the lines of an output that were to be printed, and how many of them are counted.
+use Rattle.std.specs.Prelude.{◌≡◌, ◌≢◌, ◌⊎◌, ℕ, zero, suc, ◌+◌, ◌-◌, ◌≤◌, ◌<◌, Bool, true, false, List, [], ◌∷◌, ◌++◌, length, map, take, Option, None, Some, Result, Ok, Err}
+use Rattle.mas_types.specs.declared.answers.Closing.{Closing}
+use Rattle.mas_types.specs.declared.answers.Closing.TheVariants.{PrinterLost}
+use Rattle.mas_types.specs.declared.ids.JobNo.{JobNo}
+use Rattle.mas_types.specs.declared.ids.MemberId.{MemberId}
+use Rattle.mas_types.specs.declared.ids.OutNo.{OutNo}
+use Rattle.mas_types.specs.Printed.{printed_line}
+use Rattle.spool_disk.specs.View.{Line, paper_now}
+use Rattle.spool_disk.specs.declared.plant.Plant.{Ghosts as PlantGhosts}
+use Rattle.ckpt_copy.specs.declared.copying.Copying.{Ghosts as CopyGhosts}
+use Rattle.ckpt_form.specs.declared.steady.Steady.{Ghosts as SteadyGhosts}
+use Rattle.mas_complex.specs.declared.complex.Complex.{Complex}
+use Rattle.mas_complex.specs.Headline.{whole}
+use Rattle.mas_complex.specs.Paper.{counts_of}
+use Rattle.mas_complex.specs.Parts.{Parts, parts_of}
+use Rattle.member_node.specs.declared.member.NodeNo.{NodeNo}
+use Rattle.member_node.specs.declared.member.NodeNo.TheVariants.{BothLost, Halted, ConsoleFault, NoMemory}
+use Rattle.member_steps.specs.Saying.{torn}
+use Rattle.job_outcome.specs.declared.outcomes.Read.{Read}
+use Rattle.job_outcome.specs.declared.outcomes.Read.TheVariants as read
+
+-- LINES OF AN OUTPUT
+
+-- so many of them from this one on, as they are printed
+abbrev pub lines_from : JobNo → OutNo → List (List ℕ) → ℕ → ℕ → List (List ℕ)
+lines_from n i text first zero = []
+lines_from n i text first (suc more) = printed_line n i first text ∷ lines_from n i text (first + 1) more
+
+-- those up to the last one, where so many are done
+abbrev pub lines_upto : JobNo → OutNo → ℕ → ℕ → List (List ℕ) → List (List ℕ)
+lines_upto n i done last text = lines_from n i text (done + 1) (last - done)
+
+-- the same by how the text was read
+abbrev pub lines_read : JobNo → OutNo → ℕ → ℕ → Read → List (List ℕ)
+lines_read n i done last (read.Lines text) = lines_upto n i done last text
+lines_read n i done last (read.Gone group) = []
+lines_read n i done last (read.Lost volume) = []
+
+-- WHAT STANDS OF THEM
+
+-- so many lines whole, and this text torn after them
+pub record Inked : Type 0 where
+  pub lines : ℕ
+  pub rest : Option (List ℕ)
+
+abbrev pub torn_line : Option (List ℕ) → List Line
+torn_line None = []
+torn_line (Some text) = torn text ∷ []
+
+abbrev pub inked_of : Inked → List (List ℕ) → List Line
+inked_of k lines = map whole (take k.lines lines) ++ torn_line k.rest
+
+-- all of them; or those before the one at which the printer was found lost
+abbrev pub IsInkedTo : Bool → ℕ → Inked → Type 0
+IsInkedTo false many k = k ≡ record { lines = many; rest = None }
+IsInkedTo true many k = (k.lines < many) × (k.rest ≡ None)
+
+-- By the answer, which says whether the printer was found lost. A member that was stopped leaves one of them torn,
+-- perhaps.
+abbrev pub IsInkedBy : {T : Type 0} → (T → Bool) → Result T NodeNo → ℕ → Inked → Type 0
+IsInkedBy lost (Ok end) many k = IsInkedTo (lost end) many k
+IsInkedBy lost (Err NoMemory) many k = (k.lines ≤ many) × (k.rest ≡ None)
+IsInkedBy lost (Err Halted) many k = (k.lines ≤ many) × ((k.rest ≡ None) ⊎ (k.lines < many))
+IsInkedBy lost (Err BothLost) many k = ⊥
+IsInkedBy lost (Err ConsoleFault) many k = ⊥
+
+-- each whole line is counted, except one at which the member was stopped
+abbrev pub IsCountOf : {T : Type 0} → Result T NodeNo → ℕ → ℕ → Type 0
+IsCountOf (Ok end) inked count = count ≡ inked
+IsCountOf (Err NoMemory) inked count = count ≡ inked
+IsCountOf (Err Halted) inked count = (count ≤ inked) × (inked ≤ count + 1)
+IsCountOf (Err BothLost) inked count = count ≡ inked
+IsCountOf (Err ConsoleFault) inked count = count ≡ inked
+
+-- the printer was found lost
+abbrev pub is_printer_lost : Option Closing → Bool
+is_printer_lost (Some PrinterLost) = true
+is_printer_lost _ = false
+
+module _ {P C : Type 0} (plants : PlantGhosts P) where
+  -- Of these lines some stand on the member's printer now, by the answer. Nobody else printed anything.
+  pub record HasInked {T : Type 0} (lost : T → Bool) (by : MemberId) (lines : List (List ℕ)) (x y : Parts P C)
+      (result : Result T NodeNo) : Type 0 where
+    pub inked : Inked
+    pub paper : paper_now (plants.view y.plant) by.0 ≡ paper_now (plants.view x.plant) by.0 ++ inked_of inked lines
+    pub others : (m : ℕ) → m ≢ by.0 → paper_now (plants.view y.plant) m ≡ paper_now (plants.view x.plant) m
+    pub by_answer : IsInkedBy lost result (length lines) inked
+    pub counted : IsCountOf result (counts_of x.printed by + inked.lines) (counts_of y.printed by)
+    pub other_counts : (m : MemberId) → m.0 ≢ by.0 → counts_of y.printed m ≡ counts_of x.printed m
+
+-- OVER THE SHARED VALUE, of a call that prints lines, and answers how the unit is refused then
+
+module _ {P C : Type 0} {plants : PlantGhosts P} {steadies : SteadyGhosts C} {copies : CopyGhosts C} where
+  abbrev pub Inks : MemberId → List (List ℕ) → Complex P C plants steadies copies → Complex P C plants steadies copies
+      → Result (Option Closing) NodeNo → Type 0
+  Inks by lines x y result = plants.tells → HasInked plants is_printer_lost by lines (parts_of x) (parts_of y) result
