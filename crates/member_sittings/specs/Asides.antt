@@ -28,7 +28,7 @@ use Rattle.member_decks.specs.Spooling.{OnVolumes, lies_there}
 use Rattle.member_decks.specs.Steps.{IsFoundLost, SpoolStops}
 use Rattle.step_turns.specs.declared.states.Found.{Found}
 use Rattle.step_turns.specs.declared.states.State.{State}
-use Rattle.step_turns.specs.declared.states.State.TheVariants.{Away}
+use Rattle.step_turns.specs.declared.states.State.TheVariants.{Away, Told}
 use Rattle.step_turns.specs.declared.states.Aside.TheVariants.{SpoolDeck}
 use Rattle.step_turns.specs.States.{nothing_found}
 use Rattle.member_sittings.specs.Whole.{queue_of}
@@ -47,9 +47,11 @@ pub record HasGroups (m : Member) (text : List (List ℕ)) : Type 0 where
   pub lines : AreLines text
   pub enough : groups_needed text ≤ member_count m.id m.checkpoint.tables.owners
 
+-- and its step waits for that, or is told
 abbrev pub WaitsRightly : Member → State → Type 0
 WaitsRightly m (Away (SpoolDeck n text)) = HasGroups m text
-WaitsRightly m _ = Unit {0}
+WaitsRightly m Told = Unit {0}
+WaitsRightly m _ = ⊥
 
 -- one of the groups lies on the volume that was found lost
 abbrev pub LiesOnOne : ℕ → List GroupNo → Option ℕ → Type 0

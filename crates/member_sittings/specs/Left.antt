@@ -1,5 +1,5 @@
 -- What a sitting leaves in the journal, as far as it came, and on the console.
-use Rattle.std.specs.Prelude.{◌≡◌, ◌⊎◌, ℕ, ◌≤◌, ◌<◌, Bool, true, false, List, [], ◌∷◌, ◌++◌, length, map, take, drop, Option, Some, None, Result, Ok, Err}
+use Rattle.std.specs.Prelude.{◌≡◌, ◌⊎◌, ℕ, ◌+◌, ◌≤◌, ◌<◌, Bool, true, false, List, [], ◌∷◌, ◌++◌, length, map, take, drop, Option, Some, None, Result, Ok, Err}
 use Rattle.mas_types.specs.declared.ids.MemberId.{MemberId}
 use Rattle.mas_types.specs.declared.journals.Batch.{Batch}
 use Rattle.mas_types.specs.declared.journals.Entry.{Entry}
@@ -85,7 +85,7 @@ SaidBy (Ok done) lines s = s ≡ record { lines = length lines; torn = None }
 SaidBy (Err NoMemory) lines s = s ≡ said_nothing
 SaidBy (Err BothLost) lines s = s ≡ said_nothing
 SaidBy (Err ConsoleFault) lines s = (s.lines < length lines) × (s.torn ≡ None)
-SaidBy (Err Halted) lines s = s.lines ≤ length lines
+SaidBy (Err Halted) lines s = s.lines + length (torn_line s.torn) ≤ length lines
 
 -- Of these lines some were said by the answer, and none before this held.
 pub record HasSaid {T : Type 0} (kept : Type 0) (lines : List (List ℕ)) (was now : List Line)

@@ -1,7 +1,7 @@
 //! The sitting of an operator's command.
 ghost use Rattle.std.specs.Prelude.{◌≡◌, IfOk};
 ghost use Rattle.mas_complex.specs.Parts.{parts_of};
-ghost use Rattle.step_turns.specs.declared.states.State.TheVariants.{Fresh};
+ghost use Rattle.step_turns.specs.declared.states.State.TheVariants.{Fresh, Told};
 ghost use Rattle.step_turns.specs.declared.states.Task.TheVariants.{Give};
 ghost use Rattle.member_sittings.specs.Sat.{HasSat, SitsOn, begins, sat_in};
 ghost use Rattle.member_sittings.specs.Whole.{IsGivable, MaySit};
@@ -36,6 +36,7 @@ pub fn sit_command<P: Plant + Drop, C: Steady + Drop>(
     ensures id { member.new.id ≡ member.old.id }
     ensures sat { HasSat (begins holder (Fresh (Give command))) complex.old complex.new result }
     ensures again { IfOk result (SitsOn complex.old complex.new member.old member.new holder.step) }
+    ensures told { IfOk result (λ e. e.next ≡ Told) }
 {
     complex.kept_texts();
     law_of_texts();

@@ -4,7 +4,7 @@ ghost use Rattle.mas_types.specs.Closings.{IsReplyNamed};
 ghost use Rattle.mas_types.specs.Fit.{AreLines};
 ghost use Rattle.mas_complex.specs.Parts.{parts_of};
 ghost use Rattle.step_turns.specs.declared.states.Task.TheVariants.{Deck as DeckTask};
-ghost use Rattle.step_turns.specs.declared.states.State.TheVariants.{Fresh};
+ghost use Rattle.step_turns.specs.declared.states.State.TheVariants.{Fresh, Told};
 ghost use Rattle.step_turns.specs.declared.states.Aside.TheVariants.{SpoolDeck};
 ghost use Rattle.member_sittings.specs.Asides.{DeckIsSpooled, IsReadDeck, WaitsRightly, deck_found};
 ghost use Rattle.member_sittings.specs.Ends.{deck_end};
@@ -118,6 +118,7 @@ pub fn sit_spooled<P: Plant + Drop, C: Steady + Drop>(
     ensures sat { HasSat (resumes holder (SpoolDeck deck.job deck.text) (deck_found deck.lost)) complex.old complex.new
         result }
     ensures again { IfOk result (SitsOn complex.old complex.new member.old member.new holder.step) }
+    ensures told { IfOk result (λ e. e.next ≡ Told) }
 {
     complex.kept_texts();
     law_of_texts();

@@ -68,14 +68,14 @@ module _ (m : MemberId) (some : 0 < m.0) where
 
   -- where the member stops at the piece that is cut
   cut_where : (halt : Halt) (b : Book) (p : Piece) → MayHold b m → (p.sitting.release ≡ Inner) ⊎ (p.sitting.release ≡ Outer) → StopsWhere halt m (book_cut m halt b p)
-  cut_where (Writing n g) b p may gives = (spent_holds m some (entered b m) (take n p.sitting.batches) (entered_holds m some b may)).holder
-  cut_where (Saying n tail) b p may gives = (spent_holds m some (entered b m) p.sitting.batches (entered_holds m some b may)).holder
+  cut_where (Writing n g) b p may gives = (entered_holds m some b may).holder
+  cut_where (Saying n tail) b p may gives = (entered_holds m some b may).holder
   cut_where (Waiting n tail) b p may gives =
       (freed_as m some (spent (entered b m) m p.sitting.batches) (spent_holds m some (entered b m) p.sitting.batches (entered_holds m some b may)) p.sitting.release gives).holder
 
   many_cut : (halt : Halt) (b : Book) (p : Piece) → many (book_cut m halt b p) ≡ many b
-  many_cut (Writing n g) b p = many_spent m (entered b m) (take n p.sitting.batches) ∙ many_entered m b
-  many_cut (Saying n tail) b p = many_spent m (entered b m) p.sitting.batches ∙ many_entered m b
+  many_cut (Writing n g) b p = many_entered m b
+  many_cut (Saying n tail) b p = many_entered m b
   many_cut (Waiting n tail) b p = many_piece m b p
 
   -- a stop leaves the holder

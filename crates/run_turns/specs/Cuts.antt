@@ -87,10 +87,10 @@ module _ (by : MemberId) where
   inked_cut (Waiting n tail) lines = length (take n lines)
   inked_cut _ lines = 0
 
-  -- the lock is held up to the acts that follow the sitting
+  -- The lock is held up to the acts that follow the sitting, and before them nothing is counted as spent of the hold.
   abbrev pub book_cut : Halt → Book → Piece → Book
-  book_cut (Writing n b) book p = spent (entered book by) by (take n p.sitting.batches)
-  book_cut (Saying n tail) book p = spent (entered book by) by p.sitting.batches
+  book_cut (Writing n b) book p = entered book by
+  book_cut (Saying n tail) book p = entered book by
   book_cut (Waiting n tail) book p = released_by p.sitting.release (spent (entered book by) by p.sitting.batches) by
 
   abbrev pub adds_part : Bool → Halt → Left → Piece → Left

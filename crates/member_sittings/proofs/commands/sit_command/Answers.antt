@@ -1,4 +1,4 @@
-use Rattle.std.proofs.Common.{◌∙◌, ◌+◌, ◌<◌, ◌^◌, ℕ, List, [], ◌∷◌, refl, sym, ap, subst, arith}
+use Rattle.std.proofs.Common.{◌≡◌, ◌∙◌, ◌+◌, ◌<◌, ◌^◌, ℕ, List, [], ◌∷◌, refl, sym, ap, subst, arith}
 use Rattle.std.proofs.Math.Logic.{∥∥₁_map}
 use Rattle.mas_types.specs.declared.ids.MemberId.{MemberId}
 use Rattle.mas_types.specs.declared.journals.Entry.{Entry}
@@ -111,3 +111,6 @@ returns-clause-again g c =
     let tables = ap (λ (t : Tables). t.order) c.close_sitting.ensures.tables in
     if_ok _ (λ e. IsSatOn g.P.Plant g.C.Copying (parts_of x) (parts_of z) m l c.args.holder.step e) c.close_sitting.result
     (λ e on. record { sits = on.sits; grown = record { order = omega (arith, d.order, tables); high = rw d.level at on.grown.high; reached = on.grown.reached } }) c.close_sitting.ensures.again
+
+pub returns-clause-told : goal.returns-clause-told
+returns-clause-told g c = if_ok _ (λ e. e.next ≡ Told) c.close_sitting.result (λ e ends. ends.next) c.close_sitting.ensures.sat.ends

@@ -161,3 +161,6 @@ returns-clause-again g c =
     let tables = ap (λ (t : Tables). t.order) c.close_deck.ensures.tables in
     if_ok _ (λ e. IsSatOn g.P.Plant g.C.Copying (parts_of x) (parts_of z) m l c.args.holder.step e) c.close_deck.result
     (λ e on. record { sits = on.sits; grown = record { order = omega (arith, d.order, tables); high = rw d.level at on.grown.high; reached = on.grown.reached } }) c.close_deck.ensures.again
+
+pub returns-clause-told : goal.returns-clause-told
+returns-clause-told g c = if_ok _ (λ e. e.next ≡ Told) c.close_deck.result (λ e ends. ends.next) c.close_deck.ensures.sat.ends

@@ -1,0 +1,4 @@
+pub mod Locking
+pub mod Seating
+pub mod Leaving
+pub mod Printing

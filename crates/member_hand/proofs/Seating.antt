@@ -1,0 +1,26 @@
+-- A member that is idle at a quiet value may take its seat once it holds the lock, and a step that no line tells is told
+-- by none once nothing was said.
+use Rattle.std.proofs.Common.{◌≡◌, ℕ, ◌≤◌, sym, subst}
+use Rattle.mas_types.specs.declared.ids.MemberId.{MemberId}
+use Rattle.mas_types.specs.declared.queues.Queue.{Queue}
+use Rattle.spool_disk.specs.View.{View}
+use Rattle.spool_disk.specs.Acts.{Goes}
+use Rattle.spool_disk.specs.declared.plant.Plant.{Ghosts as PlantGhosts}
+use Rattle.ckpt_copy.specs.declared.copying.Copying.{Ghosts as CopyGhosts}
+use Rattle.mas_complex.specs.Crash.{IsUntold, setting}
+use Rattle.mas_complex.specs.Parts.{Parts}
+use Rattle.member_node.specs.Calls.{console_now}
+use Rattle.member_steps.proofs.ReadLemmas.{untold_later}
+use Rattle.member_decks.specs.Steps.{AreOf}
+use Rattle.member_sittings.specs.Whole.{HasUntold}
+
+module _ {P C : Type 0} (plants : PlantGhosts P) (copies : CopyGhosts C) (x y : Parts P C) where
+  abbrev v : Parts P C → View
+  v x = plants.view x.plant
+
+  pub untold_on : (by is : MemberId) (at : ℕ) → is ≡ by → y.base ≡ x.base → y.since ≡ x.since → x.since ≤ (v x).now → Goes (v x) (v y)
+      → (plants.tells → console_now (v y) ≡ console_now (v x)) → HasUntold plants copies x by at → HasUntold plants copies y is at
+  untold_on by is at same base since begun goes quiet untold = λ t es of.
+      subst (λ (b : Queue). IsUntold (setting copies.reads b y.since) (v y) es) (sym base)
+      (subst (λ (k : ℕ). IsUntold (setting copies.reads x.base k) (v y) es) (sym since)
+      (untold_later copies.reads x.base x.since (v x) (v y) es begun goes (quiet t) (untold t es (subst (λ (i : MemberId). AreOf i at es) same of))))

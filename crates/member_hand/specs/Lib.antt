@@ -1,0 +1,4 @@
+pub mod Locks
+pub mod Enters
+pub mod Asides
+pub mod Sits

@@ -1,0 +1,83 @@
+//! How a member comes to the lock and leaves it, at the ends of a sitting.
+ghost use Rattle.std.specs.Prelude.{◌≡◌, OnOk};
+ghost use Rattle.mas_complex.specs.Locking.{IsOperatorAway};
+ghost use Rattle.mas_complex.specs.Parts.{parts_of, with_copies};
+ghost use Rattle.member_sittings.specs.Gates.{ActedOnCopies};
+ghost use Rattle.member_sittings.specs.Whole.{MaySit};
+ghost use Rattle.run_turns.specs.Pieces.{entered};
+ghost use Rattle.member_hand.specs.Enters.{MayEnter};
+ghost use Rattle.member_hand.specs.Locks.{MayHold, MayLeave, left_book, next_holder as next_holder_lem};
+
+use mas_complex::{Complex, Steady};
+use mas_types::MemberId;
+use member_node::{Member, NodeNo};
+use member_sittings::{SittingEnd, take_seat};
+use spool_disk::Plant;
+use std::alloc::Global;
+use step_turns::{Grant, Holder, Release};
+
+/// The member that may hold the lock holds it: it took it before, or takes it now in the middle of its step.
+pub fn retake<P: Plant + Drop, C: Steady + Drop>(complex: &mut Complex<P, C>, by: MemberId)
+    requires may { MayHold complex.old.book by }
+    requires away { IsOperatorAway complex.old.book complex.old.reserved complex.old.current }
+    ensures frame { parts_of complex.new ≡ record (parts_of complex.old) { book = entered complex.old.book by } }
+{
+    complex.retake_lock(by);
+}
+
+/// The member that has the lock takes its seat, and may sit in this step: it reads what the copies have, and makes room
+/// for a batch.
+///
+/// BothLost comes only where both copies count as lost at the end of the call, Halted only where the member was stopped
+/// in it; NoMemory is want of memory for the tables. The journal, the volumes and the console are as they were.
+pub fn enter<P: Plant + Drop, C: Steady + Drop>(
+    member: &mut Member,
+    alloc: Global,
+    complex: &mut Complex<P, C>,
+    holder: Holder,
+) -> Result<(), NodeNo>
+    requires { MayEnter complex.old member.old holder }
+    ensures frame { parts_of complex.new ≡ with_copies (parts_of complex.new) (parts_of complex.old) }
+    ensures id { member.new.id ≡ member.old.id }
+    ensures acts { ActedOnCopies member.old.id complex.old complex.new result }
+    ensures seat { OnOk result (MaySit complex.new member.new holder) }
+{
+    take_seat(member, alloc, complex)
+}
+
+/// What a member does with the lock at a sitting's end: so many commands of its hold are spent, and it keeps the lock,
+/// or gives it up within its step or at the step's end.
+pub fn leave<P: Plant + Drop, C: Steady + Drop>(
+    complex: &mut Complex<P, C>,
+    by: MemberId,
+    end: &SittingEnd,
+)
+    requires { MayLeave complex.old by }
+    ensures frame { parts_of complex.new
+        ≡ record (parts_of complex.old) { book = left_book complex.old.book by end.now.given end.now.release } }
+{
+    let left = complex.hold_left(by);
+    let spent = end.given.min(left as u64) as u16;
+    complex.spend(by, spent);
+    match end.release {
+        Release::Keep => {}
+        Release::Inner => {
+            let _left = complex.free(by, true);
+        }
+        Release::Outer => {
+            let _left = complex.free(by, false);
+        }
+    }
+}
+
+/// Who holds the lock after a sitting that gave so many commands: the next grant brings a whole hold, and the
+/// operator's LOCK goes on with what is left.
+pub fn next_holder(holder: Holder, whole: u16, given: u64) -> Holder
+    ensures { result ≡ next_holder_lem holder whole given }
+{
+    let hold = match holder.grant {
+        Grant::ForStep => whole,
+        Grant::ByLock => (holder.hold as u64).saturating_sub(given) as u16,
+    };
+    Holder { hold, ..holder }
+}
