@@ -1,0 +1,6 @@
+pub mod Admissions
+pub mod Earlier
+pub mod Closes
+pub mod Stops
+pub mod Locks
+pub mod Resets
