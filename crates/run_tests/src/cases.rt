@@ -5,18 +5,22 @@ ghost use Rattle.spool_disk.specs.MemView.{mem_book};
 
 use mas_run::{Ended, play_script};
 use mas_types::{Dev, List, NoMemory};
-use spool_disk::{MemPlant, MemSource, Plant, Sizes};
-use std::alloc::Global;
+use spool_disk::{Choice, MemPlant, MemSource, Plant, Sizes};
+use std::alloc::{AllocError, Global};
 use tests_lines::number_at;
 
 /// An act that no run comes to.
-const NEVER: u64 = u64::MAX;
+pub const NEVER: u64 = u64::MAX;
 
 /// Room enough for the acts of a run and of those who look at what it leaves.
 const ACTS: usize = 400;
 
 /// The same for the bytes that they write.
 const BYTES: usize = 500_000;
+
+/// A run over the plant in memory, as it ended. It stands in a box, as its plant does where a crash left that: so
+/// whoever has one lets it go by one call.
+pub type Run = Box<Ended<MemPlant>>;
 
 /// What a case is about.
 #[derive(Drop)]
@@ -100,25 +104,49 @@ impl Case {
     }
 
     /// The cold run.
-    pub fn run(&self, alloc: Global) -> Result<Ended<MemPlant>, NoMemory> {
+    pub fn run(&self, alloc: Global) -> Result<Run, NoMemory> {
+        let source = source_of(alloc, self.script.as_slice(), self.source)?;
         let plant = self.plant(alloc)?;
-        let mut source = MemSource::new(list_of(alloc, self.script.as_slice())?, self.source);
-        Ok(play_script(alloc, true, false, &mut source, plant))
+        play_on(alloc, true, source, plant)
     }
 }
 
-fn list_of(alloc: Global, bytes: &[u8]) -> Result<List<u8>, NoMemory> {
-    let mut list = List::new(alloc);
-    for byte in bytes {
-        list.push(*byte)?;
+// A source of a script, which fails after so many bytes, if it does.
+fn source_of(alloc: Global, script: &[u8], fault: Option<u64>) -> Result<MemSource, NoMemory> {
+    let mut bytes = List::new(alloc);
+    for byte in script {
+        bytes.push(*byte)?;
     }
-    Ok(list)
+    Ok(MemSource::new(bytes, fault))
+}
+
+// A run of a script, cold or warm.
+fn play_on(alloc: Global, cold: bool, source: MemSource, plant: MemPlant) -> Result<Run, NoMemory> {
+    let mut source = source;
+    let ended = play_script(alloc, cold, false, &mut source, plant);
+    Ok(Box::new(alloc, ended).map_err(AllocError::from)?)
+}
+
+/// A plant in a box.
+pub fn boxed(alloc: Global, plant: MemPlant) -> Result<Box<MemPlant>, NoMemory> {
+    Ok(Box::new(alloc, plant).map_err(AllocError::from)?)
+}
+
+/// What a crash at a moment leaves, or one now if the moment is yet to come.
+pub fn crashed(
+    alloc: Global,
+    plant: &MemPlant,
+    moment: u64,
+    choice: Choice,
+) -> Result<Box<MemPlant>, NoMemory> {
+    let left = plant.crash_at(alloc, moment.min(plant.now()), choice)?;
+    boxed(alloc, left)
 }
 
 /// A warm run of a script over what is left.
-pub fn start(alloc: Global, script: &[u8], left: MemPlant) -> Result<Ended<MemPlant>, NoMemory> {
-    let mut source = MemSource::new(list_of(alloc, script)?, None);
-    Ok(play_script(alloc, false, false, &mut source, left))
+pub fn start(alloc: Global, script: &[u8], left: Box<MemPlant>) -> Result<Run, NoMemory> {
+    let source = source_of(alloc, script, None)?;
+    play_on(alloc, false, source, Box::into_inner(left))
 }
 
 /// The device of a number: both copies, and the volume.

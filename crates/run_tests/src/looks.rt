@@ -1,35 +1,28 @@
 // What a run leaves, and what a start of it finds.
-use crate::cases::{Case, start};
+use crate::cases::{Case, crashed, start};
 use crate::queues::add_queue;
 use mas_run::Ended;
 use mas_types::{Batch, Dev, Fate, Job, MemberId, NoMemory, Phase, Status, status_line};
 use spool_disk::{Act, Choice, MemPlant, Part, Plant};
 use std::alloc::Global;
-use tests_lines::{add_lines, add_number};
+use tests_lines::{add_flag, add_lines, add_number};
 
 const SYSA: MemberId = MemberId(1);
 
-const PARTS: [(Part, &[u8]); 4] = [
-    (Part::Disk(Dev::Ckpt1), b" CKPT1"),
-    (Part::Disk(Dev::Ckpt2), b" CKPT2"),
-    (Part::Disk(Dev::Spool(1)), b" SPOOL1"),
-    (Part::Printer(SYSA), b" PRT1"),
-];
+/// Who reads and writes from outside of a run.
+const OPERATOR: MemberId = MemberId(0);
 
 /// The bytes of a block.
-pub const BLOCK: u64 = 4096;
+pub const BLOCK: usize = 4096;
 
 /// The pages of a copy, which stand at home in the blocks behind the first one.
-const PAGES: usize = 6;
+const PAGES: u8 = 6;
 
 /// The slots behind them, each a directory and room for an image of each page.
-const SLOTS: usize = 4;
+const SLOTS: u8 = 4;
 
 /// The byte of an open gate.
 const OPEN: u8 = 165;
-
-/// No device has more blocks.
-pub const BLOCKS_MOST: u64 = 1024;
 
 /// How many of the jobs are entered, and once more how many there are: after how many batches of decks the queue is.
 pub fn batches_of_decks(jobs: &[Job]) -> u64 {
@@ -51,8 +44,13 @@ pub fn kept_and_begun(batches: &[Batch], t: u64) -> (u64, u64) {
     (kept, begun)
 }
 
-fn fated(batches: &[Batch], fate: Fate) -> usize {
-    batches.iter().filter(|batch| batch.fate == fate).count()
+// How many batches are kept, or in flight.
+fn fated(batches: &[Batch], fate: Fate) -> u64 {
+    let mut count = 0u64;
+    for batch in batches {
+        count = count.saturating_add(u64::from(batch.fate == fate));
+    }
+    count
 }
 
 /// How a run ended.
@@ -63,15 +61,22 @@ pub fn add_status(alloc: Global, line: &mut Vec<u8>, status: &Status) -> Result<
     }
 }
 
+fn add_lost_disk(
+    line: &mut Vec<u8>,
+    word: &[u8],
+    plant: &MemPlant,
+    dev: Dev,
+) -> Result<(), NoMemory> {
+    add_flag(line, word, plant.lost(Part::Disk(dev)))
+}
+
 /// Which parts are lost.
 pub fn add_lost(line: &mut Vec<u8>, plant: &MemPlant) -> Result<(), NoMemory> {
     line.extend_from_slice(b", lost")?;
-    for (part, word) in PARTS {
-        if plant.lost(part) {
-            line.extend_from_slice(word)?;
-        }
-    }
-    Ok(())
+    add_lost_disk(line, b" CKPT1", plant, Dev::Ckpt1)?;
+    add_lost_disk(line, b" CKPT2", plant, Dev::Ckpt2)?;
+    add_lost_disk(line, b" SPOOL1", plant, Dev::Spool(1))?;
+    add_flag(line, b" PRT1", plant.lost(Part::Printer(SYSA)))
 }
 
 // Which parts are lost, what stands on the console from a line on, and what on paper.
@@ -97,67 +102,88 @@ pub fn add_ended(
 ) -> Result<(), NoMemory> {
     let batches = ended.journal.batches.as_slice();
     add_status(alloc, line, &ended.status)?;
-    add_number(line, b", kept ", fated(batches, Fate::Kept) as u64)?;
-    add_number(line, b", flying ", fated(batches, Fate::Flying) as u64)?;
+    add_number(line, b", kept ", fated(batches, Fate::Kept))?;
+    add_number(line, b", flying ", fated(batches, Fate::Flying))?;
     add_outside(alloc, line, &ended.plant, 0)
 }
 
-/// A block of a device, where it has that.
-pub fn block(plant: &mut MemPlant, dev: Dev, number: u64) -> Option<[u8; 4096]> {
-    let mut into = [0; 4096];
-    if number >= BLOCKS_MOST || plant.size(dev) < number * BLOCK + BLOCK {
-        return None;
-    }
-    match plant.read(MemberId(0), dev, number * BLOCK, &mut into) {
-        Act::Done => Some(into),
-        _ => None,
+/// The bytes of a device; none where it can't be read.
+pub fn content(alloc: Global, plant: &mut MemPlant, dev: Dev) -> Result<Vec<u8>, NoMemory> {
+    let size = plant.size(dev) as usize;
+    let mut bytes = vec![in alloc; 0u8; size]?;
+    match plant.read(OPERATOR, dev, 0, &mut bytes) {
+        Act::Done => Ok(bytes),
+        _ => Ok(Vec::new(alloc)),
     }
 }
 
-// In which block each page of a copy stands: at home, or in the last open slot that lists it.
-fn places(plant: &mut MemPlant, dev: Dev) -> Option<[u64; PAGES]> {
-    let head = block(plant, dev, 0)?;
-    let mut places = [1, 2, 3, 4, 5, 6];
+/// Writes bytes where the device has room for them.
+pub fn put(plant: &mut MemPlant, dev: Dev, at: u64, bytes: &[u8]) {
+    let size = plant.size(dev);
+    let count = bytes.len() as u64;
+    if at <= size && count <= size - at {
+        let _ = plant.write(OPERATOR, dev, at, bytes);
+    }
+}
+
+/// A block of a device's bytes; it has fewer bytes where the device ends.
+pub fn block(bytes: &[u8], number: usize) -> &[u8] {
+    let start = number.saturating_mul(BLOCK).min(bytes.len());
+    let (_, rest) = bytes.split_at(start);
+    &rest[..BLOCK.min(rest.len())]
+}
+
+// The byte at a place, 0 where there is none.
+fn byte(bytes: &[u8], at: usize) -> u8 {
+    match bytes.get(at) {
+        Some(byte) => *byte,
+        None => 0,
+    }
+}
+
+// In which block the image of a page stands in a slot, where the slot's directory lists the page.
+fn listed(copy: &[u8], slot: u8, page: u8) -> Option<usize> {
+    let first = 7 * (slot as usize + 1);
+    let directory = block(copy, first);
+    let count = byte(directory, 1);
+    let mut place = None;
+    for at in 0..PAGES {
+        if at < count && byte(directory, 17 + 2 * at as usize) == page {
+            place = Some(first + 1 + at as usize);
+        }
+    }
+    place
+}
+
+// In which block a page of a copy stands: at home, or in the last open slot that lists it.
+fn place(copy: &[u8], page: u8) -> usize {
+    let mut place = 1 + page as usize;
     for slot in 0..SLOTS {
-        if head[8 + slot] != OPEN {
-            continue;
-        }
-        let first = 7 * (slot as u64 + 1);
-        let directory = block(plant, dev, first)?;
-        for at in 0..PAGES {
-            let page = directory[17 + 2 * at] as usize;
-            if at < directory[1] as usize && page < PAGES {
-                places[page] = first + 1 + at as u64;
-            }
+        if byte(copy, 8 + slot as usize) == OPEN {
+            place = listed(copy, slot, page).unwrap_or(place);
         }
     }
-    Some(places)
+    place
 }
 
-// Both copies read as the same pages.
-fn are_equal(plant: &mut MemPlant) -> bool {
-    let (Some(first), Some(second)) = (places(plant, Dev::Ckpt1), places(plant, Dev::Ckpt2)) else {
+// Two copies that can be read have the same pages.
+fn are_equal(first: &[u8], second: &[u8]) -> bool {
+    if first.len() == 0 {
         return false;
-    };
+    }
     for page in 0..PAGES {
-        match (
-            block(plant, Dev::Ckpt1, first[page]),
-            block(plant, Dev::Ckpt2, second[page]),
-        ) {
-            (Some(first), Some(second)) if first == second => {}
-            _ => return false,
+        if block(first, place(first, page)) != block(second, place(second, page)) {
+            return false;
         }
     }
     true
 }
 
-// The byte that another hand writes, where the device has that.
-fn write(plant: &mut MemPlant, byte: Option<(Dev, u64, u8)>) {
-    if let Some((dev, place, byte)) = byte
-        && place < plant.size(dev)
-    {
-        let _ = plant.write(MemberId(0), dev, place, &[byte]);
-    }
+// How a start ended, and the queue that it found.
+fn add_next(alloc: Global, line: &mut Vec<u8>, ended: &Ended<MemPlant>) -> Result<(), NoMemory> {
+    line.extend_from_slice(b", then ")?;
+    add_status(alloc, line, &ended.status)?;
+    add_queue(line, &ended.base)
 }
 
 /// The queue that a start finds behind an ended run.
@@ -166,21 +192,19 @@ pub fn add_left(
     line: &mut Vec<u8>,
     ended: &Ended<MemPlant>,
 ) -> Result<(), NoMemory> {
-    let left = ended.plant.crash_at(alloc, ended.plant.now(), Choice::Old)?;
+    let left = crashed(alloc, &ended.plant, ended.plant.now(), Choice::Old)?;
     let next = start(alloc, b"", left)?;
-    line.extend_from_slice(b", then ")?;
-    add_status(alloc, line, &next.status)?;
-    add_queue(line, &next.base)
+    add_next(alloc, line, &next)
 }
 
-// What a crash left, without what is lost in it, and with the byte of another hand.
-fn changed(case: &Case, left: MemPlant) -> MemPlant {
-    let mut left = left;
+// Loses what is lost in a crash, and writes the byte of another hand.
+fn change(case: &Case, left: &mut MemPlant) {
     if let Some(dev) = case.gone {
         left.lose(dev);
     }
-    write(&mut left, case.byte);
-    left
+    if let Some((dev, place, byte)) = case.byte {
+        put(left, dev, place, &[byte]);
+    }
 }
 
 // How a start ended: its status, its batches, the queue that it found, what is lost, and what it said and printed.
@@ -197,27 +221,47 @@ fn add_start(
     add_outside(alloc, line, &ended.plant, said)
 }
 
-fn add_equal(line: &mut Vec<u8>, plant: &mut MemPlant) -> Result<(), NoMemory> {
-    if are_equal(plant) {
-        line.extend_from_slice(b", copies are equal")?;
-    } else {
-        line.extend_from_slice(b", copies differ")?;
-    }
-    Ok(())
+fn add_equal(alloc: Global, line: &mut Vec<u8>, plant: &mut MemPlant) -> Result<(), NoMemory> {
+    let first = content(alloc, plant, Dev::Ckpt1)?;
+    let second = content(alloc, plant, Dev::Ckpt2)?;
+    let equal = are_equal(first.as_slice(), second.as_slice());
+    add_flag(line, b", copies are equal", equal)?;
+    add_flag(line, b", copies differ", !equal)
 }
 
-/// A start of what a crash leaves, told, and after how many batches of decks its queue is.
-pub fn found(alloc: Global, case: &Case, left: MemPlant) -> Result<(Vec<u8>, u64), NoMemory> {
-    let left = changed(case, left);
-    let said = left.console_lines(alloc)?.len();
-    let mut line = Vec::new(alloc);
-    let mut ended = start(alloc, case.next.as_slice(), left)?;
-    add_start(alloc, &mut line, &ended, said)?;
+// All that is told of a start.
+fn add_found(
+    alloc: Global,
+    line: &mut Vec<u8>,
+    case: &Case,
+    ended: &mut Ended<MemPlant>,
+    said: usize,
+) -> Result<u64, NoMemory> {
+    add_start(alloc, line, ended, said)?;
     if case.next.len() > 0 {
-        add_left(alloc, &mut line, &ended)?;
+        add_left(alloc, line, ended)?;
     }
     if case.equal {
-        add_equal(&mut line, &mut ended.plant)?;
+        add_equal(alloc, line, &mut ended.plant)?;
     }
-    Ok((line, batches_of_decks(ended.base.jobs.as_slice())))
+    Ok(batches_of_decks(ended.base.jobs.as_slice()))
+}
+
+/// How many lines the console has.
+pub fn count_said(alloc: Global, plant: &MemPlant) -> Result<usize, NoMemory> {
+    Ok(plant.console_lines(alloc)?.len())
+}
+
+/// Tells a start of what a crash leaves. It gives after how many batches of decks its queue is.
+pub fn found(
+    alloc: Global,
+    line: &mut Vec<u8>,
+    case: &Case,
+    left: Box<MemPlant>,
+) -> Result<u64, NoMemory> {
+    let mut left = left;
+    change(case, &mut left);
+    let said = count_said(alloc, &left)?;
+    let mut ended = start(alloc, case.next.as_slice(), left)?;
+    add_found(alloc, line, case, &mut ended, said)
 }

@@ -31,24 +31,23 @@ fn take(case: &mut Case, told: &mut Told, line: &str) -> Result<(), NoMemory> {
     }
 }
 
-fn run(rt: &HostRuntime) -> Result<Told, NoMemory> {
-    let mut told = Told::new(rt.alloc());
-    let mut case = Case::new(rt.alloc());
+fn run(rt: &HostRuntime, case: &mut Case, told: &mut Told) -> Result<(), NoMemory> {
     for line in rt.lines(rt.alloc()) {
         let Ok(line) = line else {
             return Err(NoMemory);
         };
-        take(&mut case, &mut told, line.as_str())?;
+        take(case, told, line.as_str())?;
     }
-    Ok(told)
+    Ok(())
 }
 
 fn main(rt: HostRuntime) -> ExitCode {
-    let Ok(told) = run(&rt) else {
-        return ExitCode::FAILURE;
-    };
-    match rt.stdout().write_all(told.out.as_slice()) {
-        Ok(()) => ExitCode::SUCCESS,
-        Err(_) => ExitCode::FAILURE,
+    let mut told = Told::new(rt.alloc());
+    let mut case = Case::new(rt.alloc());
+    let played = run(&rt, &mut case, &mut told);
+    if played.is_ok() && rt.stdout().write_all(told.out.as_slice()).is_ok() {
+        ExitCode::SUCCESS
+    } else {
+        ExitCode::FAILURE
     }
 }

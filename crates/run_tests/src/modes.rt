@@ -1,18 +1,12 @@
 // The modes: a run with its end, a block that it leaves, a crash at each moment, and acts that fail or halt one after
 // another.
-use crate::cases::{Case, device};
-use crate::looks::{add_ended, block, found, kept_and_begun};
+use crate::cases::{Case, crashed, device};
+use crate::looks::{add_ended, block, content, count_said, found, kept_and_begun};
 use mas_run::Ended;
-use mas_types::{List, MemberId, NoMemory};
+use mas_types::{Dev, List, MemberId, NoMemory};
 use spool_disk::{Choice, MemPlant, Plant};
 use std::alloc::Global;
 use tests_lines::{add_number, number_at};
-
-const CHOICES: [(Choice, &[u8]); 3] = [
-    (Choice::Old, b", old "),
-    (Choice::New, b", new "),
-    (Choice::Ones, b", ones "),
-];
 
 /// What is told: the lines, the states that starts found, by number, and the stretch of moments or acts with one
 /// outcome that isn't told yet.
@@ -46,23 +40,33 @@ impl Told {
         Ok(())
     }
 
+    // The number of a state that was told.
+    fn known(&self, state: &[u8]) -> Option<u64> {
+        for at in 0..self.states.len() {
+            if self.states.item(at).as_slice() == state {
+                return Some(at as u64);
+            }
+        }
+        None
+    }
+
+    fn tell(&mut self, number: u64, state: &[u8]) -> Result<(), NoMemory> {
+        add_number(&mut self.out, b"#", number)?;
+        self.out.extend_from_slice(b" ")?;
+        self.out.extend_from_slice(state)?;
+        self.out.extend_from_slice(b"\n")?;
+        Ok(())
+    }
+
     /// The number of a state, which is told where it is a new one.
     pub fn state(&mut self, state: Vec<u8>) -> Result<u64, NoMemory> {
-        let known = self
-            .states
-            .as_slice()
-            .iter()
-            .position(|other| other.as_slice() == state.as_slice());
-        if let Some(at) = known {
-            return Ok(at as u64);
+        if let Some(number) = self.known(state.as_slice()) {
+            return Ok(number);
         }
-        let at = self.states.len() as u64;
-        add_number(&mut self.out, b"#", at)?;
-        self.out.extend_from_slice(b" ")?;
-        self.out.extend_from_slice(state.as_slice())?;
-        self.out.extend_from_slice(b"\n")?;
+        let number = self.states.len() as u64;
+        self.tell(number, state.as_slice())?;
         self.states.push(state)?;
-        Ok(at)
+        Ok(number)
     }
 
     /// Tells the stretch, if there is one.
@@ -99,12 +103,10 @@ impl Told {
         t: u64,
         image: (Choice, &[u8]),
     ) -> Result<(), NoMemory> {
-        if t > run.plant.now() {
-            return Ok(());
-        }
         let (choice, word) = image;
-        let left = run.plant.crash_at(self.alloc, t, choice)?;
-        let (state, batches) = found(self.alloc, case, left)?;
+        let mut state = Vec::new(self.alloc);
+        let left = crashed(self.alloc, &run.plant, t, choice)?;
+        let batches = found(self.alloc, &mut state, case, left)?;
         let number = self.state(state)?;
         add_number(line, word, batches)?;
         add_number(line, b" #", number)
@@ -118,10 +120,9 @@ impl Told {
         run: &Ended<MemPlant>,
         t: u64,
     ) -> Result<(), NoMemory> {
-        for image in CHOICES {
-            self.add_image(line, case, run, t, image)?;
-        }
-        Ok(())
+        self.add_image(line, case, run, t, (Choice::Old, b", old "))?;
+        self.add_image(line, case, run, t, (Choice::New, b", new "))?;
+        self.add_image(line, case, run, t, (Choice::Ones, b", ones "))
     }
 
     // The outcome of a moment.
@@ -147,12 +148,22 @@ impl Told {
 
     // The outcome of a run, and what a start finds behind a crash at its end, by an act's number or that of the last
     // moment.
+    fn outcome(
+        &mut self,
+        case: &Case,
+        run: &Ended<MemPlant>,
+        number: Option<u64>,
+    ) -> Result<(), NoMemory> {
+        let now = run.plant.now();
+        let mut line = Vec::new(self.alloc);
+        add_ended(self.alloc, &mut line, run)?;
+        self.add_found(&mut line, case, run, now)?;
+        self.at(number.unwrap_or(now), line)
+    }
+
     fn ended(&mut self, case: &Case, number: Option<u64>) -> Result<(), NoMemory> {
         let run = case.run(self.alloc)?;
-        let mut line = Vec::new(self.alloc);
-        add_ended(self.alloc, &mut line, &run)?;
-        self.add_found(&mut line, case, &run, run.plant.now())?;
-        self.at(number.unwrap_or(run.plant.now()), line)
+        self.outcome(case, &run, number)
     }
 
     // The outcome of a run by itself.
@@ -181,32 +192,39 @@ impl Told {
         self.end()
     }
 
+    // A block of a device.
+    fn rows(&mut self, plant: &mut MemPlant, dev: Dev, number: u64) -> Result<(), NoMemory> {
+        let bytes = content(self.alloc, plant, dev)?;
+        add_rows(&mut self.out, block(bytes.as_slice(), number as usize))
+    }
+
     // A block that a run leaves.
     fn block(&mut self, case: &Case, line: &str) -> Result<(), NoMemory> {
-        let mut run = case.run(self.alloc)?;
         let number = number_at(line, 2).unwrap_or(0);
         let Some(dev) = device(number_at(line, 1)) else {
             return Ok(());
         };
-        match block(&mut run.plant, dev, number) {
-            Some(bytes) => add_rows(&mut self.out, &bytes),
-            None => Ok(()),
-        }
+        let mut run = case.run(self.alloc)?;
+        self.rows(&mut run.plant, dev, number)
     }
+}
+
+fn add_row(out: &mut Vec<u8>, at: u64, bytes: &[u8]) -> Result<(), NoMemory> {
+    add_number(out, b"", at)?;
+    out.extend_from_slice(b":")?;
+    for byte in bytes {
+        add_number(out, b" ", *byte as u64)?;
+    }
+    out.extend_from_slice(b"\n")?;
+    Ok(())
 }
 
 // The bytes of a block, sixteen a line, without the lines of zeros.
 fn add_rows(out: &mut Vec<u8>, bytes: &[u8]) -> Result<(), NoMemory> {
     for (row, bytes) in bytes.chunks(16).enumerate() {
-        if bytes.iter().all(|byte| *byte == 0) {
-            continue;
+        if !bytes.starts_with(&[0; 16]) {
+            add_row(out, (row as u64).saturating_mul(16), bytes)?;
         }
-        add_number(out, b"", (row as u64).saturating_mul(16))?;
-        out.extend_from_slice(b":")?;
-        for byte in bytes {
-            add_number(out, b" ", *byte as u64)?;
-        }
-        out.extend_from_slice(b"\n")?;
     }
     Ok(())
 }
@@ -220,6 +238,14 @@ pub fn kept_at(run: &Ended<MemPlant>, number: u64) -> u64 {
     }
 }
 
+// How many lines were said and printed.
+fn add_lines_count(alloc: Global, line: &mut Vec<u8>, plant: &MemPlant) -> Result<(), NoMemory> {
+    let said = count_said(alloc, plant)? as u64;
+    let printed = plant.printer_lines(alloc, MemberId(1))?.len() as u64;
+    add_number(line, b", said ", said)?;
+    add_number(line, b", printed ", printed)
+}
+
 // How many batches were kept and begun at a moment, and how many lines said and printed.
 fn add_moment(
     alloc: Global,
@@ -227,17 +253,11 @@ fn add_moment(
     run: &Ended<MemPlant>,
     t: u64,
 ) -> Result<(), NoMemory> {
-    if t > run.plant.now() {
-        return Ok(());
-    }
-    let left = run.plant.crash_at(alloc, t, Choice::Old)?;
-    let said = left.console_lines(alloc)?.len() as u64;
-    let printed = left.printer_lines(alloc, MemberId(1))?.len() as u64;
     let (kept, begun) = kept_and_begun(run.journal.batches.as_slice(), t);
     add_number(line, b"kept ", kept)?;
     add_number(line, b", begun ", begun)?;
-    add_number(line, b", said ", said)?;
-    add_number(line, b", printed ", printed)
+    let left = crashed(alloc, &run.plant, t, Choice::Old)?;
+    add_lines_count(alloc, line, &left)
 }
 
 // The first and the last of the moments that a mode is about.

@@ -1,24 +1,22 @@
 // Starts on copies of which either is as a run left it, older, without pages, with pages that can't be used, or lost:
 // each start by itself, and beside a copy as it was left with each of its acts failing. Told are its status, the parts
 // that are lost, what became of the bytes of both copies, and what the next start finds.
-use crate::cases::{Case, start};
-use crate::looks::{BLOCK, BLOCKS_MOST, add_left, add_lost, add_status, block};
+use crate::cases::{Case, NEVER, boxed, crashed, start};
+use crate::looks::{BLOCK, add_left, add_lost, add_status, content, put};
 use crate::modes::{Told, kept_at};
 use mas_run::Ended;
-use mas_types::{Dev, MemberId, NoMemory};
+use mas_types::{Dev, NoMemory};
 use spool_disk::{Choice, MemPlant, Part, Plant};
 use std::alloc::Global;
-use tests_lines::add_number;
-
-const OPERATOR: MemberId = MemberId(0);
+use tests_lines::{add_flag, add_number};
 
 /// The first bytes of a page 0.
 const HEADER: &[u8] = b"MASCKPT1";
 
 /// A byte of a page 0 that no field names.
-const NO_FIELD: u64 = 48;
+const NO_FIELD: usize = 48;
 
-#[derive(Clone, Copy, PartialEq, Eq)]
+#[derive(Clone, Copy)]
 enum Form {
     Left,
     Older,
@@ -27,163 +25,228 @@ enum Form {
     Lost,
 }
 
-const FORMS: [(Form, &[u8]); 5] = [
-    (Form::Left, b" as it was left"),
-    (Form::Older, b" older"),
-    (Form::Unread, b" without pages"),
-    (Form::Unsound, b" with pages that can't be used"),
-    (Form::Lost, b" lost"),
+const FORMS: [Form; 5] = [
+    Form::Left,
+    Form::Older,
+    Form::Unread,
+    Form::Unsound,
+    Form::Lost,
 ];
 
-const COPIES: [(Dev, &[u8]); 2] = [(Dev::Ckpt1, b", CKPT1"), (Dev::Ckpt2, b", CKPT2")];
-
-// Writes bytes where the device has room for them.
-fn put(plant: &mut MemPlant, dev: Dev, at: u64, bytes: &[u8]) {
-    let size = plant.size(dev);
-    let count = bytes.len() as u64;
-    if at <= size && count <= size - at {
-        let _ = plant.write(OPERATOR, dev, at, bytes);
+fn form_word(form: Form) -> &'static [u8] {
+    match form {
+        Form::Left => b" as it was left",
+        Form::Older => b" older",
+        Form::Unread => b" without pages",
+        Form::Unsound => b" with pages that can't be used",
+        Form::Lost => b" lost",
     }
 }
 
-// The bytes of a device in one plant, written to it in another.
-fn bring(from: &mut MemPlant, to: &mut MemPlant, dev: Dev) {
-    for number in 0..BLOCKS_MOST {
-        let Some(bytes) = block(from, dev, number) else {
-            break;
-        };
-        put(to, dev, number * BLOCK, &bytes);
-    }
-}
-
-// Each page 0 has a byte that no field names: it spells no tables.
-fn spoil(plant: &mut MemPlant, dev: Dev) {
-    for number in 0..BLOCKS_MOST {
-        let Some(bytes) = block(plant, dev, number) else {
-            break;
-        };
-        if bytes.starts_with(HEADER) {
-            put(plant, dev, number * BLOCK + NO_FIELD, &[1]);
+// Each page 0 gets a byte that no field names: it spells no tables.
+fn spoil(bytes: &mut [u8]) {
+    for page in bytes.chunks_mut(BLOCK) {
+        if page.starts_with(HEADER) && page.len() > NO_FIELD {
+            page[NO_FIELD] = 1;
         }
     }
 }
 
-// A copy in a form.
-fn bring_to(form: Form, earlier: &mut MemPlant, left: &mut MemPlant, dev: Dev) {
-    match form {
-        Form::Left => {}
-        Form::Older => bring(earlier, left, dev),
-        Form::Unread => put(left, dev, 0, &[9; 64]),
-        Form::Unsound => spoil(left, dev),
-        Form::Lost => left.lose(dev),
-    }
+// The bytes of a copy as it was at a moment of a run.
+fn older(alloc: Global, run: &Ended<MemPlant>, moment: u64, dev: Dev) -> Result<Vec<u8>, NoMemory> {
+    let mut earlier = crashed(alloc, &run.plant, moment, Choice::Old)?;
+    content(alloc, &mut earlier, dev)
 }
 
-// What a run leaves, with copies in these forms. An older copy is as it was at a moment.
+// The bytes of a copy that can't be used.
+fn unsound(alloc: Global, plant: &mut MemPlant, dev: Dev) -> Result<Vec<u8>, NoMemory> {
+    let mut bytes = content(alloc, plant, dev)?;
+    spoil(&mut bytes);
+    Ok(bytes)
+}
+
+// Brings a copy that a run left to a form. An older one is as it was at a moment.
+fn bring_to(
+    alloc: Global,
+    run: &Ended<MemPlant>,
+    moment: u64,
+    form: Form,
+    left: &mut MemPlant,
+    dev: Dev,
+) -> Result<(), NoMemory> {
+    match form {
+        Form::Left => {}
+        Form::Older => put(left, dev, 0, older(alloc, run, moment, dev)?.as_slice()),
+        Form::Unread => put(left, dev, 0, &[9; 64]),
+        Form::Unsound => {
+            let bytes = unsound(alloc, left, dev)?;
+            put(left, dev, 0, bytes.as_slice());
+        }
+        Form::Lost => left.lose(dev),
+    }
+    Ok(())
+}
+
+// What a run leaves, with copies in these forms.
 fn prepared(
     alloc: Global,
     run: &Ended<MemPlant>,
     moment: u64,
     first: Form,
     second: Form,
-) -> Result<MemPlant, NoMemory> {
-    let now = run.plant.now();
-    let mut earlier = run.plant.crash_at(alloc, moment.min(now), Choice::Old)?;
-    let mut left = run.plant.crash_at(alloc, now, Choice::Old)?;
-    bring_to(first, &mut earlier, &mut left, Dev::Ckpt1);
-    bring_to(second, &mut earlier, &mut left, Dev::Ckpt2);
-    left.crash_at(alloc, left.now(), Choice::New)
+) -> Result<Box<MemPlant>, NoMemory> {
+    let mut left = crashed(alloc, &run.plant, run.plant.now(), Choice::Old)?;
+    bring_to(alloc, run, moment, first, &mut left, Dev::Ckpt1)?;
+    bring_to(alloc, run, moment, second, &mut left, Dev::Ckpt2)?;
+    crashed(alloc, &left, left.now(), Choice::New)
 }
 
-// A device has the same bytes in both plants.
-fn is_same(one: &mut MemPlant, other: &mut MemPlant, dev: Dev) -> bool {
-    for number in 0..BLOCKS_MOST {
-        match (block(one, dev, number), block(other, dev, number)) {
-            (None, None) => return true,
-            (first, second) if first == second => {}
-            _ => return false,
-        }
+// The bytes of a copy are the same in both plants.
+fn is_same(
+    alloc: Global,
+    before: &mut MemPlant,
+    after: &mut MemPlant,
+    dev: Dev,
+) -> Result<bool, NoMemory> {
+    let first = content(alloc, before, dev)?;
+    let second = content(alloc, after, dev)?;
+    Ok(first.as_slice() == second.as_slice())
+}
+
+// What became of the bytes of a copy.
+fn add_copy(
+    alloc: Global,
+    line: &mut Vec<u8>,
+    before: &mut MemPlant,
+    after: &mut MemPlant,
+    dev: Dev,
+) -> Result<(), NoMemory> {
+    if after.lost(Part::Disk(dev)) {
+        return Ok(line.extend_from_slice(b" is lost")?);
     }
-    true
+    let same = is_same(alloc, before, after, dev)?;
+    add_flag(line, b" is the same", same)?;
+    add_flag(line, b" is written", !same)
 }
 
 // What became of the bytes of both copies.
 fn add_copies(
+    alloc: Global,
     line: &mut Vec<u8>,
     before: &mut MemPlant,
     after: &mut MemPlant,
 ) -> Result<(), NoMemory> {
-    for (dev, word) in COPIES {
-        line.extend_from_slice(word)?;
-        let became: &[u8] = if after.lost(Part::Disk(dev)) {
-            b" is lost"
-        } else if is_same(before, after, dev) {
-            b" is the same"
-        } else {
-            b" is written"
-        };
-        line.extend_from_slice(became)?;
-    }
-    Ok(())
+    line.extend_from_slice(b", CKPT1")?;
+    add_copy(alloc, line, before, after, Dev::Ckpt1)?;
+    line.extend_from_slice(b", CKPT2")?;
+    add_copy(alloc, line, before, after, Dev::Ckpt2)
+}
+
+// How a start ended, which parts are lost, and what became of both copies.
+fn add_start(
+    alloc: Global,
+    line: &mut Vec<u8>,
+    ready: &MemPlant,
+    ended: &mut Ended<MemPlant>,
+) -> Result<(), NoMemory> {
+    add_status(alloc, line, &ended.status)?;
+    add_lost(line, &ended.plant)?;
+    let mut before = crashed(alloc, ready, 0, Choice::Old)?;
+    add_copies(alloc, line, &mut before, &mut ended.plant)
+}
+
+// A copy of a plant, of which an act is to fail.
+fn failing(alloc: Global, ready: &MemPlant, act: u64) -> Result<Box<MemPlant>, NoMemory> {
+    let mut plant = ready.crash_at(alloc, 0, Choice::Old)?;
+    plant.fail_at(act);
+    boxed(alloc, plant)
 }
 
 impl Told {
-    // A start, of which an act fails if one is named: its outcome, and how many acts it made.
+    // The outcome of a start, and how many acts it made.
+    fn start(
+        &mut self,
+        ready: &MemPlant,
+        ended: &mut Ended<MemPlant>,
+        act: Option<u64>,
+    ) -> Result<u64, NoMemory> {
+        let acts = ended.plant.now();
+        let mut found = Vec::new(self.alloc);
+        add_left(self.alloc, &mut found, ended)?;
+        let number = self.state(found)?;
+        let mut line = Vec::new(self.alloc);
+        add_start(self.alloc, &mut line, ready, ended)?;
+        add_number(&mut line, b", then #", number)?;
+        self.at(act.unwrap_or(acts), line)?;
+        Ok(acts)
+    }
+
+    // A start, of which an act fails if one is named.
     fn attempt(
         &mut self,
         case: &Case,
         ready: &MemPlant,
         act: Option<u64>,
-    ) -> Result<(Vec<u8>, u64), NoMemory> {
-        let mut before = ready.crash_at(self.alloc, 0, Choice::Old)?;
-        let mut plant = ready.crash_at(self.alloc, 0, Choice::Old)?;
-        if let Some(act) = act {
-            plant.fail_at(act);
-        }
+    ) -> Result<u64, NoMemory> {
+        let plant = failing(self.alloc, ready, act.unwrap_or(NEVER))?;
         let mut ended = start(self.alloc, case.next.as_slice(), plant)?;
-        let acts = ended.plant.now();
-        let mut line = Vec::new(self.alloc);
-        let mut found = Vec::new(self.alloc);
-        add_left(self.alloc, &mut found, &ended)?;
-        add_status(self.alloc, &mut line, &ended.status)?;
-        add_lost(&mut line, &ended.plant)?;
-        add_copies(&mut line, &mut before, &mut ended.plant)?;
-        let number = self.state(found)?;
-        add_number(&mut line, b", then #", number)?;
-        Ok((line, acts))
+        self.start(ready, &mut ended, act)
     }
 
-    // A start on copies in these forms; where one is as it was left with each of its acts failing too.
+    // A start on copies in these forms, and again with each of its acts failing.
     fn pair(&mut self, case: &Case, ready: &MemPlant, each: bool) -> Result<(), NoMemory> {
-        let (whole, acts) = self.attempt(case, ready, None)?;
-        self.at(acts, whole)?;
+        let acts = self.attempt(case, ready, None)?;
         self.end()?;
-        if !each {
-            return Ok(());
-        }
-        for act in 0..acts {
-            let (line, _) = self.attempt(case, ready, Some(act))?;
-            self.at(act, line)?;
+        if each {
+            for act in 0..acts {
+                self.attempt(case, ready, Some(act))?;
+            }
         }
         self.end()
+    }
+
+    // The heading of two forms.
+    fn forms(&mut self, first: Form, second: Form) -> Result<(), NoMemory> {
+        self.out.extend_from_slice(b"CKPT1")?;
+        self.out.extend_from_slice(form_word(first))?;
+        self.out.extend_from_slice(b", CKPT2")?;
+        self.out.extend_from_slice(form_word(second))?;
+        self.out.extend_from_slice(b"\n")?;
+        Ok(())
+    }
+
+    // Starts on copies in two forms; where one is as it was left with each act failing too.
+    fn starts_on(
+        &mut self,
+        case: &Case,
+        run: &Ended<MemPlant>,
+        moment: u64,
+        first: Form,
+        second: Form,
+    ) -> Result<(), NoMemory> {
+        self.forms(first, second)?;
+        let ready = prepared(self.alloc, run, moment, first, second)?;
+        let each = matches!(first, Form::Left) || matches!(second, Form::Left);
+        self.pair(case, &ready, each)
+    }
+
+    fn starts_on_all(
+        &mut self,
+        case: &Case,
+        run: &Ended<MemPlant>,
+        moment: u64,
+    ) -> Result<(), NoMemory> {
+        for pair in 0..FORMS.len() * FORMS.len() {
+            let first = FORMS[pair / FORMS.len()];
+            let second = FORMS[pair % FORMS.len()];
+            self.starts_on(case, run, moment, first, second)?;
+        }
+        Ok(())
     }
 
     /// Starts on copies of every two forms. An older copy is as it was when a batch was kept.
     pub fn starts(&mut self, case: &Case, batch: u64) -> Result<(), NoMemory> {
         let run = case.run(self.alloc)?;
-        let moment = kept_at(&run, batch);
-        for (first, first_word) in FORMS {
-            for (second, second_word) in FORMS {
-                self.out.extend_from_slice(b"CKPT1")?;
-                self.out.extend_from_slice(first_word)?;
-                self.out.extend_from_slice(b", CKPT2")?;
-                self.out.extend_from_slice(second_word)?;
-                self.out.extend_from_slice(b"\n")?;
-                let ready = prepared(self.alloc, &run, moment, first, second)?;
-                let each = first == Form::Left || second == Form::Left;
-                self.pair(case, &ready, each)?;
-            }
-        }
-        Ok(())
+        self.starts_on_all(case, &run, kept_at(&run, batch))
     }
 }
