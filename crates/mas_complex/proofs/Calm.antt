@@ -31,7 +31,7 @@ module _ (S : Setting) (js : List Batch) (c : Option Batch) (reached : ℕ) (fir
       → CopyAt S keeps.was keeps.coming first' new.now (disk_now new Ckpt1) → CopyAt S keeps.was keeps.coming second' new.now (disk_now new Ckpt2)
       → Keeps S js c reached first' second' new
   both_keep keeps m one two x y =
-      acts_keep S js c reached first second first' second' old new keeps m.goes keeps.coming keeps.comes keeps.none
+      acts_keep S js c reached first second first' second' old new keeps m.goes keeps.coming keeps.comes keeps.none keeps.comes_near
       (λ t lt le below. (one (omega arith) (disk_at new t Ckpt1) (m.first t (omega arith) le), two (omega arith) (disk_at new t Ckpt2) (m.second t (omega arith) le)))
       (calm S (js ++ in_flight c) old new m.console m.goes.later)
       (stays_same S (kept_all js) (entries_in c) old new (λ t lt le n. m.others t (omega arith) le (Spool n) (λ e. absurd (cc)) (λ e. absurd (cc)))) x y

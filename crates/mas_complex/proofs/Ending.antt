@@ -142,37 +142,38 @@ module _ (reads : List ℕ → Option (List ℕ)) (base : Queue) (since : ℕ) (
         (subst (λ (d : Disk). Alike S (kept (js ++ in_flight c) t) (flying (js ++ in_flight c) t) (disk_at v t Ckpt1) d) (sym (left_below v t Ckpt2 lt)) (keeps.crash t from le lt)))
         (either_way top t)
 
-    up_to : (t : ℕ) → since ≤ t → t ≤ v.now → ReadsUpTo reads (reached + 1) (left_at v t Ckpt1) × ReadsUpTo reads (reached + 1) (left_at v t Ckpt2)
+    up_to : (t : ℕ) → since ≤ t → t ≤ v.now → ReadsUpTo reads keeps.first_level keeps.first_order (reached + 1) (left_at v t Ckpt1) × ReadsUpTo reads keeps.first_level keeps.first_order (reached + 1) (left_at v t Ckpt2)
     up_to t from le = ⊎_elim
         (λ h. let last : v.now ≡ top = omega (arith, most, le, h) in let e : v.now ≡ t = omega (arith, most, le, h) in
-        subst (λ (m : ℕ). ReadsUpTo reads (reached + 1) (left_at v m Ckpt1) × ReadsUpTo reads (reached + 1) (left_at v m Ckpt2)) e (
-          one_up S reached (kept_all js) (entries_in c) keeps.was keeps.coming keeps.stands keeps.comes (left_at v v.now Ckpt1)
+        subst (λ (m : ℕ). ReadsUpTo reads keeps.first_level keeps.first_order (reached + 1) (left_at v m Ckpt1) × ReadsUpTo reads keeps.first_level keeps.first_order (reached + 1) (left_at v m Ckpt2)) e (
+          one_up S reached (kept_all js) (entries_in c) keeps.was keeps.coming keeps.stands keeps.comes keeps.first_level keeps.first_order keeps.near keeps.comes_near (left_at v v.now Ckpt1)
               (top_reads S keeps.was first.rests first.holds rests_reads1 holds_reads1 keeps.coming first.place first.alive Ckpt1 v last keeps.first_at lost1),
-          one_up S reached (kept_all js) (entries_in c) keeps.was keeps.coming keeps.stands keeps.comes (left_at v v.now Ckpt2)
+          one_up S reached (kept_all js) (entries_in c) keeps.was keeps.coming keeps.stands keeps.comes keeps.first_level keeps.first_order keeps.near keeps.comes_near (left_at v v.now Ckpt2)
               (top_reads S keeps.was second.rests second.holds rests_reads2 holds_reads2 keeps.coming second.place second.alive Ckpt2 v last keeps.second_at lost2),
         ))
         (λ lt. (
-          subst (λ (d : Disk). ReadsUpTo reads (reached + 1) d) (sym (left_below v t Ckpt1 lt)) (keeps.rises.most1 t from le lt),
-          subst (λ (d : Disk). ReadsUpTo reads (reached + 1) d) (sym (left_below v t Ckpt2 lt)) (keeps.rises.most2 t from le lt),
+          subst (λ (d : Disk). ReadsUpTo reads keeps.first_level keeps.first_order (reached + 1) d) (sym (left_below v t Ckpt1 lt)) (keeps.rises.most1 t from le lt),
+          subst (λ (d : Disk). ReadsUpTo reads keeps.first_level keeps.first_order (reached + 1) d) (sym (left_below v t Ckpt2 lt)) (keeps.rises.most2 t from le lt),
         ))
         (either_way top t)
 
     levels_of : AreLevelsLow reads since (record { batches = js ++ in_flight c }) v
     levels_of = record {
-      first_level = keeps.rises.first_level;
+      first_level = keeps.first_level;
+      first_order = keeps.first_order;
       first1 = keeps.rises.first1;
       first2 = keeps.rises.first2;
-      most1 = λ t from le. less_up reads (reached + 1) most_level low (left_at v t Ckpt1) (up_to t from le).0;
-      most2 = λ t from le. less_up reads (reached + 1) most_level low (left_at v t Ckpt2) (up_to t from le).1;
+      most1 = λ t from le. less_up reads keeps.first_level keeps.first_order (reached + 1) most_level low (left_at v t Ckpt1) (up_to t from le).0;
+      most2 = λ t from le. less_up reads keeps.first_level keeps.first_order (reached + 1) most_level low (left_at v t Ckpt2) (up_to t from le).1;
     } where
       most_level : ℕ
-      most_level = keeps.rises.first_level + batches_kept (js ++ in_flight c) + 1
+      most_level = keeps.first_level + batches_kept (js ++ in_flight c) + 1
 
       through : (f a b n r : ℕ) → r ≤ f + a → n ≡ a + b → r + 1 ≤ f + n + 1
       through f a b n r x y = omega (arith, x, y)
 
       low : reached + 1 ≤ most_level
-      low = through keeps.rises.first_level (batches_kept js) (batches_kept (in_flight c)) (batches_kept (js ++ in_flight c)) reached keeps.rises.risen (kept_append js (in_flight c))
+      low = through keeps.first_level (batches_kept js) (batches_kept (in_flight c)) (batches_kept (js ++ in_flight c)) reached keeps.rises.risen (kept_append js (in_flight c))
 
     pub headline_of : Parts reads base since (record { batches = js ++ in_flight c }) v
     headline_of = record {

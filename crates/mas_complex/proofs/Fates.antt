@@ -1,5 +1,5 @@
 -- Copies once the batch in flight has its fate, and lines that are said.
-use Rattle.std.proofs.Common.{◌≡◌, inl, inr, ⊎_elim, ℕ, ◌+◌, ◌≤◌, ◌<◌, ◌||◌, Bool, true, false, List, [], ◌∷◌, ◌++◌, if◌then◌else◌, Option, Some, None, refl, subst, sym, ◌∙◌, ap, arith, le_refl}
+use Rattle.std.proofs.Common.{◌≡◌, inl, inr, ⊎_elim, ℕ, ◌+◌, ◌≤◌, ◌<◌, ◌||◌, Bool, true, false, List, [], ◌∷◌, ◌++◌, if◌then◌else◌, Option, Some, None, IfSome, refl, subst, sym, ◌∙◌, ap, arith, le_refl}
 use Rattle.std.proofs.lemmas.List.{append-nil}
 use Rattle.std.proofs.lemmas.Bool.{or_cases}
 use Rattle.mas_types.specs.declared.ids.Dev.{Dev}
@@ -18,7 +18,7 @@ use Rattle.mas_complex.specs.declared.places.Place.TheVariants.{Before, Opened}
 use Rattle.mas_complex.specs.Journals.{kept_all, batches_kept, in_flight, entries_in, StepIsKept}
 use Rattle.mas_complex.proofs.Texting.{stays_same}
 use Rattle.mas_types.specs.Journal.{is_kept, is_flying}
-use Rattle.mas_complex.specs.Crash.{Setting, Stands, IsNext, ReadsOne, OnComing, IsAt, OneCopy, Copy, copy_of, Keeps}
+use Rattle.mas_complex.specs.Crash.{Setting, Stands, IsNext, IsNear, ReadsOne, OnComing, IsAt, OneCopy, Copy, copy_of, Keeps}
 use Rattle.mas_complex.proofs.Batches.{kept_all_append}
 use Rattle.mas_complex.proofs.Present.{copy_reads}
 use Rattle.mas_complex.proofs.Rising.{kept_one}
@@ -68,11 +68,11 @@ module _ (S : Setting) (js : List Batch) (b c : Batch) (reached : ℕ) (first se
     (rests_reads1 : (pages : List ℕ) (d : Disk) → first.rests pages d → AllRead S.reads pages d) (holds_reads1 : (was next : List ℕ) (d : Disk) → first.holds was next d → AllRead S.reads was d)
     (rests_reads2 : (pages : List ℕ) (d : Disk) → second.rests pages d → AllRead S.reads pages d) (holds_reads2 : (was next : List ℕ) (d : Disk) → second.holds was next d → AllRead S.reads was d) where
   -- the kept pages once the batch in flight has its fate, which each alive copy reads
-  at_rest : (reached' : ℕ) (pages : List ℕ) → reached ≤ reached' → reached' ≤ reached + batches_kept (c ∷ []) → is_flying c.fate ≡ false → Stands S reached' (kept_all (js ++ c ∷ [])) pages
+  at_rest : (reached' : ℕ) (pages : List ℕ) → reached ≤ reached' → reached' ≤ reached + batches_kept (c ∷ []) → is_flying c.fate ≡ false → Stands S reached' (kept_all (js ++ c ∷ [])) pages → IsNear keeps.first_level keeps.first_order pages
       → OneCopy S first.rests first.holds pages None Before first.alive v.now (disk_now v Ckpt1) → OneCopy S second.rests second.holds pages None Before second.alive v.now (disk_now v Ckpt2)
       → Keeps S (js ++ c ∷ []) None reached' (copy_of first.rests first.holds first.alive Before) (copy_of second.rests second.holds second.alive Before) v
-  at_rest reached' pages least most fated stands x y =
-      fate_keeps S js b c reached reached' first second (copy_of first.rests first.holds first.alive Before) (copy_of second.rests second.holds second.alive Before) v least most keeps fated same_first same_entries last pages stands
+  at_rest reached' pages least most fated stands near x y =
+      fate_keeps S js b c reached reached' first second (copy_of first.rests first.holds first.alive Before) (copy_of second.rests second.holds second.alive Before) v least most keeps fated same_first same_entries last pages stands near
       (λ lt. (
         copy_reads S pages first.rests first.holds rests_reads1 holds_reads1 None Before first.alive v.now (disk_now v Ckpt1) lt x,
         copy_reads S pages second.rests second.holds rests_reads2 holds_reads2 None Before second.alive v.now (disk_now v Ckpt2) lt y,
@@ -81,14 +81,14 @@ module _ (S : Setting) (js : List Batch) (b c : Batch) (reached : ℕ) (first se
 
   pub kept_keeps : c.fate ≡ Kept → (first.alive || second.alive) ≡ true → (first.alive ≡ true → first.place ≡ Opened) → (second.alive ≡ true → second.place ≡ Opened)
       → Keeps S (js ++ c ∷ []) None (reached + 1) (copy_of first.rests first.holds first.alive Before) (copy_of second.rests second.holds second.alive Before) v
-  kept_keeps fate some one two = by_coming keeps.coming refl keeps.comes where
+  kept_keeps fate some one two = by_coming keeps.coming refl keeps.comes keeps.comes_near where
     all : kept_all (js ++ c ∷ []) ≡ kept_all js ++ b.entries
     all = kept_all_append js (c ∷ []) ∙ ap (λ (l : List Entry). kept_all js ++ l) (one_kept c fate ∙ same_entries)
 
-    by_coming : (n : Option (List ℕ)) → keeps.coming ≡ n → IsNext S reached (kept_all js) b.entries n → Keeps S (js ++ c ∷ []) None (reached + 1) (copy_of first.rests first.holds first.alive Before) (copy_of second.rests second.holds second.alive Before) v
-    by_coming None same comes = absurd (opened_some S js (Some b) reached first second v keeps some one two same)
-    by_coming (Some pages) same comes =
-        at_rest (reached + 1) pages (one_least reached) (one_most reached (batches_kept (c ∷ [])) (kept_one c fate)) (ap is_flying fate) (subst (λ (l : List Entry). Stands S (reached + 1) l pages) (sym all) comes)
+    by_coming : (n : Option (List ℕ)) → keeps.coming ≡ n → IsNext S reached (kept_all js) b.entries n → IfSome n (IsNear keeps.first_level keeps.first_order) → Keeps S (js ++ c ∷ []) None (reached + 1) (copy_of first.rests first.holds first.alive Before) (copy_of second.rests second.holds second.alive Before) v
+    by_coming None same comes near = absurd (opened_some S js (Some b) reached first second v keeps some one two same)
+    by_coming (Some pages) same comes near =
+        at_rest (reached + 1) pages (one_least reached) (one_most reached (batches_kept (c ∷ [])) (kept_one c fate)) (ap is_flying fate) (subst (λ (l : List Entry). Stands S (reached + 1) l pages) (sym all) comes) near
         (after_kept S first.rests first.holds keeps.was keeps.coming first.place first.alive v.now (disk_now v Ckpt1) pages same one keeps.first_at)
         (after_kept S second.rests second.holds keeps.was keeps.coming second.place second.alive v.now (disk_now v Ckpt2) pages same two keeps.second_at)
 
@@ -96,7 +96,7 @@ module _ (S : Setting) (js : List Batch) (b c : Batch) (reached : ℕ) (first se
       → Keeps S (js ++ c ∷ []) None reached (copy_of first.rests first.holds first.alive Before) (copy_of second.rests second.holds second.alive Before) v
   dropped_keeps fate one two =
       let all : kept_all (js ++ c ∷ []) ≡ kept_all js = kept_all_append js (c ∷ []) ∙ ap (λ (l : List Entry). kept_all js ++ l) (one_dropped c fate) ∙ append-nil (kept_all js) in
-      at_rest reached keeps.was (le_refl reached) (no_fewer reached (batches_kept (c ∷ []))) (ap is_flying fate) (subst (λ (l : List Entry). Stands S reached l keeps.was) (sym all) keeps.stands)
+      at_rest reached keeps.was (le_refl reached) (no_fewer reached (batches_kept (c ∷ []))) (ap is_flying fate) (subst (λ (l : List Entry). Stands S reached l keeps.was) (sym all) keeps.stands) keeps.near
       (after_dropped S first.rests first.holds keeps.was keeps.coming first.place first.alive v.now (disk_now v Ckpt1) one keeps.first_at)
       (after_dropped S second.rests second.holds keeps.was keeps.coming second.place second.alive v.now (disk_now v Ckpt2) two keeps.second_at)
 
@@ -128,7 +128,7 @@ module _ (S : Setting) (js : List Batch) (c : Option Batch) (reached : ℕ) (fir
       (rests_reads2 : (pages : List ℕ) (d : Disk) → second.rests pages d → AllRead S.reads pages d) (holds_reads2 : (was next : List ℕ) (d : Disk) → second.holds was next d → AllRead S.reads was d) where
     quiet_keep : Goes old new → new.now ≡ next old.now → ((d : Dev) → disk_now new d ≡ disk_now old d) → Adds S (js ++ in_flight c) old new → Keeps S js c reached first second new
     quiet_keep goes time disks adds =
-        acts_keep S js c reached first second first second old new keeps goes keeps.coming keeps.comes keeps.none
+        acts_keep S js c reached first second first second old new keeps goes keeps.coming keeps.comes keeps.none keeps.comes_near
         (λ t lt le below. let e = at_end t time lt le in (
           subst (λ (m : ℕ). ReadsOne S keeps.was keeps.coming (disk_at new m Ckpt1)) (sym e) (subst (λ (d : Disk). ReadsOne S keeps.was keeps.coming d) (sym (disks Ckpt1))
               (copy_reads S keeps.was first.rests first.holds rests_reads1 holds_reads1 keeps.coming first.place first.alive old.now (disk_now old Ckpt1) (omega arith) keeps.first_at)),

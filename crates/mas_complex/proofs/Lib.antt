@@ -2,6 +2,7 @@ pub mod Allowed
 pub mod Batches
 pub mod Lines
 pub mod Present
+pub mod Orders
 pub mod Rising
 pub mod Moves
 pub mod Sides

@@ -11,11 +11,11 @@ use Rattle.mas_types.specs.declared.journals.Entry.{Entry}
 use Rattle.mas_types.specs.declared.journals.Fate.TheVariants.{Kept, Flying}
 use Rattle.mas_complex.specs.Journals.{kept_all, batches_kept, StepIsKept}
 use Rattle.mas_types.specs.Journal.{is_flying}
-use Rattle.mas_complex.specs.Crash.{Setting, EachTells, IsUntold, ReadsOne, Copy, CopyAt, Keeps, BeginsWith}
+use Rattle.mas_complex.specs.Crash.{Setting, EachTells, IsUntold, ReadsOne, Copy, CopyAt, Keeps, BeginsWith, next_order}
 use Rattle.mas_complex.proofs.Batches.{kept_all_append}
 use Rattle.mas_complex.proofs.Present.{copy_reads}
 use Rattle.mas_complex.proofs.Moves.{begins_keep, fate_keeps}
-use Rattle.mas_complex.proofs.Rising.{make_rise}
+use Rattle.mas_complex.proofs.Rising.{make_rise, own_near}
 use Rattle.mas_complex.proofs.Fates.{one_kept, no_fewer}
 use Rattle.mas_complex.specs.Texts.{spools_at, lost_now, HasTexts}
 use Rattle.mas_complex.proofs.Texting.{make_texts}
@@ -53,6 +53,8 @@ module _ (S : Setting) (reached : ℕ) (first second : Copy) (v : View)
     grows = λ t from le. let e : v.now ≡ t = omega (arith, since) in
         record { more = []; is = ap (λ (m : ℕ). (v.world m).console) e ∙ sym (append-nil (v.world t).console) };
     texts = make_texts S v since begins.texts;
+    first_level = reached;
+    first_order = next_order begins.pages;
     rises = make_rise S reached begins.pages v since begins.stands
         (λ lt. (
           copy_reads S begins.pages first.rests first.holds rests_reads1 holds_reads1 None first.place first.alive v.now (disk_now v Ckpt1) lt begins.first_at,
@@ -64,6 +66,8 @@ module _ (S : Setting) (reached : ℕ) (first second : Copy) (v : View)
     stands = begins.stands;
     comes = tt;
     none = λ _. refl;
+    near = own_near reached begins.pages begins.stands.at_level;
+    comes_near = tt;
     first_at = begins.first_at;
     second_at = begins.second_at;
   }
@@ -77,12 +81,14 @@ module _ (S : Setting) (reached : ℕ) (first second : Copy) (v : View)
     all = kept_all_append js (c ∷ []) ∙ ap (λ (l : List Entry). kept_all js ++ l) (one_kept c fate ∙ same_entries)
 
     pub same_keeps : Keeps S (js ++ c ∷ []) None reached first second v
+    unfolding begins_keep
     same_keeps =
         let flying = begins_keep S js b reached first second v keeps flies b_first untold has in
         let x : CopyAt S keeps.was None first v.now (disk_now v Ckpt1) = subst (λ (n : Option (List ℕ)). CopyAt S keeps.was n first v.now (disk_now v Ckpt1)) (keeps.none refl) keeps.first_at in
         let y : CopyAt S keeps.was None second v.now (disk_now v Ckpt2) = subst (λ (n : Option (List ℕ)). CopyAt S keeps.was n second v.now (disk_now v Ckpt2)) (keeps.none refl) keeps.second_at in
         fate_keeps S js b c reached reached first second first second v (le_refl reached) (no_fewer reached (batches_kept (c ∷ []))) flying (ap is_flying fate) same_first same_entries last keeps.was
         (record { at_level = keeps.stands.at_level; queue = subst (λ (l : List Entry). S.stand (S.run S.base l) keeps.was) (sym all) (alike keeps.was keeps.stands.queue) })
+        keeps.near
         (λ lt. (
           copy_reads S keeps.was first.rests first.holds rests_reads1 holds_reads1 None first.place first.alive v.now (disk_now v Ckpt1) lt x,
           copy_reads S keeps.was second.rests second.holds rests_reads2 holds_reads2 None second.place second.alive v.now (disk_now v Ckpt2) lt y,

@@ -1,5 +1,5 @@
 -- How the shared value goes on: over acts, and over a batch that begins or gets its fate.
-use Rattle.std.proofs.Common.{◌≡◌, ⊎_elim, ℕ, ◌+◌, ◌≤◌, ◌<◌, false, refl, List, [], ◌∷◌, ◌++◌, length, drop, Option, Some, None, subst, sym, ◌∙◌, ap, arith, append_assoc}
+use Rattle.std.proofs.Common.{◌≡◌, ⊎_elim, ℕ, ◌+◌, ◌≤◌, ◌<◌, false, refl, List, [], ◌∷◌, ◌++◌, length, drop, Option, Some, None, IfSome, subst, sym, ◌∙◌, ap, arith, append_assoc}
 use Rattle.std.proofs.lemmas.List.{append-nil}
 use Rattle.mas_types.specs.declared.ids.Dev.TheVariants.{Ckpt1, Ckpt2}
 use Rattle.spool_disk.specs.View.{View, World, Line, disk_at, disk_now}
@@ -11,7 +11,7 @@ use Rattle.mas_types.specs.declared.journals.Entry.{Entry}
 use Rattle.mas_types.specs.declared.journals.Fate.TheVariants.{Flying}
 use Rattle.mas_complex.specs.Journals.{kept, flying, kept_all, in_flight, entries_in, batches_kept, AreSettled, StepIsKept, has_step, IsPlace}
 use Rattle.mas_types.specs.Journal.{is_flying}
-use Rattle.mas_complex.specs.Crash.{Setting, Stands, IsNext, Alike, CrashAt, EachTells, said, ToldAt, ReadsOne, Copy, CopyAt, Keeps}
+use Rattle.mas_complex.specs.Crash.{Setting, Stands, IsNext, IsNear, Alike, CrashAt, EachTells, said, ToldAt, ReadsOne, Copy, CopyAt, Keeps}
 use Rattle.mas_complex.proofs.Batches.{now_kept, now_flying, settled_later, settled_push, begun_later, begins_kept, begins_flying, fated_kept, fated_flying, step_later, step_push, step_fate, placed_kept, placed_flying, placed_all, placed_step, unplaced_step, placed_settled, unplaced_settled}
 use Rattle.mas_complex.proofs.Present.{alike_as, alike_none}
 use Rattle.mas_complex.proofs.Rising.{one_up, kept_place, acts_rise, fated_rise, same_rise}
@@ -45,13 +45,13 @@ pub record Adds (S : Setting) (J : List Batch) (old new : View) : Type 0 where
 
 module _ (S : Setting) (js : List Batch) (c : Option Batch) (reached : ℕ) (first second first' second' : Copy) (old new : View) where
   pub acts_keep : (keeps : Keeps S js c reached first second old) → Goes old new
-      → (coming : Option (List ℕ)) → IsNext S reached (kept_all js) (entries_in c) coming → (entries_in c ≡ [] → coming ≡ None)
+      → (coming : Option (List ℕ)) → IsNext S reached (kept_all js) (entries_in c) coming → (entries_in c ≡ [] → coming ≡ None) → IfSome coming (IsNear keeps.first_level keeps.first_order)
       → ((t : ℕ) → old.now < t → t ≤ new.now → t < top → ReadsOne S keeps.was coming (disk_at new t Ckpt1) × ReadsOne S keeps.was coming (disk_at new t Ckpt2))
       → Adds S (js ++ in_flight c) old new
       → Stays S (kept_all js) (entries_in c) old new
       → CopyAt S keeps.was coming first' new.now (disk_now new Ckpt1) → CopyAt S keeps.was coming second' new.now (disk_now new Ckpt2)
       → Keeps S js c reached first' second' new
-  acts_keep keeps goes coming comes none reads adds stays one two = record {
+  acts_keep keeps goes coming comes none nears reads adds stays one two = record {
     started = omega (arith, keeps.started, goes.later);
     settled = settled_later js old.now new.now keeps.settled goes.later;
     begun = begun_later c old.now new.now keeps.begun goes.later;
@@ -74,10 +74,12 @@ module _ (S : Setting) (js : List Batch) (c : Option Batch) (reached : ℕ) (fir
         (either_way t old.now);
     texts = acts_texts S js c old new keeps.settled keeps.begun keeps.started goes stays keeps.texts;
     sunk = acts_sunk S js c old new keeps.settled keeps.begun keeps.started goes stays keeps.sunk;
-    rises = acts_rise S js reached old new goes keeps.started
+    first_level = keeps.first_level;
+    first_order = keeps.first_order;
+    rises = acts_rise S keeps.first_level keeps.first_order js reached old new goes keeps.started
         (λ t h le lt. let both = reads t h le lt in (
-          one_up S reached (kept_all js) (entries_in c) keeps.was coming keeps.stands comes (disk_at new t Ckpt1) both.0,
-          one_up S reached (kept_all js) (entries_in c) keeps.was coming keeps.stands comes (disk_at new t Ckpt2) both.1,
+          one_up S reached (kept_all js) (entries_in c) keeps.was coming keeps.stands comes keeps.first_level keeps.first_order keeps.near nears (disk_at new t Ckpt1) both.0,
+          one_up S reached (kept_all js) (entries_in c) keeps.was coming keeps.stands comes keeps.first_level keeps.first_order keeps.near nears (disk_at new t Ckpt2) both.1,
         ))
         keeps.rises;
     was = keeps.was;
@@ -85,6 +87,8 @@ module _ (S : Setting) (js : List Batch) (c : Option Batch) (reached : ℕ) (fir
     stands = keeps.stands;
     comes = comes;
     none = none;
+    near = keeps.near;
+    comes_near = nears;
     first_at = one;
     second_at = two;
   } where
@@ -99,7 +103,7 @@ module _ (S : Setting) (js : List Batch) (c : Option Batch) (reached : ℕ) (fir
 
 -- the journal: a batch begins now, and no line tells an entry of it
 module _ (S : Setting) (js : List Batch) (b : Batch) (reached : ℕ) (first second : Copy) (v : View) where
-  begins_after : (t : ℕ) → AreSettled js v.now → b.fate ≡ Flying → b.first ≡ v.now → t ≤ v.now → CrashAt S (js ++ []) v t → CrashAt S (js ++ b ∷ []) v t
+  pub begins_after : (t : ℕ) → AreSettled js v.now → b.fate ≡ Flying → b.first ≡ v.now → t ≤ v.now → CrashAt S (js ++ []) v t → CrashAt S (js ++ b ∷ []) v t
   begins_after t are fate begun le crash =
       let k : kept (js ++ b ∷ []) t ≡ kept (js ++ []) t = begins_kept js b t fate in
       ⊎_elim
@@ -108,7 +112,7 @@ module _ (S : Setting) (js : List Batch) (b : Batch) (reached : ℕ) (first seco
       (λ before. alike_as S (kept (js ++ []) t) (flying (js ++ []) t) (kept (js ++ b ∷ []) t) (flying (js ++ b ∷ []) t) (disk_at v t Ckpt1) (disk_at v t Ckpt2) k (begins_flying js b t (omega arith)) crash)
       (either_way v.now t)
 
-  begins_told : (t : ℕ) → Keeps S js None reached first second v → EachTells S.closes (said S v v.now) (λ m s. has_step m s b.entries ≡ false) → S.since ≤ t → t ≤ v.now → ToldAt S (js ++ b ∷ []) v t
+  pub begins_told : (t : ℕ) → Keeps S js None reached first second v → EachTells S.closes (said S v v.now) (λ m s. has_step m s b.entries ≡ false) → S.since ≤ t → t ≤ v.now → ToldAt S (js ++ b ∷ []) v t
   begins_told t keeps untold from le =
       let g = keeps.grows t from le in
       each_both S.closes (said S v t) (StepIsKept (js ++ []) t) (λ m s. has_step m s b.entries ≡ false) (StepIsKept (js ++ b ∷ []) t) (λ m s kept none. step_push js b t m s none kept)
@@ -116,7 +120,7 @@ module _ (S : Setting) (js : List Batch) (b : Batch) (reached : ℕ) (first seco
       (each_less S.closes (length (v.world S.since).console) (v.world t).console g.more (λ m s. has_step m s b.entries ≡ false)
       (subst (λ (l : List Line). EachTells S.closes (drop (length (v.world S.since).console) l) (λ m s. has_step m s b.entries ≡ false)) g.is untold))
 
-  pub begins_keep : Keeps S js None reached first second v → b.fate ≡ Flying → b.first ≡ v.now → EachTells S.closes (said S v v.now) (λ m s. has_step m s b.entries ≡ false)
+  unfoldable pub begins_keep : Keeps S js None reached first second v → b.fate ≡ Flying → b.first ≡ v.now → EachTells S.closes (said S v v.now) (λ m s. has_step m s b.entries ≡ false)
       → HasTexts (lost_now v) (spools_at v v.now) S.base.config.groups (S.run S.base (kept_all js ++ b.entries)) → Keeps S js (Some b) reached first second v
   begins_keep keeps fate begun untold has = record {
     started = keeps.started;
@@ -127,12 +131,16 @@ module _ (S : Setting) (js : List Batch) (b : Batch) (reached : ℕ) (first seco
     grows = keeps.grows;
     texts = begins_texts S js b v keeps.settled fate begun has keeps.texts;
     sunk = keeps.sunk;
+    first_level = keeps.first_level;
+    first_order = keeps.first_order;
     rises = keeps.rises;
     was = keeps.was;
     coming = None;
     stands = keeps.stands;
     comes = tt;
     none = λ _. refl;
+    near = keeps.near;
+    comes_near = tt;
     first_at = subst (λ (n : Option (List ℕ)). CopyAt S keeps.was n first v.now (disk_now v Ckpt1)) (keeps.none refl) keeps.first_at;
     second_at = subst (λ (n : Option (List ℕ)). CopyAt S keeps.was n second v.now (disk_now v Ckpt2)) (keeps.none refl) keeps.second_at;
   }
@@ -145,12 +153,12 @@ module _ (S : Setting) (js : List Batch) (b c : Batch) (reached reached' : ℕ) 
       (fated_kept js b c t fate lt) (fated_flying js b c t fate same_first same_entries lt) crash
 
   -- the kept pages once the batch in flight has its fate
-  pub fate_keeps : reached ≤ reached' → reached' ≤ reached + batches_kept (c ∷ []) → Keeps S js (Some b) reached first second v → is_flying c.fate ≡ false → c.first ≡ b.first → c.entries ≡ b.entries → c.last ≡ v.now
-      → (was : List ℕ) → Stands S reached' (kept_all (js ++ c ∷ [])) was
+  pub fate_keeps : reached ≤ reached' → reached' ≤ reached + batches_kept (c ∷ []) → (keeps : Keeps S js (Some b) reached first second v) → is_flying c.fate ≡ false → c.first ≡ b.first → c.entries ≡ b.entries → c.last ≡ v.now
+      → (was : List ℕ) → Stands S reached' (kept_all (js ++ c ∷ [])) was → IsNear keeps.first_level keeps.first_order was
       → (v.now < top → ReadsOne S was None (disk_now v Ckpt1) × ReadsOne S was None (disk_now v Ckpt2))
       → CopyAt S was None first' v.now (disk_now v Ckpt1) → CopyAt S was None second' v.now (disk_now v Ckpt2)
       → Keeps S (js ++ c ∷ []) None reached' first' second' v
-  fate_keeps least most keeps fated same_first same_entries last was stands reads one two = record {
+  fate_keeps least most keeps fated same_first same_entries last was stands near reads one two = record {
     started = keeps.started;
     settled = settled;
     begun = tt;
@@ -174,12 +182,16 @@ module _ (S : Setting) (js : List Batch) (b c : Batch) (reached reached' : ℕ) 
     grows = keeps.grows;
     texts = fated_texts S js b c v keeps.settled keeps.begun fated same_first same_entries last keeps.texts;
     sunk = keeps.sunk;
-    rises = fated_rise S js c reached reached' v least most keeps.rises;
+    first_level = keeps.first_level;
+    first_order = keeps.first_order;
+    rises = fated_rise S keeps.first_level keeps.first_order js c reached reached' v least most keeps.rises;
     was = was;
     coming = None;
     stands = stands;
     comes = tt;
     none = λ _. refl;
+    near = near;
+    comes_near = tt;
     first_at = one;
     second_at = two;
   } where
@@ -203,12 +215,16 @@ module _ (S : Setting) (js ks : List Batch) (c : Option Batch) (reached : ℕ) (
     grows = keeps.grows;
     texts = same_texts S (js ++ in_flight c) (ks ++ in_flight c) v same_kept same_flying keeps.texts;
     sunk = keeps.sunk;
-    rises = same_rise S js ks reached v same_many keeps.rises;
+    first_level = keeps.first_level;
+    first_order = keeps.first_order;
+    rises = same_rise S keeps.first_level keeps.first_order js ks reached v same_many keeps.rises;
     was = keeps.was;
     coming = keeps.coming;
     stands = subst (λ (l : List Entry). Stands S reached l keeps.was) (sym same_all) keeps.stands;
     comes = subst (λ (l : List Entry). IsNext S reached l (entries_in c) keeps.coming) (sym same_all) keeps.comes;
     none = keeps.none;
+    near = keeps.near;
+    comes_near = keeps.comes_near;
     first_at = keeps.first_at;
     second_at = keeps.second_at;
   }

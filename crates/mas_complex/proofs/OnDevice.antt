@@ -1,5 +1,5 @@
 -- What a call on the copy of one device leaves of both.
-use Rattle.std.proofs.Common.{◌≡◌, ℕ, Bool, true, false, List, [], Option, None, Result, Ok, Err, IfOk, OnErr, sym, subst}
+use Rattle.std.proofs.Common.{◌≡◌, ℕ, Bool, true, false, List, [], Option, None, IfSome, Result, Ok, Err, IfOk, OnErr, sym, subst}
 use Rattle.mas_types.specs.declared.ids.Dev.{Dev}
 use Rattle.mas_types.specs.declared.ids.Dev.TheVariants.{Ckpt1, Ckpt2, Spool}
 use Rattle.mas_types.specs.declared.journals.Batch.{Batch}
@@ -14,7 +14,7 @@ use Rattle.duplex_pair.specs.declared.errors.LookNo.{LookNo}
 use Rattle.duplex_pair.specs.Looks.{WasSeen}
 use Rattle.mas_complex.specs.declared.places.Place.{Place}
 use Rattle.mas_complex.specs.Journals.{kept_all, entries_in}
-use Rattle.mas_complex.specs.Crash.{Setting, IsNext, CopyAt, Keeps, Copy, copy_of}
+use Rattle.mas_complex.specs.Crash.{Setting, IsNext, IsNear, CopyAt, Keeps, Copy, copy_of}
 use Rattle.mas_complex.proofs.Sides.{Went, on_first, on_second, no}
 use Rattle.mas_complex.proofs.Lost.{still_lost, lost_later}
 
@@ -42,17 +42,17 @@ module _ {H : Type 0} (rests : H → List ℕ → Disk → Type 0) (holds : H �
   pub on_copy : (S : Setting) (js : List Batch) (c : Option Batch) (reached : ℕ) (dev : Dev) → IsCkpt dev → (h1 h2 k1 k2 : H) (p1 p2 q1 q2 : Place) (old new : View)
       → other dev k1 k2 ≡ other dev h1 h2 → other dev q1 q2 ≡ other dev p1 p2
       → ((h : H) (pages : List ℕ) (d : Disk) → rests h pages d → AllRead S.reads pages d) → ((h : H) (was next : List ℕ) (d : Disk) → holds h was next d → AllRead S.reads was d)
-      → (keeps : Keeps S js c reached (side h1 p1) (side h2 p2) old) (coming : Option (List ℕ)) → IsNext S reached (kept_all js) (entries_in c) coming → (entries_in c ≡ [] → coming ≡ None)
+      → (keeps : Keeps S js c reached (side h1 p1) (side h2 p2) old) (coming : Option (List ℕ)) → IsNext S reached (kept_all js) (entries_in c) coming → (entries_in c ≡ [] → coming ≡ None) → IfSome coming (IsNear keeps.first_level keeps.first_order)
       → CopyAt S keeps.was coming (side (other dev h1 h2) (other dev p1 p2)) old.now (disk_now old (other dev Ckpt1 Ckpt2))
       → Went S keeps.was coming dev old new (rests (pick dev k1 k2)) (holds (pick dev k1 k2)) (pick dev q1 q2) (alive (pick dev k1 k2))
       → Keeps S js c reached (side k1 q1) (side k2 q2) new
-  on_copy S js c reached Ckpt1 ckpt h1 h2 k1 k2 p1 p2 q1 q2 old new same at rests_reads holds_reads keeps coming comes none there went =
-      on_first S js c reached (side h1 p1) (side h2 p2) (side k1 q1) (side k2 q2) old new keeps coming comes none (λ pages d r. rests_reads h2 pages d r) (λ was next d r. holds_reads h2 was next d r) there went
+  on_copy S js c reached Ckpt1 ckpt h1 h2 k1 k2 p1 p2 q1 q2 old new same at rests_reads holds_reads keeps coming comes none nears there went =
+      on_first S js c reached (side h1 p1) (side h2 p2) (side k1 q1) (side k2 q2) old new keeps coming comes none nears (λ pages d r. rests_reads h2 pages d r) (λ was next d r. holds_reads h2 was next d r) there went
       (λ x. subst (λ (h : H). CopyAt S keeps.was coming (side h q2) new.now (disk_now new Ckpt2)) (sym same) (subst (λ (p : Place). CopyAt S keeps.was coming (side h2 p) new.now (disk_now new Ckpt2)) (sym at) x))
-  on_copy S js c reached Ckpt2 ckpt h1 h2 k1 k2 p1 p2 q1 q2 old new same at rests_reads holds_reads keeps coming comes none there went =
-      on_second S js c reached (side h1 p1) (side h2 p2) (side k1 q1) (side k2 q2) old new keeps coming comes none (λ pages d r. rests_reads h1 pages d r) (λ was next d r. holds_reads h1 was next d r) there went
+  on_copy S js c reached Ckpt2 ckpt h1 h2 k1 k2 p1 p2 q1 q2 old new same at rests_reads holds_reads keeps coming comes none nears there went =
+      on_second S js c reached (side h1 p1) (side h2 p2) (side k1 q1) (side k2 q2) old new keeps coming comes none nears (λ pages d r. rests_reads h1 pages d r) (λ was next d r. holds_reads h1 was next d r) there went
       (λ x. subst (λ (h : H). CopyAt S keeps.was coming (side h q1) new.now (disk_now new Ckpt1)) (sym same) (subst (λ (p : Place). CopyAt S keeps.was coming (side h1 p) new.now (disk_now new Ckpt1)) (sym at) x))
-  on_copy S js c reached (Spool n) ckpt h1 h2 k1 k2 p1 p2 q1 q2 old new same at rests_reads holds_reads keeps coming comes none there went = absurd ckpt
+  on_copy S js c reached (Spool n) ckpt h1 h2 k1 k2 p1 p2 q1 q2 old new same at rests_reads holds_reads keeps coming comes none nears there went = absurd ckpt
 
 module _ {H : Type 0} (alive : H → Bool) where
   -- each copy that counts as lost is lost

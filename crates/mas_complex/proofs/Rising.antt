@@ -1,5 +1,5 @@
--- How the levels on the copies rise.
-use Rattle.std.proofs.Common.{◌≡◌, ◌⊎◌, inl, inr, ⊎_elim, ℕ, suc, ◌+◌, ◌≤◌, ◌<◌, Bool, true, false, List, [], ◌∷◌, ◌++◌, length, if◌then◌else◌, Option, Some, None, subst, sym, ◌∙◌, ap, arith}
+-- How the levels and orders on the copies rise.
+use Rattle.std.proofs.Common.{◌≡◌, inl, inr, ⊎_elim, ℕ, suc, ◌+◌, ◌*◌, ◌≤◌, ◌<◌, Bool, true, false, List, [], ◌∷◌, ◌++◌, length, if◌then◌else◌, Option, Some, None, IfSome, subst, sym, ◌∙◌, ap, arith}
 use Rattle.mas_types.specs.declared.ids.Dev.TheVariants.{Ckpt1, Ckpt2}
 use Rattle.mas_types.specs.declared.journals.Batch.{Batch}
 use Rattle.mas_types.specs.declared.journals.Entry.{Entry}
@@ -10,7 +10,7 @@ use Rattle.spool_disk.specs.Acts.{Goes, top}
 use Rattle.ckpt_copy.specs.Moments.{either_way}
 use Rattle.ckpt_copy.specs.Pages.{level}
 use Rattle.mas_complex.specs.Journals.{batches_kept, IsPlace}
-use Rattle.mas_complex.specs.Crash.{Setting, Stands, IsNext, IsOneOf, ReadsOne, ReadsAtLevel, ReadsUpTo, Rises}
+use Rattle.mas_complex.specs.Crash.{Setting, Stands, IsNext, IsOneOf, ReadsOne, IsNear, RaisesOrders, ReadsAtLevel, ReadsUpTo, Rises, next_order, orders_most}
 
 -- HOW MANY BATCHES ARE KEPT
 
@@ -52,7 +52,7 @@ kept_fewer (b ∷ js) = by_fate (is_kept b.fate) (kept_fewer js)
 pub kept_one : (c : Batch) → c.fate ≡ Kept → batches_kept (c ∷ []) ≡ 1
 kept_one c fate = ap (λ f. (if is_kept f then 1 else 0) + 0) fate
 
--- LEVELS
+-- LEVELS AND ORDERS
 
 -- the kept pages or those in flight have at most the next level
 level_of : (S : Setting) (reached : ℕ) (K F : List Entry) (was : List ℕ) (coming : Option (List ℕ)) (pages : List ℕ) → Stands S reached K was → IsNext S reached K F coming → IsOneOf was coming (Some pages) → level pages ≤ reached + 1
@@ -68,9 +68,23 @@ level_of S reached K F was coming pages stands comes (inr e) = next_up (subst (�
     next_up : Stands S (reached + 1) (K ++ F) pages → level pages ≤ reached + 1
     next_up s = equal_up (level pages) s.at_level
 
-pub one_up : (S : Setting) (reached : ℕ) (K F : List Entry) (was : List ℕ) (coming : Option (List ℕ)) → Stands S reached K was → IsNext S reached K F coming → (disk : Disk) → ReadsOne S was coming disk → ReadsUpTo S.reads (reached + 1) disk
-one_up S reached K F was coming stands comes disk reads image is pages e =
-    level_of S reached K F was coming pages stands comes (subst (λ (q : Option (List ℕ)). IsOneOf was coming q) e (reads image is))
+-- both are near, so the one is that an image reads as
+near_of : (l order : ℕ) (was : List ℕ) (coming : Option (List ℕ)) (pages : List ℕ) → IsNear l order was → IfSome coming (IsNear l order) → IsOneOf was coming (Some pages) → IsNear l order pages
+near_of l order was coming pages near comes (inl e) = subst (IsNear l order) (sym e) near
+near_of l order was coming pages near comes (inr e) = subst (λ (n : Option (List ℕ)). IfSome n (IsNear l order)) e comes
+
+-- pages a level higher, which raise the orders of near ones, are near
+raised_near : (l order a b m n : ℕ) → m + orders_most * l ≤ order + orders_most * a → n ≤ m + orders_most → b ≡ a + 1 → n + orders_most * l ≤ order + orders_most * b
+raised_near l order a b m n near raised next = omega (arith, near, raised, next)
+
+pub comes_near : (l order : ℕ) (was pages : List ℕ) → IsNear l order was → RaisesOrders was pages → level pages ≡ level was + 1 → IsNear l order pages
+comes_near l order was pages near raised next = raised_near l order (level was) (level pages) (next_order was) (next_order pages) near raised next
+
+pub one_up : (S : Setting) (reached : ℕ) (K F : List Entry) (was : List ℕ) (coming : Option (List ℕ)) → Stands S reached K was → IsNext S reached K F coming → (l order : ℕ) → IsNear l order was → IfSome coming (IsNear l order)
+    → (disk : Disk) → ReadsOne S was coming disk → ReadsUpTo S.reads l order (reached + 1) disk
+one_up S reached K F was coming stands comes l order near nears disk reads image is pages e =
+    let one : IsOneOf was coming (Some pages) = subst (λ (q : Option (List ℕ)). IsOneOf was coming q) e (reads image is) in
+    (level_of S reached K F was coming pages stands comes one, near_of l order was coming pages near nears one)
 
 -- with none in flight they have the level reached
 none_coming : (was pages : List ℕ) → IsOneOf was None (Some pages) → pages ≡ was
@@ -80,49 +94,48 @@ none_coming was pages (inr e) = absurd (clash e)
     clash : None ≡ Some pages → ⊥
     clash e = cc
 
-at_kept : (S : Setting) (reached : ℕ) (K : List Entry) (was : List ℕ) → Stands S reached K was → (disk : Disk) → ReadsOne S was None disk → ReadsAtLevel S.reads reached disk
+at_kept : (S : Setting) (reached : ℕ) (K : List Entry) (was : List ℕ) → Stands S reached K was → (disk : Disk) → ReadsOne S was None disk → ReadsAtLevel S.reads reached (next_order was) disk
 at_kept S reached K was stands disk reads image is pages e =
-    ap level (none_coming was pages (subst (λ (q : Option (List ℕ)). IsOneOf was None q) e (reads image is))) ∙ stands.at_level
+    let same : pages ≡ was = none_coming was pages (subst (λ (q : Option (List ℕ)). IsOneOf was None q) e (reads image is)) in
+    (ap level same ∙ stands.at_level, ap next_order same)
 
 -- a greater bound
-pub less_up : (reads : List ℕ → Option (List ℕ)) (a b : ℕ) → a ≤ b → (disk : Disk) → ReadsUpTo reads a disk → ReadsUpTo reads b disk
-less_up reads a b le disk up image is pages e = through (level pages) (up image is pages e)
+pub less_up : (reads : List ℕ → Option (List ℕ)) (l order a b : ℕ) → a ≤ b → (disk : Disk) → ReadsUpTo reads l order a disk → ReadsUpTo reads l order b disk
+less_up reads l order a b le disk up image is pages e = (through (level pages) (up image is pages e).0, (up image is pages e).1)
   where
     through : (n : ℕ) → n ≤ a → n ≤ b
     through n h = omega (arith, h, le)
 
 -- WHAT THE SHARED VALUE KEEPS
 
-module _ (S : Setting) where
+module _ (S : Setting) (l order : ℕ) where
   -- acts
   pub acts_rise : (js : List Batch) (reached : ℕ) (old new : View) → Goes old new → S.since ≤ old.now
-      → ((t : ℕ) → old.now < t → t ≤ new.now → t < top → ReadsUpTo S.reads (reached + 1) (disk_at new t Ckpt1) × ReadsUpTo S.reads (reached + 1) (disk_at new t Ckpt2))
-      → Rises S js reached old → Rises S js reached new
+      → ((t : ℕ) → old.now < t → t ≤ new.now → t < top → ReadsUpTo S.reads l order (reached + 1) (disk_at new t Ckpt1) × ReadsUpTo S.reads l order (reached + 1) (disk_at new t Ckpt2))
+      → Rises S js reached l order old → Rises S js reached l order new
   acts_rise js reached old new goes started later r = record {
-    first_level = r.first_level;
-    first1 = λ lt. subst (λ (w : World). ReadsAtLevel S.reads r.first_level (w.disk Ckpt1)) (sym (goes.past S.since started)) (r.first1 lt);
-    first2 = λ lt. subst (λ (w : World). ReadsAtLevel S.reads r.first_level (w.disk Ckpt2)) (sym (goes.past S.since started)) (r.first2 lt);
+    first1 = λ lt. subst (λ (w : World). ReadsAtLevel S.reads l order (w.disk Ckpt1)) (sym (goes.past S.since started)) (r.first1 lt);
+    first2 = λ lt. subst (λ (w : World). ReadsAtLevel S.reads l order (w.disk Ckpt2)) (sym (goes.past S.since started)) (r.first2 lt);
     risen = r.risen;
     most1 = λ t from le lt. ⊎_elim
-        (λ h. subst (λ (w : World). ReadsUpTo S.reads (reached + 1) (w.disk Ckpt1)) (sym (goes.past t h)) (r.most1 t from h lt))
+        (λ h. subst (λ (w : World). ReadsUpTo S.reads l order (reached + 1) (w.disk Ckpt1)) (sym (goes.past t h)) (r.most1 t from h lt))
         (λ h. (later t h le lt).0)
         (either_way t old.now);
     most2 = λ t from le lt. ⊎_elim
-        (λ h. subst (λ (w : World). ReadsUpTo S.reads (reached + 1) (w.disk Ckpt2)) (sym (goes.past t h)) (r.most2 t from h lt))
+        (λ h. subst (λ (w : World). ReadsUpTo S.reads l order (reached + 1) (w.disk Ckpt2)) (sym (goes.past t h)) (r.most2 t from h lt))
         (λ h. (later t h le lt).1)
         (either_way t old.now);
   }
 
   -- a batch gets its fate, and the level has risen by one at most, where it is kept
   pub fated_rise : (js : List Batch) (c : Batch) (reached reached' : ℕ) (v : View) → reached ≤ reached' → reached' ≤ reached + batches_kept (c ∷ [])
-      → Rises S js reached v → Rises S (js ++ c ∷ []) reached' v
+      → Rises S js reached l order v → Rises S (js ++ c ∷ []) reached' l order v
   fated_rise js c reached reached' v least most r = record {
-    first_level = r.first_level;
     first1 = r.first1;
     first2 = r.first2;
-    risen = through r.first_level (batches_kept js) (batches_kept (c ∷ [])) (batches_kept (js ++ c ∷ [])) r.risen most (kept_append js (c ∷ []));
-    most1 = λ t from le lt. less_up S.reads (reached + 1) (reached' + 1) (one_more least) (disk_at v t Ckpt1) (r.most1 t from le lt);
-    most2 = λ t from le lt. less_up S.reads (reached + 1) (reached' + 1) (one_more least) (disk_at v t Ckpt2) (r.most2 t from le lt);
+    risen = through l (batches_kept js) (batches_kept (c ∷ [])) (batches_kept (js ++ c ∷ [])) r.risen most (kept_append js (c ∷ []));
+    most1 = λ t from le lt. less_up S.reads l order (reached + 1) (reached' + 1) (one_more least) (disk_at v t Ckpt1) (r.most1 t from le lt);
+    most2 = λ t from le lt. less_up S.reads l order (reached + 1) (reached' + 1) (one_more least) (disk_at v t Ckpt2) (r.most2 t from le lt);
   } where
     one_more : reached ≤ reached' → reached + 1 ≤ reached' + 1
     one_more h = omega (arith, h)
@@ -131,31 +144,38 @@ module _ (S : Setting) where
     through f a b n x y z = omega (arith, x, y, z)
 
   -- another journal with as many kept batches
-  pub same_rise : (js ks : List Batch) (reached : ℕ) (v : View) → batches_kept ks ≡ batches_kept js → Rises S js reached v → Rises S ks reached v
+  pub same_rise : (js ks : List Batch) (reached : ℕ) (v : View) → batches_kept ks ≡ batches_kept js → Rises S js reached l order v → Rises S ks reached l order v
   same_rise js ks reached v same r = record {
-    first_level = r.first_level;
     first1 = r.first1;
     first2 = r.first2;
-    risen = subst (λ (n : ℕ). reached ≤ r.first_level + n) (sym same) r.risen;
+    risen = subst (λ (n : ℕ). reached ≤ l + n) (sym same) r.risen;
     most1 = r.most1;
     most2 = r.most2;
   }
 
-  -- at the first moment
-  pub make_rise : (reached : ℕ) (was : List ℕ) (v : View) → S.since ≡ v.now → Stands S reached [] was
-      → (v.now < top → ReadsOne S was None (disk_at v v.now Ckpt1) × ReadsOne S was None (disk_at v v.now Ckpt2)) → Rises S [] reached v
-  make_rise reached was v since stands reads = record {
-    first_level = reached;
-    first1 = λ lt. subst (λ (m : ℕ). ReadsAtLevel S.reads reached (disk_at v m Ckpt1)) (sym since) (at_kept S reached [] was stands (disk_at v v.now Ckpt1) (reads (now_low lt)).0);
-    first2 = λ lt. subst (λ (m : ℕ). ReadsAtLevel S.reads reached (disk_at v m Ckpt2)) (sym since) (at_kept S reached [] was stands (disk_at v v.now Ckpt2) (reads (now_low lt)).1);
-    risen = no_more reached;
-    most1 = λ t from le lt. let e : v.now ≡ t = omega (arith, since, from, le) in
-        subst (λ (m : ℕ). ReadsUpTo S.reads (reached + 1) (disk_at v m Ckpt1)) e (one_up S reached [] [] was None stands tt (disk_at v v.now Ckpt1) (reads (omega (arith, e, lt))).0);
-    most2 = λ t from le lt. let e : v.now ≡ t = omega (arith, since, from, le) in
-        subst (λ (m : ℕ). ReadsUpTo S.reads (reached + 1) (disk_at v m Ckpt2)) e (one_up S reached [] [] was None stands tt (disk_at v v.now Ckpt2) (reads (omega (arith, e, lt))).1);
-  } where
-    now_low : S.since < top → v.now < top
-    now_low lt = omega (arith, since, lt)
+-- pages are near to their own level and next order
+pub own_near : (reached : ℕ) (was : List ℕ) → level was ≡ reached → IsNear reached (next_order was) was
+own_near reached was at_level = own (level was) (next_order was) at_level
+  where
+    own : (a n : ℕ) → a ≡ reached → n + orders_most * reached ≤ n + orders_most * a
+    own a n e = omega (arith, e)
 
-    no_more : (n : ℕ) → n ≤ n + 0
-    no_more n = omega arith
+-- at the first moment
+pub make_rise : (S : Setting) (reached : ℕ) (was : List ℕ) (v : View) → S.since ≡ v.now → Stands S reached [] was
+    → (v.now < top → ReadsOne S was None (disk_at v v.now Ckpt1) × ReadsOne S was None (disk_at v v.now Ckpt2)) → Rises S [] reached reached (next_order was) v
+make_rise S reached was v since stands reads = record {
+  first1 = λ lt. subst (λ (m : ℕ). ReadsAtLevel S.reads reached (next_order was) (disk_at v m Ckpt1)) (sym since) (at_kept S reached [] was stands (disk_at v v.now Ckpt1) (reads (now_low lt)).0);
+  first2 = λ lt. subst (λ (m : ℕ). ReadsAtLevel S.reads reached (next_order was) (disk_at v m Ckpt2)) (sym since) (at_kept S reached [] was stands (disk_at v v.now Ckpt2) (reads (now_low lt)).1);
+  risen = no_more reached;
+  most1 = λ t from le lt. let e : v.now ≡ t = omega (arith, since, from, le) in
+      subst (λ (m : ℕ). ReadsUpTo S.reads reached (next_order was) (reached + 1) (disk_at v m Ckpt1)) e
+      (one_up S reached [] [] was None stands tt reached (next_order was) (own_near reached was stands.at_level) tt (disk_at v v.now Ckpt1) (reads (omega (arith, e, lt))).0);
+  most2 = λ t from le lt. let e : v.now ≡ t = omega (arith, since, from, le) in
+      subst (λ (m : ℕ). ReadsUpTo S.reads reached (next_order was) (reached + 1) (disk_at v m Ckpt2)) e
+      (one_up S reached [] [] was None stands tt reached (next_order was) (own_near reached was stands.at_level) tt (disk_at v v.now Ckpt2) (reads (omega (arith, e, lt))).1);
+} where
+  now_low : S.since < top → v.now < top
+  now_low lt = omega (arith, since, lt)
+
+  no_more : (n : ℕ) → n ≤ n + 0
+  no_more n = omega arith

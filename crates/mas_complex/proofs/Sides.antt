@@ -1,5 +1,5 @@
 -- What one call does to one copy.
-use Rattle.std.proofs.Common.{◌≡◌, ℕ, ◌+◌, ◌≤◌, ◌<◌, Bool, true, false, List, [], ◌++◌, length, Option, Some, None, Result, Ok, Err, OnOk, IsErrOf, refl, subst, sym, ◌∙◌, ap, arith}
+use Rattle.std.proofs.Common.{◌≡◌, ℕ, ◌+◌, ◌≤◌, ◌<◌, Bool, true, false, List, [], ◌++◌, length, Option, Some, None, IfSome, Result, Ok, Err, OnOk, IsErrOf, refl, subst, sym, ◌∙◌, ap, arith}
 use Rattle.std.proofs.lemmas.List.{append-nil}
 use Rattle.mas_types.specs.declared.ids.Dev.{Dev}
 use Rattle.mas_types.specs.declared.ids.Dev.TheVariants.{Ckpt1, Ckpt2, Spool}
@@ -18,7 +18,7 @@ use Rattle.mas_types.specs.declared.journals.Entry.{Entry}
 use Rattle.mas_complex.specs.declared.places.Place.{Place}
 use Rattle.mas_complex.specs.declared.places.Place.TheVariants.{Before, Put, Opened, Unsure}
 use Rattle.mas_complex.specs.Journals.{kept_all, in_flight, entries_in}
-use Rattle.mas_complex.specs.Crash.{Setting, IsNext, ReadsOne, OnComing, IsAt, OneCopy, Copy, CopyAt, Keeps}
+use Rattle.mas_complex.specs.Crash.{Setting, IsNext, IsNear, ReadsOne, OnComing, IsAt, OneCopy, Copy, CopyAt, Keeps}
 use Rattle.mas_complex.specs.Places.{IsPlaceAfter, HasNoOther}
 use Rattle.mas_complex.proofs.Present.{all_read, each_reads, lost_reads, copy_reads}
 use Rattle.mas_complex.proofs.Texting.{stays_same}
@@ -41,6 +41,10 @@ no b p q = cc
 -- a batch with an entry may have pages in flight
 pub some_coming : (F : List Entry) (coming : Option (List ℕ)) → 1 ≤ length F → F ≡ [] → coming ≡ None
 some_coming F coming some none = let e : length F ≡ 0 = ap length none in absurd (omega (arith, e, some))
+
+-- pages of the next level have one level more than those of the level reached
+pub one_level_more : (l m reached : ℕ) → l ≡ reached → m ≡ reached + 1 → m ≡ l + 1
+one_level_more l m reached e f = omega (arith, e, f)
 
 -- the next level is the higher one
 pub is_higher : (l m reached : ℕ) → l ≡ reached → m ≡ reached + 1 → l < m
@@ -68,6 +72,29 @@ other_coming S rests holds was coming pages place alive now d behind shown rests
   by_place Opened n e here = opened_same n e here
   by_place Unsure n e here = absurd e
 
+-- What holds of pages in flight holds of these, where the copy has no others, or it is before the batch and they have it.
+pub other_holds : (S : Setting) (rests : List ℕ → Disk → Type 0) (holds : List ℕ → List ℕ → Disk → Type 0) (was : List ℕ) (coming : Option (List ℕ)) (pages : List ℕ) (place : Place) (alive : Bool) (now : ℕ) (d : Disk) (behind : List ℕ → List ℕ)
+    → ((was next : List ℕ) (d : Disk) → holds was next d → behind d.bytes ≡ next) → ((was : List ℕ) (d : Disk) → rests was d → S.reads d.bytes ≡ Some was)
+    → alive ≡ true → HasNoOther place (behind d.bytes) (S.reads d.bytes) pages → OneCopy S rests holds was coming place alive now d
+    → (P : List ℕ → Type 0) → IfSome coming P → (place ≡ Before → P pages) → P pages
+other_holds S rests holds was coming pages place alive now d behind shown rests_now is same copy P holds_of at_before = by_place place coming refl same (copy.at is) holds_of where
+  some_same : (x y : List ℕ) → Some x ≡ Some y → x ≡ y
+  some_same x y e = cc
+
+  put_holds : (n : Option (List ℕ)) → behind d.bytes ≡ pages → OnComing n (λ p. holds was p d) → IfSome n P → P pages
+  put_holds None e here of = absurd here
+  put_holds (Some p) e here of = subst P (sym (shown was p d here) ∙ e) of
+
+  opened_holds : (n : Option (List ℕ)) → S.reads d.bytes ≡ Some pages → OnComing n (λ p. rests p d) → IfSome n P → P pages
+  opened_holds None e here of = absurd here
+  opened_holds (Some p) e here of = subst P (some_same p pages (sym (rests_now p d here) ∙ e)) of
+
+  by_place : (p : Place) (n : Option (List ℕ)) → place ≡ p → HasNoOther p (behind d.bytes) (S.reads d.bytes) pages → IsAt S rests holds was n p d → IfSome n P → P pages
+  by_place Before n at e here of = at_before at
+  by_place Put n at e here of = put_holds n e here of
+  by_place Opened n at e here of = opened_holds n e here of
+  by_place Unsure n at e here of = absurd e
+
 module _ (S : Setting) (was : List ℕ) (coming : Option (List ℕ)) (dev : Dev) (old new : View) (rests' : List ℕ → Disk → Type 0) (holds' : List ℕ → List ℕ → Disk → Type 0) (place' : Place) (alive' : Bool) where
   -- the copy during a call, and after it
   pub record Went : Type 0 where
@@ -81,7 +108,7 @@ module _ (S : Setting) (was : List ℕ) (before coming : Option (List ℕ)) (dev
   when_touched is P m = subst (λ (b : Bool). Meanwhile dev (Touched b P (disk_now old dev)) old new) is m
 
   -- a copy that was lost stays so
-  idles : alive ≡ false → Went S was coming dev old new rests' holds' place' alive'
+  pub idles : alive ≡ false → Went S was coming dev old new rests' holds' place' alive'
   idles dead = record {
     during = same_view dev (λ d. old.now < top → ReadsOne S was coming d) old new (idle dead) (λ lt. lost_reads S was coming (disk_now old dev) (copy.gone dead lt));
     after = record {
@@ -182,14 +209,14 @@ calm S J old new same le = record {
 }
 
 module _ (S : Setting) (js : List Batch) (c : Option Batch) (reached : ℕ) (first second first' second' : Copy) (old new : View) (keeps : Keeps S js c reached first second old)
-    (coming : Option (List ℕ)) (comes : IsNext S reached (kept_all js) (entries_in c) coming) (none : entries_in c ≡ [] → coming ≡ None) where
+    (coming : Option (List ℕ)) (comes : IsNext S reached (kept_all js) (entries_in c) coming) (none : entries_in c ≡ [] → coming ≡ None) (nears : IfSome coming (IsNear keeps.first_level keeps.first_order)) where
   pub on_first : ((pages : List ℕ) (d : Disk) → second.rests pages d → AllRead S.reads pages d) → ((was next : List ℕ) (d : Disk) → second.holds was next d → AllRead S.reads was d)
       → CopyAt S keeps.was coming second old.now (disk_now old Ckpt2)
       → Went S keeps.was coming Ckpt1 old new first'.rests first'.holds first'.place first'.alive
       → (CopyAt S keeps.was coming second new.now (disk_now new Ckpt2) → CopyAt S keeps.was coming second' new.now (disk_now new Ckpt2)) → Keeps S js c reached first' second' new
   on_first rests_reads holds_reads there went to_second =
       let m = went.during in
-      acts_keep S js c reached first second first' second' old new keeps m.goes coming comes none
+      acts_keep S js c reached first second first' second' old new keeps m.goes coming comes none nears
       (λ t lt le below. (
         m.here t (omega arith) le (omega arith),
         subst (λ (d : Disk). ReadsOne S keeps.was coming d) (sym (m.others t (omega arith) le Ckpt2 (λ e. absurd (cc))))
@@ -207,7 +234,7 @@ module _ (S : Setting) (js : List Batch) (c : Option Batch) (reached : ℕ) (fir
       → (CopyAt S keeps.was coming first new.now (disk_now new Ckpt1) → CopyAt S keeps.was coming first' new.now (disk_now new Ckpt1)) → Keeps S js c reached first' second' new
   on_second rests_reads holds_reads there went to_first =
       let m = went.during in
-      acts_keep S js c reached first second first' second' old new keeps m.goes coming comes none
+      acts_keep S js c reached first second first' second' old new keeps m.goes coming comes none nears
       (λ t lt le below. (
         subst (λ (d : Disk). ReadsOne S keeps.was coming d) (sym (m.others t (omega arith) le Ckpt1 (λ e. absurd (cc))))
             (copy_reads S keeps.was first.rests first.holds rests_reads holds_reads coming first.place first.alive old.now (disk_now old Ckpt1) (omega arith) there),

@@ -83,7 +83,7 @@ module _ (S : Setting) (js : List Batch) (c : Option Batch) (reached : ℕ) (fir
   spool_keep goes time volume only stays =
       let one : disk_now new Ckpt1 ≡ disk_now old Ckpt1 = only.others Ckpt1 (λ e. absurd (cc)) in
       let two : disk_now new Ckpt2 ≡ disk_now old Ckpt2 = only.others Ckpt2 (λ e. absurd (cc)) in
-      acts_keep S js c reached first second first second old new keeps goes keeps.coming keeps.comes keeps.none
+      acts_keep S js c reached first second first second old new keeps goes keeps.coming keeps.comes keeps.none keeps.comes_near
       (λ t lt le below. let e = at_end old new time t lt le in (
         subst (λ (m : ℕ). ReadsOne S keeps.was keeps.coming (disk_at new m Ckpt1)) (sym e) (subst (λ (d : Disk). ReadsOne S keeps.was keeps.coming d) (sym one)
             (copy_reads S keeps.was first.rests first.holds rests_reads1 holds_reads1 keeps.coming first.place first.alive old.now (disk_now old Ckpt1) (omega arith) keeps.first_at)),

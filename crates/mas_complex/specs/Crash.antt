@@ -1,9 +1,10 @@
 -- What a crash leaves of the two copies, and what the console tells.
-use Rattle.std.specs.Prelude.{◌≡◌, ◌⊎◌, ℕ, ◌+◌, ◌≤◌, ◌<◌, ◌==◌, ◌&&◌, Bool, true, false, List, [], ◌∷◌, ◌++◌, length, drop, Option, Some, None}
+use Rattle.std.specs.Prelude.{◌≡◌, ◌⊎◌, ℕ, ◌+◌, ◌*◌, ◌^◌, ◌≤◌, ◌<◌, ◌==◌, ◌&&◌, Bool, true, false, List, [], ◌∷◌, ◌++◌, length, drop, Option, Some, None, IfSome}
+use Rattle.std.specs.Int.{from_be_bytes, w64}
 use Rattle.mas_types.specs.declared.ids.Dev.{Dev}
 use Rattle.mas_types.specs.declared.ids.Dev.TheVariants.{Ckpt1, Ckpt2}
 use Rattle.spool_disk.specs.declared.plant.Part.TheVariants.{Disk as DiskPart}
-use Rattle.spool_disk.specs.View.{View, Disk, Line, IsImage, LeavesOnly, disk_at, disk_now}
+use Rattle.spool_disk.specs.View.{View, Disk, Line, IsImage, LeavesOnly, disk_at, disk_now, slice}
 use Rattle.spool_disk.specs.Acts.{top}
 use Rattle.ckpt_copy.specs.Pages.{level}
 use Rattle.mas_types.specs.declared.journals.Batch.{Batch}
@@ -171,24 +172,42 @@ KeepsTexts S J v = (t : ℕ) → S.since ≤ t → t ≤ v.now → TextsAt S J v
 abbrev pub AreSunk : Setting → View → Type 0
 AreSunk S v = (t : ℕ) → S.since ≤ t → t ≤ v.now → (n : ℕ) → (spools_at v t n).lost ≡ true → lost_now v n ≡ true
 
--- an image of a device that reads as pages reads as ones of this level
-abbrev pub ReadsAtLevel : (List ℕ → Option (List ℕ)) → ℕ → Disk → Type 0
-ReadsAtLevel reads l disk = LeavesOnly disk (λ image. (pages : List ℕ) → reads image ≡ Some pages → level pages ≡ l)
+-- the next order, which stands in the first page
+unfoldable pub next_order : List ℕ → ℕ
+next_order pages = from_be_bytes w64 (slice 40 8 pages)
 
--- or as ones of at most this level
-abbrev pub ReadsUpTo : (List ℕ → Option (List ℕ)) → ℕ → Disk → Type 0
-ReadsUpTo reads most disk = LeavesOnly disk
-    (λ image. (pages : List ℕ) → reads image ≡ Some pages → level pages ≤ most)
+-- a batch raises the next order by at most so much
+abbrev pub orders_most : ℕ
+orders_most = 2 ^ 19
 
--- How levels rise: at first both copies read at one level, the level reached is at most as many more as batches are
--- kept, and at no moment does a copy read at a level above the one reached and one more.
-pub record Rises (S : Setting) (js : List Batch) (reached : ℕ) (v : View) : Type 0 where
-  pub first_level : ℕ
-  pub first1 : S.since < top → ReadsAtLevel S.reads first_level (disk_at v S.since Ckpt1)
-  pub first2 : S.since < top → ReadsAtLevel S.reads first_level (disk_at v S.since Ckpt2)
-  pub risen : reached ≤ first_level + batches_kept js
-  pub most1 : (t : ℕ) → S.since ≤ t → t ≤ v.now → t < top → ReadsUpTo S.reads (reached + 1) (disk_at v t Ckpt1)
-  pub most2 : (t : ℕ) → S.since ≤ t → t ≤ v.now → t < top → ReadsUpTo S.reads (reached + 1) (disk_at v t Ckpt2)
+abbrev pub RaisesOrders : List ℕ → List ℕ → Type 0
+RaisesOrders was pages = next_order pages ≤ next_order was + orders_most
+
+-- pages at or above a level, at which the next order was this one: each level more has raised it by so much at most
+abbrev pub IsNear : ℕ → ℕ → List ℕ → Type 0
+IsNear l order pages = next_order pages + orders_most * l ≤ order + orders_most * level pages
+
+-- an image of a device that reads as pages reads as ones of this level, with this next order
+abbrev pub ReadsAtLevel : (List ℕ → Option (List ℕ)) → ℕ → ℕ → Disk → Type 0
+ReadsAtLevel reads l order disk = LeavesOnly disk
+    (λ image. (pages : List ℕ) → reads image ≡ Some pages → (level pages ≡ l) × (next_order pages ≡ order))
+
+-- or as ones of at most a greatest level, near to these
+abbrev pub ReadsUpTo : (List ℕ → Option (List ℕ)) → ℕ → ℕ → ℕ → Disk → Type 0
+ReadsUpTo reads l order most disk = LeavesOnly disk
+    (λ image. (pages : List ℕ) → reads image ≡ Some pages → (level pages ≤ most) × IsNear l order pages)
+
+-- How levels and orders rise: at first both copies read at this level and next order, the level reached is at most as
+-- many more as batches are kept, and at no moment does a copy read at a level above the one reached and one more, or
+-- with a next order that isn't near.
+pub record Rises (S : Setting) (js : List Batch) (reached l order : ℕ) (v : View) : Type 0 where
+  pub first1 : S.since < top → ReadsAtLevel S.reads l order (disk_at v S.since Ckpt1)
+  pub first2 : S.since < top → ReadsAtLevel S.reads l order (disk_at v S.since Ckpt2)
+  pub risen : reached ≤ l + batches_kept js
+  pub most1 : (t : ℕ) → S.since ≤ t → t ≤ v.now → t < top
+      → ReadsUpTo S.reads l order (reached + 1) (disk_at v t Ckpt1)
+  pub most2 : (t : ℕ) → S.since ≤ t → t ≤ v.now → t < top
+      → ReadsUpTo S.reads l order (reached + 1) (disk_at v t Ckpt2)
 
 -- What the shared value keeps of its past, and of its present below the greatest moment: the pages of the kept entries,
 -- and those in flight, are the same for both copies.
@@ -202,12 +221,16 @@ pub record Keeps (S : Setting) (js : List Batch) (current : Option Batch) (reach
   pub grows : (t : ℕ) → S.since ≤ t → t ≤ v.now → Begins (v.world t).console (v.world v.now).console
   pub texts : KeepsTexts S (js ++ in_flight current) v
   pub sunk : AreSunk S v
-  pub rises : Rises S js reached v
+  pub first_level : ℕ
+  pub first_order : ℕ
+  pub rises : Rises S js reached first_level first_order v
   pub was : List ℕ
   pub coming : Option (List ℕ)
   pub stands : Stands S reached (kept_all js) was
   pub comes : IsNext S reached (kept_all js) (entries_in current) coming
   pub none : entries_in current ≡ [] → coming ≡ None
+  pub near : IsNear first_level first_order was
+  pub comes_near : IfSome coming (IsNear first_level first_order)
   pub first_at : CopyAt S was coming first v.now (disk_now v Ckpt1)
   pub second_at : CopyAt S was coming second v.now (disk_now v Ckpt2)
 

@@ -86,16 +86,18 @@ AreTextsLeft base since J v = (t : ℕ) → since ≤ t → t ≤ v.now → (vol
     → GivesTexts (lost_now v) volumes base.config.groups (run base (kept_at J t))
     × GivesTexts (lost_now v) volumes base.config.groups (run base (kept_at J t ++ flying_at J t))
 
--- At the first moment the images of the copies that read as pages read as ones of one level. At each moment they read
--- as ones of at most that level, as many more as batches are kept, and one more for a batch in flight.
+-- At the first moment the images of the copies that read as pages read as ones of one level, with one next order. At
+-- each moment they read as ones of at most that level, as many more as batches are kept, and one more for a batch in
+-- flight; and each level more has raised the next order by at most so much as a batch may.
 pub record AreLevelsLow (reads : List ℕ → Option (List ℕ)) (since : ℕ) (J : Journal) (v : View) : Type 0 where
   pub first_level : ℕ
-  pub first1 : since < top → ReadsAtLevel reads first_level (disk_at v since Ckpt1)
-  pub first2 : since < top → ReadsAtLevel reads first_level (disk_at v since Ckpt2)
+  pub first_order : ℕ
+  pub first1 : since < top → ReadsAtLevel reads first_level first_order (disk_at v since Ckpt1)
+  pub first2 : since < top → ReadsAtLevel reads first_level first_order (disk_at v since Ckpt2)
   pub most1 : (t : ℕ) → since ≤ t → t ≤ v.now
-      → ReadsUpTo reads (first_level + batches_kept J.batches + 1) (left_at v t Ckpt1)
+      → ReadsUpTo reads first_level first_order (first_level + batches_kept J.batches + 1) (left_at v t Ckpt1)
   pub most2 : (t : ℕ) → since ≤ t → t ≤ v.now
-      → ReadsUpTo reads (first_level + batches_kept J.batches + 1) (left_at v t Ckpt2)
+      → ReadsUpTo reads first_level first_order (first_level + batches_kept J.batches + 1) (left_at v t Ckpt2)
 
 -- the whole headline: what stands on paper is in it only where the base has the sound parts
 pub record Headline (reads : List ℕ → Option (List ℕ)) (base : Queue) (since : ℕ) (J : Journal) (v : View) : Type 0

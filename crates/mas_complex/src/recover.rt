@@ -210,6 +210,7 @@ impl<P: Plant + Drop, C: Steady + Drop> Complex<P, C> {
     fn bring_copy(&mut self, by: MemberId, dev: Dev, found: &[Page]) -> Result<(), PairNo>
         requires ckpt { IsCkpt dev }
         requires alive { (pick dev self.old.pair.first self.old.pair.second).alive ≡ true }
+        requires beside { (other dev self.old.pair.first self.old.pair.second).alive ≡ true }
         requires place { pick dev self.old.first self.old.second ≡ AtBefore }
         requires room { 1 ≤ C.room (pick dev self.old.pair.first self.old.pair.second).copy }
         requires as_many { length found.now ≡ C.count (pick dev self.old.pair.first self.old.pair.second).copy }

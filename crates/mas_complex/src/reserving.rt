@@ -1,5 +1,5 @@
 //! A batch to come has its place, and begins.
-ghost use Rattle.std.specs.Prelude.{◌≡◌, ◌≤◌, ◌++◌, [], ◌∷◌, List, Some, None, length, true, false, OnOk, OnErr, IsSome, All};
+ghost use Rattle.std.specs.Prelude.{◌≡◌, ◌≤◌, ◌^◌, ◌++◌, [], ◌∷◌, List, Some, None, length, true, false, OnOk, OnErr, IsSome, All};
 ghost use Rattle.mas_types.specs.declared.journals.Batch.{Batch};
 ghost use Rattle.mas_types.specs.declared.journals.Entry.{Entry};
 ghost use Rattle.mas_types.specs.declared.journals.Fate.TheVariants.{Kept as FateKept};
@@ -21,6 +21,9 @@ use ckpt_form::Steady;
 use mas_types::{Batch, Entry, Fate, List, MemberId, NoMemory};
 use spool_disk::Plant;
 use std::alloc::Global;
+
+// A batch has at most so many entries.
+const ENTRIES_MOST: usize = 16_384;
 
 impl<P: Plant + Drop, C: Steady + Drop> Complex<P, C> {
     // The journal gets the place of a batch to come.
@@ -47,7 +50,8 @@ impl<P: Plant + Drop, C: Steady + Drop> Complex<P, C> {
     /// of the operator where nobody does, and nothing may be in flight. A batch that was reserved before and hasn't
     /// begun is given up.
     ///
-    /// NoMemory comes where the place can't be had, also where the journal has 2^40 batches; the value is as it was.
+    /// NoMemory comes where the place can't be had, also where the journal has 2^40 batches, or this one more than 16,384
+    /// entries; the value is as it was.
     pub fn reserve(&mut self, alloc: Global, entries: List<Entry>) -> Result<(), NoMemory>
         requires none { self.old.current ≡ None }
         requires some { 1 ≤ length entries }
@@ -65,6 +69,7 @@ impl<P: Plant + Drop, C: Steady + Drop> Complex<P, C> {
         ensures kept { kept_all self.new.journal.batches ≡ kept_all self.old.journal.batches }
         ensures err { OnErr result ((self.new.journal ≡ self.old.journal) × (self.new.reserved ≡ self.old.reserved)) }
         ensures reserved { OnOk result (self.new.reserved ≡ Some entries) }
+        ensures few { OnOk result (length entries ≤ 2 ^ 14) }
         ensures placed { OnOk result (self.new.placed ≡ true) }
         ensures grown { OnOk result (self.old.placed ≡ false → (place : Batch)
             × (self.new.journal.batches ≡ self.old.journal.batches ++ place ∷ []) × IsPlace place) }
@@ -74,6 +79,9 @@ impl<P: Plant + Drop, C: Steady + Drop> Complex<P, C> {
             ≡ reserved_in (P.view self.old.plant).now entries (parts_of self.old)) }
         ensures none { OnErr result (parts_of self.new ≡ parts_of self.old) }
     {
+        if entries.len() > ENTRIES_MOST {
+            return Err(NoMemory);
+        }
         if !self.placed {
             self.add_place(alloc)?;
         }

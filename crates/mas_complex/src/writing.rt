@@ -13,7 +13,7 @@ ghost use Rattle.mas_complex.specs.declared.places.Place.TheVariants.{Before as 
 ghost use Rattle.mas_complex.specs.Journals.{coming, kept_all, entries_in, entries_reserved, begun, IsKeptAt};
 ghost use Rattle.mas_complex.specs.Meaning.{StandFor, run};
 ghost use Rattle.mas_complex.specs.Places.{IsPlaceAfter, HasNoOther, all_open};
-ghost use Rattle.mas_complex.specs.Crash.{setting, IsUntold};
+ghost use Rattle.mas_complex.specs.Crash.{setting, IsUntold, RaisesOrders};
 ghost use Rattle.mas_complex.specs.Elsewhere.{Elsewhere};
 ghost use Rattle.mas_complex.specs.Changed.{NamesOnly};
 ghost use Rattle.mas_complex.specs.Texts.{HasTexts, spools_at, lost_now};
@@ -53,6 +53,11 @@ impl<P: Plant + Drop, C: Steady + Drop> Complex<P, C> {
             → Covers (C.count (pick dev self.old.pair.first self.old.pair.second).copy) changed.now was
             (bytes_of pages.now) }
         requires level { P.tells → level (bytes_of pages.now) ≡ self.old.level + 1 }
+        requires orders { P.tells → (pick dev self.old.pair.first self.old.pair.second).alive ≡ true
+            → ((other dev self.old.pair.first self.old.pair.second).alive ≡ true
+            → other dev self.old.first self.old.second ≡ AtBefore) → (was : List ℕ)
+            → C.reads (disk_now (P.view self.old.plant) dev).bytes ≡ Some was
+            → RaisesOrders was (bytes_of pages.now) }
         requires queue { P.tells → ∥ StandFor
             (run self.old.base (kept_all self.old.journal.batches ++ entries_in self.old.current)) (bytes_of pages.now)
             ∥₁ }
@@ -129,10 +134,11 @@ impl<P: Plant + Drop, C: Steady + Drop> Complex<P, C> {
     /// The entries have the replies that the commands give at their places, after the kept ones. Where the base has the
     /// sound parts each is within the limits and of a member that may give it, and a Mark is at most at what its member
     /// has printed. With a Pick, Mark, Back or Forward the member begins to count anew. The pages stand for the queue
-    /// with the batch, which has an entry, and have the level after the one of the kept pages. The texts of that queue
-    /// stand on the spool volumes, all of them synced, except those with a group on a volume that is lost. `changed`
-    /// are the numbers of page 0 and of just those that differ from what the copy reads. Both copies are given the same
-    /// pages: where the other one counts as alive, these wait behind its gate if others than the kept ones do.
+    /// with the batch, which has an entry, and have the level after the one of the kept pages. Their next order is at
+    /// most 2^19 above that of the pages that the copy reads, unless the other copy has them already. The texts of that
+    /// queue stand on the spool volumes, all of them synced, except those with a group on a volume that is lost.
+    /// `changed` are the numbers of page 0 and of just those that differ from what the copy reads. Both copies are given
+    /// the same pages: where the other one counts as alive, these wait behind its gate if others than the kept ones do.
     pub fn log(
         &mut self,
         by: MemberId,
@@ -160,6 +166,11 @@ impl<P: Plant + Drop, C: Steady + Drop> Complex<P, C> {
             → C.reads (disk_now (P.view self.old.plant) dev).bytes ≡ Some was
             → NamesOnly changed.now was (bytes_of pages.now) }
         requires level { P.tells → level (bytes_of pages.now) ≡ self.old.level + 1 }
+        requires orders { P.tells → (pick dev self.old.pair.first self.old.pair.second).alive ≡ true
+            → ((other dev self.old.pair.first self.old.pair.second).alive ≡ true
+            → other dev self.old.first self.old.second ≡ AtBefore) → (was : List ℕ)
+            → C.reads (disk_now (P.view self.old.plant) dev).bytes ≡ Some was
+            → RaisesOrders was (bytes_of pages.now) }
         requires first { self.old.current ≡ None → self.old.pair.first.alive ≡ true → self.old.first ≡ AtBefore }
         requires second { self.old.current ≡ None → self.old.pair.second.alive ≡ true → self.old.second ≡ AtBefore }
         requires untold { P.tells → self.old.current ≡ None

@@ -26,7 +26,9 @@ use Rattle.ckpt_pages.specs.Laws.{EmptyHasSpelling, AreFirstLevels}
 use Rattle.mas_types.specs.declared.queues.Queue.{Queue}
 use Rattle.queue_tables.specs.Orders.{HaveOrders}
 use Rattle.queue_tables.specs.Telling.{Tell, PagesTell}
+use Rattle.mas_complex.specs.Crash.{next_order}
 use Rattle.mas_complex.specs.Meaning.{StandFor}
+use Rattle.mas_complex.proofs.Orders.{order_spelled}
 use Rattle.mas_complex.specs.Changed.{NamesOnly}
 use Rattle.member_node.specs.Drawn.{AreDrawn, raised}
 
@@ -67,6 +69,10 @@ drawn_level t at levels pages drawn =
       first_is : (levels : List ℕ) (at : ℕ) → slice_get levels 0 ≡ Some at → slice_index levels 0 ≡ at
       first_is [] at is = absurd (cc)
       first_is (l ∷ levels) at is = cc
+
+-- and the next order too
+pub drawn_order : (t : Tables) (at : ℕ) (levels : List ℕ) (pages : List Page) → AreDrawn t at levels pages → next_order (bytes_of pages) ≡ t.order
+drawn_order t at levels pages drawn = order_spelled t levels pages drawn.spelling drawn.spelled drawn.sized
 
 -- drawn pages stand for each queue that their tables tell, which have no order twice
 pub drawn_tell : (t : Tables) (at : ℕ) (levels : List ℕ) (pages : List Page) (Q : Queue) → AreDrawn t at levels pages → HaveOrders t → Tell t Q → PagesTell pages at Q

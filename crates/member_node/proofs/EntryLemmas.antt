@@ -1,6 +1,7 @@
 -- An entry that a batch gets.
-use Rattle.std.proofs.Common.{◌≡◌, ℕ, suc, zero, ◌+◌, ◌-◌, List, [], ◌∷◌, ◌++◌, length, slice_get, slice_set, Some, refl, sym, ◌∙◌, ap, subst, arith, All, append-nil}
+use Rattle.std.proofs.Common.{◌≡◌, ℕ, suc, zero, ◌+◌, ◌-◌, ◌*◌, ◌≤◌, List, [], ◌∷◌, ◌++◌, length, slice_get, slice_set, Some, refl, sym, ◌∙◌, ap, subst, arith, All, append-nil}
 use Rattle.std.specs.List.{remove}
+use Rattle.std.proofs.lemmas.List.{length-append}
 use Rattle.std.proofs.lemmas.List.Edits.{remove-append_right}
 use Rattle.mas_types.specs.declared.ids.MemberId.{MemberId}
 use Rattle.mas_types.specs.declared.ids.Page.{Page}
@@ -12,17 +13,19 @@ use Rattle.mas_types.specs.declared.commands.Reply.{Reply}
 use Rattle.mas_types.specs.declared.journals.Entry.{Entry}
 use Rattle.mas_types.specs.declared.queues.Queue.{Queue}
 use Rattle.mas_types.specs.Step.{row_of}
+use Rattle.ckpt_copy.specs.Pages.{bytes_of}
 use Rattle.ckpt_pages.specs.declared.tables.Tables.{Tables}
 use Rattle.ckpt_pages.specs.Shape.{HasSpelling, AreLevels, page_count}
 use Rattle.queue_tables.specs.Orders.{HaveOrders}
 use Rattle.queue_tables.specs.Telling.{Tell, PagesTell}
 use Rattle.queue_effect.specs.Standing.{AreFit, Plays}
+use Rattle.mas_complex.specs.Crash.{next_order}
 use Rattle.mas_complex.specs.Meaning.{step, run}
 use Rattle.mas_complex.specs.Replies.{HaveReplies}
 use Rattle.member_node.specs.declared.checkpoint.Checkpoint.{Checkpoint}
 use Rattle.member_node.specs.Batches.{HasDone, last_reply}
 use Rattle.member_node.specs.Drawn.{AreDrawn}
-use Rattle.member_node.proofs.DrawnLemmas.{drawn_tell}
+use Rattle.member_node.proofs.DrawnLemmas.{drawn_order, drawn_tell}
 use Rattle.member_node.proofs.WriteLemmas.{run_append}
 
 -- the last item written anew
@@ -60,10 +63,13 @@ replies_append Q (e ∷ es) fs one two = (one.0, replies_append (step Q e.by e.c
 leveled_too : (t u : Tables) (at : ℕ) (levels : List ℕ) → u.config ≡ t.config → AreLevels t at levels → AreLevels u at levels
 leveled_too t u at levels same is = record { count = is.count ∙ ap page_count (sym same); first = is.first; each = is.each; most = is.most }
 
+more_orders : (n k o a b c : ℕ) → n ≤ k + 32 * b → k ≤ o + 32 * a → c ≡ a + b → n ≤ o + 32 * c
+more_orders n k o a b c one two many = omega (arith, one, two, many)
+
 -- commands more, with their replies
 pub all_done : (Q : Queue) (entries more : List Entry) (k n : Checkpoint) → HasDone Q entries k → n.pages ≡ k.pages → n.level ≡ k.level → n.levels ≡ k.levels → n.tables.config ≡ k.tables.config
-    → HasSpelling n.tables → AreFit n.tables → HaveOrders n.tables → HaveReplies (run Q entries) more → Tell n.tables (run (run Q entries) more) → HasDone Q (entries ++ more) n
-all_done Q entries more k n done pages level levels config spelling fit orders replied queue = record {
+    → HasSpelling n.tables → AreFit n.tables → HaveOrders n.tables → n.tables.order ≤ k.tables.order + 32 * length more → HaveReplies (run Q entries) more → Tell n.tables (run (run Q entries) more) → HasDone Q (entries ++ more) n
+all_done Q entries more k n done pages level levels config spelling fit orders raised replied queue = record {
   pages = subst (λ (ps : List Page). PagesTell ps n.level Q) (sym pages) (subst (λ (l : ℕ). PagesTell k.pages l Q) (sym level) done.pages);
   leveled = leveled_too k.tables n.tables n.level n.levels config (subst (λ (l : ℕ). AreLevels k.tables l n.levels) (sym level) (subst (AreLevels k.tables k.level) (sym levels) done.leveled));
   as_many = ap length pages ∙ done.as_many ∙ ap page_count (sym config);
@@ -71,14 +77,16 @@ all_done Q entries more k n done pages level levels config spelling fit orders r
   spelling = spelling;
   fit = fit;
   orders = orders;
+  raised = subst (λ (ps : List Page). n.tables.order ≤ next_order (bytes_of ps) + 32 * length (entries ++ more)) (sym pages)
+      (more_orders n.tables.order k.tables.order (next_order (bytes_of k.pages)) (length entries) (length more) (length (entries ++ more)) raised done.raised (length-append entries more));
   queue = subst (Tell n.tables) (sym (run_append Q entries more)) queue;
   replied = replies_append Q entries more done.replied replied;
 }
 
 -- one command more
 pub more_done : (Q : Queue) (entries : List Entry) (k n : Checkpoint) (e : Entry) → HasDone Q entries k → n.pages ≡ k.pages → n.level ≡ k.level → n.levels ≡ k.levels → n.tables.config ≡ k.tables.config
-    → HasSpelling n.tables → AreFit n.tables → HaveOrders n.tables → e.reply ≡ (step (run Q entries) e.by e.command).1 → Tell n.tables (step (run Q entries) e.by e.command).0 → HasDone Q (entries ++ e ∷ []) n
-more_done Q entries k n e done pages level levels config spelling fit orders reply queue = all_done Q entries (e ∷ []) k n done pages level levels config spelling fit orders (reply, tt) queue
+    → HasSpelling n.tables → AreFit n.tables → HaveOrders n.tables → n.tables.order ≤ k.tables.order + 32 → e.reply ≡ (step (run Q entries) e.by e.command).1 → Tell n.tables (step (run Q entries) e.by e.command).0 → HasDone Q (entries ++ e ∷ []) n
+more_done Q entries k n e done pages level levels config spelling fit orders raised reply queue = all_done Q entries (e ∷ []) k n done pages level levels config spelling fit orders raised (reply, tt) queue
 
 -- nothing was done yet
 pub nothing_done : (Q : Queue) (k : Checkpoint) → AreDrawn k.tables k.level k.levels k.pages → AreFit k.tables → HaveOrders k.tables → Tell k.tables Q → HasDone Q [] k
@@ -90,9 +98,12 @@ nothing_done Q k drawn fit orders told = record {
   spelling = drawn.spelling;
   fit = fit;
   orders = orders;
+  raised = none_more k.tables.order (next_order (bytes_of k.pages)) (drawn_order k.tables k.level k.levels k.pages drawn);
   queue = told;
   replied = tt;
-}
+} where
+  none_more : (k o : ℕ) → o ≡ k → k ≤ o + 32 * 0
+  none_more k o is = omega (arith, is)
 
 -- WHAT WAS PLAYED ON TABLES
 

@@ -1,14 +1,17 @@
 -- A draft of a member's pages.
-use Rattle.std.proofs.Common.{◌≡◌, ℕ, ◌+◌, ◌≤◌, ◌<◌, ◌^◌, Bool, true, List, length, Option, Some, sym, ◌∙◌, ap, subst, arith}
+use Rattle.std.proofs.Common.{◌≡◌, ⊎_elim, ℕ, ◌+◌, ◌*◌, ◌≤◌, ◌<◌, ◌^◌, Bool, true, List, length, Option, Some, sym, ◌∙◌, ap, subst, arith}
+use Rattle.std.proofs.Math.Logic.{∥∥₁_elim}
 use Rattle.mas_types.specs.declared.ids.Page.{Page}
 use Rattle.mas_types.specs.declared.journals.Entry.{Entry}
 use Rattle.mas_types.specs.declared.queues.Queue.{Queue}
+use Rattle.ckpt_copy.specs.Moments.{either_way}
 use Rattle.ckpt_copy.specs.Pages.{bytes_of, ArePages}
 use Rattle.ckpt_pages.specs.declared.tables.Tables.{Tables}
 use Rattle.ckpt_pages.specs.Shape.{page_count}
 use Rattle.queue_tables.specs.Laws.{PagesTellAlike}
 use Rattle.queue_tables.specs.Orders.{HaveOrders}
 use Rattle.queue_tables.specs.Telling.{Tell, PagesTell}
+use Rattle.mas_complex.specs.Crash.{RaisesOrders, next_order, orders_most}
 use Rattle.mas_complex.specs.Meaning.{run}
 use Rattle.mas_complex.specs.declared.places.Place.{Place}
 use Rattle.member_node.specs.declared.checkpoint.Checkpoint.{Checkpoint}
@@ -18,7 +21,7 @@ use Rattle.member_node.specs.Batches.{CanDraw, HasDone, IsDraftOf, level_with}
 use Rattle.member_node.specs.Copies.{IsDraftFor, RestsAt}
 use Rattle.member_node.specs.Drawn.{AreDrawn}
 use Rattle.member_node.specs.Redrawn.{IsRedrawn, IsSameWhere}
-use Rattle.member_node.proofs.DrawnLemmas.{drawn_level, drawn_stand, drawn_tell}
+use Rattle.member_node.proofs.DrawnLemmas.{drawn_level, drawn_order, drawn_stand, drawn_tell}
 use Rattle.member_node.proofs.WriteLemmas.{covers_read, names_read}
 
 pub ready_level : (d : Draft) (was is : ℕ) (old new : List Page) → IsRedrawn d was old is new → is ≡ level_with d was
@@ -49,15 +52,27 @@ ready_draft alike d told Q entries k n reached done at small same drawn redrawn 
 pub ready_count : (k n : Checkpoint) → CanDraw k → n.tables ≡ k.tables → AreDrawn n.tables n.level n.levels n.pages → length n.pages ≡ length k.pages
 ready_count k n draws same drawn = drawn.spelled.count ∙ ap (λ (t : Tables). page_count t.config) same ∙ sym draws.as_many
 
+-- a batch of so few entries raises the next order by no more than it may
+pub ready_raises : (Q : Queue) (entries : List Entry) (k n : Checkpoint) → ∥ HasDone Q entries k ∥₁ → length entries ≤ 2 ^ 14 → n.tables ≡ k.tables → AreDrawn n.tables n.level n.levels n.pages → RaisesOrders (bytes_of k.pages) (bytes_of n.pages)
+ready_raises Q entries k n done few same drawn =
+    ⊎_elim (λ le. le) (λ lt. absurd (∥∥₁_elim done (λ a b. absurd a) (λ (d : HasDone Q entries k). clash (length entries) k.tables.order n.tables.order (next_order (bytes_of k.pages)) (next_order (bytes_of n.pages)) few
+    d.raised (ap (λ (t : Tables). t.order) same) (drawn_order n.tables n.level n.levels n.pages drawn) lt)))
+    (either_way (next_order (bytes_of n.pages)) (next_order (bytes_of k.pages) + orders_most)) where
+      clash : (many was is old new : ℕ) → many ≤ 2 ^ 14 → was ≤ old + 32 * many → is ≡ was → new ≡ is → old + orders_most < new → ⊥
+      clash many was is old new few raised same drawn lt = omega (arith, few, raised, same, drawn, lt)
+
 -- a copy that rests at the old pages may be given the new ones
 pub ready_copy : (d : Draft) (X told : Type 0) (alive : Bool) (place : Place) (count room was is : ℕ) (old new : List Page) (read : Option (List ℕ)) → RestsAt told alive place count old read → (alive ≡ true → (X → ⊥) → 1 ≤ room) → length new ≡ length old
-    → IsSameWhere d X → IsRedrawn d was old is new → IsDraftFor d told alive count room new read
-ready_copy draft.Same X told alive place count room was is old new read rests some many same drawn =
+    → IsSameWhere d X → IsRedrawn d was old is new → (told → RaisesOrders (bytes_of old) (bytes_of new)) → IsDraftFor d told alive count room new read
+ready_copy draft.Same X told alive place count room was is old new read rests some many same drawn raises =
     ((λ on. many ∙ rests.as_many on), (λ t on. rests.reads t on ∙ ap (λ (ps : List Page). Some (bytes_of ps)) (sym drawn.1)))
-ready_copy (draft.Changed numbers) X told alive place count room was is old new read rests some many anew drawn = record {
+ready_copy (draft.Changed numbers) X told alive place count room was is old new read rests some many anew drawn raises = record {
   room = λ on. some on anew;
   as_many = λ on. many ∙ rests.as_many on;
   numbers = λ on. subst (λ (n : ℕ). ArePages n numbers) (many ∙ rests.as_many on) drawn.numbers;
   covered = λ t on before reads. covers_read count (length new) numbers before (bytes_of old) (bytes_of new) read (sym (many ∙ rests.as_many on)) drawn.covered (rests.reads t on) reads;
   exact = λ t on before reads. names_read numbers before (bytes_of old) (bytes_of new) read drawn.exact (rests.reads t on) reads;
-}
+  orders = λ t on before reads. subst (λ (w : List ℕ). RaisesOrders w (bytes_of new)) (some_same (bytes_of old) before (sym (rests.reads t on) ∙ reads)) (raises t);
+} where
+  some_same : (x y : List ℕ) → Some x ≡ Some y → x ≡ y
+  some_same x y e = cc

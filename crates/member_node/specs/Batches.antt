@@ -1,5 +1,5 @@
 -- A member's batch, and a draft of its pages.
-use Rattle.std.specs.Prelude.{◌≡◌, ℕ, ◌+◌, ◌<◌, List, [], ◌∷◌, length, All}
+use Rattle.std.specs.Prelude.{◌≡◌, ℕ, ◌+◌, ◌*◌, ◌≤◌, ◌<◌, List, [], ◌∷◌, length, All}
 use Rattle.mas_types.specs.declared.ids.Page.{Page}
 use Rattle.mas_types.specs.declared.commands.Reply.{Reply}
 use Rattle.mas_types.specs.declared.commands.Reply.TheVariants.{Plain}
@@ -12,6 +12,7 @@ use Rattle.ckpt_pages.specs.Pages.{Spell}
 use Rattle.ckpt_pages.specs.Shape.{HasSpelling, AreLevels, page_count}
 use Rattle.queue_tables.specs.Orders.{HaveOrders}
 use Rattle.queue_tables.specs.Telling.{Tell, PagesTell, AreToldAlike}
+use Rattle.mas_complex.specs.Crash.{next_order}
 use Rattle.mas_complex.specs.Meaning.{StandFor, run}
 use Rattle.mas_complex.specs.Replies.{HaveReplies}
 use Rattle.queue_effect.specs.Standing.{AreFit}
@@ -38,7 +39,7 @@ DrawsAnew k = Spell k.tables k.levels k.pages → ⊥
 
 -- The pages of a checkpoint stand for the queue, and its tables tell the queue after the entries, which have the
 -- replies that the commands give at their places. The tables can be spelled and given commands, and have no order
--- twice.
+-- twice. Each entry raised the next order by at most 32.
 pub record HasDone (Q : Queue) (entries : List Entry) (k : Checkpoint) : Type 0 where
   pub pages : PagesTell k.pages k.level Q
   pub leveled : AreLevels k.tables k.level k.levels
@@ -47,6 +48,7 @@ pub record HasDone (Q : Queue) (entries : List Entry) (k : Checkpoint) : Type 0 
   pub spelling : HasSpelling k.tables
   pub fit : AreFit k.tables
   pub orders : HaveOrders k.tables
+  pub raised : k.tables.order ≤ next_order (bytes_of k.pages) + 32 * length entries
   pub queue : Tell k.tables (run Q entries)
   pub replied : HaveReplies Q entries
 

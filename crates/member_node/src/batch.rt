@@ -11,7 +11,7 @@ ghost use Rattle.duplex_pair.specs.Halves.{IsBothLost, SomeAlive};
 ghost use Rattle.duplex_pair.specs.Both.{PairActed};
 ghost use Rattle.duplex_pair.specs.Outcomes.{pair_stopped};
 ghost use Rattle.mas_complex.specs.declared.places.Place.TheVariants.{Before as AtBefore, Put as AtPut};
-ghost use Rattle.mas_complex.specs.Crash.{IsUntold, setting};
+ghost use Rattle.mas_complex.specs.Crash.{IsUntold, RaisesOrders, setting};
 ghost use Rattle.mas_complex.specs.Changed.{NamesOnly};
 ghost use Rattle.mas_complex.specs.Replies.{HaveReplies};
 ghost use Rattle.mas_complex.specs.Locking.{MayAct, IsOwn};
@@ -56,12 +56,18 @@ fn log_both<P: Plant + Drop, C: Steady + Drop>(
     requires exact1 { P.tells → complex.old.pair.first.alive ≡ true → (was : List ℕ)
         → C.reads (disk_now (P.view complex.old.plant) Ckpt1).bytes ≡ Some was
         → NamesOnly changed.now was (bytes_of pages.now) }
+    requires orders1 { P.tells → complex.old.pair.first.alive ≡ true → (was : List ℕ)
+        → C.reads (disk_now (P.view complex.old.plant) Ckpt1).bytes ≡ Some was
+        → RaisesOrders was (bytes_of pages.now) }
     requires covered2 { P.tells → complex.old.pair.second.alive ≡ true → (was : List ℕ)
         → C.reads (disk_now (P.view complex.old.plant) Ckpt2).bytes ≡ Some was
         → Covers (C.count complex.old.pair.second.copy) changed.now was (bytes_of pages.now) }
     requires exact2 { P.tells → complex.old.pair.second.alive ≡ true → (was : List ℕ)
         → C.reads (disk_now (P.view complex.old.plant) Ckpt2).bytes ≡ Some was
         → NamesOnly changed.now was (bytes_of pages.now) }
+    requires orders2 { P.tells → complex.old.pair.second.alive ≡ true → (was : List ℕ)
+        → C.reads (disk_now (P.view complex.old.plant) Ckpt2).bytes ≡ Some was
+        → RaisesOrders was (bytes_of pages.now) }
     requires level { P.tells → level (bytes_of pages.now) ≡ complex.old.level + 1 }
     requires untold { P.tells → IsUntold (setting C.reads complex.old.base complex.old.since) (P.view complex.old.plant)
         (entries_reserved complex.old.reserved) }
@@ -192,12 +198,18 @@ pub(crate) fn commit<P: Plant + Drop, C: Steady + Drop>(
     requires exact1 { P.tells → complex.old.pair.first.alive ≡ true → (was : List ℕ)
         → C.reads (disk_now (P.view complex.old.plant) Ckpt1).bytes ≡ Some was
         → NamesOnly changed.now was (bytes_of pages.now) }
+    requires orders1 { P.tells → complex.old.pair.first.alive ≡ true → (was : List ℕ)
+        → C.reads (disk_now (P.view complex.old.plant) Ckpt1).bytes ≡ Some was
+        → RaisesOrders was (bytes_of pages.now) }
     requires covered2 { P.tells → complex.old.pair.second.alive ≡ true → (was : List ℕ)
         → C.reads (disk_now (P.view complex.old.plant) Ckpt2).bytes ≡ Some was
         → Covers (C.count complex.old.pair.second.copy) changed.now was (bytes_of pages.now) }
     requires exact2 { P.tells → complex.old.pair.second.alive ≡ true → (was : List ℕ)
         → C.reads (disk_now (P.view complex.old.plant) Ckpt2).bytes ≡ Some was
         → NamesOnly changed.now was (bytes_of pages.now) }
+    requires orders2 { P.tells → complex.old.pair.second.alive ≡ true → (was : List ℕ)
+        → C.reads (disk_now (P.view complex.old.plant) Ckpt2).bytes ≡ Some was
+        → RaisesOrders was (bytes_of pages.now) }
     requires level { P.tells → level (bytes_of pages.now) ≡ complex.old.level + 1 }
     requires small { complex.old.level < top }
     requires untold { P.tells → IsUntold (setting C.reads complex.old.base complex.old.since) (P.view complex.old.plant)

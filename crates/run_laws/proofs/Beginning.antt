@@ -1,5 +1,5 @@
 -- The next run begins.
-use Rattle.std.proofs.Common.{◌≡◌, ◌⊎◌, inl, inr, ⊎_elim, ℕ, ◌+◌, ◌-◌, ◌^◌, ◌*◌, ◌≤◌, ◌<◌, ◌++◌, Bool, true, false, List, [], ◌∷◌, All, Option, Some, refl, sym, ◌∙◌, ap, subst, arith}
+use Rattle.std.proofs.Common.{◌≡◌, ◌⊎◌, inl, inr, ⊎_elim, ℕ, ◌+◌, ◌^◌, ◌*◌, ◌≤◌, ◌<◌, ◌++◌, Bool, true, false, List, [], ◌∷◌, All, Option, Some, refl, sym, ◌∙◌, ap, subst, arith}
 use Rattle.std.specs.List.{filter}
 use Rattle.std.proofs.Math.Logic.{∥∥₁_elim}
 use Rattle.std.proofs.lemmas.List.Elements.{All-nil, All-append}
@@ -22,7 +22,7 @@ use Rattle.queue_laws.specs.Runs.{IsGiven, RunsKeepConfiguration, RunsKeepSound}
 use Rattle.script_lang.specs.declared.types.Script.{Script}
 use Rattle.spool_disk.specs.declared.plant.Part.TheVariants.{Disk as DiskPart}
 use Rattle.spool_disk.specs.Acts.{Goes, top}
-use Rattle.spool_disk.specs.View.{View, LeavesOnly, disk_now}
+use Rattle.spool_disk.specs.View.{View, Disk, IsImage, LeavesOnly, disk_now}
 use Rattle.ckpt_form.specs.Form.{form_reads, form_needs}
 use Rattle.ckpt_copy.specs.Moments.{either_way}
 use Rattle.ckpt_copy.specs.Pages.{bytes_of, level}
@@ -30,10 +30,11 @@ use Rattle.ckpt_pages.specs.declared.tables.Tables.{Tables}
 use Rattle.ckpt_pages.specs.Checkpoints.{IsCheckpoint, SpellsOneAtMost}
 use Rattle.ckpt_pages.specs.Shape.{page_count}
 use Rattle.ckpt_pages.proofs.SlotLists.{test_cases}
-use Rattle.mas_complex.specs.Crash.{left_at, IsOneOf}
+use Rattle.mas_complex.specs.Crash.{left_at, next_order, IsOneOf}
 use Rattle.mas_complex.specs.Headline.{AreAlike, AreAlwaysAlike, AreLevelsLow}
 use Rattle.mas_complex.specs.Meaning.{StandFor, run}
 use Rattle.mas_complex.specs.Paper.{AreGivenIn, PaperKept}
+use Rattle.mas_complex.proofs.Orders.{order_spelled}
 use Rattle.warm_start.specs.declared.choosing.StartNo.TheVariants as no_start
 use Rattle.warm_start.specs.Starting.{IsSmall, IsState, AreNotLost, OnlyLookedAtAll, mark_of}
 use Rattle.warm_start.specs.Usable.{AreOf, AreUsable, HaveSize, MayStart}
@@ -42,8 +43,8 @@ use Rattle.mas_run.specs.Statuses.{IsCaused}
 use Rattle.mas_run.specs.Unstarted.{IsNotStarted, StartCauses}
 use Rattle.run_laws.specs.Left.{IsLeftBy}
 use Rattle.queue_tables.proofs.SoundTables.{told_are_sound}
-use Rattle.run_laws.specs.Beginning.{AreLarge, AreLow, BothLow, HasEnded, IsHindered, IsLow, IsUnbounded, level_first}
-use Rattle.run_laws.proofs.Levels.{HaveUpTo, first_there, low_levels}
+use Rattle.run_laws.specs.Beginning.{AreLarge, AreLow, BothLow, HasEnded, IsHindered, IsLow, IsUnbounded, level_first, order_first}
+use Rattle.run_laws.proofs.Levels.{HasLevels, HasOrders, first_there, low_levels, low_orders}
 use Rattle.run_laws.proofs.Copies.{image_of, stand_by, stands, told_by}
 
 -- THE QUEUE THAT IS LEFT
@@ -59,16 +60,30 @@ level_left : (l since n : ℕ) → (IsUnbounded l since → n < 2 ^ 62) → (l <
 level_left l since n low bound =
     ⊎_elim (λ high. low (inl high)) (λ is. ⊎_elim (λ last. low (inr last)) (λ before. bound is before) (either_way top since)) (either_way (2 ^ 61) l)
 
+-- the level of pages is low, and so is their next order, where the run began with low ones
+record IsBounded (l order since : ℕ) (bytes : List ℕ) : Type 0 where
+  levels : l < 2 ^ 61 → since < top → level bytes < 2 ^ 62
+  orders : order < 2 ^ 61 → since < top → next_order bytes < 2 ^ 62
+
+-- and so are those of what a device reads as, whatever a crash leaves of it
+record AreBounded (l order since : ℕ) (disk : Disk) : Type 0 where
+  levels : l < 2 ^ 61 → since < top → HasLevels disk
+  orders : order < 2 ^ 61 → since < top → HasOrders disk
+
+bounded_image : (l order since : ℕ) (disk : Disk) → AreBounded l order since disk → (image bytes : List ℕ) → IsImage disk image → form_reads image ≡ Some bytes → IsBounded l order since bytes
+bounded_image l order since disk are image bytes is reads = record { levels = λ on before. are.levels on before image is bytes reads; orders = λ on before. are.orders on before image is bytes reads }
+
 -- pages that stand for a queue with the sound parts can be used, where levels and orders are left
-usable_of : (l since : ℕ) (Q : Queue) (bytes : List ℕ) → StandFor Q bytes → IsSound Q → AreLow l since bytes → (l < 2 ^ 61 → since < top → level bytes < 2 ^ 62) → AreUsable bytes
-usable_of l since Q bytes s sound low bound =
+usable_of : (l order since : ℕ) (Q : Queue) (bytes : List ℕ) → StandFor Q bytes → IsSound Q → AreLow l order since bytes → IsBounded l order since bytes → AreUsable bytes
+usable_of l order since Q bytes s sound low bound =
     let x = s.tell in
     let is : IsCheckpoint s.pages x.tables = record { level = s.level; levels = x.levels; fit = x.fit; ages = x.ages; spell = x.spell } in
-    let left : IsLow l since s.pages x.tables = low s.pages x.tables s.sized s.joined is in
+    let left : IsLow l order since s.pages x.tables = low s.pages x.tables s.sized s.joined is in
     let may : MayStart s.pages x.tables = record {
       sound = told_are_sound x.tables Q x.tell sound x.orders;
-      low_level = level_left l since (level (bytes_of s.pages)) left.low_level (λ on before. subst (λ (bs : List ℕ). level bs < 2 ^ 62) (sym s.joined) (bound on before));
-      low_order = left.low_order;
+      low_level = level_left l since (level (bytes_of s.pages)) left.low_level (λ on before. subst (λ (bs : List ℕ). level bs < 2 ^ 62) (sym s.joined) (bound.levels on before));
+      low_order = level_left order since x.tables.order left.low_order
+          (λ on before. subst (λ (n : ℕ). n < 2 ^ 62) (order_spelled x.tables x.levels s.pages x.fit x.spell s.sized) (subst (λ (bs : List ℕ). next_order bs < 2 ^ 62) (sym s.joined) (bound.orders on before)));
     } in
     let of : AreOf s.pages x.tables = (is, may) in
     record { pages = s.pages; sized = s.sized; joined = s.joined; usable = (x.tables, of) }
@@ -124,9 +139,9 @@ never_small config old new goes large (Spool n) size is =
 
 -- THE RUN
 
-module _ (spells : SpellsOneAtMost) (configs : RunsKeepConfiguration) (sounds : RunsKeepSound) (l since : ℕ) (base : Queue) (J : Journal) (t : ℕ) (last old new : View)
-    (left : IsLeftBy t last old) (sound : IsSound base) (given : AreGivenIn base J.batches) (low : BothLow l since old)
-    (bound1 : l < 2 ^ 61 → since < top → HaveUpTo (2 ^ 62 - 1) (left_at last t Ckpt1)) (bound2 : l < 2 ^ 61 → since < top → HaveUpTo (2 ^ 62 - 1) (left_at last t Ckpt2)) (large : AreLarge base.config old)
+module _ (spells : SpellsOneAtMost) (configs : RunsKeepConfiguration) (sounds : RunsKeepSound) (l order since : ℕ) (base : Queue) (J : Journal) (t : ℕ) (last old new : View)
+    (left : IsLeftBy t last old) (sound : IsSound base) (given : AreGivenIn base J.batches) (low : BothLow l order since old)
+    (bound1 : AreBounded l order since (left_at last t Ckpt1)) (bound2 : AreBounded l order since (left_at last t Ckpt2)) (large : AreLarge base.config old)
     (alike : AreAlike form_reads base J t (left_at last t Ckpt1) (left_at last t Ckpt2)) (goes : Goes old new) (tells : Type 0) (told : tells) where
   kept_given : All (IsGiven base) (kept_at J t)
   kept_given = all_given base (is_kept_by t) J.batches given
@@ -137,22 +152,19 @@ module _ (spells : SpellsOneAtMost) (configs : RunsKeepConfiguration) (sounds : 
   coming_sound : IsSound (run base (kept_at J t ++ flying_at J t))
   coming_sound = sounds base (kept_at J t ++ flying_at J t) sound (All-append (IsGiven base) (kept_at J t) (flying_at J t) kept_given (all_given base (is_flying_at t) J.batches given))
 
-  usable_by : (bytes : List ℕ) → AreLow l since bytes → (l < 2 ^ 61 → since < top → level bytes < 2 ^ 62) → (bytes ≡ alike.was) ⊎ (alike.coming ≡ Some bytes) → AreUsable bytes
+  usable_by : (bytes : List ℕ) → AreLow l order since bytes → IsBounded l order since bytes → (bytes ≡ alike.was) ⊎ (alike.coming ≡ Some bytes) → AreUsable bytes
   usable_by bytes lows bound one =
-      ⊎_elim (λ s. usable_of l since (run base (kept_at J t)) bytes s kept_sound lows bound)
-      (λ s. usable_of l since (run base (kept_at J t ++ flying_at J t)) bytes s coming_sound lows bound)
+      ⊎_elim (λ s. usable_of l order since (run base (kept_at J t)) bytes s kept_sound lows bound)
+      (λ s. usable_of l order since (run base (kept_at J t ++ flying_at J t)) bytes s coming_sound lows bound)
       (stand_by form_reads base J t last old bytes alike one)
-
-  below : (n : ℕ) → n ≤ 2 ^ 62 - 1 → n < 2 ^ 62
-  below n le = omega (arith, le)
 
   -- a start can't find that no copy can be used
   some_found : (disk_now new Ckpt1).bytes ≡ (disk_now old Ckpt1).bytes → (disk_now new Ckpt2).bytes ≡ (disk_now old Ckpt2).bytes → (one two : CopyState) → StartCauses tells (no_start.NotFormatted one two) old new → ⊥
   some_found same1 same2 one two causes =
       let x = causes.cause in
       not_both_gone one two
-      (gone alike.was alike.coming Ckpt1 t last old new left alike.first (λ there bytes e. usable_by bytes (low.first there bytes e) (λ on before. below (level bytes) (bound1 on before (disk_now old Ckpt1).bytes (image_of t last old Ckpt1 left there) bytes e))) goes same1 tells told causes.alive1 one x.0)
-      (gone alike.was alike.coming Ckpt2 t last old new left alike.second (λ there bytes e. usable_by bytes (low.second there bytes e) (λ on before. below (level bytes) (bound2 on before (disk_now old Ckpt2).bytes (image_of t last old Ckpt2 left there) bytes e))) goes same2 tells told causes.alive2 two x.1)
+      (gone alike.was alike.coming Ckpt1 t last old new left alike.first (λ there bytes e. usable_by bytes (low.first there bytes e) (bounded_image l order since (left_at last t Ckpt1) bound1 (disk_now old Ckpt1).bytes bytes (image_of t last old Ckpt1 left there) e)) goes same1 tells told causes.alive1 one x.0)
+      (gone alike.was alike.coming Ckpt2 t last old new left alike.second (λ there bytes e. usable_by bytes (low.second there bytes e) (bounded_image l order since (left_at last t Ckpt2) bound2 (disk_now old Ckpt2).bytes bytes (image_of t last old Ckpt2 left there) e)) goes same2 tells told causes.alive2 two x.1)
       x.2
 
   -- the configuration of pages that were found
@@ -185,7 +197,7 @@ not_lost A one two (inr a) = a
 pub hinders : SpellsOneAtMost → RunsKeepConfiguration → RunsKeepSound → (first_tells next_tells : Type 0) → first_tells → next_tells
     → (cold : Bool) (script : Script) (answer ends : Status) (base found : Queue) (J : Journal) (since t : ℕ) (first last old new : View)
     → (was : IsRun cold first_tells script answer base J since first last) → since ≤ t → t ≤ last.now → IsLeftBy t last old
-    → BothLow (level_first cold first_tells script first last since was.first base was.queue) since old → AreLarge base.config old → HasEnded next_tells ends found old new → has_begun found ≡ false → IsHindered ends old new
+    → BothLow (level_first cold first_tells script first last since was.first base was.queue) (order_first cold first_tells script first last since was.first base was.queue) since old → AreLarge base.config old → HasEnded next_tells ends found old new → has_begun found ≡ false → IsHindered ends old new
 hinders spells configs sounds first_tells next_tells told also cold script answer ends base found J since t first last old new was ge le left low large ended e =
     hindered ends ended.begun (ended.unstarted e) (ended.untouched e) ended.cause e
   where
@@ -198,13 +210,19 @@ hinders spells configs sounds first_tells next_tells told also cold script answe
     l : ℕ
     l = level_first cold first_tells script first last since was.first base was.queue
 
-    -- nor where levels are as the run leaves them
-    bounded : (A : Type 0) → ((l < 2 ^ 61 → since < top → HaveUpTo (2 ^ 62 - 1) (left_at last t Ckpt1)) → (l < 2 ^ 61 → since < top → HaveUpTo (2 ^ 62 - 1) (left_at last t Ckpt2)) → A → ⊥) → A → ⊥
+    order : ℕ
+    order = order_first cold first_tells script first last since was.first base was.queue
+
+    -- nor where levels and orders are as the run leaves them
+    bounded : (A : Type 0) → (AreBounded l order since (left_at last t Ckpt1) → AreBounded l order since (left_at last t Ckpt2) → A → ⊥) → A → ⊥
     bounded A clash a =
-        let begins = first_there cold first_tells script answer base J since first last was told in
+        let b = first_there cold first_tells script answer base J since first last was told in
+        let few = was.steps.safe.few told in
         ∥∥₁_elim (was.steps.safe.levels told) (λ x y. absurd x) (λ (levels : AreLevelsLow form_reads since J last).
-        clash (λ low before. (low_levels since J last levels (was.steps.safe.few told) l begins.0 begins.1 begins.2 low before t ge le).0)
-        (λ low before. (low_levels since J last levels (was.steps.safe.few told) l begins.0 begins.1 begins.2 low before t ge le).1) a)
+        clash
+        (record { levels = λ low before. (low_levels since J last levels few l order b before low t ge le).0; orders = λ low before. (low_orders since J last levels few l order b before low t ge le).0 })
+        (record { levels = λ low before. (low_levels since J last levels few l order b before low t ge le).1; orders = λ low before. (low_orders since J last levels few l order b before low t ge le).1 })
+        a)
 
     hindered : (s : Status) → Begins s found → IsNotStarted next_tells s old new → (s ≡ status.BothLost) ⊎ ((new ≡ old) ⊎ (next_tells → OnlyLookedAtAll old new)) → IsCaused s old new → has_begun found ≡ false → IsHindered s old new
     hindered status.Done begun why looked cause none = absurd (cc)
@@ -213,11 +231,11 @@ hinders spells configs sounds first_tells next_tells told also cold script answe
         let same = same_bytes next_tells also old new (not_lost ((new ≡ old) ⊎ (next_tells → OnlyLookedAtAll old new)) one two looked) in
         never (StartCauses next_tells (no_start.NotFormatted one two) old new)
         (λ given alike. bounded (StartCauses next_tells (no_start.NotFormatted one two) old new)
-        (λ bound1 bound2 causes. some_found spells configs sounds l since base J t last old new left was.sound given low bound1 bound2 large alike ended.goes next_tells also same.0 same.1 one two causes)) why
+        (λ bound1 bound2 causes. some_found spells configs sounds l order since base J t last old new left was.sound given low bound1 bound2 large alike ended.goes next_tells also same.0 same.1 one two causes)) why
     hindered (status.DeviceSize dev size) begun why looked cause none =
         never (StartCauses next_tells (no_start.DeviceSize dev size) old new)
         (λ given alike. bounded (StartCauses next_tells (no_start.DeviceSize dev size) old new)
-        (λ bound1 bound2 causes. none_small spells configs sounds l since base J t last old new left was.sound given low bound1 bound2 large alike ended.goes next_tells also dev size causes)) why
+        (λ bound1 bound2 causes. none_small spells configs sounds l order since base J t last old new left was.sound given low bound1 bound2 large alike ended.goes next_tells also dev size causes)) why
     hindered status.BothLost begun why looked cause none = (cause.failed1 refl, cause.failed2 refl, why.0.failed)
     hindered status.Words begun why looked cause none = tt
     hindered (status.BadLine line cause) begun why looked caused none = tt

@@ -33,7 +33,7 @@ use Rattle.mas_run.specs.Volumes.{AreVolumesKeptUntil}
 use Rattle.run_laws.specs.Left.{IsLeftBy}
 use Rattle.run_laws.specs.Again.{IsQueueAgain}
 use Rattle.run_laws.specs.Joins.{lost_in, IsQueueOf, GoesOn, FindsWhatIsLeft}
-use Rattle.run_laws.specs.Beginning.{level_first}
+use Rattle.run_laws.specs.Beginning.{level_first, order_first}
 use Rattle.run_laws.proofs.Beginning.{hinders}
 use Rattle.run_laws.proofs.Copies.{stands, told_by}
 use Rattle.run_laws.proofs.Rows.{jobs_again, outputs_again}
@@ -109,6 +109,6 @@ finds spells runs first_tells next_tells told also cold script next answer ends 
 
 pub goes_on : SpellsOneAtMost → RunsKeepConfiguration → RunsKeepSound → (first_tells next_tells : Type 0) → FindsWhatIsLeft first_tells next_tells
 goes_on spells runs sounds first_tells next_tells told also cold script next answer ends base found J K since from t first last old new was ge le left ended is =
-    test_cases (has_begun found) (GoesOn (level_first cold first_tells script first last since was.first base was.queue) since base J t last ends found old new)
+    test_cases (has_begun found) (GoesOn (level_first cold first_tells script first last since was.first base was.queue) (order_first cold first_tells script first last since was.first base was.queue) since base J t last ends found old new)
     (λ e. inl (e, finds spells runs first_tells next_tells told also cold script next answer ends base found J K since from t first last old new was ge le left ended.goes (is e)))
     (λ e. inr (e, λ low large. hinders spells runs sounds first_tells next_tells told also cold script answer ends base found J since t first last old new was ge le left low large ended e))

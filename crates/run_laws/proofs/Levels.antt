@@ -1,54 +1,85 @@
--- The levels that a run leaves.
-use Rattle.std.proofs.Common.{◌≡◌, ◌⊎◌, ⊎_elim, ℕ, ◌+◌, ◌-◌, ◌^◌, ◌≤◌, ◌<◌, Bool, true, false, List, length, Some, refl, sym, ◌∙◌, ap, subst, arith}
+-- The levels and orders that a run leaves.
+use Rattle.std.proofs.Common.{◌≡◌, ◌⊎◌, ⊎_elim, ℕ, ◌+◌, ◌*◌, ◌^◌, ◌≤◌, ◌<◌, Bool, true, false, List, length, Some, refl, sym, ◌∙◌, ap, subst, arith}
 use Rattle.mas_types.specs.declared.answers.Status.{Status}
 use Rattle.mas_types.specs.declared.ids.Dev.TheVariants.{Ckpt1, Ckpt2}
 use Rattle.mas_types.specs.declared.journals.Journal.{Journal}
 use Rattle.mas_types.specs.declared.queues.Queue.{Queue}
 use Rattle.script_lang.specs.declared.types.Script.{Script}
 use Rattle.spool_disk.specs.Acts.{top}
-use Rattle.spool_disk.specs.View.{View, Disk, IsImage, disk_at}
+use Rattle.spool_disk.specs.View.{View, Disk, IsImage, LeavesOnly, disk_at}
 use Rattle.ckpt_form.specs.Form.{form_reads}
 use Rattle.ckpt_copy.specs.Pages.{bytes_of, level}
-use Rattle.mas_complex.specs.Crash.{left_at, ReadsUpTo}
+use Rattle.ckpt_pages.specs.Starts.{empty_tables}
+use Rattle.mas_complex.specs.Crash.{left_at, next_order, orders_most}
 use Rattle.mas_complex.specs.Headline.{AreLevelsLow}
 use Rattle.mas_complex.specs.Journals.{batches_kept, journal_most}
-use Rattle.mas_complex.proofs.Rising.{kept_fewer, less_up}
+use Rattle.mas_complex.proofs.Orders.{order_spelled}
+use Rattle.mas_complex.proofs.Rising.{kept_fewer}
 use Rattle.mas_run.specs.Runs.{IsRun, OneReadsThere}
-use Rattle.run_laws.specs.Beginning.{level_first}
+use Rattle.run_laws.specs.Beginning.{level_first, order_first}
 
--- an image of a device that reads as pages reads as ones of at most this level
-abbrev pub HaveUpTo : ℕ → Disk → Type 0
-HaveUpTo most disk = ReadsUpTo form_reads most disk
+-- an image of a device that reads as pages reads as ones of a low level
+abbrev pub HasLevels : Disk → Type 0
+HasLevels disk = LeavesOnly disk (λ image. (pages : List ℕ) → form_reads image ≡ Some pages → level pages < 2 ^ 62)
+
+-- or as ones with a low next order
+abbrev pub HasOrders : Disk → Type 0
+HasOrders disk = LeavesOnly disk (λ image. (pages : List ℕ) → form_reads image ≡ Some pages → next_order pages < 2 ^ 62)
 
 own_image : (disk : Disk) → disk.lost ≡ false → IsImage disk disk.bytes
 own_image disk there = record { there = there; size = refl; synced = λ s clean. refl }
 
--- the pages with which a run begins, their level, and that a copy is there with them
+-- the pages with which a run begins, their level and next order, and that a copy is there with them
+pub record Begins (l order since : ℕ) (last : View) : Type 0 where
+  pub found : List ℕ
+  pub at_level : level found ≡ l
+  pub at_order : next_order found ≡ order
+  pub there : OneReadsThere found since last
+
 pub first_there : (cold : Bool) (tells : Type 0) (script : Script) (answer : Status) (base : Queue) (J : Journal) (since : ℕ) (first last : View) → (was : IsRun cold tells script answer base J since first last) → tells
-    → (found : List ℕ) × (level found ≡ level_first cold tells script first last since was.first base was.queue) × OneReadsThere found since last
+    → Begins (level_first cold tells script first last since was.first base was.queue) (order_first cold tells script first last since was.first base was.queue) since last
 first_there true tells script answer base J since first last was told =
     let f = was.formatted refl told in
-    (bytes_of f.pages, f.at_level, f.there)
-first_there false tells script answer base J since first last was told = (bytes_of was.queue.pages, refl, was.queue.there told)
+    record {
+      found = bytes_of f.pages;
+      at_level = f.at_level;
+      at_order = order_spelled (empty_tables script.config script.routes) f.spell.levels f.pages f.spell.fit f.spell.spell f.sized ∙ f.next_order;
+      there = f.there;
+    }
+first_there false tells script answer base J since first last was told = record { found = bytes_of was.queue.pages; at_level = refl; at_order = refl; there = was.queue.there told }
 
-module _ (since : ℕ) (J : Journal) (last : View) (levels : AreLevelsLow form_reads since J last) (few : length J.batches ≤ journal_most)
-    (l : ℕ) (found : List ℕ) (is : level found ≡ l) (there : OneReadsThere found since last) (low_first : l < 2 ^ 61) (before : since < top) where
+module _ (since : ℕ) (J : Journal) (last : View) (levels : AreLevelsLow form_reads since J last) (few : length J.batches ≤ journal_most) (l order : ℕ) (b : Begins l order since last) (before : since < top) where
   -- a device that isn't lost has its own bytes as an image
-  first_is : levels.first_level ≡ l
+  first_is : (levels.first_level ≡ l) × (levels.first_order ≡ order)
   first_is =
       ⊎_elim
-      (λ r. sym (levels.first1 before (disk_at last since Ckpt1).bytes (own_image (disk_at last since Ckpt1) r.0) found r.1) ∙ is)
-      (λ r. sym (levels.first2 before (disk_at last since Ckpt2).bytes (own_image (disk_at last since Ckpt2) r.0) found r.1) ∙ is)
-      there
-
-  low : levels.first_level + batches_kept J.batches + 1 ≤ 2 ^ 62 - 1
-  low = bound levels.first_level (batches_kept J.batches) (length J.batches) first_is (kept_fewer J.batches) few
+      (λ r. joined (levels.first1 before (disk_at last since Ckpt1).bytes (own_image (disk_at last since Ckpt1) r.0) b.found r.1))
+      (λ r. joined (levels.first2 before (disk_at last since Ckpt2).bytes (own_image (disk_at last since Ckpt2) r.0) b.found r.1))
+      b.there
     where
-      bound : (f k n : ℕ) → f ≡ l → k ≤ n → n ≤ journal_most → f + k + 1 ≤ 2 ^ 62 - 1
-      bound f k n a b c = omega (arith, a, b, c, low_first)
+      joined : (level b.found ≡ levels.first_level) × (next_order b.found ≡ levels.first_order) → (levels.first_level ≡ l) × (levels.first_order ≡ order)
+      joined same = (sym same.0 ∙ b.at_level, sym same.1 ∙ b.at_order)
 
-  pub low_levels : (t : ℕ) → since ≤ t → t ≤ last.now → HaveUpTo (2 ^ 62 - 1) (left_at last t Ckpt1) × HaveUpTo (2 ^ 62 - 1) (left_at last t Ckpt2)
-  low_levels t ge le = (
-    less_up form_reads (levels.first_level + batches_kept J.batches + 1) (2 ^ 62 - 1) low (left_at last t Ckpt1) (levels.most1 t ge le),
-    less_up form_reads (levels.first_level + batches_kept J.batches + 1) (2 ^ 62 - 1) low (left_at last t Ckpt2) (levels.most2 t ge le),
+  fewer : batches_kept J.batches ≤ journal_most
+  fewer = bound (batches_kept J.batches) (length J.batches) (kept_fewer J.batches) few
+    where
+      bound : (k n : ℕ) → k ≤ n → n ≤ journal_most → k ≤ journal_most
+      bound k n a b = omega (arith, a, b)
+
+  low_level : l < 2 ^ 61 → (n f k : ℕ) → f ≡ l → k ≤ journal_most → n ≤ f + k + 1 → n < 2 ^ 62
+  low_level low n f k is few most = omega (arith, low, is, few, most)
+
+  low_order : order < 2 ^ 61 → (m n f o k : ℕ) → o ≡ order → k ≤ journal_most → n ≤ f + k + 1 → m + orders_most * f ≤ o + orders_most * n → m < 2 ^ 62
+  low_order low m n f o k is few most near = omega (arith, low, is, few, most, near)
+
+  pub low_levels : l < 2 ^ 61 → (t : ℕ) → since ≤ t → t ≤ last.now → HasLevels (left_at last t Ckpt1) × HasLevels (left_at last t Ckpt2)
+  low_levels low t ge le = (
+    λ image is pages e. low_level low (level pages) levels.first_level (batches_kept J.batches) first_is.0 fewer (levels.most1 t ge le image is pages e).0,
+    λ image is pages e. low_level low (level pages) levels.first_level (batches_kept J.batches) first_is.0 fewer (levels.most2 t ge le image is pages e).0,
+  )
+
+  pub low_orders : order < 2 ^ 61 → (t : ℕ) → since ≤ t → t ≤ last.now → HasOrders (left_at last t Ckpt1) × HasOrders (left_at last t Ckpt2)
+  low_orders low t ge le = (
+    λ image is pages e. let x = levels.most1 t ge le image is pages e in low_order low (next_order pages) (level pages) levels.first_level levels.first_order (batches_kept J.batches) first_is.1 fewer x.0 x.1,
+    λ image is pages e. let x = levels.most2 t ge le image is pages e in low_order low (next_order pages) (level pages) levels.first_level levels.first_order (batches_kept J.batches) first_is.1 fewer x.0 x.1,
   )

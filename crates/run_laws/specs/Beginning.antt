@@ -16,6 +16,7 @@ use Rattle.ckpt_copy.specs.Pages.{bytes_of, level}
 use Rattle.ckpt_pages.specs.declared.tables.Tables.{Tables}
 use Rattle.ckpt_pages.specs.Checkpoints.{IsCheckpoint}
 use Rattle.ckpt_pages.specs.Shape.{page_count}
+use Rattle.mas_complex.specs.Crash.{next_order}
 use Rattle.spool_volumes.specs.Volumes.{AreRoomy}
 use Rattle.warm_start.specs.Starting.{NoneOrFailed, OnlyLookedAtAll, WasTaken}
 use Rattle.warm_start.specs.Usable.{HaveSize}
@@ -31,26 +32,33 @@ abbrev pub level_first : (cold : Bool) (tells : Type 0) (script : Script) (old n
 level_first true tells script old new since first base begins = 1
 level_first false tells script old new since first base begins = level (bytes_of begins.pages)
 
--- a run that begins with such a level, or at the greatest moment: else the levels that it leaves are known to be low
-abbrev pub IsUnbounded : ℕ → ℕ → Type 0
-IsUnbounded l since = (2 ^ 61 ≤ l) ⊎ (top ≤ since)
+-- the next order with which a run begins: 0 of a cold one, and that of the pages found of a warm one
+abbrev pub order_first : (cold : Bool) (tells : Type 0) (script : Script) (old new : View) (since : ℕ) (first : Dev → ℕ)
+    (base : Queue) → HasBase cold tells script old new since first base → ℕ
+order_first true tells script old new since first base begins = 0
+order_first false tells script old new since first base begins = next_order (bytes_of begins.pages)
 
--- levels and orders are left on these pages, which spell these tables: levels, where the run is such a one
-pub record IsLow (l since : ℕ) (pages : List Page) (t : Tables) : Type 0 where
+-- a run that begins with such a level or next order, or at the greatest moment: else those that it leaves are known to
+-- be low
+abbrev pub IsUnbounded : ℕ → ℕ → Type 0
+IsUnbounded n since = (2 ^ 61 ≤ n) ⊎ (top ≤ since)
+
+-- levels and orders are left on these pages, which spell these tables, where the run is such a one
+pub record IsLow (l order since : ℕ) (pages : List Page) (t : Tables) : Type 0 where
   pub low_level : IsUnbounded l since → level (bytes_of pages) < 2 ^ 62
-  pub low_order : t.order < 2 ^ 62
+  pub low_order : IsUnbounded order since → t.order < 2 ^ 62
 
 -- levels and orders are left on pages that are these bytes, one after another
-abbrev pub AreLow : ℕ → ℕ → List ℕ → Type 0
-AreLow l since bytes = (pages : List Page) (t : Tables) → HaveSize pages → bytes_of pages ≡ bytes
-    → IsCheckpoint pages t → IsLow l since pages t
+abbrev pub AreLow : ℕ → ℕ → ℕ → List ℕ → Type 0
+AreLow l order since bytes = (pages : List Page) (t : Tables) → HaveSize pages → bytes_of pages ≡ bytes
+    → IsCheckpoint pages t → IsLow l order since pages t
 
 -- levels and orders are left on the pages that each copy reads as that isn't lost
-pub record BothLow (l since : ℕ) (v : View) : Type 0 where
+pub record BothLow (l order since : ℕ) (v : View) : Type 0 where
   pub first : v.lost (DiskPart Ckpt1) ≡ false → (bytes : List ℕ) → form_reads (disk_now v Ckpt1).bytes ≡ Some bytes
-      → AreLow l since bytes
+      → AreLow l order since bytes
   pub second : v.lost (DiskPart Ckpt2) ≡ false → (bytes : List ℕ) → form_reads (disk_now v Ckpt2).bytes ≡ Some bytes
-      → AreLow l since bytes
+      → AreLow l order since bytes
 
 -- the devices are as large as a configuration asks
 pub record AreLarge (config : Config) (v : View) : Type 0 where

@@ -11,7 +11,7 @@ use Rattle.mas_complex.specs.Texts.{lost_now}
 use Rattle.mas_run.specs.Runs.{has_begun, IsRun}
 use Rattle.run_laws.specs.Left.{IsLeftBy}
 use Rattle.run_laws.specs.Again.{IsQueueAgain}
-use Rattle.run_laws.specs.Beginning.{level_first, AreLarge, BothLow, HasEnded, IsHindered}
+use Rattle.run_laws.specs.Beginning.{level_first, order_first, AreLarge, BothLow, HasEnded, IsHindered}
 
 -- the volumes that are lost at the end of one run or of the next
 abbrev pub lost_in : View → View → ℕ → Bool
@@ -24,11 +24,11 @@ IsQueueOf gone base J t found =
     ⊎ IsQueueAgain gone base.config.groups (run base (kept_at J t ++ flying_at J t)) found
 
 -- The next run begins, with the queue of the moment. Or it doesn't, and where levels and orders are left by a run that
--- began with this level and then, and the devices are large enough, something else hinders it.
-abbrev pub GoesOn : ℕ → ℕ → Queue → Journal → ℕ → View → Status → Queue → View → View → Type 0
-GoesOn l since base J t last ends found old new =
+-- began with this level and next order and then, and the devices are large enough, something else hinders it.
+abbrev pub GoesOn : ℕ → ℕ → ℕ → Queue → Journal → ℕ → View → Status → Queue → View → View → Type 0
+GoesOn l order since base J t last ends found old new =
     ((has_begun found ≡ true) × ∥ IsQueueOf (lost_in last new) base J t found ∥₁)
-    ⊎ ((has_begun found ≡ false) × (BothLow l since old → AreLarge base.config old → IsHindered ends old new))
+    ⊎ ((has_begun found ≡ false) × (BothLow l order since old → AreLarge base.config old → IsHindered ends old new))
 
 -- A run was played, cold or warm, and at a moment of it a crash left what a plant shows. A warm run on that plant goes
 -- on so, whatever its contract says of it.
@@ -41,5 +41,6 @@ FindsWhatIsLeft first_tells next_tells =
     → IsLeftBy t last old
     → HasEnded next_tells ends found old new
     → (has_begun found ≡ true → IsRun false next_tells next ends found K from old new)
-    → GoesOn (level_first cold first_tells script first last since was.first base was.queue) since base J t last ends
-    found old new
+    → GoesOn (level_first cold first_tells script first last since was.first base was.queue)
+    (order_first cold first_tells script first last since was.first base was.queue) since base J t last ends found old
+    new

@@ -17,9 +17,10 @@ pub fn law_of_crashes()
 /// entries that were kept at the moment, or with the one after these and those that were in flight. Of a text with a
 /// group on a volume that either run lost, only the number of lines is said.
 ///
-/// It begins: what the copies hold and the sizes of devices don't hinder it, where levels and orders are left and the
-/// devices are large enough. Else a lack of memory may, or its words or script, or that both copies are lost: the crash
-/// left none, or an act failed in the new run on one that it left.
+/// It begins: what the copies hold and the sizes of devices don't hinder it, where the devices are large enough, and
+/// levels and orders are left. These are left by a run that began with a level and a next order below 2^61, as a cold
+/// one does. Else a lack of memory may hinder it, or its words or script, or that both copies are lost: the crash left
+/// none, or an act failed in the new run on one that it left.
 pub fn law_of_next_runs<P: Plant, N: Plant>(left: &P, next: &N)
     ensures { FindsWhatIsLeft P.tells N.tells }
 {

@@ -1,4 +1,6 @@
-use Rattle.std.proofs.Common.{◌∙◌}
+use Rattle.std.proofs.Common.{◌≡◌, ◌∙◌}
+use Rattle.mas_complex.specs.declared.places.Place.{Place}
+use Rattle.mas_complex.specs.declared.places.Place.TheVariants.{Before, Opened}
 use Rattle.mas_complex.proofs.Apart.{bytes_else, on_one, on_then}
 use Rattle.mas_complex.specs.Parts.{parts_of}
 use Rattle.mas_complex.proofs.Frames.{frame_then}
@@ -38,3 +40,9 @@ returns-clause-others g c told d ne =
 
 pub put_on-requires-clause-changed : goal.put_on-requires-clause-changed
 put_on-requires-clause-changed g c alive = are_pages_of c.args.found.now _ _ c.requires.as_many c.requires.some c.list_found-count.ensures.listed
+
+-- the other copy has them already
+pub put_on-requires-clause-orders : goal.put_on-requires-clause-orders
+put_on-requires-clause-orders g c told is before was reads = absurd (clash _ (before c.requires.beside) (c.requires.same told c.requires.beside).0) where
+  clash : (p : Place) → p ≡ Before → p ≡ Opened → ⊥
+  clash p a b = cc

@@ -1,11 +1,10 @@
-use Rattle.std.proofs.Common.{refl, sym, subst, ◌≡◌, ap, true, ◌++◌, Result, Ok, Err, IfOk, OnErr}
+use Rattle.std.proofs.Common.{refl, sym, subst, ◌≡◌, ap, ◌++◌, Result, Ok, Err, IfOk}
 use Rattle.std.proofs.Math.Logic.{∥∥₁_map, ∥∥₁_elim, ∥∥₁_map₂}
 use Rattle.std.specs.Coded.{Coded-set, coded_ℕ}
 use Rattle.ckpt_copy.specs.Changes.{NoMore}
 use Rattle.ckpt_copy.specs.Pages.{bytes_of}
 use Rattle.spool_disk.specs.View.{disk_now}
 use Rattle.duplex_pair.specs.Halves.{pick}
-use Rattle.duplex_pair.specs.Looks.{WasSeen}
 use Rattle.duplex_pair.specs.declared.errors.Look.{Look}
 use Rattle.duplex_pair.specs.declared.errors.Look.TheVariants.{Lost, Unread, Pages}
 use Rattle.duplex_pair.specs.declared.errors.LookNo.{LookNo}
@@ -14,7 +13,6 @@ use Rattle.mas_complex.specs.Journals.{kept_all, entries_in}
 use Rattle.mas_complex.specs.Meaning.{run}
 use Rattle.mas_complex.specs.Crash.{Setting, setting}
 use Rattle.mas_complex.specs.Seen.{HasNext, IsPlaceSeen}
-use Rattle.mas_complex.proofs.Sides.{no}
 use Rattle.mas_complex.proofs.OnDevice.{at_copy, at_other, on_copy, sunk_acted, fit_after, fit_was, seen_fits}
 use Rattle.mas_complex.proofs.Frames.{frame_copy}
 use Rattle.mas_complex.proofs.Looking.{look_side, look_next, look_stands, some_entries}
@@ -39,7 +37,7 @@ invariant_of-self-clause-kept g c told =
     let after : IsPlaceSeen c.look-done.result s.level place' = subst (λ (x : Place). IsPlaceSeen c.look-done.result s.level x) (sym c.set_place.ensures.place) c.place_seen-place.ensures in
     ∥∥₁_map (s.kept told) (λ kk.
     on_copy (λ h. C.rests h.copy) (λ h. C.holds h.copy) (λ h. h.alive) S s.journal.batches s.current s.level dev c.requires.ckpt s.pair.first s.pair.second p.first p.second s.first s.second c.set_place.new.first c.set_place.new.second old new
-    e.other c.set_place.ensures.other (λ h pages d r. g.met.C.Copying.rests_reads h.copy pages d r) (λ h was next d r. g.met.C.Copying.holds_reads h.copy was next d r) kk kk.coming kk.comes kk.none
+    e.other c.set_place.ensures.other (λ h pages d r. g.met.C.Copying.rests_reads h.copy pages d r) (λ h was next d r. g.met.C.Copying.holds_reads h.copy was next d r) kk kk.coming kk.comes kk.none kk.comes_near
     (at_other (λ h. C.rests h.copy) (λ h. C.holds h.copy) (λ h. h.alive) S kk.was kk.coming dev c.requires.ckpt s.pair.first s.pair.second s.first s.second old kk.first_at kk.second_at)
     (look_side S kk.was kk.coming dev old new (C.rests h.copy) (C.holds h.copy) (pick dev s.first s.second) place' h.alive k.alive C.count C.room C.room_most C.ready C.rests C.holds h.copy k.copy
     (at_copy (λ h. C.rests h.copy) (λ h. C.holds h.copy) (λ h. h.alive) S kk.was kk.coming dev c.requires.ckpt s.pair.first s.pair.second s.first s.second old kk.first_at kk.second_at) e.acted.goes e.acted.alive (λ dead. ap g.P.Plant.view (e.idle dead)) (e.gone told) g.P.Plant.tells told (λ l. g.met.P.Plant.there c.look-done.new.plant told dev l) c.look-done.result (e.during told) e.seen s.level (kept_all s.journal.batches) (entries_in s.current) kk.stands kk.comes after

@@ -25,7 +25,7 @@ invariant_of-self-clause-kept g c told =
     let e = c.lose.ensures in
     ∥∥₁_map (s.kept told) (λ kk.
     on_copy (λ h. C.rests h.copy) (λ h. C.holds h.copy) (λ h. h.alive) S s.journal.batches s.current s.level dev c.requires.ckpt s.pair.first s.pair.second p.first p.second s.first s.second s.first s.second old new
-    e.other refl (λ h pages d r. g.met.C.Copying.rests_reads h.copy pages d r) (λ h was next d r. g.met.C.Copying.holds_reads h.copy was next d r) kk kk.coming kk.comes kk.none
+    e.other refl (λ h pages d r. g.met.C.Copying.rests_reads h.copy pages d r) (λ h was next d r. g.met.C.Copying.holds_reads h.copy was next d r) kk kk.coming kk.comes kk.none kk.comes_near
     (at_other (λ h. C.rests h.copy) (λ h. C.holds h.copy) (λ h. h.alive) S kk.was kk.coming dev c.requires.ckpt s.pair.first s.pair.second s.first s.second old kk.first_at kk.second_at)
     (lose_side S kk.was kk.coming dev old new (C.rests h.copy) (C.rests k.copy) (C.holds h.copy) (C.holds k.copy) (pick dev s.first s.second) (pick dev s.first s.second) h.alive k.alive (at_copy (λ h. C.rests h.copy) (λ h. C.holds h.copy) (λ h. h.alive) S kk.was kk.coming dev c.requires.ckpt s.pair.first s.pair.second s.first s.second old kk.first_at kk.second_at)
     (λ pages d r. g.met.C.Copying.rests_reads h.copy pages d r) (λ was next d r. g.met.C.Copying.holds_reads h.copy was next d r) (e.during told) e.alive (e.gone told refl e.alive)))

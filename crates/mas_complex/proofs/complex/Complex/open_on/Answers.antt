@@ -32,7 +32,7 @@ invariant_of-self-clause-kept g c told =
     let after : IsPlaceAfter c.open_copy-done.result Opened place' = subst (λ (x : Place). IsPlaceAfter c.open_copy-done.result Opened x) (sym c.set_place.ensures.place) c.place_after-place.ensures in
     ∥∥₁_map (s.kept told) (λ kk.
     on_copy (λ h. C.rests h.copy) (λ h. C.holds h.copy) (λ h. h.alive) S s.journal.batches s.current s.level dev c.requires.ckpt s.pair.first s.pair.second p.first p.second s.first s.second c.set_place.new.first c.set_place.new.second old new
-    e.other c.set_place.ensures.other (λ h pages d r. g.met.C.Copying.rests_reads h.copy pages d r) (λ h was next d r. g.met.C.Copying.holds_reads h.copy was next d r) kk kk.coming kk.comes kk.none
+    e.other c.set_place.ensures.other (λ h pages d r. g.met.C.Copying.rests_reads h.copy pages d r) (λ h was next d r. g.met.C.Copying.holds_reads h.copy was next d r) kk kk.coming kk.comes kk.none kk.comes_near
     (at_other (λ h. C.rests h.copy) (λ h. C.holds h.copy) (λ h. h.alive) S kk.was kk.coming dev c.requires.ckpt s.pair.first s.pair.second s.first s.second old kk.first_at kk.second_at)
     (open_side S kk.was kk.coming dev old new (C.rests h.copy) (C.rests k.copy) (C.holds h.copy) (C.holds k.copy) (pick dev s.first s.second) place' h.alive k.alive (at_copy (λ h. C.rests h.copy) (λ h. C.holds h.copy) (λ h. h.alive) S kk.was kk.coming dev c.requires.ckpt s.pair.first s.pair.second s.first s.second old kk.first_at kk.second_at)
     e.acted.goes e.acted.alive (λ dead. ap g.P.Plant.view (e.idle dead)) (e.gone told) g.P.Plant.tells told c.requires.place c.open_copy-done.result (e.during told) e.opened (λ both. one_dead (λ h. h.alive) dev c.requires.ckpt p.first p.second (e.both both)) after))

@@ -1,18 +1,20 @@
-use Rattle.std.proofs.Common.{◌+◌, ◌++◌, Some, subst, sym, ap}
+use Rattle.std.proofs.Common.{◌≡◌, ◌+◌, ◌++◌, true, Some, subst, sym, ap}
 use Rattle.std.proofs.Math.Logic.{∥∥₁_map, ∥∥₁_elim, ∥∥₁_prop, ∥∥₁_map₂}
 use Rattle.std.specs.Coded.{Coded-set, coded_list, coded_ℕ}
 use Rattle.mas_types.specs.declared.ids.Dev.TheVariants.{Ckpt1, Ckpt2}
-use Rattle.spool_disk.specs.View.{Disk, disk_now}
+use Rattle.spool_disk.specs.View.{disk_now}
 use Rattle.ckpt_copy.specs.Pages.{bytes_of, level}
 use Rattle.ckpt_copy.specs.Reading.{AllRead}
 use Rattle.duplex_pair.specs.Both.{Touched}
 use Rattle.duplex_pair.specs.Halves.{pick, other}
 use Rattle.mas_complex.specs.declared.places.Place.{Place}
-use Rattle.mas_complex.specs.declared.places.Place.TheVariants.{Put}
+use Rattle.mas_complex.specs.declared.places.Place.TheVariants.{Before, Put}
 use Rattle.mas_complex.specs.Journals.{kept_all, entries_in}
-use Rattle.mas_complex.specs.Crash.{Setting, Stands, setting}
+use Rattle.mas_complex.specs.Crash.{Setting, Stands, IsNear, setting}
 use Rattle.mas_complex.specs.Places.{IsPlaceAfter}
-use Rattle.mas_complex.proofs.Sides.{put_side, other_coming, some_coming, is_higher, rests_before}
+use Rattle.ckpt_pages.proofs.SlotLists.{test_cases}
+use Rattle.mas_complex.proofs.Rising.{comes_near}
+use Rattle.mas_complex.proofs.Sides.{put_side, idles, other_coming, other_holds, some_coming, is_higher, one_level_more, rests_before, no}
 use Rattle.mas_complex.proofs.OnDevice.{at_copy, at_other, on_copy, sunk_acted, fit_after, one_dead}
 use Rattle.mas_complex.proofs.Frames.{frame_copy}
 use Rattle.mas_complex.proofs.Shows.{on_ok, put_shows}
@@ -42,12 +44,28 @@ invariant_of-self-clause-kept g c told =
     let stands : Stands S (s.level + 1) (K ++ F) pages = record { at_level = c.requires.level told; queue = q } in
     let there = at_copy (λ h. C.rests h.copy) (λ h. C.holds h.copy) (λ h. h.alive) S kk.was kk.coming dev c.requires.ckpt s.pair.first s.pair.second s.first s.second old kk.first_at kk.second_at in
     let beside = at_other (λ h. C.rests h.copy) (λ h. C.holds h.copy) (λ h. h.alive) S kk.was kk.coming dev c.requires.ckpt s.pair.first s.pair.second s.first s.second old kk.first_at kk.second_at in
+    let reads : h.alive ≡ true → C.reads (disk_now old dev).bytes ≡ Some kk.was
+    = λ is. g.met.C.Copying.rests_now h.copy kk.was (disk_now old dev) (rests_before S (C.rests h.copy) (C.holds h.copy) kk.was kk.coming (pick dev s.first s.second) h.alive old.now (disk_now old dev) there c.requires.place is) in
+    let raised : h.alive ≡ true → (o.alive ≡ true → other dev s.first s.second ≡ Before) → IsNear kk.first_level kk.first_order pages
+    = λ is before. comes_near kk.first_level kk.first_order kk.was pages kk.near (c.requires.orders told is before kk.was (reads is)) (one_level_more (level kk.was) (level pages) s.level kk.stands.at_level (c.requires.level told)) in
+    let near : h.alive ≡ true → IsNear kk.first_level kk.first_order pages
+    = λ is. test_cases o.alive (IsNear kk.first_level kk.first_order pages)
+    (λ beside_is. other_holds S (C.rests o.copy) (C.holds o.copy) kk.was kk.coming pages (other dev s.first s.second) o.alive old.now (disk_now old (other dev Ckpt1 Ckpt2)) (C.behind o.copy) (λ was next d r. g.met.C.Copying.holds_behind o.copy was next d r) (λ was d r. g.met.C.Copying.rests_now o.copy was d r)
+    beside_is (c.requires.same told beside_is) beside (IsNear kk.first_level kk.first_order) kk.comes_near (λ before. raised is (λ _. before)))
+    (λ dead. raised is (λ beside_is. absurd (no o.alive beside_is dead))) in
+    test_cases h.alive _
+    (λ is.
     on_copy (λ h. C.rests h.copy) (λ h. C.holds h.copy) (λ h. h.alive) S s.journal.batches s.current s.level dev c.requires.ckpt s.pair.first s.pair.second p.first p.second s.first s.second c.set_place.new.first c.set_place.new.second old new
     e.other c.set_place.ensures.other (λ h pages d r. g.met.C.Copying.rests_reads h.copy pages d r) (λ h was next d r. g.met.C.Copying.holds_reads h.copy was next d r)
-    kk (Some pages) stands (some_coming F (Some pages) (c.requires.some told))
+    kk (Some pages) stands (some_coming F (Some pages) (c.requires.some told)) (near is)
     (other_coming S (C.rests o.copy) (C.holds o.copy) kk.was kk.coming pages (other dev s.first s.second) o.alive old.now (disk_now old (other dev Ckpt1 Ckpt2)) (C.behind o.copy) (λ was next d r. g.met.C.Copying.holds_behind o.copy was next d r) (λ was d r. g.met.C.Copying.rests_now o.copy was d r) (c.requires.same told) beside)
     (put_side S kk.was kk.coming dev old new (C.rests h.copy) (C.rests k.copy) (C.holds h.copy) (C.holds k.copy) (pick dev s.first s.second) place' h.alive k.alive there e.acted.goes e.acted.alive (λ dead. ap g.P.Plant.view (e.idle dead)) (e.gone told) g.P.Plant.tells told c.requires.place c.put-done.result pages
-    (is_higher (level kk.was) (level pages) s.level kk.stands.at_level (c.requires.level told)) (e.during told) (C.count h.copy) c.args.changed.now (λ is was r. c.requires.covered told is was (g.met.C.Copying.rests_now h.copy was (disk_now old dev) r)) e.held (λ both. one_dead (λ h. h.alive) dev c.requires.ckpt p.first p.second (e.both both)) after)))
+    (is_higher (level kk.was) (level pages) s.level kk.stands.at_level (c.requires.level told)) (e.during told) (C.count h.copy) c.args.changed.now (λ is was r. c.requires.covered told is was (g.met.C.Copying.rests_now h.copy was (disk_now old dev) r)) e.held (λ both. one_dead (λ h. h.alive) dev c.requires.ckpt p.first p.second (e.both both)) after))
+    (λ dead.
+    on_copy (λ h. C.rests h.copy) (λ h. C.holds h.copy) (λ h. h.alive) S s.journal.batches s.current s.level dev c.requires.ckpt s.pair.first s.pair.second p.first p.second s.first s.second c.set_place.new.first c.set_place.new.second old new
+    e.other c.set_place.ensures.other (λ h pages d r. g.met.C.Copying.rests_reads h.copy pages d r) (λ h was next d r. g.met.C.Copying.holds_reads h.copy was next d r)
+    kk kk.coming kk.comes kk.none kk.comes_near beside
+    (idles S kk.was kk.coming kk.coming dev old new (C.rests h.copy) (C.rests k.copy) (C.holds h.copy) (C.holds k.copy) (pick dev s.first s.second) place' h.alive k.alive there e.acted.goes e.acted.alive (λ dead. ap g.P.Plant.view (e.idle dead)) (e.gone told) dead))))
 
 pub invariant_of-self-clause-first_lost : goal.invariant_of-self-clause-first_lost
 invariant_of-self-clause-first_lost g c dead =

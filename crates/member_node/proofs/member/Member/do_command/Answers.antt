@@ -44,7 +44,7 @@ returns-in-Ok-clause-done c Q done =
     let n = record k.checkpoint { tables = c.give.new.tables } in
     let e : Entry = record { by = k.id; step = c.args.step; command = c.args.command; reply = c.in-Ok.reply } in
     subst (λ (es : List Entry). HasDone Q es n) (sym (given_entry k.batch c.push.new.self c.put_entry.new.batch c.place.result e c.len-at.result c.in_ok-push.ensures.ok c.len-at.ensures c.put_entry.ensures))
-    (more_done Q k.batch k.checkpoint n e done refl refl refl c.give.ensures.config c.give.ensures.spelling c.give.ensures.fit (c.give.ensures.orders done.orders)
+    (more_done Q k.batch k.checkpoint n e done refl refl refl c.give.ensures.config c.give.ensures.spelling c.give.ensures.fit (c.give.ensures.orders done.orders) c.give.ensures.order
     (given_reply k.checkpoint.tables c.give.new.tables k.id c.args.command c.in-Ok.reply c.in-Ok.ensures.plays (run Q k.batch) done.queue)
     (given_tells k.checkpoint.tables c.give.new.tables k.id c.args.command c.in-Ok.reply c.in-Ok.ensures.plays (run Q k.batch) done.queue))
 

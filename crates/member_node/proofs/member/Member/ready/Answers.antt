@@ -1,3 +1,4 @@
+use Rattle.std.proofs.Common.{◌≤◌, ◌^◌, length, rules}
 use Rattle.std.proofs.Math.Logic.{∥∥₁_map}
 use Rattle.mas_types.specs.declared.ids.Dev.TheVariants.{Ckpt1, Ckpt2}
 use Rattle.spool_disk.specs.View.{disk_now}
@@ -6,7 +7,7 @@ use Rattle.mas_complex.specs.Meaning.{run}
 use Rattle.ckpt_pages.specs.Pages.{Spell}
 use Rattle.ckpt_pages.proofs.DecodingLemmas.{one_queue, one_value}
 use Rattle.queue_tables.proofs.ToldLemmas.{pages_alike}
-use Rattle.member_node.proofs.ReadyLemmas.{ready_copy, ready_count, ready_draft, ready_level}
+use Rattle.member_node.proofs.ReadyLemmas.{ready_copy, ready_count, ready_draft, ready_level, ready_raises}
 use Rattle.member_node.proofs.member.Member.ready.Goals as goal
 
 pub returns-clause-level : goal.returns-clause-level
@@ -31,6 +32,9 @@ returns-clause-draft1 g c =
     let C = g.C.Copying in
     ready_copy c.in_ok-draft.draft (Spell k.tables k.levels k.pages) g.P.Plant.tells x.pair.first.alive x.first (C.count x.pair.first.copy) (C.room x.pair.first.copy) k.level n.level k.pages n.pages (C.reads (disk_now (g.P.Plant.view x.plant) Ckpt1).bytes)
     c.requires.rests1 c.requires.room1 (ready_count k n c.requires.draws e.tables e.drawn) e.same e.draft
+    (λ told. ready_raises (run x.base (kept_all x.journal.batches)) c.args.self.now.batch k n (c.requires.done told) few e.tables e.drawn) where
+      few : length c.args.self.now.batch ≤ 2 ^ 14
+      few = search (rules, c.in_ok-reserve.ensures.few)
 
 pub returns-clause-draft2 : goal.returns-clause-draft2
 returns-clause-draft2 g c =
@@ -41,6 +45,9 @@ returns-clause-draft2 g c =
     let C = g.C.Copying in
     ready_copy c.in_ok-draft.draft (Spell k.tables k.levels k.pages) g.P.Plant.tells x.pair.second.alive x.second (C.count x.pair.second.copy) (C.room x.pair.second.copy) k.level n.level k.pages n.pages (C.reads (disk_now (g.P.Plant.view x.plant) Ckpt2).bytes)
     c.requires.rests2 c.requires.room2 (ready_count k n c.requires.draws e.tables e.drawn) e.same e.draft
+    (λ told. ready_raises (run x.base (kept_all x.journal.batches)) c.args.self.now.batch k n (c.requires.done told) few e.tables e.drawn) where
+      few : length c.args.self.now.batch ≤ 2 ^ 14
+      few = search (rules, c.in_ok-reserve.ensures.few)
 
 pub returns-clause-grown : goal.returns-clause-grown
 returns-clause-grown g c placed = let grown = c.in_ok-reserve.ensures.grown placed in (grown.0, grown.1)
