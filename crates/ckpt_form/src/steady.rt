@@ -1,5 +1,6 @@
 // Copies that a shared value may have.
 ghost use Rattle.std.specs.Prelude.{◌≡◌, ◌≤◌, ℕ, Bool, true};
+ghost use Rattle.mas_types.specs.declared.ids.Dev.{Dev};
 ghost use Rattle.spool_disk.specs.View.{View};
 ghost use Rattle.spool_disk.specs.Acts.{Goes};
 ghost use Rattle.ckpt_form.specs.Fits.{is_fit, fit_kept, kept_fit, fit_stays, some_room};
@@ -21,6 +22,10 @@ pub trait Steady: Copying {
     /// Any acts leave it as it is.
     ghost stays_fit: { (copy : Self) (old new : View) → Goes old new → fits copy old ≡ true → fits copy new ≡ true };
 
+    /// It rests on the sizes of the devices alone: a stop that is armed, which is no act, leaves it too.
+    ghost sizes_fit: { (copy : Self) (old new : View) → ((d : Dev) → new.size d ≡ old.size d) → fits copy old ≡ true
+        → fits copy new ≡ true };
+
     /// One that was settled has room for a put.
     ghost has_room: { 1 ≤ Self.room_most };
 }
@@ -34,6 +39,9 @@ impl Steady for CopyForm {
 
     ghost stays_fit = { λ c old new goes fit.
         fit_stays c.pages (old.size c.dev) (new.size c.dev) c.gates c.places c.next_places (goes.size c.dev) fit };
+
+    ghost sizes_fit = { λ c old new same fit.
+        fit_stays c.pages (old.size c.dev) (new.size c.dev) c.gates c.places c.next_places (same c.dev) fit };
 
     ghost has_room = { some_room };
 }

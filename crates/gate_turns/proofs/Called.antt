@@ -116,7 +116,7 @@ module _ (x c : Shown) (by : MemberId) (stopped told : Bool) (cares : List Bool)
   groups_same false s apart same = tt
   groups_same true s apart same = same_groups (groups_of true y s) (groups_of true x s)
       (same_groups_on (disk_now x.view) (disk_now c.view) x.base.config.groups s (run x.base (kept_all x.batches)).owners (run x.base (kept_all c.batches)).owners
-      (λ n. (apart refl).volumes (Spool n) (λ e. absurd (cc)) (λ e. absurd (cc))) (same refl))
+      (λ n. (apart refl).volumes c.view.now call.counts.goes.later (omega arith) (Spool n) (λ e. absurd (cc)) (λ e. absurd (cc))) (same refl))
 
   later : Later [] (marks_of y) (marks_of x)
   later = record {

@@ -13,6 +13,7 @@ use Rattle.ckpt_copy.specs.Meanwhile.{Meanwhile}
 use Rattle.duplex_pair.specs.Halves.{IsCkpt}
 use Rattle.duplex_pair.specs.Both.{BothMeanwhile}
 use Rattle.mas_complex.specs.Elsewhere.{Elsewhere, OnCopies}
+use Rattle.mas_complex.specs.Kept.{OnlyOnCopies}
 use Rattle.mas_complex.specs.Paper.{SamePapers}
 use Rattle.mas_complex.proofs.Papers.{same_papers}
 
@@ -67,19 +68,45 @@ bytes_else dev old new goes e d ne = ap (λ (x : Disk). x.bytes) (e.others new.n
 
 -- CALLS ONE AFTER ANOTHER
 
-pub on_none : (v : View) → OnCopies v v
-on_none v = record { volumes = λ d one two. refl; console = refl }
+volumes_none : (v : View) → OnlyOnCopies v v
+volumes_none v t from le d one two = let e : t ≡ v.now = omega (arith, from, le) in ap (λ (k : ℕ). disk_at v k d) e
 
-pub on_then : (old mid new : View) → OnCopies old mid → OnCopies mid new → OnCopies old new
-on_then old mid new x y = record { volumes = λ d one two. y.volumes d one two ∙ x.volumes d one two; console = y.console ∙ x.console }
+volumes_then : (old mid new : View) → Goes old mid → Goes mid new → OnlyOnCopies old mid → OnlyOnCopies mid new → OnlyOnCopies old new
+volumes_then old mid new first then x y t from le d one two = ⊎_elim
+    (λ (h : t ≤ mid.now). ap (λ (w : World). w.disk d) (then.past t h) ∙ x t from h d one two)
+    (λ (h : mid.now < t). y t (omega (arith, h)) le d one two ∙ x mid.now first.later (omega arith) d one two)
+    (either_way t mid.now)
+
+papers_none : (v : View) → SamePapers v v
+papers_none v t from le m = let e : t ≡ v.now = omega (arith, from, le) in ap (λ (k : ℕ). (v.world k).paper m) e
+
+papers_then : (old mid new : View) → Goes old mid → Goes mid new → SamePapers old mid → SamePapers mid new → SamePapers old new
+papers_then old mid new first then x y t from le m = ⊎_elim
+    (λ (h : t ≤ mid.now). ap (λ (w : World). w.paper m) (then.past t h) ∙ x t from h m)
+    (λ (h : mid.now < t). y t (omega (arith, h)) le m ∙ x mid.now first.later (omega arith) m)
+    (either_way t mid.now)
+
+pub on_none : (v : View) → OnCopies v v
+on_none v = record { volumes = volumes_none v; console = refl; papers = papers_none v }
+
+pub on_then : (old mid new : View) → Goes old mid → Goes mid new → OnCopies old mid → OnCopies mid new → OnCopies old new
+on_then old mid new first then x y = record {
+  volumes = volumes_then old mid new first then x.volumes y.volumes;
+  console = y.console ∙ x.console;
+  papers = papers_then old mid new first then x.papers y.papers;
+}
 
 pub on_one : (dev : Dev) → IsCkpt dev → (old new : View) → Goes old new → Elsewhere dev old new → OnCopies old new
-on_one Ckpt1 ckpt old new goes e = record { volumes = λ d one two. e.others new.now goes.later (omega arith) d one; console = e.console new.now goes.later (omega arith) }
-on_one Ckpt2 ckpt old new goes e = record { volumes = λ d one two. e.others new.now goes.later (omega arith) d two; console = e.console new.now goes.later (omega arith) }
+on_one Ckpt1 ckpt old new goes e = record { volumes = λ t from le d one two. e.others t from le d one; console = e.console new.now goes.later (omega arith); papers = e.papers }
+on_one Ckpt2 ckpt old new goes e = record { volumes = λ t from le d one two. e.others t from le d two; console = e.console new.now goes.later (omega arith); papers = e.papers }
 on_one (Spool n) ckpt old new goes e = absurd ckpt
 
 pub on_both : (P Q : Disk → Type 0) (old new : View) → BothMeanwhile P Q old new → OnCopies old new
-on_both P Q old new m = record { volumes = m.others new.now m.goes.later (omega arith); console = m.console new.now m.goes.later (omega arith) }
+on_both P Q old new m = record {
+  volumes = m.others;
+  console = m.console new.now m.goes.later (omega arith);
+  papers = λ t from le. (m.sides t from le).paper;
+}
 
 -- printers through a call on both copies
 pub papers_both : (P Q : Disk → Type 0) (old new : View) → BothMeanwhile P Q old new → SamePapers old new
@@ -91,6 +118,7 @@ papers_is old new some t from le m = ∥∥₁_elim some (Coded-set (coded_list 
 -- what calls on the copies leave as it was needs no choice, since it is equations
 pub on_is : (old new : View) → ∥ OnCopies old new ∥₁ → OnCopies old new
 on_is old new some = record {
-  volumes = λ d one two. ∥∥₁_elim some (Coded-set coded_disk _ _) (λ e. e.volumes d one two);
+  volumes = λ t from le d one two. ∥∥₁_elim some (Coded-set coded_disk _ _) (λ e. e.volumes t from le d one two);
   console = ∥∥₁_elim some (Coded-set (coded_list coded_line) _ _) (λ e. e.console);
+  papers = λ t from le m. ∥∥₁_elim some (Coded-set (coded_list coded_line) _ _) (λ e. e.papers t from le m);
 }

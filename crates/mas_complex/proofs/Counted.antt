@@ -4,7 +4,7 @@ use Rattle.mas_types.specs.declared.ids.Dev.{Dev}
 use Rattle.mas_types.specs.declared.ids.Dev.TheVariants.{Ckpt1, Ckpt2, Spool}
 use Rattle.spool_disk.specs.declared.plant.Part.TheVariants.{Disk as DiskPart}
 use Rattle.spool_disk.specs.View.{View}
-use Rattle.spool_disk.specs.Acts.{Loses, next, top}
+use Rattle.spool_disk.specs.Acts.{Goes, Loses, next, top}
 use Rattle.ckpt_copy.specs.Moments.{either_way, goes_on, goes_none}
 use Rattle.duplex_pair.specs.declared.errors.LookNo.{LookNo}
 use Rattle.duplex_pair.specs.declared.errors.LookNo.TheVariants.{Halted as LookHalted, NoMemory as LookNoMemory}
@@ -16,7 +16,8 @@ use Rattle.duplex_pair.specs.Outcomes.{look_stopped, pair_stopped}
 use Rattle.std.specs.Prelude.{IsErrOf}
 use Rattle.mas_complex.specs.declared.recover.RecoverNo.{RecoverNo}
 use Rattle.mas_complex.specs.declared.recover.RecoverNo.TheVariants.{BothLost as RecoverBothLost, Halted as RecoverHalted}
-use Rattle.mas_complex.specs.CallCounts.{IsLostOnce, KeepsCounts}
+use Rattle.mas_complex.specs.CallCounts.{IsLostOnce, IsLostSo, KeepsCounts}
+use Rattle.mas_complex.proofs.Leaving.{rose_later, rose_earlier}
 use Rattle.mas_complex.specs.Recovers.{recover_no, recover_no_seen, recover_stopped}
 
 not_both : (b : Bool) → b ≡ true → b ≡ false → ⊥
@@ -44,6 +45,26 @@ once_then a b c k l m f g (inr x) (inl y) = inr (x.0, gone c g x.1, y ∙ x.2) w
   gone true h dead = absurd (not_both b (h refl) dead)
 once_then a b c k l m f g (inr x) (inr y) = absurd (not_both b y.0 x.1)
 
+rises_once : (was is : Bool) (k l : ℕ) → IsLostOnce was is k l → k ≤ l
+rises_once was is k l (inl same) = omega (arith, same)
+rises_once was is k l (inr more) = omega (arith, more.2)
+
+never_gone : (dev : Dev) (was is : Bool) (old new : View) → is ≡ was → IsLostSo dev was is old new
+never_gone dev was is old new same alive dead = absurd (not_both was alive (sym same ∙ dead))
+
+gone_then : (dev : Dev) (a b c : Bool) (old mid new : View) → Goes old mid → Goes mid new → IsLostOnce a b (old.loses dev) (mid.loses dev) → IsLostOnce b c (mid.loses dev) (new.loses dev)
+    → IsLostSo dev a b old mid → IsLostSo dev b c mid new → IsLostSo dev a c old new
+gone_then dev a true c old mid new early late fewer more first then was is = ⊎_elim
+    (λ fault. inl (rose_earlier (old.faults (DiskPart dev)) (mid.faults (DiskPart dev)) (new.faults (DiskPart dev)) (early.faults (DiskPart dev)) fault))
+    (λ call. inr (rose_earlier (old.loses dev) (mid.loses dev) (new.loses dev) (rises_once a true (old.loses dev) (mid.loses dev) fewer) call)) (then refl is)
+gone_then dev a false c old mid new early late fewer more first then was is = ⊎_elim
+    (λ fault. inl (rose_later (old.faults (DiskPart dev)) (mid.faults (DiskPart dev)) (new.faults (DiskPart dev)) fault (late.faults (DiskPart dev))))
+    (λ call. inr (rose_later (old.loses dev) (mid.loses dev) (new.loses dev) call (rises_once false c (mid.loses dev) (new.loses dev) more))) (first was refl)
+
+-- its count rose where a call lost the copy
+gone_by : (dev : Dev) (was is : Bool) (old new : View) → new.loses dev ≡ next (old.loses dev) → IsLostSo dev was is old new
+gone_by dev was is old new counted alive dead = inr (omega (arith, counted))
+
 pub counts_none : (by : ℕ) (a b : Bool) (v : View) → KeepsCounts by a a b b false v v
 counts_none by a b v = record {
   goes = goes_none v;
@@ -53,6 +74,8 @@ counts_none by a b v = record {
   arms = λ m. refl;
   once1 = inl refl;
   once2 = inl refl;
+  gone1 = never_gone Ckpt1 a a v v refl;
+  gone2 = never_gone Ckpt2 b b v v refl;
   else_loses = λ d one two. refl;
 }
 
@@ -65,6 +88,8 @@ counts_then by a a1 a2 b b1 b2 stopped old mid new x y = record {
   arms = λ m. y.arms m ∙ x.arms m;
   once1 = once_then a a1 a2 (old.loses Ckpt1) (mid.loses Ckpt1) (new.loses Ckpt1) x.alive1 y.alive1 x.once1 y.once1;
   once2 = once_then b b1 b2 (old.loses Ckpt2) (mid.loses Ckpt2) (new.loses Ckpt2) x.alive2 y.alive2 x.once2 y.once2;
+  gone1 = gone_then Ckpt1 a a1 a2 old mid new x.goes y.goes x.once1 y.once1 x.gone1 y.gone1;
+  gone2 = gone_then Ckpt2 b b1 b2 old mid new x.goes y.goes x.once2 y.once2 x.gone2 y.gone2;
   else_loses = λ d one two. y.else_loses d one two ∙ x.else_loses d one two;
 }
 
@@ -78,6 +103,8 @@ counts_first by a a' b b' stopped old new same acted = record {
   arms = acted.arms;
   once1 = inl (acted.loses Ckpt1);
   once2 = inl (acted.loses Ckpt2);
+  gone1 = λ was is. inl (acted.failed was is);
+  gone2 = never_gone Ckpt2 b b' old new same;
   else_loses = λ d one two. acted.loses d;
 }
 
@@ -90,6 +117,8 @@ counts_second by a a' b b' stopped old new same acted = record {
   arms = acted.arms;
   once1 = inl (acted.loses Ckpt1);
   once2 = inl (acted.loses Ckpt2);
+  gone1 = never_gone Ckpt1 a a' old new same;
+  gone2 = λ was is. inl (acted.failed was is);
   else_loses = λ d one two. acted.loses d;
 }
 
@@ -109,6 +138,8 @@ counts_both by a a' b b' stopped old new acted = record {
   arms = acted.arms;
   once1 = inl (acted.loses Ckpt1);
   once2 = inl (acted.loses Ckpt2);
+  gone1 = λ was is. inl (acted.failed1 was is);
+  gone2 = λ was is. inl (acted.failed2 was is);
   else_loses = λ d one two. acted.loses d;
 }
 
@@ -124,6 +155,8 @@ module _ {H : Type 0} (alive : H → Bool) (one two one' two' : H) (by : ℕ) (o
     arms = loses.arms;
     once1 = more (alive one) (alive one') (old.loses Ckpt1) (new.loses Ckpt1) was dead (loses.counted Ckpt1 refl) (loses.small Ckpt1 refl);
     once2 = inl (loses.else_counted Ckpt2 (λ e. dev21 (disk_dev Ckpt2 Ckpt1 e)));
+    gone1 = gone_by Ckpt1 (alive one) (alive one') old new (loses.counted Ckpt1 refl);
+    gone2 = never_gone Ckpt2 (alive two) (alive two') old new (ap alive same);
     else_loses = λ d first second. loses.else_counted d (λ e. first (disk_dev d Ckpt1 e));
   }
   counts_lost Ckpt2 ckpt was dead same loses = record {
@@ -134,6 +167,8 @@ module _ {H : Type 0} (alive : H → Bool) (one two one' two' : H) (by : ℕ) (o
     arms = loses.arms;
     once1 = inl (loses.else_counted Ckpt1 (λ e. dev12 (disk_dev Ckpt1 Ckpt2 e)));
     once2 = more (alive two) (alive two') (old.loses Ckpt2) (new.loses Ckpt2) was dead (loses.counted Ckpt2 refl) (loses.small Ckpt2 refl);
+    gone1 = never_gone Ckpt1 (alive one) (alive one') old new (ap alive same);
+    gone2 = gone_by Ckpt2 (alive two) (alive two') old new (loses.counted Ckpt2 refl);
     else_loses = λ d first second. loses.else_counted d (λ e. second (disk_dev d Ckpt2 e));
   }
   counts_lost (Spool n) ckpt was dead same loses = absurd ckpt
@@ -159,4 +194,11 @@ pub not_brought : {T U : Type 0} (r : Result T RecoverNo) (answer : RecoverNo) (
 not_brought r answer PairBothLost is same not lost = not refl
 not_brought {T = T} r answer PairHalted is same not lost = apart r (is ∙ ap Err same) lost where
   apart : (x : Result T RecoverNo) → x ≡ Err RecoverHalted → x ≡ Err RecoverBothLost → ⊥
+  apart x a b = cc
+
+-- and one that answers Halted was stopped
+pub was_halted : {T U : Type 0} (r : Result T RecoverNo) (answer : RecoverNo) (why : PairNo) → r ≡ Err answer → answer ≡ recover_no why → IsErrOf r RecoverHalted → IsErrOf {T = U} (Err why) PairHalted
+was_halted r answer PairHalted is same halted = refl
+was_halted {T = T} r answer PairBothLost is same halted = absurd (apart r (is ∙ ap Err same) halted) where
+  apart : (x : Result T RecoverNo) → x ≡ Err RecoverBothLost → x ≡ Err RecoverHalted → ⊥
   apart x a b = cc

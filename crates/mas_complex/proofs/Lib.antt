@@ -1,3 +1,4 @@
+pub mod Armed
 pub mod Allowed
 pub mod Batches
 pub mod Lines
@@ -16,6 +17,7 @@ pub mod Calm
 pub mod Shows
 pub mod Apart
 pub mod Looking
+pub mod Usable
 pub mod Fitted
 pub mod Numbered
 pub mod Choosing

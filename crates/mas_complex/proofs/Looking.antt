@@ -113,8 +113,8 @@ some_entries [] some = absurd (∥∥₁_elim some (λ a b. absurd a) (λ (h : 1
   none h = omega arith
 some_entries (e ∷ es) some = omega arith
 
--- a copy that counts as alive reads something
-pub reads_some : (S : Setting) (rests : List ℕ → Disk → Type 0) (holds : List ℕ → List ℕ → Disk → Type 0) (was : List ℕ) (coming : Option (List ℕ)) (place : Place) (alive : Bool) (now : ℕ) (d : Disk) → OneCopy S rests holds was coming place alive now d → alive ≡ true
-    → ((pages : List ℕ) (d : Disk) → rests pages d → AllRead S.reads pages d) → ((was next : List ℕ) (d : Disk) → holds was next d → AllRead S.reads was d) → d.lost ≡ false → S.reads d.bytes ≡ None → ⊥
-reads_some S rests holds was coming place alive now d copy is rests_reads holds_reads there none =
-    subst (λ (q : Option (List ℕ)). IsOneOf was coming q) none (side_reads S was rests holds rests_reads holds_reads coming place d (copy.at is) d.bytes (own_image d there))
+-- what a copy reads that counts as alive are the kept pages or those in flight
+pub reads_in : (S : Setting) (rests : List ℕ → Disk → Type 0) (holds : List ℕ → List ℕ → Disk → Type 0) (was : List ℕ) (coming : Option (List ℕ)) (place : Place) (alive : Bool) (now : ℕ) (d : Disk) → OneCopy S rests holds was coming place alive now d → alive ≡ true
+    → ((pages : List ℕ) (d : Disk) → rests pages d → AllRead S.reads pages d) → ((was next : List ℕ) (d : Disk) → holds was next d → AllRead S.reads was d) → d.lost ≡ false → IsOneOf was coming (S.reads d.bytes)
+reads_in S rests holds was coming place alive now d copy is rests_reads holds_reads there =
+    side_reads S was rests holds rests_reads holds_reads coming place d (copy.at is) d.bytes (own_image d there)

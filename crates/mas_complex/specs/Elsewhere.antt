@@ -1,8 +1,8 @@
 -- What calls on the copies leave as it was.
 use Rattle.std.specs.Prelude.{◌≡◌, ◌≢◌}
 use Rattle.mas_types.specs.declared.ids.Dev.{Dev}
-use Rattle.mas_types.specs.declared.ids.Dev.TheVariants.{Ckpt1, Ckpt2}
 use Rattle.spool_disk.specs.View.{View, disk_at, disk_now, Throughout}
+use Rattle.mas_complex.specs.Kept.{OnlyOnCopies}
 use Rattle.mas_complex.specs.Paper.{SamePapers}
 
 -- at each moment of the call every other device, the console and the printers are as before it
@@ -11,7 +11,8 @@ pub record Elsewhere (dev : Dev) (old new : View) : Type 0 where
   pub console : Throughout old.now new.now (λ t. (new.world t).console ≡ (old.world old.now).console)
   pub papers : SamePapers old new
 
--- after the call every volume and the console are as before it
+-- at each moment of the call every volume and the printers are as before it, and after it the console is
 pub record OnCopies (old new : View) : Type 0 where
-  pub volumes : (d : Dev) → d ≢ Ckpt1 → d ≢ Ckpt2 → disk_now new d ≡ disk_now old d
+  pub volumes : OnlyOnCopies old new
   pub console : (new.world new.now).console ≡ (old.world old.now).console
+  pub papers : SamePapers old new

@@ -1,5 +1,5 @@
 -- How far the batch in flight has come on a copy that was looked at.
-use Rattle.std.specs.Prelude.{◌≡◌, ◌≢◌, ◌⊎◌, ℕ, ◌+◌, ◌≤◌, ◌==◌, nat_lt, if◌then◌else◌, Bool, true, false, List, length, Option, Some, None, Result, Ok, Err}
+use Rattle.std.specs.Prelude.{◌≡◌, ◌≢◌, ◌⊎◌, ℕ, ◌+◌, ◌≤◌, ◌==◌, nat_lt, if◌then◌else◌, Bool, true, false, List, length, Option, Some, None, IsSome, Result, Ok, Err}
 use Rattle.mas_types.specs.declared.ids.Page.{Page}
 use Rattle.mas_types.specs.declared.journals.Batch.{Batch}
 use Rattle.mas_types.specs.declared.journals.Entry.{Entry}
@@ -16,6 +16,18 @@ use Rattle.mas_complex.specs.declared.places.Place.TheVariants.{Before, Opened, 
 use Rattle.mas_complex.specs.Journals.{with_last, fated}
 use Rattle.mas_complex.specs.Fits.{fits, can_stay, found_numbers}
 use Rattle.mas_complex.specs.Places.{IsAtLevel}
+
+-- pages that are as many as they should be; others count as none
+abbrev pub usable : ℕ → Look → Look
+usable count Lost = Lost
+usable count Unread = Unread
+usable count (Pages pages) = if length pages == count then Pages pages else Unread
+
+-- P holds of the pages that a look gave
+abbrev pub IfPages : Look → (List Page → Type 0) → Type 0
+IfPages Lost P = Unit {0}
+IfPages Unread P = Unit {0}
+IfPages (Pages pages) P = P pages
 
 -- pages of the level reached don't have the batch, others do; without pages it isn't known
 abbrev pub IsPlaceSeen : Result Look LookNo → ℕ → Place → Type 0
@@ -127,13 +139,15 @@ IsGreater (Some one) (Some two) found = found
     ≡ (if nat_lt (level (bytes_of one)) (level (bytes_of two)) then two else one)
 
 -- What a call found that looked at both copies: of the pages that they read as those of greater level, CKPT1's on a
--- tie. A copy that counted as lost gave none, and neither did one on which an act failed.
-pub record IsPicked (reads : List ℕ → Option (List ℕ)) (bytes1 bytes2 : List ℕ) (gone1 gone2 : Type 0)
-    (found : List Page) : Type 0 where
+-- tie. A copy gave pages only where it counted as alive, and then gave none only where an act on it failed.
+pub record IsPicked (reads : List ℕ → Option (List ℕ)) (alive1 alive2 : Bool) (bytes1 bytes2 : List ℕ)
+    (failed1 failed2 : Type 0) (found : List Page) : Type 0 where
   pub one : Option (List Page)
   pub two : Option (List Page)
+  pub some1 : IsSome one → alive1 ≡ true
+  pub some2 : IsSome two → alive2 ≡ true
   pub read1 : ReadsSeen reads bytes1 one
   pub read2 : ReadsSeen reads bytes2 two
-  pub none1 : one ≡ None → gone1
-  pub none2 : two ≡ None → gone2
+  pub none1 : one ≡ None → alive1 ≡ true → failed1
+  pub none2 : two ≡ None → alive2 ≡ true → failed2
   pub greater : IsGreater one two found

@@ -4,6 +4,7 @@
 //! leaves, what the console tells at it, and what stands on paper. `Complex::end` hands all of it out.
 #![tactic(auto)]
 
+mod arming;
 mod begin_end;
 mod complex;
 mod copies;

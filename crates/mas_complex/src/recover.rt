@@ -3,7 +3,9 @@ ghost use Rattle.std.specs.Prelude.{◌≡◌, ◌≢◌, ◌⊎◌, ◌+◌, �
 ghost use Rattle.mas_types.specs.declared.ids.Dev.{Dev};
 ghost use Rattle.mas_types.specs.declared.ids.Dev.TheVariants.{Ckpt1, Ckpt2};
 ghost use Rattle.mas_types.specs.declared.journals.Batch.{Batch};
+ghost use Rattle.mas_types.specs.Fit.{IsConfig};
 ghost use Rattle.mas_types.specs.Limits.{pages_most};
+ghost use Rattle.ckpt_pages.specs.Shape.{page_count};
 ghost use Rattle.spool_disk.specs.View.{View, disk_now};
 ghost use Rattle.spool_disk.specs.Acts.{Goes, Rose};
 ghost use Rattle.spool_disk.specs.declared.plant.Part.TheVariants.{Disk};
@@ -345,8 +347,9 @@ impl<P: Plant + Drop, C: Steady + Drop> Complex<P, C> {
     /// Finds out what became of a batch in flight, which is of another member than the one that holds the lock and
     /// isn't stopped: syncs and reads both copies, brings the one that lags up to the other, and hands back the pages
     /// that both then have. The batch is kept where the pages have it, and else it is dropped; one that is reserved and
-    /// hasn't begun is given up. The pages are those of greatest level, those of CKPT1 on a tie. A copy that can't be
-    /// read, or whose pages don't fit them, is lost.
+    /// hasn't begun is given up. The pages are those of greatest level, those of CKPT1 on a tie, and as many as the
+    /// configuration has. A copy that can't be read, that has another number of pages, or whose pages don't fit them,
+    /// is lost.
     ///
     /// A batch that was in flight has no place after that; without one the place of a batch to come stays.
     ///
@@ -355,6 +358,7 @@ impl<P: Plant + Drop, C: Steady + Drop> Complex<P, C> {
     pub fn recover(&mut self, alloc: Global, by: MemberId) -> Result<List<Page>, RecoverNo>
         requires may { MayAct self.old.book by }
         requires others { IsOfOther self.old.current by }
+        requires config { IsConfig self.old.base.config }
         ensures base { self.new.base ≡ self.old.base }
         ensures since { self.new.since ≡ self.old.since }
         ensures printed { self.new.printed ≡ self.old.printed }
@@ -388,13 +392,12 @@ impl<P: Plant + Drop, C: Steady + Drop> Complex<P, C> {
             → C.reads (disk_now (P.view self.new.plant) Ckpt2).bytes ≡ Some (bytes_of found)) }
         ensures stands { IfOk result (λ found. P.tells
             → ∥ StandFor (run self.new.base (kept_all self.new.journal.batches)) (bytes_of found) ∥₁) }
+        ensures many { IfOk result (λ found. length found ≡ page_count self.old.base.config) }
         ensures picked { IfOk result (λ found. P.tells
-            → IsPicked C.reads (disk_now (P.view self.old.plant) Ckpt1).bytes
-            (disk_now (P.view self.old.plant) Ckpt2).bytes
-            (self.old.pair.first.alive ≡ true
-            → Rose ((P.view self.old.plant).faults (Disk Ckpt1)) ((P.view self.new.plant).faults (Disk Ckpt1)))
-            (self.old.pair.second.alive ≡ true
-            → Rose ((P.view self.old.plant).faults (Disk Ckpt2)) ((P.view self.new.plant).faults (Disk Ckpt2))) found) }
+            → IsPicked C.reads self.old.pair.first.alive self.old.pair.second.alive
+            (disk_now (P.view self.old.plant) Ckpt1).bytes (disk_now (P.view self.old.plant) Ckpt2).bytes
+            (Rose ((P.view self.old.plant).faults (Disk Ckpt1)) ((P.view self.new.plant).faults (Disk Ckpt1)))
+            (Rose ((P.view self.old.plant).faults (Disk Ckpt2)) ((P.view self.new.plant).faults (Disk Ckpt2))) found) }
         ensures left1 { IfOk result (λ found. P.tells → self.old.pair.first.alive ≡ true
             → self.new.pair.first.alive ≡ false
             → Rose ((P.view self.old.plant).faults (Disk Ckpt1)) ((P.view self.new.plant).faults (Disk Ckpt1))

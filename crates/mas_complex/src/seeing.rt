@@ -1,6 +1,9 @@
 //! How far a batch in flight has come is seen on each copy.
-ghost use Rattle.std.specs.Prelude.{◌≡◌, ◌++◌, None, true, IfOk, IsErrOf};
+ghost use Rattle.std.specs.Prelude.{◌≡◌, ◌++◌, All, None, length, true, IfOk, IfSome, IsErrOf};
 ghost use Rattle.mas_types.specs.declared.ids.Dev.{Dev};
+ghost use Rattle.mas_types.specs.Fit.{IsConfig};
+ghost use Rattle.mas_types.specs.Limits.{page_bytes};
+ghost use Rattle.ckpt_pages.specs.Shape.{page_count as page_count_lem};
 ghost use Rattle.spool_disk.specs.View.{View, disk_now};
 ghost use Rattle.duplex_pair.specs.Halves.{Acted, IsCkpt, other, pick};
 ghost use Rattle.duplex_pair.specs.Looks.{WasSeen};
@@ -13,15 +16,36 @@ ghost use Rattle.mas_complex.specs.Parts.{parts_of, with_copy};
 ghost use Rattle.spool_disk.specs.Acts.{Goes, Rose};
 ghost use Rattle.spool_disk.specs.declared.plant.Part.TheVariants.{Disk};
 ghost use Rattle.duplex_pair.specs.declared.errors.LookNo.TheVariants.{Halted as LookNoHalted};
-ghost use Rattle.mas_complex.specs.Seen.{IsPlaceSeen, HasNext, IsOneSeen, ReadsSeen};
+ghost use Rattle.mas_complex.specs.Seen.{IfPages, IsPlaceSeen, HasNext, IsOneSeen, ReadsSeen, usable as usable_lem};
 
 use crate::complex::Complex;
 use crate::places::{place_seen, set_place};
 use ckpt_form::Steady;
+use ckpt_pages::{law_of_page_sizes, page_count};
 use duplex_pair::{Look, LookNo};
 use mas_types::{Dev, List, MemberId, Page};
 use spool_disk::Plant;
 use std::alloc::Global;
+
+// What a look at a copy gave, if its pages are as many as they should be; else the copy counts as one that can't be
+// read.
+fn usable(look: Look, count: usize) -> Look
+    ensures usable { result ≡ usable_lem count look }
+    ensures sized { IfPages look (All (λ page. length page.0 ≡ page_bytes)) }
+{
+    match look {
+        Look::Lost => Look::Lost,
+        Look::Unread => Look::Unread,
+        Look::Pages(pages) => {
+            law_of_page_sizes(pages.as_slice());
+            if pages.len() == count {
+                Look::Pages(pages)
+            } else {
+                Look::Unread
+            }
+        }
+    }
+}
 
 impl<P: Plant + Drop, C: Steady + Drop> Complex<P, C> {
     // How far the batch in flight has come on the copy of one device.
@@ -53,7 +77,8 @@ impl<P: Plant + Drop, C: Steady + Drop> Complex<P, C> {
         done
     }
 
-    // The pages of the copy on one device. One that can't be read is lost.
+    // The pages of the copy on one device. One that can't be read, or has other than as many pages as the configuration,
+    // is lost.
     #[tactic(auto, using(crate::proofs::Counted::counts_one))]
     pub(crate) fn see_on(
         &mut self,
@@ -62,6 +87,7 @@ impl<P: Plant + Drop, C: Steady + Drop> Complex<P, C> {
         dev: Dev,
     ) -> Result<Option<List<Page>>, LookNo>
         requires ckpt { IsCkpt dev }
+        requires config { IsConfig self.old.base.config }
         ensures frame { parts_of self.new ≡ with_copy dev (parts_of self.new) (parts_of self.old) }
         ensures other { other dev self.new.pair.first self.new.pair.second
             ≡ other dev self.old.pair.first self.old.pair.second }
@@ -74,6 +100,7 @@ impl<P: Plant + Drop, C: Steady + Drop> Complex<P, C> {
             (pick dev self.new.pair.first self.new.pair.second).alive
             (C.count (pick dev self.new.pair.first self.new.pair.second).copy) (pick dev self.new.first self.new.second)
             pages) }
+        ensures many { IfOk result (λ pages. IfSome pages (λ some. length some ≡ page_count_lem self.old.base.config)) }
         ensures reads { IfOk result (λ pages. P.tells
             → ReadsSeen C.reads (disk_now (P.view self.new.plant) dev).bytes pages) }
         ensures unseen { IfOk result (λ pages. P.tells → pages ≡ None
@@ -87,7 +114,9 @@ impl<P: Plant + Drop, C: Steady + Drop> Complex<P, C> {
             → (disk_now (P.view self.new.plant) d).bytes ≡ (disk_now (P.view self.old.plant) d).bytes }
         ensures apart { P.tells → OnCopies (P.view self.old.plant) (P.view self.new.plant) }
     {
-        match self.look_on(alloc, by, dev)? {
+        let count = page_count(&self.base.config);
+        let look = self.look_on(alloc, by, dev)?;
+        match usable(look, count as usize) {
             Look::Pages(pages) => Ok(Some(pages)),
             Look::Lost => Ok(None),
             Look::Unread => {

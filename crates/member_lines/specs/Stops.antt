@@ -1,6 +1,7 @@
--- What a stop of a member between its acts leaves.
-use Rattle.std.specs.Prelude.{◌≡◌, if◌then◌else◌}
+-- What a stop of a member between its acts leaves, and one that is armed.
+use Rattle.std.specs.Prelude.{◌≡◌, if◌then◌else◌, Bool, true, false}
 use Rattle.mas_types.specs.declared.ids.MemberId.{MemberId}
+use Rattle.spool_disk.specs.Acts.{Arms}
 use Rattle.spool_disk.specs.declared.plant.Plant.{Ghosts as PlantGhosts}
 use Rattle.ckpt_copy.specs.declared.copying.Copying.{Ghosts as CopyGhosts}
 use Rattle.ckpt_form.specs.declared.steady.Steady.{Ghosts as SteadyGhosts}
@@ -25,3 +26,11 @@ stopped_at S m x = record x {
 module _ {P C : Type 0} {plants : PlantGhosts P} {steadies : SteadyGhosts C} {copies : CopyGhosts C} where
   abbrev pub Stops : MemberId → Complex P C plants steadies copies → Complex P C plants steadies copies → Type 0
   Stops m x y = (S : Scene) → IsAt S (parts_of x) → parts_of y ≡ stopped_at S m (parts_of x)
+
+  -- a stop of the member was armed where it is up, and else the plant is as it was
+  abbrev pub ArmsIf : Bool → MemberId → Complex P C plants steadies copies → Complex P C plants steadies copies → Type 0
+  ArmsIf true m x y = Arms m.0 (plants.view x.plant) (plants.view y.plant)
+  ArmsIf false m x y = y.plant ≡ x.plant
+
+  abbrev pub ArmsStop : MemberId → Complex P C plants steadies copies → Complex P C plants steadies copies → Type 0
+  ArmsStop m x y = (S : Scene) → IsAt S (parts_of x) → ArmsIf (is_up S m) m x y

@@ -1,5 +1,6 @@
 // What a takeover makes of a batch whose member is stopped at an act.
 ghost use Rattle.std.specs.Prelude.{◌≡◌, ◌≤◌, ◌<◌, length, true, None};
+ghost use Rattle.mas_types.specs.Fit.{IsConfig};
 ghost use Rattle.spool_disk.specs.Acts.{top};
 ghost use Rattle.mas_complex.specs.declared.places.Place.TheVariants.{Before as AtBefore};
 ghost use Rattle.mas_complex.specs.Locking.{IsOfOther};
@@ -41,7 +42,8 @@ fn is_of_other(current: &Option<Batch>, by: MemberId) -> bool
 }
 
 fn lose_copy(complex: &mut Complex<Quiet, CopyForm>, lost: Option<Dev>)
-    ensures { complex.new.book ≡ complex.old.book }
+    ensures book { complex.new.book ≡ complex.old.book }
+    ensures base { complex.new.base ≡ complex.old.base }
 {
     match lost {
         Some(Dev::Ckpt1) => complex.lose(Dev::Ckpt1),
@@ -54,6 +56,7 @@ fn lose_copy(complex: &mut Complex<Quiet, CopyForm>, lost: Option<Dev>)
 // is stopped too.
 fn taken_over(alloc: Global, complex: &mut Complex<Quiet, CopyForm>) -> Result<Option<u64>, TakeNo>
     requires members { length complex.old.book.members ≡ 2 }
+    requires config { IsConfig complex.old.base.config }
 {
     complex.stop(FIRST);
     if complex.stopped(SECOND) || !is_of_other(&complex.current, SECOND) {
@@ -89,6 +92,7 @@ fn recovered_on(
     requires room2 { complex.old.pair.second.alive ≡ true
         → 1 ≤ ⟦<CopyForm as Copying>⟧.room complex.old.pair.second.copy }
     requires members { length complex.old.book.members ≡ 2 }
+    requires config { IsConfig complex.old.base.config }
 {
     let Ok(()) = complex.try_lock(FIRST, false) else {
         return Ok(None);

@@ -1,6 +1,7 @@
 // A batch that is written to both copies.
 ghost use Rattle.std.specs.Prelude.{◌≡◌, ◌+◌, ◌≤◌, ◌<◌, length, IfOk, IfSome, OnOk, true, false, None, IsSome, All};
 ghost use Rattle.mas_types.specs.declared.ids.Dev.TheVariants.{Ckpt1, Ckpt2};
+ghost use Rattle.mas_types.specs.Fit.{IsConfig};
 ghost use Rattle.spool_disk.specs.Acts.{top};
 ghost use Rattle.ckpt_form.specs.Form.{form_needs};
 ghost use Rattle.mas_complex.specs.declared.places.Place.TheVariants.{Before as AtBefore, Put as AtPut};
@@ -13,9 +14,21 @@ use ckpt_copy::Copying;
 use ckpt_form::CopyForm;
 use duplex_pair::{Pair, PairNo};
 use mas_complex::Complex;
-use mas_types::{Dev, List, MemberId, NoMemory, Page, default_config, empty_queue};
+use mas_types::{Config, Dev, List, MemberId, NoMemory, Page, default_config, empty_queue};
 use spool_disk::Plant;
 use std::alloc::Global;
+
+// The smallest configuration: its tables take six pages.
+fn small_config() -> Config
+    ensures fits { IsConfig result }
+    ensures members { result.members ≡ 2 }
+{
+    Config {
+        jobs: 16,
+        outputs: 32,
+        ..default_config()
+    }
+}
 
 // A shared value over two copies that were formed with these pages; none where one couldn't be.
 pub(crate) fn formed(
@@ -40,8 +53,9 @@ pub(crate) fn formed(
     ensures room2 { IfOk result (λ some.
         IfSome some (λ c. c.pair.second.alive ≡ true → 1 ≤ ⟦<CopyForm as Copying>⟧.room c.pair.second.copy)) }
     ensures members { IfOk result (λ some. IfSome some (λ c. length c.book.members ≡ 2)) }
+    ensures config { IfOk result (λ some. IfSome some (λ c. IsConfig c.base.config)) }
 {
-    let base = empty_queue(alloc, &default_config(), &List::new(alloc))?;
+    let base = empty_queue(alloc, &small_config(), &List::new(alloc))?;
     let mut plant = plant;
     let mut pair = Pair::new(CopyForm::new(Dev::Ckpt1, 6), CopyForm::new(Dev::Ckpt2, 6));
     let Ok(()) = pair.form(&mut plant, OPERATOR, pages) else {
@@ -73,6 +87,7 @@ fn log_both(
     requires room2 { complex.old.pair.second.alive ≡ true
         → 1 ≤ ⟦<CopyForm as Copying>⟧.room complex.old.pair.second.copy }
     ensures book { complex.new.book ≡ complex.old.book }
+    ensures base { complex.new.base ≡ complex.old.base }
     ensures count1 { ⟦<CopyForm as Copying>⟧.count complex.new.pair.first.copy
         ≡ ⟦<CopyForm as Copying>⟧.count complex.old.pair.first.copy }
     ensures count2 { ⟦<CopyForm as Copying>⟧.count complex.new.pair.second.copy
@@ -105,6 +120,7 @@ fn open_both(complex: &mut Complex<Quiet, CopyForm>, by: MemberId) -> Result<(),
     requires room2 { complex.old.pair.second.alive ≡ true
         → 1 ≤ ⟦<CopyForm as Copying>⟧.room complex.old.pair.second.copy }
     ensures book { complex.new.book ≡ complex.old.book }
+    ensures base { complex.new.base ≡ complex.old.base }
     ensures count1 { ⟦<CopyForm as Copying>⟧.count complex.new.pair.first.copy
         ≡ ⟦<CopyForm as Copying>⟧.count complex.old.pair.first.copy }
     ensures count2 { ⟦<CopyForm as Copying>⟧.count complex.new.pair.second.copy
@@ -145,6 +161,7 @@ pub(crate) fn write(
     requires room2 { complex.old.pair.second.alive ≡ true
         → 1 ≤ ⟦<CopyForm as Copying>⟧.room complex.old.pair.second.copy }
     ensures book { complex.new.book ≡ complex.old.book }
+    ensures base { complex.new.base ≡ complex.old.base }
     ensures count1 { ⟦<CopyForm as Copying>⟧.count complex.new.pair.first.copy
         ≡ ⟦<CopyForm as Copying>⟧.count complex.old.pair.first.copy }
     ensures count2 { ⟦<CopyForm as Copying>⟧.count complex.new.pair.second.copy

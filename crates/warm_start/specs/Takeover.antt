@@ -16,6 +16,7 @@ use Rattle.spool_disk.specs.Acts.{Rose}
 use Rattle.ckpt_copy.specs.declared.copying.Copying.{Ghosts as CopyGhosts}
 use Rattle.ckpt_copy.specs.Pages.{bytes_of, level}
 use Rattle.ckpt_copy.specs.Reading.{AllRead}
+use Rattle.ckpt_pages.specs.Shape.{page_count}
 use Rattle.ckpt_form.specs.declared.steady.Steady.{Ghosts as SteadyGhosts}
 use Rattle.duplex_pair.specs.Halves.{IsBothLost, SomeAlive}
 use Rattle.mas_complex.specs.declared.complex.Complex.{Complex}
@@ -117,26 +118,27 @@ module _ {P C : Type 0} (plants : PlantGhosts P) where
     pub failed2 : plants.tells → old.second_alive ≡ true → HasFailed2 old new
 
   -- Acts on the copies alone: nobody but the member was stopped, and it only where the answer says so. No stop was
-  -- armed, no volume changed, and nothing was said. No device was lost by a call but that of a copy, once.
+  -- armed, no volume changed, and nothing was said or printed. No device was lost by a call but that of a copy, once.
   pub record HasActed (by : MemberId) (old new : Parts P C) (result : Result (List Page) TakeNo) : Type 0 where
     pub counts : KeepsCounts by.0 old.first_alive new.first_alive old.second_alive new.second_alive
         (is_halted result) (v old) (v new)
     pub apart : plants.tells → OnCopies (v old) (v new)
 
 module _ {P C : Type 0} (plants : PlantGhosts P) (copies : CopyGhosts C) where
-  -- The pages that are handed back are those of greater level that were read, CKPT1's on a tie. Every copy that counts
-  -- as alive has them now, and one does. Where content is told they stand for the queue after the kept batches. A copy
-  -- that was lost failed, or its pages didn't fit these.
+  -- The pages that are handed back are those of greater level that were read, CKPT1's on a tie, and as many as the
+  -- configuration has. Every copy that counts as alive has them now, and one does. Where content is told they stand for
+  -- the queue after the kept batches. A copy that was lost failed, or its pages didn't fit these.
   pub record HasFound (old new : Parts P C) (pages : List Page) : Type 0 where
     pub some : SomeAlive new.first_alive new.second_alive
+    pub many : length pages ≡ page_count old.base.config
     pub first : new.first_alive ≡ true → Reads plants.tells copies.reads (copies.count new.first_copy) new.first
         (disk_now (v plants new) Ckpt1) pages
     pub second : new.second_alive ≡ true → Reads plants.tells copies.reads (copies.count new.second_copy) new.second
         (disk_now (v plants new) Ckpt2) pages
     pub stands : plants.tells → ∥ StandFor (run new.base (kept_all new.batches)) (bytes_of pages) ∥₁
-    pub picked : plants.tells → IsPicked copies.reads (disk_now (v plants old) Ckpt1).bytes
-        (disk_now (v plants old) Ckpt2).bytes
-        (old.first_alive ≡ true → HasFailed1 plants old new) (old.second_alive ≡ true → HasFailed2 plants old new) pages
+    pub picked : plants.tells → IsPicked copies.reads old.first_alive old.second_alive
+        (disk_now (v plants old) Ckpt1).bytes (disk_now (v plants old) Ckpt2).bytes (HasFailed1 plants old new)
+        (HasFailed2 plants old new) pages
     pub left1 : plants.tells → old.first_alive ≡ true → new.first_alive ≡ false → HasFailed1 plants old new
         ⊎ WasUnfit copies.reads (disk_now (v plants old) Ckpt1).bytes old.level (copies.room new.first_copy) pages
     pub left2 : plants.tells → old.second_alive ≡ true → new.second_alive ≡ false → HasFailed2 plants old new

@@ -1,5 +1,6 @@
 //! A member takes the lock of a stopped one over, and finds out what became of its batch.
 ghost use Rattle.std.specs.Prelude.{◌≡◌, false};
+ghost use Rattle.mas_types.specs.Fit.{IsConfig};
 ghost use Rattle.lock_cycle.specs.Books.{IsMember, is_stopped, seize_refusal};
 ghost use Rattle.mas_complex.specs.Locking.{IsOfOther};
 ghost use Rattle.warm_start.specs.Takeover.{ActsOnCopies, IsRefusedBy, Leaves, TakesFor, take_no as take_no_lem};
@@ -45,8 +46,9 @@ impl From<SeizeNo> for TakeNo {
 
 /// The member `by`, which isn't stopped, takes over the lock that the stopped member `of` holds, and finds out what
 /// became of a batch in flight, which is of another member than `by`. After Ok none is: it is kept where the pages
-/// handed back have it, and else dropped. Every copy that counts as alive reads these pages, whatever a crash leaves of
-/// it. A copy that can't be read, or whose pages don't fit, is lost.
+/// handed back have it, and else dropped. These are as many as the configuration has, and every copy that counts as
+/// alive reads them, whatever a crash leaves of it. A copy that can't be read, that has another number of pages, or
+/// whose pages don't fit, is lost. Nothing is printed.
 ///
 /// StillUp comes exactly where `of` isn't stopped, NotHolder exactly where it is stopped and doesn't hold: then nothing
 /// is changed. After the other errors the lock is taken over, and a batch in flight still is. BothLost comes only where
@@ -64,6 +66,7 @@ pub fn takeover<P: Plant + Drop, C: Steady + Drop>(
     requires of { IsMember complex.old.book of }
     requires up { is_stopped complex.old.book by ≡ false }
     requires others { IsOfOther complex.old.current by }
+    requires config { IsConfig complex.old.base.config }
     ensures refused { IsRefusedBy (seize_refusal complex.old.book of) result }
     ensures leaves { Leaves by of complex.old complex.new result }
     ensures acts { ActsOnCopies by complex.old complex.new result }

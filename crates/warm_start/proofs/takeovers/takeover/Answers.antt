@@ -1,6 +1,7 @@
-use Rattle.std.proofs.Common.{ℕ, List}
+use Rattle.std.proofs.Common.{ℕ, List, ap, subst, sym}
 use Rattle.mas_types.specs.declared.ids.Dev.TheVariants.{Ckpt1, Ckpt2}
 use Rattle.mas_types.specs.declared.queues.Queue.{Queue}
+use Rattle.mas_types.specs.Fit.{IsConfig}
 use Rattle.spool_disk.specs.View.{Disk, disk_now}
 use Rattle.ckpt_copy.specs.Pages.{bytes_of}
 use Rattle.mas_complex.specs.Journals.{kept_all}
@@ -23,6 +24,7 @@ returns-in-Ok-clause-tells g c =
     let rests2 = C.rests s.pair.second.copy in
     found_seized g.P.Plant C (parts_of c.args.complex.now) (parts_of c.seize.new.self) (parts_of s) _ c.in-Ok.pages c.seize.ensures.frame (record {
       some = found.ok;
+      many = found.many;
       first = λ alive. record {
         at_rest = found.first alive;
         as_many = found.as_many1 alive;
@@ -42,3 +44,6 @@ returns-in-Ok-clause-tells g c =
       left1 = found.left1;
       left2 = found.left2;
     })
+
+pub recover-requires-clause-config : goal.recover-requires-clause-config
+recover-requires-clause-config g c = subst (λ (q : Queue). IsConfig q.config) (sym (ap (λ p. p.base) c.seize.ensures.frame)) c.requires.config

@@ -18,7 +18,7 @@ returns-clause-apart g c told =
     let old = P.view c.args.self.now.plant in
     let mid = P.view c.put_on.new.self.plant in
     let new = P.view c.open_on.new.self.plant in
-    on_then old mid new
+    on_then old mid new c.put_on.ensures.acted.goes c.open_on.ensures.acted.goes
     (on_one c.args.dev c.requires.ckpt old mid c.put_on.ensures.acted.goes (c.put_on.ensures.elsewhere told))
     (on_one c.args.dev c.requires.ckpt mid new c.open_on.ensures.acted.goes (c.open_on.ensures.elsewhere told))
 

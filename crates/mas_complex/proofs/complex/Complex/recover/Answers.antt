@@ -1,4 +1,4 @@
-use Rattle.std.proofs.Common.{◌≡◌, ◌||◌, ◌++◌, ◌∙◌, ℕ, List, Option, true, false, Some, None, sym, subst, ap, arith, rules}
+use Rattle.std.proofs.Common.{◌≡◌, ◌||◌, ◌++◌, ◌∙◌, ℕ, List, length, Option, true, false, Some, None, IfSome, sym, subst, ap, arith, rules}
 use Rattle.std.proofs.Math.Logic.{∥∥₁_map}
 use Rattle.mas_types.specs.declared.ids.Dev.{Dev}
 use Rattle.mas_types.specs.declared.ids.Dev.TheVariants.{Ckpt1, Ckpt2}
@@ -7,6 +7,8 @@ use Rattle.spool_disk.specs.Acts.{Rose}
 use Rattle.spool_disk.specs.declared.plant.Part.TheVariants.{Disk}
 use Rattle.mas_types.specs.declared.ids.Page.{Page}
 use Rattle.mas_types.specs.declared.queues.Queue.{Queue}
+use Rattle.mas_types.specs.Fit.{IsConfig}
+use Rattle.ckpt_pages.specs.Shape.{page_count}
 use Rattle.mas_complex.specs.declared.places.Place.{Place}
 use Rattle.mas_complex.specs.Journals.{kept_all, entries_in}
 use Rattle.mas_complex.specs.Meaning.{run}
@@ -15,11 +17,13 @@ use Rattle.mas_complex.specs.Seen.{OneSeen, IsOneSeen, ReadsSeen}
 use Rattle.mas_complex.specs.Recovers.{recover_stopped}
 use Rattle.mas_complex.proofs.Leaving.{left_why, rose_later, rose_earlier}
 use Rattle.ckpt_copy.specs.Pages.{bytes_of, level}
+use Rattle.ckpt_copy.specs.Moments.{goes_on}
 use Rattle.mas_complex.specs.Crash.{Setting, Copy, setting, copy_of}
 use Rattle.mas_complex.proofs.Recovered.{stands_of}
 use Rattle.std.proofs.lemmas.Result.{err_from_is_err_and}
 use Rattle.mas_complex.proofs.Apart.{on_then}
-use Rattle.mas_complex.proofs.Counted.{counts_then, counts_seen, counts_brought, not_brought}
+use Rattle.mas_complex.proofs.Usable.{found_many, seen_alive}
+use Rattle.mas_complex.proofs.Counted.{counts_then, counts_seen, counts_brought, not_brought, was_halted}
 use Rattle.mas_complex.proofs.complex.Complex.recover.Goals as goal
 
 pub returns-clause-stands : goal.returns-clause-stands
@@ -34,10 +38,18 @@ returns-clause-stands g c told =
     (subst (λ p. (p.first_alive || p.second_alive) ≡ true) (sym c.give_fate.ensures.frame) c.in_ok-bring.ensures.ok) c.give_fate.ensures.first c.give_fate.ensures.second
     (λ was d r. g.met.C.Copying.rests_now s.pair.first.copy was d r) (λ was d r. g.met.C.Copying.rests_now s.pair.second.copy was d r) reads_first reads_second) where
       reads_first : c.give_fate.new.self.pair.first.alive ≡ true → g.C.Copying.reads (disk_now (g.P.Plant.view c.give_fate.new.self.plant) Ckpt1).bytes ≡ Some (bytes_of c.in-Some.found)
-      reads_first is = search rules
+      reads_first is =
+          let e = c.give_fate.ensures.frame in
+          let alive = sym (ap (λ p. p.first_alive) e) ∙ is in
+          let read = subst (λ (ps : List Page). g.C.Copying.reads (disk_now (g.P.Plant.view c.bring.new.self.plant) Ckpt1).bytes ≡ Some (bytes_of ps)) c.as_slice.ensures ((c.in_ok-bring.ensures.first alive).1 told) in
+          subst (λ p. g.C.Copying.reads (disk_now (g.P.Plant.view p.plant) Ckpt1).bytes ≡ Some (bytes_of c.in-Some.found)) (sym e) read
 
       reads_second : c.give_fate.new.self.pair.second.alive ≡ true → g.C.Copying.reads (disk_now (g.P.Plant.view c.give_fate.new.self.plant) Ckpt2).bytes ≡ Some (bytes_of c.in-Some.found)
-      reads_second is = search rules
+      reads_second is =
+          let e = c.give_fate.ensures.frame in
+          let alive = sym (ap (λ p. p.second_alive) e) ∙ is in
+          let read = subst (λ (ps : List Page). g.C.Copying.reads (disk_now (g.P.Plant.view c.bring.new.self.plant) Ckpt2).bytes ≡ Some (bytes_of ps)) c.as_slice.ensures ((c.in_ok-bring.ensures.second alive).1 told) in
+          subst (λ p. g.C.Copying.reads (disk_now (g.P.Plant.view p.plant) Ckpt2).bytes ≡ Some (bytes_of c.in-Some.found)) (sym e) read
 
 pub give_fate-requires-clause-second : goal.give_fate-requires-clause-second
 give_fate-requires-clause-second g c alive =
@@ -152,6 +164,8 @@ returns-clause-picked g c told =
     record {
       one = c.in_ok-first.first;
       two = c.in_ok-second.second;
+      some1 = λ some. c.see_on.ensures.was_alive (seen_alive _ _ P.tells _ _ _ _ c.in_ok-first.first c.in_ok-first.ensures.seen some);
+      some2 = λ some. sym (ap (λ h. h.alive) c.see_on.ensures.other) ∙ c.see_on-2.ensures.was_alive (seen_alive _ _ P.tells _ _ _ _ c.in_ok-second.second c.in_ok-second.ensures.seen some);
       read1 = subst (λ (l : List ℕ). ReadsSeen C.reads l c.in_ok-first.first) (c.see_on.ensures.bytes told Ckpt1) (c.in_ok-first.ensures.reads told);
       read2 = subst (λ (l : List ℕ). ReadsSeen C.reads l c.in_ok-second.second) (c.see_on-2.ensures.bytes told Ckpt2 ∙ c.see_on.ensures.bytes told Ckpt2) (c.in_ok-second.ensures.reads told);
       none1 = λ none alive. rose_later (v0.faults (Disk Ckpt1)) (v1.faults (Disk Ckpt1)) (v5.faults (Disk Ckpt1)) (c.in_ok-first.ensures.unseen told none alive) (omega (arith, e2.faults (Disk Ckpt1), e3.faults (Disk Ckpt1), e4.faults (Disk Ckpt1), still Ckpt1));
@@ -159,6 +173,61 @@ returns-clause-picked g c told =
           (rose_later (v1.faults (Disk Ckpt2)) (v2.faults (Disk Ckpt2)) (v5.faults (Disk Ckpt2)) (c.in_ok-second.ensures.unseen told none (ap (λ h. h.alive) c.see_on.ensures.other ∙ alive)) (omega (arith, e3.faults (Disk Ckpt2), e4.faults (Disk Ckpt2), still Ckpt2)));
       greater = c.in-Some.ensures.greater;
     }
+
+-- HOW MANY PAGES
+
+pub see_on-requires-2-clause-config : goal.see_on-requires-2-clause-config
+see_on-requires-2-clause-config g c = subst (λ (q : Queue). IsConfig q.config) (sym (ap (λ p. p.base) c.see_on.ensures.frame)) c.requires.config
+
+pub returns-clause-many : goal.returns-clause-many
+returns-clause-many g c =
+    let same = ap (λ p. p.base) c.see_on.ensures.frame in
+    let second : IfSome c.in_ok-second.second (λ pages. length pages ≡ page_count c.args.self.now.base.config) =
+    subst (λ (q : Queue). IfSome c.in_ok-second.second (λ pages. length pages ≡ page_count q.config)) same c.in_ok-second.ensures.many in
+    found_many (page_count c.args.self.now.base.config) c.in_ok-first.first c.in_ok-second.second c.in-Some.found c.in_ok-first.ensures.many second c.in-Some.ensures.greater
+
+-- ONE CALL AFTER ANOTHER
+
+pub returns-in_err-bring-clause-goes : goal.returns-in_err-bring-clause-goes
+returns-in_err-bring-clause-goes g c =
+    let P = g.P.Plant in
+    let old = P.view c.args.self.now.plant in
+    let mid = P.view c.see_on-2.new.self.plant in
+    let chosen = P.view c.choose_any.new.self.plant in
+    goes_on old chosen (P.view c.bring.new.self.plant) (goes_on old mid chosen (goes_on old (P.view c.see_on.new.self.plant) mid c.see_on.ensures.goes c.see_on-2.ensures.goes) c.choose_any.ensures.goes) c.bring.ensures.goes
+
+pub returns-clause-goes : goal.returns-clause-goes
+returns-clause-goes g c =
+    let P = g.P.Plant in
+    let old = P.view c.args.self.now.plant in
+    let mid = P.view c.see_on-2.new.self.plant in
+    let chosen = P.view c.choose_any.new.self.plant in
+    rw (ap (λ p. p.plant) c.give_fate.ensures.frame)
+    (goes_on old chosen (P.view c.bring.new.self.plant) (goes_on old mid chosen (goes_on old (P.view c.see_on.new.self.plant) mid c.see_on.ensures.goes c.see_on-2.ensures.goes) c.choose_any.ensures.goes) c.bring.ensures.goes)
+
+pub returns-in_err-bring-clause-halted : goal.returns-in_err-bring-clause-halted
+returns-in_err-bring-clause-halted g c is =
+    let P = g.P.Plant in
+    let by = c.args.by.0 in
+    let one = c.see_on.ensures.goes.stops by in
+    let two = c.see_on-2.ensures.goes.stops by in
+    let three = c.choose_any.ensures.goes.stops by in
+    let r = c.from_residual-in_err-bring.result in
+    let p = err_from_is_err_and r c.from_residual-in_err-bring.ensures.1 in
+    rose_earlier ((P.view c.args.self.now.plant).stops by) ((P.view c.choose_any.new.self.plant).stops by) ((P.view c.bring.new.self.plant).stops by) (omega (arith, one, two, three))
+    (c.in_err-bring.ensures.halted (was_halted r p.0 c.in_err-bring.field-0.0 p.1 p.2 is))
+
+pub returns-in_err-bring-clause-both : goal.returns-in_err-bring-clause-both
+returns-in_err-bring-clause-both g c is =
+    let r = c.from_residual-in_err-bring.result in
+    let p = err_from_is_err_and r c.from_residual-in_err-bring.ensures.1 in
+    absurd (not_brought r p.0 c.in_err-bring.field-0.0 p.1 p.2 c.in_err-bring.ensures.not_both is)
+
+pub give_fate-requires-clause-first : goal.give_fate-requires-clause-first
+give_fate-requires-clause-first g c alive =
+    let same : level (bytes_of c.as_slice.result.now) ≡ c.pages_level.result = ap (λ (pages : List Page). level (bytes_of pages)) (c.as_slice.ensures ∙ sym c.as_slice-2.ensures) ∙ sym c.pages_level.ensures in
+    subst (λ (n : ℕ). IsAtLevel n c.bring.new.self.level c.bring.new.self.first) same
+    (subst (λ (n : ℕ). IsAtLevel (level (bytes_of c.as_slice.result.now)) n c.bring.new.self.first) (ap (λ p. p.level) (sym c.bring.ensures.frame)) (c.in_ok-bring.ensures.first alive).0)
 
 -- WHAT IS COUNTED
 
@@ -228,15 +297,15 @@ returns-clause-counts g c =
 pub returns-in_err-second-clause-apart : goal.returns-in_err-second-clause-apart
 returns-in_err-second-clause-apart g c told =
     let P = g.P.Plant in
-    on_then (P.view c.args.self.now.plant) (P.view c.see_on.new.self.plant) (P.view c.see_on-2.new.self.plant) (c.see_on.ensures.apart told) (c.see_on-2.ensures.apart told)
+    on_then (P.view c.args.self.now.plant) (P.view c.see_on.new.self.plant) (P.view c.see_on-2.new.self.plant) c.see_on.ensures.goes c.see_on-2.ensures.goes (c.see_on.ensures.apart told) (c.see_on-2.ensures.apart told)
 
 pub returns-in_default-clause-apart : goal.returns-in_default-clause-apart
 returns-in_default-clause-apart g c told =
     let P = g.P.Plant in
     let old = P.view c.args.self.now.plant in
     let mid = P.view c.see_on-2.new.self.plant in
-    on_then old mid (P.view c.choose_any.new.self.plant)
-    (on_then old (P.view c.see_on.new.self.plant) mid (c.see_on.ensures.apart told) (c.see_on-2.ensures.apart told)) (c.choose_any.ensures.apart told)
+    on_then old mid (P.view c.choose_any.new.self.plant) (goes_on old (P.view c.see_on.new.self.plant) mid c.see_on.ensures.goes c.see_on-2.ensures.goes) c.choose_any.ensures.goes
+    (on_then old (P.view c.see_on.new.self.plant) mid c.see_on.ensures.goes c.see_on-2.ensures.goes (c.see_on.ensures.apart told) (c.see_on-2.ensures.apart told)) (c.choose_any.ensures.apart told)
 
 pub returns-in_err-bring-clause-apart : goal.returns-in_err-bring-clause-apart
 returns-in_err-bring-clause-apart g c told =
@@ -244,8 +313,8 @@ returns-in_err-bring-clause-apart g c told =
     let old = P.view c.args.self.now.plant in
     let mid = P.view c.see_on-2.new.self.plant in
     let chosen = P.view c.choose_any.new.self.plant in
-    on_then old chosen (P.view c.bring.new.self.plant)
-    (on_then old mid chosen (on_then old (P.view c.see_on.new.self.plant) mid (c.see_on.ensures.apart told) (c.see_on-2.ensures.apart told)) (c.choose_any.ensures.apart told))
+    on_then old chosen (P.view c.bring.new.self.plant) (goes_on old mid chosen (goes_on old (P.view c.see_on.new.self.plant) mid c.see_on.ensures.goes c.see_on-2.ensures.goes) c.choose_any.ensures.goes) c.bring.ensures.goes
+    (on_then old mid chosen (goes_on old (P.view c.see_on.new.self.plant) mid c.see_on.ensures.goes c.see_on-2.ensures.goes) c.choose_any.ensures.goes (on_then old (P.view c.see_on.new.self.plant) mid c.see_on.ensures.goes c.see_on-2.ensures.goes (c.see_on.ensures.apart told) (c.see_on-2.ensures.apart told)) (c.choose_any.ensures.apart told))
     (c.bring.ensures.apart told)
 
 pub returns-clause-apart : goal.returns-clause-apart
@@ -255,8 +324,8 @@ returns-clause-apart g c told =
     let mid = P.view c.see_on-2.new.self.plant in
     let chosen = P.view c.choose_any.new.self.plant in
     rw (ap (λ p. p.plant) c.give_fate.ensures.frame)
-    (on_then old chosen (P.view c.bring.new.self.plant)
-    (on_then old mid chosen (on_then old (P.view c.see_on.new.self.plant) mid (c.see_on.ensures.apart told) (c.see_on-2.ensures.apart told)) (c.choose_any.ensures.apart told))
+    (on_then old chosen (P.view c.bring.new.self.plant) (goes_on old mid chosen (goes_on old (P.view c.see_on.new.self.plant) mid c.see_on.ensures.goes c.see_on-2.ensures.goes) c.choose_any.ensures.goes) c.bring.ensures.goes
+    (on_then old mid chosen (goes_on old (P.view c.see_on.new.self.plant) mid c.see_on.ensures.goes c.see_on-2.ensures.goes) c.choose_any.ensures.goes (on_then old (P.view c.see_on.new.self.plant) mid c.see_on.ensures.goes c.see_on-2.ensures.goes (c.see_on.ensures.apart told) (c.see_on-2.ensures.apart told)) (c.choose_any.ensures.apart told))
     (c.bring.ensures.apart told))
 
 pub returns-in_err-bring-clause-both_failed1 : goal.returns-in_err-bring-clause-both_failed1

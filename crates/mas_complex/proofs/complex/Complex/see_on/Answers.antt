@@ -1,29 +1,73 @@
-use Rattle.std.proofs.Common.{false}
+use Rattle.std.proofs.Common.{◌∙◌, false, ap, sym, arith}
 use Rattle.std.proofs.Math.Logic.{∥∥₁_elim}
 use Rattle.spool_disk.specs.View.{disk_now}
+use Rattle.ckpt_pages.specs.Shape.{page_count}
 use Rattle.duplex_pair.specs.Halves.{pick}
-use Rattle.mas_complex.specs.Crash.{Setting, setting}
+use Rattle.mas_complex.specs.Crash.{setting}
 use Rattle.mas_complex.specs.Parts.{parts_of}
-use Rattle.mas_complex.proofs.Looking.{reads_some}
 use Rattle.mas_complex.proofs.OnDevice.{at_copy}
 use Rattle.mas_complex.proofs.Frames.{frame_lost}
 use Rattle.mas_complex.proofs.Apart.{on_one, on_then}
 use Rattle.mas_complex.proofs.Counted.{counts_one, counts_then, counts_lost}
+use Rattle.mas_complex.proofs.Usable.{always_used, unused_reads, unused_there, used_lost, used_pages}
 use Rattle.mas_complex.proofs.complex.Complex.see_on.Goals as goal
 
--- over a plant that tells a copy that counts as alive is read
+-- PAGES, as many as the configuration has
+
+pub returns-in-Pages-clause-seen : goal.returns-in-Pages-clause-seen
+returns-in-Pages-clause-seen g c =
+    let s = c.look_on.new.self in
+    let dev = c.args.dev in
+    let look = used_pages c.page_count-count.result c.in_ok-look.look c.in-Pages.pages (sym c.usable.ensures.usable ∙ c.in-Pages.is) in
+    let seen = rw look.0 at c.in_ok-look.ensures.seen in
+    let count = g.met.C.Copying.ready_count (pick dev s.pair.first s.pair.second).copy (g.P.Plant.view s.plant) seen.is_ready in
+    record {
+      is_alive = seen.is_alive;
+      as_many = sym seen.as_many;
+      few = count.1;
+      some = omega (arith, count.0);
+      at = rw look.0 at c.in_ok-look.ensures.place;
+      next = λ told. rw look.0 at (c.in_ok-look.ensures.next told);
+    }
+
+pub returns-in-Pages-clause-many : goal.returns-in-Pages-clause-many
+returns-in-Pages-clause-many g c =
+    (used_pages c.page_count-count.result c.in_ok-look.look c.in-Pages.pages (sym c.usable.ensures.usable ∙ c.in-Pages.is)).1 ∙ c.page_count-count.ensures
+
+pub returns-in-Pages-clause-reads : goal.returns-in-Pages-clause-reads
+returns-in-Pages-clause-reads g c told =
+    let s = c.look_on.new.self in
+    let dev = c.args.dev in
+    let look = used_pages c.page_count-count.result c.in_ok-look.look c.in-Pages.pages (sym c.usable.ensures.usable ∙ c.in-Pages.is) in
+    let seen = rw look.0 at c.in_ok-look.ensures.seen in
+    g.met.C.Copying.rests_now (pick dev s.pair.first s.pair.second).copy _ (disk_now (g.P.Plant.view s.plant) dev) (seen.found told)
+
+-- A COPY THAT COUNTS AS LOST
+
+pub returns-in-Lost-clause-seen : goal.returns-in-Lost-clause-seen
+returns-in-Lost-clause-seen g c =
+    let seen = rw (used_lost c.page_count-count.result c.in_ok-look.look (sym c.usable.ensures.usable ∙ c.in-Lost.is)) at c.in_ok-look.ensures.seen in
+    seen.is_dead
+
+-- ONE THAT CAN'T BE READ, or has another number of pages
+
+-- over a plant that tells a copy that counts as alive is read, and has as many as the configuration
 pub returns-in-Unread-clause-unseen : goal.returns-in-Unread-clause-unseen
 returns-in-Unread-clause-unseen g c told none alive =
     let s = c.look_on.new.self in
     let C = g.C.Copying in
-    let S : Setting = setting C.reads s.base s.since in
     let dev = c.args.dev in
     let h = pick dev s.pair.first s.pair.second in
+    let was = pick dev c.args.self.now.pair.first c.args.self.now.pair.second in
     let v = g.P.Plant.view s.plant in
-    let seen = rw c.in-Unread.is at c.in_ok-pages.ensures.seen in
-    absurd (∥∥₁_elim (s.kept told) (λ a b. absurd a) (λ k. reads_some S (C.rests h.copy) (C.holds h.copy) k.was k.coming (pick dev s.first s.second) h.alive v.now (disk_now v dev)
-    (at_copy (λ h. C.rests h.copy) (λ h. C.holds h.copy) (λ h. h.alive) S k.was k.coming dev c.requires.ckpt s.pair.first s.pair.second s.first s.second v k.first_at k.second_at) seen.is_alive
-    (λ pages d r. g.met.C.Copying.rests_reads h.copy pages d r) (λ was next d r. g.met.C.Copying.holds_reads h.copy was next d r) (g.met.P.Plant.there s.plant told dev seen.there) (seen.none told).now))
+    let base = ap (λ p. p.base) c.look_on.ensures.frame in
+    let not = sym c.usable.ensures.usable ∙ c.in-Unread.is in
+    let many = c.page_count-count.ensures ∙ ap (λ q. page_count q.config) (sym base) in
+    let there = unused_there C.count C.room C.room_most C.ready C.reads C.rests g.P.Plant.tells dev v was.copy h.copy h.alive c.page_count-count.result c.in_ok-look.look not c.in_ok-look.ensures.seen in
+    let unused = rw many at (unused_reads C.count C.room C.room_most C.ready C.reads C.rests g.P.Plant.tells dev v was.copy h.copy h.alive c.page_count-count.result (λ pages d r. g.met.C.Copying.rests_now h.copy pages d r) told c.in_ok-look.look not c.usable.ensures.sized c.in_ok-look.ensures.seen) in
+    absurd (∥∥₁_elim (s.kept told) (λ a b. absurd a) (λ k. always_used C.reads s.base s.since s.level _ _ k.was k.coming k.stands k.comes (C.rests h.copy) (C.holds h.copy) (pick dev s.first s.second) h.alive v.now (disk_now v dev)
+    (at_copy (λ h. C.rests h.copy) (λ h. C.holds h.copy) (λ h. h.alive) (setting C.reads s.base s.since) k.was k.coming dev c.requires.ckpt s.pair.first s.pair.second s.first s.second v k.first_at k.second_at) there.0
+    (λ pages d r. g.met.C.Copying.rests_reads h.copy pages d r) (λ was next d r. g.met.C.Copying.holds_reads h.copy was next d r) (g.met.P.Plant.there s.plant told dev there.1) unused))
 
 pub returns-in-Unread-clause-counts : goal.returns-in-Unread-clause-counts
 returns-in-Unread-clause-counts g c =
@@ -31,15 +75,18 @@ returns-in-Unread-clause-counts g c =
     let s = c.args.self.now in
     let a = c.look_on.new.self in
     let b = c.lose_copy.new.self in
-    let seen = rw c.in-Unread.is at c.in_ok-pages.ensures.seen in
+    let C = g.C.Copying in
+    let dev = c.args.dev in
+    let alive = (unused_there C.count C.room C.room_most C.ready C.reads C.rests P.tells dev (P.view a.plant) (pick dev s.pair.first s.pair.second).copy (pick dev a.pair.first a.pair.second).copy (pick dev a.pair.first a.pair.second).alive
+    c.page_count-count.result c.in_ok-look.look (sym c.usable.ensures.usable ∙ c.in-Unread.is) c.in_ok-look.ensures.seen).0 in
     counts_then c.args.by.0 s.pair.first.alive a.pair.first.alive b.pair.first.alive s.pair.second.alive a.pair.second.alive b.pair.second.alive false (P.view s.plant) (P.view a.plant) (P.view b.plant)
-    (counts_one (λ h. h.alive) c.args.by.0 c.args.dev c.requires.ckpt s.pair.first s.pair.second a.pair.first a.pair.second false (P.view s.plant) (P.view a.plant) c.look_on.ensures.other c.in_ok-pages.ensures.acted)
-    (counts_lost (λ h. h.alive) a.pair.first a.pair.second b.pair.first b.pair.second c.args.by.0 (P.view a.plant) (P.view b.plant) c.args.dev c.requires.ckpt seen.is_alive c.lose_copy.ensures.dead c.lose_copy.ensures.other c.lose_copy.ensures.loses)
+    (counts_one (λ h. h.alive) c.args.by.0 c.args.dev c.requires.ckpt s.pair.first s.pair.second a.pair.first a.pair.second false (P.view s.plant) (P.view a.plant) c.look_on.ensures.other c.in_ok-look.ensures.acted)
+    (counts_lost (λ h. h.alive) a.pair.first a.pair.second b.pair.first b.pair.second c.args.by.0 (P.view a.plant) (P.view b.plant) c.args.dev c.requires.ckpt alive c.lose_copy.ensures.dead c.lose_copy.ensures.other c.lose_copy.ensures.loses)
 
 pub returns-in-Unread-clause-apart : goal.returns-in-Unread-clause-apart
 returns-in-Unread-clause-apart g c told =
     let P = g.P.Plant in
-    on_then (P.view c.args.self.now.plant) (P.view c.look_on.new.self.plant) (P.view c.lose_copy.new.self.plant) (c.look_on.ensures.apart told)
+    on_then (P.view c.args.self.now.plant) (P.view c.look_on.new.self.plant) (P.view c.lose_copy.new.self.plant) c.look_on.ensures.acted.goes c.lose_copy.ensures.loses.goes (c.look_on.ensures.apart told)
     (on_one c.args.dev c.requires.ckpt (P.view c.look_on.new.self.plant) (P.view c.lose_copy.new.self.plant) c.lose_copy.ensures.loses.goes (c.lose_copy.ensures.elsewhere told))
 
 pub returns-in-Unread-clause-frame : goal.returns-in-Unread-clause-frame
