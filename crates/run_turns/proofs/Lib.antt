@@ -9,3 +9,6 @@ pub mod Near
 pub mod One
 pub mod Halts
 pub mod Firsts
+pub mod Givens
+pub mod Awake
+pub mod GivenComputed

@@ -5,9 +5,12 @@ pub mod Pieces
 pub mod Cuts
 pub mod Steps
 pub mod Runs
+pub mod Givens
+pub mod Awake
 pub mod Fuses
 pub mod Alone
 pub mod Laws
 pub mod Examples
 pub mod StopExamples
 pub mod PrintExamples
+pub mod GivenExamples

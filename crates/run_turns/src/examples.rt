@@ -1,5 +1,6 @@
 //! Worked examples, computed by the check.
 ghost use Rattle.run_turns.specs.Examples.{DormantOnce, FreeByAnother, HoldOfOne, LockAndBusy, MemberNotUp, NoSuchMember, ResetsRefused, RestartOrPurge, SpentHoldFrees, StopOfNone, TakeoverFrees, TwoMembers};
+ghost use Rattle.run_turns.specs.GivenExamples.{PiecesAreWhatIsSaid, QueueRefuses, RunEndsInALine, RunGoesOnAfterAStop};
 ghost use Rattle.run_turns.specs.PrintExamples.{PaperGoesOnAtTheMark, PrintingIsTakenOver};
 ghost use Rattle.run_turns.specs.StopExamples.{DeckStopsAnywhere, FlightIsSettled, LockIsFreeInTheMiddle, StartFindsAlike, StoppedHolderHolds};
 
@@ -34,4 +35,13 @@ pub fn examples_of_stops()
 pub fn examples_of_printing()
     ensures console { PrintingIsTakenOver }
     ensures paper { PaperGoesOnAtTheMark }
+{}
+
+/// What a run comes to by the pieces that its lines gave, right or not: what is said and kept, the scene after a stop,
+/// and the line in which it ends.
+pub fn examples_of_given_pieces()
+    ensures said { PiecesAreWhatIsSaid }
+    ensures refused { QueueRefuses }
+    ensures goes_on { RunGoesOnAfterAStop }
+    ensures ends { RunEndsInALine }
 {}

@@ -1,5 +1,7 @@
 //! What holds of every line, at every scene, and of every run.
 ghost use Rattle.run_turns.specs.Alone.{RunsOfOneAreWhole};
+ghost use Rattle.run_turns.specs.Awake.{AwakeRunsAreNotDormant};
+ghost use Rattle.run_turns.specs.Givens.{RightLinesAreTheScript};
 ghost use Rattle.run_turns.specs.Laws.{CutsGiveFirst, DeniedByTheBook, DownIfStopped, FreeGivesUp, HolderIsTakenOver, HoldsAreSpent, LockKeeps, NoStopOfTheStopped, NoSuchMember, NoSuchReset, OnlyHoldersFree, OnlyStoppedAreReset, OthersLeaveTheLock, QueuesAreOfHistory, SaidIsKept, SayersAreRight, StepsAreCourses, StoppedHolders, StoppedPlayNothing, StopsAreNoted, UpIsNotReset};
 
 /// Why a line closes before its commands, each closing exactly where its cause holds: its member is above the
@@ -65,4 +67,16 @@ pub fn law_of_whole_steps()
 /// sittings. All its batches are kept, and its lines said.
 pub fn law_of_runs_of_one()
     ensures { RunsOfOneAreWhole }
+{}
+
+/// A run follows from the pieces that its lines gave, wherever they were cut: its outcomes, and the scene that it leaves.
+/// Where the pieces of each line are those that its queue gives, by what it found, these are what the script says.
+pub fn law_of_given_pieces()
+    ensures { RightLinesAreTheScript }
+{}
+
+/// Where the configuration has no dormancy no line of a run is refused because it comes too early, whatever its lines
+/// found and wherever they were cut.
+pub fn law_of_awake_runs()
+    ensures { AwakeRunsAreNotDormant }
 {}
