@@ -7,7 +7,8 @@ use mas_types::{Class, JobFields, Lines, List, Name8, NoMemory, OutSpec, Prio};
 use std::alloc::Global;
 use tests_lines::{add_fields, add_flag, add_lines, add_name, add_number};
 
-const HERE: Name8 = Name8(*b"HERE    ");
+/// The own node.
+pub const HERE: Name8 = Name8(*b"HERE    ");
 
 /// What the card of the converted jobs says.
 const JOB: JobFields = JobFields {

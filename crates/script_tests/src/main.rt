@@ -4,6 +4,7 @@
 
 mod commands;
 mod decks;
+mod generated;
 mod reading;
 mod scripts;
 mod sources;

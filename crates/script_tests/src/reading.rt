@@ -2,6 +2,7 @@
 // a letter.
 use crate::commands::{add_command, add_untyped, add_words};
 use crate::decks::{add_converted, add_deck, add_executed, add_listing};
+use crate::generated::add_generated;
 use crate::scripts::{add_input, add_script};
 use crate::sources::{add_source, add_zeros};
 use mas_types::NoMemory;
@@ -171,6 +172,7 @@ pub fn read(reading: &mut Reading, line: &str) -> Result<(), NoMemory> {
         [b's', ..] => add_source(alloc, out, bytes, None)?,
         [b'a', ..] => add_source(alloc, out, b"SYSA DECK\n", number)?,
         [b'z', ..] => add_zeros(alloc, out, number)?,
+        [b'g', b'e', ..] => add_generated(alloc, out, number)?,
         [b'u', ..] => add_untyped(alloc, out)?,
         kind => add_read(alloc, out, kind, bytes)?,
     }

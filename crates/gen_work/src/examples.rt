@@ -1,0 +1,7 @@
+//! Worked examples of the definitions, computed by the check.
+ghost use Rattle.gen_work.specs.Examples.{ScriptsAreWritten};
+
+/// How the script of one deck and of five, first cards, decks and the work after them are written, at worked examples.
+pub fn examples_of_scripts()
+    ensures { ScriptsAreWritten }
+{}
