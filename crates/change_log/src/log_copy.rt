@@ -11,8 +11,9 @@ use crate::finding::{read_head, read_pages, read_slots};
 use crate::layout::{BLOCK, SLOTS, free_slots, gate_at, image_place, size_of_log};
 use crate::places::{PLACES, home_places, lay_images};
 use crate::writing::{settle_slots, write_formed, write_slot};
-use ckpt_copy::acts::{read_block, sync_act, write_synced};
+use ckpt_copy::acts::{read_act, sync_act, write_synced};
 use ckpt_copy::{CopyNo, Copying, FindNo, GATE_CLOSED, GATE_OPEN, VALID_AT};
+use mas_types::limits::PAGE_BYTES;
 use mas_types::{Dev, List, MemberId, Page};
 use spool_disk::Plant;
 use std::alloc::Global;
@@ -158,7 +159,9 @@ impl Copying for LogCopy {
         into: &mut Page,
     ) -> Result<(), CopyNo> {
         let at = BLOCK * self.places[page as usize] as u64;
-        *into = read_block(plant, by, self.dev, at)?;
+        let mut read = Page([0; PAGE_BYTES]);
+        read_act(plant, by, self.dev, at, &mut read.0)?;
+        *into = read;
         Ok(())
     }
 

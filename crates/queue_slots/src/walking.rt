@@ -40,30 +40,30 @@ pub fn walk<T: Ordered, P: Weigh<T>>(slots: &[Option<T>], test: &P) -> Option<Be
 {
     let mut best = None;
     for (at, slot) in slots.iter().enumerate() {
-        best = better_slot(test, best, at, slot);
+        note_slot(test, &mut best, at, slot);
     }
     best
 }
 
-fn better_slot<T: Ordered, P: Weigh<T>>(
+// Most slots aren't picked: nothing is moved for these.
+fn note_slot<T: Ordered, P: Weigh<T>>(
     test: &P,
-    best: Option<Best>,
+    best: &mut Option<Best>,
     at: usize,
     slot: &Option<T>,
-) -> Option<Best>
-    ensures { result ≡ better_slot_lem T.order (P.key test.now) (P.rank test.now) (P.weighs test.now) best at slot.now }
+)
+    ensures { best.new ≡ better_slot_lem T.order (P.key test.now) (P.rank test.now) (P.weighs test.now) best.old at
+        slot.now }
 {
-    match slot {
-        None => best,
-        Some(item) => match test.weight(item) {
-            None => best,
-            Some(weight) => better(best, at, weight, item.order()),
-        },
+    if let Some(item) = slot
+        && let Some(weight) = test.weight(item)
+    {
+        note(best, at, weight, item.order());
     }
 }
 
-fn better(best: Option<Best>, at: usize, weight: Weight, order: u64) -> Option<Best>
-    ensures { result ≡ better_lem best (record { at = at; key = weight.key; rank = weight.rank; order = order }) }
+fn note(best: &mut Option<Best>, at: usize, weight: Weight, order: u64)
+    ensures { best.new ≡ better_lem best.old (record { at = at; key = weight.key; rank = weight.rank; order = order }) }
 {
     let next = Best {
         at,
@@ -71,15 +71,12 @@ fn better(best: Option<Best>, at: usize, weight: Weight, order: u64) -> Option<B
         rank: weight.rank,
         order,
     };
-    match best {
-        None => Some(next),
-        Some(best) => {
-            if goes_before(&next, &best) {
-                Some(next)
-            } else {
-                Some(best)
-            }
-        }
+    let goes_first = match *best {
+        None => true,
+        Some(so_far) => goes_before(&next, &so_far),
+    };
+    if goes_first {
+        *best = Some(next);
     }
 }
 
