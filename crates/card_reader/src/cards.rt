@@ -26,9 +26,13 @@ pub enum Kind {
 /// The operation of a statement.
 #[derive(Clone, Copy, PartialEq, Eq)]
 pub enum Operation {
+    /// `JOB`.
     Job,
+    /// `EXEC`.
     Exec,
+    /// `DD`.
     Dd,
+    /// Any other word, or none.
     Other,
 }
 

@@ -14,6 +14,7 @@ use thiserror::Error;
 /// A job's deck: what it says of the job, and the text that is stored.
 #[derive(Drop)]
 pub struct Deck {
+    /// What its JOB statement and JES2 cards say.
     pub fields: JobFields,
     /// All cards before the one that ends the job.
     pub text: Lines,
@@ -22,7 +23,9 @@ pub struct Deck {
 /// A card that is refused, counted from 1, and why.
 #[derive(Clone, Copy, PartialEq, Eq)]
 pub struct Refused {
+    /// Its number, from 1.
     pub card: usize,
+    /// The first cause that applies to it.
     pub cause: CardCause,
 }
 
@@ -354,9 +357,9 @@ fn least(card: Option<Refused>, said: Result<JobFields, Refused>) -> Result<JobF
 
 /// Reads a deck at the node `own`: the cards of one job, of at most 9,999 cards of at most 80 text bytes.
 ///
-/// `BadCard` exactly where the deck is outside the grammar, at the least card that is refused, by the first
-/// cause that applies to it: Text, Many, After, First, Name, Operand, Jes, Place. What else is wrong with
-/// statements is for the converter.
+/// `BadCard` exactly where the deck is outside the grammar, at the least card that is refused, by the first cause that
+/// applies to it: Text, Many, After, First, Name, Operand, Jes, Place. What else is wrong with statements is for the
+/// converter. NoMemory comes only when out of memory.
 pub fn read_deck(alloc: Global, own: Name8, cards: &Lines) -> Result<Deck, DeckNo>
     ensures fields { IfOk result (λ deck. read_as own cards.now ≡ Ok deck.fields) }
     ensures text { IfOk result (λ deck. deck.text ≡ text_of cards.now) }

@@ -9,10 +9,15 @@ use mas_types::{Class, Prio, read_class};
 /// What the operands of a JOB statement say.
 #[derive(Clone, Copy, PartialEq, Eq)]
 pub struct JobOperands {
+    /// `CLASS=`, else A.
     pub class: Class,
+    /// `MSGCLASS=`, else A.
     pub msgclass: Class,
+    /// `PRTY=`, 0 to 15, else 5.
     pub prio: Prio,
+    /// `TYPRUN=HOLD` stood there.
     pub held: bool,
+    /// `TYPRUN=SCAN` stood there.
     pub scan: bool,
     /// The positional operands so far.
     pub positional: u8,

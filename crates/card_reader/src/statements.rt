@@ -97,7 +97,7 @@ fn behind(cards: &Lines, at: usize) -> usize
     if at < count { at + 1 } else { count }
 }
 
-/// The operands of the statement that begins at a card, counted from 0.
+/// The operands of the statement that begins at a card, counted from 0. NoMemory comes only when out of memory.
 pub fn operands_at(alloc: Global, cards: &Lines, at: usize) -> Result<Operands, NoMemory>
     requires { at < length cards.now }
     ensures value { IfOk result (λ found. found ≡ operands_from (drop at cards.now)) }
@@ -226,8 +226,8 @@ pub fn data_from(cards: &Lines, from: usize, ending: Ending) -> DataCards
     }
 }
 
-/// How many cards are read with a card that stands outside data: those that continue a statement, and
-/// its data.
+/// How many cards are read with a card that stands outside data: those that continue a statement, and its data.
+/// NoMemory comes only when out of memory.
 pub fn further_at(alloc: Global, cards: &Lines, at: usize) -> Result<usize, NoMemory>
     requires { at < length cards.now }
     ensures value { IfOk result (λ taken. taken ≡ further_cards (drop at cards.now)) }

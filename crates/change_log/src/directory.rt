@@ -16,7 +16,9 @@ const NUMBERS_AT: usize = 16;
 /// The pages that a slot has images of: the first `count` of these numbers.
 #[derive(Clone, Copy)]
 pub struct Listed {
+    /// The numbers of the pages, ascending, and then zeros.
     pub numbers: [u16; PLACES],
+    /// How many of them are listed.
     pub count: u16,
 }
 

@@ -1,4 +1,4 @@
-// What a copy in the log form reads as.
+//! What a copy in the log form reads as.
 ghost use Rattle.std.specs.Prelude.{◌≡◌, ℕ, ◌+◌, ◌*◌, ◌≤◌, ◌<◌, length, slice_index, OnOk, IfOk, IfSome, IsErrOf, false};
 ghost use Rattle.mas_types.specs.Limits.{page_bytes, pages_most};
 ghost use Rattle.spool_disk.specs.declared.plant.Part.TheVariants.{Disk as DiskPart};

@@ -1,4 +1,4 @@
-// Where the parts of a copy in the log form stand. Blocks are counted from 0.
+//! Where the parts of a copy in the log form stand. Blocks are counted from 0.
 ghost use Rattle.std.specs.Prelude.{◌≡◌, ◌+◌, ◌*◌, ◌≤◌, ◌<◌, length};
 ghost use Rattle.mas_types.specs.Limits.{page_bytes, pages_most};
 ghost use Rattle.change_log.specs.Logs.{slots, log_size, gate_of, directory_block, image_block, block_head, free_after};

@@ -1,4 +1,4 @@
-// A copy in the log form.
+//! A copy in the log form.
 ghost use Rattle.std.specs.Prelude.{◌≡◌, ℕ, ◌+◌, ◌-◌, ◌≤◌, ◌<◌};
 ghost use Rattle.ckpt_copy.specs.Pages.{page_in};
 ghost use Rattle.change_log.specs.Logs.{log_size, room_in, free_after, slots};
@@ -21,7 +21,9 @@ use std::alloc::Global;
 /// Home pages, and slots with the pages that changed since.
 #[derive(Clone, Copy)]
 pub struct LogCopy {
+    /// The device that it is on.
     dev: Dev,
+    /// How many pages it has.
     pages: u16,
     // Which slots are open.
     gates: [bool; SLOTS as usize],

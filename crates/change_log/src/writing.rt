@@ -1,4 +1,4 @@
-// What a log writes: a slot behind its closed gate, the home pages, and the gates.
+//! What a log writes: a slot behind its closed gate, the home pages, and the gates.
 ghost use Rattle.std.specs.Prelude.{◌≡◌, ◌==◌, ◌&&◌, ℕ, ◌+◌, ◌-◌, ◌*◌, ◌≤◌, ◌<◌, [], List, Bool, nat_lt, length, slice_index, OnOk, false};
 ghost use Rattle.mas_types.specs.Limits.{page_bytes, pages_least, pages_most};
 ghost use Rattle.spool_disk.specs.declared.plant.Part.TheVariants.{Disk as DiskPart};

@@ -17,7 +17,7 @@ slice_before at len w old new le same =
     ∙ ap (drop at) (sym (take-take (at + len) w new le) ∙ ap (take (at + len)) same ∙ take-take (at + len) w old le)
     ∙ drop-take at len old
 
--- and behind it
+-- what stands behind a place, counted from a place before it
 pub drop_behind : (at w : ℕ) (l : List ℕ) → w ≤ at → drop at l ≡ drop (at - w) (drop w l)
 drop_behind at w l le = let e : at ≡ w + (at - w) = omega arith in ap (λ n. drop n l) e ∙ sym (drop-drop (at - w) w l)
 

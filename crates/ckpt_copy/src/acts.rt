@@ -29,7 +29,8 @@ fn answered(act: Act) -> Result<(), CopyNo>
     }
 }
 
-/// Writes bytes, without a sync: a crash may leave any bytes there, and no others are touched.
+/// Writes bytes, without a sync: a crash may leave any bytes there, and no others are touched. Failed comes where the
+/// device failed, Halted where the member was stopped in the act: then some of the bytes may stand there.
 pub fn write_act<P: Plant>(
     plant: &mut P,
     by: MemberId,
@@ -50,7 +51,8 @@ pub fn write_act<P: Plant>(
     answered(plant.write(by, dev, at, bytes))
 }
 
-/// Syncs the device: what it has then is what each crash leaves of it. No byte changes.
+/// Syncs the device: what it has then is what each crash leaves of it. No byte changes. Failed comes where the device
+/// failed, Halted where the member was stopped in the act.
 pub fn sync_act<P: Plant>(plant: &mut P, by: MemberId, dev: Dev) -> Result<(), CopyNo>
     ensures cause { Caused by.0 dev (P.view plant.old) (P.view plant.new) (answer_of result) }
     ensures out { P.tells → IsOut dev (P.view plant.new) (answer_of result) }
@@ -64,7 +66,7 @@ pub fn sync_act<P: Plant>(plant: &mut P, by: MemberId, dev: Dev) -> Result<(), C
     answered(plant.sync(by, dev))
 }
 
-/// Writes bytes and syncs the device.
+/// Writes bytes and syncs the device. The errors are those of the two acts.
 pub fn write_synced<P: Plant>(
     plant: &mut P,
     by: MemberId,
@@ -119,7 +121,7 @@ fn write_each<P: Plant>(
     Ok(())
 }
 
-/// Writes pages one after another, and syncs the device.
+/// Writes pages one after another, and syncs the device. The errors are those of the acts: Failed and Halted.
 pub fn write_pages<P: Plant>(
     plant: &mut P,
     by: MemberId,
@@ -143,7 +145,8 @@ pub fn write_pages<P: Plant>(
     sync_act(plant, by, dev)
 }
 
-/// Reads as many bytes as there is room for. After an error nothing is said of `into`.
+/// Reads as many bytes as there is room for. After an error nothing is said of `into`. Failed comes where the device
+/// failed, Halted where the member was stopped in the act.
 pub fn read_act<P: Plant>(
     plant: &mut P,
     by: MemberId,
@@ -164,7 +167,7 @@ pub fn read_act<P: Plant>(
     answered(plant.read(by, dev, at, into))
 }
 
-/// Reads the page that begins there.
+/// Reads the page that begins there. The errors are those of `read_act`.
 pub fn read_block<P: Plant>(plant: &mut P, by: MemberId, dev: Dev, at: u64) -> Result<Page, CopyNo>
     requires { at + page_bytes ≤ (P.view plant.old).size dev }
     ensures one { (P.view plant.new).now ≡ next (P.view plant.old).now }

@@ -1,4 +1,4 @@
-// A copy of the checkpoint on one device, of any form.
+//! A copy of the checkpoint on one device, of any form.
 ghost use Rattle.std.specs.Prelude.{◌≡◌, ◌⊎◌, ℕ, ◌+◌, ◌*◌, ◌≤◌, ◌<◌, [], ◌∷◌, List, length, replicate, OnOk, OnErr, IfOk, IsErrOf, Option, Some, None, false};
 ghost use Rattle.mas_types.specs.declared.ids.Dev.{Dev};
 ghost use Rattle.spool_disk.specs.View.{View, Disk, disk_now};
@@ -106,7 +106,7 @@ pub trait Copying {
     /// What the copy keeps in memory fits the device, and each image reads as these pages.
     ghost rests: { Self → List ℕ → Disk → Type 0 };
 
-    /// The same, and the next pages stand behind a closed gate, synced.
+    /// At rest as `rests` has it, and the next pages stand behind a closed gate, synced.
     ghost holds: { Self → List ℕ → List ℕ → Disk → Type 0 };
 
     /// How many bytes of device so many pages need.
@@ -280,7 +280,7 @@ pub trait Copying {
     ghost rests_reads: { (copy : Self) (pages : List ℕ) (disk : Disk) → rests copy pages disk
         → AllRead reads pages disk };
 
-    /// So do the bytes of the device themselves.
+    /// At rest the bytes of the device themselves read as the pages.
     ghost rests_now: { (copy : Self) (pages : List ℕ) (disk : Disk) → rests copy pages disk
         → reads disk.bytes ≡ Some pages };
 
@@ -296,7 +296,7 @@ pub trait Copying {
     ghost rests_stays: { (copy : Self) (pages : List ℕ) (old new : Disk) → NoMore old new → rests copy pages old
         → rests copy pages new };
 
-    /// And they leave the pages that wait.
+    /// Reads and syncs leave the pages that wait.
     ghost holds_stays: { (copy : Self) (was next : List ℕ) (old new : Disk) → NoMore old new → holds copy was next old
         → holds copy was next new };
 

@@ -1,4 +1,4 @@
-// What all forms of a copy have in block 0.
+//! What all forms of a copy have in block 0.
 use mas_types::limits::PAGE_BYTES;
 
 // The bytes of a page, and of block 0.

@@ -1,4 +1,4 @@
-// The form that the copies have.
+//! The form that the copies have.
 use change_log::LogCopy;
 
 /// A copy of the checkpoint: home pages, and slots with the pages that changed since.

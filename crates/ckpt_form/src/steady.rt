@@ -1,4 +1,4 @@
-// Copies that a shared value may have.
+//! Copies that a shared value may have.
 ghost use Rattle.std.specs.Prelude.{◌≡◌, ◌≤◌, ℕ, Bool, true};
 ghost use Rattle.mas_types.specs.declared.ids.Dev.{Dev};
 ghost use Rattle.spool_disk.specs.View.{View};

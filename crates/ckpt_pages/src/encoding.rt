@@ -288,7 +288,7 @@ pub fn encode_page(tables: &Tables, page: u16, levels: &List<Level>, into: &mut 
     }
 }
 
-/// All pages of the tables, in order, under the same conditions.
+/// All pages of the tables, in order, under the same conditions. NoMemory comes only when out of memory.
 pub fn encode(alloc: Global, tables: &Tables, levels: &List<Level>) -> Result<List<Page>, NoMemory>
     requires shape { HasShape tables.now }
     requires levels { length levels.now ≡ page_count_lem tables.now.config }

@@ -16,6 +16,7 @@ pub enum EntryError {
     /// The bytes are no spelling.
     #[error("the bytes are no spelling")]
     Bad,
+    /// Out of memory.
     #[error("no memory")]
     NoMemory,
 }
@@ -26,6 +27,7 @@ pub enum PageNo {
     /// The page of this number is no spelling. It is the least such page.
     #[error("page {0} is no spelling")]
     BadPage(u16),
+    /// Out of memory.
     #[error("no memory")]
     NoMemory,
 }

@@ -21,7 +21,7 @@ pub fn level_of(page0: &Page, page: u16) -> Level
     }
 }
 
-/// The numbers of page 0 and of the pages that differ, ascending.
+/// The numbers of page 0 and of the pages that differ, ascending. NoMemory comes only when out of memory.
 pub fn changed(alloc: Global, old: &[Page], new: &[Page]) -> Result<List<u16>, NoMemory>
     requires same { length old.now ≡ length new.now }
     requires some { 1 ≤ length old.now }
@@ -37,7 +37,7 @@ pub fn changed(alloc: Global, old: &[Page], new: &[Page]) -> Result<List<u16>, N
     Ok(pages)
 }
 
-/// The level of each page, as page 0 gives it.
+/// The level of each page, as page 0 gives it. NoMemory comes only when out of memory.
 pub fn levels_of(alloc: Global, pages: &[Page]) -> Result<List<Level>, NoMemory>
     requires { length pages.now ≤ 323 }
     ensures { IfOk result (λ levels. levels ≡ levels_given pages.now) }

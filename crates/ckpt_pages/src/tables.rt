@@ -26,6 +26,7 @@ pub(crate) const FIRST_JOB_PAGE: u16 = 3;
 /// their places, and the owner of each track group.
 #[derive(Drop)]
 pub struct Tables {
+    /// The configuration, by which there are slots and groups.
     pub config: Config,
     /// A slot for each job that the configuration has room for.
     pub jobs: List<Option<JobRec>>,
@@ -35,7 +36,9 @@ pub struct Tables {
     pub owners: List<Owner>,
     /// The setting of each member, that of SYSA first.
     pub members: List<Setting>,
+    /// The routes to other nodes, at most 63.
     pub routes: List<Route>,
+    /// The counts of the lines to other nodes, that of line 1 first.
     pub lines: List<LineCount>,
     /// The job number that was given last, 0 for none.
     pub last: JobNo,
@@ -83,8 +86,8 @@ pub fn page_count(config: &Config) -> u16
     ) as u16
 }
 
-/// The tables that a cold start begins with: no job and no output, every group Free, the default
-/// setting for each member, these routes, and no number and no order given.
+/// The tables that a cold start begins with: no job and no output, every group Free, the default setting for each
+/// member, these routes, and no number and no order given. NoMemory comes only when out of memory.
 pub fn empty(alloc: Global, config: &Config, routes: &List<Route>) -> Result<Tables, NoMemory>
     requires config { IsConfig config.now }
     requires routes { length routes.now ≤ routes_most }

@@ -19,7 +19,8 @@ use mas_types::{
 };
 use std::alloc::Global;
 
-/// What a display of the queue answers: its lines, or NoJob where it is of a job that isn't there.
+/// What a display of the queue answers: its lines, or NoJob where it is of a job that isn't there. NoMemory comes only
+/// when out of memory.
 pub fn show(alloc: Global, queue: &Queue, what: What) -> Result<Reply, NoMemory>
     requires { IsNamed queue.now }
     ensures { IfOk result (λ reply. ComesTo queue.now (show_row queue.now what) queue.now reply) }

@@ -13,7 +13,7 @@ use mas_types::{Batch, Command, Entry, Fate, Journal, Lines, List, NoMemory, Rep
 use std::alloc::Global;
 
 /// The lines of a run's history: of each entry that was kept, in order and counted from 1, who gave it, its step, its
-/// word and its outcome; and of the end, with the number of entries.
+/// word and its outcome; and of the end, with the number of entries. NoMemory comes only when out of memory.
 pub fn history(alloc: Global, journal: &Journal) -> Result<Lines, NoMemory>
     requires named { IsHistoryNamed journal.now }
     requires count { length (kept_list journal.now) < 2 ^ 63 }

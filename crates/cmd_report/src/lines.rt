@@ -7,7 +7,8 @@ use mas_types::words::{push_digits, push_member, push_text};
 use mas_types::{Closing, Lines, List, MemberId, NoMemory, closing_line};
 use std::alloc::Global;
 
-/// The line with which a step closes: the member's name, the step in five digits, and how it closed.
+/// The line with which a step closes: the member's name, the step in five digits, and how it closed. NoMemory comes
+/// only when out of memory.
 pub fn closing(alloc: Global, by: MemberId, step: u32, end: &Closing) -> Result<List<u8>, NoMemory>
     requires by { by.0 ≤ members_most }
     requires named { AreMembersNamed end.now }
@@ -17,7 +18,7 @@ pub fn closing(alloc: Global, by: MemberId, step: u32, end: &Closing) -> Result<
 }
 
 /// The lines of a display as they are said: each with the member's name, the step in five digits and a hyphen before
-/// it.
+/// it. NoMemory comes only when out of memory.
 pub fn details(alloc: Global, by: MemberId, step: u32, shown: &Lines) -> Result<Lines, NoMemory>
     requires { by.0 ≤ members_most }
     ensures { IfOk result (λ lines. lines ≡ detail_lines by step shown.now) }

@@ -18,7 +18,8 @@ fn detail_lines(alloc: Global, by: MemberId, step: u32, reply: &Reply) -> Result
     }
 }
 
-/// The lines of a step that closes with this reply: those of a display, and behind them the closing line.
+/// The lines of a step that closes with this reply: those of a display, and behind them the closing line. NoMemory
+/// comes only when out of memory.
 pub fn reply_lines(alloc: Global, by: MemberId, step: u32, reply: &Reply) -> Result<Lines, NoMemory>
     requires by { by.0 ≤ members_most }
     requires named { IsReplyNamed reply.now }
@@ -31,7 +32,7 @@ pub fn reply_lines(alloc: Global, by: MemberId, step: u32, reply: &Reply) -> Res
     Ok(lines)
 }
 
-/// The one line of a step that closes so, and has no display.
+/// The one line of a step that closes so, and has no display. NoMemory comes only when out of memory.
 pub fn one_line(alloc: Global, by: MemberId, step: u32, end: &Closing) -> Result<Lines, NoMemory>
     requires by { by.0 ≤ members_most }
     requires named { AreMembersNamed end.now }

@@ -1,4 +1,4 @@
-// The pages that two copies give together.
+//! The pages that two copies give together.
 ghost use Rattle.std.specs.Prelude.{◌≡◌, ◌≢◌, ◌⊎◌, ◌&&◌, not, ℕ, OnOk, OnErr, IfOk, IsErrOf, true, false};
 ghost use Rattle.mas_types.specs.declared.ids.Dev.{Dev as DevLem};
 ghost use Rattle.mas_types.specs.declared.ids.Dev.TheVariants.{Ckpt1, Ckpt2};
@@ -87,7 +87,7 @@ impl<C: Copying + Drop> Pair<C> {
     ///
     /// After an error no copy was lost by a call. BothLost comes exactly where both copies count as lost after the
     /// looks, NotValid exactly where one doesn't and none reads. At each moment of the call an image of a copy is one
-    /// of before it.
+    /// of before it. Halted comes only where the member was stopped inside the call, NoMemory only when out of memory.
     pub fn find<P: Plant>(
         &mut self,
         alloc: Global,

@@ -1,4 +1,4 @@
-// One copy of a pair. After an act on it failed it is passed over.
+//! One copy of a pair. After an act on it failed it is passed over.
 ghost use Rattle.std.specs.Prelude.{◌≡◌, ◌⊎◌, ℕ, ◌+◌, ◌≤◌, ◌<◌, List, [], length, OnOk, OnErr, IfOk, IsErrOf, true, false};
 ghost use Rattle.mas_types.specs.Limits.{pages_least, pages_most};
 ghost use Rattle.spool_disk.specs.View.{View, disk_now};
@@ -24,7 +24,9 @@ use std::alloc::Global;
 /// One copy of a pair, and whether it counts as alive.
 #[derive(Drop)]
 pub struct Half<C: Copying + Drop> {
+    /// The copy.
     pub copy: C,
+    /// No act on it failed, and no call lost it.
     pub alive: bool,
     /// The level of the pages that the last look found.
     pub found: u64,

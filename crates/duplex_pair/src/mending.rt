@@ -1,4 +1,4 @@
-// A copy that lags is brought up to the other.
+//! A copy that lags is brought up to the other.
 ghost use Rattle.std.specs.Prelude.{◌≡◌, ◌⊎◌, ℕ, ◌≤◌, ◌<◌, List, length, OnOk, IsErrOf, true, false};
 ghost use Rattle.mas_types.specs.declared.ids.Dev.TheVariants.{Ckpt1, Ckpt2};
 ghost use Rattle.spool_disk.specs.View.{disk_now};
@@ -66,7 +66,8 @@ impl<C: Copying + Drop> Pair<C> {
     /// other reads them too, or pages of a lower level.
     ///
     /// At each moment of the call an image of each such copy reads as before it or as these pages. After Ok each that
-    /// still counts as alive reads as these pages.
+    /// still counts as alive reads as these pages. BothLost comes only where both copies count as lost at the end of
+    /// the call, Halted only where the member was stopped in it.
     pub fn mend<P: Plant>(
         &mut self,
         plant: &mut P,

@@ -1,4 +1,4 @@
-// The level of pages, and their numbers.
+//! The level of pages, and their numbers.
 ghost use Rattle.std.specs.Prelude.{◌≡◌, ◌+◌, ◌≤◌, ◌<◌, ℕ, length, Contains};
 ghost use Rattle.std.specs.Int.{from_be_bytes, w64};
 ghost use Rattle.mas_types.specs.Limits.{page_bytes, pages_most};

@@ -1,4 +1,4 @@
-// The two copies.
+//! The two copies.
 ghost use Rattle.std.specs.Prelude.{◌≡◌, ◌⊎◌, ℕ, ◌+◌, ◌≤◌, ◌<◌, List, [], length, OnOk, OnErr, IfOk, IsErrOf, Some, true, false, if◌then◌else◌, min};
 ghost use Rattle.mas_types.specs.declared.ids.Dev.{Dev};
 ghost use Rattle.mas_types.specs.declared.ids.Dev.TheVariants.{Ckpt1, Ckpt2};
@@ -27,7 +27,9 @@ use std::alloc::Global;
 /// The copies on CKPT1 and on CKPT2.
 #[derive(Drop)]
 pub struct Pair<C: Copying + Drop> {
+    /// The copy on CKPT1.
     pub first: Half<C>,
+    /// The copy on CKPT2.
     pub second: Half<C>,
 
     ghost first_dev: { C.dev first.copy ≡ Ckpt1 },
@@ -152,6 +154,8 @@ impl<C: Copying + Drop> Pair<C> {
     /// that differ from what the copy reads. On a copy that counts as lost nothing is done.
     ///
     /// At each moment of the call each image of the copy reads as before it, and the other copy stays as it is.
+    /// BothLost comes only where both copies count as lost at the end of the call, Halted only where the member was
+    /// stopped in it.
     pub fn put<P: Plant>(
         &mut self,
         plant: &mut P,
@@ -245,7 +249,8 @@ impl<C: Copying + Drop> Pair<C> {
     /// lost nothing is done.
     ///
     /// At each moment of the call each image of the copy reads as the old or the new pages, and the other copy stays as
-    /// it is.
+    /// it is. BothLost comes only where both copies count as lost at the end of the call, Halted only where the member
+    /// was stopped in it.
     pub fn open_copy<P: Plant>(
         &mut self,
         plant: &mut P,
@@ -313,6 +318,7 @@ impl<C: Copying + Drop> Pair<C> {
     ///
     /// Lost is answered exactly where the device is lost at the end of the call, Unread where it isn't and reads as
     /// none. At each moment of the call an image of the copy is one of before it, and the other copy stays as it is.
+    /// Halted comes only where the member was stopped inside the call, NoMemory only when out of memory.
     pub fn look<P: Plant>(
         &mut self,
         alloc: Global,
@@ -389,7 +395,8 @@ impl<C: Copying + Drop> Pair<C> {
     /// Makes a copy of these pages of each device whose copy counts as alive.
     ///
     /// At each moment of the call an image of such a device reads as none or as these pages, or it is, except VALID,
-    /// one of before the call. After Ok each image reads as these pages.
+    /// one of before the call. After Ok each image reads as these pages. BothLost comes only where both copies count as
+    /// lost at the end of the call, Halted only where the member was stopped in it.
     pub fn form<P: Plant>(
         &mut self,
         plant: &mut P,
@@ -482,7 +489,8 @@ impl<C: Copying + Drop> Pair<C> {
 
     /// Makes room for puts again on each copy that counts as alive. The pages have to be those that these copies read.
     ///
-    /// At each moment of the call each image of such a copy reads as before it.
+    /// At each moment of the call each image of such a copy reads as before it. BothLost comes only where both copies
+    /// count as lost at the end of the call, Halted only where the member was stopped in it.
     pub fn settle<P: Plant>(
         &mut self,
         plant: &mut P,
@@ -571,7 +579,8 @@ impl<C: Copying + Drop> Pair<C> {
         Ok(())
     }
 
-    /// Reads one page from CKPT1 while its copy counts as alive, else from CKPT2.
+    /// Reads one page from CKPT1 while its copy counts as alive, else from CKPT2. BothLost comes only where both copies
+    /// count as lost at the end of the call, Halted only where the member was stopped in it.
     pub fn read_page<P: Plant>(
         &mut self,
         plant: &mut P,

@@ -1,4 +1,4 @@
-// A lost copy is replaced.
+//! A lost copy is replaced.
 ghost use Rattle.std.specs.Prelude.{◌≡◌, ◌⊎◌, ℕ, ◌+◌, ◌≤◌, List, length, OnOk, OnErr, Err, IsErrOf, true, false};
 ghost use Rattle.mas_types.specs.declared.ids.Dev.TheVariants.{Ckpt1, Ckpt2};
 ghost use Rattle.mas_types.specs.Limits.{pages_least, pages_most};
@@ -141,7 +141,7 @@ impl<C: Copying + Drop> Pair<C> {
     /// At each moment of the call the device is as it was, or each of its images reads as none or as these pages. After
     /// Ok each reads as these pages. NotLost comes exactly where the copy counts as alive, and BothLost exactly where
     /// neither does; then no act is made. After any error the pair is as it was. After Failed the new device is lost
-    /// too.
+    /// too. Halted comes only where the member was stopped inside the call.
     pub fn replace<P: Plant>(
         &mut self,
         plant: &mut P,

@@ -1,4 +1,4 @@
-// What is done with a plant.
+//! What is done with a plant.
 use mas_types::{Dev, MemberId};
 use spool_disk::{Act, Plant, Took};
 

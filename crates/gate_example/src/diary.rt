@@ -32,7 +32,7 @@ impl Diary {
         }
     }
 
-    /// Adds an entry at the end.
+    /// Adds an entry at the end. After NoMemory nothing is changed.
     pub fn add(&mut self, entry: Entry) -> Result<(), NoMemory>
         ensures ok { OnOk result (self.new.entries ≡ self.old.entries ++ entry ∷ []) }
         ensures err { OnErr result (self.new.entries ≡ self.old.entries) }

@@ -12,7 +12,9 @@ use std::snapshot::Snapshot;
 /// The only one at a shared value: each turn has the value that was handed back last.
 #[derive(Drop)]
 pub struct OneHand<V: Telling> {
+    /// The value, none while a turn has it.
     value: Option<V>,
+    /// What it was as it was handed back last.
     last: Snapshot<V>,
     ghost same: { ForSome value (λ x. x ≡ last.value) },
     ghost rest: { IsAtRest (V.shown last.value) },

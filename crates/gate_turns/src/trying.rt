@@ -13,7 +13,7 @@ use spool_disk::Plant;
 
 /// One turn in which the member tries at the lock of the checkpoint, inside a step or between two, and which is given
 /// back whether or not it got it. After Ok the member remembers that it has the lock. One that is alone has just the
-/// value after the try, and the answer is the book's.
+/// value after the try, and the answer is the book's. Down, Busy and Dormant come as `try_lock` of the book says.
 pub fn try_in_turn<P: Plant + Drop, C: Steady + Drop, T: Turns<Complex<P, C>>>(
     turns: &mut T,
     by: MemberId,

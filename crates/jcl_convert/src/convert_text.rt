@@ -34,14 +34,18 @@ impl From<NoMemory> for JclNo {
 /// A card that is refused, counted from 1, and why.
 #[derive(Clone, Copy, PartialEq, Eq)]
 pub struct Refused {
+    /// Its number, from 1.
     pub card: usize,
+    /// The first cause that applies to it.
     pub cause: JclCause,
 }
 
 /// The steps so far, and the number of DD statements with SYSOUT among theirs.
 #[derive(Drop)]
 pub struct Converted {
+    /// The steps, in order.
     pub steps: List<Step>,
+    /// The DD statements with SYSOUT among theirs, at most 32.
     pub sysouts: usize,
 }
 
@@ -167,9 +171,9 @@ fn card_number(at: usize) -> u32
 
 /// Converts the stored text of a job with these fields to its steps.
 ///
-/// `JclError` exactly where a statement of the text is outside the grammar, at the first card of the least
-/// such statement, by the first cause that applies to it: Name, Operation, Proc, Pgm, Dsn, Operand, Stray,
-/// Place, Many. A text without an EXEC statement has no steps.
+/// `JclError` exactly where a statement of the text is outside the grammar, at the first card of the least such
+/// statement, by the first cause that applies to it: Name, Operation, Proc, Pgm, Dsn, Operand, Stray, Place, Many. A
+/// text without an EXEC statement has no steps. NoMemory comes only when out of memory.
 pub fn convert(alloc: Global, fields: &JobFields, text: &Lines) -> Result<List<Step>, JclNo>
     ensures steps { IfOk result (Converts (converted fields.now text.now)) }
     ensures refused { IfErr result (Refuses (converted fields.now text.now)) }

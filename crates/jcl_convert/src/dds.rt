@@ -28,10 +28,15 @@ pub enum DdForm {
 pub struct SysoutForm {
     /// SYSOUT= was read.
     pub is_given: bool,
+    /// The class that is named, else the job's message class.
     pub class: Class,
+    /// The forms that are named, else STD.
     pub forms: Name8,
+    /// `DEST=`, else the job's print destination.
     pub dest: Name8,
+    /// `COPIES=`, 1 to 255, else 1.
     pub copies: u8,
+    /// `HOLD=YES` stood there.
     pub held: bool,
 }
 

@@ -15,7 +15,9 @@ use std::alloc::Global;
 pub enum Line {
     /// The JOB statement, which the card reader read.
     Job,
+    /// An EXEC statement with this program.
     Exec(Program),
+    /// A DD statement with this name and form.
     Dd(Name8, DdForm),
 }
 

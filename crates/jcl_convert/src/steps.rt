@@ -31,13 +31,17 @@ pub enum DdKind {
 /// A DD statement.
 #[derive(Drop)]
 pub struct Dd {
+    /// Its name.
     pub name: Name8,
+    /// What it stands for.
     pub kind: DdKind,
 }
 
 /// A step: an EXEC statement, and the DD statements up to the next one.
 #[derive(Drop)]
 pub struct Step {
+    /// The program that it runs.
     pub program: Program,
+    /// Its DD statements, in order.
     pub dds: List<Dd>,
 }

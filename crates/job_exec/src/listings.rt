@@ -8,8 +8,8 @@ ghost use Rattle.job_exec.specs.Running.{AreOutputs};
 use mas_types::{JobFields, Lines, List, Name8, NoMemory, OutSpec};
 use std::alloc::Global;
 
-/// The one output of a job with an error, or of one that is only scanned: this line, in the message class,
-/// with the job's print destination, forms STD, one copy, not held.
+/// The one output of a job with an error, or of one that is only scanned: this line, in the message class, with the
+/// job's print destination, forms STD, one copy, not held. NoMemory comes only when out of memory.
 pub fn listing(alloc: Global, fields: &JobFields, line: &[u8]) -> Result<List<OutSpec>, NoMemory>
     ensures output { IfOk result (λ outputs. outputs ≡ listing_of fields.now line.now ∷ []) }
     ensures fits { IsJobFields fields.now → length line.now ≤ line_bytes → is_text_line line.now ≡ true

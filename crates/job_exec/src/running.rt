@@ -20,10 +20,15 @@ pub struct Ran {
 /// Why IEBGENER doesn't copy.
 #[derive(Clone, Copy, PartialEq, Eq)]
 pub enum Message {
+    /// SYSIN has cards, or is SYSOUT.
     SysinNotEmpty,
+    /// There is no SYSUT1.
     MissingSysut1,
+    /// SYSUT1 is SYSOUT.
     WrongSysut1,
+    /// There is no SYSUT2.
     MissingSysut2,
+    /// SYSUT2 has cards.
     WrongSysut2,
 }
 
@@ -165,8 +170,8 @@ fn run_step(alloc: Global, step: &Step, outputs: &mut List<OutSpec>) -> Result<u
     }
 }
 
-/// Runs the steps of a job in order: the outputs in the order of their DD statements, and the greatest
-/// condition code. Each DD statement with SYSOUT that got a line gives one output.
+/// Runs the steps of a job in order: the outputs in the order of their DD statements, and the greatest condition code.
+/// Each DD statement with SYSOUT that got a line gives one output. NoMemory comes only when out of memory.
 pub fn run_steps(alloc: Global, steps: &List<Step>) -> Result<Ran, NoMemory>
     ensures outputs { IfOk result (λ ran. ran.outputs ≡ outputs_of steps.now) }
     ensures code { IfOk result (λ ran. ran.code ≡ code_of steps.now) }

@@ -93,7 +93,7 @@ fn outcome_of_text(
 
 /// What becomes of a job with these fields, which is run, or else converted: with its text it ends with its outputs,
 /// those of its steps or what is listed of an error or a scan, or it is converted; without it the unit is refused. The
-/// outputs are within the limits.
+/// outputs are within the limits. NoMemory comes only when out of memory.
 pub fn outcome_of(
     alloc: Global,
     runs: bool,

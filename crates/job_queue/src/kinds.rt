@@ -57,7 +57,9 @@ impl Test<JobRec> for InPhase {
 /// The jobs in a phase that are busy at a member.
 #[derive(Clone, Copy)]
 pub struct WorkingAt {
+    /// The member.
     pub by: MemberId,
+    /// The phase.
     pub phase: Phase,
 }
 

@@ -20,6 +20,7 @@ const SEVERAL: u16 = 65535;
 pub struct JobsByNumber<'a> {
     /// The slots.
     pub jobs: &'a [Option<JobRec>],
+    /// By a hash of the number, the slot of its job and one more, 0 for none.
     places: [u16; 4096],
     ghost placed: { ArePlaces jobs.now (length jobs.now) places },
 }

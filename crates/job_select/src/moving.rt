@@ -141,7 +141,7 @@ impl Index {
         index_of(alloc, jobs, outputs)
     }
 
-    /// The index of the jobs and outputs of tables, which have their shape.
+    /// The index of the jobs and outputs of tables, which have their shape. NoMemory comes only when out of memory.
     pub fn build(alloc: Global, tables: &Tables) -> Result<Index, NoMemory>
         requires { HasShape tables.now }
         ensures { IfOk result (λ index. IsOf index tables.now) }

@@ -94,10 +94,15 @@ fn fits_printer(by: MemberId, name: &Name8, forms: &Name8, item: &OutRec) -> boo
 /// numbers.
 #[derive(Drop)]
 pub struct ForPrinter<'a> {
+    /// The slots of the jobs.
     pub jobs: &'a [Option<JobRec>],
+    /// The chains of the jobs' numbers.
     pub numbers: &'a Chains,
+    /// The member.
     pub by: MemberId,
+    /// The member's name, a destination that its printer serves.
     pub name: Name8,
+    /// The forms in its printer.
     pub forms: Name8,
     ghost named: { name ≡ member_name by },
     ghost numbered: { AreChains number_chain jobs.now numbers.now },

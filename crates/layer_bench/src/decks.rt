@@ -1,4 +1,4 @@
-// Reads a deck of 9,999 cards.
+//! Reads a deck of 9,999 cards.
 use card_reader::{DeckNo, read_deck};
 use mas_types::limits::TEXT_LINES_MOST;
 use mas_types::{Lines, Name8, NoMemory};

@@ -1,6 +1,6 @@
-// Plays random events on a net of 64 nodes. Two nodes whose numbers, counted from 0, differ in one bit are joined by
-// the line of that bit, and a node sends on by the line of the least bit in which it differs from the node that a job
-// is for.
+//! Plays random events on a net of 64 nodes. Two nodes whose numbers, counted from 0, differ in one bit are joined by
+//! the line of that bit, and a node sends on by the line of the least bit in which it differs from the node that a job
+//! is for.
 ghost use Rattle.std.specs.Prelude.{◌<◌, ◌≤◌};
 
 use mas_types::{List, Name8, NoMemory, Route};

@@ -1,4 +1,4 @@
-// Decodes all pages of the largest spool, and encodes pages of it.
+//! Decodes all pages of the largest spool, and encodes pages of it.
 ghost use Rattle.std.specs.Prelude.{◌≡◌, length, IfOk};
 ghost use Rattle.ckpt_pages.specs.Shape.{HasShape, page_count as page_count_lem};
 

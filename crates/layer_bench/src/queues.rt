@@ -1,4 +1,4 @@
-// Gives a command that concerns no job, on a queue with the least or the most jobs.
+//! Gives a command that concerns no job, on a queue with the least or the most jobs.
 ghost use Rattle.std.specs.Prelude.{◌≡◌, ◌≤◌, ◌%◌, length, IfOk};
 ghost use Rattle.mas_types.specs.Limits.{jobs_least, jobs_most, jobs_step};
 ghost use Rattle.mas_types.specs.Fit.{IsConfig, IsFit};

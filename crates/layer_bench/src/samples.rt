@@ -1,4 +1,4 @@
-// Full tables of the largest spool, and their jobs.
+//! Full tables of the largest spool, and their jobs.
 ghost use Rattle.std.specs.Prelude.{◌≡◌, ◌≤◌, length, IfOk};
 ghost use Rattle.mas_types.specs.Fit.{IsConfig};
 ghost use Rattle.ckpt_pages.specs.Shape.{HasShape, page_count as page_count_lem};

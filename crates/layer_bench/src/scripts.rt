@@ -1,4 +1,4 @@
-// Reads a script of nearly 16 MiB.
+//! Reads a script of nearly 16 MiB.
 use mas_types::limits::SCRIPT_BYTES;
 use script_lang::{ScriptNo, read_script};
 use std::alloc::{AllocError, Global};

@@ -12,11 +12,17 @@ const MOST: usize = MEMBERS_MOST as usize;
 /// Who holds the lock of the checkpoint, and how each member stands with it.
 #[derive(Drop)]
 pub struct LockBook {
+    /// The member that holds the lock, 0 for nobody.
     holder: MemberId,
+    /// The tries that were counted.
     tick: u64,
+    /// How many commands a whole hold has.
     hold: u16,
+    /// For how many ticks a member that freed the lock leaves it to others.
     dormancy: u16,
+    /// How many members there are, 1 to 8.
     members: u8,
+    /// How each member stands with the lock, by its number.
     standings: [Standing; MOST],
 }
 

@@ -20,9 +20,13 @@ use spool_disk::Plant;
 /// What a shared value hands out at its end.
 #[derive(Drop)]
 pub struct Ended<P: Plant + Drop> {
+    /// The plant that was lent to the shared value.
     pub plant: P,
+    /// The queue that it began with.
     pub base: Queue,
+    /// The moment from which on it kept its promises.
     pub since: u64,
+    /// The batches of its time, with their fates.
     pub journal: Journal,
 }
 
@@ -30,11 +34,15 @@ pub struct Ended<P: Plant + Drop> {
 /// when they stood for `base`.
 #[derive(Drop)]
 pub struct Complex<P: Plant + Drop, C: Steady + Drop> {
+    /// The devices, the console, printers and wires.
     pub plant: P,
+    /// The two copies of the checkpoint.
     pub pair: Pair<C>,
     /// Who holds the lock of the checkpoint, and how each member stands with it.
     pub book: LockBook,
+    /// The queue that it began with.
     pub base: Queue,
+    /// The moment from which on it keeps its promises.
     pub since: u64,
     /// The batches that have their fates, and the place of one to come.
     pub journal: Journal,
@@ -46,7 +54,7 @@ pub struct Complex<P: Plant + Drop, C: Steady + Drop> {
     pub placed: bool,
     /// How far the batch in flight has come on CKPT1.
     pub first: Place,
-    /// And on CKPT2.
+    /// How far it has come on CKPT2.
     pub second: Place,
     /// The level of the kept pages.
     pub level: u64,

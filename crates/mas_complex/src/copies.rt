@@ -89,7 +89,8 @@ impl<P: Plant + Drop, C: Steady + Drop> Complex<P, C> {
     }
 
     /// Makes room for puts again on each copy that counts as alive. The member holds the lock and isn't stopped,
-    /// nothing may be in flight, and the pages are those that these copies read, and read afterwards.
+    /// nothing may be in flight, and the pages are those that these copies read, and read afterwards. BothLost comes
+    /// only where both copies count as lost at the end of the call, Halted only where the member was stopped in it.
     pub fn settle(&mut self, by: MemberId, pages: &[Page]) -> Result<(), PairNo>
         requires may { MayAct self.old.book by }
         requires none { self.old.current ≡ None }
@@ -137,7 +138,8 @@ impl<P: Plant + Drop, C: Steady + Drop> Complex<P, C> {
     }
 
     /// Reads a page of the checkpoint for the member that holds the lock and isn't stopped, from CKPT1 while its copy
-    /// counts as alive, else from CKPT2.
+    /// counts as alive, else from CKPT2. BothLost comes only where both copies count as lost at the end of the call,
+    /// Halted only where the member was stopped in it.
     pub fn read_page(&mut self, by: MemberId, page: u16, into: &mut Page) -> Result<(), PairNo>
         requires may { MayAct self.old.book by }
         requires page1 { self.old.pair.first.alive ≡ true → page < C.count self.old.pair.first.copy }

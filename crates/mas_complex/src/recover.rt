@@ -354,7 +354,7 @@ impl<P: Plant + Drop, C: Steady + Drop> Complex<P, C> {
     /// A batch that was in flight has no place after that; without one the place of a batch to come stays.
     ///
     /// BothLost comes only where both copies count as lost at the end of the call, Halted only where the member was
-    /// stopped in it. After an error a batch in flight still is, in its place.
+    /// stopped in it. After an error a batch in flight still is, in its place. NoMemory comes only when out of memory.
     pub fn recover(&mut self, alloc: Global, by: MemberId) -> Result<List<Page>, RecoverNo>
         requires may { MayAct self.old.book by }
         requires others { IsOfOther self.old.current by }

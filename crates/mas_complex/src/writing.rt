@@ -134,11 +134,12 @@ impl<P: Plant + Drop, C: Steady + Drop> Complex<P, C> {
     /// The entries have the replies that the commands give at their places, after the kept ones. Where the base has the
     /// sound parts each is within the limits and of a member that may give it, and a Mark is at most at what its member
     /// has printed. With a Pick, Mark, Back or Forward the member begins to count anew. The pages stand for the queue
-    /// with the batch, which has an entry, and have the level after the one of the kept pages. Their next order is at
-    /// most 2^19 above that of the pages that the copy reads, unless the other copy has them already. The texts of that
-    /// queue stand on the spool volumes, all of them synced, except those with a group on a volume that is lost.
-    /// `changed` are the numbers of page 0 and of just those that differ from what the copy reads. Both copies are given
-    /// the same pages: where the other one counts as alive, these wait behind its gate if others than the kept ones do.
+    /// with the batch, which has an entry, and have the level after the one of the kept pages. The texts of that queue
+    /// stand on the spool volumes, all of them synced, except those with a group on a volume that is lost. `changed`
+    /// are the numbers of page 0 and of just those that differ from what the copy reads. Both copies are given the same
+    /// pages: where the other one counts as alive, these wait behind its gate if others than the kept ones do. BothLost
+    /// comes only where both copies count as lost at the end of the call, Halted only where the member was stopped in
+    /// it.
     pub fn log(
         &mut self,
         by: MemberId,
@@ -244,7 +245,8 @@ impl<P: Plant + Drop, C: Steady + Drop> Complex<P, C> {
 
     /// Opens the gate before the pages that one copy was given. The batch is kept by the call after which each copy
     /// that counts as alive has opened its gate: from then on no copy is as before it. The batch is one of the member
-    /// that holds the lock, or of the operator while nobody does, and that isn't stopped.
+    /// that holds the lock, or of the operator while nobody does, and that isn't stopped. BothLost comes only where
+    /// both copies count as lost at the end of the call, Halted only where the member was stopped in it.
     pub fn open_copy(&mut self, by: MemberId, dev: Dev) -> Result<(), PairNo>
         requires may { MayAct self.old.book by }
         requires own_flying { IsOwn self.old.current by }

@@ -9,6 +9,7 @@ use mas_types::{Journal, Queue, Status, status_code};
 /// A run has begun where `base` has members. A run that has not begun changed no queue.
 #[derive(Drop)]
 pub struct Ended<P> {
+    /// How it ended.
     pub status: Status,
     /// The plant that was lent to the run.
     pub plant: P,

@@ -25,6 +25,7 @@ pub enum Verb {
 /// The words, read.
 #[derive(Drop)]
 pub struct Words {
+    /// What is asked for.
     pub verb: Verb,
     /// `--cold` stands there: the run begins with an empty queue.
     pub cold: bool,

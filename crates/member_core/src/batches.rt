@@ -144,7 +144,7 @@ pub fn keep_once(read: bool, batches: &mut List<Batch>)
     }
 }
 
-/// A copy of the entries, and one more.
+/// A copy of the entries, and one more. NoMemory comes only when out of memory.
 pub fn with_entry(
     alloc: Global,
     entries: &List<Entry>,
@@ -157,7 +157,7 @@ pub fn with_entry(
     Ok(all)
 }
 
-/// A copy of the kept entries.
+/// A copy of the kept entries. NoMemory comes only when out of memory.
 pub fn kept_entries(alloc: Global, batches: &List<Batch>) -> Result<List<Entry>, NoMemory>
     ensures { IfOk result (λ all. all ≡ kept_in batches.now) }
 {
@@ -186,7 +186,7 @@ fn add_all(alloc: Global, all: &mut List<Entry>, entries: &List<Entry>) -> Resul
     Ok(())
 }
 
-/// A copy of the kept entries, and those in flight behind them.
+/// A copy of the kept entries, and those in flight behind them. NoMemory comes only when out of memory.
 pub fn both_entries(alloc: Global, batches: &List<Batch>) -> Result<List<Entry>, NoMemory>
     ensures { IfOk result (λ all. all ≡ kept_in batches.now ++ flying_in batches.now) }
 {

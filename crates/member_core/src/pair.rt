@@ -75,7 +75,7 @@ fn copy_reads(alloc: Global, copies: &List<CopyAt>, at: usize) -> Result<List<En
     copy_good(alloc, copies.item(at))
 }
 
-/// A copy of the longest list that a good copy reads.
+/// A copy of the longest list that a good copy reads. NoMemory comes only when out of memory.
 pub fn longest(alloc: Global, copies: &List<CopyAt>) -> Result<List<Entry>, NoMemory>
     ensures { IfOk result (λ own. own ≡ longest_read copies.now) }
 {

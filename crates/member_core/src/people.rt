@@ -91,7 +91,7 @@ pub fn own_count(members: &List<MemberAt>, m: MemberId) -> usize
     members.item(m.0 as usize).own.len()
 }
 
-/// A copy of the member's own list.
+/// A copy of the member's own list. NoMemory comes only when out of memory.
 pub fn copy_own(
     alloc: Global,
     members: &List<MemberAt>,
@@ -105,7 +105,7 @@ pub fn copy_own(
     members.item(m.0 as usize).own.copy(alloc)
 }
 
-/// A copy of the member's batch.
+/// A copy of the member's batch. NoMemory comes only when out of memory.
 pub fn copy_batch(
     alloc: Global,
     members: &List<MemberAt>,

@@ -19,7 +19,8 @@ use mas_types::{Command, Copied, Entry, Journal, List, MemberId, NoMemory, Queue
 use std::alloc::Global;
 
 impl World {
-    /// The world over a base: both copies good, the members from 1 on up and away, and nothing in the journal.
+    /// The world over a base: both copies good, the members from 1 on up and away, and nothing in the journal. NoMemory
+    /// comes only when out of memory.
     pub fn new(alloc: Global, base: &Queue) -> Result<World, NoMemory>
         ensures value { IfOk result (λ world. world ≡ start base.now) }
         ensures holds { IsSound base.now → IfOk result Holds }

@@ -232,7 +232,7 @@ fn happen(alloc: Global, world: &mut World, event: &Event) -> Result<bool, NoMem
 
 /// Runs the events over a base, those skipped that aren't possible. Whatever they are, the world is right: where a copy
 /// is good, what a start would find is the run of the kept entries, with or without the batch in flight, and holds all
-/// that was told.
+/// that was told. NoMemory comes only when out of memory.
 pub fn no_run_loses(alloc: Global, base: &Queue, events: &List<Event>) -> Result<World, NoMemory>
     requires sound { IsSound base.now }
     requires fit { AllByRecursion IsFitEvent events.now }

@@ -54,7 +54,7 @@ fn lost_line(alloc: Global, by: MemberId, step: u32, volume: u8) -> Result<Lines
     Ok(lines)
 }
 
-/// The lines with which a step closes whose last batch this is.
+/// The lines with which a step closes whose last batch this is. NoMemory comes only when out of memory.
 pub fn last_lines(
     member: &Member,
     alloc: Global,

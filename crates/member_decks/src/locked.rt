@@ -39,7 +39,9 @@ use std::alloc::Global;
 /// get the lock the step closes with why. In both nothing else is done.
 ///
 /// After an error the member can't go on. If it got the lock it holds it still, unless it was stopped at a volume: for
-/// these acts it had given the lock up.
+/// these acts it had given the lock up. BothLost comes only where both copies count as lost at the end of the call,
+/// Halted only where the member was stopped in it, ConsoleFault only where the console failed, and NoMemory only when
+/// out of memory.
 pub fn play_locked_deck<P: Plant + Drop, C: Steady + Drop>(
     member: &mut Member,
     alloc: Global,

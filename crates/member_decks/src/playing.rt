@@ -245,8 +245,11 @@ fn enter_deck<P: Plant + Drop, C: Steady + Drop>(
 ///
 /// Wherever the step ends, the texts of the queue after the kept batches stand on the spool volumes, the entered one
 /// too, as the shared value keeps: except those with a group on a lost volume. Out of memory in the middle of the
-/// first batch, what was done of it is kept if there is memory for that. After any of the four errors the member can't
-/// go on.
+/// first batch, what was done of it is kept if there is memory for that.
+///
+/// BothLost comes only where both copies count as lost at the end of the call, Halted only where the member was stopped
+/// in it, ConsoleFault only where the console failed, and NoMemory only when out of memory. After any of the four the
+/// member can't go on.
 pub fn play_deck<P: Plant + Drop, C: Steady + Drop>(
     member: &mut Member,
     alloc: Global,

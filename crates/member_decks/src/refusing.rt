@@ -18,7 +18,8 @@ use spool_disk::Plant;
 use std::alloc::Global;
 
 /// Closes a member's step that gives no command and makes no try of the lock: its line says how it closes, and nothing
-/// else is done.
+/// else is done. ConsoleFault comes only where the console failed, Halted only where the member was stopped, and
+/// NoMemory only when out of memory.
 pub fn refuse<P: Plant + Drop, C: Steady + Drop>(
     member: &Member,
     alloc: Global,

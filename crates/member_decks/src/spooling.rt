@@ -102,7 +102,8 @@ fn write_page<P: Plant + Drop, C: Steady + Drop>(
 }
 
 /// Writes each page of a text into the group at its place, a group of the member: once this is done each stands there,
-/// synced or not, and other groups hold what they held.
+/// synced or not, and other groups hold what they held. Lost comes with a volume that failed in the call and is lost,
+/// Halted only where the member was stopped in it.
 pub fn write_pages<P: Plant + Drop, C: Steady + Drop>(
     complex: &mut Complex<P, C>,
     by: MemberId,
@@ -165,7 +166,8 @@ fn sync_volume<P: Plant + Drop, C: Steady + Drop>(
     answer(complex.spool_sync(by, volume), volume)
 }
 
-/// Syncs each volume on which one of the groups lies.
+/// Syncs each volume on which one of the groups lies. Lost comes with a volume that failed in the call and is lost,
+/// Halted only where the member was stopped in it.
 pub fn sync_volumes<P: Plant + Drop, C: Steady + Drop>(
     complex: &mut Complex<P, C>,
     by: MemberId,

@@ -16,7 +16,9 @@ use thiserror::Error;
 pub struct Gate<V: Kept> {
     pub(crate) table: Table<Option<V>, View, V, Lock, Global>,
     pub(crate) members: u8,
+    /// The table has two words and one slot.
     pub ghost counts: { (table.shared.table_id.words ≡ 2) × (table.shared.table_id.slots ≡ 1) },
+    /// There are at most as many members as may be.
     pub ghost few: { members ≤ members_most },
 }
 
@@ -25,9 +27,13 @@ pub struct Gate<V: Kept> {
 pub struct Pass<V> {
     pub(crate) seat: Seat<Option<V>, View>,
     pub(crate) by: u8,
+    /// Its seat can be used.
     pub ghost live: { seat.me.0.live ≡ true },
+    /// Its first turn isn't under way.
     pub ghost begun: { seat.me.0.opening ≡ false },
+    /// Its seat is of its member.
     pub ghost by_is: { by ≡ seat.me.0.member },
+    /// What it has in hand is what its seat has.
     pub ghost hand_is: { seat.me.1 ≡ in_hand seat.me.0.has },
 }
 

@@ -8,6 +8,7 @@ use crate::view::View;
 use atomic_table::{Join, Play, Split, TableRule};
 use std::marker::{Brand, PhantomData};
 
+/// The rule of the gate's table.
 pub struct Lock;
 
 impl<V: Kept> TableRule<Option<V>, View, V> for Lock {

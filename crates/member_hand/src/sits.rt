@@ -17,8 +17,11 @@ use step_turns::{Aside, Found, Holder, Progress, State, Task};
 /// acts for which this waited.
 #[derive(Drop)]
 pub struct Stand {
+    /// The member, with its step and what is left of its hold.
     pub holder: Holder,
+    /// Where the step goes on.
     pub state: State,
+    /// What was found in the acts for which that state waited.
     pub found: Found,
 }
 

@@ -21,6 +21,7 @@ use std::alloc::Global;
 pub struct Closed {
     /// Its member.
     pub by: MemberId,
+    /// Its number, from 1.
     pub step: u32,
     /// Who says the line: the member, or the operator, which is member 0.
     pub sayer: MemberId,

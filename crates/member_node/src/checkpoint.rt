@@ -20,9 +20,13 @@ use std::alloc::Global;
 /// Tables, and the pages that were drawn last, with their level and the level of each.
 #[derive(Drop)]
 pub struct Checkpoint {
+    /// The queue in slots.
     pub tables: Tables,
+    /// The level of the pages.
     pub level: Level,
+    /// The level of each page.
     pub levels: List<Level>,
+    /// The pages that were drawn or read last.
     pub pages: List<Page>,
 }
 
@@ -56,7 +60,8 @@ fn raise(levels: &mut [Level], pages: &[u16], level: Level)
     }
 }
 
-/// The checkpoint of an empty queue of a configuration and routes, with every page at level 1.
+/// The checkpoint of an empty queue of a configuration and routes, with every page at level 1. NoMemory comes only when
+/// out of memory.
 pub fn blank(alloc: Global, config: &Config, routes: &List<Route>) -> Result<Checkpoint, NoMemory>
     requires config { IsConfig config.now }
     requires few { length routes.now ≤ routes_most }

@@ -39,6 +39,7 @@ pub enum NodeNo {
 /// A member with its own checkpoint.
 #[derive(Drop)]
 pub struct Member {
+    /// Its number, from 1; 0 is the operator.
     pub id: MemberId,
     /// Its tables, after the commands of its batch, and the pages as they were before them.
     pub checkpoint: Checkpoint,
@@ -85,7 +86,8 @@ impl Member {
     ghost use Rattle.member_node.specs.Drawn.{AreDrawn};
 
     /// A member of a run with this configuration, which has read nothing and done nothing: its checkpoint is that of an
-    /// empty queue, with every page at level 1. It has to read the copies before it gives a command.
+    /// empty queue, with every page at level 1. It has to read the copies before it gives a command. NoMemory comes
+    /// only when out of memory.
     pub fn new(alloc: Global, id: MemberId, config: &Config) -> Result<Member, NoMemory>
         requires { IsConfig config.now }
         ensures id { IfOk result (λ member. member.id ≡ id) }
@@ -101,7 +103,8 @@ impl Member {
         Member::with(alloc, id, checkpoint)
     }
 
-    /// A member with this checkpoint, which has done nothing, and room for as many pages.
+    /// A member with this checkpoint, which has done nothing, and room for as many pages. NoMemory comes only when out
+    /// of memory.
     pub fn with(alloc: Global, id: MemberId, checkpoint: Checkpoint) -> Result<Member, NoMemory>
         requires { length checkpoint.pages ≤ pages_most }
         ensures id { IfOk result (λ member. member.id ≡ id) }

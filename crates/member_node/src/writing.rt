@@ -126,7 +126,8 @@ impl Member {
     /// stopped.
     ///
     /// The texts of the queue with the batch stand on the spool volumes, except those with a group on a volume that is
-    /// lost.
+    /// lost. BothLost comes only where both copies count as lost at the end of the call, Halted only where the member
+    /// was stopped in it.
     pub fn write<P: Plant + Drop, C: Steady + Drop>(
         &self,
         complex: &mut Complex<P, C>,

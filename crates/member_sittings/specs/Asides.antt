@@ -47,7 +47,7 @@ pub record HasGroups (m : Member) (text : List (List ℕ)) : Type 0 where
   pub lines : AreLines text
   pub enough : groups_needed text ≤ member_count m.id m.checkpoint.tables.owners
 
--- and its step waits for that, or is told
+-- a member's step waits for a deck's text, for which it has the groups, or is told
 abbrev pub WaitsRightly : Member → State → Type 0
 WaitsRightly m (Away (SpoolDeck n text)) = HasGroups m text
 WaitsRightly m Told = Unit {0}

@@ -91,7 +91,9 @@ pub fn sit_deck<P: Plant + Drop, C: Steady + Drop>(
 /// A deck whose text was to go into the groups of its job.
 #[derive(Drop)]
 pub struct SpooledDeck {
+    /// The number of its job.
     pub job: JobNo,
+    /// Its cards.
     pub text: Lines,
     /// The volume that was found lost in this, if one was.
     pub lost: Option<u8>,

@@ -52,7 +52,8 @@ fn denied_lines(alloc: Global, by: MemberId, step: u32, why: LockNo) -> Result<L
     Ok(lines)
 }
 
-/// Closes a step whose member doesn't get the lock: its line says why, and nothing else is done.
+/// Closes a step whose member doesn't get the lock: its line says why, and nothing else is done. ConsoleFault comes
+/// only where the console failed, Halted only where the member was stopped, and NoMemory only when out of memory.
 pub fn deny<P: Plant + Drop, C: Steady + Drop>(
     member: &Member,
     alloc: Global,
@@ -96,7 +97,9 @@ pub fn deny<P: Plant + Drop, C: Steady + Drop>(
 /// command, writes and tells it, and gives the lock up. Its checkpoint may be of any time: another member may have
 /// written since. Where it doesn't get the lock the step closes with why, and nothing else is done.
 ///
-/// After an error the lock is as after the try: a member that got it holds it still, and can't go on.
+/// After an error the lock is as after the try: a member that got it holds it still, and can't go on. BothLost comes
+/// only where both copies count as lost at the end of the call, Halted only where the member was stopped in it,
+/// ConsoleFault only where the console failed, and NoMemory only when out of memory.
 pub fn play_locked<P: Plant + Drop, C: Steady + Drop>(
     member: &mut Member,
     alloc: Global,

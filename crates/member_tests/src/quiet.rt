@@ -1,4 +1,4 @@
-// A plant in memory that tells nothing of what it holds.
+//! A plant in memory that tells nothing of what it holds.
 ghost use Rattle.std.specs.Prelude.{◌≡◌, ◌≤◌, ℕ};
 
 use mas_types::{Dev, MemberId};

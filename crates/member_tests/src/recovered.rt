@@ -1,4 +1,4 @@
-// What a takeover makes of a batch whose member is stopped at an act.
+//! What a takeover makes of a batch whose member is stopped at an act.
 ghost use Rattle.std.specs.Prelude.{◌≡◌, ◌≤◌, ◌<◌, length, true, None};
 ghost use Rattle.mas_types.specs.Fit.{IsConfig};
 ghost use Rattle.spool_disk.specs.Acts.{top};
@@ -109,7 +109,7 @@ fn recovered_on(
     Ok(Some((level, complex.kept_count())))
 }
 
-// The same over two new copies, where the first member is stopped at an act.
+// A takeover, as of `recovered_on`, over two new copies, where the first member is stopped at an act.
 fn recovered_at(alloc: Global, act: u64, lost: Option<Dev>) -> Result<Option<(u64, u64)>, Fail> {
     let plant = halting(alloc, act)?;
     if plant.size(Dev::Ckpt1) < 4096 * 35 || plant.size(Dev::Ckpt2) < 4096 * 35 {

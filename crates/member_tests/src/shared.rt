@@ -1,4 +1,4 @@
-// A shared value over two copies of six pages, and a batch of one command that is written to them.
+//! A shared value over two copies of six pages, and a batch of one command that is written to them.
 ghost use Rattle.std.specs.Prelude.{◌≡◌, length, IfOk, true, All};
 ghost use Rattle.lock_cycle.specs.Books.{IsMember};
 ghost use Rattle.mas_complex.specs.Locking.{MayAct};

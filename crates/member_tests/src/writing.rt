@@ -1,4 +1,4 @@
-// A batch that is written to both copies.
+//! A batch that is written to both copies.
 ghost use Rattle.std.specs.Prelude.{◌≡◌, ◌+◌, ◌≤◌, ◌<◌, length, IfOk, IfSome, OnOk, true, false, None, IsSome, All};
 ghost use Rattle.mas_types.specs.declared.ids.Dev.TheVariants.{Ckpt1, Ckpt2};
 ghost use Rattle.mas_types.specs.Fit.{IsConfig};

@@ -70,7 +70,8 @@ pub record IsJobStill (t : Tables) (n : JobNo) (Q : Queue) : Type 0 where
   pub job : job_at Q n ≡ job_at was n
   pub groups : groups_of (Deck n) Q.owners ≡ groups_of (Deck n) was.owners
 
--- so are an output and its groups, the output that is busy at the member, and the limit of its printer
+-- an output and its groups, the output that is busy at the member, and the limit of its printer are still as the
+-- tables tell
 pub record IsOutputStill (t : Tables) (by : MemberId) (n : JobNo) (i : OutNo) (Q : Queue) : Type 0 where
   pub was : Queue
   pub told : Tell t was

@@ -22,16 +22,16 @@ use Rattle.job_outcome.specs.declared.outcomes.Read.TheVariants as read
 
 -- LINES OF AN OUTPUT
 
--- so many of them from this one on, as they are printed
+-- so many lines of an output from this one on, as they are printed
 abbrev pub lines_from : JobNo → OutNo → List (List ℕ) → ℕ → ℕ → List (List ℕ)
 lines_from n i text first zero = []
 lines_from n i text first (suc more) = printed_line n i first text ∷ lines_from n i text (first + 1) more
 
--- those up to the last one, where so many are done
+-- the lines of an output up to the last one, where so many are done
 abbrev pub lines_upto : JobNo → OutNo → ℕ → ℕ → List (List ℕ) → List (List ℕ)
 lines_upto n i done last text = lines_from n i text (done + 1) (last - done)
 
--- the same by how the text was read
+-- the lines of an output up to the last one, by how its text was read
 abbrev pub lines_read : JobNo → OutNo → ℕ → ℕ → Read → List (List ℕ)
 lines_read n i done last (read.Lines text) = lines_upto n i done last text
 lines_read n i done last (read.Gone group) = []

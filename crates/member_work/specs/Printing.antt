@@ -61,7 +61,7 @@ IsBookAfterLines (Err NoMemory) by was is = is ≡ was
 IsBookAfterLines (Err BothLost) by was is = is ≡ was
 IsBookAfterLines (Err ConsoleFault) by was is = is ≡ was
 
--- and what was reserved: that of a member that was stopped in it is given up
+-- what is reserved after lines were printed: that of a member that was stopped in it is given up
 abbrev pub IsReservedAfterLines : {T : Type 0} → Result T NodeNo → MemberId → Option (List Entry) → Option (List Entry)
     → Type 0
 IsReservedAfterLines (Ok done) by was is = is ≡ was

@@ -26,7 +26,8 @@ use spool_disk::Plant;
 use std::alloc::Global;
 
 /// Keeps what the member gave since the last batch, if anything, as a batch, and makes room for the next one; nothing
-/// is said.
+/// is said. BothLost comes only where both copies count as lost at the end of the call, Halted only where the member
+/// was stopped in it, and NoMemory only when out of memory.
 pub fn keep_given<P: Plant + Drop, C: Steady + Drop>(
     member: &mut Member,
     alloc: Global,
@@ -160,7 +161,9 @@ pub(crate) fn hold_again<P: Plant + Drop, C: Steady + Drop>(
     take_hold(member, alloc, complex)
 }
 
-/// Keeps what the member gave since the last batch, if anything, and says the line with which the step closes.
+/// Keeps what the member gave since the last batch, if anything, and says the line with which the step closes. BothLost
+/// comes only where both copies count as lost at the end of the call, Halted only where the member was stopped in it,
+/// ConsoleFault only where the console failed, and NoMemory only when out of memory.
 pub fn close_work<P: Plant + Drop, C: Steady + Drop>(
     member: &mut Member,
     alloc: Global,

@@ -41,7 +41,8 @@ use spool_volumes::law_of_read_texts;
 use std::alloc::Global;
 
 /// Gives Ended with these outputs, whose texts stand in the member's groups unless the job was cancelled; after a
-/// refused one the member's groups become free.
+/// refused one the member's groups become free. Out of memory, what was given before is kept; the answer is NoMemory,
+/// or BothLost or Halted if keeping it ended so.
 pub fn end_given<P: Plant + Drop, C: Steady + Drop>(
     member: &mut Member,
     alloc: Global,
@@ -116,7 +117,8 @@ pub fn end_given<P: Plant + Drop, C: Steady + Drop>(
     Ok(end)
 }
 
-/// Takes so many groups; after a refused Take the member's groups become free.
+/// Takes so many groups; after a refused Take the member's groups become free. Out of memory, what was given before is
+/// kept; the answer is NoMemory, or BothLost or Halted if keeping it ended so.
 pub fn take_given<P: Plant + Drop, C: Steady + Drop>(
     member: &mut Member,
     alloc: Global,
@@ -184,7 +186,8 @@ pub fn take_given<P: Plant + Drop, C: Steady + Drop>(
     Ok(end)
 }
 
-/// The member's groups become free, since this volume is lost.
+/// The member's groups become free, since this volume is lost. Out of memory, what was given before is kept; the answer
+/// is NoMemory, or BothLost or Halted if keeping it ended so.
 pub fn drop_given<P: Plant + Drop, C: Steady + Drop>(
     member: &mut Member,
     alloc: Global,

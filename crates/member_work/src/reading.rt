@@ -149,7 +149,7 @@ fn ended(count: u16, groups: &[GroupNo], lines: Lines, gone: Option<GroupNo>) ->
 /// it stands there: its lines, or gone with the first group that holds no records, or with the last one where the lines
 /// aren't as many as are counted. Else the answer is the volume.
 ///
-/// Only want of memory, or that the member was stopped in it, ends the call otherwise.
+/// Else NoMemory comes, out of memory, or Halted, where the member was stopped in the call.
 pub fn read_text<P: Plant + Drop, C: Steady + Drop>(
     complex: &mut Complex<P, C>,
     alloc: Global,

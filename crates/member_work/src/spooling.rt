@@ -96,7 +96,8 @@ fn write_outputs<P: Plant + Drop, C: Steady + Drop>(
     write_outputs(complex, by, other_groups(groups, count), rest)
 }
 
-/// Writes them, and syncs the volumes on which the groups lie.
+/// Writes them, and syncs the volumes on which the groups lie. Lost comes with a volume that failed in the call and is
+/// lost, Halted only where the member was stopped in it.
 pub fn write_and_sync<P: Plant + Drop, C: Steady + Drop>(
     complex: &mut Complex<P, C>,
     by: MemberId,

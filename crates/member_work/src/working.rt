@@ -40,7 +40,7 @@ use std::alloc::Global;
 const BATCH_MOST: usize = 64;
 
 /// Plays a unit of one command, which brings no text; a Mark is one of lines that the member has printed. Out of
-/// memory, what was given before is kept.
+/// memory, what was given before is kept; the answer is NoMemory, or BothLost or Halted if keeping it ended so.
 pub fn play_command<P: Plant + Drop, C: Steady + Drop>(
     member: &mut Member,
     alloc: Global,

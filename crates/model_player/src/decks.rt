@@ -40,7 +40,7 @@ fn enter(alloc: Global, queue: &mut Queue, by: MemberId, deck: Deck) -> Result<R
     }
 }
 
-/// The lines of a deck's step.
+/// The lines of a deck's step. The errors are those of `PlayError`; after one nothing is said of the queue.
 pub fn play_deck(
     alloc: Global,
     queue: &mut Queue,

@@ -34,7 +34,7 @@ impl From<NoMemory> for PlayError {
     }
 }
 
-/// The reply to a command.
+/// The reply to a command. The errors are those of `PlayError`; after one nothing is said of the queue.
 pub fn give(
     alloc: Global,
     queue: &mut Queue,
@@ -55,7 +55,8 @@ pub fn give(
     Ok(step_plain(alloc, queue, by, command)?)
 }
 
-/// Takes so many groups: the reply by which they weren't all taken, if one is.
+/// Takes so many groups: the reply by which they weren't all taken, if one is. The errors are those of `PlayError`;
+/// after one nothing is said of the queue.
 pub fn take_groups(
     alloc: Global,
     queue: &mut Queue,

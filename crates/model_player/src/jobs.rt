@@ -171,7 +171,8 @@ fn go_on(
     }
 }
 
-/// Runs the job at the member, or else converts it; none where there is none.
+/// Runs the job at the member, or else converts it; none where there is none. The errors are those of `PlayError`;
+/// after one nothing is said of the queue.
 pub fn try_job(
     alloc: Global,
     queue: &mut Queue,

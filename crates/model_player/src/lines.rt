@@ -9,7 +9,8 @@ use cmd_report::one_line;
 use mas_types::{Closing, Lines, MemberId, Reply};
 use std::alloc::Global;
 
-/// The lines of a step that closes with this reply: those of a display, and behind them the closing line.
+/// The lines of a step that closes with this reply: those of a display, and behind them the closing line. The errors
+/// are those of `PlayError`.
 pub fn reply_lines(alloc: Global, by: MemberId, at: u32, reply: &Reply) -> Result<Lines, PlayError>
     requires by { by.0 ≤ members_most }
     requires named { IsReplyNamed reply.now }
@@ -18,7 +19,7 @@ pub fn reply_lines(alloc: Global, by: MemberId, at: u32, reply: &Reply) -> Resul
     Ok(cmd_report::reply_lines(alloc, by, at, reply)?)
 }
 
-/// The line of a step that closes so.
+/// The line of a step that closes so. The errors are those of `PlayError`.
 pub fn closed(alloc: Global, by: MemberId, at: u32, end: &Closing) -> Result<Lines, PlayError>
     requires by { by.0 ≤ members_most }
     requires named { AreMembersNamed end.now }

@@ -105,7 +105,8 @@ fn play_asked(
 }
 
 /// The lines that a step says: decks, commands and work of members that are there, and the loss of a copy of the
-/// checkpoint, which says none. What is printed is added to the paper. `Unplayed` for any other step.
+/// checkpoint, which says none. What is printed is added to the paper. `Unplayed` for any other step. NoMemory comes
+/// only when out of memory. After an error nothing is said of the queue.
 pub fn play_step(
     alloc: Global,
     queue: &mut Queue,
@@ -128,7 +129,8 @@ pub fn play_step(
     play_asked(alloc, queue, paper, step.by, at, &step.what)
 }
 
-/// What a start does to the queue that it finds: the reset of all members.
+/// What a start does to the queue that it finds: the reset of all members. The errors are those of `PlayError`; after
+/// one nothing is said of the queue.
 pub fn restart(alloc: Global, queue: &mut Queue) -> Result<(), PlayError>
     requires { IsSound queue.old }
     ensures restarted { OnOk result (queue.new ≡ (step_lem queue.old nobody Restart).0) }

@@ -72,7 +72,7 @@ fn next_command(output: &Output, limit: u32) -> Command
 }
 
 /// The output that is busy at the member is marked up to the last line that is printed next, or is done; none where
-/// there is none.
+/// there is none. The errors are those of `PlayError`; after one nothing is said of the queue.
 pub fn try_output(
     alloc: Global,
     queue: &mut Queue,
@@ -116,7 +116,7 @@ fn print_lines(
 }
 
 /// Prints the lines that the member's printer prints next: none where no output is busy at the member, or its text is
-/// gone.
+/// gone. The errors are those of `PlayError`; after one nothing is said of the queue.
 pub fn print_next(
     alloc: Global,
     queue: &Queue,

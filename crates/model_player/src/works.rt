@@ -149,7 +149,8 @@ fn work_from(
     }
 }
 
-/// The line of a step that does at most so many units of work. What is printed is added to the paper.
+/// The line of a step that does at most so many units of work. What is printed is added to the paper. The errors are
+/// those of `PlayError`; after one nothing is said of the queue.
 pub fn play_work(
     alloc: Global,
     queue: &mut Queue,

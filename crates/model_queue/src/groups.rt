@@ -49,6 +49,7 @@ impl Picks<Owner> for MembersGroups {
 /// The groups of members that are picked.
 #[derive(Clone, Copy)]
 pub struct HeldGroups<'a, P> {
+    /// The members.
     pub members: &'a P,
 }
 
@@ -81,7 +82,9 @@ impl Picks<Owner> for DeckGroups {
 /// The groups of an output.
 #[derive(Clone, Copy)]
 pub struct OutputGroups {
+    /// The job of the output.
     pub job: JobNo,
+    /// The index of the output.
     pub index: OutNo,
 }
 
@@ -118,7 +121,9 @@ impl Picks<Output> for OfJobKeyed {
 /// The groups of the outputs of a job.
 #[derive(Clone, Copy)]
 pub struct JobsOutputGroups<'a> {
+    /// The outputs of the queue.
     pub outputs: &'a List<Output>,
+    /// The job.
     pub of: JobNo,
 }
 
@@ -215,7 +220,7 @@ pub fn groups_needed(lines: &Lines) -> u32
     groups
 }
 
-/// The places of a deck with these cards.
+/// The places of a deck with these cards. NoMemory comes only when out of memory.
 pub fn deck_places(alloc: Global, job: JobNo, text: &Lines) -> Result<List<Owner>, NoMemory>
     requires { AreLines text.now }
     ensures { IfOk result (λ places. places ≡ deck_places_lem job (groups_needed_lem text.now)) }
@@ -250,7 +255,7 @@ fn push_places(
     Ok(())
 }
 
-/// The places of a job's outputs, with indexes from 1 on.
+/// The places of a job's outputs, with indexes from 1 on. NoMemory comes only when out of memory.
 pub fn places_of_outputs(
     alloc: Global,
     job: JobNo,

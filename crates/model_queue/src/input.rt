@@ -65,7 +65,7 @@ fn add_job(
     Ok(())
 }
 
-/// Begin: a new job stands last in the list.
+/// Begin: a new job stands last in the list. After NoMemory nothing is changed.
 pub fn begin(
     alloc: Global,
     queue: &mut Queue,
@@ -188,7 +188,7 @@ pub fn enter_job(queue: &mut Queue, by: MemberId, job: JobNo, text: Lines, place
     hand_out(&mut queue.owners, by, places);
 }
 
-/// Enter: the job gets its deck in the lowest groups of the member, and goes on.
+/// Enter: the job gets its deck in the lowest groups of the member, and goes on. After NoMemory nothing is changed.
 pub fn enter(
     alloc: Global,
     queue: &mut Queue,

@@ -227,6 +227,7 @@ impl Changes<Job> for IsReset {
 /// The job that is busy at a member that is picked.
 #[derive(Clone, Copy)]
 pub struct BusyJobs<'a, P> {
+    /// The members.
     pub members: &'a P,
 }
 

@@ -198,7 +198,8 @@ fn is_cancelled(queue: &Queue, job: JobNo) -> bool
     }
 }
 
-/// Ended: the job has run, and its outputs stand last in the list. A cancelled job gets none.
+/// Ended: the job has run, and its outputs stand last in the list. A cancelled job gets none. After NoMemory nothing is
+/// changed.
 pub fn ended(
     alloc: Global,
     queue: &mut Queue,

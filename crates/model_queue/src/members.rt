@@ -32,7 +32,7 @@ fn put_init(members: &mut List<Setting>, by: MemberId, classes: List<Class>)
     members.item_mut(by.0 as usize - 1).init = classes;
 }
 
-/// SetInit: the classes of the member's initiators.
+/// SetInit: the classes of the member's initiators. After NoMemory nothing is changed.
 pub fn set_init(
     alloc: Global,
     queue: &mut Queue,
@@ -69,7 +69,7 @@ fn put_prt(
     setting.lines = lines;
 }
 
-/// SetPrt: the classes, the forms and the lines at a time of the member's printer.
+/// SetPrt: the classes, the forms and the lines at a time of the member's printer. After NoMemory nothing is changed.
 pub fn set_prt(
     alloc: Global,
     queue: &mut Queue,

@@ -25,7 +25,9 @@ use mas_types::{
 /// The output with a job's number and an index.
 #[derive(Clone, Copy)]
 pub struct Keyed {
+    /// The job's number.
     pub job: JobNo,
+    /// The index.
     pub index: OutNo,
 }
 
@@ -64,7 +66,9 @@ impl Picks<Output> for HeldOf {
 /// The outputs of a job that are busy at another than the member.
 #[derive(Clone, Copy)]
 pub struct Elsewhere {
+    /// The job.
     pub job: JobNo,
+    /// The member.
     pub by: MemberId,
 }
 
@@ -96,7 +100,9 @@ const LOCAL: Name8 = Name8(*b"LOCAL   ");
 /// The outputs that a member's printer may take.
 #[derive(Clone, Copy)]
 pub struct ForPrinter<'a> {
+    /// The queue.
     pub queue: &'a Queue,
+    /// The member.
     pub by: MemberId,
     ghost small: { by.0 ≤ members_most },
 }
@@ -225,6 +231,7 @@ impl Changes<Output> for IsFreed {
 /// The outputs that are busy at a member that is picked.
 #[derive(Clone, Copy)]
 pub struct BusyOutputs<'a, P> {
+    /// The members.
     pub members: &'a P,
 }
 

@@ -22,6 +22,7 @@ fn play(alloc: Global, queue: &mut Queue, entry: &Entry) -> Result<(), NoMemory>
 }
 
 /// The queue after the entries, one after another: each command given by a member that may give it, over a sound queue.
+/// NoMemory comes only when out of memory.
 pub fn run(alloc: Global, base: &Queue, entries: &List<Entry>) -> Result<Queue, NoMemory>
     requires sound { IsSound base.now }
     requires given { AllByRecursion (IsGiven base.now) entries.now }

@@ -103,7 +103,7 @@ fn not_got(
     }
 }
 
-/// Got: as Enter, for a job that came over the line.
+/// Got: as Enter, for a job that came over the line. After NoMemory nothing is changed.
 pub fn got(
     alloc: Global,
     queue: &mut Queue,

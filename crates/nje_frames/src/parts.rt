@@ -65,7 +65,8 @@ fn number_size(bytes: &[u8]) -> usize
     NUMBER_DIGITS
 }
 
-/// Reads a number of ten digits, from 1 to 4,294,967,295.
+/// Reads a number of ten digits, from 1 to 4,294,967,295. At comes with how many bytes begin one, 0 where more are
+/// needed.
 pub fn number_of(bytes: &[u8]) -> Result<(u32, &[u8]), Stop>
     ensures { Gives (λ x. (x.0, x.1.now)) result (number_at bytes.now) }
 {
@@ -106,7 +107,7 @@ fn name_size(bytes: &[u8]) -> usize
     NAME_BYTES
 }
 
-/// Reads a name with its padding, eight bytes.
+/// Reads a name with its padding, eight bytes. At comes with how many bytes begin one, 0 where more are needed.
 pub fn name_of(bytes: &[u8]) -> Result<(Name8, &[u8]), Stop>
     ensures { Gives (λ x. (x.0, x.1.now)) result (name_at bytes.now) }
 {
@@ -119,7 +120,7 @@ pub fn name_of(bytes: &[u8]) -> Result<(Name8, &[u8]), Stop>
     Ok((Name8(name), &bytes[NAME_BYTES..]))
 }
 
-/// Reads one byte.
+/// Reads one byte. At comes with 0 where there is none.
 pub fn byte_of(bytes: &[u8], byte: u8) -> Result<&[u8], Stop>
     ensures { Gives (λ rest. (tt, rest.now)) result (byte_at byte bytes.now) }
 {
@@ -180,7 +181,8 @@ fn more_cards<'a>(text: &mut Lines, most: usize, bytes: &'a [u8]) -> Result<&'a 
     Ok(byte_of(rest, ETX)?)
 }
 
-/// Reads 1 to 9,999 cards and the end of the frame.
+/// Reads 1 to 9,999 cards and the end of the frame. At comes with how many bytes begin them, 0 where more are needed;
+/// NoMemory only when out of memory.
 pub fn cards_of(alloc: Global, bytes: &[u8]) -> Result<(Lines, &[u8]), Stop>
     ensures { Gives (λ x. (x.0, x.1.now)) result (text_at bytes.now) }
 {

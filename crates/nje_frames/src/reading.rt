@@ -46,7 +46,8 @@ fn inner_of(alloc: Global, bytes: &[u8]) -> Result<(Frame, &[u8]), Stop>
     }
 }
 
-/// Reads the frame at the front.
+/// Reads the frame at the front. At comes with how many bytes begin one, 0 where more are needed; NoMemory only when
+/// out of memory.
 pub fn frame_of(alloc: Global, bytes: &[u8]) -> Result<(Frame, &[u8]), Stop>
     ensures { Gives (λ x. (x.0, x.1.now)) result (frame_at bytes.now) }
 {
@@ -71,7 +72,7 @@ fn answer(alloc: Global, bytes: &[u8]) -> Result<(Frame, usize), FrameNo>
 
 /// Reads the frame with which the bytes begin, and how many of them it is. `Short` exactly where the bytes are a proper
 /// front of a frame, with their number. `BadFrame` exactly where they neither are that nor begin with a frame, with the
-/// number of bytes of their longest front that begins one.
+/// number of bytes of their longest front that begins one. NoMemory comes only when out of memory.
 pub fn read_frame(alloc: Global, bytes: &[u8]) -> Result<(Frame, usize), FrameNo>
     ensures found { IfOk result (λ found. HasFrame bytes.now found.0 found.1) }
     ensures only { (frame : AnyFrame) (rest : AnyList ℕ) → IsFrame frame →

@@ -19,8 +19,11 @@ const FRAME_MOST: usize = 809_949;
 /// that may be the front of a frame, fewer than 809,949; or as None once memory has run out.
 #[derive(Drop)]
 pub struct FrameReader {
+    /// Where its memory comes from.
     alloc: Global,
+    /// The end of the stream so far that may be the front of a frame.
     rest: Vec<u8>,
+    /// Memory has run out.
     failed: bool,
 }
 
@@ -182,7 +185,7 @@ fn push_joined(
     }
 }
 
-// The same, and nothing waits any more.
+// Adds the frame that the bytes that waited are with those that end it, if they are one; nothing waits any more.
 fn end_frame(
     alloc: Global,
     rest: &mut Vec<u8>,

@@ -26,7 +26,7 @@ fn push_cards(bytes: &mut List<u8>, text: &Lines) -> Result<(), NoMemory>
 
 /// Writes a frame, as it stands: STX, `J`, its number in ten digits, the names of its nodes with their padding, a line
 /// feed, its cards with a line feed after each, and ETX; an acknowledgement as STX, `A`, its number and ETX. Only a
-/// frame within its limits is read again.
+/// frame within its limits is read again. NoMemory comes only when out of memory.
 pub fn write_frame(alloc: Global, frame: &Frame) -> Result<List<u8>, NoMemory>
     ensures { IfOk result (λ bytes. bytes ≡ frame_text frame.now) }
 {

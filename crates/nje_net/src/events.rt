@@ -170,7 +170,7 @@ fn ack_comes(net: &Net, world: &mut NetWorld, number: u32)
 }
 
 /// One event. The numbers of jobs, frames and acknowledgements are below the greatest u32, and none grows by more than
-/// one.
+/// one. After NoMemory nothing is changed.
 pub fn net_step(net: &Net, world: &mut NetWorld, event: &NetEvent) -> Result<(), NoMemory>
     requires { IsBelow 4294967295 world.old }
     ensures ok { OnOk result (world.new ≡ moved net.now world.old event.now) }

@@ -99,7 +99,7 @@ fn loop_of(passed: List<u8>, at: u8) -> List<u8>
 
 /// The nodes that a job passes from a node to the one of the name, both among them. Loop where it comes to a node that
 /// it has passed, NoRoute where it comes to one that has no route for the name; at each node it is first seen whether
-/// the node has the name, then whether it was passed.
+/// the node has the name, then whether it was passed. NoMemory comes only when out of memory.
 pub fn path(alloc: Global, net: &Net, from: u8, to: Name8) -> Result<List<u8>, PathNo>
     requires ok { is_net net.now ≡ true }
     requires there { is_node_lem net.now from ≡ true }

@@ -13,7 +13,7 @@ use std::alloc::Global;
 
 /// Plays the events in order, those skipped that aren't possible: what has then come of the net. Whatever they are,
 /// each job has arrived at most once, at the node of the name that it was entered for, and until then some node holds
-/// it.
+/// it. NoMemory comes only when out of memory.
 pub fn no_net_loses(alloc: Global, net: &Net, events: &List<NetEvent>) -> Result<NetWorld, NoMemory>
     requires ok { is_net net.now ≡ true }
     requires few { length events.now < 4294967295 }

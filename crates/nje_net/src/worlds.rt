@@ -98,7 +98,7 @@ pub struct NetWorld {
 }
 
 impl NetWorld {
-    /// A net in which nothing has happened yet.
+    /// A net in which nothing has happened yet. NoMemory comes only when out of memory.
     pub fn new(alloc: Global, net: &Net) -> Result<NetWorld, NoMemory>
         ensures { IfOk result (λ world. world ≡ start net.now) }
     {

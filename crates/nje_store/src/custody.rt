@@ -63,7 +63,7 @@ pub fn judge(count: &LineCount, number: u32) -> Custody
 }
 
 /// The frame of a job with the number that it has on its line: its origin, its node and its whole text. `NoText`
-/// exactly where the text is gone.
+/// exactly where the text is gone. NoMemory comes only when out of memory.
 pub fn frame_of(alloc: Global, job: &Job, number: u32) -> Result<Frame, FrameOfNo>
     ensures ok { IfOk result (λ frame. job_frame job.now number ≡ Some frame) }
     ensures no_text { result ≡ Err FrameOfNo.NoText → job_frame job.now number ≡ None }

@@ -157,7 +157,8 @@ fn happen(alloc: Global, world: &mut WireWorld, event: &WireEvent) -> Result<(),
 
 /// Plays events on a wire on which nothing happened yet, fewer than 4,294,967,295 of them; those that aren't possible
 /// are passed over. Whatever they are, the receiver has kept jobs that were loaded, in their order and each once; what
-/// left the sender is kept; and what was loaded is kept, all of it, or all but the last, which is on its way.
+/// left the sender is kept; and what was loaded is kept, all of it, or all but the last, which is on its way. NoMemory
+/// comes only when out of memory.
 pub fn no_wire_doubles(alloc: Global, events: &List<WireEvent>) -> Result<WireWorld, NoMemory>
     requires { length events.now < 4294967295 }
     ensures run { IfOk result (λ world. world ≡ run quiet events.now) }

@@ -4,23 +4,41 @@ ghost use Rattle.std.specs.Prelude.{◌≡◌};
 /// What a command that is typed does.
 #[derive(Clone, Copy, PartialEq, Eq)]
 pub enum Form {
+    /// `$HJn` holds a job.
     Hold,
+    /// `$AJn` releases a job.
     Release,
+    /// `$CJn` cancels a job.
     Cancel,
+    /// `$TJn,P=p` sets a job's priority.
     SetPrio,
+    /// `$TJn,C=c` sets a job's class.
     SetClass,
+    /// `$OJn` releases a job's held outputs.
     Out,
+    /// `$COJn.k` cancels an output.
     CancelOut,
+    /// `$TOJn.k,Q=c` sets an output's class.
     SetOut,
+    /// `$DJn` displays a job.
     ShowJob,
+    /// `$DQ` displays the queue.
     ShowQueue,
+    /// `$DO` displays the outputs.
     ShowOutputs,
+    /// `$DSPL` displays the spool volumes.
     ShowSpool,
+    /// `$DMEMBER` displays the members.
     ShowMembers,
+    /// `$TINIT,C=list` sets the member's initiator classes.
     SetInit,
+    /// `$TPRT,Q=list,F=forms,L=n` sets the member's printer.
     SetPrt,
+    /// `$BPRT,b` sets the mark on the member's printer back.
     Back,
+    /// `$FPRT,b` sets the mark on the member's printer forward.
     Forward,
+    /// `$EMEMBER(SYSx)` resets a stopped member.
     Reset,
 }
 

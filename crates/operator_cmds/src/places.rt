@@ -12,8 +12,11 @@ use mas_types::{is_name_byte, read_number};
 /// Numbers of at most so many digits, from the least to the greatest. Leading zeros are accepted.
 #[derive(Clone, Copy, PartialEq, Eq)]
 pub struct Numbers {
+    /// The most digits that stand there.
     pub width: usize,
+    /// The least number.
     pub least: u32,
+    /// The greatest number.
     pub most: u32,
 }
 
@@ -37,24 +40,28 @@ pub enum Place {
 ghost use Rattle.operator_cmds.specs.Places.{is_number as is_number_lem, is_member_letter as is_member_letter_lem, are_different as are_different_lem, place_of as place_of_lem, stands_in as stands_in_lem};
 ghost use Rattle.operator_cmds.specs.Walks.{may_begin as may_begin_lem, may_begin_number};
 
+/// A job's number: 1 to 5 digits, from 1 on.
 pub const JOB_NUMBERS: Numbers = Numbers {
     width: 5,
     least: 1,
     most: NUMBER_MOST,
 };
 
+/// An output's index: 1 or 2 digits, from 1 on.
 pub const INDEX_NUMBERS: Numbers = Numbers {
     width: 2,
     least: 1,
     most: INDEX_MOST as u32,
 };
 
+/// A priority, from 0 on.
 pub const PRIO_NUMBERS: Numbers = Numbers {
     width: 10,
     least: 0,
     most: PRIO_MOST as u32,
 };
 
+/// How many lines a printer prints at a time, from 1 on.
 pub const LINE_NUMBERS: Numbers = Numbers {
     width: 10,
     least: 1,

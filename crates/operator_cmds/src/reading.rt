@@ -42,13 +42,13 @@ ghost use Rattle.operator_cmds.specs.Read.{IsReadAs, ComesTo};
 ghost use Rattle.operator_cmds.specs.Typed.{command_in};
 
 /// Reads a command as the operator types it. `BadCommand` exactly where the text is none, with the length of its
-/// longest front that can be gone on with to a command.
+/// longest front that can be gone on with to a command. NoMemory comes only when out of memory.
 pub fn read_command(alloc: Global, text: &[u8]) -> Result<Command, CommandNo>
     // What is read is spelled so.
     ensures found { IfOk result (λ typed. IsSpelling typed text.now) }
     // What is spelled so is read, unless memory runs out.
     ensures only { (typed : AnyCommand) → IsSpelling typed text.now → IsReadAs result typed }
-    // The same, as it is computed.
+    // The answer is the computed one.
     ensures computed { ComesTo result (command_in text.now) }
     ensures bad { (n : ℕ) → result ≡ Err (CommandNo.BadCommand n) → IsLongestBeginning text.now n }
 {

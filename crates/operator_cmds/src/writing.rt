@@ -40,7 +40,8 @@ ghost use Rattle.operator_cmds.specs.Written.{form_of as form_of_lem, job_in, in
 ghost use Rattle.operator_cmds.specs.Places.{stands_in as stands_in_lem, are_classes};
 
 /// Writes a command as the operator types it, its numbers without leading zeros. `NotTyped` exactly where no text is
-/// read as the command: only steps of the program give it, or what it carries has no spelling.
+/// read as the command: only steps of the program give it, or what it carries has no spelling. NoMemory comes only when
+/// out of memory.
 pub fn write_command(alloc: Global, command: &Command) -> Result<List<u8>, WriteNo>
     ensures text { IfOk result (λ text. text ≡ written_text command.now) }
     ensures spelled { IfOk result (λ text. IsSpelling command.now text) }

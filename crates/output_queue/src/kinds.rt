@@ -26,7 +26,9 @@ pub fn same_name(a: &Name8, b: &Name8) -> bool
 /// The output of a job with an index.
 #[derive(Clone, Copy)]
 pub struct Keyed {
+    /// The job's number.
     pub job: JobNo,
+    /// The index.
     pub index: OutNo,
 }
 
@@ -65,7 +67,9 @@ impl Test<OutRec> for PrintingAt {
 /// The outputs of a job that are busy at another than the member.
 #[derive(Clone, Copy)]
 pub struct Elsewhere {
+    /// The job.
     pub job: JobNo,
+    /// The member.
     pub by: MemberId,
 }
 
@@ -106,9 +110,13 @@ fn fits_printer(by: MemberId, name: &Name8, forms: &Name8, item: &OutRec) -> boo
 /// The outputs that a member's printer may take, by the slots of the jobs.
 #[derive(Drop)]
 pub struct ForPrinter<'a> {
+    /// The slots of the jobs.
     pub jobs: JobsByNumber<'a>,
+    /// The member.
     pub by: MemberId,
+    /// The member's name, a destination that its printer serves.
     pub name: Name8,
+    /// The forms in its printer.
     pub forms: Name8,
     ghost named: { name ≡ member_name by },
 }

@@ -58,8 +58,8 @@ AreLinesOn On base counts es =
 abbrev pub AreMarksOn : (JobNo → OutNo → ℕ → Text → Type 0) → Queue → List Entry → Type 0
 AreMarksOn On base es = (before after : List Entry) → es ≡ before ++ after → AreLinesOn On base none_printed before
 
--- So where a Mark among the entries answered a count, each line of its output up to that, where no Forward before it
--- has touched the output.
+-- Where a Mark among the entries answered a count: each line of its output up to that, if no Forward before it has
+-- touched the output.
 abbrev pub AreMarkedLinesOn : (JobNo → OutNo → ℕ → Text → Type 0) → Queue → List Entry → Type 0
 AreMarkedLinesOn On base es =
     (before after : List Entry) (e : Entry) (n : JobNo) (i : OutNo) (at count : ℕ) (o : Output)

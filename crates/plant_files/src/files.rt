@@ -1,4 +1,4 @@
-// What is done with an open file.
+//! What is done with an open file.
 ghost use Rattle.std.specs.Prelude.{◌≡◌, ◌≤◌, length, IfOk};
 
 use std::fs::OpenFile;

@@ -1,4 +1,4 @@
-// The files of a folder.
+//! The files of a folder.
 ghost use Rattle.std.specs.Prelude.{◌≡◌, ◌≤◌, length, IfOk};
 
 use crate::files::{append, empty, not_there, read_next};

@@ -23,11 +23,15 @@ pub const DEVICE_SIZE: u64 = 16_777_216;
 /// long as it is there its folder is held, and the standard streams are open.
 #[derive(Drop)]
 pub struct FilePlant<R: Files + Print + Drop> {
+    /// The system's files and streams.
     rt: R,
+    /// The standard streams.
     streams: Streams,
     // The folder that is held, unless it isn't there. It is let go where this is closed.
     held: Option<R::File>,
+    /// The folder's files.
     folder: Folder<R::File>,
+    /// The counts of faults, losses and armed calls.
     tally: Tally,
 }
 

@@ -7,7 +7,9 @@ use std::io::Read;
 /// Standard input. What a stream of the system has left can't be known, so this source tells nothing of it.
 #[derive(Drop)]
 pub struct StdSource<R: Input> {
+    /// The stream.
     reader: R::Reader,
+    /// The reads that failed.
     faults: u64,
 }
 

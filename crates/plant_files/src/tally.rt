@@ -1,4 +1,4 @@
-// The moment, and what is counted.
+//! The moment, and what is counted.
 ghost use Rattle.std.specs.Prelude.{◌≡◌, ◌<◌, ◌≤◌, ℕ, length, IfOk, map, slice_index, true, false};
 ghost use Rattle.spool_disk.specs.Acts.{Acts, Arms, Loses, Renews, top};
 ghost use Rattle.spool_disk.specs.declared.plant.Act.TheVariants.{Done, Failed};

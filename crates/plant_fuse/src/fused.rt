@@ -18,6 +18,7 @@ use spool_disk::{Act, Fuse, Fuses, Part, Plant, Took};
 /// passed on, that is the answer. A line of which the half was passed on counts as torn.
 #[derive(Drop)]
 pub struct Fused<P: Plant + Drop> {
+    /// The inner plant.
     pub inner: P,
     /// The stops that are armed.
     pub fuses: Fuses,

@@ -1,4 +1,4 @@
-// What is counted of members.
+//! What is counted of members.
 ghost use Rattle.std.specs.Prelude.{◌≡◌, ◌≤◌, ℕ, length, replicate, slice_index};
 ghost use Rattle.spool_disk.specs.Acts.{top};
 ghost use Rattle.plant_fuse.specs.Counted.{counted};
@@ -8,6 +8,7 @@ use mas_types::MemberId;
 /// A count for each member.
 #[derive(Drop)]
 pub struct Tally {
+    /// The counts, by the members' numbers.
     pub counts: [u64; 256],
     ghost many: { length counts ≡ 256 },
     ghost fits: { (m : ℕ) → slice_index counts m ≤ top },

@@ -1,4 +1,4 @@
-// Acts of members on a plant.
+//! Acts of members on a plant.
 use crate::leaving::add_crash;
 use crate::shows::{add_bytes, add_device, add_parts, add_source};
 use mas_types::{Dev, MemberId, NoMemory};

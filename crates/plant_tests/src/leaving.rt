@@ -1,4 +1,4 @@
-// What a crash leaves of a plant.
+//! What a crash leaves of a plant.
 use crate::shows::{add_device, add_parts};
 use mas_types::{Dev, NoMemory};
 use spool_disk::MemPlant;

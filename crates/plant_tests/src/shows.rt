@@ -1,4 +1,4 @@
-// What a plant shows: bytes of devices, lines, and which parts are lost.
+//! What a plant shows: bytes of devices, lines, and which parts are lost.
 use crate::acts::add_act;
 use mas_types::{Dev, Lines, List, MemberId, NoMemory};
 use spool_disk::{Act, Got, MemPlant, MemSource, Part, Plant, Source};

@@ -7,7 +7,8 @@ use mas_types::{JobNo, Lines, List, NoMemory, OutNo};
 use std::alloc::Global;
 
 /// A line of an output on paper: the job identifier, a point and the index in two digits, a blank, the line's number in
-/// eight digits, a blank, and its text. Lines are counted from 1 over all copies, which follow one another.
+/// eight digits, a blank, and its text. Lines are counted from 1 over all copies, which follow one another. NoMemory
+/// comes only when out of memory.
 pub fn print_line(
     alloc: Global,
     job: JobNo,

@@ -239,7 +239,8 @@ fn shown_part(alloc: Global, tables: &Tables, what: What) -> Result<Queue, NoMem
     }
 }
 
-/// Show: the lines of a display, or NoJob where it is of a job that isn't there.
+/// Show: the lines of a display, or NoJob where it is of a job that isn't there. NoMemory comes only when out of
+/// memory.
 pub fn display(alloc: Global, tables: &Tables, what: What) -> Result<Reply, NoMemory>
     requires { AreFit tables.now }
     ensures { IfOk result (λ reply. Plays tables.now tables.now (λ Q. show_row Q what) reply) }

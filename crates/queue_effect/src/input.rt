@@ -153,7 +153,8 @@ fn entered_record(node: &Name8, job: &JobRec, text: &Lines) -> JobRec
     }
 }
 
-/// The job that is to get its text, and how many groups that takes. The refusals are those of Enter.
+/// The job that is to get its text, and how many groups that takes. The refusals are those of Enter. They come in the
+/// order of its row, and change nothing.
 pub fn entering(
     tables: &Tables,
     by: MemberId,

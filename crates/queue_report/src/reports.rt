@@ -27,7 +27,7 @@ fn push_shown(lines: &mut Lines, reply: &Reply) -> Result<(), NoMemory>
 }
 
 /// The report of a queue: the displays of its jobs, its outputs, its spool volumes and its members, each line as a
-/// display shows it, and then the line `END`.
+/// display shows it, and then the line `END`. NoMemory comes only when out of memory.
 pub fn report(alloc: Global, queue: &Queue) -> Result<Lines, NoMemory>
     requires { IsNamed queue.now }
     ensures { IfOk result (λ lines. lines ≡ report_lines queue.now) }

@@ -7,7 +7,9 @@ use crate::slots::{Found, Ordered};
 /// What a record goes by: the greatest key goes first, and of those of one key the greatest rank.
 #[derive(Clone, Copy)]
 pub struct Weight {
+    /// What counts first.
     pub key: usize,
+    /// What counts among those of one key, as a priority.
     pub rank: u8,
 }
 
@@ -27,9 +29,13 @@ pub trait Weigh<T> {
 /// The best so far: its slot, counted from 0, and what it goes by.
 #[derive(Clone, Copy)]
 pub struct Best {
+    /// The slot.
     pub at: usize,
+    /// Its key.
     pub key: usize,
+    /// Its rank.
     pub rank: u8,
+    /// Its order: of those of one key and rank the least goes first.
     pub order: u64,
 }
 

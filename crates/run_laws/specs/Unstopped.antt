@@ -28,7 +28,7 @@ pub record IsPlayedOn (tells : Type 0) (asked : List Turn) (answer : Status) (di
   pub said : tells → AddsWhole (lines_in (take closed did)) (lines_in (take kept did)) (console_now old)
       (console_now new) (answer ≡ status.ConsoleFault)
 
--- so are the steps of each run at whose end the member's count of stops is 0
+-- the steps of each run are played on at whose end the member's count of stops is 0
 abbrev pub PlaysOn : Type 0 → Type 0
 PlaysOn tells = (asked : List Turn) (answer : Status) (from : Queue) (per at : ℕ) (rest : List Batch) (first : Dev → ℕ)
     (old new : View) → (played : HavePassed tells asked answer from per at rest first old new)

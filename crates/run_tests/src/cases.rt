@@ -1,4 +1,4 @@
-// A case: its devices, its scripts, and what goes wrong.
+//! A case: its devices, its scripts, and what goes wrong.
 ghost use Rattle.std.specs.Prelude.{◌≡◌, IfOk};
 ghost use Rattle.spool_disk.specs.Courses.{empty_book};
 ghost use Rattle.spool_disk.specs.MemView.{mem_book};
@@ -15,7 +15,7 @@ pub const NEVER: u64 = u64::MAX;
 /// Room enough for the acts of a run and of those who look at what it leaves.
 const ACTS: usize = 400;
 
-/// The same for the bytes that they write.
+/// Room enough for the bytes that they write: a run, and those who look at what it leaves.
 const BYTES: usize = 500_000;
 
 /// A run over the plant in memory, as it ended. It stands in a box, as its plant does where a crash left that: so

@@ -1,4 +1,4 @@
-// What a run leaves, and what a start of it finds.
+//! What a run leaves, and what a start of it finds.
 use crate::cases::{Case, crashed, start};
 use crate::queues::add_queue;
 use mas_run::Ended;

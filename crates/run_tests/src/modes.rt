@@ -1,5 +1,5 @@
-// The modes: a run with its end, a block that it leaves, a crash at each moment, and acts that fail or halt one after
-// another.
+//! The modes: a run with its end, a block that it leaves, a crash at each moment, and acts that fail or halt one after
+//! another.
 use crate::cases::{Case, crashed, device};
 use crate::looks::{add_ended, block, content, count_said, found, kept_and_begun};
 use mas_run::Ended;
@@ -112,7 +112,7 @@ impl Told {
         add_number(line, b" #", number)
     }
 
-    // The same with each image.
+    // What a start finds behind a crash at a moment, with each image.
     fn add_found(
         &mut self,
         line: &mut Vec<u8>,

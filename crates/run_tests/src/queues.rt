@@ -1,4 +1,4 @@
-// A queue in one line.
+//! A queue in one line.
 use mas_types::{Job, LineCount, NoMemory, Output, Owner, Phase, Queue, Text};
 use tests_lines::{add_config, add_fields, add_flag, add_lines, add_name, add_number};
 

@@ -1,6 +1,6 @@
-// Starts on copies of which either is as a run left it, older, without pages, with pages that can't be used, or lost:
-// each start by itself, and beside a copy as it was left with each of its acts failing. Told are its status, the parts
-// that are lost, what became of the bytes of both copies, and what the next start finds.
+//! Starts on copies of which either is as a run left it, older, without pages, with pages that can't be used, or lost:
+//! each start by itself, and beside a copy as it was left with each of its acts failing. Told are its status, the parts
+//! that are lost, what became of the bytes of both copies, and what the next start finds.
 use crate::cases::{Case, NEVER, boxed, crashed, start};
 use crate::looks::{BLOCK, add_left, add_lost, add_status, content, put};
 use crate::modes::{Told, kept_at};

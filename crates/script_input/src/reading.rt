@@ -75,7 +75,8 @@ fn next_piece<S: Source>(
     }
 }
 
-/// Reads a source to its end. At most `SCRIPT_BYTES` bytes and one more are taken from it.
+/// Reads a source to its end. At most `SCRIPT_BYTES` bytes and one more are taken from it. Fault comes where the source
+/// failed, TooLong where it has more than `SCRIPT_BYTES` bytes, and NoMemory only when out of memory.
 pub fn read_source<S: Source>(alloc: Global, source: &mut S) -> Result<List<u8>, SourceError>
     ensures within { IfOk result (λ bytes. length bytes ≤ SCRIPT_BYTES) }
     ensures fault { IsErrOf result SourceError.Fault → Rose (S.faults source.old) (S.faults source.new) }

@@ -14,21 +14,32 @@ use std::alloc::Global;
 /// What the keys of a CONFIG line give, none of a key that is not there.
 #[derive(Drop)]
 pub struct Given {
+    /// MEMBERS, 1 to 8.
     pub members: Option<u8>,
+    /// JOBS, 16 to 2,048 in steps of 16.
     pub jobs: Option<u16>,
+    /// OUTPUTS, 32 to 4,096 in steps of 32.
     pub outputs: Option<u16>,
+    /// VOLUMES, 1 to 8.
     pub volumes: Option<u8>,
+    /// GROUPS, of each volume, 1 to 4,096.
     pub groups: Option<u16>,
+    /// HOLD, in commands, 1 to 9,999.
     pub hold: Option<u16>,
+    /// DORMANCY, in tries, 0 to 9,999.
     pub dormancy: Option<u16>,
+    /// NODE, the own name.
     pub node: Option<Name8>,
+    /// ROUTES, at most 63.
     pub routes: Option<List<Route>>,
 }
 
 /// What a CONFIG line says.
 #[derive(Drop)]
 pub struct Setup {
+    /// The configuration; a key that isn't given has its default.
     pub config: Config,
+    /// The routes to other nodes.
     pub routes: List<Route>,
 }
 
@@ -46,7 +57,7 @@ pub(crate) fn number_in(text: &[u8], least: u32, most: u32) -> Option<u32>
     }
 }
 
-/// The same, of one byte.
+/// A number of 1 to 10 digits from the least to the greatest, which fits one byte.
 pub(crate) fn byte_in(text: &[u8], least: u8, most: u8) -> Option<u8>
     ensures { result ≡ number_in_lem least most text.now }
 {

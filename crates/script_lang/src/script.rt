@@ -13,16 +13,20 @@ use std::alloc::Global;
 /// A deck whose end is still to come: its member, and its cards so far.
 #[derive(Drop)]
 pub struct OpenDeck {
+    /// Its member.
     pub by: MemberId,
+    /// Its cards so far.
     pub cards: Lines,
 }
 
 /// What the lines up to one of them say.
 #[derive(Drop)]
 pub struct State {
+    /// What they say, without a deck whose end is still to come.
     pub script: Script,
     /// One of the lines was not skipped.
     pub seen: bool,
+    /// That deck, if there is one.
     pub deck: Option<OpenDeck>,
 }
 
@@ -234,7 +238,7 @@ impl State {
 ///
 /// `BadLine` exactly where a line is outside the grammar, with the least such line and its first cause, in the order
 /// Text, Late, Warm, Config, Only, Member, Race, Verb, Number, Command, End, Steps. `TooLong` exactly where there are
-/// over 16,777,216 bytes.
+/// over 16,777,216 bytes. NoMemory comes only when out of memory.
 pub fn read_script(
     alloc: Global,
     bytes: &[u8],

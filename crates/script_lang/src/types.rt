@@ -34,14 +34,18 @@ pub enum Ask {
 /// A step: its member, 0 where a device is lost, and what it asks for.
 #[derive(Drop)]
 pub struct Step {
+    /// Its member, 0 where a device is lost.
     pub by: MemberId,
+    /// What it asks for.
     pub what: Ask,
 }
 
 /// What a script says.
 #[derive(Drop)]
 pub struct Script {
+    /// The configuration of a cold run.
     pub config: Config,
+    /// The routes of a cold run.
     pub routes: List<Route>,
     /// At most 99,999, in order.
     pub steps: List<Step>,

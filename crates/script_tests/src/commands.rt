@@ -1,4 +1,4 @@
-// The program's words and the operator's commands, as they are read.
+//! The program's words and the operator's commands, as they are read.
 use crate::reading::add_refusal;
 use mas_types::{Class, Command, JobNo, List, MemberId, Name8, NoMemory, OutNo, Prio, What};
 use mas_words::{Verb, Words, WordsNo, read_words};

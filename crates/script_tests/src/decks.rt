@@ -1,4 +1,4 @@
-// Decks, their conversion, and what their steps do.
+//! Decks, their conversion, and what their steps do.
 use crate::reading::add_refusal;
 use card_reader::read_deck;
 use jcl_convert::{Dd, DdKind, Program, convert};

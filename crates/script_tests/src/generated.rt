@@ -1,4 +1,4 @@
-// Scripts that are made from a number of decks, as they are read and as their jobs run.
+//! Scripts that are made from a number of decks, as they are read and as their jobs run.
 use crate::decks::HERE;
 use card_reader::read_deck;
 use gen_work::{DECKS_MOST, generate};

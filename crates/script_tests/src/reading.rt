@@ -1,5 +1,5 @@
-// A line of standard input: its first word, and the text behind it, in which some bytes are written as a backslash and
-// a letter.
+//! A line of standard input: its first word, and the text behind it, in which some bytes are written as a backslash and
+//! a letter.
 use crate::commands::{add_command, add_untyped, add_words};
 use crate::decks::{add_converted, add_deck, add_executed, add_listing};
 use crate::generated::add_generated;

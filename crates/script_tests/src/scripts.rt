@@ -1,4 +1,4 @@
-// Scripts, as they are read.
+//! Scripts, as they are read.
 use crate::commands::add_meaning;
 use crate::reading::{Run, add_refusal};
 use mas_types::{Dev, NoMemory};

@@ -1,4 +1,4 @@
-// Sources of a script: bytes in memory, which may fail, and zeros, of which there may be no end.
+//! Sources of a script: bytes in memory, which may fail, and zeros, of which there may be no end.
 use crate::reading::add_refusal;
 use mas_types::{List, NoMemory};
 use script_input::{SourceError, read_source};

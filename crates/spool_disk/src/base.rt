@@ -1,4 +1,4 @@
-// What a plant in memory begins with.
+//! What a plant in memory begins with.
 ghost use Rattle.std.specs.Prelude.{◌≡◌, ◌<◌, ◌≤◌, ℕ, [], length, replicate, IfOk};
 ghost use Rattle.spool_disk.specs.Standing.{bytes_at};
 ghost use Rattle.spool_disk.specs.Sizes.{size_in};

@@ -1,3 +1,4 @@
+//! What a crash leaves of unsynced bytes.
 /// What a crash makes of bytes that aren't synced.
 #[derive(Clone, Copy, PartialEq, Eq)]
 pub enum Choice {

@@ -1,4 +1,4 @@
-// What a crash leaves of the devices, of the console and of the printers.
+//! What a crash leaves of the devices, of the console and of the printers.
 ghost use Rattle.std.specs.Prelude.{◌≡◌, ◌+◌, ◌≤◌, ◌<◌, ◌++◌, ◌∷◌, [], ℕ, List, length, take, drop, IfOk, OnOk, if◌then◌else◌, slice_index, false};
 ghost use Rattle.spool_disk.specs.View.{Disk};
 ghost use Rattle.spool_disk.specs.Deeds.{overwrite, effect, after, lines_of};

@@ -1,4 +1,4 @@
-// Entries of a record of acts. The bytes of all entries stand in one list, in the order of the entries.
+//! Entries of a record of acts. The bytes of all entries stand in one list, in the order of the entries.
 
 #[derive(Clone, Copy)]
 pub(crate) enum Entry {

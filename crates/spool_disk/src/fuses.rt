@@ -1,4 +1,4 @@
-// Stops that are armed.
+//! Stops that are armed.
 ghost use Rattle.std.specs.Prelude.{◌≡◌, ◌<◌, true};
 ghost use Rattle.spool_disk.specs.Fuses.{sooner, none_armed, halts_next, to_halt, burnt, with_fuse};
 
@@ -21,7 +21,9 @@ fn sooner_of(first: u32, second: u32) -> u32
 /// The armed stops of all members. Of two stops of a kind the sooner one stays.
 #[derive(Drop)]
 pub struct Fuses {
+    /// For each member the acts up to the one that halts, 0 where none is armed.
     acts: [u32; 256],
+    /// For each member the prints up to the one that halts, 0 where none is armed.
     prints: [u32; 256],
 }
 

@@ -1,4 +1,4 @@
-// What is known of each part, and counts.
+//! What is known of each part, and counts.
 ghost use Rattle.std.specs.Prelude.{◌≡◌, ◌+◌, ◌*◌, ◌<◌, ◌≤◌, ◌∷◌, [], ℕ, length, slice_set, slice_index, IfOk, map, replicate};
 ghost use Rattle.spool_disk.specs.Acts.{next, top};
 ghost use Rattle.spool_disk.specs.Begins.{restarted};
@@ -13,8 +13,11 @@ use std::alloc::{AllocError, Global};
 /// lost now and yet at no moment.
 #[derive(Clone, Copy)]
 pub struct Health {
+    /// The acts on it that failed.
     pub faults: u64,
+    /// The moment from which on it is lost, none where it is lost at none.
     pub since: Option<u64>,
+    /// It is lost now.
     pub lost: bool,
 }
 
@@ -141,7 +144,7 @@ impl Counts {
 }
 
 impl Counts {
-    /// Counts that stand at 0, and these parts.
+    /// Counts that stand at 0, and these parts. AllocError comes only when out of memory.
     pub fn new(alloc: Global, parts: Vec<Health>) -> Result<Counts, AllocError>
         requires { length parts.items ≡ 1032 }
         ensures parts { IfOk result (λ c. c.parts.items ≡ parts.items) }

@@ -1,4 +1,4 @@
-// What comes in on wires.
+//! What comes in on wires.
 ghost use Rattle.std.specs.Prelude.{◌≡◌, ◌+◌, ◌≤◌, ◌<◌, ◌==◌, ◌++◌, ℕ, [], length, take, drop, slice_index, if◌then◌else◌, IfOk, IfErr};
 ghost use Rattle.spool_disk.specs.Standing.{bytes_at};
 

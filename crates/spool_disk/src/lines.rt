@@ -1,4 +1,4 @@
-// What a record has of lines, of wires and of reads.
+//! What a record has of lines, of wires and of reads.
 ghost use Rattle.std.specs.Prelude.{◌≡◌, ◌+◌, ◌≤◌, ◌++◌, ◌∷◌, [], length, filter, IfOk, OnOk};
 ghost use Rattle.spool_disk.specs.Deeds.{gather, gives, lines_of};
 ghost use Rattle.spool_disk.specs.Entries.{kept_by, kept_in, deed_of, deeds_of, reads_at};

@@ -1,4 +1,4 @@
-// A plant in memory, which keeps a record of all acts.
+//! A plant in memory, which keeps a record of all acts.
 ghost use Rattle.std.specs.Prelude.{◌≡◌, ◌≢◌, ◌⊎◌, ◌+◌, ◌-◌, ◌≤◌, ◌<◌, ◌∷◌, ◌++◌, ℕ, length, min, slice_index, false, true, is_some, take, vec_capacity, IfOk, IfErr, if◌then◌else◌};
 ghost use Rattle.mas_types.specs.declared.ids.Dev.{Dev};
 ghost use Rattle.spool_disk.specs.Places.{slot_of, place_of};
@@ -29,11 +29,17 @@ pub const PLANS_MOST: usize = 64;
 /// is made, so no act runs out of memory. An act that doesn't fit the record fails.
 #[derive(Drop)]
 pub struct MemPlant {
+    /// The number of acts that were made.
     moment: u64,
+    /// The record of all acts.
     kept: Record,
+    /// The counts of faults, stops, losses and armed calls.
     counts: Counts,
+    /// The plans that are still to come, at most 64.
     plans: Vec<Plan>,
+    /// The stops that are armed.
     fuses: Fuses,
+    /// The bytes that wait on the wires.
     incoming: Incoming,
     ghost in_step: { (length kept.log.items ≤ moment)
         × (length kept.log.items < kept.acts → length kept.log.items ≡ moment) },

@@ -1,4 +1,4 @@
-// Numbers of devices and parts.
+//! Numbers of devices and parts.
 ghost use Rattle.std.specs.Prelude.{◌≡◌, ◌<◌};
 ghost use Rattle.spool_disk.specs.Places.{slot_of, place_of};
 

@@ -1,4 +1,4 @@
-// What is planned of acts, and what becomes of an act.
+//! What is planned of acts, and what becomes of an act.
 
 /// What is planned of an act.
 #[derive(Clone, Copy)]
@@ -12,7 +12,9 @@ pub enum Planned {
 /// A plan of the act that is made at a moment.
 #[derive(Clone, Copy)]
 pub struct Plan {
+    /// The moment.
     pub moment: u64,
+    /// What the act does.
     pub planned: Planned,
 }
 

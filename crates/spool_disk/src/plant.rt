@@ -1,4 +1,4 @@
-// What a plant shows, and what each act does to it.
+//! What a plant shows, and what each act does to it.
 ghost use Rattle.std.specs.Prelude.{◌≡◌, ◌+◌, ◌≤◌, length, IsTrue, ◌↔◌};
 ghost use Rattle.std.specs.Prelude.{ℕ, false};
 ghost use Rattle.mas_types.specs.declared.ids.Dev.{Dev};

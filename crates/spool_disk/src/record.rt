@@ -1,4 +1,4 @@
-// A record of acts, and the bytes that they come to.
+//! A record of acts, and the bytes that they come to.
 ghost use Rattle.std.specs.Prelude.{◌≡◌, ◌+◌, ◌≤◌, ◌<◌, ◌++◌, ◌∷◌, [], ◌==◌, ℕ, length, replicate, IfOk, vec_len, vec_capacity, if◌then◌else◌, nat_lt};
 ghost use Rattle.spool_disk.specs.Deeds.{Idle, Wrote, Synced, Said, Passed, Fetched, Renewed, overwrite, after, idled};
 ghost use Rattle.spool_disk.specs.Entries.{kept_by, kept_in, deed_of, deeds_of};

@@ -1,4 +1,4 @@
-// How large each device is.
+//! How large each device is.
 ghost use Rattle.std.specs.Prelude.{◌≡◌, ◌≤◌};
 ghost use Rattle.spool_disk.specs.Sizes.{size_in};
 

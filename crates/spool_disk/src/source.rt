@@ -1,4 +1,4 @@
-// A source of bytes.
+//! A source of bytes.
 ghost use Rattle.std.specs.Prelude.{◌≡◌, ◌+◌, ◌-◌, ◌≤◌, ℕ, List, length, take, drop, min, if◌then◌else◌};
 ghost use Rattle.spool_disk.specs.Source.{Gives, GivesCount, gives_from, given_by, got_of};
 
@@ -36,9 +36,13 @@ pub trait Source {
 /// Bytes in memory, and the number of bytes after which the source fails, if it does.
 #[derive(Drop)]
 pub struct MemSource {
+    /// All its bytes.
     bytes: List<u8>,
+    /// How many of them were taken.
     at: usize,
+    /// The number of bytes after which it fails.
     fail_at: Option<u64>,
+    /// The reads that failed.
     faults: u64,
     ghost within: { at ≤ length bytes },
 }

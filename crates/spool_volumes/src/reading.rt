@@ -127,7 +127,7 @@ pub fn last_group(groups: &[GroupNo]) -> GroupNo
 /// volume was lost in the call, and so it does where none of its groups lies on a volume that is lost then: else read
 /// again. Halted comes only where the member was stopped inside a read, never for the operator; else nobody is stopped.
 /// No byte of a volume is changed, and nothing more is unsynced. A volume on which none of the groups lies isn't lost,
-/// and no fault of it is counted.
+/// and no fault of it is counted. NoMemory comes only when out of memory.
 pub fn read_text<P: Plant>(
     alloc: Global,
     plant: &mut P,

@@ -21,7 +21,9 @@ pub enum Task {
 /// there is one.
 #[derive(Clone, Copy, PartialEq, Eq)]
 pub struct Progress {
+    /// The units that are done.
     pub done: u16,
+    /// The units that may still follow.
     pub left: u16,
 }
 
@@ -92,9 +94,13 @@ pub enum Grant {
 /// A member that holds the lock in a step, and may give so many commands more before its hold is spent.
 #[derive(Clone, Copy, PartialEq, Eq)]
 pub struct Holder {
+    /// The member.
     pub by: MemberId,
+    /// The number of its step.
     pub step: u32,
+    /// The commands that it may still give.
     pub hold: u16,
+    /// How it has the lock.
     pub grant: Grant,
 }
 

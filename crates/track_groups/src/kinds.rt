@@ -5,12 +5,14 @@ ghost use Rattle.track_groups.specs.Groups.{is_things as is_things_lem, owner_at
 
 use mas_types::{MemberId, Owner, Thing};
 
+/// Whether nobody owns the group.
 pub fn is_free(owner: Owner) -> bool
     ensures { result ≡ is_free_lem owner }
 {
     matches!(owner, Owner::Free)
 }
 
+/// Whether the member owns the group.
 pub fn is_members(owner: Owner, of: MemberId) -> bool
     ensures { result ≡ is_members_lem of owner }
 {
@@ -20,6 +22,7 @@ pub fn is_members(owner: Owner, of: MemberId) -> bool
     }
 }
 
+/// Whether the deck or the output owns the group, at whatever place.
 pub fn is_things(owner: Owner, thing: Thing) -> bool
     ensures { result ≡ is_things_lem thing owner }
 {
@@ -30,6 +33,7 @@ pub fn is_things(owner: Owner, thing: Thing) -> bool
     }
 }
 
+/// The owner of a group that has this place, from 0, in the text of the deck or the output.
 pub fn owner_at(thing: Thing, place: u16) -> Owner
     ensures { result ≡ owner_at_lem thing place }
 {

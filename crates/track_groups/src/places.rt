@@ -42,7 +42,8 @@ pub fn member_count(owners: &[Owner], by: MemberId) -> u32
         .count() as u32
 }
 
-/// The groups of the member, ascending; none where it has none. There are fewer than 2^32 groups in all.
+/// The groups of the member, ascending; none where it has none. There are fewer than 2^32 groups in all. NoMemory comes
+/// only when out of memory.
 pub fn held_by(alloc: Global, owners: &[Owner], by: MemberId) -> Result<List<GroupNo>, NoMemory>
     requires { length owners.now < 2 ^ 32 }
     ensures { IfOk result (λ groups. groups ≡ held_by_lem by owners.now) }
@@ -84,7 +85,7 @@ fn placed_groups(alloc: Global, owners: &[Owner], thing: Thing) -> Result<Vec<Pl
 }
 
 /// The groups of the deck or the output, in the order of their places; none where it has none. There are fewer than
-/// 2^32 groups in all.
+/// 2^32 groups in all. NoMemory comes only when out of memory.
 pub fn groups_of(alloc: Global, owners: &[Owner], thing: Thing) -> Result<List<GroupNo>, NoMemory>
     requires { length owners.now < 2 ^ 32 }
     ensures { IfOk result (λ groups. groups ≡ groups_of_lem thing owners.now) }

@@ -61,7 +61,7 @@ placed_then (Some b) placed = false
 abbrev pub looked_in : {P C : Type 0} → Book → Parts P C → Parts P C → Parts P C
 looked_in book is was = record (with_copies is was) { book = book; reserved = None }
 
--- and the batch in flight has its fate since a moment, by the level that was found
+-- the lock was taken over, and the batch in flight has its fate since a moment, by the level that was found
 abbrev pub found_in : {P C : Type 0} → Book → ℕ → ℕ → Parts P C → Parts P C → Parts P C
 found_in book now found is was = record (looked_in book is was) {
   batches = ended_at (fate_of found was.level) now was.current was.batches;

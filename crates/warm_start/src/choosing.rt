@@ -67,6 +67,7 @@ pub enum StartNo {
 }
 
 /// What a start makes of a copy that was looked at so: its pages can be used where they spell tables without a fault.
+/// NoMemory comes only when out of memory.
 pub fn judge(alloc: Global, look: Look) -> Result<Judged, NoMemory>
     ensures judged { IfOk result (IsJudged look) }
     ensures few { IfOk result HasFew }

@@ -105,7 +105,7 @@ fn outputs_of(alloc: Global, slots: &[Option<OutRec>]) -> Result<List<Output>, N
 }
 
 /// The queue of tables: jobs and outputs by ascending order, whose texts are gone where they have lines, and all else
-/// as the tables have it.
+/// as the tables have it. NoMemory comes only when out of memory.
 pub fn queue_of(alloc: Global, tables: &Tables) -> Result<Queue, NoMemory>
     ensures { IfOk result (λ queue. queue ≡ queue_of_lem tables.now bare_deck bare_print) }
 {

@@ -27,7 +27,7 @@ fn may_start(alloc: Global, pages: &[Page], tables: &Tables) -> Result<bool, NoM
 }
 
 /// The tables that the pages of a checkpoint spell, where these are sound and a run finds levels and orders enough
-/// above theirs; none exactly where the pages spell no tables, or other ones.
+/// above theirs; none exactly where the pages spell no tables, or other ones. NoMemory comes only when out of memory.
 pub fn usable(alloc: Global, pages: &[Page]) -> Result<Option<Tables>, NoMemory>
     ensures tables { IfOk result (λ found. IfSome found (AreOf pages.now)) }
     ensures none { IfOk result (λ found. IfNone found (IsUsable pages.now → ⊥)) }

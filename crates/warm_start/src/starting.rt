@@ -54,7 +54,9 @@ pub struct Started<P: Plant + Drop, C: Steady + Drop> {
 /// Why a warm start gave nothing, and the plant that was lent to it.
 #[derive(Drop)]
 pub struct Unstarted<P: Drop> {
+    /// The plant.
     pub plant: P,
+    /// Why nothing was started.
     pub why: StartNo,
 }
 
@@ -114,6 +116,7 @@ fn refuse_small_volumes<P: Plant>(plant: &P, config: &Config) -> Result<(), Star
 }
 
 /// Refuses the first device that is too small: CKPT1, CKPT2, and then each volume of the configuration that isn't lost.
+/// The only error is DeviceSize, with the device and its bytes.
 pub fn refuse_small<P: Plant>(plant: &P, needed: u64, config: &Config) -> Result<(), StartNo>
     ensures small { IfErr result (IsSmallAt needed config.now (P.view plant.now)) }
     ensures large { OnOk result ((needed ≤ (P.view plant.now).size Ckpt1) × (needed ≤ (P.view plant.now).size Ckpt2)) }
