@@ -1,4 +1,5 @@
 """What the scripts of this folder, of bench/ and of docs/ share."""
+import argparse
 import os
 import shutil
 import subprocess
@@ -16,6 +17,59 @@ OPEN = 0xA5
 GATES_AT = 8
 # A copy has home pages and a log of four slots.
 SLOTS = 4
+# The cards of a job that prints three lines, and its lines on paper.
+CARDS = b"//C JOB\n//S EXEC PGM=IEBGENER\n//SYSUT1 DD *\nALFA\nBRAVO\nCHARLIE\n/*\n//SYSUT2 DD SYSOUT=A\n"
+PAPER = [b"JOB00001.01 %08d %s" % (number, text) for number, text in enumerate((b"ALFA", b"BRAVO", b"CHARLIE"), 1)]
+
+
+def reader(text):
+    """A reader of the words of a script, which says this of itself in its first paragraph."""
+    return argparse.ArgumentParser(description=text.partition("\n\n")[0])
+
+
+def count_of(text, count):
+    """The number that a script was given, or else this one."""
+    words = reader(text)
+    words.add_argument("count", nargs="?", type=int, default=count, metavar="COUNT", help=f"{count} if none is given")
+    return words.parse_args().count
+
+
+class Tally:
+    """How many trials passed and how many failed."""
+
+    def __init__(self):
+        self.passed = self.failed = 0
+
+    def note(self, what, wrong):
+        """Counts a trial, which failed if something is wrong; then a line says what."""
+        self.passed += not wrong
+        self.failed += bool(wrong)
+        if wrong:
+            print(f"FAILED {what}: {wrong}", flush=True)
+
+    def end(self):
+        """Prints the last line of a script, and answers its exit status."""
+        print(f"{self.passed} passed, {self.failed} failed")
+        return 1 if self.failed or not self.passed else 0
+
+
+def deck(name):
+    """The lines of a script that enter a job of this name, which does nothing."""
+    return b"SYSA DECK\n//%s JOB\n++END\n" % name
+
+
+def decks(count):
+    """A script of so many decks."""
+    return b"".join(deck(b"J%d" % number) for number in range(count))
+
+
+def told(console):
+    """How many jobs the whole lines of a console tell. They come in order from the first on; one more may be torn."""
+    lines = console.split(b"\n")
+    wanted = [b"SYSA %05d OK JOB%05d" % (number, number) for number in range(1, len(lines) + 1)]
+    if lines[:-1] != wanted[:-1] or not wanted[-1].startswith(lines[-1]):
+        raise ValueError(f"the console says {lines!r}")
+    return len(lines) - 1
 
 
 def proved_program():
