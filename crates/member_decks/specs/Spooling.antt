@@ -43,6 +43,12 @@ AreQuiet old new = (n : ℕ) → IsQuiet (old n) (new n)
 abbrev pub lies_there : ℕ → ℕ → List GroupNo → Bool
 lies_there per volume groups = list_any (λ g. volume_of per g == volume) groups
 
+-- each volume on which none of the groups lies is lost where it was, and no fault of it is counted
+pub record SparesOthers (per : ℕ) (groups : List GroupNo) (old new : View) : Type 0 where
+  pub lost : (v : ℕ) → lies_there per v groups ≡ false → new.lost (DiskPart (Spool v)) ≡ old.lost (DiskPart (Spool v))
+  pub faults : (v : ℕ) → lies_there per v groups ≡ false
+      → new.faults (DiskPart (Spool v)) ≡ old.faults (DiskPart (Spool v))
+
 -- Acts of a member on spool volumes: no other part is lost, nobody else is stopped, nor the operator, and where content
 -- is told, the copies, the console and at each moment the printers are as they were.
 pub record OnVolumes (told : Type 0) (by : ℕ) (old new : View) : Type 0 where

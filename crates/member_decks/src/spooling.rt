@@ -12,7 +12,7 @@ ghost use Rattle.mas_complex.specs.Meaning.{run};
 ghost use Rattle.mas_complex.specs.Parts.{parts_of};
 ghost use Rattle.mas_complex.specs.Spool.{IsGroupOf, IsHeldBy, IsVolumeOf};
 ghost use Rattle.mas_complex.specs.Texts.{IsSynced, IsThere, spools_at};
-ghost use Rattle.member_decks.specs.Spooling.{AreQuiet, OnVolumes, Rise, SpoolCauses, StandBelow, answer_of, lies_there as lies_there_lem, page_in};
+ghost use Rattle.member_decks.specs.Spooling.{AreQuiet, OnVolumes, Rise, SparesOthers, SpoolCauses, StandBelow, answer_of, lies_there as lies_there_lem, page_in};
 
 use mas_complex::{Complex, Steady};
 use mas_types::{GroupNo, Lines, MemberId, Page};
@@ -84,6 +84,8 @@ fn write_page<P: Plant + Drop, C: Steady + Drop>(
     ensures acts { OnVolumes P.tells by.0 (P.view complex.old.plant) (P.view complex.new.plant) }
     ensures cause { SpoolCauses result by.0 complex.old.base.config.groups (group ∷ []) (P.view complex.old.plant)
         (P.view complex.new.plant) }
+    ensures others { SparesOthers complex.old.base.config.groups (group ∷ []) (P.view complex.old.plant)
+        (P.view complex.new.plant) }
     ensures stands { OnOk result (P.tells → AreRoomy (P.view complex.old.plant) complex.old.base.config
         → slice_get (packed text.now) place
         ≡ Some (page_in (spools_at (P.view complex.new.plant) (P.view complex.new.plant).now)
@@ -124,6 +126,8 @@ pub fn write_pages<P: Plant + Drop, C: Steady + Drop>(
     ensures acts { OnVolumes P.tells by.0 (P.view complex.old.plant) (P.view complex.new.plant) }
     ensures cause { SpoolCauses result by.0 complex.old.base.config.groups groups.now (P.view complex.old.plant)
         (P.view complex.new.plant) }
+    ensures others { SparesOthers complex.old.base.config.groups groups.now (P.view complex.old.plant)
+        (P.view complex.new.plant) }
     ensures stand { OnOk result (P.tells → AreRoomy (P.view complex.old.plant) complex.old.base.config
         → StandBelow (length groups.now) (spools_at (P.view complex.new.plant) (P.view complex.new.plant).now)
         complex.old.base.config.groups (packed text.now) groups.now) }
@@ -153,6 +157,8 @@ fn sync_volume<P: Plant + Drop, C: Steady + Drop>(
     ensures acts { OnVolumes P.tells by.0 (P.view complex.old.plant) (P.view complex.new.plant) }
     ensures cause { SpoolCauses result by.0 complex.old.base.config.groups groups.now (P.view complex.old.plant)
         (P.view complex.new.plant) }
+    ensures others { SparesOthers complex.old.base.config.groups groups.now (P.view complex.old.plant)
+        (P.view complex.new.plant) }
     ensures synced { OnOk result (P.tells → (k : ℕ) (g : GroupNo) → slice_get groups.now k ≡ Some g
         → volume_of_lem complex.old.base.config.groups g ≡ volume
         → IsSynced (spools_at (P.view complex.new.plant) (P.view complex.new.plant).now) complex.old.base.config.groups
@@ -181,6 +187,8 @@ pub fn sync_volumes<P: Plant + Drop, C: Steady + Drop>(
     ensures acts { OnVolumes P.tells by.0 (P.view complex.old.plant) (P.view complex.new.plant) }
     ensures cause { SpoolCauses result by.0 complex.old.base.config.groups groups.now (P.view complex.old.plant)
         (P.view complex.new.plant) }
+    ensures others { SparesOthers complex.old.base.config.groups groups.now (P.view complex.old.plant)
+        (P.view complex.new.plant) }
     ensures synced { OnOk result (P.tells
         → All (IsSynced (spools_at (P.view complex.new.plant) (P.view complex.new.plant).now)
         complex.old.base.config.groups) groups.now) }
@@ -198,7 +206,7 @@ pub fn sync_volumes<P: Plant + Drop, C: Steady + Drop>(
 /// is done the text stands in the groups, all of it synced.
 ///
 /// Lost comes only where the faults of a volume rose on which one of the groups lies, Halted only where the member was
-/// stopped.
+/// stopped. Of other volumes none is lost, and no fault is counted.
 pub fn spool_text<P: Plant + Drop, C: Steady + Drop>(
     complex: &mut Complex<P, C>,
     by: MemberId,
@@ -219,6 +227,8 @@ pub fn spool_text<P: Plant + Drop, C: Steady + Drop>(
     ensures frame { parts_of complex.new ≡ record (parts_of complex.old) { plant = complex.new.plant } }
     ensures acts { OnVolumes P.tells by.0 (P.view complex.old.plant) (P.view complex.new.plant) }
     ensures cause { SpoolCauses result by.0 complex.old.base.config.groups groups.now (P.view complex.old.plant)
+        (P.view complex.new.plant) }
+    ensures others { SparesOthers complex.old.base.config.groups groups.now (P.view complex.old.plant)
         (P.view complex.new.plant) }
     ensures there { OnOk result (P.tells → AreRoomy (P.view complex.old.plant) complex.old.base.config
         → IsThere (spools_at (P.view complex.new.plant) (P.view complex.new.plant).now) complex.old.base.config.groups
