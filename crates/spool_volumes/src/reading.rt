@@ -108,6 +108,14 @@ fn ended(count: u16, groups: &[GroupNo], lines: Lines) -> Text
     Text::Gone(last_group(groups), count)
 }
 
+// No lines, with room for so many, and for the bytes of their groups if these are more than one.
+fn room_for(alloc: Global, groups: usize, count: u16) -> Result<Lines, NoMemory>
+    ensures { IfOk result (λ lines. lines ≡ []) }
+{
+    let pages = if groups > 1 { groups } else { 0 };
+    Lines::with_room(alloc, count as usize, pages.saturating_mul(PAGE_BYTES))
+}
+
 /// The last of groups, 0 where there is none.
 pub fn last_group(groups: &[GroupNo]) -> GroupNo
     ensures { result ≡ last_of groups.now }
@@ -149,7 +157,10 @@ pub fn read_text<P: Plant>(
     ensures halted { IsErrOf result ReadErrorHalted → (0 < by.0)
         × Rose ((P.view plant.old).stops by.0) ((P.view plant.new).stops by.0) }
 {
-    let mut lines = Lines::new(alloc);
+    let Ok(room) = room_for(alloc, groups.len(), count) else {
+        return Err(ReadError::NoMemory);
+    };
+    let mut lines = room;
     for group in groups {
         if !add_group(alloc, plant, by, per, *group, &mut lines)? {
             return Ok(Text::Gone(*group, count));

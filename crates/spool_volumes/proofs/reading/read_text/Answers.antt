@@ -13,7 +13,7 @@ abbrev none : GroupNo
 none = record { 0 = 0 }
 
 pub loop-group-init : goal.loop-group-init
-loop-group-init g c = (record { looks = looks_none g.P.Plant.tells c.args.by.0 (g.P.Plant.view c.args.plant.now); all = λ told. sym c.new-lines.ensures; none = λ told. refl; limited = rw c.new-lines.ensures (All-nil (λ line. is_record line ≡ true)) }, spares_none c.args.by.0 c.args.per c.args.groups.now (g.P.Plant.view c.args.plant.now))
+loop-group-init g c = (record { looks = looks_none g.P.Plant.tells c.args.by.0 (g.P.Plant.view c.args.plant.now); all = λ told. sym c.in-Ok.ensures; none = λ told. refl; limited = rw c.in-Ok.ensures (All-nil (λ line. is_record line ≡ true)) }, spares_none c.args.by.0 c.args.per c.args.groups.now (g.P.Plant.view c.args.plant.now))
 
 pub add_group-requires-clause-placed : goal.add_group-requires-clause-placed
 add_group-requires-clause-placed g c =
@@ -75,3 +75,9 @@ loop-group-preserved g c =
 pub returns-then-not-branch-clause-spares : goal.returns-then-not-branch-clause-spares
 returns-then-not-branch-clause-spares g c =
     spares_then c.args.by.0 c.args.per c.args.groups.now c.loop-group.group-index none false (g.P.Plant.view c.args.plant.now) (g.P.Plant.view c.loop-group.plant) (g.P.Plant.view c.add_group.new.plant) c.loop-group-test.true c.loop-group.invariant.1 c.in_ok-add_group.ensures.spares
+
+pub returns-in_default-clause-looks : goal.returns-in_default-clause-looks
+returns-in_default-clause-looks g c = looks_none g.P.Plant.tells c.args.by.0 (g.P.Plant.view c.args.plant.now)
+
+pub returns-in_default-clause-spares : goal.returns-in_default-clause-spares
+returns-in_default-clause-spares g c = spares_none c.args.by.0 c.args.per c.args.groups.now (g.P.Plant.view c.args.plant.now)
