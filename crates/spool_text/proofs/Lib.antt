@@ -3,3 +3,4 @@ mod Grouping
 mod Sizes
 mod RecordLemmas
 mod GroupSteps
+mod TextRuns

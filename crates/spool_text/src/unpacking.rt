@@ -8,6 +8,7 @@ use crate::END_BYTE;
 use mas_types::limits::{LINE_BYTES, PAGE_BYTES};
 use mas_types::{Lines, NoMemory, Page};
 use std::alloc::Global;
+use std::simd::prelude::*;
 use thiserror::Error;
 
 /// Why a group gave no text.
@@ -27,11 +28,38 @@ fn is_text_byte(byte: u8) -> bool
     (0x20..=0x7E).contains(&byte)
 }
 
+/// The number of bytes that are tested at once.
+const LANES: usize = 16;
+
+/// Whether so many bytes from an offset on may stand in a text.
+fn is_text_run(bytes: &[u8], at: usize) -> bool
+    requires { at + LANES ≤ length bytes.now }
+    ensures { result ≡ is_text_line (take LANES (drop at bytes.now)) }
+{
+    let run = u8x16::from_slice(&bytes[at..]);
+    let is_below = run.simd_lt(u8x16::splat(0x20));
+    let is_above = run.simd_gt(u8x16::splat(0x7E));
+    !is_below.any() && !is_above.any()
+}
+
+fn is_text_rest(bytes: &[u8]) -> bool
+    ensures { result ≡ is_text_line bytes.now }
+{
+    bytes.iter().all(|byte| is_text_byte(*byte))
+}
+
 /// Whether all bytes may stand in a text.
 fn is_text(bytes: &[u8]) -> bool
     ensures { result ≡ is_text_line bytes.now }
 {
-    bytes.iter().all(|byte| is_text_byte(*byte))
+    let mut at = 0;
+    while LANES <= bytes.len() - at {
+        if !is_text_run(bytes, at) {
+            return false;
+        }
+        at += LANES;
+    }
+    is_text_rest(&bytes[at..])
 }
 
 /// Whether the bytes may be a line of a text.
