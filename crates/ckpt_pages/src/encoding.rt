@@ -1,5 +1,5 @@
 //! The pages of tables.
-ghost use Rattle.std.specs.Prelude.{◌≡◌, ◌+◌, ◌*◌, ◌<◌, ◌≤◌, [], ◌∷◌, ◌++◌, length, map, All, replicate, IfOk};
+ghost use Rattle.std.specs.Prelude.{◌≡◌, ◌+◌, ◌*◌, ◌<◌, ◌≤◌, [], ◌∷◌, ◌++◌, length, map, take, drop, All, replicate, IfOk};
 ghost use Rattle.std.specs.List.{concat, slice_index};
 ghost use Rattle.std.specs.Int.{w64, to_be_bytes};
 ghost use Rattle.mas_types.specs.Fit.{IsSetting};
@@ -17,44 +17,78 @@ use lay_bytes::{JobRec, OutRec, fill_fields, put, write_job, write_output, write
 use mas_types::{Class, Level, LineCount, List, NoMemory, Owner, Page, Route, Setting};
 use std::alloc::Global;
 
-/// Writes the slots of jobs from an offset on.
-fn put_jobs(jobs: &[Option<JobRec>], at: usize, into: &mut [u8; 4096])
-    requires { at + 256 * length jobs.now ≤ 4096 }
-    ensures { Puts (map job_slot jobs.now) at into.old into.new }
+/// Writes the slot of a job over zeros: a free one is zeros, and stays.
+fn put_job(job: &Option<JobRec>, at: usize, into: &mut [u8; 4096])
+    requires room { at + 256 ≤ 4096 }
+    requires zeros { take 256 (drop at into.old) ≡ replicate 256 0 }
+    ensures written { into.new ≡ take at into.old ++ job_slot job.now ++ drop (at + 256) into.old }
+    ensures size { length (job_slot job.now) ≡ 256 }
 {
-    let mut here = at;
-    let mut slot = [0; 256];
+    if let Some(job) = job {
+        write_job(job, &mut into[at..at + 256]);
+    }
+}
+
+/// Writes the slots of jobs, one after another, over a page of zeros.
+fn put_jobs(jobs: &[Option<JobRec>], into: &mut [u8; 4096])
+    requires room { 256 * length jobs.now ≤ 4096 }
+    requires zeros { into.old ≡ replicate page_bytes 0 }
+    ensures { Puts (map job_slot jobs.now) 0 into.old into.new }
+{
+    let mut here = 0;
     for job in jobs {
-        write_job(job, &mut slot);
-        put(&slot, here, into);
+        put_job(job, here, into);
         here += 256;
     }
 }
 
-/// Writes the slots of outputs from an offset on.
-fn put_outputs(outputs: &[Option<OutRec>], at: usize, into: &mut [u8; 4096])
-    requires { at + 128 * length outputs.now ≤ 4096 }
-    ensures { Puts (map output_slot outputs.now) at into.old into.new }
+/// Writes the slot of an output over zeros: a free one is zeros, and stays.
+fn put_output(output: &Option<OutRec>, at: usize, into: &mut [u8; 4096])
+    requires room { at + 128 ≤ 4096 }
+    requires zeros { take 128 (drop at into.old) ≡ replicate 128 0 }
+    ensures written { into.new ≡ take at into.old ++ output_slot output.now ++ drop (at + 128) into.old }
+    ensures size { length (output_slot output.now) ≡ 128 }
 {
-    let mut here = at;
-    let mut slot = [0; 128];
+    if let Some(output) = output {
+        write_output(output, &mut into[at..at + 128]);
+    }
+}
+
+/// Writes the slots of outputs, one after another, over a page of zeros.
+fn put_outputs(outputs: &[Option<OutRec>], into: &mut [u8; 4096])
+    requires room { 128 * length outputs.now ≤ 4096 }
+    requires zeros { into.old ≡ replicate page_bytes 0 }
+    ensures { Puts (map output_slot outputs.now) 0 into.old into.new }
+{
+    let mut here = 0;
     for output in outputs {
-        write_output(output, &mut slot);
-        put(&slot, here, into);
+        put_output(output, here, into);
         here += 128;
     }
 }
 
-/// Writes the entries of groups from an offset on.
-fn put_owners(owners: &[Owner], at: usize, into: &mut [u8; 4096])
-    requires { at + 8 * length owners.now ≤ 4096 }
-    ensures { Puts (map owner_entry owners.now) at into.old into.new }
+/// Writes the entry of a group over zeros: that of a free one is zeros, and stays.
+fn put_owner(owner: &Owner, at: usize, into: &mut [u8; 4096])
+    requires room { at + 8 ≤ 4096 }
+    requires zeros { take 8 (drop at into.old) ≡ replicate 8 0 }
+    ensures written { into.new ≡ take at into.old ++ owner_entry owner.now ++ drop (at + 8) into.old }
+    ensures size { length (owner_entry owner.now) ≡ 8 }
 {
-    let mut here = at;
-    let mut entry = [0; 8];
+    match owner {
+        Owner::Free => {}
+        _ => write_owner(owner, &mut into[at..at + 8]),
+    }
+}
+
+/// Writes the entries of groups, one after another, over a page of zeros.
+fn put_owners(owners: &[Owner], into: &mut [u8; 4096])
+    requires room { 8 * length owners.now ≤ 4096 }
+    requires zeros { into.old ≡ replicate page_bytes 0 }
+    ensures { Puts (map owner_entry owners.now) 0 into.old into.new }
+{
+    let mut here = 0;
     for owner in owners {
-        write_owner(owner, &mut entry);
-        put(&entry, here, into);
+        put_owner(owner, here, into);
         here += 8;
     }
 }
@@ -310,7 +344,7 @@ fn put_job_page(jobs: &[Option<JobRec>], page: usize, into: &mut [u8; 4096])
     ensures { into.new ≡ filled (map job_slot (part jobs_a_page page jobs.now)) }
 {
     let first = JOBS_A_PAGE * page;
-    put_jobs(&jobs[first..first + JOBS_A_PAGE], 0, into);
+    put_jobs(&jobs[first..first + JOBS_A_PAGE], into);
 }
 
 fn put_output_page(outputs: &[Option<OutRec>], page: usize, into: &mut [u8; 4096])
@@ -319,7 +353,7 @@ fn put_output_page(outputs: &[Option<OutRec>], page: usize, into: &mut [u8; 4096
     ensures { into.new ≡ filled (map output_slot (part outputs_a_page page outputs.now)) }
 {
     let first = OUTPUTS_A_PAGE * page;
-    put_outputs(&outputs[first..first + OUTPUTS_A_PAGE], 0, into);
+    put_outputs(&outputs[first..first + OUTPUTS_A_PAGE], into);
 }
 
 fn put_owner_page(owners: &[Owner], page: usize, into: &mut [u8; 4096])
@@ -329,5 +363,5 @@ fn put_owner_page(owners: &[Owner], page: usize, into: &mut [u8; 4096])
 {
     let rest = &owners[OWNERS_A_PAGE * page..];
     let count = rest.len().min(OWNERS_A_PAGE);
-    put_owners(&rest[..count], 0, into);
+    put_owners(&rest[..count], into);
 }

@@ -170,8 +170,9 @@ pub fn read_job(slot: &[u8; 256]) -> Result<Option<JobRec>, BadField>
     Ok(Some(job_of(slot)))
 }
 
-// Writes a job over zeros.
-fn put_job(job: &JobRec, slot: &mut [u8; 256])
+/// Writes a job's slot of 256 bytes, over zeros; a free one stays zeros. What `read_job` reads of it is this job, where
+/// each of its fields is within its range.
+pub fn write_job(job: &JobRec, slot: &mut [u8])
     requires { slot.old ≡ replicate 256 0 }
     ensures { slot.new ≡ job_slot (Some job.now) }
 {
@@ -191,17 +192,6 @@ fn put_job(job: &JobRec, slot: &mut [u8; 256])
     put(&job.fields.dest.0, 28, slot);
     put(&job.fields.node.0, 36, slot);
     put(&job.fields.origin.0, 44, slot);
-}
-
-/// Writes a job's slot of 256 bytes, zeros for `None`. What `read_job` reads of it is this job,
-/// where each of its fields is within its range.
-pub fn write_job(job: &Option<JobRec>, slot: &mut [u8; 256])
-    ensures { slot.new ≡ job_slot job.now }
-{
-    *slot = [0; 256];
-    if let Some(job) = job {
-        put_job(job, slot);
-    }
 }
 
 fn output_of(slot: &[u8; 128]) -> OutRec
@@ -239,8 +229,9 @@ pub fn read_output(slot: &[u8; 128]) -> Result<Option<OutRec>, BadField>
     Ok(Some(output_of(slot)))
 }
 
-// Writes an output over zeros.
-fn put_output(output: &OutRec, slot: &mut [u8; 128])
+/// Writes an output's slot of 128 bytes, over zeros; a free one stays zeros. What `read_output` reads of it is this
+/// output, where each of its fields is within its range.
+pub fn write_output(output: &OutRec, slot: &mut [u8])
     requires { slot.old ≡ replicate 128 0 }
     ensures { slot.new ≡ output_slot (Some output.now) }
 {
@@ -253,17 +244,6 @@ fn put_output(output: &OutRec, slot: &mut [u8; 128])
     put(&output.order.to_be_bytes(), 16, slot);
     put(&output.dest.0, 24, slot);
     put(&output.forms.0, 32, slot);
-}
-
-/// Writes an output's slot of 128 bytes, zeros for `None`. What `read_output` reads of it is this
-/// output, where each of its fields is within its range.
-pub fn write_output(output: &Option<OutRec>, slot: &mut [u8; 128])
-    ensures { slot.new ≡ output_slot output.now }
-{
-    *slot = [0; 128];
-    if let Some(output) = output {
-        put_output(output, slot);
-    }
 }
 
 fn check_owner(entry: &[u8; 8]) -> Result<(), BadField>
@@ -332,7 +312,8 @@ pub fn read_owner(entry: &[u8; 8]) -> Result<Owner, BadField>
     ))
 }
 
-fn put_entry(kind: u8, who: u8, place: u16, job: u32, entry: &mut [u8; 8])
+fn put_entry(kind: u8, who: u8, place: u16, job: u32, entry: &mut [u8])
+    requires { length entry.old ≡ 8 }
     ensures { entry.new ≡ (kind ∷ []) ++ (who ∷ []) ++ to_be_bytes w16 place ++ to_be_bytes w32 job }
 {
     put(&[kind, who], 0, entry);
@@ -342,7 +323,8 @@ fn put_entry(kind: u8, who: u8, place: u16, job: u32, entry: &mut [u8; 8])
 
 /// Writes a group's entry of eight bytes. What `read_owner` reads of it is this owner, where each
 /// of its fields is within its range.
-pub fn write_owner(owner: &Owner, entry: &mut [u8; 8])
+pub fn write_owner(owner: &Owner, entry: &mut [u8])
+    requires { length entry.old ≡ 8 }
     ensures { entry.new ≡ owner_entry owner.now }
 {
     match *owner {
