@@ -41,12 +41,17 @@ unmarked [] (v ∷ vs) e = absurd (omega arith)
 unmarked (u ∷ us) [] e = absurd (omega arith)
 unmarked (u ∷ us) (v ∷ vs) e = first_mark (u == v) (mask_l (zip2 differs us vs)) ∙ ap (λ (b : Bool). (u == v) && b) (unmarked us vs (omega arith))
 
-masked : (us vs : List ℕ) → length us ≡ 64 → length vs ≡ 64
+masked : (n : ℕ) (us vs : List ℕ) → n ≤ 64 → length us ≡ n → length vs ≡ n
     → not (not (mask_l (map (top 7) (zip2 (λ a b. cond (not (eqb a b)) 255 0) us vs)) % 2 ^ 64 == 0)) ≡ bytes_eq us vs
-masked us vs a b =
+masked n us vs most a b =
     let marks : map (top 7) (zip2 (λ a b. cond (not (eqb a b)) 255 0) us vs) ≡ zip2 differs us vs = tops_compared w8 differs us vs in
     let few : length (zip2 differs us vs) ≤ 64 = omega (arith, length-zip2 differs us vs (a ∙ sym b)) in
     not-not _ ∙ ap (λ (n : ℕ). n == 0) (ap (λ (ms : List Bool). mask_l ms % 2 ^ 64) marks ∙ mask_l-mod (zip2 differs us vs) 64 few) ∙ unmarked us vs (a ∙ sym b)
+
+-- what the lanes of two names tell
+pub names_compared : (us vs : List ℕ) → length us ≡ 8 → length vs ≡ 8
+    → not (not (mask_l (map (top 7) (zip2 (λ a b. cond (not (eqb a b)) 255 0) us vs)) % 2 ^ 64 == 0)) ≡ bytes_eq us vs
+names_compared us vs a b = masked 8 us vs (omega arith) a b
 
 -- what the lanes of two loads tell
 pub run_compared : (at : ℕ) (xs ys : List ℕ) → length xs ≡ 4096 → length ys ≡ 4096 → at + 64 ≤ 4096
@@ -56,7 +61,7 @@ run_compared at xs ys a b room =
     let x : take (4096 - at) (drop at xs) ≡ drop at xs = take_all (4096 - at) (drop at xs) (omega (arith, length-drop at xs)) in
     let y : take (4096 - at) (drop at ys) ≡ drop at ys = take_all (4096 - at) (drop at ys) (omega (arith, length-drop at ys)) in
     ap₂ (λ (us vs : List ℕ). not (not (mask_l (map (top 7) (zip2 (λ a b. cond (not (eqb a b)) 255 0) (take 64 us) (take 64 vs))) % 2 ^ 64 == 0))) x y
-    ∙ masked (piece at 64 xs) (piece at 64 ys) (length-chunk at 64 xs (omega arith)) (length-chunk at 64 ys (omega arith))
+    ∙ masked 64 (piece at 64 xs) (piece at 64 ys) (omega arith) (length-chunk at 64 xs (omega arith)) (length-chunk at 64 ys (omega arith))
 
 unmarked_zeros : (xs : List ℕ) → (mask_l (map (λ x. differs x 0) xs) == 0) ≡ are_zeros xs
 unmarked_zeros [] = refl

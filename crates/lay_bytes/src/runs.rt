@@ -4,8 +4,8 @@ ghost use Rattle.std.specs.Str.{bytes_eq};
 ghost use Rattle.lay_bytes.specs.Bytes.{are_zeros};
 ghost use Rattle.lay_bytes.specs.Fields.{piece};
 
-use mas_types::Page;
 use mas_types::limits::PAGE_BYTES;
+use mas_types::{Name8, Page};
 use std::simd::prelude::*;
 
 /// The number of bytes that are tested at once.
@@ -30,6 +30,14 @@ pub fn is_same_page(a: &Page, b: &Page) -> bool
         }
     }
     true
+}
+
+/// Whether two names are the same.
+pub fn is_same_name(a: &Name8, b: &Name8) -> bool
+    ensures { result ≡ bytes_eq a.now.0 b.now.0 }
+{
+    let differs = u8x8::from_array(a.0).simd_ne(u8x8::from_array(b.0));
+    !differs.any()
 }
 
 // Whether so many bytes from an offset on are zero.

@@ -5,7 +5,7 @@ ghost use Rattle.mas_types.specs.Names.{member_name};
 ghost use Rattle.output_queue.specs.Outputs.{may_take, fits_printer as fits_printer_lem, is_hardcopy, prio_of};
 
 use job_queue::{JobsByNumber, job_numbered};
-use lay_bytes::OutRec;
+use lay_bytes::{OutRec, is_same_name};
 use mas_types::{Class, JobNo, MemberId, Name8, OutNo, Phase};
 use queue_slots::{Classed, Rank, Test};
 
@@ -20,7 +20,7 @@ pub fn is_somebody(busy: MemberId) -> bool
 pub fn same_name(a: &Name8, b: &Name8) -> bool
     ensures { result ≡ same_name_lem a.now b.now }
 {
-    a.0[..] == b.0[..]
+    is_same_name(a, b)
 }
 
 /// The output of a job with an index.
