@@ -189,24 +189,28 @@ fn lose_read<P: Plant + Drop, C: Steady + Drop>(complex: &mut Complex<P, C>) -> 
     Err(NodeNo::BothLost)
 }
 
-// Whether these pages spell tables. They need no test where they are alike to pages that do.
-fn spells(room: &[Page], own: &[Page]) -> bool
+// Whether these pages spell tables. They need no test where they are alike to pages that do, which is noted.
+fn spells(room: &[Page], own: &[Page], alike: &mut bool) -> bool
     requires own { SpellSome own.now }
     ensures good { result ≡ true → SpellSome room.now }
     ensures bad { result ≡ false → SpellSome room.now → ⊥ }
+    ensures alike { alike.new ≡ are_same room.now own.now }
 {
-    if same_pages(room, own) {
+    let same = same_pages(room, own);
+    *alike = same;
+    if same {
         return true;
     }
     first_bad(room).is_none()
 }
 
-// Whether the pages that were read spell tables, as the member's own do. Where content is told they do, and stand for
-// the queue after the kept batches.
+// Whether the pages that were read spell tables, as the member's own do, with a note of whether they are alike to
+// these. Where content is told they do, and stand for the queue after the kept batches.
 fn are_spelled<P: Plant + Drop, C: Steady + Drop>(
     complex: &Complex<P, C>,
     room: &[Page],
     own: &[Page],
+    alike: &mut bool,
 ) -> bool
     requires own { SpellSome own.now }
     requires config { P.tells → page_count (run complex.now.base (kept_all complex.now.journal.batches)).config
@@ -217,6 +221,7 @@ fn are_spelled<P: Plant + Drop, C: Steady + Drop>(
         (C.reads (disk_now (P.view complex.now.plant) Ckpt2).bytes) room.now ∥₁ }
     ensures good { result ≡ true → SpellSome room.now }
     ensures bad { result ≡ false → P.tells → ⊥ }
+    ensures alike { alike.new ≡ are_same room.now own.now }
     ensures reads1 { ReadsAs P.tells complex.now.pair.first.alive
         (C.reads (disk_now (P.view complex.now.plant) Ckpt1).bytes) (bytes_of room.now) }
     ensures reads2 { ReadsAs P.tells complex.now.pair.second.alive
@@ -224,7 +229,7 @@ fn are_spelled<P: Plant + Drop, C: Steady + Drop>(
     ensures stand { P.tells → ∥ StandAt (run complex.now.base (kept_all complex.now.journal.batches)) complex.now.level
         room.now ∥₁ }
 {
-    spells(room, own)
+    spells(room, own, alike)
 }
 
 // The orders of the jobs are below this one.
@@ -383,8 +388,8 @@ impl Member {
     }
 
     /// The second read, after the first one: all other pages. It answers their number. Their bytes come into the
-    /// member's room, and their spelling is tested, unless they are byte for byte the member's own pages; its tables
-    /// are as they were, until `catch_up` brings them up to these pages. A copy from which a page came that is no
+    /// member's room, and their spelling is tested, unless they are byte for byte the member's own pages, which is noted
+    /// in `alike`; its tables are as they were, until `catch_up` brings them up to these pages. A copy from which a page came that is no
     /// spelling is lost, and all is read again from the other one; where content is told that doesn't come.
     ///
     /// After Ok the pages in the room are those that each copy reads which counts as alive, and stand for the queue
@@ -393,6 +398,7 @@ impl Member {
     pub fn second_read<P: Plant + Drop, C: Steady + Drop>(
         &mut self,
         complex: &mut Complex<P, C>,
+        alike: &mut bool,
     ) -> Result<u32, NodeNo>
         requires drawn { AreDrawn self.old.checkpoint.tables self.old.checkpoint.level self.old.checkpoint.levels
             self.old.checkpoint.pages }
@@ -433,6 +439,7 @@ impl Member {
         ensures count { IfOk result (λ count. count + 1 ≡ length self.new.room) }
         ensures behind { OnOk result (self.new.behind ≡ true) }
         ensures spelled { OnOk result (SpellSome self.new.room) }
+        ensures alike { OnOk result (alike.new ≡ are_same self.new.room self.new.checkpoint.pages) }
         ensures rests1 { OnOk result (RestsAt P.tells complex.new.pair.first.alive complex.new.first
             (C.count complex.new.pair.first.copy) self.new.room
             (C.reads (disk_now (P.view complex.new.plant) Ckpt1).bytes)) }
@@ -451,6 +458,7 @@ impl Member {
             complex,
             self.room.as_slice(),
             self.checkpoint.pages.as_slice(),
+            alike,
         ) {
             lose_read(complex)?;
             read_from(complex, by, self.room.as_mut_slice(), 0)?;
@@ -520,15 +528,16 @@ impl Member {
     /// orders that aren't below the next one, or too high ones. The member is as it was then, and where nothing was
     /// read.
     ///
-    /// Its tables are those that its own pages were drawn from: where it read the same bytes they are up already, and
-    /// stay.
+    /// Its tables are those that its own pages were drawn from: where it read the same bytes, which is `alike`, they are
+    /// up already, and stay.
     ///
     /// NoMemory leaves the member as it was.
-    pub fn catch_up(&mut self, alloc: Global) -> Result<bool, NoMemory>
+    pub fn catch_up(&mut self, alloc: Global, alike: bool) -> Result<bool, NoMemory>
         requires drawn { AreDrawn self.old.checkpoint.tables self.old.checkpoint.level self.old.checkpoint.levels
             self.old.checkpoint.pages }
         requires spelled { self.old.behind ≡ true → SpellSome self.old.room }
         requires few { length self.old.room ≤ pages_most }
+        requires alike { alike ≡ are_same self.old.room self.old.checkpoint.pages }
         ensures id { self.new.id ≡ self.old.id }
         ensures batch { self.new.batch ≡ self.old.batch }
         ensures err { OnErr result (self.new ≡ self.old) }
@@ -545,7 +554,7 @@ impl Member {
         if !self.behind {
             return Ok(true);
         }
-        if same_pages(self.room.as_slice(), self.checkpoint.pages.as_slice()) {
+        if alike {
             return Ok(self.stay_up());
         }
         let pages = self.room.as_slice();
@@ -652,10 +661,11 @@ impl Member {
         ensures ordered { OnOk result (P.tells → ∥ HaveOrders self.new.checkpoint.tables ∥₁) }
         ensures same_level { OnOk result (P.tells → complex.new.level ≡ self.new.checkpoint.level) }
     {
-        self.read_all(complex)?;
-        while !self.is_caught_up(alloc)? {
+        let mut alike = false;
+        self.read_all(complex, &mut alike)?;
+        while !self.is_caught_up(alloc, alike)? {
             lose_read(complex)?;
-            self.read_all(complex)?;
+            self.read_all(complex, &mut alike)?;
         }
         Ok(())
     }
@@ -664,6 +674,7 @@ impl Member {
     fn read_all<P: Plant + Drop, C: Steady + Drop>(
         &mut self,
         complex: &mut Complex<P, C>,
+        alike: &mut bool,
     ) -> Result<(), NodeNo>
         requires drawn { AreDrawn self.old.checkpoint.tables self.old.checkpoint.level self.old.checkpoint.levels
             self.old.checkpoint.pages }
@@ -698,6 +709,7 @@ impl Member {
             (P.view complex.new.plant) result }
         ensures behind { OnOk result (self.new.behind ≡ true) }
         ensures spelled { OnOk result (SpellSome self.new.room) }
+        ensures alike { OnOk result (alike.new ≡ are_same self.new.room self.new.checkpoint.pages) }
         ensures rests1 { OnOk result (RestsAt P.tells complex.new.pair.first.alive complex.new.first
             (C.count complex.new.pair.first.copy) self.new.room
             (C.reads (disk_now (P.view complex.new.plant) Ckpt1).bytes)) }
@@ -709,16 +721,17 @@ impl Member {
             ∥₁) }
     {
         self.first_read(complex)?;
-        self.second_read(complex)?;
+        self.second_read(complex, alike)?;
         Ok(())
     }
 
     // Brings the member's tables up to the pages that it read, where it may go on from them.
-    fn is_caught_up(&mut self, alloc: Global) -> Result<bool, NodeNo>
+    fn is_caught_up(&mut self, alloc: Global, alike: bool) -> Result<bool, NodeNo>
         requires drawn { AreDrawn self.old.checkpoint.tables self.old.checkpoint.level self.old.checkpoint.levels
             self.old.checkpoint.pages }
         requires spelled { self.old.behind ≡ true → SpellSome self.old.room }
         requires few { length self.old.room ≤ pages_most }
+        requires alike { alike ≡ are_same self.old.room self.old.checkpoint.pages }
         ensures id { self.new.id ≡ self.old.id }
         ensures batch { self.new.batch ≡ self.old.batch }
         ensures only { IfErr result (λ e. e ≡ no_node.NoMemory) }
@@ -733,7 +746,7 @@ impl Member {
         ensures sized { All (λ page. length page.0 ≡ page_bytes) self.old.room }
     {
         law_of_page_sizes(self.room.as_slice());
-        match self.catch_up(alloc) {
+        match self.catch_up(alloc, alike) {
             Ok(up) => Ok(up),
             Err(NoMemory) => Err(NodeNo::NoMemory),
         }

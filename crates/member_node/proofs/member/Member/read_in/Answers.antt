@@ -78,6 +78,7 @@ loop-complex-preserved g c =
       acts = read_then P.tells x.pair.first.alive y.pair.first.alive w.pair.first.alive x.pair.second.alive y.pair.second.alive w.pair.second.alive (P.view x.plant) (P.view y.plant) (P.view w.plant) lost e.read.acts;
       spares = spares_then c.args.self.now.id.0 false (P.view x.plant) (P.view y.plant) (P.view w.plant) spared (rw (c.is_caught_up.ensures.id, i.id) at e.read.spares);
       spelled = e.spelled;
+      alike = e.alike;
       rests1 = e.rests1;
       rests2 = e.rests2;
       stand = e.stand;

@@ -3,6 +3,7 @@ use Rattle.mas_types.specs.declared.ids.Dev.TheVariants.{Ckpt1, Ckpt2}
 use Rattle.spool_disk.specs.View.{disk_now}
 use Rattle.ckpt_pages.specs.Checkpoints.{SpellSome}
 use Rattle.duplex_pair.specs.Halves.{SomeAlive}
+use Rattle.mas_complex.specs.Fits.{are_same}
 use Rattle.mas_complex.specs.Journals.{kept_all}
 use Rattle.mas_complex.specs.Meaning.{run}
 use Rattle.member_node.specs.Copies.{RestsAt}
@@ -43,6 +44,7 @@ invariant-loop-complex g l =
       acts : HasRead P.tells x.pair.first.alive z.pair.first.alive x.pair.second.alive z.pair.second.alive (P.view x.plant) (P.view z.plant);
       spares : Spares l.fn.self.id.0 false (P.view x.plant) (P.view z.plant);
       spelled : SpellSome l.self.room;
+      alike : l.alike ≡ are_same l.self.room l.self.checkpoint.pages;
       rests1 : RestsAt P.tells z.pair.first.alive z.first (C.count z.pair.first.copy) l.self.room (C.reads (disk_now (P.view z.plant) Ckpt1).bytes);
       rests2 : RestsAt P.tells z.pair.second.alive z.second (C.count z.pair.second.copy) l.self.room (C.reads (disk_now (P.view z.plant) Ckpt2).bytes);
       stand : P.tells → ∥ StandAt (run z.base (kept_all z.journal.batches)) z.level l.self.room ∥₁;
