@@ -1,8 +1,8 @@
 -- Whether any job is in a phase.
-use Rattle.std.proofs.Common.{◌≡◌, ℕ, ◌+◌, ◌<◌, Bool, true, false, ◌&&◌, ◌||◌, List, length, Option, Some, None, slice_get, refl, arith}
+use Rattle.std.proofs.Common.{◌≡◌, ℕ, ◌+◌, ◌<◌, Bool, true, false, ◌&&◌, ◌||◌, List, length, Option, Some, None, slice_get, get_or, refl, sym, ◌∙◌, arith}
 use Rattle.std.specs.Prelude.{find, nat_lt, option_map}
 use Rattle.std.proofs.lemmas.Bool.Decides.{nat_tests}
-use Rattle.std.proofs.lemmas.Option.{slice_get_within}
+use Rattle.std.proofs.lemmas.Option.{get_or_from_slice_get, slice_get_within}
 use Rattle.mas_types.specs.declared.ids.MemberId.{MemberId}
 use Rattle.mas_types.specs.declared.jobs.Phase.{Phase}
 use Rattle.mas_types.specs.declared.jobs.Job.{Job}
@@ -27,12 +27,14 @@ either_false true b h = absurd (cc)
 either_false false b h = (refl, h)
 
 -- one more slot
-pub tells_more : (phase : Phase) (slots : List (Option JobRec)) (k : ℕ) (s : Option JobRec) (before : Bool) → slice_get slots k ≡ Some s → Tells phase slots k before → Tells phase slots (k + 1) (before || stands_in phase s)
-tells_more phase slots k s before is so_far none j y low e =
-    let parts = either_false before (stands_in phase s) none in
+pub tells_more : (phase : Phase) (slots : List (Option JobRec)) (k : ℕ) (before now : Bool) → now ≡ (stands_in phase (get_or slots k None) || before) → k < length slots → Tells phase slots k before → Tells phase slots (k + 1) now
+tells_more phase slots k before now e lt so_far none j y low is =
+    let parts = either_false (stands_in phase (get_or slots k None)) before (sym e ∙ none) in
     test_cases (nat_lt j k) (in_phase phase y.phase ≡ false)
-    (λ t. so_far parts.0 j y (grind (arith, nat_tests)) e)
-    (λ t. let same : j ≡ k = grind (arith, nat_tests) in let here : s ≡ Some y = cc in rw here at parts.1)
+    (λ t. so_far parts.1 j y (grind (arith, nat_tests)) is)
+    (λ t. let same : j ≡ k = grind (arith, nat_tests) in
+    let here : get_or slots k None ≡ Some y = get_or_from_slice_get slots k (Some y) None (rw same at is) in
+    rw here at parts.0)
 
 module _ (phase : Phase) (slots : List (Option JobRec)) (answer : Bool) (tells : Tells phase slots (length slots) answer) (no_one : answer ≡ false) (js : List Job) (are : AreJobs slots js) where
   none_of : (q : JobRec → Bool) → All (λ r. (in_phase phase r.phase && q r) ≡ false) (listed order_of slots)

@@ -7,7 +7,7 @@ ghost use Rattle.mas_types.specs.Selection.{for_convert, for_execute, for_printe
 ghost use Rattle.mas_types.specs.Units.{unit_of, print_unit as print_unit_lem, working_at};
 ghost use Rattle.job_queue.specs.Jobs.{in_phase};
 ghost use Rattle.queue_tables.specs.Telling.{Tell};
-ghost use Rattle.queue_effect.specs.Phases.{Tells, stands_in as stands_in_lem};
+ghost use Rattle.queue_effect.specs.Phases.{Tells, stands_in};
 
 use crate::lookups::setting;
 use ckpt_pages::Tables;
@@ -104,50 +104,44 @@ fn phases_of(jobs: &[Option<JobRec>]) -> Phases
     ensures execute { Tells Phase.Execute jobs.now (length jobs.now) result.execute }
     ensures convert { Tells Phase.Convert jobs.now (length jobs.now) result.convert }
 {
-    let mut purge = false;
-    let mut output = false;
-    let mut execute = false;
-    let mut convert = false;
+    let mut phases = Phases {
+        purge: false,
+        output: false,
+        execute: false,
+        convert: false,
+    };
     for slot in jobs {
-        purge = seen(purge, slot, Phase::Purge);
-        output = seen(output, slot, Phase::Output);
-        execute = seen(execute, slot, Phase::Execute);
-        convert = seen(convert, slot, Phase::Convert);
+        note_slot(&mut phases, slot);
     }
-    Phases {
-        purge,
-        output,
-        execute,
-        convert,
-    }
+    phases
 }
 
-fn seen(before: bool, slot: &Option<JobRec>, phase: Phase) -> bool
-    ensures { result ≡ (before || stands_in_lem phase slot.now) }
+// Notes the phase of a slot's job.
+fn note_slot(phases: &mut Phases, slot: &Option<JobRec>)
+    ensures purge { phases.new.purge ≡ (stands_in Phase.Purge slot.now || phases.old.purge) }
+    ensures output { phases.new.output ≡ (stands_in Phase.Output slot.now || phases.old.output) }
+    ensures execute { phases.new.execute ≡ (stands_in Phase.Execute slot.now || phases.old.execute) }
+    ensures convert { phases.new.convert ≡ (stands_in Phase.Convert slot.now || phases.old.convert) }
 {
-    before || stands_in(slot, phase)
-}
-
-fn stands_in(slot: &Option<JobRec>, phase: Phase) -> bool
-    ensures { result ≡ stands_in_lem phase slot.now }
-{
-    match slot {
-        Some(job) => is_in(job.phase, phase),
-        None => false,
+    if let Some(job) = slot {
+        note_phase(phases, job.phase);
     }
 }
 
-fn is_in(phase: Phase, of: Phase) -> bool
-    ensures { result ≡ in_phase of phase }
+fn note_phase(phases: &mut Phases, phase: Phase)
+    ensures purge { phases.new.purge ≡ (in_phase Phase.Purge phase || phases.old.purge) }
+    ensures output { phases.new.output ≡ (in_phase Phase.Output phase || phases.old.output) }
+    ensures execute { phases.new.execute ≡ (in_phase Phase.Execute phase || phases.old.execute) }
+    ensures convert { phases.new.convert ≡ (in_phase Phase.Convert phase || phases.old.convert) }
 {
-    match of {
-        Phase::Input => matches!(phase, Phase::Input),
-        Phase::Convert => matches!(phase, Phase::Convert),
-        Phase::Execute => matches!(phase, Phase::Execute),
-        Phase::Output => matches!(phase, Phase::Output),
-        Phase::Hardcopy => matches!(phase, Phase::Hardcopy),
-        Phase::Purge => matches!(phase, Phase::Purge),
-        Phase::Xmit => matches!(phase, Phase::Xmit),
+    match phase {
+        Phase::Purge => phases.purge = true,
+        Phase::Output => phases.output = true,
+        Phase::Execute => phases.execute = true,
+        Phase::Convert => phases.convert = true,
+        Phase::Input => {}
+        Phase::Hardcopy => {}
+        Phase::Xmit => {}
     }
 }
 

@@ -5,8 +5,8 @@ use Rattle.queue_effect.proofs.units.phases_of.Given as goal
 -- the phases of the jobs of the slots so far
 abbrev pub invariant-loop-slot : goal.invariant-loop-slot
 invariant-loop-slot l = record {
-  purge : Tells phase.Purge l.jobs l.slot-index l.purge;
-  output : Tells phase.Output l.jobs l.slot-index l.output;
-  execute : Tells phase.Execute l.jobs l.slot-index l.execute;
-  convert : Tells phase.Convert l.jobs l.slot-index l.convert;
+  purge : Tells phase.Purge l.jobs l.slot-index l.phases.purge;
+  output : Tells phase.Output l.jobs l.slot-index l.phases.output;
+  execute : Tells phase.Execute l.jobs l.slot-index l.phases.execute;
+  convert : Tells phase.Convert l.jobs l.slot-index l.phases.convert;
 }
