@@ -69,4 +69,12 @@ impl Plant for Quiet {
     ghost sized = { λ p told t le d. absurd told };
 
     ghost there = { λ p told d is. absurd told };
+
+    ghost halts_none = { ⊥ };
+
+    ghost unstopped = { λ q never member. absurd never };
+
+    ghost halts_armed = { ⊥ };
+
+    ghost unarmed = { λ q never member none. absurd never };
 }

@@ -129,6 +129,14 @@ where
 
     ghost there = { λ p told d whole. absurd told };
 
+    ghost halts_none = { Unit {0} };
+
+    ghost unstopped = { λ p is member. p.tally.unstopped member };
+
+    ghost halts_armed = { Unit {0} };
+
+    ghost unarmed = { λ p is member none. p.tally.unstopped member };
+
     fn now(&self) -> u64 {
         self.tally.moment
     }

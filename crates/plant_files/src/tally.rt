@@ -15,6 +15,8 @@ use std::alloc::{AllocError, Global};
 pub(crate) struct Tally {
     pub(crate) moment: u64,
     pub(crate) counts: Counts,
+    // Nobody is ever stopped.
+    ghost unstopped: { (m : ℕ) → slice_index counts.stops.items m ≡ 0 },
 }
 
 // Parts without a fault, of which these are lost.

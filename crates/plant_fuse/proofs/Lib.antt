@@ -1,3 +1,4 @@
 pub mod Marks
 pub mod Passing
 pub mod Content
+pub mod Unarming

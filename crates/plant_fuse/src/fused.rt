@@ -6,6 +6,7 @@ ghost use Rattle.spool_disk.specs.FuseView.{armed_of};
 ghost use Rattle.spool_disk.specs.Fuses.{none_armed};
 ghost use Rattle.plant_fuse.specs.FuseViews.{fused_view, AreWithin};
 ghost use Rattle.plant_fuse.specs.Closing.{Closes, halved_by};
+ghost use Rattle.plant_fuse.specs.Unarmed.{AreUnarmed};
 
 use crate::tally::Tally;
 use http_server::Log;
@@ -30,6 +31,7 @@ pub struct Fused<P: Plant + Drop> {
     /// and one more, and the moment of the act. They take no memory.
     pub halved: Log<u64, u64>,
     ghost within: { P.tells → AreWithin (P.view inner) halved.items },
+    ghost unarmed: { AreUnarmed (armed_of fuses) stops.counts arms.counts },
 }
 
 // The first half of some bytes.
@@ -106,6 +108,7 @@ impl<P: Plant + Drop> Fused<P> {
 impl<P: Plant + Drop> Plant for Fused<P> {
     ghost use Rattle.spool_disk.specs.Acts.{Acts, Reads, Writes, Syncs, Says, Prints, GivesOn, Takes, FitsInto, Arms, Renews, RenewsThere};
     ghost use Rattle.spool_disk.specs.Fuses.{burnt, to_halt, with_fuse};
+    ghost use Rattle.plant_fuse.specs.Unarmed.{none_stopped};
     ghost use Rattle.spool_disk.specs.declared.plant.Act.{Act};
     ghost use Rattle.spool_disk.specs.declared.plant.Part.TheVariants.{Disk, Console, Printer, Wire};
 
@@ -116,6 +119,16 @@ impl<P: Plant + Drop> Plant for Fused<P> {
     ghost sized = { λ f told t le d. P.sized f.inner told t le d };
 
     ghost there = { λ f told d whole. P.there f.inner told d whole };
+
+    ghost halts_none = { ⊥ };
+
+    ghost unstopped = { λ f never member. absurd never };
+
+    // Where the inner plant halts nothing.
+    ghost halts_armed = { P.halts_none };
+
+    ghost unarmed = { λ f is member none. none_stopped ((P.view f.inner).stops member)
+        (slice_index f.stops.counts member) (P.unstopped f.inner is member) (f.unarmed member none).unstopped };
 
     fn now(&self) -> u64 {
         self.inner.now()

@@ -6,6 +6,7 @@ use Rattle.mas_types.specs.declared.ids.Dev.{Dev}
 use Rattle.mas_types.specs.declared.journals.Batch.{Batch}
 use Rattle.mas_types.specs.declared.queues.Queue.{Queue}
 use Rattle.script_input.specs.Played.{sysa}
+use Rattle.spool_disk.specs.Acts.{Goes}
 use Rattle.spool_disk.specs.View.{View, Line}
 use Rattle.mas_complex.specs.Headline.{whole}
 use Rattle.member_node.specs.Calls.{console_now}
@@ -33,5 +34,13 @@ abbrev pub PlaysOn : Type 0 → Type 0
 PlaysOn tells = (asked : List Turn) (answer : Status) (from : Queue) (per at : ℕ) (rest : List Batch) (first : Dev → ℕ)
     (old new : View) → (played : HavePassed tells asked answer from per at rest first old new)
     → new.stops sysa.0 ≡ 0
+    → IsPlayedOn tells asked answer played.did played.kept played.closed played.history.between played.history.begun
+    old new
+
+-- and so are those of each run that ended with what a plant shows now, and before which no stop of the member was armed
+abbrev pub PlaysOnUnarmed : Type 0 → View → Type 0
+PlaysOnUnarmed tells new = (asked : List Turn) (answer : Status) (from : Queue) (per at : ℕ) (rest : List Batch)
+    (first : Dev → ℕ) (old : View) → (played : HavePassed tells asked answer from per at rest first old new)
+    → Goes old new → old.arms sysa.0 ≡ 0
     → IsPlayedOn tells asked answer played.did played.kept played.closed played.history.between played.history.begun
     old new

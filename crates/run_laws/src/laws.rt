@@ -2,7 +2,7 @@
 ghost use Rattle.run_laws.specs.Left.{CrashesLeave};
 ghost use Rattle.run_laws.specs.Joins.{FindsWhatIsLeft};
 ghost use Rattle.run_laws.specs.Early.{FindsWhatWasThere};
-ghost use Rattle.run_laws.specs.Unstopped.{PlaysOn};
+ghost use Rattle.run_laws.specs.Unstopped.{PlaysOn, PlaysOnUnarmed};
 
 use ckpt_pages::law_of_checkpoints;
 use queue_laws::laws::law_of_runs;
@@ -43,6 +43,14 @@ pub fn law_of_early_crashes<N: Plant>(next: &N)
 /// whole. Stops are counted where an act was halted, and no line of a script arms one.
 pub fn law_of_unstopped_runs<P: Plant>(plant: &P)
     ensures { PlaysOn P.tells }
+{
+    let _plant = plant;
+}
+
+/// So it is for each run on a plant that halts an act only where a stop of its member was armed, as the plant over files
+/// does that `plant_fuse` makes, where none was armed before the run: no run arms one.
+pub fn law_of_unarmed_runs<P: Plant>(plant: &P)
+    ensures { P.halts_armed → PlaysOnUnarmed P.tells (P.view plant.now) }
 {
     let _plant = plant;
 }

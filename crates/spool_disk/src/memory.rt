@@ -467,6 +467,15 @@ impl Plant for MemPlant {
 
     ghost there = { λ m told d whole. mem_there m d whole };
 
+    // Halts are planned by moments too.
+    ghost halts_none = { ⊥ };
+
+    ghost unstopped = { λ m never member. absurd never };
+
+    ghost halts_armed = { ⊥ };
+
+    ghost unarmed = { λ m never member none. absurd never };
+
     fn now(&self) -> u64 {
         self.moment
     }

@@ -63,6 +63,12 @@ pub trait Plant {
     /// What the plant shows.
     ghost view: { Self → View };
 
+    /// That no act of the plant halts.
+    ghost halts_none: { Type 0 };
+
+    /// That an act of a member halts only where a stop of it was armed.
+    ghost halts_armed: { Type 0 };
+
     /// The number of acts made.
     fn now(&self) -> u64
         ensures { result ≡ (view self.now).now };
@@ -137,4 +143,11 @@ pub trait Plant {
     /// A device that isn't lost isn't lost in the world of now.
     ghost there: { (p : Self) → tells → (d : Dev) → (view p).lost (Disk d) ≡ false
         → (disk_now (view p) d).lost ≡ false };
+
+    /// Where no act halts, no member was stopped.
+    ghost unstopped: { (p : Self) → halts_none → (member : ℕ) → (view p).stops member ≡ 0 };
+
+    /// Where only armed acts halt, a member of which no stop was armed wasn't stopped.
+    ghost unarmed: { (p : Self) → halts_armed → (member : ℕ) → (view p).arms member ≡ 0
+        → (view p).stops member ≡ 0 };
 }

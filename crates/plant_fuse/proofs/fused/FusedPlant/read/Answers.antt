@@ -1,7 +1,11 @@
-use Rattle.std.proofs.Common.{arith}
+use Rattle.std.proofs.Common.{arith, sym, subst, false}
 use Rattle.spool_disk.specs.declared.plant.Part.TheVariants.{Disk}
 use Rattle.plant_fuse.proofs.Passing.{closed_acts, passed_acts, past_same}
 use Rattle.plant_fuse.proofs.Content.{read_closed, reads_passed}
+use Rattle.spool_disk.specs.Fuses.{Armed}
+use Rattle.spool_disk.specs.FuseView.{armed_of}
+use Rattle.plant_fuse.specs.Unarmed.{AreUnarmed}
+use Rattle.plant_fuse.proofs.Unarming.{burnt_unarmed}
 use Rattle.plant_fuse.proofs.fused.FusedPlant.read.Goals as goal
 
 pub returns-then-fire-clause-acts : goal.returns-then-fire-clause-acts
@@ -20,3 +24,8 @@ returns-else-fire-clause-acts g c =
 pub returns-else-fire-clause-content : goal.returns-else-fire-clause-content
 returns-else-fire-clause-content g c told =
     reads_passed (g.P.Plant.view c.args.self.now.inner) (g.P.Plant.view c.read.new.self) c.args.self.now.halved.items c.args.self.now.stops.counts c.args.self.now.arms.counts c.args.self.now.stops.counts c.args.self.now.arms.counts (c.read.ensures.acts).goes (c.args.self.now.within told) c.args.dev c.args.at c.read.new.into c.read.result (c.read.ensures.content told)
+
+pub invariant_of-self-else-fire-clause-unarmed : goal.invariant_of-self-else-fire-clause-unarmed
+invariant_of-self-else-fire-clause-unarmed g c =
+    let s = c.args.self.now in
+    subst (λ (a : Armed). AreUnarmed a s.stops.counts s.arms.counts) (sym c.fire.ensures.burnt) (burnt_unarmed (armed_of s.fuses) s.stops.counts s.arms.counts c.args.by.0 false s.unarmed)

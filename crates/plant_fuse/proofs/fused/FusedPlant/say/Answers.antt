@@ -1,4 +1,4 @@
-use Rattle.std.proofs.Common.{arith, sym, subst, ap, ◌∙◌, ◌≤◌, ℕ, List}
+use Rattle.std.proofs.Common.{arith, sym, subst, ap, ◌∙◌, ◌≤◌, ℕ, List, false}
 use Rattle.spool_disk.specs.declared.plant.Part.TheVariants.{Console}
 use Rattle.spool_disk.specs.Acts.{Acts, Says, top}
 use Rattle.plant_fuse.specs.Torn.{Halved}
@@ -6,6 +6,10 @@ use Rattle.plant_fuse.specs.Closing.{halved_by}
 use Rattle.plant_fuse.specs.FuseViews.{fused_view}
 use Rattle.plant_fuse.proofs.Passing.{closed_acts, passed_acts, past_same, past_halved}
 use Rattle.plant_fuse.proofs.Content.{say_closed, says_passed}
+use Rattle.spool_disk.specs.Fuses.{Armed}
+use Rattle.spool_disk.specs.FuseView.{armed_of}
+use Rattle.plant_fuse.specs.Unarmed.{AreUnarmed}
+use Rattle.plant_fuse.proofs.Unarming.{burnt_unarmed}
 use Rattle.plant_fuse.proofs.fused.FusedPlant.say.Goals as goal
 
 pub returns-then-fire-clause-acts : goal.returns-then-fire-clause-acts
@@ -33,3 +37,8 @@ returns-else-fire-clause-content g c told =
 pub returns-then-fire-clause-half : goal.returns-then-fire-clause-half
 returns-then-fire-clause-half g c told halts =
     (c.say-passed.result, subst (λ (l : List ℕ). Says l (g.P.Plant.view c.args.self.now.inner) (g.P.Plant.view c.say-passed.new.self) c.say-passed.result) c.half.ensures (c.say-passed.ensures.content told))
+
+pub invariant_of-self-else-fire-clause-unarmed : goal.invariant_of-self-else-fire-clause-unarmed
+invariant_of-self-else-fire-clause-unarmed g c =
+    let s = c.args.self.now in
+    subst (λ (a : Armed). AreUnarmed a s.stops.counts s.arms.counts) (sym c.fire.ensures.burnt) (burnt_unarmed (armed_of s.fuses) s.stops.counts s.arms.counts c.args.by.0 false s.unarmed)

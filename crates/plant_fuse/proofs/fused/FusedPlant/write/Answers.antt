@@ -1,8 +1,12 @@
 use Rattle.spool_disk.specs.Acts.{Writes}
-use Rattle.std.proofs.Common.{arith, length, ◌/◌, subst, List, ℕ}
+use Rattle.std.proofs.Common.{arith, length, ◌/◌, subst, List, ℕ, sym, false}
 use Rattle.spool_disk.specs.declared.plant.Part.TheVariants.{Disk}
 use Rattle.plant_fuse.proofs.Passing.{closed_acts, passed_acts, past_same}
 use Rattle.plant_fuse.proofs.Content.{write_closed, writes_passed}
+use Rattle.spool_disk.specs.Fuses.{Armed}
+use Rattle.spool_disk.specs.FuseView.{armed_of}
+use Rattle.plant_fuse.specs.Unarmed.{AreUnarmed}
+use Rattle.plant_fuse.proofs.Unarming.{burnt_unarmed}
 use Rattle.plant_fuse.proofs.fused.FusedPlant.write.Goals as goal
 
 pub returns-then-fire-clause-acts : goal.returns-then-fire-clause-acts
@@ -25,3 +29,8 @@ returns-else-fire-clause-content g c told =
 pub returns-then-fire-clause-half : goal.returns-then-fire-clause-half
 returns-then-fire-clause-half g c told halts =
     (c.write-passed.result, subst (λ (l : List ℕ). Writes c.args.dev c.args.at l (g.P.Plant.view c.args.self.now.inner) (g.P.Plant.view c.write-passed.new.self) c.write-passed.result) c.half.ensures (c.write-passed.ensures.content told))
+
+pub invariant_of-self-else-fire-clause-unarmed : goal.invariant_of-self-else-fire-clause-unarmed
+invariant_of-self-else-fire-clause-unarmed g c =
+    let s = c.args.self.now in
+    subst (λ (a : Armed). AreUnarmed a s.stops.counts s.arms.counts) (sym c.fire.ensures.burnt) (burnt_unarmed (armed_of s.fuses) s.stops.counts s.arms.counts c.args.by.0 false s.unarmed)
