@@ -16,7 +16,7 @@ use Rattle.duplex_pair.specs.Outcomes.{look_stopped, pair_stopped}
 use Rattle.std.specs.Prelude.{IsErrOf}
 use Rattle.mas_complex.specs.declared.recover.RecoverNo.{RecoverNo}
 use Rattle.mas_complex.specs.declared.recover.RecoverNo.TheVariants.{BothLost as RecoverBothLost, Halted as RecoverHalted}
-use Rattle.mas_complex.specs.CallCounts.{IsLostOnce, IsLostSo, KeepsCounts}
+use Rattle.mas_complex.specs.CallCounts.{IsLostOnce, IsLostSo, KeepsCounts, StandsOrLost}
 use Rattle.mas_complex.proofs.Leaving.{rose_later, rose_earlier}
 use Rattle.mas_complex.specs.Recovers.{recover_no, recover_no_seen, recover_stopped}
 
@@ -65,6 +65,22 @@ gone_then dev a false c old mid new early late fewer more first then was is = �
 gone_by : (dev : Dev) (was is : Bool) (old new : View) → new.loses dev ≡ next (old.loses dev) → IsLostSo dev was is old new
 gone_by dev was is old new counted alive dead = inr (omega (arith, counted))
 
+-- its device as it was
+untouched : (dev : Dev) (was is : Bool) (old new : View) → is ≡ was → new.lost (DiskPart dev) ≡ old.lost (DiskPart dev) → StandsOrLost dev was is old new
+untouched dev was is old new same device = ((λ alive there. device ∙ there), λ alive dead. absurd (not_both was alive (sym same ∙ dead)))
+
+untouched_then : (dev : Dev) (a b c : Bool) (old mid new : View) → Goes mid new → (c ≡ true → b ≡ true) → StandsOrLost dev a b old mid → StandsOrLost dev b c mid new → StandsOrLost dev a c old new
+untouched_then dev a b c old mid new late fewer first then = ((λ alive there. then.0 alive (first.0 (fewer alive) there)), λ alive dead. by_mid b first.1 then.1 alive dead) where
+  by_mid : (m : Bool) → (a ≡ true → m ≡ false → mid.lost (DiskPart dev) ≡ true) → (m ≡ true → c ≡ false → new.lost (DiskPart dev) ≡ true) → a ≡ true → c ≡ false → new.lost (DiskPart dev) ≡ true
+  by_mid true f h alive dead = h refl dead
+  by_mid false f h alive dead = late.lost (DiskPart dev) (f alive refl)
+
+ne12 : DiskPart Ckpt1 ≢ DiskPart Ckpt2
+ne12 e = dev12 (disk_dev Ckpt1 Ckpt2 e)
+
+ne21 : DiskPart Ckpt2 ≢ DiskPart Ckpt1
+ne21 e = dev21 (disk_dev Ckpt2 Ckpt1 e)
+
 pub counts_none : (by : ℕ) (a b : Bool) (v : View) → KeepsCounts by a a b b false v v
 counts_none by a b v = record {
   goes = goes_none v;
@@ -76,6 +92,8 @@ counts_none by a b v = record {
   once2 = inl refl;
   gone1 = never_gone Ckpt1 a a v v refl;
   gone2 = never_gone Ckpt2 b b v v refl;
+  device1 = untouched Ckpt1 a a v v refl refl;
+  device2 = untouched Ckpt2 b b v v refl refl;
   else_loses = λ d one two. refl;
 }
 
@@ -90,6 +108,8 @@ counts_then by a a1 a2 b b1 b2 stopped old mid new x y = record {
   once2 = once_then b b1 b2 (old.loses Ckpt2) (mid.loses Ckpt2) (new.loses Ckpt2) x.alive2 y.alive2 x.once2 y.once2;
   gone1 = gone_then Ckpt1 a a1 a2 old mid new x.goes y.goes x.once1 y.once1 x.gone1 y.gone1;
   gone2 = gone_then Ckpt2 b b1 b2 old mid new x.goes y.goes x.once2 y.once2 x.gone2 y.gone2;
+  device1 = untouched_then Ckpt1 a a1 a2 old mid new y.goes y.alive1 x.device1 y.device1;
+  device2 = untouched_then Ckpt2 b b1 b2 old mid new y.goes y.alive2 x.device2 y.device2;
   else_loses = λ d one two. y.else_loses d one two ∙ x.else_loses d one two;
 }
 
@@ -105,6 +125,8 @@ counts_first by a a' b b' stopped old new same acted = record {
   once2 = inl (acted.loses Ckpt2);
   gone1 = λ was is. inl (acted.failed was is);
   gone2 = never_gone Ckpt2 b b' old new same;
+  device1 = ((λ is there. acted.else_lost (DiskPart Ckpt1) (inr (is ∙ sym (acted.alive is))) ∙ there), acted.is_lost);
+  device2 = untouched Ckpt2 b b' old new same (acted.else_lost (DiskPart Ckpt2) (inl ne21));
   else_loses = λ d one two. acted.loses d;
 }
 
@@ -119,6 +141,8 @@ counts_second by a a' b b' stopped old new same acted = record {
   once2 = inl (acted.loses Ckpt2);
   gone1 = never_gone Ckpt1 a a' old new same;
   gone2 = λ was is. inl (acted.failed was is);
+  device1 = untouched Ckpt1 a a' old new same (acted.else_lost (DiskPart Ckpt1) (inl ne12));
+  device2 = ((λ is there. acted.else_lost (DiskPart Ckpt2) (inr (is ∙ sym (acted.alive is))) ∙ there), acted.is_lost);
   else_loses = λ d one two. acted.loses d;
 }
 
@@ -140,6 +164,8 @@ counts_both by a a' b b' stopped old new acted = record {
   once2 = inl (acted.loses Ckpt2);
   gone1 = λ was is. inl (acted.failed1 was is);
   gone2 = λ was is. inl (acted.failed2 was is);
+  device1 = ((λ is there. acted.else_lost (DiskPart Ckpt1) (inr (is ∙ sym (acted.alive1 is))) (inl ne12) ∙ there), acted.is_lost1);
+  device2 = ((λ is there. acted.else_lost (DiskPart Ckpt2) (inl ne21) (inr (is ∙ sym (acted.alive2 is))) ∙ there), acted.is_lost2);
   else_loses = λ d one two. acted.loses d;
 }
 
@@ -157,6 +183,8 @@ module _ {H : Type 0} (alive : H → Bool) (one two one' two' : H) (by : ℕ) (o
     once2 = inl (loses.else_counted Ckpt2 (λ e. dev21 (disk_dev Ckpt2 Ckpt1 e)));
     gone1 = gone_by Ckpt1 (alive one) (alive one') old new (loses.counted Ckpt1 refl);
     gone2 = never_gone Ckpt2 (alive two) (alive two') old new (ap alive same);
+    device1 = ((λ is there. absurd (not_both (alive one') is dead)), λ was is. loses.is_lost);
+    device2 = untouched Ckpt2 (alive two) (alive two') old new (ap alive same) (loses.else_lost (DiskPart Ckpt2) ne21);
     else_loses = λ d first second. loses.else_counted d (λ e. first (disk_dev d Ckpt1 e));
   }
   counts_lost Ckpt2 ckpt was dead same loses = record {
@@ -169,6 +197,8 @@ module _ {H : Type 0} (alive : H → Bool) (one two one' two' : H) (by : ℕ) (o
     once2 = more (alive two) (alive two') (old.loses Ckpt2) (new.loses Ckpt2) was dead (loses.counted Ckpt2 refl) (loses.small Ckpt2 refl);
     gone1 = never_gone Ckpt1 (alive one) (alive one') old new (ap alive same);
     gone2 = gone_by Ckpt2 (alive two) (alive two') old new (loses.counted Ckpt2 refl);
+    device1 = untouched Ckpt1 (alive one) (alive one') old new (ap alive same) (loses.else_lost (DiskPart Ckpt1) ne12);
+    device2 = ((λ is there. absurd (not_both (alive two') is dead)), λ was is. loses.is_lost);
     else_loses = λ d first second. loses.else_counted d (λ e. second (disk_dev d Ckpt2 e));
   }
   counts_lost (Spool n) ckpt was dead same loses = absurd ckpt

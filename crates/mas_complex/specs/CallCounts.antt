@@ -16,6 +16,12 @@ abbrev pub IsLostSo : Dev → Bool → Bool → View → View → Type 0
 IsLostSo dev was is old new = was ≡ true → is ≡ false
     → Rose (old.faults (DiskPart dev)) (new.faults (DiskPart dev)) ⊎ Rose (old.loses dev) (new.loses dev)
 
+-- a copy that counts as alive is no more lost than it was, and one that doesn't any more is lost
+abbrev pub StandsOrLost : Dev → Bool → Bool → View → View → Type 0
+StandsOrLost dev was is old new =
+    (is ≡ true → old.lost (DiskPart dev) ≡ false → new.lost (DiskPart dev) ≡ false)
+    × (was ≡ true → is ≡ false → new.lost (DiskPart dev) ≡ true)
+
 -- Which copies counted as alive before the call and count so after it, and whether the member was stopped in it: nobody
 -- else is stopped, nothing is armed, and no device is lost by a call but that of a copy, once.
 pub record KeepsCounts (by : ℕ) (was1 is1 was2 is2 stopped : Bool) (old new : View) : Type 0 where
@@ -28,4 +34,6 @@ pub record KeepsCounts (by : ℕ) (was1 is1 was2 is2 stopped : Bool) (old new : 
   pub once2 : IsLostOnce was2 is2 (old.loses Ckpt2) (new.loses Ckpt2)
   pub gone1 : IsLostSo Ckpt1 was1 is1 old new
   pub gone2 : IsLostSo Ckpt2 was2 is2 old new
+  pub device1 : StandsOrLost Ckpt1 was1 is1 old new
+  pub device2 : StandsOrLost Ckpt2 was2 is2 old new
   pub else_loses : (d : Dev) → d ≢ Ckpt1 → d ≢ Ckpt2 → new.loses d ≡ old.loses d
