@@ -1,11 +1,9 @@
 -- Which batches may begin.
-use Rattle.std.proofs.Common.{◌≡◌, ℕ, ◌+◌, ◌≤◌, Bool, true, false, List, [], ◌∷◌, ◌++◌, Some, All, refl, subst, sym, ap}
+use Rattle.std.proofs.Common.{◌≡◌, ℕ, ◌+◌, ◌≤◌, true, false, List, [], ◌∷◌, ◌++◌, Some, All, subst}
 use Rattle.std.proofs.lemmas.List.Elements.{All-nil, All-cons}
 use Rattle.std.proofs.Math.Logic.{∥∥₁_map}
-use Rattle.mas_types.specs.declared.commands.Command.{Command}
 use Rattle.mas_types.specs.declared.commands.Command.TheVariants as command
 use Rattle.mas_types.specs.declared.ids.JobNo.{JobNo}
-use Rattle.mas_types.specs.declared.ids.MemberId.{MemberId}
 use Rattle.mas_types.specs.declared.ids.OutNo.{OutNo}
 use Rattle.mas_types.specs.declared.jobs.Output.{Output}
 use Rattle.mas_types.specs.declared.journals.Batch.{Batch}
@@ -15,7 +13,7 @@ use Rattle.mas_types.specs.Ids.{is_somebody}
 use Rattle.mas_types.specs.Queue.{output_at}
 use Rattle.mas_types.specs.Sound.{IsSound}
 use Rattle.queue_laws.specs.Runs.{IsGiven}
-use Rattle.paper_laws.specs.Counts.{AreAllowed, counts_after, is_mark}
+use Rattle.paper_laws.specs.Counts.{counts_after, is_mark}
 use Rattle.paper_laws.proofs.Plain.{allowed_push, mark_right, plain_allowed, plain_right}
 use Rattle.mas_complex.specs.Meaning.{run}
 use Rattle.mas_complex.specs.Journals.{kept_all}

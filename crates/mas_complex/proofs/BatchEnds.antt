@@ -41,12 +41,13 @@ without_last-append (a ∷ []) b = refl
 without_last-append (a ∷ next ∷ bs) b = ap (λ (ys : List Batch). a ∷ ys) (without_last-append (next ∷ bs) b)
 
 -- a journal with another last batch has as many batches
+pub as_many : (b : Batch) (js : List Batch) → length (with_last b js) ≡ length js
+as_many b [] = refl
+as_many b (a ∷ []) = refl
+as_many b (a ∷ next ∷ js) = ap suc (as_many b (next ∷ js))
+
 pub few_with_last : (b : Batch) (js : List Batch) → length js ≤ journal_most → length (with_last b js) ≤ journal_most
-few_with_last b js few = subst (λ (n : ℕ). n ≤ journal_most) (sym (as_many js)) few where
-  as_many : (l : List Batch) → length (with_last b l) ≡ length l
-  as_many [] = refl
-  as_many (a ∷ []) = refl
-  as_many (a ∷ next ∷ l) = ap suc (as_many (next ∷ l))
+few_with_last b js few = subst (λ (n : ℕ). n ≤ journal_most) (sym (as_many b js)) few
 
 -- nor has a journal more at its end
 pub few_at_end : (placed : Bool) (c : Option Batch) (js : List Batch) → length js ≤ journal_most → length (end_of placed c js) ≤ journal_most

@@ -1,9 +1,12 @@
 -- The pages that are found on two copies.
-use Rattle.std.proofs.Common.{◌≡◌, inl, inr, ⊎_elim, ℕ, ◌+◌, Bool, true, false, List, length, Option, Some, refl, sym, ◌∙◌, ap, subst}
+use Rattle.std.proofs.Common.{◌≡◌, ◌||◌, inl, inr, ⊎_elim, ℕ, ◌+◌, Bool, true, false, List, length, Option, Some, refl, sym, ◌∙◌, ap, subst}
+use Rattle.mas_types.specs.declared.ids.Dev.{Dev}
+use Rattle.mas_types.specs.declared.ids.Dev.TheVariants.{Ckpt1, Ckpt2, Spool}
 use Rattle.mas_types.specs.declared.ids.Page.{Page}
 use Rattle.mas_types.specs.declared.queues.Queue.{Queue}
 use Rattle.mas_types.specs.declared.journals.Entry.{Entry}
 use Rattle.ckpt_copy.specs.Pages.{bytes_of, level}
+use Rattle.duplex_pair.specs.Halves.{IsCkpt, other}
 use Rattle.mas_complex.specs.declared.places.Place.{Place}
 use Rattle.mas_complex.specs.declared.places.Place.TheVariants.{Before, Opened}
 use Rattle.mas_complex.specs.Places.{IsAtLevel}
@@ -20,6 +23,20 @@ stays_true true alive f is = refl
 stays_true false alive f is = absurd (no alive is (f refl)) where
   no : (x : Bool) → x ≡ true → x ≡ false → ⊥
   no x p q = cc
+
+-- one of the two counts as alive
+pub some_first : (one two : Bool) → one ≡ true → (one || two) ≡ true
+some_first true two is = refl
+some_first false two is = absurd (cc)
+
+pub some_second : (one two : Bool) → two ≡ true → (one || two) ≡ true
+some_second true two is = refl
+some_second false two is = is
+
+pub some_beside : {H : Type 0} (alive : H → Bool) (dev : Dev) → IsCkpt dev → (one two : H) → alive (other dev one two) ≡ true → (alive one || alive two) ≡ true
+some_beside alive Ckpt1 ckpt one two is = some_second (alive one) (alive two) is
+some_beside alive Ckpt2 ckpt one two is = some_first (alive one) (alive two) is
+some_beside alive (Spool n) ckpt one two is = absurd ckpt
 
 module _ (reads : List ℕ → Option (List ℕ)) (tells : Type 0) (queue : Queue) (flying : List Entry) (reached : ℕ) where
   at_before : (l : ℕ) (place : Place) → IsAtLevel l reached place → place ≡ Before → l ≡ reached

@@ -15,7 +15,7 @@ use Rattle.duplex_pair.specs.Both.{PairActed}
 use Rattle.duplex_pair.specs.Outcomes.{look_stopped, pair_stopped}
 use Rattle.std.specs.Prelude.{IsErrOf}
 use Rattle.mas_complex.specs.declared.recover.RecoverNo.{RecoverNo}
-use Rattle.mas_complex.specs.declared.recover.RecoverNo.TheVariants.{BothLost as RecoverBothLost, Halted as RecoverHalted}
+use Rattle.mas_complex.specs.declared.recover.RecoverNo.TheVariants.{BothLost as RecoverBothLost, Halted as RecoverHalted, NoMemory as RecoverNoMemory}
 use Rattle.mas_complex.specs.CallCounts.{IsLostOnce, IsLostSo, KeepsCounts, StandsOrLost}
 use Rattle.mas_complex.proofs.Leaving.{rose_later, rose_earlier}
 use Rattle.mas_complex.specs.Recovers.{recover_no, recover_no_seen, recover_stopped}
@@ -231,4 +231,10 @@ pub was_halted : {T U : Type 0} (r : Result T RecoverNo) (answer : RecoverNo) (w
 was_halted r answer PairHalted is same halted = refl
 was_halted {T = T} r answer PairBothLost is same halted = absurd (apart r (is ∙ ap Err same) halted) where
   apart : (x : Result T RecoverNo) → x ≡ Err RecoverBothLost → x ≡ Err RecoverHalted → ⊥
+  apart x a b = cc
+
+pub look_halted : {T U : Type 0} (r : Result T RecoverNo) (answer : RecoverNo) (why : LookNo) → r ≡ Err answer → answer ≡ recover_no_seen why → IsErrOf r RecoverHalted → IsErrOf {T = U} (Err why) LookHalted
+look_halted r answer LookHalted is same halted = refl
+look_halted {T = T} r answer LookNoMemory is same halted = absurd (apart r (is ∙ ap Err same) halted) where
+  apart : (x : Result T RecoverNo) → x ≡ Err RecoverNoMemory → x ≡ Err RecoverHalted → ⊥
   apart x a b = cc

@@ -39,3 +39,4 @@ pub mod Counted
 pub mod Keeping
 pub mod OnDevice
 pub mod Frames
+pub mod Standing

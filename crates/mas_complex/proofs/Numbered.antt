@@ -1,10 +1,8 @@
 -- The numbers of page 0 and of the pages with the found level, and what they cover.
-use Rattle.std.proofs.Common.{◌≡◌, ◌⊎◌, inl, inr, ⊎_elim, ℕ, suc, zero, ◌+◌, ◌*◌, ◌<◌, ◌≤◌, ◌==◌, ◌||◌, ◌&&◌, nat_le, Bool, true, false, if◌then◌else◌, List, [], ◌∷◌, ◌++◌, length, take, drop, slice_index, Some, refl, sym, ◌∙◌, ap, subst, add-one, get_or, append-nil, append_assoc, All, Contains, arith}
-use Rattle.std.specs.Prelude.{slice_get}
+use Rattle.std.proofs.Common.{◌≡◌, ◌⊎◌, inl, inr, ⊎_elim, ℕ, suc, zero, ◌+◌, ◌*◌, ◌<◌, ◌≤◌, ◌==◌, ◌||◌, Bool, true, false, if◌then◌else◌, List, [], ◌∷◌, ◌++◌, length, take, drop, slice_index, refl, sym, ◌∙◌, ap, subst, add-one, get_or, append-nil, append_assoc, All, Contains, arith}
 use Rattle.std.specs.List.Sorted.{IsStrictlyIncreasing}
 use Rattle.std.specs.Str.{bytes_eq}
 use Rattle.std.proofs.lemmas.Bool.{and_parts}
-use Rattle.std.proofs.lemmas.Bool.Decides.{nat_tests}
 use Rattle.std.proofs.lemmas.Slice.Eq.{bytes_eq-Decides}
 use Rattle.std.proofs.lemmas.List.{drop_at, drop-drop, drop_all, take-append-le, take_all}
 use Rattle.std.proofs.lemmas.List.Elements.{All-nil, All-cons, All-tail, All-head, All-weaker, Contains-append_right}
@@ -12,7 +10,7 @@ use Rattle.mas_types.specs.declared.ids.Page.{Page}
 use Rattle.mas_types.specs.Limits.{page_bytes}
 use Rattle.ckpt_copy.specs.Pages.{bytes_of, level, page_in, ArePages, Covers}
 use Rattle.ckpt_pages.specs.Shape.{level_in}
-use Rattle.mas_complex.specs.Fits.{differ_at, first_page, fits, found_numbers, is_found_at, numbers_from}
+use Rattle.mas_complex.specs.Fits.{differ_at, first_page, found_numbers, is_found_at, numbers_from}
 
 -- the numbers from page p on
 numbers_within : (page0 : List ℕ) (reached p : ℕ) (pages : List Page) → All (λ q. (p ≤ q) × (q < p + length pages)) (numbers_from page0 reached p pages)

@@ -1,5 +1,6 @@
 -- The next order that pages give.
-use Rattle.std.proofs.Common.{◌≡◌, ℕ, ◌≤◌, ◌<◌, ◌^◌, List, [], ◌∷◌, ◌++◌, length, take, drop, All, ◌∙◌, ap, arith}
+use Rattle.std.proofs.Common.{◌≡◌, ℕ, ◌≤◌, ◌<◌, ◌^◌, List, [], ◌∷◌, ◌++◌, length, take, drop, get_or, All, refl, sym, subst, ◌∙◌, ap, arith}
+use Rattle.std.specs.Prelude.{◌==◌, false}
 use Rattle.std.specs.Int.{w64, from_be_bytes, to_be_bytes}
 use Rattle.std.proofs.lemmas.List.{take-append-le, drop-append-le, length-drop}
 use Rattle.std.proofs.lemmas.List.Elements.{All-head}
@@ -33,3 +34,25 @@ order_spelled t levels pages fit spell sized =
     let some : 0 < length pages = omega (arith, spell.count) in
     let small : t.order < 2 ^ 64 = omega (arith, fit.order) in
     order_in_first pages sized some ∙ ap (from_be_bytes w64) (order_written t levels pages spell) ∙ from_be_bytes-to_be_bytes_8 t.order small
+
+-- WITHOUT TABLES
+
+order_at_first : (pages : List Page) (x : Page) → 0 < length pages → x ≡ get_or pages 0 x → length x.0 ≡ page_bytes → next_order (bytes_of pages) ≡ from_be_bytes w64 (piece 40 8 x.0)
+unfolding next_order
+order_at_first [] x some is sized = absurd (omega arith)
+order_at_first (y ∷ ys) x some is sized =
+    let here : length y.0 ≡ page_bytes = subst (λ (p : Page). length p.0 ≡ page_bytes) is sized in
+    ap (from_be_bytes w64)
+    (ap (take 8) (drop-append-le 40 y.0 (bytes_of ys) (omega (arith, here))) ∙ take-append-le 8 (drop 40 y.0) (bytes_of ys) (omega (arith, here, length-drop 40 y.0)) ∙ ap (λ (p : Page). piece 40 8 p.0) (sym is))
+
+order_none : next_order (bytes_of []) ≡ 0
+unfolding next_order
+order_none = refl
+
+pub order_empty : (pages : List Page) → length pages ≡ 0 → 0 ≡ next_order (bytes_of pages)
+order_empty [] none = sym order_none
+order_empty (y ∷ ys) none = absurd (omega arith)
+
+pub order_head : (pages : List Page) (d : Page) → (length pages == 0) ≡ false → length (get_or pages 0 d).0 ≡ page_bytes → next_order (bytes_of pages) ≡ from_be_bytes w64 (piece 40 8 (get_or pages 0 d).0)
+order_head [] d some sized = absurd (cc)
+order_head (y ∷ ys) d some sized = order_at_first (y ∷ ys) y (omega arith) refl sized

@@ -1,6 +1,6 @@
 -- What stands on paper where a shared value is made, where a batch gets its fate, and where it hands all out.
-use Rattle.std.proofs.Common.{◌≡◌, ℕ, ◌+◌, ◌≤◌, ◌<◌, ◌⊎◌, inl, inr, ◌&&◌, Bool, true, false, if◌then◌else◌, List, [], ◌∷◌, ◌++◌, Option, Some, None, All, refl, subst, sym, ◌∙◌, ap, arith, le_refl, le_trans, append_assoc, length, ◌-◌}
-use Rattle.std.specs.Prelude.{zero, suc, IsSome, slice_index_or, replicate}
+use Rattle.std.proofs.Common.{◌≡◌, ℕ, ◌+◌, ◌≤◌, ◌<◌, ◌⊎◌, inl, inr, Bool, true, false, if◌then◌else◌, List, [], ◌∷◌, ◌++◌, Option, Some, None, All, refl, subst, sym, ◌∙◌, ap, arith, le_refl, append_assoc, length, ◌-◌}
+use Rattle.std.specs.Prelude.{zero, suc, IsSome, replicate}
 use Rattle.std.proofs.lemmas.List.{append-nil}
 use Rattle.std.proofs.lemmas.List.Elements.{All-nil, All-append}
 use Rattle.mas_types.specs.declared.ids.MemberId.{MemberId}
@@ -17,11 +17,11 @@ use Rattle.lock_cycle.specs.Books.{Book}
 use Rattle.queue_laws.specs.Runs.{IsGiven}
 use Rattle.spool_disk.specs.View.{View}
 use Rattle.paper_laws.specs.Counts.{Counts, none_printed, AreAllowed, counts_after}
-use Rattle.paper_laws.specs.Paper.{AreLinesOn, AreMarksOn, mark_of, printed_at}
+use Rattle.paper_laws.specs.Paper.{AreLinesOn, mark_of, printed_at}
 use Rattle.paper_laws.proofs.Marked.{marks_answer}
 use Rattle.mas_complex.specs.Meaning.{run}
-use Rattle.mas_complex.specs.Journals.{kept, flying, kept_of, kept_all, in_flight, entries_in, AreSettled, IsBegun, IsPlace, EndsInPlace, HasPlace, with_last, without_last, end_of}
-use Rattle.mas_complex.specs.Paper.{IsOnPaper, MarksAt, turned, count_at, LineAt, IsPrintedAt, counts_of, no_counts, printed_after, AreGivenIn, IsOfItsMember, KeepsPaper, PaperKept}
+use Rattle.mas_complex.specs.Journals.{kept, flying, kept_of, kept_all, in_flight, AreSettled, IsBegun, EndsInPlace, HasPlace, with_last, without_last, end_of}
+use Rattle.mas_complex.specs.Paper.{IsOnPaper, count_at, counts_of, no_counts, printed_after, AreGivenIn, KeepsPaper, PaperKept}
 use Rattle.mas_complex.proofs.BatchEnds.{with_last-append, without_last-append}
 use Rattle.mas_complex.proofs.Batches.{settled_push, unplaced_settled, placed_all}
 use Rattle.mas_complex.proofs.Papers.{test_cases, unplace_on_paper, fate_on_paper, begins_on_paper}

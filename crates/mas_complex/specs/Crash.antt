@@ -176,6 +176,10 @@ AreSunk S v = (t : ℕ) → S.since ≤ t → t ≤ v.now → (n : ℕ) → (spo
 unfoldable pub next_order : List ℕ → ℕ
 next_order pages = from_be_bytes w64 (slice 40 8 pages)
 
+-- the next order of a run that begins is at most this
+abbrev pub order_first : ℕ
+order_first = 2 ^ 62
+
 -- a batch raises the next order by at most so much
 abbrev pub orders_most : ℕ
 orders_most = 2 ^ 19

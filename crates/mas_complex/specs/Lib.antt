@@ -17,3 +17,4 @@ pub mod Replies
 pub mod Kept
 pub mod Paper
 pub mod Parts
+pub mod Settled

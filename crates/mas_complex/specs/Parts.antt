@@ -12,7 +12,7 @@ use Rattle.mas_types.specs.declared.journals.Fate.{Fate}
 use Rattle.mas_types.specs.declared.journals.Fate.TheVariants.{Kept, Dropped}
 use Rattle.duplex_pair.specs.Halves.{pick, other}
 use Rattle.lock_cycle.specs.Books.{Book}
-use Rattle.mas_complex.specs.Journals.{begun, fated, with_last, entries_reserved}
+use Rattle.mas_complex.specs.Journals.{begun, fated, with_last, without_last, entries_reserved}
 use Rattle.mas_complex.specs.Paper.{printed_after}
 use Rattle.mas_complex.specs.declared.places.Place.{Place}
 use Rattle.mas_complex.specs.declared.places.Place.TheVariants.{Before}
@@ -149,6 +149,24 @@ placed_at now false batches = batches
 abbrev pub reserved_in : {P C : Type 0} → ℕ → List Entry → Parts P C → Parts P C
 reserved_in now entries was = record was
     { batches = placed_at now was.placed was.batches; reserved = Some entries; placed = true }
+
+-- the batches without an unused place: that of a batch in flight stays
+abbrev pub batches_left : Bool → Option Batch → List Batch → List Batch
+batches_left placed (Some b) batches = batches
+batches_left true None batches = without_last batches
+batches_left false None batches = batches
+
+abbrev pub placed_left : Bool → Option Batch → Bool
+placed_left placed None = false
+placed_left placed (Some b) = placed
+
+-- what is reserved is given up, and an unused place with it
+abbrev pub unreserved_in : {P C : Type 0} → Parts P C → Parts P C
+unreserved_in was = record was {
+  batches = batches_left was.placed was.current was.batches;
+  reserved = None;
+  placed = placed_left was.placed was.current;
+}
 
 -- the batch in flight, or the reserved one, which begins at a moment
 abbrev pub flying_from : ℕ → MemberId → Option Batch → Option (List Entry) → Option Batch

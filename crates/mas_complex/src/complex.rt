@@ -1,9 +1,12 @@
 //! The shared value.
-ghost use Rattle.std.specs.Prelude.{◌≡◌, ◌≤◌, ◌++◌, length, true, false, IsSome};
+ghost use Rattle.std.specs.Prelude.{◌≡◌, ◌≢◌, ◌≤◌, ◌++◌, length, true, false, Some, IsSome};
 ghost use Rattle.mas_types.specs.declared.ids.Dev.TheVariants.{Ckpt1, Ckpt2};
 ghost use Rattle.spool_disk.specs.declared.plant.Part.TheVariants.{Disk};
 ghost use Rattle.ckpt_copy.specs.Pages.{level};
-ghost use Rattle.mas_complex.specs.Journals.{in_flight, journal_most, HasPlace};
+ghost use Rattle.mas_types.specs.declared.journals.Batch.{Batch};
+ghost use Rattle.lock_cycle.specs.Books.{is_stopped};
+ghost use Rattle.mas_complex.specs.Journals.{in_flight, journal_most, AreSettled, HasPlace, IsBegun};
+ghost use Rattle.mas_complex.specs.Settled.{settled_prop, begun_prop};
 ghost use Rattle.mas_complex.specs.Crash.{Keeps, setting, copy_of};
 ghost use Rattle.mas_complex.specs.Replies.{AreReplied};
 ghost use Rattle.mas_complex.specs.Paper.{KeepsPaper};
@@ -93,6 +96,15 @@ pub struct Complex<P: Plant + Drop, C: Steady + Drop> {
     ghost place_current: { IsSome current → placed ≡ true },
 
     ghost place: { ∥ HasPlace placed journal.batches ∥₁ },
+
+    /// Each batch of the journal has its fate by now, and one in flight began by now.
+    ghost settled: { AreSettled journal.batches (P.view plant).now } by { settled_prop journal.batches (P.view plant).now },
+
+    ghost begun: { IsBegun current (P.view plant).now } by { begun_prop current (P.view plant).now },
+
+    /// A batch in flight is of the member that holds the lock, or of one that was stopped.
+    ghost owned: { (batch : Batch) → current ≡ Some batch → batch.by ≢ book.holder
+        → is_stopped book batch.by ≡ true },
 
     /// The journal has at most so many batches.
     ghost few: { length journal.batches ≤ journal_most },

@@ -1,10 +1,12 @@
 //! What became of a batch in flight is found on the copies.
-ghost use Rattle.std.specs.Prelude.{◌≡◌, ◌≢◌, ◌⊎◌, ◌+◌, ◌≤◌, ◌<◌, ◌++◌, [], ◌∷◌, ℕ, List, Option, Some, None, length, true, false, OnOk, OnErr, IfOk, IfSome, IsErrOf, IsSome};
+ghost use Rattle.std.specs.Prelude.{◌≡◌, ◌≢◌, ◌⊎◌, ◌+◌, ◌*◌, ◌≤◌, ◌<◌, ◌++◌, [], ◌∷◌, ℕ, List, Option, Some, None, length, true, false, OnOk, OnErr, IfOk, IfSome, IsErrOf, IsSome};
+ghost use Rattle.std.specs.Int.{from_be_bytes, w64};
 ghost use Rattle.mas_types.specs.declared.ids.Dev.{Dev};
 ghost use Rattle.mas_types.specs.declared.ids.Dev.TheVariants.{Ckpt1, Ckpt2};
 ghost use Rattle.mas_types.specs.declared.journals.Batch.{Batch};
 ghost use Rattle.mas_types.specs.Fit.{IsConfig};
-ghost use Rattle.mas_types.specs.Limits.{pages_most};
+ghost use Rattle.mas_types.specs.Limits.{page_bytes, pages_most};
+ghost use Rattle.lay_bytes.specs.Fields.{piece};
 ghost use Rattle.ckpt_pages.specs.Shape.{page_count};
 ghost use Rattle.spool_disk.specs.View.{View, disk_now};
 ghost use Rattle.spool_disk.specs.Acts.{Goes, Rose};
@@ -17,6 +19,7 @@ ghost use Rattle.mas_complex.specs.declared.places.Place.TheVariants.{Before as 
 ghost use Rattle.mas_complex.specs.declared.recover.RecoverNo.TheVariants.{BothLost as RecoverNoBothLost, Halted as RecoverNoHalted};
 ghost use Rattle.mas_complex.specs.CallCounts.{KeepsCounts};
 ghost use Rattle.mas_complex.specs.Elsewhere.{OnCopies};
+ghost use Rattle.mas_complex.specs.Crash.{next_order, order_first, orders_most};
 ghost use Rattle.mas_complex.specs.Journals.{kept_all, entries_in};
 ghost use Rattle.mas_complex.specs.Meaning.{StandFor, run};
 ghost use Rattle.mas_complex.specs.Parts.{parts_of, with_copies, with_copy, with_half, with_pair};
@@ -32,6 +35,7 @@ use crate::places::Place;
 use ckpt_form::Steady;
 use ckpt_pages::law_of_page_sizes;
 use duplex_pair::{LookNo, PairNo, pages_level};
+use lay_bytes::read_u64;
 use mas_types::{Dev, List, MemberId, Page};
 use spool_disk::Plant;
 use std::alloc::Global;
@@ -46,7 +50,8 @@ pub enum RecoverNo {
     /// The member was stopped inside the call: its count of stops rose.
     #[error("the member was stopped")]
     Halted,
-    /// There was no memory for the pages.
+    /// There was no memory for the pages, or the level or the next order of those found is beyond what the batches of
+    /// the journal can have come to.
     #[error("no memory")]
     NoMemory,
 }
@@ -71,6 +76,29 @@ impl From<PairNo> for RecoverNo {
             PairNo::Halted => RecoverNo::Halted,
         }
     }
+}
+
+// The next order of a run that begins is at most this, and a batch raises it by so much at most.
+const ORDER_FIRST: u64 = 1 << 62;
+
+const ORDERS_MOST: u64 = 1 << 19;
+
+// The next order in a first page.
+fn page_order(page: &Page) -> u64
+    ensures order { result ≡ from_be_bytes w64 (piece 40 8 page.now.0) }
+    ensures size { length page.now.0 ≡ page_bytes }
+{
+    read_u64(&page.0, 40)
+}
+
+// The next order, which stands in the first page. It is 0 where there are no pages.
+fn pages_order(pages: &[Page]) -> u64
+    ensures { result ≡ next_order (bytes_of pages.now) }
+{
+    if pages.is_empty() {
+        return 0;
+    }
+    page_order(&pages[0])
 }
 
 // A copy with these pages, which isn't lost, stays beside those found: it has them, or is one batch behind and has
@@ -159,6 +187,17 @@ impl<P: Plant + Drop, C: Steady + Drop> Complex<P, C> {
         first
     }
 
+    // The pages found have the level reached or the next one, and a next order that the batches of the journal may have
+    // come to.
+    fn may_follow(&self, found: &[Page]) -> bool
+        ensures level { result ≡ true → level (bytes_of found.now) ≤ self.now.level + 1 }
+        ensures order { result ≡ true → next_order (bytes_of found.now)
+            ≤ order_first + orders_most * length self.now.journal.batches }
+    {
+        pages_level(found) <= self.level.saturating_add(1)
+            && pages_order(found) <= ORDER_FIRST + ORDERS_MOST * self.journal.batches.len() as u64
+    }
+
     // The pages found where a copy has some.
     #[tactic(auto, using(crate::proofs::Counted::counts_none, crate::proofs::Apart::on_none))]
     fn choose_any(
@@ -243,7 +282,7 @@ impl<P: Plant + Drop, C: Steady + Drop> Complex<P, C> {
             → (disk_now (P.view self.new.plant) d).bytes ≡ (disk_now (P.view self.old.plant) d).bytes }
         ensures apart { P.tells → OnCopies (P.view self.old.plant) (P.view self.new.plant) }
         ensures both { IsErrOf result PairNoBothLost → IsBothLost self.new.pair.first.alive self.new.pair.second.alive }
-        ensures ok { OnOk result (SomeAlive self.new.pair.first.alive self.new.pair.second.alive) }
+        ensures some { SomeAlive self.new.pair.first.alive self.new.pair.second.alive }
     {
         let mut numbers = [0; NUMBERS];
         let count = list_found(found, &mut numbers);
@@ -268,7 +307,7 @@ impl<P: Plant + Drop, C: Steady + Drop> Complex<P, C> {
         ensures halted { IsErrOf result PairNoHalted
             → Rose ((P.view self.old.plant).stops by.0) ((P.view self.new.plant).stops by.0) }
         ensures both { IsErrOf result PairNoBothLost → IsBothLost self.new.pair.first.alive self.new.pair.second.alive }
-        ensures ok { OnOk result (SomeAlive self.new.pair.first.alive self.new.pair.second.alive) }
+        ensures some { SomeAlive self.new.pair.first.alive self.new.pair.second.alive }
         ensures as_many1 { self.new.pair.first.alive ≡ true → length found.now ≡ C.count self.new.pair.first.copy }
         ensures as_many2 { self.new.pair.second.alive ≡ true → length found.now ≡ C.count self.new.pair.second.copy }
         ensures first { OnOk result (self.new.pair.first.alive ≡ true
@@ -354,7 +393,9 @@ impl<P: Plant + Drop, C: Steady + Drop> Complex<P, C> {
     /// A batch that was in flight has no place after that; without one the place of a batch to come stays.
     ///
     /// BothLost comes only where both copies count as lost at the end of the call, Halted only where the member was
-    /// stopped in it. After an error a batch in flight still is, in its place. NoMemory comes only when out of memory.
+    /// stopped in it; a copy counts as alive then. After an error a batch in flight still is, in its place. NoMemory
+    /// comes where there was no memory for the pages, or where the level of those found is above the one reached and
+    /// one, or their next order beyond what a run's batches come to, which begins below 2^62.
     pub fn recover(&mut self, alloc: Global, by: MemberId) -> Result<List<Page>, RecoverNo>
         requires may { MayAct self.old.book by }
         requires others { IsOfOther self.old.current by }
@@ -372,6 +413,8 @@ impl<P: Plant + Drop, C: Steady + Drop> Complex<P, C> {
             → Rose ((P.view self.old.plant).stops by.0) ((P.view self.new.plant).stops by.0) }
         ensures both { IsErrOf result RecoverNoBothLost
             → IsBothLost self.new.pair.first.alive self.new.pair.second.alive }
+        ensures one_stands { IsErrOf result RecoverNoHalted
+            → SomeAlive self.new.pair.first.alive self.new.pair.second.alive }
         ensures err { OnErr result ((self.new.journal ≡ self.old.journal) × (self.new.current ≡ self.old.current)
             × (self.new.level ≡ self.old.level)) }
         ensures ok { OnOk result (SomeAlive self.new.pair.first.alive self.new.pair.second.alive) }
@@ -393,6 +436,9 @@ impl<P: Plant + Drop, C: Steady + Drop> Complex<P, C> {
         ensures stands { IfOk result (λ found. P.tells
             → ∥ StandFor (run self.new.base (kept_all self.new.journal.batches)) (bytes_of found) ∥₁) }
         ensures many { IfOk result (λ found. length found ≡ page_count self.old.base.config) }
+        ensures near { IfOk result (λ found. level (bytes_of found) ≤ self.old.level + 1) }
+        ensures low { IfOk result (λ found. next_order (bytes_of found)
+            ≤ order_first + orders_most * length self.new.journal.batches) }
         ensures picked { IfOk result (λ found. P.tells
             → IsPicked C.reads self.old.pair.first.alive self.old.pair.second.alive
             (disk_now (P.view self.old.plant) Ckpt1).bytes (disk_now (P.view self.old.plant) Ckpt2).bytes
@@ -430,6 +476,9 @@ impl<P: Plant + Drop, C: Steady + Drop> Complex<P, C> {
         let Some(found) = self.choose_any(first, second) else {
             return Err(RecoverNo::BothLost);
         };
+        if !self.may_follow(found.as_slice()) {
+            return Err(RecoverNo::NoMemory);
+        }
         self.bring(by, found.as_slice())?;
         self.give_fate(pages_level(found.as_slice()));
         Ok(found)

@@ -5,18 +5,18 @@ ghost use Rattle.mas_types.specs.declared.journals.Entry.{Entry};
 ghost use Rattle.mas_types.specs.declared.journals.Fate.TheVariants.{Kept as FateKept};
 ghost use Rattle.queue_tables.specs.Telling.{AreToldAlike};
 ghost use Rattle.mas_complex.specs.declared.places.Place.TheVariants.{Before as AtBefore};
-ghost use Rattle.mas_complex.specs.Journals.{kept_all, entries_reserved, begun, fated, IsPlace, with_last};
+ghost use Rattle.mas_complex.specs.Journals.{kept_all, entries_reserved, begun, fated, IsPlace, with_last, without_last};
 ghost use Rattle.mas_complex.specs.Meaning.{run};
 ghost use Rattle.mas_complex.specs.Crash.{setting, IsUntold};
 ghost use Rattle.mas_complex.specs.Texts.{HasTexts, spools_at, lost_now};
 ghost use Rattle.mas_complex.specs.Replies.{HaveReplies};
 ghost use Rattle.mas_complex.specs.Locking.{MayAct};
 ghost use Rattle.mas_complex.specs.Paper.{MayBegin, printed_after};
-ghost use Rattle.mas_complex.specs.Parts.{begun_in, kept_same_in, parts_of, placed_at, reserved_in};
+ghost use Rattle.mas_complex.specs.Parts.{begun_in, kept_same_in, parts_of, placed_at, reserved_in, unreserved_in};
 
 use crate::complex::Complex;
 use crate::counts::count_anew;
-use crate::journal_end::{empty_place, push_place, set_last};
+use crate::journal_end::{drop_last, empty_place, push_place, set_last};
 use ckpt_form::Steady;
 use mas_types::{Batch, Entry, Fate, List, MemberId, NoMemory};
 use spool_disk::Plant;
@@ -89,8 +89,31 @@ impl<P: Plant + Drop, C: Steady + Drop> Complex<P, C> {
         Ok(())
     }
 
+    // The journal loses the place of a batch to come, which isn't reserved any more.
+    fn drop_place(&mut self)
+        requires none { self.old.current ≡ None }
+        requires unreserved { self.old.reserved ≡ None }
+        requires placed { self.old.placed ≡ true }
+        ensures { parts_of self.new ≡ record (parts_of self.old)
+            { batches = without_last self.old.journal.batches; placed = false } }
+    {
+        drop_last(&mut self.journal.batches);
+        self.placed = false;
+    }
+
+    /// Gives up a batch that is reserved and hasn't begun, and its place. The place of a batch in flight stays.
+    pub fn give_up_reserved(&mut self)
+        ensures { parts_of self.new ≡ unreserved_in (parts_of self.old) }
+    {
+        self.reserved = None;
+        if self.current.is_none() && self.placed {
+            self.drop_place();
+        }
+    }
+
     // The reserved batch begins.
     fn begin(&mut self, by: MemberId)
+        requires may { MayAct self.old.book by }
         requires none { self.old.current ≡ None }
         requires replied { P.tells → ∥ HaveReplies (run self.old.base (kept_all self.old.journal.batches))
             (entries_reserved self.old.reserved) ∥₁ }
@@ -121,6 +144,7 @@ impl<P: Plant + Drop, C: Steady + Drop> Complex<P, C> {
 
     // The reserved batch begins, where none is in flight.
     pub(crate) fn begin_first(&mut self, by: MemberId)
+        requires may { MayAct self.old.book by }
         requires first { self.old.current ≡ None → self.old.pair.first.alive ≡ true → self.old.first ≡ AtBefore }
         requires second { self.old.current ≡ None → self.old.pair.second.alive ≡ true → self.old.second ≡ AtBefore }
         requires replied { P.tells → self.old.current ≡ None

@@ -94,6 +94,8 @@ impl<P: Plant + Drop, C: Steady + Drop> Complex<P, C> {
         ensures goes { Goes (P.view self.old.plant) (P.view self.new.plant) }
         ensures halted { IsErrOf result LookNoHalted
             → Rose ((P.view self.old.plant).stops by.0) ((P.view self.new.plant).stops by.0) }
+        ensures stands { IsErrOf result LookNoHalted
+            → (pick dev self.new.pair.first self.new.pair.second).alive ≡ true }
         ensures seen { IfOk result (λ pages.
             IsOneSeen (run self.old.base (kept_all self.old.journal.batches ++ entries_in self.old.current))
             (entries_in self.old.current) P.tells self.old.level

@@ -40,4 +40,4 @@ module _ {P C : Type 0} (plants : PlantGhosts P) (copies : CopyGhosts C) where
   pub found_seized : (x s y : Parts P C) (book : Book) (pages : List Page) → s ≡ record x { book = book } → HasFound plants copies s y pages → HasFound plants copies x y pages
   found_seized x s y book pages is h =
       let w : HasFound plants copies (record x { book = book }) y pages = subst (λ (z : Parts P C). HasFound plants copies z y pages) is h in
-      record { some = w.some; many = w.many; first = w.first; second = w.second; stands = w.stands; picked = w.picked; left1 = w.left1; left2 = w.left2 }
+      record { some = w.some; many = w.many; near = w.near; low = w.low; first = w.first; second = w.second; stands = w.stands; picked = w.picked; left1 = w.left1; left2 = w.left2 }

@@ -1,5 +1,5 @@
 -- What a takeover leaves, for every answer.
-use Rattle.std.specs.Prelude.{◌≡◌, ◌⊎◌, ℕ, ◌==◌, if◌then◌else◌, Bool, true, false, List, length, Option, Some, None, Result, Ok, Err}
+use Rattle.std.specs.Prelude.{◌≡◌, ◌⊎◌, ℕ, ◌+◌, ◌*◌, ◌≤◌, ◌==◌, if◌then◌else◌, Bool, true, false, List, length, Option, Some, None, Result, Ok, Err}
 use Rattle.mas_types.specs.declared.ids.Dev.TheVariants.{Ckpt1, Ckpt2}
 use Rattle.mas_types.specs.declared.ids.MemberId.{MemberId}
 use Rattle.mas_types.specs.declared.ids.Page.{Page}
@@ -23,6 +23,7 @@ use Rattle.mas_complex.specs.declared.complex.Complex.{Complex}
 use Rattle.mas_complex.specs.declared.places.Place.{Place}
 use Rattle.mas_complex.specs.declared.places.Place.TheVariants.{Before}
 use Rattle.mas_complex.specs.CallCounts.{KeepsCounts}
+use Rattle.mas_complex.specs.Crash.{next_order, order_first, orders_most}
 use Rattle.mas_complex.specs.Elsewhere.{OnCopies}
 use Rattle.mas_complex.specs.Journals.{kept_all}
 use Rattle.mas_complex.specs.Meaning.{StandFor, run}
@@ -126,11 +127,14 @@ module _ {P C : Type 0} (plants : PlantGhosts P) where
 
 module _ {P C : Type 0} (plants : PlantGhosts P) (copies : CopyGhosts C) where
   -- The pages that are handed back are those of greater level that were read, CKPT1's on a tie, and as many as the
-  -- configuration has. Every copy that counts as alive has them now, and one does. Where content is told they stand for
+  -- configuration has. Their level is the one reached or the next, and their next order one that so many batches may
+  -- come to. Every copy that counts as alive has them now, and one does. Where content is told they stand for
   -- the queue after the kept batches. A copy that was lost failed, or its pages didn't fit these.
   pub record HasFound (old new : Parts P C) (pages : List Page) : Type 0 where
     pub some : SomeAlive new.first_alive new.second_alive
     pub many : length pages ≡ page_count old.base.config
+    pub near : level (bytes_of pages) ≤ old.level + 1
+    pub low : next_order (bytes_of pages) ≤ order_first + orders_most * length new.batches
     pub first : new.first_alive ≡ true → Reads plants.tells copies.reads (copies.count new.first_copy) new.first
         (disk_now (v plants new) Ckpt1) pages
     pub second : new.second_alive ≡ true → Reads plants.tells copies.reads (copies.count new.second_copy) new.second
@@ -144,13 +148,14 @@ module _ {P C : Type 0} (plants : PlantGhosts P) (copies : CopyGhosts C) where
     pub left2 : plants.tells → old.second_alive ≡ true → new.second_alive ≡ false → HasFailed2 plants old new
         ⊎ WasUnfit copies.reads (disk_now (v plants old) Ckpt2).bytes old.level (copies.room new.second_copy) pages
 
-  -- what is known by the answer
+  -- What is known by the answer. Once the member was stopped in it, a copy counts as alive.
   abbrev pub TakesBy : MemberId → Parts P C → Parts P C → Result (List Page) TakeNo → Type 0
   TakesBy by old new (Ok pages) = HasFound old new pages
   TakesBy by old new (Err StillUp) = Unit {0}
   TakesBy by old new (Err NotHolder) = Unit {0}
   TakesBy by old new (Err BothLost) = LostBoth plants old new
-  TakesBy by old new (Err Halted) = Rose ((v plants old).stops by.0) ((v plants new).stops by.0)
+  TakesBy by old new (Err Halted) = SomeAlive new.first_alive new.second_alive
+      × Rose ((v plants old).stops by.0) ((v plants new).stops by.0)
   TakesBy by old new (Err NoMemory) = Unit {0}
 
 -- OVER THE SHARED VALUE

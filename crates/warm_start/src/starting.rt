@@ -16,6 +16,7 @@ ghost use Rattle.duplex_pair.specs.Both.{PairActed, BothMeanwhile};
 ghost use Rattle.mas_complex.specs.declared.places.Place.TheVariants.{Before as AtBefore};
 ghost use Rattle.mas_complex.specs.Locking.{book_of};
 ghost use Rattle.mas_complex.specs.Headline.{LeavesQueue};
+ghost use Rattle.mas_complex.specs.Paper.{no_counts};
 ghost use Rattle.spool_volumes.specs.Volumes.{IsSteady, AreRoomy};
 ghost use Rattle.queue_tables.specs.Telling.{Tell};
 ghost use Rattle.warm_start.specs.Choosing.{IsFew, goes as goes_lem};
@@ -389,6 +390,7 @@ pub fn warm<P: Plant + Drop, C: Steady + Drop>(
     ensures places { IfOk result (λ w. (w.complex.first ≡ AtBefore) × (w.complex.second ≡ AtBefore)) }
     ensures none { IfOk result (λ w. (w.complex.current ≡ None) × (w.complex.placed ≡ false)) }
     ensures unreserved { IfOk result (λ w. w.complex.reserved ≡ None) }
+    ensures printed { IfOk result (λ w. w.complex.printed ≡ no_counts) }
     ensures book { IfOk result (λ w. w.complex.book ≡ book_of w.complex.base.config) }
     ensures cause { IfErr result (λ u. (alive1 alive2 : Bool)
         × IsCauseOf C.reads P.tells C.needs (P.view plant) (P.view u.plant) alive1 alive2 u.why) }

@@ -25,10 +25,11 @@ pub enum TakeNo {
     #[error("both copies are lost")]
     BothLost,
     /// The member that takes over was stopped inside the call: its count of stops rose. It is stopped in the book too,
-    /// and holds the lock.
+    /// and holds the lock. A copy counts as alive.
     #[error("the member was stopped")]
     Halted,
-    /// There was no memory for the pages. The member that takes over is stopped in the book, and holds the lock.
+    /// There was no memory for the pages, or those found count beyond what the run's batches may come to. The member
+    /// that takes over is stopped in the book, and holds the lock.
     #[error("no memory")]
     NoMemory,
 }

@@ -1,6 +1,5 @@
-use Rattle.std.proofs.Common.{◌≡◌, ◌∙◌, ◌≤◌, ◌<◌, ℕ, ◌+◌, ◌==◌, ◌||◌, Bool, List, [], ◌∷◌, ◌++◌, if◌then◌else◌, length, take, drop, get_or, ap, ap₂, arith}
+use Rattle.std.proofs.Common.{◌≡◌, ◌∙◌, ◌<◌, ℕ, ◌+◌, ◌==◌, ◌||◌, Bool, List, [], ◌∷◌, ◌++◌, if◌then◌else◌, length, take, drop, get_or, ap, ap₂, arith}
 use Rattle.std.proofs.lemmas.List.{drop_more}
-use Rattle.mas_types.specs.declared.ids.Page.{Page}
 use Rattle.ckpt_copy.specs.Pages.{bytes_of, level}
 use Rattle.ckpt_pages.specs.Shape.{level_in}
 use Rattle.mas_complex.specs.Fits.{first_page, found_numbers, is_found_at, numbers_from}

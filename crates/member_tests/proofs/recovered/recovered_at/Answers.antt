@@ -14,5 +14,8 @@ invariant_of-complex c =
       place_reserved = x.place_reserved;
       place_current = x.place_current;
       place = x.place;
+      settled = x.settled;
+      begun = x.begun;
+      owned = x.owned;
       few = x.few;
     }

@@ -25,6 +25,8 @@ returns-in-Ok-clause-tells g c =
     found_seized g.P.Plant C (parts_of c.args.complex.now) (parts_of c.seize.new.self) (parts_of s) _ c.in-Ok.pages c.seize.ensures.frame (record {
       some = found.ok;
       many = found.many;
+      near = found.near;
+      low = found.low;
       first = λ alive. record {
         at_rest = found.first alive;
         as_many = found.as_many1 alive;

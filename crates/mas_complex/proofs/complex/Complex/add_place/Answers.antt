@@ -1,13 +1,14 @@
-use Rattle.std.proofs.Common.{subst, ℕ}
+use Rattle.std.proofs.Common.{subst, ℕ, List, sym}
 use Rattle.std.proofs.Math.Logic.{∥∥₁_map}
 use Rattle.mas_complex.specs.Crash.{Setting, setting, copy_of}
 use Rattle.std.proofs.Common.{◌≤◌}
 use Rattle.mas_complex.proofs.Fating.{is_place}
-use Rattle.mas_complex.proofs.Batches.{placed_all}
+use Rattle.mas_complex.proofs.Batches.{placed_all, placed_settled}
 use Rattle.mas_complex.proofs.Moves.{place_keeps}
-use Rattle.mas_complex.specs.Journals.{in_flight}
+use Rattle.mas_complex.specs.Journals.{in_flight, AreSettled}
 use Rattle.mas_complex.proofs.Replied.{placed_replied}
 use Rattle.mas_complex.proofs.Papers.{place_on_paper}
+use Rattle.mas_types.specs.declared.journals.Batch.{Batch}
 use Rattle.mas_complex.proofs.complex.Complex.add_place.Goals as goal
 
 pub invariant_of-self-2-clause-kept : goal.invariant_of-self-2-clause-kept
@@ -47,3 +48,9 @@ invariant_of-self-2-clause-paper g c told sound =
     let s = c.args.self.now in
     let place = is_place c.empty_place-place.result c.now.result (record { 0 = 0 }) c.empty_place-place.ensures in
     ∥∥₁_map (s.paper told sound) (λ on. rw (c.in_ok-push_place.ensures.ok) (place_on_paper s.base s.since s.journal.batches c.empty_place-place.result s.current s.printed s.book (g.P.Plant.view s.plant) place.0 on))
+
+pub invariant_of-self-2-clause-settled : goal.invariant_of-self-2-clause-settled
+invariant_of-self-2-clause-settled g c =
+    let s = c.args.self.now in
+    let place = is_place c.empty_place-place.result c.now.result (record { 0 = 0 }) c.empty_place-place.ensures in
+    subst (λ (l : List Batch). AreSettled l (g.P.Plant.view s.plant).now) (sym c.in_ok-push_place.ensures.ok) (placed_settled c.empty_place-place.result place.0 s.journal.batches (g.P.Plant.view s.plant).now s.settled place.1 (subst (λ (n : ℕ). c.empty_place-place.result.last ≤ n) c.now.ensures place.2))

@@ -1,10 +1,11 @@
-use Rattle.std.proofs.Common.{◌∙◌, ap}
+use Rattle.std.proofs.Common.{◌∙◌, ap, ℕ, subst, sym}
 use Rattle.std.proofs.Math.Logic.{∥∥₁_map}
 use Rattle.mas_types.specs.declared.ids.Dev.TheVariants.{Ckpt1, Ckpt2}
 use Rattle.spool_disk.specs.declared.plant.Part.TheVariants.{Disk}
 use Rattle.spool_disk.specs.View.{View}
 use Rattle.mas_complex.specs.Crash.{copy_of, setting}
 use Rattle.mas_complex.proofs.Armed.{armed_keep, armed_on_paper, same_sizes}
+use Rattle.mas_complex.specs.Journals.{AreSettled, IsBegun}
 use Rattle.mas_complex.proofs.complex.Complex.arm.Goals as goal
 
 pub invariant_of-self-clause-kept : goal.invariant_of-self-clause-kept
@@ -43,3 +44,13 @@ pub invariant_of-self-clause-second_lost : goal.invariant_of-self-clause-second_
 invariant_of-self-clause-second_lost g c dead =
     let s = c.args.self.now in
     ap (λ (v : View). v.lost (Disk Ckpt2)) c.arm.ensures.same ∙ s.second_lost dead
+
+pub invariant_of-self-clause-settled : goal.invariant_of-self-clause-settled
+invariant_of-self-clause-settled g c =
+    let s = c.args.self.now in
+    subst (λ (n : ℕ). AreSettled s.journal.batches n) (sym (ap (λ (v : View). v.now) c.arm.ensures.same)) s.settled
+
+pub invariant_of-self-clause-begun : goal.invariant_of-self-clause-begun
+invariant_of-self-clause-begun g c =
+    let s = c.args.self.now in
+    subst (λ (n : ℕ). IsBegun s.current n) (sym (ap (λ (v : View). v.now) c.arm.ensures.same)) s.begun

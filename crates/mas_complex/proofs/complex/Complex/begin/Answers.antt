@@ -1,4 +1,4 @@
-use Rattle.std.proofs.Common.{refl, subst, sym, ◌≡◌, ◌∙◌, ap, List, Option, ◌-◌, ◌^◌, All}
+use Rattle.std.proofs.Common.{refl, subst, sym, ◌≡◌, ◌∙◌, ap, List, Option, ◌-◌, ◌^◌, All, arith}
 use Rattle.std.proofs.Math.Logic.{∥∥₁_map, ∥∥₁_elim, ∥∥₁_prop, ∥∥₁_map₂}
 use Rattle.mas_complex.specs.Texts.{spools_at, lost_now, HasTexts}
 use Rattle.mas_types.specs.declared.journals.Batch.{Batch}
@@ -16,6 +16,7 @@ use Rattle.mas_complex.proofs.Replied.{begun_replied}
 use Rattle.paper_laws.specs.Counts.{AreAllowed}
 use Rattle.mas_complex.specs.Paper.{KeepsPaper, counts_of}
 use Rattle.mas_complex.proofs.Papers.{begins_on_paper, counts_fall}
+use Rattle.mas_complex.proofs.Standing.{owned_own}
 use Rattle.mas_complex.proofs.complex.Complex.begin.Goals as goal
 
 pub invariant_of-self-clause-kept : goal.invariant_of-self-clause-kept
@@ -56,3 +57,11 @@ invariant_of-self-clause-paper g c told sound =
     (subst (λ (x : Option Batch). KeepsPaper s.base s.since s.journal.batches x s.printed s.book old) c.requires.none on) own
     (subst (λ (l : List Entry). AreAllowed s.base (run s.base (kept_all s.journal.batches)) (counts_of s.printed) l) e allowed)
     (counts_fall c.args.by es s.printed own))))
+
+pub invariant_of-self-clause-begun : goal.invariant_of-self-clause-begun
+invariant_of-self-clause-begun g c = (refl, omega (arith, c.now-first.ensures))
+
+pub invariant_of-self-clause-owned : goal.invariant_of-self-clause-owned
+invariant_of-self-clause-owned g c =
+    let b : Batch = record { first = c.now-first.result; last = 2 ^ 64 - 1; by = c.args.by; fate = Flying; entries = c.in-Some.entries } in
+    owned_own b c.args.self.now.book c.requires.may.holds

@@ -1,10 +1,11 @@
-use Rattle.std.proofs.Common.{◌≡◌, ◌∙◌}
+use Rattle.std.proofs.Common.{◌≡◌, ◌∙◌, ap}
 use Rattle.mas_complex.specs.declared.places.Place.{Place}
 use Rattle.mas_complex.specs.declared.places.Place.TheVariants.{Before, Opened}
 use Rattle.mas_complex.proofs.Apart.{bytes_else, on_one, on_then}
 use Rattle.mas_complex.specs.Parts.{parts_of}
 use Rattle.mas_complex.proofs.Frames.{frame_then}
 use Rattle.mas_complex.proofs.Numbered.{are_pages_of}
+use Rattle.mas_complex.proofs.Choosing.{some_beside}
 use Rattle.mas_complex.proofs.complex.Complex.bring_copy.Goals as goal
 
 pub returns-in_err-put_on-clause-apart : goal.returns-in_err-put_on-clause-apart
@@ -46,3 +47,15 @@ pub put_on-requires-clause-orders : goal.put_on-requires-clause-orders
 put_on-requires-clause-orders g c told is before was reads = absurd (clash _ (before c.requires.beside) (c.requires.same told c.requires.beside).0) where
   clash : (p : Place) → p ≡ Before → p ≡ Opened → ⊥
   clash p a b = cc
+
+-- THE OTHER COPY STAYS
+
+pub returns-in_err-put_on-clause-some : goal.returns-in_err-put_on-clause-some
+returns-in_err-put_on-clause-some g c =
+    let b = c.put_on.new.self in
+    some_beside (λ h. h.alive) c.args.dev c.requires.ckpt b.pair.first b.pair.second (ap (λ h. h.alive) c.put_on.ensures.other ∙ c.requires.beside)
+
+pub returns-clause-some : goal.returns-clause-some
+returns-clause-some g c =
+    let b = c.open_on.new.self in
+    some_beside (λ h. h.alive) c.args.dev c.requires.ckpt b.pair.first b.pair.second (ap (λ h. h.alive) (c.open_on.ensures.other ∙ c.put_on.ensures.other) ∙ c.requires.beside)

@@ -1,16 +1,17 @@
-use Rattle.std.proofs.Common.{refl, subst, sym, ◌≡◌, ◌∙◌, Option, Some, inl, inr}
+use Rattle.std.proofs.Common.{refl, subst, sym, ◌≡◌, ◌∙◌, Option, Some, inl, arith, List}
 use Rattle.std.proofs.Math.Logic.{∥∥₁_map, ∥∥₁_elim, ∥∥₁_prop, ∥∥₁_map₂}
 use Rattle.mas_types.specs.declared.journals.Batch.{Batch}
 use Rattle.mas_types.specs.declared.journals.Fate.TheVariants.{Kept}
 use Rattle.mas_complex.specs.Crash.{Keeps, Setting, setting, copy_of}
 use Rattle.mas_complex.proofs.Fating.{has_ends, kept_placed}
 use Rattle.std.proofs.Common.{◌++◌}
-use Rattle.mas_complex.specs.Journals.{in_flight, IsBegun}
+use Rattle.mas_complex.specs.Journals.{in_flight, IsBegun, AreSettled}
 use Rattle.mas_complex.specs.Replies.{AreReplied}
 use Rattle.mas_complex.proofs.Replied.{fated_replied}
 use Rattle.mas_complex.specs.Paper.{KeepsPaper}
 use Rattle.mas_complex.proofs.PaperEnds.{fated_on_paper}
 use Rattle.mas_complex.proofs.BatchEnds.{few_with_last}
+use Rattle.mas_complex.proofs.Standing.{IsOwned, owned_none, settled_with_last}
 use Rattle.mas_complex.proofs.complex.Complex.keep.Goals as goal
 
 pub invariant_of-self-clause-kept : goal.invariant_of-self-clause-kept
@@ -50,3 +51,19 @@ invariant_of-self-clause-paper g c told sound =
 
 pub invariant_of-self-clause-few : goal.invariant_of-self-clause-few
 invariant_of-self-clause-few g c = rw c.set_last.ensures (few_with_last _ c.args.self.now.journal.batches c.args.self.now.few)
+
+pub invariant_of-self-clause-settled : goal.invariant_of-self-clause-settled
+invariant_of-self-clause-settled g c =
+    let s = c.args.self.now in
+    let old = g.P.Plant.view s.plant in
+    let b = c.in-Some.batch in
+    let was : s.current ≡ Some b = sym c.take.ensures.value ∙ c.in-Some.is in
+    let begun : IsBegun (Some b) old.now = subst (λ (x : Option Batch). IsBegun x old.now) was s.begun in
+    subst (λ (l : List Batch). AreSettled l old.now) (sym c.set_last.ensures) (settled_with_last (record { first = b.first; last = c.now-last.result; by = b.by; fate = Kept; entries = b.entries }) s.journal.batches old.now s.settled refl
+    (omega (arith, begun.1, c.now-last.ensures)) (omega (arith, c.now-last.ensures)))
+
+pub invariant_of-self-clause-begun : goal.invariant_of-self-clause-begun
+invariant_of-self-clause-begun g c = subst (λ (x : Option Batch). IsBegun x (g.P.Plant.view c.args.self.now.plant).now) (sym c.take.ensures.after) tt
+
+pub invariant_of-self-clause-owned : goal.invariant_of-self-clause-owned
+invariant_of-self-clause-owned g c = subst (λ (x : Option Batch). IsOwned x c.args.self.now.book) (sym c.take.ensures.after) (owned_none c.args.self.now.book)

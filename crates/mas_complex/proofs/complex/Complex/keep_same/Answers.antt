@@ -1,9 +1,9 @@
-use Rattle.std.proofs.Common.{refl, subst, sym, ◌≡◌, ◌∙◌, ap, List, Option, ◌++◌, All}
+use Rattle.std.proofs.Common.{refl, subst, sym, ◌≡◌, ◌∙◌, ap, List, Option, ◌++◌, All, arith}
 use Rattle.std.proofs.Math.Logic.{∥∥₁_map, ∥∥₁_elim, ∥∥₁_prop, ∥∥₁_map₂}
 use Rattle.mas_types.specs.declared.journals.Batch.{Batch}
 use Rattle.mas_types.specs.declared.journals.Entry.{Entry}
 use Rattle.mas_types.specs.declared.journals.Fate.TheVariants.{Kept, Flying}
-use Rattle.mas_complex.specs.Journals.{kept_all, entries_reserved}
+use Rattle.mas_complex.specs.Journals.{kept_all, entries_reserved, AreSettled}
 use Rattle.mas_complex.specs.Crash.{Keeps, Setting, setting, copy_of}
 use Rattle.mas_complex.specs.Crash.{IsUntold}
 use Rattle.mas_complex.proofs.Fating.{has_ends, same_placed}
@@ -19,6 +19,7 @@ use Rattle.mas_complex.specs.Paper.{KeepsPaper, counts_of}
 use Rattle.mas_complex.proofs.Papers.{counts_fall}
 use Rattle.mas_complex.proofs.PaperEnds.{same_on_paper}
 use Rattle.mas_complex.proofs.BatchEnds.{few_with_last}
+use Rattle.mas_complex.proofs.Standing.{settled_with_last}
 use Rattle.mas_complex.proofs.complex.Complex.keep_same.Goals as goal
 
 pub invariant_of-self-clause-kept : goal.invariant_of-self-clause-kept
@@ -67,3 +68,9 @@ invariant_of-self-clause-paper g c told sound =
 
 pub invariant_of-self-clause-few : goal.invariant_of-self-clause-few
 invariant_of-self-clause-few g c = rw c.set_last.ensures (few_with_last _ c.args.self.now.journal.batches c.args.self.now.few)
+
+pub invariant_of-self-clause-settled : goal.invariant_of-self-clause-settled
+invariant_of-self-clause-settled g c =
+    let s = c.args.self.now in
+    subst (λ (l : List Batch). AreSettled l (g.P.Plant.view s.plant).now) (sym c.set_last.ensures) (settled_with_last (record { first = c.now-now.result; last = c.now-now.result; by = c.args.by; fate = Kept; entries = c.in-Some.entries }) s.journal.batches (g.P.Plant.view s.plant).now s.settled refl
+    (omega arith) (omega (arith, c.now-now.ensures)))

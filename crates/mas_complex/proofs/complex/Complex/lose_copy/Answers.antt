@@ -9,6 +9,7 @@ use Rattle.mas_complex.proofs.Frames.{frame_half}
 use Rattle.mas_complex.proofs.Shows.{lose_bytes}
 use Rattle.mas_complex.proofs.Apart.{elsewhere_of}
 use Rattle.mas_complex.proofs.Papers.{stays_on_paper}
+use Rattle.mas_complex.proofs.Batches.{settled_later, begun_later}
 use Rattle.mas_complex.proofs.complex.Complex.lose_copy.Goals as goal
 
 pub invariant_of-self-clause-kept : goal.invariant_of-self-clause-kept
@@ -84,3 +85,13 @@ invariant_of-self-clause-paper g c told sound =
     let new = g.P.Plant.view c.lose.new.plant in
     ∥∥₁_map₂ (s.kept told) (s.paper told sound) (λ kk on. stays_on_paper s.base s.since s.journal.batches s.current s.printed s.book s.book old new kk.started kk.settled kk.begun
     c.lose.ensures.loses.goes (λ t from le. ((c.lose.ensures.during told).sides t from le).paper) (λ m up. up) on)
+
+pub invariant_of-self-clause-settled : goal.invariant_of-self-clause-settled
+invariant_of-self-clause-settled g c =
+    let s = c.args.self.now in
+    settled_later s.journal.batches (g.P.Plant.view s.plant).now (g.P.Plant.view c.lose.new.plant).now s.settled c.lose.ensures.loses.goes.later
+
+pub invariant_of-self-clause-begun : goal.invariant_of-self-clause-begun
+invariant_of-self-clause-begun g c =
+    let s = c.args.self.now in
+    begun_later s.current (g.P.Plant.view s.plant).now (g.P.Plant.view c.lose.new.plant).now s.begun c.lose.ensures.loses.goes.later

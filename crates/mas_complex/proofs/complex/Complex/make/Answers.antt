@@ -1,4 +1,4 @@
-use Rattle.std.proofs.Common.{None}
+use Rattle.std.proofs.Common.{None, List, subst, sym}
 use Rattle.std.proofs.Math.Logic.{∥∥₁_map}
 use Rattle.mas_complex.specs.declared.places.Place.TheVariants.{Before}
 use Rattle.mas_complex.specs.Crash.{Setting, setting, copy_of}
@@ -8,6 +8,9 @@ use Rattle.mas_complex.proofs.Making.{make_keeps, unlost}
 use Rattle.mas_complex.proofs.First.{first_reads, leaves_base}
 use Rattle.mas_types.specs.declared.ids.Dev.TheVariants.{Ckpt1, Ckpt2, Spool}
 use Rattle.mas_complex.proofs.PaperEnds.{makes_paper}
+use Rattle.mas_complex.proofs.Standing.{owned_none}
+use Rattle.mas_complex.specs.Journals.{AreSettled}
+use Rattle.mas_types.specs.declared.journals.Batch.{Batch}
 use Rattle.mas_complex.proofs.complex.Complex.make.Goals as goal
 
 pub invariant_of-result-clause-kept : goal.invariant_of-result-clause-kept
@@ -41,3 +44,9 @@ pub invariant_of-result-clause-paper : goal.invariant_of-result-clause-paper
 invariant_of-result-clause-paper g c told sound =
     let s = c.args in
     rw (c.new.ensures) (∣ makes_paper s.base c.moment_of-since.result c.new_book_of-book.result (g.P.Plant.view s.plant) c.moment_of-since.ensures.now ∣₁)
+
+pub invariant_of-result-clause-settled : goal.invariant_of-result-clause-settled
+invariant_of-result-clause-settled g c = subst (λ (l : List Batch). AreSettled l (g.P.Plant.view c.args.plant).now) (sym c.new.ensures) tt
+
+pub invariant_of-result-clause-owned : goal.invariant_of-result-clause-owned
+invariant_of-result-clause-owned g c = owned_none c.new_book_of-book.result

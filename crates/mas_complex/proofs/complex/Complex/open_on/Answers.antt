@@ -14,6 +14,7 @@ use Rattle.mas_complex.proofs.Frames.{frame_copy}
 use Rattle.mas_complex.proofs.Shows.{on_ok, open_shows}
 use Rattle.mas_complex.proofs.Apart.{elsewhere_of, elsewhere_is}
 use Rattle.mas_complex.proofs.Papers.{stays_on_paper}
+use Rattle.mas_complex.proofs.Batches.{settled_later, begun_later}
 use Rattle.mas_complex.proofs.complex.Complex.open_on.Goals as goal
 
 pub invariant_of-self-clause-kept : goal.invariant_of-self-clause-kept
@@ -126,3 +127,13 @@ invariant_of-self-clause-paper g c told sound =
     ∥∥₁_map₂ (s.kept told) (s.paper told sound) (λ kk on. stays_on_paper s.base s.since s.journal.batches s.current s.printed s.book s.book old new kk.started kk.settled kk.begun
     e.acted.goes (λ t from le. ((open_side S kk.was kk.coming dev old new (C.rests h.copy) (C.rests k.copy) (C.holds h.copy) (C.holds k.copy) (pick dev s.first s.second) place' h.alive k.alive (at_copy (λ h. C.rests h.copy) (λ h. C.holds h.copy) (λ h. h.alive) S kk.was kk.coming dev c.requires.ckpt s.pair.first s.pair.second s.first s.second old kk.first_at kk.second_at)
     e.acted.goes e.acted.alive (λ dead. ap g.P.Plant.view (e.idle dead)) (e.gone told) g.P.Plant.tells told c.requires.place c.open_copy-done.result (e.during told) e.opened (λ both. one_dead (λ h. h.alive) dev c.requires.ckpt p.first p.second (e.both both)) after).during.sides t from le).paper) (λ m up. up) on)
+
+pub invariant_of-self-clause-settled : goal.invariant_of-self-clause-settled
+invariant_of-self-clause-settled g c =
+    let s = c.args.self.now in
+    settled_later s.journal.batches (g.P.Plant.view s.plant).now (g.P.Plant.view c.open_copy-done.new.plant).now s.settled c.open_copy-done.ensures.acted.goes.later
+
+pub invariant_of-self-clause-begun : goal.invariant_of-self-clause-begun
+invariant_of-self-clause-begun g c =
+    let s = c.args.self.now in
+    begun_later s.current (g.P.Plant.view s.plant).now (g.P.Plant.view c.open_copy-done.new.plant).now s.begun c.open_copy-done.ensures.acted.goes.later

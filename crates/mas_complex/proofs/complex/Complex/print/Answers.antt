@@ -1,4 +1,4 @@
-use Rattle.std.proofs.Common.{◌+◌, ℕ, List, ap, ◌∙◌, arith}
+use Rattle.std.proofs.Common.{◌+◌, ℕ, List, ap, ◌∙◌, arith, subst, sym}
 use Rattle.std.proofs.lemmas.List.{get_or-set_same}
 use Rattle.std.proofs.Math.Logic.{∥∥₁_map, ∥∥₁_map₂, ∥∥₁_elim, ∥∥₁_prop}
 use Rattle.mas_types.specs.declared.ids.Dev.TheVariants.{Ckpt1, Ckpt2}
@@ -9,6 +9,8 @@ use Rattle.mas_complex.proofs.Lost.{lost_later}
 use Rattle.mas_complex.proofs.Fates.{prints_keep}
 use Rattle.mas_complex.proofs.PaperLines.{prints_on_paper, somebody_is}
 use Rattle.mas_complex.proofs.PaperBooks.{stopped_up}
+use Rattle.mas_complex.proofs.Batches.{settled_later, begun_later}
+use Rattle.mas_complex.proofs.Standing.{IsOwned, owned_printed}
 use Rattle.mas_complex.proofs.complex.Complex.print.Goals as goal
 
 pub invariant_of-self-clause-paper : goal.invariant_of-self-clause-paper
@@ -52,3 +54,18 @@ returns-clause-counted g c is =
     let by = c.args.by in
     ap (λ (l : List ℕ). counts_of l by) (c.count_line.ensures.counted ∙ ap (λ (r : Act). printed_by by r was) is)
     ∙ get_or-set_same was by.0 (counts_of was by + 1) 0 (omega (arith, c.count_line.ensures.whole, c.requires.few))
+
+pub invariant_of-self-clause-settled : goal.invariant_of-self-clause-settled
+invariant_of-self-clause-settled g c =
+    let s = c.args.self.now in
+    settled_later s.journal.batches (g.P.Plant.view s.plant).now (g.P.Plant.view c.print-done.new.self).now s.settled c.print-done.ensures.acts.goes.later
+
+pub invariant_of-self-clause-begun : goal.invariant_of-self-clause-begun
+invariant_of-self-clause-begun g c =
+    let s = c.args.self.now in
+    begun_later s.current (g.P.Plant.view s.plant).now (g.P.Plant.view c.print-done.new.self).now s.begun c.print-done.ensures.acts.goes.later
+
+pub invariant_of-self-clause-owned : goal.invariant_of-self-clause-owned
+invariant_of-self-clause-owned g c =
+    let s = c.args.self.now in
+    subst (IsOwned s.current) (sym c.stop_halted.ensures.book) (owned_printed s.book c.args.by s.current c.requires.member s.owned c.print-done.result)

@@ -20,6 +20,7 @@ use Rattle.mas_complex.proofs.Frames.{frame_copy}
 use Rattle.mas_complex.proofs.Shows.{on_ok, put_shows}
 use Rattle.mas_complex.proofs.Apart.{elsewhere_of, elsewhere_is}
 use Rattle.mas_complex.proofs.Papers.{stays_on_paper}
+use Rattle.mas_complex.proofs.Batches.{settled_later, begun_later}
 use Rattle.mas_complex.proofs.complex.Complex.put_on.Goals as goal
 
 pub invariant_of-self-clause-kept : goal.invariant_of-self-clause-kept
@@ -151,3 +152,13 @@ invariant_of-self-clause-paper g c told sound =
     ∥∥₁_map₂ (s.kept told) (s.paper told sound) (λ kk on. stays_on_paper s.base s.since s.journal.batches s.current s.printed s.book s.book old new kk.started kk.settled kk.begun
     e.acted.goes (λ t from le. ((e.during told kk.was (rests_before S (C.rests h.copy) (C.holds h.copy) kk.was kk.coming (pick dev s.first s.second) h.alive old.now (disk_now old dev)
     (at_copy (λ h. C.rests h.copy) (λ h. C.holds h.copy) (λ h. h.alive) S kk.was kk.coming dev c.requires.ckpt s.pair.first s.pair.second s.first s.second old kk.first_at kk.second_at) c.requires.place)).sides t from le).paper) (λ m up. up) on)
+
+pub invariant_of-self-clause-settled : goal.invariant_of-self-clause-settled
+invariant_of-self-clause-settled g c =
+    let s = c.args.self.now in
+    settled_later s.journal.batches (g.P.Plant.view s.plant).now (g.P.Plant.view c.put-done.new.plant).now s.settled c.put-done.ensures.acted.goes.later
+
+pub invariant_of-self-clause-begun : goal.invariant_of-self-clause-begun
+invariant_of-self-clause-begun g c =
+    let s = c.args.self.now in
+    begun_later s.current (g.P.Plant.view s.plant).now (g.P.Plant.view c.put-done.new.plant).now s.begun c.put-done.ensures.acted.goes.later

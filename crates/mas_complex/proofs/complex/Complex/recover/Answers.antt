@@ -1,4 +1,4 @@
-use Rattle.std.proofs.Common.{◌≡◌, ◌||◌, ◌++◌, ◌∙◌, ℕ, List, length, Option, true, false, Some, None, IfSome, sym, subst, ap, arith, rules}
+use Rattle.std.proofs.Common.{◌≡◌, ◌≤◌, ◌+◌, ◌*◌, ◌||◌, ◌++◌, ◌∙◌, ℕ, List, length, Option, true, false, Some, None, IfSome, refl, sym, subst, ap, arith, rules}
 use Rattle.std.proofs.Math.Logic.{∥∥₁_map}
 use Rattle.mas_types.specs.declared.ids.Dev.{Dev}
 use Rattle.mas_types.specs.declared.ids.Dev.TheVariants.{Ckpt1, Ckpt2}
@@ -18,12 +18,14 @@ use Rattle.mas_complex.specs.Recovers.{recover_stopped}
 use Rattle.mas_complex.proofs.Leaving.{left_why, rose_later, rose_earlier}
 use Rattle.ckpt_copy.specs.Pages.{bytes_of, level}
 use Rattle.ckpt_copy.specs.Moments.{goes_on}
-use Rattle.mas_complex.specs.Crash.{Setting, Copy, setting, copy_of}
+use Rattle.mas_complex.specs.Crash.{Setting, Copy, setting, copy_of, next_order, order_first, orders_most}
+use Rattle.mas_complex.proofs.Standing.{as_many_fated}
+use Rattle.mas_complex.proofs.Choosing.{some_first, some_second}
 use Rattle.mas_complex.proofs.Recovered.{stands_of}
 use Rattle.std.proofs.lemmas.Result.{err_from_is_err_and}
 use Rattle.mas_complex.proofs.Apart.{on_then}
 use Rattle.mas_complex.proofs.Usable.{found_many, seen_alive}
-use Rattle.mas_complex.proofs.Counted.{counts_then, counts_seen, counts_brought, not_brought, was_halted}
+use Rattle.mas_complex.proofs.Counted.{counts_then, counts_seen, counts_brought, look_halted, not_brought, was_halted}
 use Rattle.mas_complex.proofs.complex.Complex.recover.Goals as goal
 
 pub returns-clause-stands : goal.returns-clause-stands
@@ -35,27 +37,27 @@ returns-clause-stands g c told =
     let second : Copy = copy_of (C.rests s.pair.second.copy) (C.holds s.pair.second.copy) s.pair.second.alive s.second in
     let v = g.P.Plant.view s.plant in
     ∥∥₁_map (s.kept told) (λ k. stands_of S s.journal.batches s.current s.level first second v k (bytes_of c.in-Some.found)
-    (subst (λ p. (p.first_alive || p.second_alive) ≡ true) (sym c.give_fate.ensures.frame) c.in_ok-bring.ensures.ok) c.give_fate.ensures.first c.give_fate.ensures.second
+    (subst (λ p. (p.first_alive || p.second_alive) ≡ true) (sym c.give_fate.ensures.frame) c.in_ok-bring.ensures.some) c.give_fate.ensures.first c.give_fate.ensures.second
     (λ was d r. g.met.C.Copying.rests_now s.pair.first.copy was d r) (λ was d r. g.met.C.Copying.rests_now s.pair.second.copy was d r) reads_first reads_second) where
       reads_first : c.give_fate.new.self.pair.first.alive ≡ true → g.C.Copying.reads (disk_now (g.P.Plant.view c.give_fate.new.self.plant) Ckpt1).bytes ≡ Some (bytes_of c.in-Some.found)
       reads_first is =
           let e = c.give_fate.ensures.frame in
           let alive = sym (ap (λ p. p.first_alive) e) ∙ is in
-          let read = subst (λ (ps : List Page). g.C.Copying.reads (disk_now (g.P.Plant.view c.bring.new.self.plant) Ckpt1).bytes ≡ Some (bytes_of ps)) c.as_slice.ensures ((c.in_ok-bring.ensures.first alive).1 told) in
+          let read = subst (λ (ps : List Page). g.C.Copying.reads (disk_now (g.P.Plant.view c.bring.new.self.plant) Ckpt1).bytes ≡ Some (bytes_of ps)) c.as_slice-2.ensures ((c.in_ok-bring.ensures.first alive).1 told) in
           subst (λ p. g.C.Copying.reads (disk_now (g.P.Plant.view p.plant) Ckpt1).bytes ≡ Some (bytes_of c.in-Some.found)) (sym e) read
 
       reads_second : c.give_fate.new.self.pair.second.alive ≡ true → g.C.Copying.reads (disk_now (g.P.Plant.view c.give_fate.new.self.plant) Ckpt2).bytes ≡ Some (bytes_of c.in-Some.found)
       reads_second is =
           let e = c.give_fate.ensures.frame in
           let alive = sym (ap (λ p. p.second_alive) e) ∙ is in
-          let read = subst (λ (ps : List Page). g.C.Copying.reads (disk_now (g.P.Plant.view c.bring.new.self.plant) Ckpt2).bytes ≡ Some (bytes_of ps)) c.as_slice.ensures ((c.in_ok-bring.ensures.second alive).1 told) in
+          let read = subst (λ (ps : List Page). g.C.Copying.reads (disk_now (g.P.Plant.view c.bring.new.self.plant) Ckpt2).bytes ≡ Some (bytes_of ps)) c.as_slice-2.ensures ((c.in_ok-bring.ensures.second alive).1 told) in
           subst (λ p. g.C.Copying.reads (disk_now (g.P.Plant.view p.plant) Ckpt2).bytes ≡ Some (bytes_of c.in-Some.found)) (sym e) read
 
 pub give_fate-requires-clause-second : goal.give_fate-requires-clause-second
 give_fate-requires-clause-second g c alive =
-    let same : level (bytes_of c.as_slice.result.now) ≡ c.pages_level.result = ap (λ (pages : List Page). level (bytes_of pages)) (c.as_slice.ensures ∙ sym c.as_slice-2.ensures) ∙ sym c.pages_level.ensures in
+    let same : level (bytes_of c.as_slice-2.result.now) ≡ c.pages_level.result = ap (λ (pages : List Page). level (bytes_of pages)) (c.as_slice-2.ensures ∙ sym c.as_slice-3.ensures) ∙ sym c.pages_level.ensures in
     subst (λ (n : ℕ). IsAtLevel n c.bring.new.self.level c.bring.new.self.second) same
-    (subst (λ (n : ℕ). IsAtLevel (level (bytes_of c.as_slice.result.now)) n c.bring.new.self.second) (ap (λ p. p.level) (sym c.bring.ensures.frame)) (c.in_ok-bring.ensures.second alive).0)
+    (subst (λ (n : ℕ). IsAtLevel (level (bytes_of c.as_slice-2.result.now)) n c.bring.new.self.second) (ap (λ p. p.level) (sym c.bring.ensures.frame)) (c.in_ok-bring.ensures.second alive).0)
 
 pub returns-in_default-clause-both_failed1 : goal.returns-in_default-clause-both_failed1
 returns-in_default-clause-both_failed1 g c is told alive =
@@ -225,9 +227,9 @@ returns-in_err-bring-clause-both g c is =
 
 pub give_fate-requires-clause-first : goal.give_fate-requires-clause-first
 give_fate-requires-clause-first g c alive =
-    let same : level (bytes_of c.as_slice.result.now) ≡ c.pages_level.result = ap (λ (pages : List Page). level (bytes_of pages)) (c.as_slice.ensures ∙ sym c.as_slice-2.ensures) ∙ sym c.pages_level.ensures in
+    let same : level (bytes_of c.as_slice-2.result.now) ≡ c.pages_level.result = ap (λ (pages : List Page). level (bytes_of pages)) (c.as_slice-2.ensures ∙ sym c.as_slice-3.ensures) ∙ sym c.pages_level.ensures in
     subst (λ (n : ℕ). IsAtLevel n c.bring.new.self.level c.bring.new.self.first) same
-    (subst (λ (n : ℕ). IsAtLevel (level (bytes_of c.as_slice.result.now)) n c.bring.new.self.first) (ap (λ p. p.level) (sym c.bring.ensures.frame)) (c.in_ok-bring.ensures.first alive).0)
+    (subst (λ (n : ℕ). IsAtLevel (level (bytes_of c.as_slice-2.result.now)) n c.bring.new.self.first) (ap (λ p. p.level) (sym c.bring.ensures.frame)) (c.in_ok-bring.ensures.first alive).0)
 
 -- WHAT IS COUNTED
 
@@ -339,3 +341,50 @@ returns-in_err-bring-clause-both_failed2 g c is told alive =
     let r = c.from_residual-in_err-bring.result in
     let p = err_from_is_err_and r c.from_residual-in_err-bring.ensures.1 in
     absurd (not_brought r p.0 c.in_err-bring.field-0.0 p.1 p.2 c.in_err-bring.ensures.not_both is)
+
+-- HOW FAR THE PAGES MAY HAVE COME
+
+pub returns-then-not-may_follow-clause-counts : goal.returns-then-not-may_follow-clause-counts
+returns-then-not-may_follow-clause-counts g c =
+    let P = g.P.Plant in
+    let s = c.args.self.now in
+    let a = c.see_on.new.self in
+    let b = c.see_on-2.new.self in
+    let d = c.choose_any.new.self in
+    counts_then c.args.by.0 s.pair.first.alive b.pair.first.alive d.pair.first.alive s.pair.second.alive b.pair.second.alive d.pair.second.alive false (P.view s.plant) (P.view b.plant) (P.view d.plant)
+    (counts_then c.args.by.0 s.pair.first.alive a.pair.first.alive b.pair.first.alive s.pair.second.alive a.pair.second.alive b.pair.second.alive false (P.view s.plant) (P.view a.plant) (P.view b.plant) c.in_ok-first.ensures.counts c.in_ok-second.ensures.counts)
+    (c.choose_any.ensures.counts c.args.by.0)
+
+pub returns-then-not-may_follow-clause-apart : goal.returns-then-not-may_follow-clause-apart
+returns-then-not-may_follow-clause-apart g c told =
+    let P = g.P.Plant in
+    let old = P.view c.args.self.now.plant in
+    let mid = P.view c.see_on-2.new.self.plant in
+    on_then old mid (P.view c.choose_any.new.self.plant) (goes_on old (P.view c.see_on.new.self.plant) mid c.see_on.ensures.goes c.see_on-2.ensures.goes) c.choose_any.ensures.goes
+    (on_then old (P.view c.see_on.new.self.plant) mid c.see_on.ensures.goes c.see_on-2.ensures.goes (c.see_on.ensures.apart told) (c.see_on-2.ensures.apart told)) (c.choose_any.ensures.apart told)
+
+pub returns-clause-low : goal.returns-clause-low
+returns-clause-low g c =
+    let d = c.choose_any.new.self in
+    let e = c.bring.new.self in
+    let f = c.give_fate.new.self in
+    let fated : length f.journal.batches ≡ length e.journal.batches = as_many_fated c.pages_level.result e.level (g.P.Plant.view e.plant).now e.current e.journal.batches f.journal.batches c.give_fate.ensures.fated in
+    let many : length f.journal.batches ≡ length d.journal.batches = fated ∙ ap (λ p. length p.batches) c.bring.ensures.frame in
+    let low : next_order (bytes_of c.as_slice.result.now) ≤ order_first + orders_most * length d.journal.batches = c.if-not-may_follow.ensures.order refl in
+    subst (λ (ps : List Page). next_order (bytes_of ps) ≤ order_first + orders_most * length f.journal.batches) c.as_slice.ensures
+    (subst (λ (n : ℕ). next_order (bytes_of c.as_slice.result.now) ≤ order_first + orders_most * n) (sym many) low)
+
+-- A MEMBER THAT WAS STOPPED LEFT A COPY
+
+pub returns-in_err-first-clause-one_stands : goal.returns-in_err-first-clause-one_stands
+returns-in_err-first-clause-one_stands g c is =
+    let p = err_from_is_err_and c.from_residual.result c.from_residual.ensures.1 in
+    some_first c.see_on.new.self.pair.first.alive c.see_on.new.self.pair.second.alive
+    (c.in_err-first.ensures.stands (look_halted {U = Option (List Page)} c.from_residual.result p.0 c.in_err-first.field-0.0 p.1 p.2 is))
+
+pub returns-in_err-second-clause-one_stands : goal.returns-in_err-second-clause-one_stands
+returns-in_err-second-clause-one_stands g c is =
+    let r = c.from_residual-in_err-second.result in
+    let p = err_from_is_err_and r c.from_residual-in_err-second.ensures.1 in
+    some_second c.see_on-2.new.self.pair.first.alive c.see_on-2.new.self.pair.second.alive
+    (c.in_err-second.ensures.stands (look_halted {U = Option (List Page)} r p.0 c.in_err-second.field-0.0 p.1 p.2 is))

@@ -12,6 +12,7 @@ use Rattle.mas_complex.proofs.Lost.{pair_lost}
 use Rattle.mas_complex.proofs.Shows.{on_ok}
 use Rattle.mas_complex.proofs.Apart.{coded_disk, on_both, on_is, papers_both, papers_is}
 use Rattle.mas_complex.proofs.Papers.{stays_on_paper}
+use Rattle.mas_complex.proofs.Batches.{settled_later, begun_later}
 use Rattle.mas_complex.proofs.complex.Complex.settle.Goals as goal
 
 pub invariant_of-self-clause-kept : goal.invariant_of-self-clause-kept
@@ -146,3 +147,13 @@ invariant_of-self-clause-paper g c told sound =
     let r2 = settle_rests S kk.was kk.coming Ckpt2 old new second.rests second'.rests second.holds second'.holds second.place second'.place second.alive second'.alive pages kk.second_at c.requires.second (λ was d r. g.met.C.Copying.rests_now s.pair.second.copy was d r) (c.requires.reads2 told) in
     let m = e.during told r1 r2 in
     stays_on_paper s.base s.since s.journal.batches s.current s.printed s.book s.book old new kk.started kk.settled kk.begun m.goes (λ t from le. (m.sides t from le).paper) (λ n up. up) on)
+
+pub invariant_of-self-clause-settled : goal.invariant_of-self-clause-settled
+invariant_of-self-clause-settled g c =
+    let s = c.args.self.now in
+    settled_later s.journal.batches (g.P.Plant.view s.plant).now (g.P.Plant.view c.settle-done.new.plant).now s.settled c.settle-done.ensures.acted.goes.later
+
+pub invariant_of-self-clause-begun : goal.invariant_of-self-clause-begun
+invariant_of-self-clause-begun g c =
+    let s = c.args.self.now in
+    begun_later s.current (g.P.Plant.view s.plant).now (g.P.Plant.view c.settle-done.new.plant).now s.begun c.settle-done.ensures.acted.goes.later

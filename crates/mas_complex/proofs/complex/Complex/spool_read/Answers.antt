@@ -9,6 +9,7 @@ use Rattle.mas_complex.proofs.Lost.{lost_later}
 use Rattle.mas_complex.proofs.Making.{unlost}
 use Rattle.mas_complex.proofs.SpoolActs.{spool_keep, stays_read}
 use Rattle.mas_complex.proofs.Papers.{stays_on_paper, same_papers}
+use Rattle.mas_complex.proofs.Batches.{settled_later, begun_later}
 use Rattle.mas_complex.proofs.complex.Complex.spool_read.Goals as goal
 
 pub invariant_of-self-clause-kept : goal.invariant_of-self-clause-kept
@@ -44,3 +45,13 @@ invariant_of-self-clause-paper g c told sound =
     let new = g.P.Plant.view c.read_group.new.plant in
     ∥∥₁_map₂ (s.kept told) (s.paper told sound) (λ kk on. stays_on_paper s.base s.since s.journal.batches s.current s.printed s.book s.book old new kk.started kk.settled kk.begun
     c.read_group.ensures.acts.goes (same_papers old new c.read_group.ensures.acts.goes c.read_group.ensures.acts.time (c.read_group.ensures.content told).only.paper) (λ m up. up) on)
+
+pub invariant_of-self-clause-settled : goal.invariant_of-self-clause-settled
+invariant_of-self-clause-settled g c =
+    let s = c.args.self.now in
+    settled_later s.journal.batches (g.P.Plant.view s.plant).now (g.P.Plant.view c.read_group.new.plant).now s.settled c.read_group.ensures.acts.goes.later
+
+pub invariant_of-self-clause-begun : goal.invariant_of-self-clause-begun
+invariant_of-self-clause-begun g c =
+    let s = c.args.self.now in
+    begun_later s.current (g.P.Plant.view s.plant).now (g.P.Plant.view c.read_group.new.plant).now s.begun c.read_group.ensures.acts.goes.later

@@ -1,0 +1,180 @@
+-- What a shared value keeps of its batches on any plant.
+use Rattle.std.proofs.Common.{◌≡◌, ◌≢◌, ℕ, ◌≤◌, ◌||◌, ◌==◌, Bool, true, false, if◌then◌else◌, List, [], ◌∷◌, ◌++◌, length, Option, Some, None, refl, subst, sym, ◌∙◌, ap, arith}
+use Rattle.std.specs.Prelude.{is_some, not}
+use Rattle.std.proofs.lemmas.Bool.{true≢false, eq-eqb}
+use Rattle.std.proofs.lemmas.Bool.Decides.{nat_tests}
+use Rattle.mas_types.specs.declared.ids.MemberId.{MemberId}
+use Rattle.mas_types.specs.declared.journals.Batch.{Batch}
+use Rattle.mas_types.specs.declared.journals.Entry.{Entry}
+use Rattle.mas_types.specs.declared.journals.Fate.TheVariants.{Kept, Dropped}
+use Rattle.mas_types.specs.declared.queues.Queue.{Queue}
+use Rattle.mas_types.specs.Ids.{nobody, is_somebody, same_member}
+use Rattle.mas_types.specs.Journal.{is_flying}
+use Rattle.lock_cycle.specs.declared.answers.LockNo.{LockNo}
+use Rattle.lock_cycle.specs.declared.answers.LockNo.TheVariants as lock
+use Rattle.lock_cycle.specs.declared.answers.SeizeNo.{SeizeNo}
+use Rattle.lock_cycle.specs.declared.answers.SeizeNo.TheVariants as seized
+use Rattle.lock_cycle.specs.Books.{Book, IsMember, is_stopped, is_holder, granted, ticked, try_refusal, after_try, after_free, after_stop, seize_refusal, after_seize, after_spend, is_dormant, wakes}
+use Rattle.paper_laws.proofs.Bools.{same_member_is}
+use Rattle.spool_disk.specs.View.{View}
+use Rattle.spool_disk.specs.declared.plant.Act.{Act}
+use Rattle.spool_disk.specs.declared.plant.Act.TheVariants.{Done, Failed, Halted}
+use Rattle.mas_complex.specs.Journals.{AreSettled, EndsInPlace, fated, with_last, without_last}
+use Rattle.mas_complex.specs.Crash.{Copy, Keeps, Setting}
+use Rattle.mas_complex.specs.Locking.{IsOperatorAway}
+use Rattle.mas_complex.specs.Paper.{KeepsPaper, book_by}
+use Rattle.mas_complex.specs.Replies.{AreReplied}
+use Rattle.mas_complex.specs.Seen.{IsFatedBy}
+use Rattle.mas_complex.proofs.BatchEnds.{as_many, without_last-append}
+use Rattle.mas_complex.proofs.Moves.{unplace_keeps}
+use Rattle.mas_complex.proofs.PaperBooks.{granted_up, stopped_up, spent_up}
+use Rattle.mas_complex.proofs.Papers.{test_cases, unplace_on_paper}
+use Rattle.mas_complex.proofs.Replied.{and_none, ended_replied}
+
+-- EACH BATCH HAS ITS FATE
+
+pub settled_with_last : (b : Batch) (js : List Batch) (now : ℕ) → AreSettled js now → is_flying b.fate ≡ false → b.first ≤ b.last → b.last ≤ now → AreSettled (with_last b js) now
+settled_with_last b [] now are fate first last = tt
+settled_with_last b (a ∷ []) now are fate first last = (fate, first, last, tt)
+settled_with_last b (a ∷ next ∷ js) now are fate first last = (are.0, are.1, are.2, settled_with_last b (next ∷ js) now are.3 fate first last)
+
+pub settled_without_last : (js : List Batch) (now : ℕ) → AreSettled js now → AreSettled (without_last js) now
+settled_without_last [] now are = tt
+settled_without_last (a ∷ []) now are = tt
+settled_without_last (a ∷ next ∷ js) now are = (are.0, are.1, are.2, settled_without_last (next ∷ js) now are.3)
+
+-- a batch in flight that gets its fate has its place already
+pub as_many_fated : (found reached now : ℕ) (c : Option Batch) (was is : List Batch) → IsFatedBy found reached now c was is → length is ≡ length was
+as_many_fated found reached now None was is same = ap (λ (l : List Batch). length l) same
+as_many_fated found reached now (Some b) was is fate = ap (λ (l : List Batch). length l) fate ∙ as_many (fated (if found == reached then Dropped else Kept) now b) was
+
+-- WHOSE BATCH IS IN FLIGHT
+
+-- it is of the member that holds, or of one that was stopped
+abbrev pub IsOwned : Option Batch → Book → Type 0
+IsOwned c book = (batch : Batch) → c ≡ Some batch → batch.by ≢ book.holder → is_stopped book batch.by ≡ true
+
+pub owned_none : (book : Book) → IsOwned None book
+owned_none book batch is other = absurd (clash is)
+  where
+    clash : None ≡ Some batch → ⊥
+    clash e = cc
+
+abbrev numbered : ℕ → MemberId
+numbered n = record { 0 = n }
+
+-- the member of a batch, if there is one
+abbrev member_of : MemberId → Option Batch → MemberId
+member_of m None = m
+member_of m (Some b) = b.by
+
+pub owned_own : (b : Batch) (book : Book) → book.holder ≡ b.by → IsOwned (Some b) book
+owned_own b book holds batch is other = absurd (other (subst (λ (x : Option Batch). member_of book.holder x ≡ book.holder) is (sym holds)))
+
+stop_stays : (was is : Bool) → (is ≡ false → was ≡ false) → was ≡ true → is ≡ true
+stop_stays was true up stopped = refl
+stop_stays was false up stopped = absurd (true≢false (sym stopped ∙ up refl))
+
+-- the same member holds, and nobody who was stopped is up
+owned_stays : (old new : Book) (c : Option Batch) → new.holder ≡ old.holder → ((k : MemberId) → is_stopped new k ≡ false → is_stopped old k ≡ false) → IsOwned c old → IsOwned c new
+owned_stays old new c same up own batch is other =
+    stop_stays (is_stopped old batch.by) (is_stopped new batch.by) (up batch.by) (own batch is (λ e. other (e ∙ sym same)))
+
+module _ (b : Book) (m : MemberId) (c : Option Batch) (inside : IsMember b m) (own : IsOwned c b) where
+  pub owned_stopped : IsOwned c (after_stop b m)
+  owned_stopped = owned_stays b (after_stop b m) c refl (λ k up. (stopped_up b m inside k up).1) own
+
+  pub owned_spent : (commands : ℕ) → IsOwned c (after_spend b m commands)
+  owned_spent commands = owned_stays b (after_spend b m commands) c refl (spent_up b m commands inside) own
+
+  pub owned_printed : (done : Act) → IsOwned c (book_by m done b)
+  owned_printed Halted = owned_stopped
+  owned_printed Done = own
+  owned_printed Failed = own
+
+  -- a try is granted where nobody holds, and nothing is in flight then
+  pub owned_tried : (inner : Bool) (reserved : Option (List Entry)) → IsOperatorAway b reserved c → IsOwned c (after_try b m inner)
+  owned_tried inner reserved away =
+      test_cases (is_stopped b m || is_holder b m) (IsOwned c (after_try b m inner))
+      (λ e. subst (IsOwned c) (sym (as_before e)) own)
+      (λ e. test_cases (is_some (try_refusal b m inner)) (IsOwned c (after_try b m inner))
+      (λ r. subst (IsOwned c) (sym (refused e r)) (owned_stays b (ticked b inner) c refl (λ k up. up) own))
+      (λ r. subst (λ (x : Option Batch). IsOwned x (after_try b m inner)) (sym (away (nobody_holds e r)).1) (owned_none (after_try b m inner))))
+    where
+      as_before : (is_stopped b m || is_holder b m) ≡ true → after_try b m inner ≡ b
+      as_before e = rw e refl
+
+      refused : (is_stopped b m || is_holder b m) ≡ false → is_some (try_refusal b m inner) ≡ true → after_try b m inner ≡ ticked b inner
+      refused e r = rw (e, r) refl
+
+      not_busy : (stopped holds busy : Bool) (down held rest : Option LockNo) → (stopped || holds) ≡ false → is_some held ≡ true → is_some (if stopped then down else if holds then None else if busy then held else rest) ≡ false → busy ≡ false
+      not_busy true holds busy down held rest e some none = absurd (true≢false e)
+      not_busy false true busy down held rest e some none = absurd (true≢false e)
+      not_busy false false true down held rest e some none = absurd (true≢false (sym some ∙ none))
+      not_busy false false false down held rest e some none = refl
+
+      is_not : (x : Bool) → not x ≡ false → x ≡ true
+      is_not true e = refl
+      is_not false e = absurd (true≢false e)
+
+      number_is : (k n : ℕ) → (k == n) ≡ true → k ≡ n
+      number_is k n h = grind (arith, nat_tests)
+
+      nobody_holds : (is_stopped b m || is_holder b m) ≡ false → is_some (try_refusal b m inner) ≡ false → b.holder ≡ nobody
+      nobody_holds e r =
+          let free : is_somebody b.holder ≡ false = not_busy (is_stopped b m) (is_holder b m) (is_somebody b.holder) (Some lock.Down) (Some (lock.Busy b.holder)) (if is_dormant b m inner then Some (lock.Dormant (wakes b m)) else None) e refl r in
+          ap numbered (number_is b.holder.0 0 (is_not (b.holder.0 == 0) free))
+
+  -- the member that holds has nothing in flight when it gives the lock up
+  pub owned_freed : (inner : Bool) → (is_holder b m ≡ true → c ≡ None) → IsOwned c (after_free b m inner)
+  owned_freed inner none =
+      test_cases (is_holder b m) (IsOwned c (after_free b m inner))
+      (λ e. subst (λ (x : Option Batch). IsOwned x (after_free b m inner)) (sym (none e)) (owned_none (after_free b m inner)))
+      (λ e. subst (IsOwned c) (sym (as_before e)) own)
+    where
+      as_before : is_holder b m ≡ false → after_free b m inner ≡ b
+      as_before e = rw e refl
+
+  -- the lock is taken over from a member that is stopped
+  pub owned_seized : (of : MemberId) → IsOwned c (after_seize b m of)
+  owned_seized of =
+      test_cases (is_some (seize_refusal b of)) (IsOwned c (after_seize b m of))
+      (λ r. subst (IsOwned c) (sym (refused r)) own)
+      (λ r. subst (IsOwned c) (sym (taken r)) (λ batch is other. stop_stays (is_stopped b batch.by) (is_stopped (granted b m) batch.by) (granted_up b m inside batch.by) (stopped r batch is)))
+    where
+      refused : is_some (seize_refusal b of) ≡ true → after_seize b m of ≡ b
+      refused r = rw r refl
+
+      taken : is_some (seize_refusal b of) ≡ false → after_seize b m of ≡ granted b m
+      taken r = rw r refl
+
+      of_whom : (is_down holds : Bool) (up other : Option SeizeNo) → is_some up ≡ true → is_some other ≡ true → is_some (if not is_down then up else if holds then None else other) ≡ false → (is_down ≡ true) × (holds ≡ true)
+      of_whom true true up other one two r = (refl, refl)
+      of_whom true false up other one two r = absurd (true≢false (sym two ∙ r))
+      of_whom false holds up other one two r = absurd (true≢false (sym one ∙ r))
+
+      stopped : is_some (seize_refusal b of) ≡ false → (batch : Batch) → c ≡ Some batch → is_stopped b batch.by ≡ true
+      stopped r batch is =
+          let from : (is_stopped b of ≡ true) × (is_holder b of ≡ true) = of_whom (is_stopped b of) (is_holder b of) (Some seized.StillUp) (Some (seized.NotHolder b.holder)) refl refl r in
+          test_cases (same_member batch.by b.holder) (is_stopped b batch.by ≡ true)
+          (λ e. subst (λ (k : MemberId). is_stopped b k ≡ true) (sym (same_member_is batch.by b.holder e ∙ same_member_is b.holder of from.1)) from.0)
+          (λ e. own batch is (λ same. true≢false (sym (eq-eqb batch.by.0 b.holder.0 (ap (λ (k : MemberId). k.0) same)) ∙ e)))
+
+-- THE PLACE OF A BATCH TO COME GOES
+
+module _ (J : List Batch) (p : EndsInPlace J) where
+  without_it : without_last J ≡ p.before
+  without_it = ap without_last p.is ∙ without_last-append p.before p.place
+
+  pub unplaced_keeps : (S : Setting) (c : Option Batch) (reached : ℕ) (first second : Copy) (v : View) → Keeps S J c reached first second v → Keeps S (without_last J) c reached first second v
+  unplaced_keeps S c reached first second v keeps =
+      subst (λ (l : List Batch). Keeps S l c reached first second v) (sym without_it)
+      (unplace_keeps S p.before p.place c reached first second v p.free (subst (λ (l : List Batch). Keeps S l c reached first second v) p.is keeps))
+
+  pub unplaced_on_paper : (base : Queue) (since : ℕ) (c : Option Batch) (printed : List ℕ) (book : Book) (v : View) → KeepsPaper base since J c printed book v → KeepsPaper base since (without_last J) c printed book v
+  unplaced_on_paper base since c printed book v on =
+      subst (λ (l : List Batch). KeepsPaper base since l c printed book v) (sym without_it)
+      (unplace_on_paper base since p.before p.place c printed book v p.free (subst (λ (l : List Batch). KeepsPaper base since l c printed book v) p.is on))
+
+  pub unplaced_replied : (base : Queue) → AreReplied base (J ++ []) → AreReplied base (without_last J ++ [])
+  unplaced_replied base are = and_none base (without_last J) (ended_replied base true None J (λ some. refl) p are)
