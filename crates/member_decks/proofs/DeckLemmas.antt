@@ -78,13 +78,6 @@ module _ (by : MemberId) (at : ℕ) (fields : JobFields) (groups : ℕ) (Q : Que
     pub ends_taken : are_refused groups begun by groups ≡ false → ends_as Q by fields groups ≡ opened.Ready n
     ends_taken all = ap (ends_begun begun by groups) got ∙ ap (λ (b : Bool). if b then opened.Closed else opened.Ready n) all
 
-    -- a Take was refused, and the job is dropped
-    pub opening_dropped : are_refused groups begun by groups ≡ true → given_in Q by at (opening Q by fields groups) ≡ entry_of Q by at begin ∷ (given_in begun by at (takes groups begun by groups) ++ entry_of (run begun (given_in begun by at (takes groups begun by groups))) by at (command.Drop n) ∷ [])
-    opening_dropped refused =
-        ap (λ (r : Reply). entry_of Q by at begin ∷ given_in begun by at (behind_begin begun by groups r)) got
-        ∙ ap (λ (b : Bool). entry_of Q by at begin ∷ given_in begun by at (takes groups begun by groups ++ (if b then command.Drop n ∷ [] else []))) refused
-        ∙ ap (λ (es : List Entry). entry_of Q by at begin ∷ es) (given_append by at (takes groups begun by groups) (command.Drop n ∷ []) begun)
-
     pub ends_dropped : are_refused groups begun by groups ≡ true → ends_as Q by fields groups ≡ opened.Closed
     ends_dropped refused = ap (ends_begun begun by groups) got ∙ ap (λ (b : Bool). if b then opened.Closed else opened.Ready n) refused
 

@@ -1,5 +1,5 @@
 -- The second batch of a deck's step: its job is entered with its text, or dropped.
-use Rattle.std.proofs.Common.{◌≡◌, ℕ, ◌≤◌, Bool, false, List, [], ◌∷◌, All, Option, None, Some, Result, Ok, refl, sym, subst, arith}
+use Rattle.std.proofs.Common.{◌≡◌, ℕ, ◌≤◌, Bool, false, List, [], ◌∷◌, All, Option, None, Some, refl, sym, subst, arith}
 use Rattle.std.proofs.Math.Path.{fun_ext}
 use Rattle.std.proofs.lemmas.List.Elements.{All-nil, All-cons}
 use Rattle.mas_types.specs.declared.ids.Dev.TheVariants.{Spool}
@@ -9,7 +9,6 @@ use Rattle.mas_types.specs.declared.ids.MemberId.{MemberId}
 use Rattle.mas_types.specs.declared.jobs.Text.{Text}
 use Rattle.mas_types.specs.declared.jobs.Text.TheVariants.{Whole}
 use Rattle.mas_types.specs.declared.commands.Command.TheVariants as command
-use Rattle.mas_types.specs.declared.journals.Batch.{Batch}
 use Rattle.mas_types.specs.declared.journals.Entry.{Entry}
 use Rattle.mas_types.specs.declared.queues.Queue.{Queue}
 use Rattle.mas_types.specs.declared.queues.Thing.{Thing}
@@ -23,15 +22,12 @@ use Rattle.queue_texts.specs.Leaving.{AreTheirOwn, OthersLeaveTexts}
 use Rattle.queue_texts.specs.Entering.{EnterBringsText, groups_for}
 use Rattle.queue_texts.proofs.BroughtLemmas.{brought_holds}
 use Rattle.queue_commands.specs.Given.{IsGiver}
-use Rattle.mas_complex.specs.Journals.{kept_all}
 use Rattle.mas_complex.specs.Meaning.{run}
 use Rattle.mas_complex.specs.Texts.{HasTexts, IsThere, IsThereUnless, Spools, spools_at}
-use Rattle.member_node.specs.declared.member.NodeNo.{NodeNo}
 use Rattle.member_node.specs.Calls.{IsOnlyOn}
 use Rattle.member_node.proofs.TextLemmas.{texts_after}
 use Rattle.paper_laws.specs.Counts.{is_mark}
 use Rattle.member_decks.specs.Decks.{finishing, given_in}
-use Rattle.member_decks.specs.Keeping.{IsFinish}
 
 -- WHAT A STEP'S LAST COMMAND ASKS
 
@@ -42,10 +38,6 @@ finishing_fit (Some volume) n text are = tt
 pub finishing_giver : (lost : Option ℕ) (n : JobNo) (text : List (List ℕ)) (m : MemberId) → 1 ≤ m.0 → m.0 ≤ members_most → IsGiver m (finishing lost n text)
 finishing_giver None n text m some few = (some, few)
 finishing_giver (Some volume) n text m some few = (some, few)
-
--- where no volume was found lost none is named
-pub not_lost : (lost : Option ℕ) (volume : ℕ) (r : Result (Option ℕ) NodeNo) → lost ≡ Some volume → r ≡ Ok lost → r ≡ Ok None → ⊥
-not_lost lost volume r found is none = cc
 
 pub finishing_unmarked : (lost : Option ℕ) (n : JobNo) (text : List (List ℕ)) → is_mark (finishing lost n text) ≡ false
 finishing_unmarked None n text = refl
@@ -82,15 +74,3 @@ module _ (gone : ℕ → Bool) (disks : Spools) (per : ℕ) (Q : Queue) (m : Mem
 -- the volumes, where only the copies were acted on
 pub spools_apart : (old new : View) → old.now ≤ new.now → IsOnlyOn old new → spools_at new new.now ≡ spools_at old old.now
 spools_apart old new later only = fun_ext (λ n. only new.now later (omega arith) (Spool n) (λ same. absurd (cc)) (λ same. absurd (cc)))
-
--- THE STEP BY OTHER NAMES
-
-abbrev FinishOf : Type 0 → ℕ → JobNo → List (List ℕ) → Option ℕ → List Batch → Bool → Bool → Bool → Bool → View → View → Result (Unit {0}) NodeNo → MemberId → Queue → List Batch → Type 0
-FinishOf told at n text lost batches was1 is1 was2 is2 old new r by base front = IsFinish told by at n text lost (run base (kept_all front)) front batches was1 is1 was2 is2 old new r
-
-pub finish_named : (told : Type 0) (at : ℕ) (n : JobNo) (text : List (List ℕ)) (lost : Option ℕ) (batches : List Batch) (was1 is1 was2 is2 : Bool) (old new : View) (r : Result (Unit {0}) NodeNo) (by by' : MemberId) (base base' : Queue) (front front' : List Batch) → by' ≡ by → base' ≡ base → front' ≡ front
-    → FinishOf told at n text lost batches was1 is1 was2 is2 old new r by' base' front' → FinishOf told at n text lost batches was1 is1 was2 is2 old new r by base front
-finish_named told at n text lost batches was1 is1 was2 is2 old new r by by' base base' front front' one two three f =
-    subst (λ (m : MemberId). FinishOf told at n text lost batches was1 is1 was2 is2 old new r m base front) one
-    (subst (λ (Q : Queue). FinishOf told at n text lost batches was1 is1 was2 is2 old new r by' Q front) two
-    (subst (λ (bs : List Batch). FinishOf told at n text lost batches was1 is1 was2 is2 old new r by' base' bs) three f))

@@ -3,8 +3,7 @@ use Rattle.std.proofs.Common.{◌≡◌, ℕ, zero, suc, ◌+◌, ◌*◌, ◌�
 use Rattle.std.specs.List.{count_by}
 use Rattle.std.proofs.lemmas.Bool.Decides.{nat_tests}
 use Rattle.std.proofs.lemmas.List.{length-take-le}
-use Rattle.std.proofs.lemmas.Nat.{mul-le}
-use Rattle.std.proofs.lemmas.List.Sums.{count_by-le-length, sum_by-cons}
+use Rattle.std.proofs.lemmas.List.Sums.{sum_by-cons}
 use Rattle.std.proofs.lemmas.Option.{slice_get_within, slice_get-get_or}
 use Rattle.mas_types.specs.declared.ids.MemberId.{MemberId}
 use Rattle.mas_types.specs.declared.ids.GroupNo.{GroupNo}
@@ -13,9 +12,6 @@ use Rattle.mas_types.specs.declared.queues.Owner.{Owner}
 use Rattle.mas_types.specs.declared.queues.Owner.TheVariants as owner
 use Rattle.mas_types.specs.declared.queues.Queue.{Queue}
 use Rattle.mas_types.specs.Owners.{is_members, member_count}
-use Rattle.mas_types.specs.Limits.{groups_most, volumes_most}
-use Rattle.ckpt_pages.specs.declared.tables.Tables.{Tables}
-use Rattle.ckpt_pages.specs.Shape.{HasShape}
 use Rattle.queue_laws.proofs.Finds.{test_cases}
 use Rattle.track_groups.specs.Groups.{groups_where, held_by}
 use Rattle.mas_complex.specs.Spool.{IsGroupOf, IsHeldBy}
@@ -116,14 +112,5 @@ module _ (m : MemberId) (gs : List Owner) (n : ℕ) where
   all_within config each k d lt = let g = slice_index_or lowest k d in
       omega (arith, slice_get_within gs g.0 (owner.Member m) (lowest_held k g (slice_get-get_or lowest k d lt)), each)
 
-  pub few_held : length gs ≤ 65536 → n ≤ member_count m gs → n ≤ 65536
-  few_held few enough = omega (arith, few, enough, count_by-le-length (is_members m) gs)
-
   pub as_many_held : n ≤ member_count m gs → length lowest ≡ n
   as_many_held enough = length-take-le n (held_by m gs) (omega (arith, enough, length-where (is_members m) 0 gs))
-
--- a configuration has few groups
-pub few_owners : (t : Tables) → HasShape t → length t.owners ≤ 65536
-few_owners t shape = few t.config.volumes t.config.groups (length t.owners) shape.config.volumes.1 shape.config.groups.1 shape.owners where
-  few : (volumes groups n : ℕ) → volumes ≤ volumes_most → groups ≤ groups_most → n ≡ volumes * groups → n ≤ 65536
-  few volumes groups n le1 le2 is = let most : volumes * groups ≤ 32768 = mul-le volumes groups volumes_most groups_most le1 le2 in omega (arith, most, is)

@@ -9,6 +9,4 @@ pub mod PlayLemmas
 pub mod MayLemmas
 pub mod FinishLemmas
 pub mod KeepLemmas
-pub mod HoldLemmas
 pub mod HoldingLemmas
-pub mod LockedLemmas

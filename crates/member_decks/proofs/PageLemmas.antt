@@ -15,8 +15,8 @@ use Rattle.mas_types.specs.Owners.{groups_needed}
 use Rattle.spool_disk.specs.declared.plant.Act.{Act}
 use Rattle.spool_disk.specs.declared.plant.Act.TheVariants.{Done, Failed, Halted}
 use Rattle.spool_disk.specs.declared.plant.Part.TheVariants.{Disk as DiskPart}
-use Rattle.spool_disk.specs.View.{View, Stretch, Avoids, disk_now, slice}
-use Rattle.spool_disk.specs.Acts.{Acts, Goes, Written, Syncs, OnDevice}
+use Rattle.spool_disk.specs.View.{View, disk_now, slice}
+use Rattle.spool_disk.specs.Acts.{Acts, Goes, Written, OnDevice}
 use Rattle.ckpt_copy.specs.Moments.{either_way, goes_on, goes_none}
 use Rattle.spool_text.specs.Laws.{HasNeededGroups}
 use Rattle.spool_text.specs.Texts.{packed}
@@ -26,7 +26,7 @@ use Rattle.mas_complex.specs.Spool.{IsGroupOf, device_of, is_within, page_start,
 use Rattle.mas_complex.specs.Texts.{Spools, spools_at, bytes_on, IsSynced, IsThere}
 use Rattle.queue_laws.proofs.Finds.{test_cases}
 use Rattle.mas_complex.proofs.Quotients.{few_quotient}
-use Rattle.mas_complex.proofs.Spooled.{each_quiet, spared_other, sync_quiet}
+use Rattle.mas_complex.proofs.Spooled.{spared_other}
 use Rattle.member_node.specs.Spares.{Spares}
 use Rattle.member_node.proofs.CourseLemmas.{papers_act, papers_none, papers_on}
 use Rattle.member_node.proofs.SpareLemmas.{spares_done, spares_failed, spares_halted, spares_then}
@@ -217,17 +217,6 @@ quiet_none disks n = record { bytes = refl; synced = λ s avoids. avoids }
 
 pub quiet_on : (old mid new : Spools) → AreQuiet old mid → AreQuiet mid new → AreQuiet old new
 quiet_on old mid new one two n = record { bytes = (two n).bytes ∙ (one n).bytes; synced = λ s avoids. (two n).synced s ((one n).synced s avoids) }
-
-pub quiet_sync : (v : ℕ) (old new : View) (r : Act) → Syncs (Spool v) old new r → AreQuiet (spools_at old old.now) (spools_at new new.now)
-quiet_sync v old new r syncs n =
-    let quiet = each_quiet v old new (sync_quiet (disk_now old (Spool v)) (disk_now new (Spool v)) r syncs.disk) syncs.only n in
-    record { bytes = quiet.bytes; synced = quiet.unsynced }
-
--- once a volume is synced, each group on it is
-pub synced_there : (per v : ℕ) (old new : View) (g : GroupNo) → Syncs (Spool v) old new Done → volume_of per g ≡ v → IsSynced (spools_at new new.now) per g
-synced_there per v old new g syncs on =
-    subst (λ (n : ℕ). Avoids (spools_at new new.now n).unsynced (record { from = start_of per g; len = page_bytes })) (sym on)
-    (subst (λ (u : List Stretch). Avoids u (record { from = start_of per g; len = page_bytes })) (sym syncs.disk.1) tt)
 
 -- none of the groups lies on the volume
 pub not_there : (per v : ℕ) (groups : List GroupNo) (k : ℕ) (g : GroupNo) → lies_there per v groups ≡ false → slice_get groups k ≡ Some g → volume_of per g ≡ v → ⊥

@@ -1,27 +1,19 @@
 -- A deck's step, from part to part.
-use Rattle.std.proofs.Common.{◌≡◌, ℕ, ◌+◌, ◌≤◌, nat_le, Bool, false, List, [], ◌∷◌, ◌++◌, length, All, Option, None, Result, refl, sym, ◌∙◌, subst, arith}
-use Rattle.std.proofs.lemmas.List.Elements.{All-nil, All-cons, All-head, All-tail, All-weaker}
+use Rattle.std.proofs.Common.{◌≡◌, ℕ, ◌+◌, ◌≤◌, nat_le, List, [], ◌∷◌, ◌++◌, length, All, refl, sym, subst, arith}
+use Rattle.std.proofs.lemmas.List.Elements.{All-nil, All-cons, All-head, All-tail}
 use Rattle.mas_types.specs.declared.ids.JobNo.{JobNo}
 use Rattle.mas_types.specs.declared.ids.MemberId.{MemberId}
 use Rattle.mas_types.specs.declared.commands.Command.{Command}
 use Rattle.mas_types.specs.declared.jobs.JobFields.{JobFields}
-use Rattle.mas_types.specs.declared.journals.Batch.{Batch}
 use Rattle.mas_types.specs.declared.journals.Entry.{Entry}
 use Rattle.mas_types.specs.declared.queues.Queue.{Queue}
 use Rattle.mas_types.specs.Fit.{AreLines}
 use Rattle.mas_types.specs.Limits.{page_bytes}
 use Rattle.mas_types.specs.Owners.{groups_after, groups_needed}
 use Rattle.queue_laws.proofs.Finds.{test_cases}
-use Rattle.spool_disk.specs.View.{View}
-use Rattle.mas_complex.specs.Journals.{begun, end_of, kept_all}
-use Rattle.mas_complex.specs.Meaning.{run}
-use Rattle.member_node.specs.declared.member.NodeNo.{NodeNo}
-use Rattle.member_node.specs.Writes.{HasKept}
-use Rattle.member_node.proofs.WriteLemmas.{none_out, queue_kept}
 use Rattle.member_decks.specs.declared.opening.Opened.{Opened}
 use Rattle.member_decks.specs.declared.opening.Opened.TheVariants as opened
 use Rattle.member_decks.specs.Decks.{given_in, opening}
-use Rattle.member_decks.specs.Keeping.{IsRest}
 use Rattle.member_decks.specs.Steps.{AreOf}
 use Rattle.member_decks.specs.Taking.{LeaveOut}
 use Rattle.member_decks.proofs.DeckLemmas.{given_of}
@@ -58,24 +50,3 @@ all_front P (e ∷ es) rest all = All-cons P e es (All-head P e (es ++ rest) all
 pub of_front : (Q : Queue) (by : MemberId) (at : ℕ) (cs : List Command) (es : List Entry) → LeaveOut es (given_in Q by at cs) → AreOf by at es
 of_front Q by at cs es part =
     all_front (λ (e : Entry). (e.by ≡ by) × (e.step ≡ at)) es part.0 (subst (All (λ (e : Entry). (e.by ≡ by) × (e.step ≡ at))) part.1 (given_of by at cs Q))
-
--- the entries of a member's step are the member's
-pub own_by : (by i : MemberId) (at : ℕ) (es : List Entry) → i ≡ by → AreOf by at es → All (λ (e : Entry). e.by ≡ i) es
-own_by by i at es same of = All-weaker (λ (e : Entry). (e.by ≡ by) × (e.step ≡ at)) (λ (e : Entry). e.by ≡ i) (λ e it. it.0 ∙ sym same) es of
-
--- the queue once a batch of these entries is kept
-pub queue_next : (base base1 Q : Queue) (front batches : List Batch) (placed : Bool) (current : Option Batch) (now0 now1 : ℕ) (by : MemberId) (es : List Entry) → HasKept front (end_of placed current batches) (begun now0 by es) now1
-    → placed ≡ false → current ≡ None → base1 ≡ base → Q ≡ run base (kept_all front) → run Q es ≡ run base1 (kept_all batches)
-queue_next base base1 Q front batches placed current now0 now1 by es k unplaced none same is =
-    queue_kept base base1 Q (run Q es) front batches k.0 (begun now0 by es) es same is (sym (none_out batches batches placed current refl unplaced none) ∙ k.3) refl refl
-
--- WHAT FOLLOWS THE FIRST BATCH, BY OTHER NAMES
-
-abbrev RestOf : Type 0 → ℕ → JobNo → List (List ℕ) → Queue → List Batch → List Batch → Bool → Bool → Bool → Bool → View → View → Result (Unit {0}) NodeNo → MemberId → Queue → Type 0
-RestOf told at n text Q front batches was1 is1 was2 is2 old new r by base = IsRest told by at base.config.groups n text Q front batches was1 is1 was2 is2 old new r
-
-pub rest_named : (told : Type 0) (at : ℕ) (n : JobNo) (text : List (List ℕ)) (Q : Queue) (front batches : List Batch) (was1 is1 was2 is2 : Bool) (old new : View) (r : Result (Unit {0}) NodeNo) (by by' : MemberId) (base base' : Queue) → by' ≡ by → base' ≡ base
-    → RestOf told at n text Q front batches was1 is1 was2 is2 old new r by' base' → RestOf told at n text Q front batches was1 is1 was2 is2 old new r by base
-rest_named told at n text Q front batches was1 is1 was2 is2 old new r by by' base base' one two f =
-    subst (λ (m : MemberId). RestOf told at n text Q front batches was1 is1 was2 is2 old new r m base) one
-    (subst (λ (q : Queue). RestOf told at n text Q front batches was1 is1 was2 is2 old new r by' q) two f)

@@ -12,9 +12,6 @@ use Rattle.member_steps.specs.Steps.{entry_of}
 use Rattle.member_decks.specs.Decks.{are_refused, given_in, left_after, takes}
 
 module _ (Q : Queue) (by : MemberId) where
-  after_take : ℕ → Queue
-  after_take want = (step Q by (command.Take want)).0
-
   -- a Take that isn't refused takes at least one group, and no more than are wanted
   pub take_counts : (want n : ℕ) → 1 ≤ want → (step Q by (command.Take want)).1 ≡ reply.Count n → (1 ≤ n) × (n ≤ want)
   take_counts want n some is =

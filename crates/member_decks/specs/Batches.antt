@@ -1,12 +1,10 @@
 -- The batches of a step, one after another, in the journal.
-use Rattle.std.specs.Prelude.{◌≡◌, ◌⊎◌, ℕ, ◌≤◌, List, [], ◌∷◌, ◌++◌, length, Result, Ok, Err}
+use Rattle.std.specs.Prelude.{◌≡◌, ◌⊎◌, ℕ, ◌≤◌, List, [], ◌∷◌, ◌++◌, length}
 use Rattle.mas_types.specs.declared.ids.MemberId.{MemberId}
 use Rattle.mas_types.specs.declared.journals.Batch.{Batch}
 use Rattle.mas_types.specs.declared.journals.Entry.{Entry}
 use Rattle.mas_types.specs.declared.journals.Fate.TheVariants.{Kept, Flying}
 use Rattle.spool_disk.specs.Acts.{top}
-use Rattle.member_node.specs.declared.member.NodeNo.{NodeNo}
-use Rattle.member_node.specs.declared.member.NodeNo.TheVariants.{BothLost, Halted, ConsoleFault, NoMemory}
 
 -- the member's batch with these entries, begun from a moment on, and kept by now
 pub record IsKeptBatch (by : MemberId) (es : List Entry) (from now : ℕ) (b : Batch) : Type 0 where
@@ -43,12 +41,6 @@ IsFront es all = (1 ≤ length es) × ((rest : List Entry) × (all ≡ es ++ res
 abbrev pub IsCut : List Entry → List Entry → Type 0
 IsCut es all = (1 ≤ length es) × ((rest : List Entry) × (all ≡ es ++ rest) × (1 ≤ length rest))
 
--- the first ones of the batches, but not all
-abbrev pub AreSome : MemberId → ℕ → ℕ → List (List Entry) → List Batch → Type 0
-AreSome by from now [] bs = ⊥
-AreSome by from now (es ∷ ess) [] = Unit {0}
-AreSome by from now (es ∷ ess) (b ∷ bs) = IsKeptBatch by es from now b × AreSome by b.last now ess bs
-
 -- the first batches of a step, but not all, and after them perhaps one with the first entries of the next batch
 abbrev pub AreCut : MemberId → ℕ → ℕ → List (List Entry) → List Batch → Type 0
 AreCut by from now [] bs = ⊥
@@ -64,15 +56,3 @@ OneFlies by from now (es ∷ ess) [] = ⊥
 OneFlies by from now (es ∷ ess) (b ∷ bs) = ((bs ≡ [])
     × ((cut : List Entry) × IsFront cut es × IsFlyingBatch by cut from now b))
     ⊎ (IsKeptBatch by es from now b × OneFlies by b.last now ess bs)
-
--- All batches are kept where the lines are said, or where the console failed at one. Out of memory, not all were begun,
--- and what was done of the next one may be kept without the rest. Where both copies were lost one is in flight, perhaps
--- with the first entries alone since memory was out before, or none was begun since; where the member was stopped it is
--- one of these, or all are kept.
-abbrev pub BatchesLeave : {T : Type 0} → Result T NodeNo → MemberId → ℕ → ℕ → List (List Entry) → List Batch → Type 0
-BatchesLeave (Ok done) by from now ess bs = AreAll by from now ess bs
-BatchesLeave (Err NoMemory) by from now ess bs = AreCut by from now ess bs
-BatchesLeave (Err BothLost) by from now ess bs = AreSome by from now ess bs ⊎ OneFlies by from now ess bs
-BatchesLeave (Err ConsoleFault) by from now ess bs = AreAll by from now ess bs
-BatchesLeave (Err Halted) by from now ess bs = AreSome by from now ess bs ⊎ OneFlies by from now ess bs
-    ⊎ AreAll by from now ess bs

@@ -1,26 +1,15 @@
 -- Parts of a deck's step, by their answers.
-use Rattle.std.specs.Prelude.{◌≡◌, ◌⊎◌, ℕ, ◌≤◌, Bool, List, [], ◌∷◌, ◌++◌, length, Option, Result, Ok, Err}
+use Rattle.std.specs.Prelude.{◌≡◌, ◌⊎◌, ℕ, ◌≤◌, Bool, List, length, Result, Ok, Err}
 use Rattle.mas_types.specs.declared.ids.Dev.{Dev}
-use Rattle.mas_types.specs.declared.ids.JobNo.{JobNo}
-use Rattle.mas_types.specs.declared.ids.MemberId.{MemberId}
-use Rattle.mas_types.specs.declared.commands.Reply.{Reply}
 use Rattle.mas_types.specs.declared.journals.Batch.{Batch}
-use Rattle.mas_types.specs.declared.queues.Queue.{Queue}
 use Rattle.spool_disk.specs.View.{View}
 use Rattle.spool_disk.specs.Acts.{Rose}
 use Rattle.duplex_pair.specs.Halves.{IsBothLost}
-use Rattle.mas_complex.specs.Journals.{begun}
-use Rattle.mas_complex.specs.Paper.{SamePapers}
 use Rattle.member_node.specs.declared.member.NodeNo.{NodeNo}
 use Rattle.member_node.specs.declared.member.NodeNo.TheVariants.{BothLost, Halted, ConsoleFault, NoMemory}
-use Rattle.member_node.specs.Calls.{Apart, Course, IsLeft, console_now}
+use Rattle.member_node.specs.Calls.{Apart, Course, IsLeft}
 use Rattle.member_node.specs.Spares.{Spares, stopped_in}
 use Rattle.member_node.specs.Writes.{HasKept, HasFlying}
-use Rattle.member_steps.specs.Steps.{IsStep, StepTells, entry_with, reply_to, StepCauses}
-use Rattle.member_decks.specs.declared.opening.Opened.TheVariants.{Ready}
-use Rattle.member_decks.specs.Batches.{BatchesLeave, HasAll}
-use Rattle.member_decks.specs.Decks.{closing_reply, finishing, lines_by}
-use Rattle.member_decks.specs.Steps.{IsFoundLost, LiesOn}
 
 -- the cause of an answer to acts on the copies, and which of them count as alive after it
 abbrev pub CopyCauses : {T : Type 0} → Result T NodeNo → ℕ → Bool → Bool → Bool → Bool → View → View → Type 0
@@ -56,35 +45,3 @@ GivesUpLeaves NoMemory front batches b now = (batches ≡ front) ⊎ ((1 ≤ len
 GivesUpLeaves BothLost front batches b now = (1 ≤ length b.entries) × HasFlying front batches b
 GivesUpLeaves Halted front batches b now = (1 ≤ length b.entries) × HasFlying front batches b
 GivesUpLeaves ConsoleFault front batches b now = ⊥
-
--- The last command of a deck's step, with a reply that is the command's where content is told.
-pub record IsFinish {T : Type 0} (told : Type 0) (by : MemberId) (at : ℕ) (n : JobNo) (text : List (List ℕ))
-    (lost : Option ℕ) (Q : Queue) (front batches : List Batch) (was1 is1 was2 is2 : Bool) (old new : View)
-    (result : Result T NodeNo) : Type 0 where
-  pub reply : Reply
-  pub is : told → reply ≡ reply_to Q by (finishing lost n text)
-  pub step : IsStep told by.0 (lines_by by at lost
-      (closing_reply (entry_with by at (finishing lost n text) reply ∷ [])))
-      (begun old.now by (entry_with by at (finishing lost n text) reply ∷ [])) front batches was1 is1 was2 is2 old new
-      result
-
--- What follows the first batch of a deck's step whose job has its groups: at most one batch, with the last command.
-pub record IsRest {T : Type 0} (told : Type 0) (by : MemberId) (at per : ℕ) (n : JobNo) (text : List (List ℕ))
-    (Q : Queue) (front batches : List Batch) (was1 is1 was2 is2 : Bool) (old new : View)
-    (result : Result T NodeNo) : Type 0 where
-  pub lost : Option ℕ
-  pub found : IsFoundLost lost old new
-  pub reply : Reply
-  pub is : told → LiesOn (Ready n) per Q by text lost × (reply ≡ reply_to Q by (finishing lost n text))
-  pub course : Course was1 is1 was2 is2 old new
-  pub loses : told → (d : Dev) → new.loses d ≡ old.loses d
-  pub papers : told → SamePapers old new
-  pub cause : StepCauses result by.0 was1 is1 was2 is2 old new
-  pub spares : Spares by.0 (stopped_in result) old new
-  pub rest : List Batch
-  pub batches_are : batches ≡ front ++ rest
-  pub journal : BatchesLeave result by old.now new.now ((entry_with by at (finishing lost n text) reply ∷ []) ∷ []) rest
-  pub console : told → StepTells result
-      (lines_by by at lost (closing_reply (entry_with by at (finishing lost n text) reply ∷ [])))
-      (HasAll by old.now new.now ((entry_with by at (finishing lost n text) reply ∷ []) ∷ []) front batches)
-      (console_now old) (console_now new)

@@ -6,7 +6,7 @@ ghost use Rattle.mas_complex.specs.Journals.{kept_all};
 ghost use Rattle.mas_complex.specs.Locking.{MayAct};
 ghost use Rattle.mas_complex.specs.Meaning.{run};
 ghost use Rattle.member_node.specs.Copies.{RestsAt};
-ghost use Rattle.member_node.specs.Reads.{AreLow, IsCalm, ReadsLow, orders_after, too_high};
+ghost use Rattle.member_node.specs.Reads.{AreLow, IsCalm, ReadsLow, too_high};
 ghost use Rattle.member_steps.specs.Steps.{IsAtLock, IsBetween, IsToldSound};
 ghost use Rattle.member_decks.specs.Keeping.{IsOnCopies};
 

@@ -1,5 +1,5 @@
 //! Batches of a step that are kept, and the lines with which it closes.
-ghost use Rattle.std.specs.Prelude.{◌≡◌, ◌+◌, ◌≤◌, ◌<◌, ◌^◌, ◌++◌, All, None, Some, Option, length, reverse, true, false, Err, IfOk, OnOk};
+ghost use Rattle.std.specs.Prelude.{◌≡◌, ◌+◌, ◌≤◌, ◌<◌, ◌^◌, ◌++◌, [], All, None, Some, Option, length, reverse, true, false, Err, IfOk, OnOk};
 ghost use Rattle.std.specs.List.{find};
 ghost use Rattle.std.specs.Option.{option_copied};
 ghost use Rattle.mas_types.specs.declared.commands.Reply.TheVariants.{Plain};
@@ -16,7 +16,8 @@ ghost use Rattle.queue_tables.specs.Telling.{TellSound};
 ghost use Rattle.queue_effect.specs.Standing.{AreFit};
 ghost use Rattle.member_node.specs.Batches.{CanDraw, HasDone};
 ghost use Rattle.member_node.specs.Copies.{RestsAt};
-ghost use Rattle.member_steps.specs.Steps.{AreAllKept, IsBetween, IsStep};
+ghost use Rattle.member_steps.specs.Counting.{HasCounted};
+ghost use Rattle.member_steps.specs.Steps.{AreAllKept, IsBetween};
 ghost use Rattle.member_decks.specs.Decks.{closes as closes_lem, closing_reply, finishing as finishing_lem, lines_by};
 ghost use Rattle.member_decks.specs.Keeping.{GivesUpLeaves, IsOnCopies, KeepLeaves};
 ghost use Rattle.mas_complex.specs.Paper.{MayBegin, printed_after};
@@ -25,7 +26,6 @@ use cmd_report::{closing, reply_lines};
 use mas_complex::{Complex, Steady};
 use mas_types::{Closing, Command, Entry, JobNo, Lines, MemberId, NoMemory, Reply};
 use member_node::{Member, NodeNo};
-use member_steps::play_batch;
 use spool_disk::Plant;
 use std::alloc::Global;
 
@@ -114,7 +114,6 @@ pub fn keep_batch<P: Plant + Drop, C: Steady + Drop>(
     requires rests2 { RestsAt P.tells complex.old.pair.second.alive complex.old.second
         (C.count complex.old.pair.second.copy) member.old.checkpoint.pages
         (C.reads (disk_now (P.view complex.old.plant) Ckpt2).bytes) }
-    requires kept { AreAllKept complex.old.journal.batches (P.view complex.old.plant).now }
     requires untold { P.tells → IsUntold (setting C.reads complex.old.base complex.old.since) (P.view complex.old.plant)
         member.old.batch }
     requires allowed { P.tells → MayBegin complex.old.base complex.old.journal.batches complex.old.printed
@@ -150,9 +149,11 @@ pub fn keep_batch<P: Plant + Drop, C: Steady + Drop>(
     ensures rests2 { OnOk result (RestsAt P.tells complex.new.pair.second.alive complex.new.second
         (C.count complex.new.pair.second.copy) member.new.checkpoint.pages
         (C.reads (disk_now (P.view complex.new.plant) Ckpt2).bytes)) }
-    ensures kept { OnOk result (AreAllKept complex.new.journal.batches (P.view complex.new.plant).now) }
+    ensures kept { OnOk result (AreAllKept complex.old.journal.batches (P.view complex.old.plant).now
+        → AreAllKept complex.new.journal.batches (P.view complex.new.plant).now) }
     ensures level { OnOk result (member.new.checkpoint.level ≤ member.old.checkpoint.level + 1) }
     ensures reached { OnOk result (complex.new.level ≤ complex.old.level + 1) }
+    ensures counts { HasCounted member.old.id member.old.batch complex.old.printed complex.new.printed result }
 {
     let Ok(draft) = member.ready(alloc, complex) else {
         return Err(NodeNo::NoMemory);
@@ -185,7 +186,6 @@ pub fn give_up<P: Plant + Drop, C: Steady + Drop>(
     requires rests2 { RestsAt P.tells complex.old.pair.second.alive complex.old.second
         (C.count complex.old.pair.second.copy) member.old.checkpoint.pages
         (C.reads (disk_now (P.view complex.old.plant) Ckpt2).bytes) }
-    requires kept { AreAllKept complex.old.journal.batches (P.view complex.old.plant).now }
     requires untold { P.tells → IsUntold (setting C.reads complex.old.base complex.old.since) (P.view complex.old.plant)
         member.old.batch }
     requires allowed { P.tells → MayBegin complex.old.base complex.old.journal.batches complex.old.printed
@@ -207,6 +207,7 @@ pub fn give_up<P: Plant + Drop, C: Steady + Drop>(
     ensures leaves { GivesUpLeaves result complex.old.journal.batches
         (end_of complex.new.placed complex.new.current complex.new.journal.batches)
         (begun (P.view complex.old.plant).now member.old.id member.old.batch) (P.view complex.new.plant).now }
+    ensures counts { HasCounted {T = Unit {0}} member.old.id [] complex.old.printed complex.new.printed (Err result) }
 {
     if member.batch.len() == 0 {
         return NodeNo::NoMemory;
@@ -215,75 +216,4 @@ pub fn give_up<P: Plant + Drop, C: Steady + Drop>(
         Ok(()) => NodeNo::NoMemory,
         Err(no) => no,
     }
-}
-
-/// Keeps the member's batch, the last of a deck's step, and says the lines with which it closes.
-pub(crate) fn close_deck<P: Plant + Drop, C: Steady + Drop>(
-    member: &mut Member,
-    alloc: Global,
-    complex: &mut Complex<P, C>,
-    step: u32,
-    lost: Option<u8>,
-) -> Result<(), NodeNo>
-    requires may { MayAct complex.old.book member.old.id }
-    requires by { member.old.id.0 ≤ members_most }
-    requires named { All (λ e. IsReplyNamed e.reply) member.old.batch }
-    requires some { 1 ≤ length member.old.batch }
-    requires own { All (λ e. e.by ≡ member.old.id) member.old.batch }
-    requires none { complex.old.current ≡ None }
-    requires unplaced { complex.old.placed ≡ false }
-    requires here { member.old.behind ≡ false }
-    requires draws { CanDraw member.old.checkpoint }
-    requires fit { AreFit member.old.checkpoint.tables }
-    requires same_level { P.tells → complex.old.level ≡ member.old.checkpoint.level }
-    requires done { P.tells → HasDone (run complex.old.base (kept_all complex.old.journal.batches)) member.old.batch
-        member.old.checkpoint }
-    requires small { complex.old.level + 1 < 2 ^ 63 }
-    requires rests1 { RestsAt P.tells complex.old.pair.first.alive complex.old.first
-        (C.count complex.old.pair.first.copy) member.old.checkpoint.pages
-        (C.reads (disk_now (P.view complex.old.plant) Ckpt1).bytes) }
-    requires rests2 { RestsAt P.tells complex.old.pair.second.alive complex.old.second
-        (C.count complex.old.pair.second.copy) member.old.checkpoint.pages
-        (C.reads (disk_now (P.view complex.old.plant) Ckpt2).bytes) }
-    requires kept { AreAllKept complex.old.journal.batches (P.view complex.old.plant).now }
-    requires untold { P.tells → IsUntold (setting C.reads complex.old.base complex.old.since) (P.view complex.old.plant)
-        member.old.batch }
-    requires allowed { P.tells → MayBegin complex.old.base complex.old.journal.batches complex.old.printed
-        member.old.batch }
-    requires texts { P.tells → ∥ HasTexts (lost_now (P.view complex.old.plant))
-        (spools_at (P.view complex.old.plant) (P.view complex.old.plant).now) complex.old.base.config.groups
-        (run complex.old.base (kept_all complex.old.journal.batches ++ member.old.batch)) ∥₁ }
-    requires sound { P.tells → TellSound member.old.checkpoint.tables }
-    requires level { member.old.checkpoint.level + 1 < 2 ^ 63 }
-    requires room1 { complex.old.pair.first.alive ≡ true → 1 ≤ C.room complex.old.pair.first.copy }
-    requires room2 { complex.old.pair.second.alive ≡ true → 1 ≤ C.room complex.old.pair.second.copy }
-    ensures base { complex.new.base ≡ complex.old.base }
-    ensures since { complex.new.since ≡ complex.old.since }
-    ensures book { complex.new.book ≡ complex.old.book }
-    ensures id { member.new.id ≡ member.old.id }
-    ensures room { member.new.room ≡ member.old.room }
-    ensures here { member.new.behind ≡ false }
-    ensures tables { member.new.checkpoint.tables ≡ member.old.checkpoint.tables }
-    ensures step { IsStep P.tells member.old.id.0 (lines_by member.old.id step lost (closing_reply member.old.batch))
-        (begun (P.view complex.old.plant).now member.old.id member.old.batch) complex.old.journal.batches
-        (end_of complex.new.placed complex.new.current complex.new.journal.batches) complex.old.pair.first.alive
-        complex.new.pair.first.alive complex.old.pair.second.alive complex.new.pair.second.alive
-        (P.view complex.old.plant) (P.view complex.new.plant) result }
-    ensures unreserved { OnOk result (complex.new.reserved ≡ None) }
-    ensures between { OnOk result (IsBetween P.tells complex.new.base complex.new.journal.batches complex.new.current
-        complex.new.placed complex.new.level member.new.batch member.new.checkpoint) }
-    ensures rests1 { OnOk result (RestsAt P.tells complex.new.pair.first.alive complex.new.first
-        (C.count complex.new.pair.first.copy) member.new.checkpoint.pages
-        (C.reads (disk_now (P.view complex.new.plant) Ckpt1).bytes)) }
-    ensures rests2 { OnOk result (RestsAt P.tells complex.new.pair.second.alive complex.new.second
-        (C.count complex.new.pair.second.copy) member.new.checkpoint.pages
-        (C.reads (disk_now (P.view complex.new.plant) Ckpt2).bytes)) }
-    ensures kept { OnOk result (AreAllKept complex.new.journal.batches (P.view complex.new.plant).now) }
-    ensures level { OnOk result (member.new.checkpoint.level ≤ member.old.checkpoint.level + 1) }
-    ensures reached { OnOk result (complex.new.level ≤ complex.old.level + 1) }
-{
-    let Ok(lines) = last_lines(member, alloc, step, lost) else {
-        return Err(NodeNo::NoMemory);
-    };
-    play_batch(member, alloc, complex, &lines)
 }

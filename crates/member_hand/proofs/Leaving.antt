@@ -27,7 +27,7 @@ use Rattle.member_sittings.specs.Asides.{WaitsRightly}
 use Rattle.member_sittings.specs.Sat.{IsSatOn, Start, begins as rests, resumes}
 use Rattle.member_sittings.specs.Whole.{IsLeftIn, queue_of}
 use Rattle.member_units.specs.Ready.{HasFewer, IsReady, MayResume}
-use Rattle.member_hand.specs.Sits.{GoesOn, IsFoundRight, LeavesStep, WaitsWell, begins}
+use Rattle.member_hand.specs.Sits.{ComesTo, GoesOn, IsDeckTask, IsFoundRight, IsWork, LeavesStep, WaitsWell, begins}
 
 -- facts of an answer that is no error, together
 pub both : {A : Type 0} (r : Result A NodeNo) (P Q R : A → Type 0) → ((e : A) → P e → Q e → R e) → IfOk r P → IfOk r Q → IfOk r R
@@ -56,28 +56,28 @@ module _ {P C : Type 0} (plants : PlantGhosts P) (copies : CopyGhosts C) (x y : 
       record {
         sits = on.sits;
         waits = subst (λ (u : State). WaitsWell plants.tells (queue_of y) n u) (sym told) tt;
-        goes = subst (λ (u : State). GoesOn s.state u x.level y.level) (sym told) (record { falls = omega (arith, some); few = omega arith; level = omega (arith, reached) });
+        goes = subst (λ (u : State). GoesOn s.state u x.level y.level) (sym told) (record { falls = omega (arith, some); few = omega arith; level = omega (arith, reached); comes = tt });
       }
 
   abbrev Now : State → Type 0
   Now next = WaitsAndGoes plants.tells (queue_of y) n s.state next x.level y.level
 
   -- or it waits for its deck's text to be spooled
-  deck_goes : (next : State) → sittings_most s.state ≡ 2 → units_done s.state + units_left s.state ≡ 1 → units_left s.state ≡ 1 → y.level ≤ x.level + 1 → WaitsRightly n next → Now next
-  deck_goes (Away (SpoolDeck job text)) two few one reached w =
-      record { waits = w; goes = record { falls = omega (arith, two); few = omega (arith, few); level = omega (arith, reached, one) } }
-  deck_goes Told two few one reached w =
-      record { waits = tt; goes = record { falls = omega (arith, two); few = omega (arith, few); level = omega (arith, reached, one) } }
-  deck_goes (Away (ReadText runs job fields p)) two few one reached w = absurd w
-  deck_goes (Away (SpoolOutputs job specs p)) two few one reached w = absurd w
-  deck_goes (Away (PrintLines job output last p)) two few one reached w = absurd w
-  deck_goes (Fresh task) two few one reached w = absurd w
-  deck_goes (Rested p) two few one reached w = absurd w
+  deck_goes : (next : State) → IsDeckTask s.state → sittings_most s.state ≡ 2 → units_done s.state + units_left s.state ≡ 1 → units_left s.state ≡ 1 → y.level ≤ x.level + 1 → WaitsRightly n next → Now next
+  deck_goes (Away (SpoolDeck job text)) deck two few one reached w =
+      record { waits = w; goes = record { falls = omega (arith, two); few = omega (arith, few); level = omega (arith, reached, one); comes = deck } }
+  deck_goes Told deck two few one reached w =
+      record { waits = tt; goes = record { falls = omega (arith, two); few = omega (arith, few); level = omega (arith, reached, one); comes = tt } }
+  deck_goes (Away (ReadText runs job fields p)) deck two few one reached w = absurd w
+  deck_goes (Away (SpoolOutputs job specs p)) deck two few one reached w = absurd w
+  deck_goes (Away (PrintLines job output last p)) deck two few one reached w = absurd w
+  deck_goes (Fresh task) deck two few one reached w = absurd w
+  deck_goes (Rested p) deck two few one reached w = absurd w
 
-  pub deck_leaves : (e : SittingEnd) → sittings_most s.state ≡ 2 → units_done s.state + units_left s.state ≡ 1 → units_left s.state ≡ 1
+  pub deck_leaves : (e : SittingEnd) → IsDeckTask s.state → sittings_most s.state ≡ 2 → units_done s.state + units_left s.state ≡ 1 → units_left s.state ≡ 1
       → IsSatOn plants copies x y m n s.holder.step e → WaitsRightly n e.next → LeavesStep plants copies x y n s e
-  deck_leaves e two few one on w =
-      let g = deck_goes e.next two few one on.grown.reached w in record { sits = on.sits; waits = g.waits; goes = g.goes }
+  deck_leaves e deck two few one on w =
+      let g = deck_goes e.next deck two few one on.grown.reached w in record { sits = on.sits; waits = g.waits; goes = g.goes }
 
   -- WORK
 
@@ -90,17 +90,33 @@ module _ {P C : Type 0} (plants : PlantGhosts P) (copies : CopyGhosts C) (x y : 
   ready_waits (Rested p) r = r
   ready_waits Told r = r
 
-  pub work_leaves : (e : SittingEnd) → IsLeftIn plants copies e.next y n s.holder.step → IsReady plants.tells (queue_of y) n.checkpoint.tables n.id e.next
+  work_comes : (next : State) → IsWork s.state → IsReady plants.tells (queue_of y) n.checkpoint.tables n.id next → ComesTo s.state next
+  work_comes (Away (SpoolDeck job text)) work r = absurd r
+  work_comes (Away (ReadText runs job fields p)) work r = work
+  work_comes (Away (SpoolOutputs job specs p)) work r = work
+  work_comes (Away (PrintLines job output last p)) work r = work
+  work_comes (Fresh task) work r = absurd r
+  work_comes (Rested p) work r = work
+  work_comes Told work r = tt
+
+  pub work_leaves : (e : SittingEnd) → IsWork s.state → IsLeftIn plants copies e.next y n s.holder.step → IsReady plants.tells (queue_of y) n.checkpoint.tables n.id e.next
       → HasFewer (sittings_most s.state) (units_done s.state + units_left s.state) e.next → y.level + units_left e.next ≤ x.level + units_left s.state + 1
       → LeavesStep plants copies x y n s e
-  work_leaves e sits ready fewer level =
-      record { sits = sits; waits = ready_waits e.next ready; goes = record { falls = fewer.falls; few = fewer.few; level = level } }
+  work_leaves e work sits ready fewer level =
+      record { sits = sits; waits = ready_waits e.next ready; goes = record { falls = fewer.falls; few = fewer.few; level = level; comes = work_comes e.next work ready } }
 
-  pub work_all : (r : Result SittingEnd NodeNo) → IfOk r (λ e. IsLeftIn plants copies e.next y n s.holder.step) → IfOk r (λ e. IsReady plants.tells (queue_of y) n.checkpoint.tables n.id e.next)
+  pub work_all : (r : Result SittingEnd NodeNo) → IsWork s.state → IfOk r (λ e. IsLeftIn plants copies e.next y n s.holder.step) → IfOk r (λ e. IsReady plants.tells (queue_of y) n.checkpoint.tables n.id e.next)
       → IfOk r (λ e. HasFewer (sittings_most s.state) (units_done s.state + units_left s.state) e.next) → IfOk r (λ e. y.level + units_left e.next ≤ x.level + units_left s.state + 1)
       → IfOk r (λ e. LeavesStep plants copies x y n s e)
-  work_all (Ok e) sits ready fewer level = work_leaves e sits ready fewer level
-  work_all (Err why) sits ready fewer level = tt
+  work_all (Ok e) work sits ready fewer level = work_leaves e work sits ready fewer level
+  work_all (Err why) work sits ready fewer level = tt
+
+-- acts for which work waits
+pub aside_works : (a : Aside) → ((job : JobNo) (text : List (List ℕ)) → a ≡ SpoolDeck job text → ⊥) → IsWork (Away a)
+aside_works (SpoolDeck job text) not = absurd (not job text refl)
+aside_works (ReadText runs job fields p) not = tt
+aside_works (SpoolOutputs job specs p) not = tt
+aside_works (PrintLines job output last p) not = tt
 
 -- WHAT WORK GOES ON WITH is right by what was found
 module _ {P C : Type 0} (plants : PlantGhosts P) (copies : CopyGhosts C) (x : Parts P C) (by : MemberId) where

@@ -1,10 +1,18 @@
 -- Acts on the volumes alone are acts that print nothing.
-use Rattle.std.proofs.Common.{◌≡◌, inl, ℕ, List, Result, Ok, Err, sym, ap, ◌∙◌}
+use Rattle.std.proofs.Common.{◌≡◌, inl, ℕ, List, Result, Ok, Err, refl, sym, ap, ◌∙◌}
 use Rattle.mas_types.specs.declared.ids.MemberId.{MemberId}
+use Rattle.spool_disk.specs.declared.plant.Plant.{Ghosts as PlantGhosts}
 use Rattle.mas_complex.specs.Parts.{Parts}
+use Rattle.member_node.specs.declared.member.Member.{Member}
 use Rattle.member_node.specs.declared.member.NodeNo.{NodeNo}
 use Rattle.member_node.specs.declared.member.NodeNo.TheVariants.{BothLost, Halted, ConsoleFault, NoMemory}
+use Rattle.step_turns.specs.States.{nothing_found}
+use Rattle.step_turns.specs.declared.states.Aside.{Aside}
+use Rattle.step_turns.specs.declared.states.Found.{Found}
+use Rattle.step_turns.specs.declared.states.State.{State}
+use Rattle.step_turns.specs.declared.states.State.TheVariants.{Away, Fresh, Rested, Told}
 use Rattle.member_units.specs.Asides.{HasOnlyPrinted, printed_in}
+use Rattle.member_hand.specs.Asides.{ActsAfter}
 
 module _ {P C : Type 0} (x y : Parts P C) (frame : y ≡ record x { plant = y.plant }) where
   as_printed : y ≡ printed_in y x
@@ -16,3 +24,10 @@ module _ {P C : Type 0} (x y : Parts P C) (frame : y ≡ record x { plant = y.pl
   only_plant (Err NoMemory) by = as_printed
   only_plant (Err BothLost) by = as_printed
   only_plant (Err ConsoleFault) by = as_printed
+
+-- a step that doesn't wait for acts does none
+pub none_acted : {P C : Type 0} (plants : PlantGhosts P) (x : Parts P C) (m : Member) (s : State) (found : Found) → ((aside : Aside) → s ≡ Away aside → ⊥) → found ≡ nothing_found → ActsAfter plants x x m s (Ok found)
+none_acted plants x m (Away aside) found never is = absurd (never aside refl)
+none_acted plants x m (Fresh task) found never is = (refl, ap (λ (f : Found). Ok f) is)
+none_acted plants x m (Rested p) found never is = (refl, ap (λ (f : Found). Ok f) is)
+none_acted plants x m Told found never is = (refl, ap (λ (f : Found). Ok f) is)

@@ -1,4 +1,10 @@
 pub mod Locks
 pub mod Enters
+pub mod Quiet
+pub mod Found
+pub mod Cuts
+pub mod Shapes
 pub mod Asides
 pub mod Sits
+pub mod Turns
+pub mod Plays

@@ -9,6 +9,7 @@ use Rattle.ckpt_copy.specs.declared.copying.Copying.{Ghosts as CopyGhosts}
 use Rattle.ckpt_form.specs.declared.steady.Steady.{Ghosts as SteadyGhosts}
 use Rattle.mas_complex.specs.declared.complex.Complex.{Complex}
 use Rattle.mas_complex.specs.Locking.{MayAct}
+use Rattle.mas_complex.specs.Parts.{Parts, parts_of}
 use Rattle.step_turns.specs.Courses.{hold_then}
 use Rattle.step_turns.specs.declared.states.Grant.{Grant}
 use Rattle.step_turns.specs.declared.states.Grant.TheVariants.{ByLock, ForStep}
@@ -38,11 +39,14 @@ abbrev pub IsUnlocked : Grant → Book → MemberId → Type 0
 IsUnlocked ForStep b by = b.holder ≡ nobody
 IsUnlocked ByLock b by = b.holder ≡ by
 
+-- a member may leave the lock, or keep it: it holds it, and nothing is reserved or in flight
+pub record IsToLeave {P C : Type 0} (x : Parts P C) (by : MemberId) : Type 0 where
+  pub may : MayAct x.book by
+  pub some : 1 ≤ by.0
+  pub seated : IsMember x.book by
+  pub none : x.current ≡ None
+  pub unreserved : x.reserved ≡ None
+
 module _ {P C : Type 0} {plants : PlantGhosts P} {steadies : SteadyGhosts C} {copies : CopyGhosts C} where
-  -- a member may leave the lock, or keep it: it holds it, and nothing is reserved or in flight
-  pub record MayLeave (x : Complex P C plants steadies copies) (by : MemberId) : Type 0 where
-    pub may : MayAct x.book by
-    pub some : 1 ≤ by.0
-    pub seated : IsMember x.book by
-    pub none : x.current ≡ None
-    pub unreserved : x.reserved ≡ None
+  abbrev pub MayLeave : Complex P C plants steadies copies → MemberId → Type 0
+  MayLeave x by = IsToLeave (parts_of x) by

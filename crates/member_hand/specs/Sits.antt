@@ -22,7 +22,7 @@ use Rattle.step_turns.specs.declared.states.Found.{Found}
 use Rattle.step_turns.specs.declared.states.Holder.{Holder}
 use Rattle.step_turns.specs.declared.states.State.{State}
 use Rattle.step_turns.specs.declared.states.State.TheVariants.{Away, Fresh, Rested, Told}
-use Rattle.step_turns.specs.declared.states.Aside.TheVariants.{SpoolDeck}
+use Rattle.step_turns.specs.declared.states.Aside.TheVariants.{PrintLines, ReadText, SpoolDeck, SpoolOutputs}
 use Rattle.step_turns.specs.declared.states.Task.{Task}
 use Rattle.step_turns.specs.declared.states.Task.TheVariants.{Deck, Give, Work}
 use Rattle.member_sittings.specs.declared.ends.SittingEnd.{SittingEnd}
@@ -78,12 +78,40 @@ start_of at = record { holder = at.holder; state = at.state; found = at.found }
 abbrev pub begins : Holder → Task → Start
 begins h task = record { holder = h; state = Fresh task; found = nothing_found }
 
+-- WHICH STATES A STEP COMES TO from one: it waits for a deck's text after a deck, and rests or waits otherwise where it
+-- works. None begins anew.
+
+abbrev pub IsWork : State → Type 0
+IsWork (Fresh (Work n)) = Unit {0}
+IsWork (Fresh (Give c)) = ⊥
+IsWork (Fresh (Deck fields text)) = ⊥
+IsWork (Away (SpoolDeck n text)) = ⊥
+IsWork (Away (ReadText runs n fields p)) = Unit {0}
+IsWork (Away (SpoolOutputs n specs p)) = Unit {0}
+IsWork (Away (PrintLines n i last p)) = Unit {0}
+IsWork (Rested p) = Unit {0}
+IsWork Told = ⊥
+
+abbrev pub IsDeckTask : State → Type 0
+IsDeckTask (Fresh (Deck fields text)) = Unit {0}
+IsDeckTask _ = ⊥
+
+abbrev pub ComesTo : State → State → Type 0
+ComesTo s Told = Unit {0}
+ComesTo s (Fresh task) = ⊥
+ComesTo s (Rested p) = IsWork s
+ComesTo s (Away (SpoolDeck n text)) = IsDeckTask s
+ComesTo s (Away (ReadText runs n fields p)) = IsWork s
+ComesTo s (Away (SpoolOutputs n specs p)) = IsWork s
+ComesTo s (Away (PrintLines n i last p)) = IsWork s
+
 -- How a sitting leaves a step that stood so: the next state has fewer sittings before it, and no more units; and the
 -- level is one higher at most than before the units that were played.
 pub record GoesOn (s next : State) (was is : ℕ) : Type 0 where
   pub falls : sittings_most next < sittings_most s
   pub few : units_done next + units_left next ≤ units_done s + units_left s
   pub level : is + units_left next ≤ was + units_left s + 1
+  pub comes : ComesTo s next
 
 -- It leaves its member sitting, or once the step is told at its seat; and the member waits rightly.
 pub record LeavesStep {P C : Type 0} (plants : PlantGhosts P) (copies : CopyGhosts C) (x y : Parts P C) (m : Member)

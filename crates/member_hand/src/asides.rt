@@ -1,15 +1,29 @@
 //! The acts aside for which a step waits.
-ghost use Rattle.member_units.specs.Asides.{OnlyPrints};
-ghost use Rattle.member_hand.specs.Asides.{ActsAside, MayActAside};
+ghost use Rattle.std.specs.Prelude.{◌≡◌};
+ghost use Rattle.step_turns.specs.States.{nothing_found as nothing_found_lem};
+ghost use Rattle.member_hand.specs.Asides.{ActsAside, ActsOnly, ActsThen, IfAway, MayActAside, MayActThen};
 ghost use Rattle.member_hand.specs.Locks.{IsUnlocked};
 
+use job_outcome::Read;
 use mas_complex::{Complex, Steady};
+use mas_types::Lines;
 use member_node::{Member, NodeNo};
 use member_sittings::spool_deck;
 use member_units::{print_next_lines, read_job_text, write_outputs};
 use spool_disk::Plant;
 use std::alloc::Global;
-use step_turns::{Aside, Found, Grant};
+use step_turns::{Aside, Found, Grant, State};
+
+// What a member found that looked at nothing.
+pub(crate) fn nothing_found(alloc: Global) -> Found
+    ensures { result ≡ nothing_found_lem }
+{
+    Found {
+        read: Read::Lines(Lines::new(alloc)),
+        lost: None,
+        printer: false,
+    }
+}
 
 /// Does the acts aside for which a step waits: a deck's text or a job's outputs are written and synced, a job's text is
 /// read, or an output's text is read and its next lines are printed. Answers what was found. NOBODY HOLDS THE LOCK IN
@@ -26,7 +40,7 @@ pub fn act_aside<P: Plant + Drop, C: Steady + Drop>(
 ) -> Result<Found, NodeNo>
     requires lock { IsUnlocked grant complex.old.book member.now.id }
     requires may { MayActAside complex.old member.now aside.now }
-    ensures frame { OnlyPrints result member.now.id complex.old complex.new }
+    ensures frame { ActsOnly complex.old complex.new member.now aside.now result }
     ensures acts { ActsAside complex.old complex.new member.now aside.now result }
 {
     match aside {
@@ -41,5 +55,23 @@ pub fn act_aside<P: Plant + Drop, C: Steady + Drop>(
             last,
             ..
         } => print_next_lines(member, alloc, complex, *job, *output, *last),
+    }
+}
+
+// What follows a sitting that left its step so: the acts for which the step waits, if it waits for any.
+pub(crate) fn act_then<P: Plant + Drop, C: Steady + Drop>(
+    member: &Member,
+    alloc: Global,
+    complex: &mut Complex<P, C>,
+    grant: Grant,
+    state: &State,
+) -> Result<Found, NodeNo>
+    requires lock { IfAway state.now (IsUnlocked grant complex.old.book member.now.id) }
+    requires may { MayActThen complex.old member.now state.now }
+    ensures acts { ActsThen complex.old complex.new member.now state.now result }
+{
+    match state {
+        State::Away(aside) => act_aside(member, alloc, complex, grant, aside),
+        _ => Ok(nothing_found(alloc)),
     }
 }

@@ -1,17 +1,18 @@
 //! How a member comes to the lock and leaves it, at the ends of a sitting.
-ghost use Rattle.std.specs.Prelude.{◌≡◌, OnOk};
+ghost use Rattle.std.specs.Prelude.{◌≡◌, Ok, OnOk};
 ghost use Rattle.mas_complex.specs.Locking.{IsOperatorAway};
 ghost use Rattle.mas_complex.specs.Parts.{parts_of, with_copies};
-ghost use Rattle.member_sittings.specs.Gates.{ActedOnCopies};
+ghost use Rattle.member_sittings.specs.Gates.{ActedOnCopies, AreBothLost, HaveRoom};
 ghost use Rattle.member_sittings.specs.Whole.{MaySit};
 ghost use Rattle.run_turns.specs.Pieces.{entered};
+ghost use Rattle.step_turns.specs.declared.states.Grant.TheVariants.{ByLock};
 ghost use Rattle.member_hand.specs.Enters.{MayEnter};
 ghost use Rattle.member_hand.specs.Locks.{MayHold, MayLeave, left_book, next_holder as next_holder_lem};
 
 use mas_complex::{Complex, Steady};
 use mas_types::MemberId;
 use member_node::{Member, NodeNo};
-use member_sittings::{SittingEnd, take_seat};
+use member_sittings::{SittingEnd, keep_seat, take_seat};
 use spool_disk::Plant;
 use std::alloc::Global;
 use step_turns::{Grant, Holder, Release};
@@ -26,7 +27,8 @@ pub fn retake<P: Plant + Drop, C: Steady + Drop>(complex: &mut Complex<P, C>, by
 }
 
 /// The member that has the lock takes its seat, and may sit in this step: it reads what the copies have, and makes room
-/// for a batch.
+/// for a batch. One that has the lock by the operator's LOCK is at its seat still: it makes room alone. Where content
+/// is told it reads nothing, and where both copies have room, or both are lost, nothing is done.
 ///
 /// BothLost comes only where both copies count as lost at the end of the call, Halted only where the member was stopped
 /// in it; NoMemory is want of memory for the tables. The journal, the volumes and the console are as they were.
@@ -41,8 +43,15 @@ pub fn enter<P: Plant + Drop, C: Steady + Drop>(
     ensures id { member.new.id ≡ member.old.id }
     ensures acts { ActedOnCopies member.old.id complex.old complex.new result }
     ensures seat { OnOk result (MaySit complex.new member.new holder) }
+    ensures same { P.tells → holder.grant ≡ ByLock → member.new ≡ member.old }
+    ensures idle { P.tells → holder.grant ≡ ByLock → HaveRoom complex.old → complex.new ≡ complex.old }
+    ensures lost { P.tells → holder.grant ≡ ByLock → AreBothLost complex.old
+        → (result ≡ Ok tt) × (complex.new ≡ complex.old) }
 {
-    take_seat(member, alloc, complex)
+    match holder.grant {
+        Grant::ForStep => take_seat(member, alloc, complex),
+        Grant::ByLock => keep_seat(member, alloc, complex),
+    }
 }
 
 /// What a member does with the lock at a sitting's end: so many commands of its hold are spent, and it keeps the lock,

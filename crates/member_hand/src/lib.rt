@@ -1,11 +1,13 @@
-//! What a member does in a step, one function for each: it takes the lock or has it, takes its seat, sits, leaves the
-//! lock or keeps it, and does the acts that the step waits for.
+//! A member's step from its first sitting to its last, with the lock: the member takes its seat, sits, leaves the lock
+//! or keeps it, does the acts that the step waits for, and takes the lock again, until the step is told.
 #![tactic(auto)]
 
 mod asides;
 mod gates;
+mod playing;
 mod sits;
 
 pub use asides::act_aside;
 pub use gates::{enter, leave, next_holder, retake};
+pub use playing::{play_piece, play_task};
 pub use sits::{Stand, sit};

@@ -3,5 +3,4 @@ pub mod Earlier
 pub mod Holding
 pub mod Resetting
 pub mod Seating
-pub mod Stopping
 pub mod Tested

@@ -3,7 +3,7 @@ use Rattle.std.proofs.Common.{◌≡◌, ◌∙◌, ℕ, true, Option, Result, O
 use Rattle.lock_cycle.specs.Books.{Book, is_holder}
 use Rattle.spool_disk.specs.declared.plant.Plant.{Ghosts as PlantGhosts}
 use Rattle.ckpt_copy.specs.declared.copying.Copying.{Ghosts as CopyGhosts}
-use Rattle.mas_complex.specs.Parts.{Parts}
+use Rattle.mas_complex.specs.Parts.{Parts, with_copies}
 use Rattle.member_node.specs.declared.member.Member.{Member}
 use Rattle.member_node.specs.declared.member.NodeNo.{NodeNo}
 use Rattle.member_sittings.specs.Gates.{HasTakenSeat}
@@ -31,7 +31,7 @@ module _ {P C : Type 0} (plants : PlantGhosts P) (copies : CopyGhosts C) (S : Sc
     }
 
   -- THE SEAT IS HAD, and the line is said
-  module _ (n : Member) (mid y : Parts P C) (acts : CopiesActed plants m.id x mid done) (took : HasTakenSeat plants copies mid n) (same : mid.book ≡ x.book) where
+  module _ (n : Member) (mid y : Parts P C) (entered : mid ≡ with_copies mid x) (acts : CopiesActed plants m.id x mid done) (took : HasTakenSeat plants copies mid n) (same : mid.book ≡ x.book) where
     mid_left : (cut : Option Cut) → left_at S m.id at Locks cut ≡ holds_at m.id at S mid.book Keep cut
     mid_left cut = its_left cut ∙ ap (λ (b : Book). holds_at m.id at S b Keep cut) (sym same)
 
@@ -42,9 +42,9 @@ module _ {P C : Type 0} (plants : PlantGhosts P) (copies : CopyGhosts C) (S : Sc
     locked (Ok value) frame h = said_so m.id at plants S Locks Keep mid y mid_holds mid_left y refl (ap (λ (z : Parts P C). z.book) frame) h
     locked (Err why) frame h = unsaid_so m.id at plants S Locks Keep mid y mid_holds mid_left why h
 
-    seats : (r : Result (Unit {0}) NodeNo) → HasClosed plants S m.id at Locks m.id mid y r → SeatsBy plants copies S m n at Locks x y r
-    seats (Ok value) closed = record { mid = mid; acts = acts; took = took; closed = closed }
-    seats (Err why) closed = inr (record { mid = mid; acts = acts; took = took; closed = closed })
+    seats : (r : Result (Unit {0}) NodeNo) → y ≡ stopped_so r m.id (record mid { plant = y.plant }) → HasClosed plants S m.id at Locks m.id mid y r → SeatsBy plants copies S m n at Locks x y r
+    seats (Ok value) frame closed = record { mid = mid; entered = entered; acts = acts; frame = frame; took = took; closed = closed }
+    seats (Err why) frame closed = inr (record { mid = mid; entered = entered; acts = acts; frame = frame; took = took; closed = closed })
 
     pub seated : (r : Result (Unit {0}) NodeNo) → y ≡ stopped_so r m.id (record mid { plant = y.plant }) → HasClosed plants (record S { book = mid.book }) m.id at (Refused m.id says_ok) m.id mid y r → SeatsBy plants copies S m n at Locks x y r
-    seated r frame h = seats r (locked r frame h)
+    seated r frame h = seats r frame (locked r frame h)

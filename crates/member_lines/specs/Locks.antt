@@ -4,7 +4,7 @@ use Rattle.spool_disk.specs.declared.plant.Plant.{Ghosts as PlantGhosts}
 use Rattle.ckpt_copy.specs.declared.copying.Copying.{Ghosts as CopyGhosts}
 use Rattle.ckpt_form.specs.declared.steady.Steady.{Ghosts as SteadyGhosts}
 use Rattle.mas_complex.specs.declared.complex.Complex.{Complex}
-use Rattle.mas_complex.specs.Parts.{Parts, parts_of}
+use Rattle.mas_complex.specs.Parts.{Parts, parts_of, with_copies}
 use Rattle.member_node.specs.declared.member.Member.{Member}
 use Rattle.member_node.specs.declared.member.NodeNo.{NodeNo}
 use Rattle.member_node.specs.declared.member.NodeNo.TheVariants.{BothLost, ConsoleFault, Halted, NoMemory}
@@ -13,7 +13,7 @@ use Rattle.member_sittings.specs.Sat.{CopiesActed}
 use Rattle.run_turns.specs.Admissions.{Admission}
 use Rattle.run_turns.specs.Scenes.{Scene}
 use Rattle.run_turns.specs.Sights.{Cut, Ends, Stops}
-use Rattle.member_lines.specs.Closes.{HasClosed, IsTested, before_line, done, failed, left_at}
+use Rattle.member_lines.specs.Closes.{HasClosed, IsTested, before_line, done, failed, left_at, stopped_so}
 
 -- a line was cut before its member had its seat, by the answer
 abbrev pub seat_cut : NodeNo → Option Cut
@@ -30,11 +30,14 @@ module _ {P C : Type 0} (plants : PlantGhosts P) (copies : CopyGhosts C) where
       pub book : y.book ≡ (left_at S m.id at a (seat_cut why)).book
       pub lines : (left_at S m.id at a (seat_cut why)).lines ≡ []
 
-  -- The member took its seat, by acts on the copies alone, and then said its line.
+  -- The member took its seat, by acts on the copies alone, and then said its line, which changed nothing else. One that
+  -- was halted in saying it is stopped.
   pub record IsSeated (S : Scene) (m n : Member) (at : ℕ) (a : Admission) (x y : Parts P C)
       (result : Result (Unit {0}) NodeNo) : Type 0 where
     pub mid : Parts P C
+    pub entered : mid ≡ with_copies mid x
     pub acts : CopiesActed plants m.id x mid done
+    pub frame : y ≡ stopped_so result m.id (record mid { plant = y.plant })
     pub took : HasTakenSeat plants copies mid n
     pub closed : HasClosed plants S m.id at a m.id mid y result
 

@@ -1,15 +1,13 @@
 -- Calls on the copies, one after another.
-use Rattle.std.proofs.Common.{◌≡◌, ◌≢◌, ◌⊎◌, inl, inr, ⊎_elim, ℕ, ◌≤◌, ◌||◌, Bool, true, false, List, refl, sym, ◌∙◌, ap, subst, arith}
+use Rattle.std.proofs.Common.{◌≡◌, ◌≢◌, ◌⊎◌, inl, inr, ⊎_elim, ℕ, ◌≤◌, ◌||◌, Bool, true, false, List, refl, sym, ◌∙◌, ap, arith}
 use Rattle.mas_types.specs.declared.ids.Dev.{Dev}
-use Rattle.mas_types.specs.declared.ids.Dev.TheVariants.{Ckpt1, Ckpt2, Spool}
+use Rattle.mas_types.specs.declared.ids.Dev.TheVariants.{Ckpt1, Ckpt2}
 use Rattle.spool_disk.specs.declared.plant.Part.TheVariants.{Disk as DiskPart, Console}
 use Rattle.spool_disk.specs.declared.plant.Act.{Act}
 use Rattle.spool_disk.specs.View.{View, World, disk_at}
-use Rattle.spool_disk.specs.Acts.{Goes, Acts, Says, SamePaper, Loses, Rose, next}
+use Rattle.spool_disk.specs.Acts.{Goes, Acts, Says, SamePaper, Rose, next}
 use Rattle.ckpt_copy.specs.Moments.{either_way, goes_on, goes_none}
-use Rattle.duplex_pair.specs.Halves.{Acted, IsCkpt}
 use Rattle.duplex_pair.specs.Both.{PairActed}
-use Rattle.duplex_pair.proofs.Composing.{acted_first, acted_second}
 use Rattle.mas_complex.specs.Elsewhere.{Elsewhere}
 use Rattle.mas_complex.specs.Paper.{SamePapers}
 use Rattle.member_node.specs.Calls.{Apart, Course, Grows, IsOnlyOn, WasLost}
@@ -18,14 +16,6 @@ use Rattle.member_node.specs.Calls.{Apart, Course, Grows, IsOnlyOn, WasLost}
 
 pub no : (b : Bool) → b ≡ true → b ≡ false → ⊥
 no b p q = cc
-
-pub first_acted : (by : ℕ) (old new : View) (a a' b b' stopped : Bool) → b' ≡ b → Acted by Ckpt1 a a' stopped old new → PairActed by a a' b b' stopped old new
-first_acted by old new a a' b b' stopped same acted =
-    subst (λ (x : Bool). PairActed by a a' b x stopped old new) (sym same) (acted_first by old new a a' b stopped Ckpt1 refl acted)
-
-pub second_acted : (by : ℕ) (old new : View) (a a' b b' stopped : Bool) → a' ≡ a → Acted by Ckpt2 b b' stopped old new → PairActed by a a' b b' stopped old new
-second_acted by old new a a' b b' stopped same acted =
-    subst (λ (x : Bool). PairActed by a x b b' stopped old new) (sym same) (acted_second by old new b b' a stopped Ckpt2 refl acted)
 
 same_alive : (was is : Bool) → (is ≡ true → was ≡ true) → is ≡ true → is ≡ was
 same_alive was is so now = now ∙ sym (so now)
@@ -111,73 +101,7 @@ course_then a a' a'' b b' b'' v0 v1 v2 x y = record {
   grow = λ d. grow_grow (v0.loses d) (v1.loses d) (v2.loses d) (x.grow d) (y.grow d);
 }
 
-disk_not_console : (d : Dev) → DiskPart d ≢ Console
-disk_not_console d e = absurd (cc)
-
--- a line that is said
-course_line : (by : ℕ) (a b : Bool) (v1 v2 : View) (said : Act) → Acts by Console v1 v2 said → Course a a b b v1 v2
-course_line by a b v1 v2 said act = record {
-  goes = act.goes;
-  failed1 = λ is not. absurd (no a is not);
-  failed2 = λ is not. absurd (no b is not);
-  there1 = λ is there. act.else_lost (DiskPart Ckpt1) (inl (disk_not_console Ckpt1)) ∙ there;
-  there2 = λ is there. act.else_lost (DiskPart Ckpt2) (inl (disk_not_console Ckpt2)) ∙ there;
-  alive1 = λ is. is;
-  alive2 = λ is. is;
-  grow = λ d. inl (act.loses d);
-}
-
--- acts on the copies, and a line that was said after them
-pub course_said : (by : ℕ) (a a' b b' : Bool) (v0 v1 v2 : View) (said : Act) → Course a a' b b' v0 v1 → Acts by Console v1 v2 said → Course a a' b b' v0 v2
-course_said by a a' b b' v0 v1 v2 said course act = course_then a a' a' b b' b' v0 v1 v2 course (course_line by a' b' v1 v2 said act)
-
 -- A COPY THAT IS LOST BY A CALL
-
-risen : (m n : ℕ) → n ≡ next m → Rose m n
-risen m n is = omega (arith, is)
-
-first_part : DiskPart Ckpt2 ≢ DiskPart Ckpt1
-first_part e = absurd (cc)
-
-second_part : DiskPart Ckpt1 ≢ DiskPart Ckpt2
-second_part e = absurd (cc)
-
-spool_part : (n : ℕ) (d : Dev) → IsCkpt d → DiskPart (Spool n) ≢ DiskPart d
-spool_part n Ckpt1 is e = absurd (cc)
-spool_part n Ckpt2 is e = absurd (cc)
-spool_part n (Spool v) is e = absurd is
-
-pub course_first : (a a' b b' : Bool) (old new : View) → Loses (DiskPart Ckpt1) old new → a' ≡ false → b' ≡ b → Course a a' b b' old new
-course_first a a' b b' old new loses dead same = record {
-  goes = loses.goes;
-  failed1 = λ was not. inr (risen (old.loses Ckpt1) (new.loses Ckpt1) (loses.counted Ckpt1 refl));
-  failed2 = λ was not. absurd (no b was (sym same ∙ not));
-  there1 = λ is there. absurd (no a' is dead);
-  there2 = λ is there. loses.else_lost (DiskPart Ckpt2) first_part ∙ there;
-  alive1 = λ is. absurd (no a' is dead);
-  alive2 = λ is. sym same ∙ is;
-  grow = grows;
-} where
-  grows : (d : Dev) → Grows (old.loses d) (new.loses d)
-  grows Ckpt1 = inr (risen (old.loses Ckpt1) (new.loses Ckpt1) (loses.counted Ckpt1 refl))
-  grows Ckpt2 = inl (loses.else_counted Ckpt2 first_part)
-  grows (Spool n) = inl (loses.else_counted (Spool n) (spool_part n Ckpt1 tt))
-
-pub course_second : (a a' b b' : Bool) (old new : View) → Loses (DiskPart Ckpt2) old new → b' ≡ false → a' ≡ a → Course a a' b b' old new
-course_second a a' b b' old new loses dead same = record {
-  goes = loses.goes;
-  failed1 = λ was not. absurd (no a was (sym same ∙ not));
-  failed2 = λ was not. inr (risen (old.loses Ckpt2) (new.loses Ckpt2) (loses.counted Ckpt2 refl));
-  there1 = λ is there. loses.else_lost (DiskPart Ckpt1) second_part ∙ there;
-  there2 = λ is there. absurd (no b' is dead);
-  alive1 = λ is. sym same ∙ is;
-  alive2 = λ is. absurd (no b' is dead);
-  grow = grows;
-} where
-  grows : (d : Dev) → Grows (old.loses d) (new.loses d)
-  grows Ckpt1 = inl (loses.else_counted Ckpt1 second_part)
-  grows Ckpt2 = inr (risen (old.loses Ckpt2) (new.loses Ckpt2) (loses.counted Ckpt2 refl))
-  grows (Spool n) = inl (loses.else_counted (Spool n) (spool_part n Ckpt2 tt))
 
 -- one of two copies that are left
 pub left : {A B : Type 0} (x y : Bool) → (x || y) ≡ true → (x ≡ true → A) → (y ≡ true → B) → A ⊎ B

@@ -8,7 +8,6 @@ use Rattle.mas_types.specs.declared.ids.Page.{Page}
 use Rattle.mas_types.specs.Limits.{page_bytes}
 use Rattle.mas_types.specs.declared.commands.Command.{Command}
 use Rattle.mas_types.specs.declared.commands.Command.TheVariants as command
-use Rattle.mas_types.specs.declared.commands.Refusal.TheVariants as refusal
 use Rattle.mas_types.specs.declared.commands.Reply.{Reply}
 use Rattle.mas_types.specs.declared.journals.Entry.{Entry}
 use Rattle.mas_types.specs.declared.queues.Queue.{Queue}

@@ -26,17 +26,12 @@ use Rattle.member_node.specs.Drawn.{AreDrawn}
 use Rattle.mas_types.specs.declared.ids.Dev.{Dev}
 use Rattle.spool_disk.specs.View.{View, disk_now}
 use Rattle.duplex_pair.specs.Halves.{SomeAlive}
-use Rattle.member_node.specs.Reads.{AreLow, ArePagesOf, HasRead, IsCalm, IsRead, IsReadIn, IsReadWhole, IsUpTo, MayGoOn, ReadCauses, ReadInCauses, ReadsAs, ReadsLow, StandAt, copies_alive, orders_after, too_high}
+use Rattle.member_node.specs.Reads.{AreLow, ArePagesOf, HasRead, IsRead, IsReadIn, IsReadWhole, IsUpTo, MayGoOn, ReadCauses, ReadInCauses, ReadsAs, ReadsLow, StandAt, copies_alive, orders_after, too_high}
 use Rattle.member_node.specs.Copies.{RestsAt}
 use Rattle.member_node.specs.Spares.{Spares, is_stop}
-use Rattle.duplex_pair.specs.Both.{PairActed}
 use Rattle.mas_complex.specs.declared.places.Place.{Place}
-use Rattle.mas_complex.specs.Elsewhere.{OnCopies}
 use Rattle.mas_complex.specs.Journals.{journal_most}
-use Rattle.mas_complex.specs.Kept.{OnlyOnCopies}
-use Rattle.mas_complex.specs.Paper.{SamePapers}
-use Rattle.member_node.specs.Calls.{Course}
-use Rattle.member_node.proofs.CourseLemmas.{no as not_both, rose_later, apart_then, course_none, course_of, course_then, only_none, papers_none}
+use Rattle.member_node.proofs.CourseLemmas.{no as not_both, rose_later, apart_then, course_none, course_then, only_none, papers_none}
 use Rattle.member_node.proofs.DrawnLemmas.{drawn_level, page_joined}
 use Rattle.member_node.proofs.SpareLemmas.{spares_for, spares_none, spares_then}
 
@@ -235,16 +230,6 @@ pub record IsReadTo (told : Type 0) (by : ℕ) (was1 is1 was2 is2 : Bool) (old n
   pub pages : told → (was : List ℕ) → ReadsAs told was1 (reads (disk_now old Ckpt1).bytes) was → ReadsAs told was2 (reads (disk_now old Ckpt2).bytes) was → ArePagesOf first page was now
   pub some : (page ≡ first) ⊎ SomeAlive is1 is2
 
--- what one call on the copies that only reads comes to
-pub read_acted : (told : Type 0) (by : ℕ) (a a' b b' stopped : Bool) (old new : View) → PairActed by a a' b b' stopped old new → (told → OnlyOnCopies old new) → (told → OnCopies old new) → (told → SamePapers old new)
-    → (told → (d : Dev) → (disk_now new d).bytes ≡ (disk_now old d).bytes) → HasRead told a a' b b' old new
-read_acted told by a a' b b' stopped old new acted throughout apart papers bytes = record {
-  course = course_of by a a' b b' stopped old new acted;
-  loses = λ t d. acted.loses d;
-  apart = λ t. record { others = throughout t; console = (apart t).console; papers = papers t };
-  bytes = bytes;
-}
-
 pub read_none : (told : Type 0) (a b : Bool) (v : View) → HasRead told a a b b v v
 read_none told a b v = record { course = course_none a b v; loses = λ t d. refl; apart = λ t. record { others = only_none v; console = refl; papers = papers_none v }; bytes = λ t d. refl }
 
@@ -255,10 +240,6 @@ read_then told a a' a'' b b' b'' v0 v1 v2 x y = record {
   apart = λ t. apart_then v0 v1 v2 x.course.goes.later y.course.goes (x.apart t) (y.apart t);
   bytes = λ t d. y.bytes t d ∙ x.bytes t d;
 }
-
--- a copy is lost by a call, where nothing is told
-pub read_lost : (told : Type 0) (a a' b b' : Bool) (old new : View) → (told → ⊥) → Course a a' b b' old new → HasRead told a a' b b' old new
-read_lost told a a' b b' old new untold course = record { course = course; loses = λ t. absurd (untold t); apart = λ t. absurd (untold t); bytes = λ t. absurd (untold t) }
 
 -- what each copy reads stays, so it reads the same pages by a later moment's name
 pub reads_earlier : (told : Type 0) (alive alive' : Bool) (read read' : Option (List ℕ)) (was : List ℕ) → (alive' ≡ true → alive ≡ true) → (told → read' ≡ read) → ReadsAs told alive read was → ReadsAs told alive' read' was
@@ -389,21 +370,6 @@ in_memory U told by a a' b b' v0 v1 e is x spares some = subst (λ (n : NodeNo).
 
 -- A COPY IS LOST BY A MEMBER
 
-pub fewer_first : (a a' b b' : Bool) → a ≡ true → a' ≡ false → b' ≡ b → copies_alive a' b' < copies_alive a b
-fewer_first true false true true on off same = omega arith
-fewer_first true false false false on off same = omega arith
-fewer_first true false true false on off same = absurd (cc)
-fewer_first true false false true on off same = absurd (cc)
-fewer_first true true b b' on off same = absurd (cc)
-fewer_first false a' b b' on off same = absurd (cc)
-
-pub fewer_second : (a a' b b' : Bool) → a ≡ false → SomeAlive a b → b' ≡ false → a' ≡ a → copies_alive a' b' < copies_alive a b
-fewer_second false false true false off some dead same = omega arith
-fewer_second false false true true off some dead same = absurd (cc)
-fewer_second false false false b' off some dead same = absurd (cc)
-fewer_second false true b b' off some dead same = absurd (cc)
-fewer_second true a' b b' off some dead same = absurd (cc)
-
 pub fewer_then : (more : ℕ) (a a' b b' : Bool) → (a' ≡ true → a ≡ true) → (b' ≡ true → b ≡ true) → copies_alive a b < more → copies_alive a' b' < more
 fewer_then more true true true true one two less = less
 fewer_then more true true true false one two less = omega (arith, less)
@@ -423,10 +389,6 @@ fewer_then more false false false true one two less = absurd (not_both false (tw
 pub other_alive : (a b : Bool) → SomeAlive a b → a ≡ false → b ≡ true
 other_alive true b some off = absurd (cc)
 other_alive false b some off = some
-
--- a calm copy stays so where its pair's copy and place do
-pub calm_later : (alive alive' : Bool) (place place' : Place) (count count' pages pages' : ℕ) → (alive' ≡ true → alive ≡ true) → place' ≡ place → count' ≡ count → pages' ≡ pages → IsCalm alive place count pages → IsCalm alive' place' count' pages'
-calm_later alive alive' place place' count count' pages pages' alives p c n calm = record { before = p ∙ calm.before; as_many = λ on. n ∙ calm.as_many (alives on) ∙ sym c }
 
 -- WHAT A COPY READS IS LOW AGAIN, after a write
 

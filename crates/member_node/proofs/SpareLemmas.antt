@@ -1,12 +1,10 @@
 -- What a member's calls don't do, one after another.
-use Rattle.std.proofs.Common.{◌≡◌, ◌≢◌, inl, inr, ⊎_elim, ℕ, Bool, true, false, refl, ◌∙◌}
-use Rattle.mas_types.specs.declared.ids.Dev.{Dev}
-use Rattle.mas_types.specs.declared.ids.Dev.TheVariants.{Ckpt1, Ckpt2, Spool}
+use Rattle.std.proofs.Common.{inl, inr, ⊎_elim, ℕ, Bool, true, false, refl, ◌∙◌}
+use Rattle.mas_types.specs.declared.ids.Dev.TheVariants.{Spool}
 use Rattle.spool_disk.specs.declared.plant.Part.{Part}
-use Rattle.spool_disk.specs.declared.plant.Part.TheVariants.{Disk as DiskPart}
 use Rattle.spool_disk.specs.declared.plant.Act.TheVariants.{Done, Failed, Halted as ActHalted}
 use Rattle.spool_disk.specs.View.{View}
-use Rattle.spool_disk.specs.Acts.{Acts, Loses}
+use Rattle.spool_disk.specs.Acts.{Acts}
 use Rattle.duplex_pair.specs.Both.{PairActed}
 use Rattle.member_node.specs.Spares.{Spares}
 
@@ -23,16 +21,6 @@ spares_for by any old new s = record { volumes = s.volumes; stops = λ m free. s
 -- a call on the pair
 pub spares_pair : (by : ℕ) (a a' b b' stopped : Bool) (old new : View) → PairActed by a a' b b' stopped old new → Spares by stopped old new
 spares_pair by a a' b b' stopped old new acted = record { volumes = λ n. acted.loses (Spool n); stops = acted.no_other_stop; operator = acted.not_operator }
-
--- a call that loses a copy
-pub spares_lost : (dev : Dev) (by : ℕ) (old new : View) → ((n : ℕ) → DiskPart (Spool n) ≢ DiskPart dev) → Loses (DiskPart dev) old new → Spares by false old new
-spares_lost dev by old new copy loses = record { volumes = λ n. loses.else_counted (Spool n) (copy n); stops = λ m free. loses.stops m; operator = λ e. absurd (cc) }
-
-pub spares_first : (by : ℕ) (old new : View) → Loses (DiskPart Ckpt1) old new → Spares by false old new
-spares_first by old new loses = spares_lost Ckpt1 by old new (λ n e. absurd (cc)) loses
-
-pub spares_second : (by : ℕ) (old new : View) → Loses (DiskPart Ckpt2) old new → Spares by false old new
-spares_second by old new loses = spares_lost Ckpt2 by old new (λ n e. absurd (cc)) loses
 
 -- one act, which was done or failed, or in which the member was stopped
 pub spares_done : (by : ℕ) (part : Part) (old new : View) → Acts by part old new Done → Spares by false old new

@@ -5,7 +5,6 @@ use Rattle.mas_types.specs.declared.journals.Entry.{Entry}
 use Rattle.mas_types.specs.declared.queues.Queue.{Queue}
 use Rattle.ckpt_copy.specs.Pages.{Covers}
 use Rattle.mas_types.specs.declared.journals.Fate.TheVariants.{Kept}
-use Rattle.mas_complex.specs.Replies.{HaveReplies}
 use Rattle.mas_complex.specs.Changed.{NamesOnly}
 use Rattle.mas_complex.specs.Meaning.{step, run}
 use Rattle.mas_complex.specs.Journals.{with_last, end_of, fated, kept_all}
@@ -49,12 +48,6 @@ pub run_append : (Q : Queue) (xs ys : List Entry) → run Q (xs ++ ys) ≡ run (
 run_append Q [] ys = refl
 run_append Q (e ∷ xs) ys = run_append (step Q e.by e.command).0 xs ys
 
--- the queue that the pages of a batch stand for
-pub queue_written : (base base1 Q after : Queue) (ks kept es entries : List Entry) → base1 ≡ base → Q ≡ run base ks → kept ≡ ks → es ≡ entries → after ≡ run Q entries → after ≡ run base1 (kept ++ es)
-queue_written base base1 Q after ks kept es entries same is none are effect =
-    effect ∙ ap (λ (q : Queue). run q entries) is ∙ sym (run_append base ks entries)
-    ∙ ap (λ (q : Queue). run q (ks ++ entries)) (sym same) ∙ ap (λ (l : List Entry). run base1 (l ++ entries)) (sym none) ∙ ap (λ (l : List Entry). run base1 (kept ++ l)) (sym are)
-
 -- the queue after the kept batches, the last of which has just been written
 pub queue_kept : (base base1 Q after : Queue) (front batches : List Batch) (last : ℕ) (b : Batch) (entries : List Entry) → base1 ≡ base → Q ≡ run base (kept_all front) → batches ≡ front ++ fated Kept last b ∷ []
     → b.entries ≡ entries → after ≡ run Q entries → after ≡ run base1 (kept_all batches)
@@ -62,15 +55,3 @@ queue_kept base base1 Q after front batches last b entries same is all are effec
     effect ∙ ap (λ (q : Queue). run q entries) is ∙ sym (run_append base (kept_all front) entries)
     ∙ ap (λ (es : List Entry). run base (kept_all front ++ es)) (sym are) ∙ ap (run base) (sym (kept_all_with front last b))
     ∙ ap (λ (bs : List Batch). run base (kept_all bs)) (sym all) ∙ ap (λ (q : Queue). run q (kept_all batches)) (sym same)
-
--- entries that change nothing
-pub queue_same : (base base1 Q : Queue) (ks kept es entries : List Entry) → base1 ≡ base → Q ≡ run base ks → kept ≡ ks → es ≡ entries → run Q entries ≡ Q → run base1 (kept ++ es) ≡ run base1 kept
-queue_same base base1 Q ks kept es entries one is none are same =
-    let here : run base1 kept ≡ Q = ap (λ (q : Queue). run q kept) one ∙ ap (run base) none ∙ sym is in
-    run_append base1 kept es ∙ ap (λ (q : Queue). run q es) here ∙ ap (run Q) are ∙ same ∙ sym here
-
--- entries with the replies of a queue have those of the same queue by another name
-pub replied_read : (base base1 Q : Queue) (ks kept es entries : List Entry) → base1 ≡ base → Q ≡ run base ks → kept ≡ ks → es ≡ entries → HaveReplies Q entries → HaveReplies (run base1 kept) es
-replied_read base base1 Q ks kept es entries one is none are have =
-    let here : run base1 kept ≡ Q = ap (λ (q : Queue). run q kept) one ∙ ap (run base) none ∙ sym is in
-    subst (λ (q : Queue). HaveReplies q es) (sym here) (subst (λ (l : List Entry). HaveReplies Q l) (sym are) have)

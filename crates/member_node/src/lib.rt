@@ -11,3 +11,4 @@ mod writing;
 pub use checkpoint::{Checkpoint, Draft, blank, redraw};
 pub use cmd_report::reply_lines;
 pub use member::{Member, NodeNo};
+pub use reading::TOO_HIGH;

@@ -1,10 +1,9 @@
 //! How a member reads the copies, and goes on from what it read.
-ghost use Rattle.std.specs.Prelude.{◌≡◌, ◌⊎◌, ◌+◌, ◌≤◌, ◌<◌, ℕ, List, Some, None, All, [], length, true, false, IfOk, IfErr, IsErrOf, OnOk, OnErr};
+ghost use Rattle.std.specs.Prelude.{◌≡◌, ◌+◌, ◌≤◌, ◌<◌, ℕ, List, Some, None, All, [], length, true, false, IfOk, IfErr, IsErrOf, OnOk, OnErr};
 ghost use Rattle.std.specs.List.{list_all};
 ghost use Rattle.mas_types.specs.declared.ids.Dev.{Dev};
 ghost use Rattle.mas_types.specs.declared.ids.Dev.TheVariants.{Ckpt1, Ckpt2};
 ghost use Rattle.mas_types.specs.Limits.{page_bytes, pages_most};
-ghost use Rattle.lock_cycle.specs.Books.{IsMember, is_stopped, is_holder, try_refusal, after_try, free_refusal, after_free};
 ghost use Rattle.spool_disk.specs.View.{disk_now};
 ghost use Rattle.ckpt_copy.specs.Pages.{bytes_of, level, page_in};
 ghost use Rattle.ckpt_pages.specs.declared.tables.Tables.{Tables as TablesLem};
@@ -14,7 +13,7 @@ ghost use Rattle.duplex_pair.specs.Halves.{SomeAlive};
 ghost use Rattle.duplex_pair.specs.Outcomes.{least_room};
 ghost use Rattle.mas_complex.specs.Fits.{are_same};
 ghost use Rattle.mas_complex.specs.Journals.{kept_all};
-ghost use Rattle.mas_complex.specs.Locking.{IsOperatorAway, MayAct};
+ghost use Rattle.mas_complex.specs.Locking.{MayAct};
 ghost use Rattle.mas_complex.specs.Meaning.{run};
 ghost use Rattle.member_node.specs.declared.member.NodeNo.TheVariants as no_node;
 ghost use Rattle.queue_tables.specs.Orders.{HaveOrders};
@@ -31,14 +30,13 @@ use ckpt_pages::{
 };
 use duplex_pair::{PairNo, pages_level};
 use lay_bytes::{JobRec, OutRec};
-use lock_cycle::{LockNo, NotHolder};
 use mas_complex::{Complex, Steady, same_pages};
 use mas_types::{Config, Dev, Level, List, MemberId, NoMemory, Page};
 use spool_disk::Plant;
 use std::alloc::Global;
 
 /// From here on a level or an order doesn't leave a step all that it can use: no run of this program comes so far.
-const TOO_HIGH: u64 = (1 << 63) - (1 << 20);
+pub const TOO_HIGH: u64 = (1 << 63) - (1 << 20);
 
 // Reads one page: it is the page of what each copy reads that counts as alive afterwards.
 fn read_one<P: Plant + Drop, C: Steady + Drop>(
@@ -276,70 +274,7 @@ fn may_go_on(config: &Config, pages: &[Page], tables: &Tables) -> bool
 impl Member {
     ghost use Rattle.member_node.specs.Copies.{RestsAt};
     ghost use Rattle.member_node.specs.Drawn.{AreDrawn};
-    ghost use Rattle.member_node.specs.Reads.{IsReadIn, IsSettle, IsUpTo, ReadsLow, orders_after, pages_had, too_high};
-
-    /// A try at the lock of the checkpoint, by the book of the shared value. An `inner` try is one in the middle of a
-    /// step. After Ok the member holds, and what it knows of the copies may be old: it has to read them before it gives
-    /// a command.
-    ///
-    /// Down comes exactly where the member is stopped, Busy exactly where it isn't and another one holds, Dormant
-    /// exactly where it isn't stopped, nobody holds and it leaves the lock to others. All but the book is as it was.
-    pub fn lock<P: Plant + Drop, C: Steady + Drop>(
-        &self,
-        complex: &mut Complex<P, C>,
-        inner: bool,
-    ) -> Result<(), LockNo>
-        requires member { IsMember complex.old.book self.now.id }
-        requires away { IsOperatorAway complex.old.book complex.old.reserved complex.old.current }
-        ensures plant { complex.new.plant ≡ complex.old.plant }
-        ensures pair { complex.new.pair ≡ complex.old.pair }
-        ensures base { complex.new.base ≡ complex.old.base }
-        ensures printed { complex.new.printed ≡ complex.old.printed }
-        ensures since { complex.new.since ≡ complex.old.since }
-        ensures journal { complex.new.journal ≡ complex.old.journal }
-        ensures current { complex.new.current ≡ complex.old.current }
-        ensures placed { complex.new.placed ≡ complex.old.placed }
-        ensures first { complex.new.first ≡ complex.old.first }
-        ensures second { complex.new.second ≡ complex.old.second }
-        ensures level { complex.new.level ≡ complex.old.level }
-        ensures reserved { complex.new.reserved ≡ complex.old.reserved }
-        ensures book { complex.new.book ≡ after_try complex.old.book self.now.id inner }
-        ensures ok { OnOk result (try_refusal complex.old.book self.now.id inner ≡ None) }
-        ensures err { IfErr result (λ e. try_refusal complex.old.book self.now.id inner ≡ Some e) }
-    {
-        complex.try_lock(self.id, inner)
-    }
-
-    /// The member gives the lock up. Its batch is written: it has none. NotHolder comes exactly where it doesn't hold,
-    /// and nothing is changed then. All but the book, and a batch that was reserved and hasn't begun, is as it was.
-    pub fn free<P: Plant + Drop, C: Steady + Drop>(
-        &self,
-        complex: &mut Complex<P, C>,
-        inner: bool,
-    ) -> Result<(), NotHolder>
-        requires member { IsMember complex.old.book self.now.id }
-        requires nothing { self.now.batch ≡ [] }
-        requires none { is_holder complex.old.book self.now.id ≡ true → complex.old.current ≡ None }
-        requires up { is_holder complex.old.book self.now.id ≡ true → is_stopped complex.old.book self.now.id ≡ false }
-        ensures plant { complex.new.plant ≡ complex.old.plant }
-        ensures pair { complex.new.pair ≡ complex.old.pair }
-        ensures base { complex.new.base ≡ complex.old.base }
-        ensures printed { complex.new.printed ≡ complex.old.printed }
-        ensures since { complex.new.since ≡ complex.old.since }
-        ensures journal { complex.new.journal ≡ complex.old.journal }
-        ensures current { complex.new.current ≡ complex.old.current }
-        ensures placed { complex.new.placed ≡ complex.old.placed }
-        ensures first { complex.new.first ≡ complex.old.first }
-        ensures second { complex.new.second ≡ complex.old.second }
-        ensures level { complex.new.level ≡ complex.old.level }
-        ensures reserved { OnOk result (complex.new.reserved ≡ None) }
-        ensures book { complex.new.book ≡ after_free complex.old.book self.now.id inner }
-        ensures ok { OnOk result (free_refusal complex.old.book self.now.id ≡ None) }
-        ensures err { IfErr result (λ e. free_refusal complex.old.book self.now.id ≡ Some e) }
-        ensures err_reserved { OnErr result (complex.new.reserved ≡ complex.old.reserved) }
-    {
-        complex.free(self.id, inner)
-    }
+    ghost use Rattle.member_node.specs.Reads.{IsReadIn, IsSettle, IsUpTo, ReadsLow, pages_had, too_high};
 
     /// The first read: page 0, from CKPT1 while its copy counts as alive, else from CKPT2. The member holds the lock.
     ///
@@ -388,9 +323,10 @@ impl Member {
     }
 
     /// The second read, after the first one: all other pages. It answers their number. Their bytes come into the
-    /// member's room, and their spelling is tested, unless they are byte for byte the member's own pages, which is noted
-    /// in `alike`; its tables are as they were, until `catch_up` brings them up to these pages. A copy from which a page came that is no
-    /// spelling is lost, and all is read again from the other one; where content is told that doesn't come.
+    /// member's room, and their spelling is tested, unless they are byte for byte the member's own pages, which is
+    /// noted in `alike`. Its tables are as they were, until `catch_up` brings them up to these pages. A copy from which
+    /// a page came that is no spelling is lost, and all is read again from the other one. Where content is told that
+    /// doesn't come.
     ///
     /// After Ok the pages in the room are those that each copy reads which counts as alive, and stand for the queue
     /// after the kept batches. BothLost comes only where both copies count as lost at the end of the call, Halted only
@@ -528,8 +464,8 @@ impl Member {
     /// orders that aren't below the next one, or too high ones. The member is as it was then, and where nothing was
     /// read.
     ///
-    /// Its tables are those that its own pages were drawn from: where it read the same bytes, which is `alike`, they are
-    /// up already, and stay.
+    /// Its tables are those that its own pages were drawn from: where it read the same bytes, which is `alike`, they
+    /// are up already, and stay.
     ///
     /// NoMemory leaves the member as it was.
     pub fn catch_up(&mut self, alloc: Global, alike: bool) -> Result<bool, NoMemory>

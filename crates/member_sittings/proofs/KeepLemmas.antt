@@ -1,5 +1,5 @@
 -- What a sitting of one batch did, from the calls that keep the batch and say the lines.
-use Rattle.std.proofs.Common.{◌≡◌, inr, ℕ, ◌≤◌, Bool, List, [], ◌∷◌, ◌++◌, length, None, false, Result, Ok, Err, append-nil, refl, sym, ◌∙◌, ap, subst}
+use Rattle.std.proofs.Common.{◌≡◌, inr, ℕ, ◌≤◌, Bool, List, [], ◌∷◌, ◌++◌, length, None, false, Result, Ok, Err, append-nil, refl, sym, ◌∙◌, ap, subst, arith}
 use Rattle.mas_types.specs.declared.ids.MemberId.{MemberId}
 use Rattle.mas_types.specs.declared.journals.Entry.{Entry}
 use Rattle.spool_disk.specs.View.{View}
@@ -13,9 +13,12 @@ use Rattle.member_node.specs.Spares.{Spares, stopped_in}
 use Rattle.member_node.specs.Writes.{HasKept}
 use Rattle.member_node.proofs.CourseLemmas.{course_none, only_none, papers_none}
 use Rattle.member_node.proofs.SpareLemmas.{spares_none}
+use Rattle.member_steps.specs.Counting.{HasCounted}
 use Rattle.member_steps.specs.Steps.{IsStep, StepCauses, StepLeaves}
+use Rattle.member_steps.proofs.CountLemmas.{counted_error, counted_ok, counted_one, counted_up}
 use Rattle.member_decks.specs.Batches.{HasAll}
 use Rattle.member_decks.specs.Keeping.{CopyCauses, GivesUpLeaves, IsOnCopies, KeepLeaves}
+use Rattle.step_turns.specs.Entries.{all_entries}
 use Rattle.step_turns.specs.Sittings.{Sitting, released}
 use Rattle.step_turns.specs.declared.states.Holder.{Holder}
 use Rattle.step_turns.specs.declared.states.Release.{Release}
@@ -23,7 +26,7 @@ use Rattle.step_turns.specs.declared.states.State.{State}
 use Rattle.member_sittings.specs.declared.ends.SittingEnd.{SittingEnd}
 use Rattle.member_sittings.specs.Ends.{ends_in}
 use Rattle.member_sittings.specs.Left.{HasSaid, said_of}
-use Rattle.member_sittings.specs.Sat.{IsEndOf, IsSat, journal_of}
+use Rattle.member_sittings.specs.Sat.{IsEndOf, IsSatAs, journal_of}
 use Rattle.member_sittings.proofs.ReachLemmas.{OneLeft, none_left, one_all, one_given_up, one_kept, one_step, one_unkept, said_answer, said_by, said_none}
 
 -- the causes of an answer are those of a step's
@@ -60,66 +63,74 @@ module _ {P C : Type 0} (plants : PlantGhosts P) (by : MemberId) (h : Holder) (s
   Of es = ends_in h (es ∷ []) next lines
 
   -- the member is the holder
-  named : (es : List Entry) (r : Result SittingEnd NodeNo) → IsSat plants by (Of es) x y r → IsSat plants h.by (Of es) x y r
-  named es r sat = subst (λ (i : MemberId). IsSat plants i (Of es) x y r) (sym same) sat
+  named : (es : List Entry) (r : Result SittingEnd NodeNo) → IsSatAs plants by (Of es) x y r → IsSatAs plants h.by (Of es) x y r
+  named es r sat = subst (λ (i : MemberId). IsSatAs plants i (Of es) x y r) (sym same) sat
 
   -- acts on the copies alone, after which a sitting ended with this error
   by_copies : (es : List Entry) (e : NodeNo) → IsOnCopies {T = Unit {0}} plants.tells by.0 x.first_alive y.first_alive x.second_alive y.second_alive V W (Err e) → OneLeft {T = SittingEnd} by V.now W.now es x.batches (journal_of y) (Err e)
-      → IsSat plants h.by (Of es) x y (Err e)
-  by_copies es e acts one = named es (Err e) (record {
-    acts = record {
-      course = acts.course;
-      loses = acts.loses;
-      others = λ t. (acts.apart t).others;
-      papers = λ t. (acts.apart t).papers;
-      spares = spares_of SittingEnd e by.0 V W acts.spares;
-      cause = causes_of SittingEnd e by.0 x.first_alive y.first_alive x.second_alive y.second_alive V W acts.cause;
+      → {gave : List Entry} → HasCounted {T = Unit {0}} by gave x.printed y.printed (Err e) → IsSatAs plants h.by (Of es) x y (Err e)
+  by_copies es e acts one {gave} counts = named es (Err e) (record {
+    sat = record {
+      acts = record {
+        course = acts.course;
+        loses = acts.loses;
+        others = λ t. (acts.apart t).others;
+        papers = λ t. (acts.apart t).papers;
+        spares = spares_of SittingEnd e by.0 V W acts.spares;
+        cause = causes_of SittingEnd e by.0 x.first_alive y.first_alive x.second_alive y.second_alive V W acts.cause;
+      };
+      reach = one.by_it.reach;
+      more = one.more;
+      journal = one.are;
+      left = one.by_it.left;
+      reached = one.by_it.reached;
+      console = λ t. said_none lines (console_now V) (console_now W) _ e (no_console e by.0 x.first_alive y.first_alive x.second_alive y.second_alive V W acts.cause) (acts.apart t).console;
+      counts = counted_up by gave (all_entries (es ∷ [])) x.printed y.printed (Err e) e counts;
+      ends = tt;
     };
-    reach = one.by_it.reach;
-    more = one.more;
-    journal = one.are;
-    left = one.by_it.left;
-    reached = one.by_it.reached;
-    console = λ t. said_none lines (console_now V) (console_now W) _ e (no_console e by.0 x.first_alive y.first_alive x.second_alive y.second_alive V W acts.cause) (acts.apart t).console;
-    ends = tt;
+    tight = one.tight;
   })
 
   -- the batch couldn't be kept
   pub sat_unkept : (es : List Entry) (e : NodeNo) → 1 ≤ length es → IsOnCopies {T = Unit {0}} plants.tells by.0 x.first_alive y.first_alive x.second_alive y.second_alive V W (Err e)
-      → KeepLeaves {T = Unit {0}} (Err e) x.batches (journal_of y) (begun V.now by es) W.now → IsSat plants h.by (Of es) x y (Err e)
-  sat_unkept es e some acts leaves = by_copies es e acts (one_unkept by V.now W.now acts.course.goes.later es some x.batches (journal_of y) e leaves)
+      → KeepLeaves {T = Unit {0}} (Err e) x.batches (journal_of y) (begun V.now by es) W.now → HasCounted {T = Unit {0}} by es x.printed y.printed (Err e) → IsSatAs plants h.by (Of es) x y (Err e)
+  sat_unkept es e some acts leaves counts = by_copies es e acts (one_unkept by V.now W.now acts.course.goes.later es some x.batches (journal_of y) e leaves) counts
 
   -- out of memory before the batch had all its entries
-  pub sat_given_up : (es rest : List Entry) (e : NodeNo) → IsOnCopies {T = Unit {0}} plants.tells by.0 x.first_alive y.first_alive x.second_alive y.second_alive V W (Err e)
-      → GivesUpLeaves e x.batches (journal_of y) (begun V.now by es) W.now → IsSat plants h.by (Of (es ++ rest)) x y (Err e)
-  sat_given_up es rest e acts leaves = by_copies (es ++ rest) e acts (one_given_up by V.now W.now acts.course.goes.later es rest x.batches (journal_of y) e leaves)
+  pub sat_given_up : (es rest : List Entry) (e : NodeNo) → 1 ≤ length rest → IsOnCopies {T = Unit {0}} plants.tells by.0 x.first_alive y.first_alive x.second_alive y.second_alive V W (Err e)
+      → GivesUpLeaves e x.batches (journal_of y) (begun V.now by es) W.now → HasCounted {T = Unit {0}} by [] x.printed y.printed (Err e) → IsSatAs plants h.by (Of (es ++ rest)) x y (Err e)
+  sat_given_up es rest e more acts leaves counts = by_copies (es ++ rest) e acts (one_given_up by V.now W.now acts.course.goes.later es rest x.batches (journal_of y) e more leaves) counts
 
   -- the batch was kept, and nothing is said
   pub sat_kept : (es : List Entry) (end : SittingEnd) → 1 ≤ length es → lines ≡ [] → IsEndOf (Of es) end → IsOnCopies {T = Unit {0}} plants.tells by.0 x.first_alive y.first_alive x.second_alive y.second_alive V W (Ok tt)
-      → HasKept x.batches (journal_of y) (begun V.now by es) W.now → IsSat plants h.by (Of es) x y (Ok end)
-  sat_kept es end some silent ends acts kept =
-      let one : OneLeft by V.now W.now es x.batches (journal_of y) (Ok end) = one_kept by V.now W.now acts.course.goes.later es some x.batches (journal_of y) (Ok end) kept in
+      → HasKept x.batches (journal_of y) (begun V.now by es) W.now → HasCounted {T = Unit {0}} by es x.printed y.printed (Ok tt) → IsSatAs plants h.by (Of es) x y (Ok end)
+  sat_kept es end some silent ends acts kept counts =
+      let one : OneLeft by V.now W.now es x.batches (journal_of y) (Ok end) = one_kept by V.now W.now acts.course.goes.later es some x.batches (journal_of y) (Ok end) tt kept in
       named es (Ok end) (record {
-        acts = record {
-          course = acts.course;
-          loses = acts.loses;
-          others = λ t. (acts.apart t).others;
-          papers = λ t. (acts.apart t).papers;
-          spares = acts.spares;
-          cause = acts.cause;
+        sat = record {
+          acts = record {
+            course = acts.course;
+            loses = acts.loses;
+            others = λ t. (acts.apart t).others;
+            papers = λ t. (acts.apart t).papers;
+            spares = acts.spares;
+            cause = acts.cause;
+          };
+          reach = one.by_it.reach;
+          more = one.more;
+          journal = one.are;
+          left = one.by_it.left;
+          reached = one.by_it.reached;
+          console = λ t. record {
+            said = record { lines = length lines; torn = None };
+            is = (acts.apart t).console ∙ sym (append-nil (console_now V)) ∙ silently t;
+            by_answer = refl;
+            once_kept = inr (one_all by V.now W.now acts.course.goes.later es some x.batches (journal_of y) kept);
+          };
+          counts = counted_ok by (all_entries (es ∷ [])) x.printed y.printed tt end (counted_one by es x.printed y.printed (Ok tt) counts);
+          ends = ends;
         };
-        reach = one.by_it.reach;
-        more = one.more;
-        journal = one.are;
-        left = one.by_it.left;
-        reached = one.by_it.reached;
-        console = λ t. record {
-          said = record { lines = length lines; torn = None };
-          is = (acts.apart t).console ∙ sym (append-nil (console_now V)) ∙ silently t;
-          by_answer = refl;
-          once_kept = inr (one_all by V.now W.now acts.course.goes.later es some x.batches (journal_of y) kept);
-        };
-        ends = ends;
+        tight = one.tight;
       })
     where
       silently : plants.tells → console_now V ++ [] ≡ console_now V ++ said_of (record { lines = length lines; torn = None }) lines
@@ -141,69 +152,81 @@ module _ {P C : Type 0} (plants : PlantGhosts P) (by : MemberId) (h : Holder) (s
         (step.console t)
 
     -- the batch or its lines ended with an error
-    pub sat_unclosed : (e : NodeNo) → Step (Err e) → IsSat plants h.by (Of es) x y (Err e)
-    sat_unclosed e step =
+    pub sat_unclosed : (e : NodeNo) → Step (Err e) → HasCounted {T = Unit {0}} by es x.printed y.printed (Err e) → IsSatAs plants h.by (Of es) x y (Err e)
+    sat_unclosed e step counts =
         let one : OneLeft {T = SittingEnd} by V.now W.now es x.batches (journal_of y) (Err e) = one_step by V.now W.now step.course.goes.later es some x.batches (journal_of y) e step.journal in
         named es (Err e) (record {
-          acts = record {
-            course = step.course;
-            loses = step.loses;
-            others = step.others;
-            papers = step.papers;
-            spares = spares_of SittingEnd e by.0 V W step.spares;
-            cause = step_causes SittingEnd e by.0 x.first_alive y.first_alive x.second_alive y.second_alive V W step.cause;
+          sat = record {
+            acts = record {
+              course = step.course;
+              loses = step.loses;
+              others = step.others;
+              papers = step.papers;
+              spares = spares_of SittingEnd e by.0 V W step.spares;
+              cause = step_causes SittingEnd e by.0 x.first_alive y.first_alive x.second_alive y.second_alive V W step.cause;
+            };
+            reach = one.by_it.reach;
+            more = one.more;
+            journal = one.are;
+            left = one.by_it.left;
+            reached = one.by_it.reached;
+            console = λ t. said_answer All_kept lines (console_now V) (console_now W) e (says (Err e) step t);
+            counts = counted_up by es (all_entries (es ∷ [])) x.printed y.printed (Err e) e counts;
+            ends = tt;
           };
-          reach = one.by_it.reach;
-          more = one.more;
-          journal = one.are;
-          left = one.by_it.left;
-          reached = one.by_it.reached;
-          console = λ t. said_answer All_kept lines (console_now V) (console_now W) e (says (Err e) step t);
-          ends = tt;
+          tight = one.tight;
         })
 
     -- the batch was kept, and its lines are said
-    pub sat_closed : (end : SittingEnd) → IsEndOf (Of es) end → Step (Ok tt) → IsSat plants h.by (Of es) x y (Ok end)
-    sat_closed end ends step =
-        let one : OneLeft by V.now W.now es x.batches (journal_of y) (Ok end) = one_kept by V.now W.now step.course.goes.later es some x.batches (journal_of y) (Ok end) step.journal in
+    pub sat_closed : (end : SittingEnd) → IsEndOf (Of es) end → Step (Ok tt) → HasCounted {T = Unit {0}} by es x.printed y.printed (Ok tt) → IsSatAs plants h.by (Of es) x y (Ok end)
+    sat_closed end ends step counts =
+        let one : OneLeft by V.now W.now es x.batches (journal_of y) (Ok end) = one_kept by V.now W.now step.course.goes.later es some x.batches (journal_of y) (Ok end) tt step.journal in
         named es (Ok end) (record {
-          acts = record {
-            course = step.course;
-            loses = step.loses;
-            others = step.others;
-            papers = step.papers;
-            spares = step.spares;
-            cause = step.cause;
+          sat = record {
+            acts = record {
+              course = step.course;
+              loses = step.loses;
+              others = step.others;
+              papers = step.papers;
+              spares = step.spares;
+              cause = step.cause;
+            };
+            reach = one.by_it.reach;
+            more = one.more;
+            journal = one.are;
+            left = one.by_it.left;
+            reached = one.by_it.reached;
+            console = λ t. let said = says (Ok tt) step t in record { said = said.said; is = said.is; by_answer = said.by_answer; once_kept = said.once_kept };
+            counts = counted_ok by (all_entries (es ∷ [])) x.printed y.printed tt end (counted_one by es x.printed y.printed (Ok tt) counts);
+            ends = ends;
           };
-          reach = one.by_it.reach;
-          more = one.more;
-          journal = one.are;
-          left = one.by_it.left;
-          reached = one.by_it.reached;
-          console = λ t. let said = says (Ok tt) step t in record { said = said.said; is = said.is; by_answer = said.by_answer; once_kept = said.once_kept };
-          ends = ends;
+          tight = one.tight;
         })
 
 -- nothing was done, out of memory
-pub sat_none : {P C : Type 0} (plants : PlantGhosts P) (by : MemberId) (h : Holder) (next : State) (lines : List (List ℕ)) (x : Parts P C) (es : List Entry) → journal_of x ≡ x.batches → IsSat plants by (ends_in h (es ∷ []) next lines) x x (Err NoMemory)
+pub sat_none : {P C : Type 0} (plants : PlantGhosts P) (by : MemberId) (h : Holder) (next : State) (lines : List (List ℕ)) (x : Parts P C) (es : List Entry) → journal_of x ≡ x.batches → IsSatAs plants by (ends_in h (es ∷ []) next lines) x x (Err NoMemory)
 sat_none plants by h next lines x es same =
     let v = plants.view x.plant in
     record {
-      acts = record {
-        course = course_none x.first_alive x.second_alive v;
-        loses = λ t d. refl;
-        others = λ t. only_none v;
-        papers = λ t. papers_none v;
-        spares = spares_none by.0 v;
-        cause = inr (refl, refl);
+      sat = record {
+        acts = record {
+          course = course_none x.first_alive x.second_alive v;
+          loses = λ t d. refl;
+          others = λ t. only_none v;
+          papers = λ t. papers_none v;
+          spares = spares_none by.0 v;
+          cause = inr (refl, refl);
+        };
+        reach = record { whole = 0; part = 0; flies = false };
+        more = [];
+        journal = same ∙ sym (append-nil x.batches);
+        left = none_left by v.now v.now (es ∷ []);
+        reached = refl;
+        console = λ t. said_none lines (console_now v) (console_now v) _ NoMemory (λ e. absurd (cc)) refl;
+        counts = counted_error by (all_entries (es ∷ [])) x.printed x.printed NoMemory refl;
+        ends = tt;
       };
-      reach = record { whole = 0; part = 0; flies = false };
-      more = [];
-      journal = same ∙ sym (append-nil x.batches);
-      left = none_left by v.now v.now (es ∷ []);
-      reached = refl;
-      console = λ t. said_none lines (console_now v) (console_now v) _ NoMemory (λ e. absurd (cc)) refl;
-      ends = tt;
+      tight = omega arith;
     }
 
 -- how a sitting of one batch ends

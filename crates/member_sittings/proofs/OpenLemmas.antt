@@ -1,7 +1,7 @@
 -- A deck's first commands in a sitting: the member may keep them, all of them or those before it is out of memory.
-use Rattle.std.proofs.Common.{◌≡◌, ℕ, ◌+◌, ◌*◌, ◌≤◌, true, List, [], ◌∷◌, ◌++◌, All, Result, Ok, Err, refl, sym, ◌∙◌, ap, subst, arith}
+use Rattle.std.proofs.Common.{◌≡◌, ℕ, ◌+◌, ◌*◌, ◌≤◌, true, List, [], ◌∷◌, ◌++◌, length, All, Result, Ok, Err, refl, sym, ◌∙◌, ap, subst, arith}
 use Rattle.std.proofs.Math.Logic.{∥∥₁_map}
-use Rattle.std.proofs.lemmas.List.Elements.{All-tail, All-append}
+use Rattle.std.proofs.lemmas.List.Elements.{All-append, All-cons, All-tail}
 use Rattle.mas_types.specs.declared.ids.MemberId.{MemberId}
 use Rattle.mas_types.specs.declared.jobs.JobFields.{JobFields}
 use Rattle.mas_types.specs.declared.journals.Batch.{Batch}
@@ -44,14 +44,33 @@ all_strip P [] l all = all
 all_strip P (x ∷ xs) [] all = all
 all_strip P (x ∷ xs) (y ∷ l) all = all_strip P xs l (All-tail P y l all)
 
--- the first entries of a list, and what comes after them, are the whole list
-pub front_is : (es all : List Entry) → LeaveOut es all → es ++ strip es all ≡ all
-front_is es all part = ap (λ (l : List Entry). es ++ strip es l) part.1 ∙ ap (λ (l : List Entry). es ++ l) (strip_front es part.0) ∙ sym part.1
+-- these entries, or this one where there are none
+abbrev pub or_one : Entry → List Entry → List Entry
+or_one e [] = e ∷ []
+or_one e (x ∷ l) = x ∷ l
 
-pub of_strip : (by : MemberId) (at : ℕ) (es all : List Entry) → AreOf by at es → AreOf by at all → AreOf by at (es ++ strip es all)
-of_strip by at es all here there =
+pub one_some : (e : Entry) (l : List Entry) → 1 ≤ length (or_one e l)
+one_some e [] = omega arith
+one_some e (x ∷ l) = omega arith
+
+one_same : (e : Entry) (l : List Entry) → 1 ≤ length l → or_one e l ≡ l
+one_same e [] some = absurd (omega (arith, some))
+one_same e (x ∷ l) some = refl
+
+one_all : (P : Entry → Type 0) (e : Entry) (l : List Entry) → P e → All P l → All P (or_one e l)
+one_all P e [] one all = All-cons P e [] one all
+one_all P e (x ∷ l) one all = all
+
+-- the first entries of a list, and what comes after them, are the whole list
+pub front_is : (es all : List Entry) (e : Entry) → LeaveOut es all → es ++ or_one e (strip es all) ≡ all
+front_is es all e part =
+    let rest = ap (strip es) part.1 ∙ strip_front es part.0 in
+    ap (λ (l : List Entry). es ++ or_one e l) rest ∙ ap (λ (l : List Entry). es ++ l) (one_same e part.0 part.2) ∙ sym part.1
+
+pub of_strip : (by : MemberId) (at : ℕ) (es all : List Entry) (e : Entry) → (e.by ≡ by) × (e.step ≡ at) → AreOf by at es → AreOf by at all → AreOf by at (es ++ or_one e (strip es all))
+of_strip by at es all e its here there =
     let P = λ (e : Entry). (e.by ≡ by) × (e.step ≡ at) in
-    All-append P es (strip es all) here (all_strip P es all there)
+    All-append P es (or_one e (strip es all)) here (one_all P e (strip es all) its (all_strip P es all there))
 
 -- WHAT WAS GIVEN
 

@@ -1,6 +1,6 @@
 -- How far a sitting came, from what its parts left in the journal and on the console.
-use Rattle.std.proofs.Common.{◌≡◌, ◌⊎◌, inl, inr, ⊎_elim, ℕ, suc, ◌≤◌, ◌<◌, Bool, true, false, List, [], ◌∷◌, ◌++◌, length, map, take, drop, Some, None, Result, Ok, Err, append_assoc, append-nil, refl, sym, ◌∙◌, ap, subst, arith}
-use Rattle.std.proofs.lemmas.List.{take_at}
+use Rattle.std.proofs.Common.{◌≡◌, ◌⊎◌, inl, inr, ⊎_elim, ℕ, suc, ◌≤◌, ◌<◌, Bool, true, false, List, [], ◌∷◌, ◌++◌, length, map, take, Some, None, Result, Ok, Err, append_assoc, append-nil, refl, sym, ◌∙◌, ap, subst, arith}
+use Rattle.std.proofs.lemmas.List.{length-append, take_at}
 use Rattle.mas_types.specs.declared.ids.MemberId.{MemberId}
 use Rattle.mas_types.specs.declared.journals.Batch.{Batch}
 use Rattle.mas_types.specs.declared.journals.Entry.{Entry}
@@ -17,6 +17,7 @@ use Rattle.member_decks.specs.Batches.{AreAll, AreCut, HasAll, IsKeptBatch, OneF
 use Rattle.member_decks.specs.Keeping.{GivesUpLeaves, KeepLeaves}
 use Rattle.step_turns.specs.Batches.{batch_of}
 use Rattle.member_sittings.specs.Left.{HasLeft, HasSaid, IsLastBatch, Reach, ReachesBy, StandThere, left_by, reach_all, said_nothing, said_of}
+use Rattle.member_sittings.specs.Tight.{IsTightBy}
 
 -- A BATCH, AND SOME OF ITS ENTRIES
 
@@ -32,10 +33,6 @@ part_front es rest some = ap batch_of (take_at es rest (length es) refl) ∙ bat
 take_all : {A : Type 0} (xs : List A) → take (length xs) xs ≡ xs
 take_all [] = refl
 take_all (x ∷ xs) = ap (λ l. x ∷ l) (take_all xs)
-
-drop_all : {A : Type 0} (xs : List A) → drop (length xs) xs ≡ []
-drop_all [] = refl
-drop_all (x ∷ xs) = drop_all xs
 
 -- a reach to the end leaves all batches
 pub left_all : (ess : List (List Entry)) → left_by (reach_all ess) ess ≡ ess
@@ -68,19 +65,23 @@ pub all_left : (by : MemberId) (from now : ℕ) (ess : List (List Entry)) (bs : 
 all_left by from now ess bs all = record {
   within = omega arith;
   flying = λ e. absurd (cc);
+  fits = omega arith;
+  cut = λ e some. absurd (omega (arith, some));
   stand = subst (λ (l : List (List Entry)). StandThere false by from now l bs) (sym (left_all ess)) (stand_all by from now ess bs all);
 }
 
 -- nothing was begun
 pub none_left : (by : MemberId) (from now : ℕ) (ess : List (List Entry)) → HasLeft by from now ess (record { whole = 0; part = 0; flies = false }) []
-none_left by from now ess = record { within = omega arith; flying = λ e. absurd (cc); stand = refl }
+none_left by from now ess = record { within = omega arith; flying = λ e. absurd (cc); fits = omega arith; cut = λ e some. absurd (omega (arith, some)); stand = refl }
 
--- some entries of the first batch stand in the journal alone
-pub part_left : (flies : Bool) (by : MemberId) (from now : ℕ) (es rest : List Entry) (ess : List (List Entry)) (b : Batch) → 1 ≤ length es → IsLastBatch flies by es from now b
+-- some entries of the first batch stand in the journal alone, not all where they are kept
+pub part_left : (flies : Bool) (by : MemberId) (from now : ℕ) (es rest : List Entry) (ess : List (List Entry)) (b : Batch) → 1 ≤ length es → (flies ≡ false → 1 ≤ length rest) → IsLastBatch flies by es from now b
     → HasLeft by from now ((es ++ rest) ∷ ess) (record { whole = 0; part = length es; flies = flies }) (b ∷ [])
-part_left flies by from now es rest ess b some last = record {
+part_left flies by from now es rest ess b some more last = record {
   within = omega arith;
   flying = λ e. some;
+  fits = let all = length-append es rest in omega (arith, all);
+  cut = λ e one. let all = length-append es rest in let left = more e in omega (arith, all, left);
   stand = subst (λ (l : List (List Entry)). StandThere flies by from now l (b ∷ [])) (sym (part_front es rest some)) (refl, last);
 }
 
@@ -92,6 +93,8 @@ next_left flies by from now es ess b bs kept l = record {
   left = record {
     within = let within = l.left.within in omega (arith, within);
     flying = l.left.flying;
+    fits = l.left.fits;
+    cut = l.left.cut;
     stand = stand_next l.reach.flies by from now es (left_by l.reach ess) b bs kept l.left.stand;
   };
 }
@@ -102,7 +105,7 @@ cut_left by from now (es ∷ ess) [] cut = record { reach = record { whole = 0; 
 cut_left by from now (es ∷ ess) (b ∷ bs) cut = ⊎_elim
     (λ last.
     let front : List Entry = last.1.0 in
-    let part = part_left false by from now front last.1.1.1.0 ess b last.1.1.0 last.1.2 in
+    let part = part_left false by from now front last.1.1.1.0 ess b last.1.1.0 (λ e. last.1.1.1.2) last.1.2 in
     record {
       reach = record { whole = 0; part = length front; flies = false };
       flag = refl;
@@ -118,7 +121,7 @@ flies_left by from now (es ∷ ess) [] one = absurd one
 flies_left by from now (es ∷ ess) (b ∷ bs) one = ⊎_elim
     (λ last.
     let front : List Entry = last.1.0 in
-    let part = part_left true by from now front last.1.1.1.0 ess b last.1.1.0 last.1.2 in
+    let part = part_left true by from now front last.1.1.1.0 ess b last.1.1.0 (λ e. absurd (cc)) last.1.2 in
     record {
       reach = record { whole = 0; part = length front; flies = true };
       flag = refl;
@@ -170,6 +173,7 @@ pub record OneLeft {T : Type 0} (by : MemberId) (from now : ℕ) (all : List Ent
   pub more : List Batch
   pub are : batches ≡ front ++ more
   pub by_it : LeftBy by from now (all ∷ []) more result
+  pub tight : IsTightBy result (all ∷ []) by_it.reach
 
 module _ (by : MemberId) (from now : ℕ) (later : from ≤ now) (es rest : List Entry) (front batches : List Batch) where
   abbrev Cut : Batch
@@ -177,9 +181,9 @@ module _ (by : MemberId) (from now : ℕ) (later : from ≤ now) (es rest : List
 
   -- nothing was begun
   pub one_none : {T : Type 0} (e : NodeNo) → (e ≡ ConsoleFault → ⊥) → batches ≡ front → OneLeft {T = T} by from now (es ++ rest) front batches (Err e)
-  one_none NoMemory never none = record { more = []; are = none ∙ sym (append-nil front); by_it = record { reach = record { whole = 0; part = 0; flies = false }; left = none_left by from now ((es ++ rest) ∷ []); reached = refl } }
-  one_none BothLost never none = record { more = []; are = none ∙ sym (append-nil front); by_it = record { reach = record { whole = 0; part = 0; flies = false }; left = none_left by from now ((es ++ rest) ∷ []); reached = tt } }
-  one_none Halted never none = record { more = []; are = none ∙ sym (append-nil front); by_it = record { reach = record { whole = 0; part = 0; flies = false }; left = none_left by from now ((es ++ rest) ∷ []); reached = tt } }
+  one_none NoMemory never none = record { more = []; are = none ∙ sym (append-nil front); by_it = record { reach = record { whole = 0; part = 0; flies = false }; left = none_left by from now ((es ++ rest) ∷ []); reached = refl }; tight = omega arith }
+  one_none BothLost never none = record { more = []; are = none ∙ sym (append-nil front); by_it = record { reach = record { whole = 0; part = 0; flies = false }; left = none_left by from now ((es ++ rest) ∷ []); reached = tt }; tight = (omega arith, λ part. absurd (omega (arith, part))) }
+  one_none Halted never none = record { more = []; are = none ∙ sym (append-nil front); by_it = record { reach = record { whole = 0; part = 0; flies = false }; left = none_left by from now ((es ++ rest) ∷ []); reached = tt }; tight = λ part. absurd (omega (arith, part)) }
   one_none ConsoleFault never none = absurd (never refl)
 
   flown : IsLastBatch true by es from now Cut
@@ -190,21 +194,21 @@ module _ (by : MemberId) (from now : ℕ) (later : from ≤ now) (es rest : List
 
   -- the first entries of a batch are in flight
   pub one_lost : {T : Type 0} → 1 ≤ length es → HasFlying front batches Cut → OneLeft {T = T} by from now (es ++ rest) front batches (Err BothLost)
-  one_lost some flies = record { more = Cut ∷ []; are = flies; by_it = record { reach = record { whole = 0; part = length es; flies = true }; left = part_left true by from now es rest [] Cut some flown; reached = tt } }
+  one_lost some flies = record { more = Cut ∷ []; are = flies; by_it = record { reach = record { whole = 0; part = length es; flies = true }; left = part_left true by from now es rest [] Cut some (λ e. absurd (cc)) flown; reached = tt }; tight = (omega arith, λ part. refl) }
 
   pub one_halted : {T : Type 0} → 1 ≤ length es → HasFlying front batches Cut → OneLeft {T = T} by from now (es ++ rest) front batches (Err Halted)
-  one_halted some flies = record { more = Cut ∷ []; are = flies; by_it = record { reach = record { whole = 0; part = length es; flies = true }; left = part_left true by from now es rest [] Cut some flown; reached = tt } }
+  one_halted some flies = record { more = Cut ∷ []; are = flies; by_it = record { reach = record { whole = 0; part = length es; flies = true }; left = part_left true by from now es rest [] Cut some (λ e. absurd (cc)) flown; reached = tt }; tight = λ part. refl }
 
   -- out of memory after the first entries of a batch, which are kept
-  pub one_wanted : {T : Type 0} → 1 ≤ length es → HasKept front batches Cut now → OneLeft {T = T} by from now (es ++ rest) front batches (Err NoMemory)
-  one_wanted some k = record { more = fated Kept k.0 Cut ∷ []; are = k.3; by_it = record { reach = record { whole = 0; part = length es; flies = false }; left = part_left false by from now es rest [] (fated Kept k.0 Cut) some (kept k); reached = refl } }
+  pub one_wanted : {T : Type 0} → 1 ≤ length es → 1 ≤ length rest → HasKept front batches Cut now → OneLeft {T = T} by from now (es ++ rest) front batches (Err NoMemory)
+  one_wanted some more k = record { more = fated Kept k.0 Cut ∷ []; are = k.3; by_it = record { reach = record { whole = 0; part = length es; flies = false }; left = part_left false by from now es rest [] (fated Kept k.0 Cut) some (λ e. more) (kept k); reached = refl }; tight = omega arith }
 
   -- a step that was out of memory in its first batch
-  pub one_given_up : {T : Type 0} (e : NodeNo) → GivesUpLeaves e front batches Cut now → OneLeft {T = T} by from now (es ++ rest) front batches (Err e)
-  one_given_up NoMemory leaves = ⊎_elim (λ none. one_none NoMemory (λ e. absurd (cc)) none) (λ k. one_wanted k.0 k.1) leaves
-  one_given_up BothLost leaves = one_lost leaves.0 leaves.1
-  one_given_up Halted leaves = one_halted leaves.0 leaves.1
-  one_given_up ConsoleFault leaves = absurd leaves
+  pub one_given_up : {T : Type 0} (e : NodeNo) → 1 ≤ length rest → GivesUpLeaves e front batches Cut now → OneLeft {T = T} by from now (es ++ rest) front batches (Err e)
+  one_given_up NoMemory more leaves = ⊎_elim (λ none. one_none NoMemory (λ e. absurd (cc)) none) (λ k. one_wanted k.0 more k.1) leaves
+  one_given_up BothLost more leaves = one_lost leaves.0 leaves.1
+  one_given_up Halted more leaves = one_halted leaves.0 leaves.1
+  one_given_up ConsoleFault more leaves = absurd leaves
 
 -- the whole batch
 module _ (by : MemberId) (from now : ℕ) (later : from ≤ now) (es : List Entry) (some : 1 ≤ length es) (front batches : List Batch) where
@@ -214,8 +218,25 @@ module _ (by : MemberId) (from now : ℕ) (later : from ≤ now) (es : List Entr
   pub one_all : HasKept front batches Whole now → HasAll by from now (es ∷ []) front batches
   one_all k = (fated Kept k.0 Whole ∷ [], k.3, (record { by_it = refl; entries = refl; kept = refl; moments = (omega arith, k.1, k.2) }, tt))
 
-  pub one_kept : {T : Type 0} (r : Result T NodeNo) → HasKept front batches Whole now → OneLeft by from now es front batches r
-  one_kept r k = let all = one_all k in record { more = all.0; are = all.1; by_it = by_all by from now (es ∷ []) all.0 r all.2 }
+  abbrev LastAnswer : {T : Type 0} → Result T NodeNo → Type 0
+  LastAnswer (Ok done) = Unit {0}
+  LastAnswer (Err ConsoleFault) = Unit {0}
+  LastAnswer (Err Halted) = Unit {0}
+  LastAnswer _ = ⊥
+
+  pub one_kept : {T : Type 0} (r : Result T NodeNo) → LastAnswer r → HasKept front batches Whole now → OneLeft by from now es front batches r
+  one_kept (Ok done) last k = let all = one_all k in record { more = all.0; are = all.1; by_it = by_all by from now (es ∷ []) all.0 (Ok done) all.2; tight = tt }
+  one_kept (Err ConsoleFault) last k = let all = one_all k in record { more = all.0; are = all.1; by_it = by_all by from now (es ∷ []) all.0 (Err ConsoleFault) all.2; tight = tt }
+  one_kept (Err Halted) last k =
+      let all = one_all k in
+      record {
+        more = all.0;
+        are = all.1;
+        by_it = record { reach = reach_all (es ∷ []); left = all_left by from now (es ∷ []) all.0 all.2; reached = tt };
+        tight = λ part. absurd (omega (arith, part));
+      }
+  one_kept (Err NoMemory) last k = absurd last
+  one_kept (Err BothLost) last k = absurd last
 
   -- a batch with no entries left to come
   alone : {T : Type 0} (r : Result T NodeNo) → OneLeft by from now (es ++ []) front batches r → OneLeft by from now es front batches r
@@ -229,14 +250,14 @@ module _ (by : MemberId) (from now : ℕ) (later : from ≤ now) (es : List Entr
 
   pub one_step : {T : Type 0} (e : NodeNo) → StepLeaves {T = Unit {0}} (Err e) front batches Whole now → OneLeft {T = T} by from now es front batches (Err e)
   one_step NoMemory none = alone (Err NoMemory) (one_none by from now later es [] front batches NoMemory (λ e. absurd (cc)) none)
-  one_step ConsoleFault k = one_kept (Err ConsoleFault) k
+  one_step ConsoleFault k = one_kept (Err ConsoleFault) tt k
   one_step BothLost leaves = ⊎_elim
       (λ none. alone (Err BothLost) (one_none by from now later es [] front batches BothLost (λ e. absurd (cc)) none))
       (λ flies. alone (Err BothLost) (one_lost by from now later es [] front batches some flies))
       leaves
   one_step Halted leaves = ⊎_elim
       (λ none. alone (Err Halted) (one_none by from now later es [] front batches Halted (λ e. absurd (cc)) none))
-      (λ two. ⊎_elim (λ flies. alone (Err Halted) (one_halted by from now later es [] front batches some flies)) (λ k. one_kept (Err Halted) k) two)
+      (λ two. ⊎_elim (λ flies. alone (Err Halted) (one_halted by from now later es [] front batches some flies)) (λ k. one_kept (Err Halted) tt k) two)
       leaves
 
 -- ON THE CONSOLE

@@ -22,7 +22,7 @@ use Rattle.lock_cycle.specs.Books.{Book}
 use Rattle.queue_tables.specs.Telling.{TellSound}
 use Rattle.spool_volumes.specs.Volumes.{AreRoomy}
 use Rattle.mas_complex.specs.Crash.{IsUntold, setting}
-use Rattle.mas_complex.specs.Journals.{begun}
+use Rattle.mas_complex.specs.Journals.{AreSettled, begun}
 use Rattle.mas_complex.specs.Paper.{MayBegin}
 use Rattle.mas_complex.specs.Parts.{Parts}
 use Rattle.member_node.specs.declared.member.Member.{Member}
@@ -32,15 +32,16 @@ use Rattle.member_node.specs.Drawn.{AreDrawn}
 use Rattle.member_node.specs.Reads.{AreLow, orders_after, too_high}
 use Rattle.member_node.specs.Writes.{HasKept}
 use Rattle.member_node.proofs.EntryLemmas.{nothing_done}
-use Rattle.member_steps.specs.Steps.{AreAllKept, IsBetween, entry_with}
+use Rattle.member_steps.specs.Steps.{IsBetween, entry_with}
 use Rattle.member_steps.proofs.ReadLemmas.{at_lock, calm_rest, low_written, one_batch, told_sound, untold_later}
-use Rattle.member_steps.proofs.StepLemmas.{begins_alone, between_done, can_draw, kept_later}
+use Rattle.member_steps.proofs.StepLemmas.{begins_alone, between_done, can_draw}
+use Rattle.member_steps.proofs.FateLemmas.{kept_from_out, settled_later, settled_out}
 use Rattle.member_decks.specs.Steps.{AreOf}
 use Rattle.member_decks.proofs.FinishLemmas.{one_of}
 use Rattle.member_decks.proofs.PageLemmas.{still_roomy}
 use Rattle.member_sittings.specs.Gates.{HasTakenSeat, IsAtGate, IsOpen}
 use Rattle.member_sittings.specs.Sat.{journal_of}
-use Rattle.member_sittings.specs.Whole.{Commanded, Half, HasTextsAfter, HasUntold, HoldsLock, IsAtRest, IsGiving, IsRoomy, IsSeat, IsSitting, IsStepUntold, IsStill, first_half, queue_of, second_half}
+use Rattle.member_sittings.specs.Whole.{Commanded, Half, HasStepKept, HasTextsAfter, HasUntold, HoldsLock, IsAtRest, IsGiving, IsRoomy, IsSeat, IsSitting, IsStepUntold, IsStill, first_half, queue_of, second_half}
 
 -- a member that has the lock has it by other names of book, configuration and member too
 holds_same : (b c : Book) (k l : Config) (m n : MemberId) → c ≡ b → l ≡ k → n ≡ m → HoldsLock b k m → HoldsLock c l n
@@ -89,6 +90,7 @@ module _ {P C : Type 0} (plants : PlantGhosts P) (copies : CopyGhosts C) where
       texts = texts;
       allowed = allowed;
       untold = λ t. subst (λ (i : MemberId). IsStepUntold copies.reads (view_of x) x.base x.since i at) (sym did.id) (s.untold t);
+      step = subst (λ (i : MemberId). HasStepKept plants copies x i at) (sym did.id) s.step;
     }
 
   -- one command alone, which is no Mark
@@ -119,7 +121,6 @@ module _ {P C : Type 0} (plants : PlantGhosts P) (copies : CopyGhosts C) where
     pub between : IsBetween plants.tells y.base y.batches y.current y.placed y.level n.batch n.checkpoint
     pub first : IsAtRest plants.tells (first_half plants copies y) n.checkpoint.pages
     pub second : IsAtRest plants.tells (second_half plants copies y) n.checkpoint.pages
-    pub kept : AreAllKept y.batches (view_of y).now
     pub goes : Goes (view_of x) (view_of y)
     pub leaves : HasKept x.batches (journal_of y) (begun (view_of x).now m.id m.batch) (view_of y).now
 
@@ -138,7 +139,7 @@ module _ {P C : Type 0} (plants : PlantGhosts P) (copies : CopyGhosts C) where
       config = same_config ∙ g.still.config ∙ sym (ap (λ (t : Tables). t.config) k.tables);
       first = k.first;
       second = k.second;
-      kept = k.kept;
+      kept = settled_out x.batches y.batches y.placed y.current (begun (view_of x).now m.id m.batch) (view_of x).now (view_of y).now k.goes.later k.between.unplaced k.between.none k.leaves g.still.kept;
       begun = let later = k.goes.later in let begun = g.still.begun in subst (λ (s : ℕ). s ≤ (view_of y).now) (sym k.since) (omega (arith, begun, later));
       roomy = λ t. subst (AreRoomy (view_of y)) (sym same_config) (still_roomy x.base.config (view_of x) (view_of y) k.goes (g.still.roomy t));
     }
@@ -161,8 +162,12 @@ module _ {P C : Type 0} (plants : PlantGhosts P) (copies : CopyGhosts C) where
         let later = untold_later copies.reads x.base x.since (view_of x) (view_of y) es g.still.begun k.goes (quiet t) (g.untold t es of_m) in
         subst (λ (Q : Queue). IsUntold (setting copies.reads Q y.since) (view_of y) es) (sym k.base) (subst (λ (s : ℕ). IsUntold (setting copies.reads x.base s) (view_of y) es) (sym k.since) later)
 
+    pub step_kept : (at : ℕ) → IsGiving plants copies x m at → HasStepKept plants copies y n.id at
+    step_kept at g = subst (λ (i : MemberId). HasStepKept plants copies y i at) (sym k.id)
+        (kept_from_out m.id at x.batches y.batches y.placed y.current (begun (view_of x).now m.id m.batch) (view_of x).now (view_of y).now k.goes.later k.between.unplaced k.between.none k.leaves g.step)
+
     pub sits_kept : (at : ℕ) → IsGiving plants copies x m at → (plants.tells → console_now (view_of y) ≡ console_now (view_of x)) → IsSitting plants copies y n at
-    sits_kept at g quiet = record { seat = seat_kept at g; untold = untold_kept at g quiet }
+    sits_kept at g quiet = record { seat = seat_kept at g; untold = untold_kept at g quiet; step = step_kept at g }
 
 -- the batch is the member's
 pub own_batch : (m : MemberId) (at : ℕ) (es : List Entry) → AreOf m at es → All (λ (e : Entry). e.by ≡ m) es
@@ -236,7 +241,7 @@ module _ {P C : Type 0} (plants : PlantGhosts P) (copies : CopyGhosts C) where
       config = base_config ∙ g.config ∙ sym k.config;
       first = k.first;
       second = k.second;
-      kept = subst (λ (bs : List Batch). AreAllKept bs (plants.view y.plant).now) (sym k.batches) (kept_later x.batches (plants.view x.plant).now (plants.view y.plant).now k.goes.later g.kept);
+      kept = subst (λ (bs : List Batch). AreSettled bs (plants.view y.plant).now) (sym k.batches) (settled_later x.batches (plants.view x.plant).now (plants.view y.plant).now k.goes.later g.kept);
       begun = let later = k.goes.later in let begun = g.begun in subst (λ (s : ℕ). s ≤ (plants.view y.plant).now) (sym k.since) (omega (arith, begun, later));
       roomy = λ t. subst (AreRoomy (plants.view y.plant)) (sym base_config) (still_roomy x.base.config (plants.view x.plant) (plants.view y.plant) k.goes (g.roomy t));
     }

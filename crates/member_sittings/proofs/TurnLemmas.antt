@@ -31,6 +31,7 @@ use Rattle.step_turns.specs.declared.states.Aside.TheVariants.{SpoolDeck}
 use Rattle.step_turns.specs.Turns.{Turn, deck_opens, turn}
 use Rattle.member_sittings.specs.Asides.{deck_found}
 use Rattle.member_sittings.specs.Ends.{ends_in}
+use Rattle.member_sittings.specs.Shapes.{IsShaped}
 use Rattle.member_sittings.proofs.ReachLemmas.{batch_some}
 
 -- A SITTING OF ONE PART
@@ -116,6 +117,12 @@ module _ (Q : Queue) (h : Holder) (fields : JobFields) (text : List (List ℕ)) 
 
   pub deck_waits : (n : JobNo) → job_opened Q h.by fields Groups ≡ Some n → sit Q h (Fresh (Deck fields text)) found ≡ ends_in h (FirstPart ∷ []) (Away (SpoolDeck n text)) []
   deck_waits n one = ap as_opened one ∙ sit_one h (deck_opens h (Some n) FirstPart text) FirstPart refl first_some
+
+-- however it ends, the first sitting of a deck has the shape of one; its only batch may have other entries
+pub opens_shaped : (h : Holder) (fields : JobFields) (text : List (List ℕ)) (found : Found) (o : Option JobNo) (first es : List Entry)
+    → IsShaped h (Fresh (Deck fields text)) found (ends_in h (es ∷ []) (deck_opens h o first text).next (deck_opens h o first text).lines)
+opens_shaped h fields text found None first es = record { few = omega arith; release = refl; says = (refl, (closing_reply first, refl)) }
+opens_shaped h fields text found (Some n) first es = record { few = omega arith; release = refl; says = (refl, refl) }
 
 -- A DECK'S SECOND PART
 

@@ -1,4 +1,4 @@
--- A member that got the lock, and takes its seat.
+-- A member that got the lock, and takes its seat, or has it still.
 use Rattle.std.specs.Prelude.{◌≡◌, ℕ, ◌≤◌, ◌<◌, length, None, Result}
 use Rattle.mas_types.specs.declared.ids.MemberId.{MemberId}
 use Rattle.mas_types.specs.declared.queues.Config.{Config}
@@ -8,11 +8,14 @@ use Rattle.spool_volumes.specs.Volumes.{AreRoomy}
 use Rattle.ckpt_copy.specs.declared.copying.Copying.{Ghosts as CopyGhosts}
 use Rattle.mas_complex.specs.declared.complex.Complex.{Complex}
 use Rattle.ckpt_form.specs.declared.steady.Steady.{Ghosts as SteadyGhosts}
+use Rattle.duplex_pair.specs.Halves.{IsBothLost}
+use Rattle.duplex_pair.specs.Outcomes.{least_room}
+use Rattle.mas_complex.specs.Journals.{AreSettled}
 use Rattle.mas_complex.specs.Parts.{Parts, parts_of}
 use Rattle.member_node.specs.declared.member.Member.{Member}
 use Rattle.member_node.specs.declared.member.NodeNo.{NodeNo}
 use Rattle.member_node.specs.Reads.{IsCalm, ReadsLow, too_high}
-use Rattle.member_steps.specs.Steps.{AreAllKept, IsAtLock, IsToldSound}
+use Rattle.member_steps.specs.Steps.{IsAtLock, IsToldSound}
 use Rattle.member_sittings.specs.Sat.{CopiesActed}
 use Rattle.member_sittings.specs.Whole.{Half, HoldsLock, IsBounded, IsSeat, first_half, queue_of, second_half}
 
@@ -26,8 +29,8 @@ module _ {P C : Type 0} (plants : PlantGhosts P) (copies : CopyGhosts C) where
   abbrev v : Parts P C → View
   v x = plants.view x.plant
 
-  -- The member holds the lock, and nothing is in flight, reserved or placed. It may know nothing of what the copies
-  -- have by now: others may have written since it did.
+  -- The member holds the lock, and nothing is in flight, reserved or placed. Every batch has its fate. The member may
+  -- know nothing of what the copies have by now: others may have written since it did.
   pub record IsAtGate (x : Parts P C) (m : Member) : Type 0 where
     pub holds : HoldsLock x.book x.base.config m.id
     pub at_lock : IsAtLock x.current x.placed m.batch m.checkpoint m.room
@@ -38,12 +41,17 @@ module _ {P C : Type 0} (plants : PlantGhosts P) (copies : CopyGhosts C) where
         (length m.room)
     pub sound : plants.tells → IsToldSound (queue_of x)
     pub config : x.base.config ≡ m.checkpoint.tables.config
-    pub kept : AreAllKept x.batches (v x).now
+    pub kept : AreSettled x.batches (v x).now
     pub begun : x.since ≤ (v x).now
     pub roomy : plants.tells → AreRoomy (v x) x.base.config
     pub level : x.level < too_high
 
-  -- The member has read what the copies have, and made room for a batch.
+  -- The member has its seat still, from a sitting before: it holds the lock since, so nobody else could write.
+  pub record IsAtSeat (x : Parts P C) (m : Member) : Type 0 where
+    pub seat : IsSeat plants copies x m
+    pub level : x.level < too_high
+
+  -- The member has read what the copies have, or knows it still, and made room for a batch.
   pub record HasTakenSeat (x : Parts P C) (m : Member) : Type 0 where
     pub seat : IsSeat plants copies x m
     pub bounds : IsBounded plants copies x m
@@ -54,9 +62,21 @@ module _ {P C : Type 0} {plants : PlantGhosts P} {steadies : SteadyGhosts C} {co
   abbrev pub MayTakeSeat : Complex P C plants steadies copies → Member → Type 0
   MayTakeSeat x m = IsAtGate plants copies (parts_of x) m
 
+  abbrev pub MayKeepSeat : Complex P C plants steadies copies → Member → Type 0
+  MayKeepSeat x m = IsAtSeat plants copies (parts_of x) m
+
   abbrev pub TookSeat : Complex P C plants steadies copies → Member → Type 0
   TookSeat x m = HasTakenSeat plants copies (parts_of x) m
 
   abbrev pub ActedOnCopies : {T : Type 0} → MemberId → Complex P C plants steadies copies
       → Complex P C plants steadies copies → Result T NodeNo → Type 0
   ActedOnCopies by x y result = CopiesActed plants by (parts_of x) (parts_of y) result
+
+  -- each copy that counts as alive has room for a batch, and one does
+  abbrev pub HaveRoom : Complex P C plants steadies copies → Type 0
+  HaveRoom x = 1 ≤ least_room x.pair.first.alive x.pair.second.alive (copies.room x.pair.first.copy)
+      (copies.room x.pair.second.copy)
+
+  -- neither copy counts as alive
+  abbrev pub AreBothLost : Complex P C plants steadies copies → Type 0
+  AreBothLost x = IsBothLost x.pair.first.alive x.pair.second.alive

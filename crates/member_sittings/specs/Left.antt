@@ -28,9 +28,13 @@ abbrev pub first_of : List (List Entry) → List Entry
 first_of [] = []
 first_of (es ∷ ess) = es
 
+-- the batch after those that are whole, if there is one
+abbrev pub next_in : Reach → List (List Entry) → List Entry
+next_in r ess = first_of (drop r.whole ess)
+
 -- the batches that stand in the journal, by their entries
 abbrev pub left_by : Reach → List (List Entry) → List (List Entry)
-left_by r ess = take r.whole ess ++ batch_of (take r.part (first_of (drop r.whole ess)))
+left_by r ess = take r.whole ess ++ batch_of (take r.part (next_in r ess))
 
 -- a batch that is in flight to the end, or else kept
 abbrev pub IsLastBatch : Bool → MemberId → List Entry → ℕ → ℕ → Batch → Type 0
@@ -55,11 +59,14 @@ ReachesBy (Err NoMemory) ess r = r.flies ≡ false
 ReachesBy (Err BothLost) ess r = Unit {0}
 ReachesBy (Err Halted) ess r = Unit {0}
 
--- A journal has more of these batches of a member, begun from a moment on, as far as this one came.
+-- A journal has more of these batches of a member, begun from a moment on, as far as this one came. Of a next batch no
+-- more entries stand there than it has, and where they are kept not all of them.
 pub record HasLeft (by : MemberId) (from now : ℕ) (ess : List (List Entry)) (reach : Reach) (more : List Batch) : Type 0
   where
     pub within : reach.whole ≤ length ess
     pub flying : reach.flies ≡ true → 1 ≤ reach.part
+    pub fits : reach.part ≤ length (next_in reach ess)
+    pub cut : reach.flies ≡ false → 1 ≤ reach.part → reach.part < length (next_in reach ess)
     pub stand : StandThere reach.flies by from now (left_by reach ess) more
 
 -- THE CONSOLE

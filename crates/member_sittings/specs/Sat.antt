@@ -1,5 +1,5 @@
 -- What a sitting did, for every answer.
-use Rattle.std.specs.Prelude.{◌≡◌, ℕ, ◌+◌, ◌*◌, ◌≤◌, ◌^◌, List, ◌++◌, length, All, Result, Err, IfOk}
+use Rattle.std.specs.Prelude.{◌≡◌, ℕ, ◌+◌, ◌*◌, ◌≤◌, ◌^◌, List, [], ◌++◌, length, All, Result, Err, IfOk}
 use Rattle.mas_types.specs.declared.ids.Dev.{Dev}
 use Rattle.mas_types.specs.declared.ids.MemberId.{MemberId}
 use Rattle.mas_types.specs.declared.journals.Batch.{Batch}
@@ -16,6 +16,7 @@ use Rattle.member_node.specs.declared.member.Member.{Member}
 use Rattle.member_node.specs.declared.member.NodeNo.{NodeNo}
 use Rattle.member_node.specs.Calls.{Course, IsOnlyOn, console_now}
 use Rattle.member_node.specs.Spares.{Spares, stopped_in}
+use Rattle.member_steps.specs.Counting.{HasCounted}
 use Rattle.member_steps.specs.Steps.{StepCauses}
 use Rattle.member_decks.specs.Batches.{HasAll}
 use Rattle.member_decks.specs.Keeping.{GivesUpLeaves, IsOnCopies}
@@ -30,6 +31,8 @@ use Rattle.step_turns.specs.declared.states.State.TheVariants.{Away}
 use Rattle.step_turns.specs.States.{nothing_found}
 use Rattle.member_sittings.specs.declared.ends.SittingEnd.{SittingEnd}
 use Rattle.member_sittings.specs.Left.{HasLeft, HasSaid, Reach, ReachesBy}
+use Rattle.member_sittings.specs.Shapes.{IsShaped}
+use Rattle.member_sittings.specs.Tight.{IfNoWork, IsTightBy}
 use Rattle.member_sittings.specs.Whole.{IsLeftIn, queue_of}
 
 -- What a sitting begins with: its member, which holds the lock, the step's state, and what was found in the acts that
@@ -86,7 +89,8 @@ module _ {P C : Type 0} (plants : PlantGhosts P) where
       HasSaid (AreKeptIn by t old new) t.lines (console_now (v old)) (console_now (v new)) result
 
   -- Acts of a sitting with these batches, next state and lines. They add to the journal what was kept, as far as the
-  -- sitting came, and what is in flight.
+  -- sitting came, and what is in flight. No other member's count of printed lines differs; its own is as its entries
+  -- leave it.
   pub record IsSat (by : MemberId) (t : Sitting) (old new : Parts P C) (result : Result SittingEnd NodeNo) : Type 0
     where
       pub acts : HasActed by old new result
@@ -96,14 +100,24 @@ module _ {P C : Type 0} (plants : PlantGhosts P) where
       pub left : HasLeft by (v old).now (v new).now t.batches reach more
       pub reached : ReachesBy result t.batches reach
       pub console : plants.tells → LinesAreSaid by t old new result
+      pub counts : HasCounted by (all_entries t.batches) old.printed new.printed result
       pub ends : IfOk result (λ e. IsEndOf t e)
 
-  -- A sitting that began so. Where content is told it is the one that the queue gives which the member found.
+  -- Acts of a sitting of one part: after an error its batch isn't kept in part, unless memory wanted.
+  pub record IsSatAs (by : MemberId) (t : Sitting) (old new : Parts P C) (result : Result SittingEnd NodeNo) : Type 0
+    where
+      pub sat : IsSat by t old new result
+      pub tight : IsTightBy result t.batches sat.reach
+
+  -- A sitting that began so. It has the shape of one from its state. Where content is told it is the one that the queue
+  -- gives which the member found.
   pub record Sat (s : Start) (old new : Parts P C) (result : Result SittingEnd NodeNo) : Type 0 where
     pub sitting : Sitting
     pub is : plants.tells → sitting ≡ sit (queue_of old) s.holder s.state s.found
     pub of : All (AreOf s.holder.by s.holder.step) sitting.batches
+    pub shaped : IsShaped s.holder s.state s.found sitting
     pub sat : IsSat s.holder.by sitting old new result
+    pub tight : IfNoWork s.state (IsTightBy result sitting.batches sat.reach)
 
   -- acts on the copies alone
   abbrev pub CopiesActed : {T : Type 0} → MemberId → Parts P C → Parts P C → Result T NodeNo → Type 0
@@ -115,6 +129,7 @@ module _ {P C : Type 0} (plants : PlantGhosts P) where
   -- that, or are in flight.
   pub record HasCut (by : MemberId) (es : List Entry) (old new : Parts P C) (why : NodeNo) : Type 0 where
     pub acts : CopiesActed {T = Unit {0}} by old new (Err why)
+    pub counts : HasCounted {T = Unit {0}} by [] old.printed new.printed (Err why)
     pub leaves : GivesUpLeaves why old.batches (journal_of new) (begun (v old).now by es) (v new).now
 
 -- levels and orders after so many batches
@@ -138,7 +153,7 @@ module _ {P C : Type 0} {plants : PlantGhosts P} {steadies : SteadyGhosts C} {co
 
   abbrev pub SatAs : MemberId → Sitting → Complex P C plants steadies copies → Complex P C plants steadies copies
       → Result SittingEnd NodeNo → Type 0
-  SatAs by t x y result = IsSat plants by t (parts_of x) (parts_of y) result
+  SatAs by t x y result = IsSatAs plants by t (parts_of x) (parts_of y) result
 
   abbrev pub CutsOff : MemberId → List Entry → Complex P C plants steadies copies → Complex P C plants steadies copies
       → NodeNo → Type 0

@@ -26,7 +26,7 @@ use Rattle.mas_complex.specs.declared.complex.Complex.{Complex}
 use Rattle.mas_complex.specs.declared.places.Place.{Place}
 use Rattle.ckpt_form.specs.declared.steady.Steady.{Ghosts as SteadyGhosts}
 use Rattle.mas_complex.specs.Crash.{IsUntold, setting}
-use Rattle.mas_complex.specs.Journals.{kept_all}
+use Rattle.mas_complex.specs.Journals.{AreSettled, kept_all}
 use Rattle.mas_complex.specs.Locking.{MayAct}
 use Rattle.mas_complex.specs.Meaning.{run}
 use Rattle.mas_complex.specs.Paper.{MayBegin}
@@ -36,7 +36,7 @@ use Rattle.member_node.specs.declared.member.Member.{Member}
 use Rattle.member_node.specs.Batches.{CanDraw, HasDone}
 use Rattle.member_node.specs.Copies.{RestsAt}
 use Rattle.member_node.specs.Reads.{AreLow, orders_after, too_high}
-use Rattle.member_steps.specs.Steps.{AreAllKept, IsBetween}
+use Rattle.member_steps.specs.Steps.{AreKeptFrom, IsBetween}
 use Rattle.member_decks.specs.Steps.{AreOf}
 use Rattle.step_turns.specs.declared.states.Holder.{Holder}
 use Rattle.step_turns.specs.declared.states.State.{State}
@@ -104,8 +104,7 @@ module _ {P C : Type 0} (plants : PlantGhosts P) (copies : CopyGhosts C) where
   -- WITHIN A SITTING
 
   -- The member holds the lock, and nothing is in flight, reserved or placed. Each copy has the pages that the member's
-  -- tables were drawn as last. Every batch is kept by now, and each volume that isn't lost has the size that its groups
-  -- need.
+  -- tables were drawn as last. Every batch has its fate, and each volume that isn't lost the size that its groups need.
   pub record IsStill (x : Parts P C) (m : Member) : Type 0 where
     pub holds : HoldsLock x.book x.base.config m.id
     pub none : x.current ≡ None
@@ -116,13 +115,17 @@ module _ {P C : Type 0} (plants : PlantGhosts P) (copies : CopyGhosts C) where
     pub config : x.base.config ≡ m.checkpoint.tables.config
     pub first : IsAtRest plants.tells (first_half x) m.checkpoint.pages
     pub second : IsAtRest plants.tells (second_half x) m.checkpoint.pages
-    pub kept : AreAllKept x.batches (v x).now
+    pub kept : AreSettled x.batches (v x).now
     pub begun : x.since ≤ (v x).now
     pub roomy : plants.tells → AreRoomy (v x) x.base.config
 
   -- no line on the console tells this step of the member
   abbrev pub HasUntold : Parts P C → MemberId → ℕ → Type 0
   HasUntold x by at = plants.tells → IsStepUntold copies.reads (v x) x.base x.since by at
+
+  -- no batch was dropped that has an entry of this step of the member, or of a later one
+  abbrev pub HasStepKept : Parts P C → MemberId → ℕ → Type 0
+  HasStepKept x by at = AreKeptFrom by at x.batches (v x).now
 
   -- the texts of a queue stand on the volumes, except those with a group on a lost one
   abbrev pub HasTextsOf : Parts P C → Queue → Type 0
@@ -145,6 +148,7 @@ module _ {P C : Type 0} (plants : PlantGhosts P) (copies : CopyGhosts C) where
     pub texts : HasTextsAfter x m.batch
     pub allowed : plants.tells → MayBegin x.base x.batches x.printed m.batch
     pub untold : HasUntold x m.id at
+    pub step : HasStepKept x m.id at
 
   -- AT THE BEGINNING OF A SITTING
 
@@ -155,10 +159,11 @@ module _ {P C : Type 0} (plants : PlantGhosts P) (copies : CopyGhosts C) where
     pub between : IsBetween plants.tells x.base x.batches x.current x.placed x.level m.batch m.checkpoint
     pub low : plants.tells → AreLow x.base.config (length x.batches) m.checkpoint.tables
 
-  -- the member is between commands, and no line tells this step of it
+  -- the member is between commands, no line tells this step of it, and what it gave of it is kept
   pub record IsSitting (x : Parts P C) (m : Member) (at : ℕ) : Type 0 where
     pub seat : IsSeat x m
     pub untold : HasUntold x m.id at
+    pub step : HasStepKept x m.id at
 
   -- Levels, orders and the room of each copy leave a sitting all that it can use.
   pub record IsBounded (x : Parts P C) (m : Member) : Type 0 where

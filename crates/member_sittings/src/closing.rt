@@ -1,6 +1,7 @@
 //! The end of a sitting: what it gave is kept, and its lines are said where the step closes.
 ghost use Rattle.std.specs.Prelude.{◌≡◌, ◌∷◌, [], IfOk};
 ghost use Rattle.mas_complex.specs.Parts.{parts_of};
+ghost use Rattle.member_steps.specs.Saying.{TellKept};
 ghost use Rattle.step_turns.specs.declared.states.State.TheVariants.{Away, Told};
 ghost use Rattle.member_sittings.specs.Ends.{ends_in};
 ghost use Rattle.member_sittings.specs.Sat.{CutsOff, SatAs, SitsOn, sat_in};
@@ -47,6 +48,7 @@ pub fn pause_sitting<P: Plant + Drop, C: Steady + Drop>(
 }
 
 /// Ends a sitting and its step: the member's batch is kept, and then the lines are said with which the step closes.
+/// What they tell is kept already, as far as it was given in earlier sittings.
 ///
 /// NoMemory leaves the batch unbegun. BothLost comes only where both copies count as lost at the end of the call,
 /// Halted only where the member was stopped in it, ConsoleFault only where the console's count of faults rose.
@@ -57,7 +59,8 @@ pub fn close_sitting<P: Plant + Drop, C: Steady + Drop>(
     holder: Holder,
     lines: &Lines,
 ) -> Result<SittingEnd, NodeNo>
-    requires { MayKeepBatch complex.old member.old holder }
+    requires may { MayKeepBatch complex.old member.old holder }
+    requires kept { P.tells → TellKept lines.now complex.old.journal.batches (P.view complex.old.plant).now }
     ensures frame { parts_of complex.new ≡ sat_in (parts_of complex.new) (parts_of complex.old) }
     ensures id { member.new.id ≡ member.old.id }
     ensures tables { member.new.checkpoint.tables ≡ member.old.checkpoint.tables }

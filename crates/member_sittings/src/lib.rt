@@ -14,4 +14,4 @@ pub use closing::{close_sitting, give_up_sitting, pause_sitting};
 pub use commands::sit_command;
 pub use decks::{SpooledDeck, sit_deck, sit_spooled};
 pub use ends::{SittingEnd, release_of};
-pub use seats::take_seat;
+pub use seats::{keep_seat, take_seat};

@@ -1,11 +1,12 @@
-//! A member that got the lock takes its seat: it takes in what the copies have.
-ghost use Rattle.std.specs.Prelude.{◌≡◌, OnOk};
+//! A member that got the lock takes its seat: it takes in what the copies have. One that held it knows what they have.
+ghost use Rattle.std.specs.Prelude.{◌≡◌, ◌<◌, Ok, OnOk};
 ghost use Rattle.mas_complex.specs.Parts.{parts_of, with_copies};
-ghost use Rattle.member_sittings.specs.Gates.{ActedOnCopies, MayTakeSeat, TookSeat};
+ghost use Rattle.member_node.specs.Reads.{too_high};
+ghost use Rattle.member_sittings.specs.Gates.{ActedOnCopies, AreBothLost, HaveRoom, MayKeepSeat, MayTakeSeat, TookSeat};
 
 use mas_complex::{Complex, Steady};
 use member_decks::take_hold;
-use member_node::{Member, NodeNo};
+use member_node::{Member, NodeNo, TOO_HIGH};
 use spool_disk::Plant;
 use std::alloc::Global;
 
@@ -27,4 +28,54 @@ pub fn take_seat<P: Plant + Drop, C: Steady + Drop>(
 {
     take_hold(member, alloc, complex)?;
     Ok(())
+}
+
+// Room for a batch is made, by a member at its seat, whose orders and level aren't too high. Where both copies are lost
+// nothing is done.
+fn make_room<P: Plant + Drop, C: Steady + Drop>(
+    member: &Member,
+    complex: &mut Complex<P, C>,
+) -> Result<(), NodeNo>
+    requires may { MayKeepSeat complex.old member.now }
+    requires order { member.now.checkpoint.tables.order < too_high }
+    requires high { member.now.checkpoint.level < too_high }
+    ensures frame { parts_of complex.new ≡ with_copies (parts_of complex.new) (parts_of complex.old) }
+    ensures acts { ActedOnCopies member.now.id complex.old complex.new result }
+    ensures seat { OnOk result (TookSeat complex.new member.now) }
+    ensures idle { HaveRoom complex.old → complex.new ≡ complex.old }
+    ensures lost { AreBothLost complex.old → (result ≡ Ok tt) × (complex.new ≡ complex.old) }
+{
+    if !complex.pair.first.alive && !complex.pair.second.alive {
+        return Ok(());
+    }
+    member.primary(complex)
+}
+
+/// What a member does that holds the lock since an earlier sitting, and sits again: it makes room for a batch. It knows
+/// what the copies have, since nobody else could write. So where content is told it reads nothing, and where both
+/// copies have room, or both are lost, nothing is done at all. Elsewhere it reads them anew only if its orders or its
+/// level are too high to go on.
+///
+/// The errors are those of `take_seat`.
+pub fn keep_seat<P: Plant + Drop, C: Steady + Drop>(
+    member: &mut Member,
+    alloc: Global,
+    complex: &mut Complex<P, C>,
+) -> Result<(), NodeNo>
+    requires { MayKeepSeat complex.old member.old }
+    ensures frame { parts_of complex.new ≡ with_copies (parts_of complex.new) (parts_of complex.old) }
+    ensures id { member.new.id ≡ member.old.id }
+    ensures acts { ActedOnCopies member.old.id complex.old complex.new result }
+    ensures seat { OnOk result (TookSeat complex.new member.new) }
+    ensures same { P.tells → member.new ≡ member.old }
+    ensures idle { P.tells → HaveRoom complex.old → complex.new ≡ complex.old }
+    ensures lost { P.tells → AreBothLost complex.old → (result ≡ Ok tt) × (complex.new ≡ complex.old) }
+{
+    if member.checkpoint.tables.order >= TOO_HIGH {
+        return take_seat(member, alloc, complex);
+    }
+    if member.checkpoint.level >= TOO_HIGH {
+        return take_seat(member, alloc, complex);
+    }
+    make_room(member, complex)
 }

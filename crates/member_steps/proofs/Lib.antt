@@ -1,5 +1,7 @@
 pub mod Codes
-pub mod LockLemmas
+pub mod CountLemmas
+pub mod FateLemmas
+pub mod LineLemmas
 pub mod PageLemmas
 pub mod ReadLemmas
 pub mod SayLemmas

@@ -1,9 +1,7 @@
 -- What a member that holds the lock does before its first command, and what it knows of the copies then.
-use Rattle.std.proofs.Common.{◌≡◌, inl, ⊎_elim, ℕ, ◌+◌, ◌≤◌, ◌<◌, Bool, true, false, List, [], ◌∷◌, length, drop, Option, None, Result, Ok, Err, refl, sym, ◌∙◌, ap, subst, arith}
+use Rattle.std.proofs.Common.{◌≡◌, ℕ, ◌+◌, ◌≤◌, ◌<◌, Bool, true, false, List, [], ◌∷◌, length, drop, Option, None, Result, Err, refl, sym, ◌∙◌, ap, subst}
 use Rattle.std.proofs.lemmas.List.{length-append}
-use Rattle.mas_types.specs.declared.commands.Command.{Command}
 use Rattle.mas_types.specs.declared.ids.Dev.{Dev}
-use Rattle.mas_types.specs.declared.ids.MemberId.{MemberId}
 use Rattle.mas_types.specs.declared.ids.Page.{Page}
 use Rattle.mas_types.specs.declared.journals.Batch.{Batch}
 use Rattle.mas_types.specs.declared.journals.Entry.{Entry}
@@ -11,7 +9,6 @@ use Rattle.mas_types.specs.declared.journals.Fate.TheVariants.{Kept}
 use Rattle.mas_types.specs.declared.queues.Config.{Config}
 use Rattle.mas_types.specs.declared.queues.Queue.{Queue}
 use Rattle.queue_laws.proofs.RunLaws.{runs_keep_configuration}
-use Rattle.spool_disk.specs.declared.plant.Part.TheVariants.{Console}
 use Rattle.spool_disk.specs.View.{View, Line}
 use Rattle.spool_disk.specs.Acts.{Goes}
 use Rattle.ckpt_pages.specs.declared.tables.Tables.{Tables}
@@ -23,27 +20,25 @@ use Rattle.queue_tables.specs.Telling.{Tell, TellSound}
 use Rattle.queue_tables.proofs.OrderLemmas.{orders_are}
 use Rattle.queue_tables.proofs.ToldLemmas.{tell_alike}
 use Rattle.duplex_pair.specs.Halves.{SomeAlive}
-use Rattle.queue_effect.specs.Standing.{AreFit}
 use Rattle.mas_complex.specs.declared.places.Place.{Place}
 use Rattle.mas_complex.specs.Crash.{EachTells, IsUntold, setting}
-use Rattle.mas_complex.specs.Journals.{begun, end_of, fated, has_step, kept_all}
+use Rattle.mas_complex.specs.Journals.{end_of, fated, has_step, kept_all}
 use Rattle.mas_complex.specs.Meaning.{Closes, run}
 use Rattle.member_node.specs.declared.checkpoint.Checkpoint.{Checkpoint}
 use Rattle.member_node.specs.declared.member.NodeNo.{NodeNo}
 use Rattle.member_node.specs.declared.member.NodeNo.TheVariants.{BothLost, Halted, ConsoleFault, NoMemory}
-use Rattle.member_node.specs.Calls.{Apart, Course, IsLeft, console_now}
+use Rattle.member_node.specs.Calls.{Apart, Course, console_now}
 use Rattle.member_node.specs.Copies.{RestsAt}
 use Rattle.member_node.specs.Drawn.{AreDrawn}
-use Rattle.mas_types.specs.Closings.{reply_lines}
-use Rattle.member_node.specs.Reads.{AreLow, HasRead, IsCalm, IsSettle, IsUpTo, ReadCauses, ReadInCauses, ReadsLow, orders_after, too_high}
-use Rattle.member_node.specs.Spares.{Spares, is_stop, stopped_in}
+use Rattle.member_node.specs.Reads.{AreLow, HasRead, IsCalm, IsSettle, IsUpTo, ReadCauses, ReadInCauses, ReadsLow, too_high}
+use Rattle.member_node.specs.Spares.{Spares, stopped_in}
 use Rattle.member_node.specs.Writes.{HasKept}
-use Rattle.member_node.proofs.CourseLemmas.{apart_then, course_then, only_on, papers_on, rose_later}
+use Rattle.member_node.proofs.CourseLemmas.{apart_then, course_then, rose_later}
 use Rattle.member_node.proofs.DrawnLemmas.{drawn_level}
 use Rattle.member_node.proofs.ReadLemmas.{low_again, same_pages}
 use Rattle.member_node.proofs.SpareLemmas.{spares_then}
 use Rattle.member_node.proofs.WriteLemmas.{none_out}
-use Rattle.member_steps.specs.Steps.{GivesStep, IsAtLock, IsBetween, IsStep, IsToldSound, StepCauses, StepTells, entry_with, reply_to}
+use Rattle.member_steps.specs.Steps.{IsAtLock, IsBetween, IsToldSound}
 use Rattle.member_steps.proofs.Codes.{tell_is}
 
 -- BEFORE THE FIRST COMMAND
@@ -73,91 +68,7 @@ cause_settle by is1 is2 v0 v1 v2 Halted goes cause = (cause.0, rose_later (v0.st
 cause_settle by is1 is2 v0 v1 v2 ConsoleFault goes cause = absurd cause
 cause_settle by is1 is2 v0 v1 v2 NoMemory goes cause = absurd cause
 
--- A STEP THAT ENDS AT ITS READ
-
-module _ (told : Type 0) (by : ℕ) (was1 is1 was2 is2 : Bool) (v0 v1 : View) where
-  -- a step that ends at its read gives no command
-  pub step_unbegun : (lines : List (List ℕ)) (b : Batch) (front batches : List Batch) (e : NodeNo) → HasBegun told by (is_stop e) was1 is1 was2 is2 v0 v1 → batches ≡ front → ReadInCauses {T = Unit {0}} (Err e) by is1 is2 v0 v1 → IsStep {T = Unit {0}} told by lines b front batches was1 is1 was2 is2 v0 v1 (Err e)
-  step_unbegun lines b front batches BothLost acts same cause = record {
-    course = acts.course;
-    loses = acts.loses;
-    cause = cause;
-    spares = acts.spares;
-    journal = inl same;
-    others = λ t. (acts.apart t).others;
-    papers = λ t. (acts.apart t).papers;
-    console = λ t. (acts.apart t).console;
-  }
-  step_unbegun lines b front batches Halted acts same cause = record {
-    course = acts.course;
-    loses = acts.loses;
-    cause = (inl cause.0, cause.1);
-    spares = acts.spares;
-    journal = inl same;
-    others = λ t. (acts.apart t).others;
-    papers = λ t. (acts.apart t).papers;
-    console = λ t. inl (acts.apart t).console;
-  }
-  step_unbegun lines b front batches NoMemory acts same cause = record {
-    course = acts.course;
-    loses = acts.loses;
-    cause = inl cause;
-    spares = acts.spares;
-    journal = same;
-    others = λ t. (acts.apart t).others;
-    papers = λ t. (acts.apart t).papers;
-    console = λ t. (acts.apart t).console;
-  }
-  step_unbegun lines b front batches ConsoleFault acts same cause = absurd cause
-
 -- AND ONE THAT GOES ON
-
-left_behind : (was1 mid1 is1 was2 mid2 is2 : Bool) → SomeAlive mid1 mid2 → IsLeft mid1 is1 mid2 is2 → IsLeft was1 is1 was2 is2
-left_behind was1 mid1 is1 was2 mid2 is2 some left = ⊎_elim
-    (λ alive. inl alive)
-    (λ same. inl (subst (λ (a : Bool). SomeAlive a is2) (sym same.0) (subst (λ (b : Bool). SomeAlive mid1 b) (sym same.1) some)))
-    left
-
-module _ (told : Type 0) (by : ℕ) (was1 mid1 is1 was2 mid2 is2 : Bool) (v0 v1 v2 : View) (acts : HasBegun told by false was1 mid1 was2 mid2 v0 v1) (some : SomeAlive mid1 mid2) where
-  causes_behind : (r : Result (Unit {0}) NodeNo) → StepCauses r by mid1 is1 mid2 is2 v1 v2 → StepCauses r by was1 is1 was2 is2 v0 v2
-  causes_behind (Ok done) cause = left_behind was1 mid1 is1 was2 mid2 is2 some cause
-  causes_behind (Err NoMemory) cause = left_behind was1 mid1 is1 was2 mid2 is2 some cause
-  causes_behind (Err BothLost) cause = cause
-  causes_behind (Err ConsoleFault) cause = (left_behind was1 mid1 is1 was2 mid2 is2 some cause.0, rose_later (v0.faults Console) (v1.faults Console) (v2.faults Console) (acts.course.goes.faults Console) cause.1)
-  causes_behind (Err Halted) cause = (left_behind was1 mid1 is1 was2 mid2 is2 some cause.0, rose_later (v0.stops by) (v1.stops by) (v2.stops by) (acts.course.goes.stops by) cause.1)
-
-  pub step_behind : (lines : List (List ℕ)) (b : Batch) (front batches : List Batch) (r : Result (Unit {0}) NodeNo) → IsStep told by lines b front batches mid1 is1 mid2 is2 v1 v2 r → IsStep told by lines b front batches was1 is1 was2 is2 v0 v2 r
-  step_behind lines b front batches r step = record {
-    course = course_then was1 mid1 is1 was2 mid2 is2 v0 v1 v2 acts.course step.course;
-    loses = λ t d. step.loses t d ∙ acts.loses t d;
-    cause = causes_behind r step.cause;
-    spares = spares_then by (stopped_in r) v0 v1 v2 acts.spares step.spares;
-    journal = step.journal;
-    others = λ t. only_on v0 v1 v2 acts.course.goes.later step.course.goes (acts.apart t).others (step.others t);
-    papers = λ t. papers_on v0 v1 v2 acts.course.goes.later step.course.goes (acts.apart t).papers (step.papers t);
-    console = λ t. subst (λ (l : List Line). StepTells r lines (HasKept front batches b v2.now) l (console_now v2)) (acts.apart t).console (step.console t);
-  }
-
-module _ (told : Type 0) (by : MemberId) (at : ℕ) (c : Command) (Q : Queue) (front batches : List Batch) where
-  pub gives_unbegun : (was1 is1 was2 is2 : Bool) (v0 v1 : View) (e : NodeNo) → HasBegun told by.0 (is_stop e) was1 is1 was2 is2 v0 v1 → batches ≡ front → ReadInCauses {T = Unit {0}} (Err e) by.0 is1 is2 v0 v1
-      → GivesStep {T = Unit {0}} told by at c Q front batches was1 is1 was2 is2 v0 v1 (Err e)
-  gives_unbegun was1 is1 was2 is2 v0 v1 e acts same cause = record {
-    reply = reply_to Q by c;
-    is = λ t. refl;
-    first = v0.now;
-    later = (omega arith, acts.course.goes.later);
-    step = step_unbegun told by.0 was1 is1 was2 is2 v0 v1 (reply_lines by at (reply_to Q by c)) (begun v0.now by (entry_with by at c (reply_to Q by c) ∷ [])) front batches e acts same cause;
-  }
-
-  pub gives_behind : (was1 mid1 is1 was2 mid2 is2 : Bool) (v0 v1 v2 : View) → HasBegun told by.0 false was1 mid1 was2 mid2 v0 v1 → SomeAlive mid1 mid2 → (r : Result (Unit {0}) NodeNo) → GivesStep told by at c Q front batches mid1 is1 mid2 is2 v1 v2 r
-      → GivesStep told by at c Q front batches was1 is1 was2 is2 v0 v2 r
-  gives_behind was1 mid1 is1 was2 mid2 is2 v0 v1 v2 acts some r g = record {
-    reply = g.reply;
-    is = g.is;
-    first = g.first;
-    later = (omega (arith, acts.course.goes.later, g.later.0), g.later.1);
-    step = step_behind told by.0 was1 mid1 is1 was2 mid2 is2 v0 v1 v2 acts some (reply_lines by at g.reply) (begun g.first by (entry_with by at c g.reply ∷ [])) front batches r g.step;
-  }
 
 -- a step is untold later, where nothing was said
 pub untold_later : (reads : List ℕ → Option (List ℕ)) (base : Queue) (since : ℕ) (v w : View) (es : List Entry) → since ≤ v.now → Goes v w → console_now w ≡ console_now v → IsUntold (setting reads base since) v es → IsUntold (setting reads base since) w es
@@ -190,26 +101,12 @@ low_read told one two place1 place2 count1 count2 config batches k read1 read2 s
     let own : IsCheckpoint k.pages k.tables = record { level = k.level; levels = k.levels; fit = drawn.spelling; ages = drawn.leveled; spell = drawn.spelled } in
     either one two some (λ on. low1 t on k.pages k.tables drawn.sized (rests1.reads t on) own) (λ on. low2 t on k.pages k.tables drawn.sized (rests2.reads t on) own)
 
--- tables that were low are low after one command more
-pub low_more : (config : Config) (batches more : ℕ) (t u : Tables) → AreLow config batches t → u.config ≡ t.config → AreFit u → u.order ≤ t.order + 32 → more ≡ batches + 1 → AreLow config more u
-low_more config batches more t u low same fit order one = record {
-  same = same ∙ low.same;
-  fit = fit;
-  order = subst (λ (n : ℕ). u.order ≤ orders_after n) (sym one) (orders t.order u.order batches low.order order);
-} where
-  orders : (n m k : ℕ) → n ≤ orders_after k → m ≤ n + 32 → m ≤ orders_after (k + 1)
-  orders n m k le more = omega (arith, le, more)
-
 -- what a copy reads after the command's write is low
 pub low_written : (told : Type 0) (alive : Bool) (place : Place) (count : ℕ) (config : Config) (batches : ℕ) (k : Checkpoint) (read : Option (List ℕ)) → AreDrawn k.tables k.level k.levels k.pages → (told → AreLow config batches k.tables)
     → RestsAt told alive place count k.pages read → ReadsLow told alive config batches read
 low_written told alive place count config batches k read drawn low rests t = low_again one_value same_pages told alive place count config batches k read drawn (low t) rests t
 
 -- AT THE LOCK AGAIN, after a step
-
--- a member's room is as long as its pages, after a step too
-pub same_many : (k n : Checkpoint) (room was : List Page) → room ≡ was → length was ≡ length k.pages → AreDrawn k.tables k.level k.levels k.pages → AreDrawn n.tables n.level n.levels n.pages → n.tables.config ≡ k.tables.config → length room ≡ length n.pages
-same_many k n room was same many one two config = ap (λ (ps : List Page). length ps) same ∙ many ∙ one.spelled.count ∙ sym (ap page_count config) ∙ sym two.spelled.count
 
 pub at_lock : (tells : Type 0) (base : Queue) (batches : List Batch) (current : Option Batch) (placed : Bool) (level : ℕ) (batch : List Entry) (k : Checkpoint) (room : List Page) → IsBetween tells base batches current placed level batch k → length room ≡ length k.pages
     → IsAtLock current placed batch k room
@@ -252,3 +149,18 @@ pages_of_run base es k room same drawn many = ap page_count ((runs_keep_configur
 
 pub level_low : (config : Config) (k : Checkpoint) → IsUpTo config k.pages k → k.level < too_high
 level_low config k up = subst (λ (l : ℕ). l < too_high) (drawn_level k.tables k.level k.levels k.pages up.drawn) up.may.low_level
+
+-- a member between commands, by other names
+pub between_by : (told : Type 0) (base base' : Queue) (batches batches' : List Batch) (current current' : Option Batch) (placed placed' : Bool) (level level' : ℕ) (batch : List Entry) (k : Checkpoint) → base' ≡ base → batches' ≡ batches → current' ≡ current → placed' ≡ placed → level' ≡ level
+    → IsBetween told base batches current placed level batch k → IsBetween told base' batches' current' placed' level' batch k
+between_by told base base' batches batches' current current' placed placed' level level' batch k one two three four five b = record {
+  none = three ∙ b.none;
+  unplaced = four ∙ b.unplaced;
+  same_level = λ t. five ∙ b.same_level t;
+  nothing = b.nothing;
+  drawn = b.drawn;
+  queue = λ t. subst (Tell k.tables) (sym (ap (λ (q : Queue). run q (kept_all batches')) one ∙ ap (λ (bs : List Batch). run base (kept_all bs)) two)) (b.queue t);
+  fit = b.fit;
+  orders = b.orders;
+  sound = b.sound;
+}

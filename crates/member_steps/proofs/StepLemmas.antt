@@ -1,6 +1,6 @@
 -- A step that gives a command, by how it ended.
-use Rattle.std.proofs.Common.{OnErr, OnOk, IfOk, ◌≡◌, inl, inr, ℕ, ◌+◌, ◌≤◌, ◌++◌, Bool, true, false, List, [], ◌∷◌, length, map, take, Option, None, Result, Ok, Err, All, append-nil, refl, sym, ◌∙◌, ap, subst, arith}
-use Rattle.std.proofs.lemmas.List.Elements.{All-nil, All-cons, All-head, All-tail}
+use Rattle.std.proofs.Common.{OnOk, IfOk, ◌≡◌, inl, inr, ℕ, ◌+◌, ◌≤◌, ◌++◌, Bool, true, false, List, [], ◌∷◌, length, map, take, Option, None, Result, Ok, Err, All, append-nil, refl, sym, ◌∙◌, ap, subst, arith}
+use Rattle.std.proofs.lemmas.List.Elements.{All-nil, All-cons, All-append, All-weaker}
 use Rattle.mas_types.specs.declared.commands.Command.{Command}
 use Rattle.mas_types.specs.declared.journals.Batch.{Batch}
 use Rattle.mas_types.specs.declared.journals.Entry.{Entry}
@@ -23,7 +23,7 @@ use Rattle.spool_disk.specs.declared.plant.Part.TheVariants.{Console}
 use Rattle.spool_disk.specs.View.{View, Line}
 use Rattle.mas_complex.specs.Crash.{IsUntold, setting}
 use Rattle.mas_complex.specs.Headline.{whole}
-use Rattle.mas_complex.specs.Journals.{StepIsKept, begun, fated, in_flight, kept_all, with_last}
+use Rattle.mas_complex.specs.Journals.{StepIsKept, fated, in_flight, kept_all, with_last}
 use Rattle.mas_complex.specs.Meaning.{run}
 use Rattle.mas_complex.specs.Paper.{MayBegin}
 use Rattle.mas_complex.proofs.Allowed.{one_begins}
@@ -33,7 +33,7 @@ use Rattle.member_node.specs.declared.checkpoint.Draft.{Draft}
 use Rattle.member_node.specs.declared.checkpoint.Draft.TheVariants as draft
 use Rattle.member_node.specs.declared.member.NodeNo.{NodeNo}
 use Rattle.member_node.specs.declared.member.NodeNo.TheVariants.{BothLost, Halted, ConsoleFault, NoMemory}
-use Rattle.member_node.specs.Batches.{CanDraw, HasDone, last_reply, level_with}
+use Rattle.member_node.specs.Batches.{CanDraw, HasDone, level_with}
 use Rattle.member_node.specs.Calls.{console_now}
 use Rattle.member_node.specs.Drawn.{AreDrawn}
 use Rattle.member_node.specs.Writes.{HasKept, IsWrite}
@@ -43,7 +43,7 @@ use Rattle.member_node.proofs.SpareLemmas.{spares_none, spares_then}
 use Rattle.member_node.proofs.TextLemmas.{plain_brings, texts_after}
 use Rattle.member_node.proofs.WriteLemmas.{run_append}
 use Rattle.member_steps.specs.Saying.{Breaks, HaveSaid}
-use Rattle.member_steps.specs.Steps.{AreAllKept, GivesStep, IsBetween, IsStep, entry_of, entry_with, reply_to}
+use Rattle.member_steps.specs.Steps.{AreAllKept, IsKeptBy, IsBetween, IsStep, entry_of, entry_with}
 use Rattle.member_steps.proofs.SayLemmas.{console_course}
 
 -- THE STEP
@@ -163,29 +163,16 @@ step_texts law own gone disks per base base1 was kept t m at c es plain sound to
     let after : HasTexts gone disks per (run Q (entry_of Q m at c ∷ [])) = texts_after law gone disks per Q m c (plain_brings c plain) (own t Q sound told) stand in
     subst (HasTexts gone disks per) (sym (run_append base1 (kept_all kept) es ∙ ap (λ (q : Queue). run q es) here ∙ ap (run Q) are)) after
 
--- a step is kept where all batches are
-pub all_step_kept : (batches : List Batch) (t : ℕ) (m : MemberId) (s : ℕ) → AreAllKept batches t → StepIsKept batches t m s
-all_step_kept [] t m s all = tt
-all_step_kept (b ∷ batches) t m s all =
-    let here : (b.fate ≡ Kept) × (b.last ≤ t) = All-head (λ (b : Batch). (b.fate ≡ Kept) × (b.last ≤ t)) b batches all in
-    ((λ has. here), all_step_kept batches t m s (All-tail (λ (b : Batch). (b.fate ≡ Kept) × (b.last ≤ t)) b batches all))
-
 pub none_flying : (batches : List Batch) (current : Option Batch) (t : ℕ) (m : MemberId) (s : ℕ) → current ≡ None → StepIsKept batches t m s → StepIsKept (batches ++ in_flight current) t m s
 none_flying batches current t m s none kept = subst (λ (c : Option Batch). StepIsKept (batches ++ in_flight c) t m s) (sym none) (rw append-nil kept)
 
 pub kept_later : (batches : List Batch) (now t : ℕ) → now ≤ t → AreAllKept batches now → AreAllKept batches t
-kept_later [] now t le all = All-nil (λ (b : Batch). (b.fate ≡ Kept) × (b.last ≤ t))
-kept_later (a ∷ batches) now t le all =
-    let here : (a.fate ≡ Kept) × (a.last ≤ now) = All-head (λ (b : Batch). (b.fate ≡ Kept) × (b.last ≤ now)) a batches all in
-    All-cons (λ (b : Batch). (b.fate ≡ Kept) × (b.last ≤ t)) a batches (here.0, omega (arith, here.1, le))
-    (kept_later batches now t le (All-tail (λ (b : Batch). (b.fate ≡ Kept) × (b.last ≤ now)) a batches all))
+kept_later batches now t le all = All-weaker (λ (b : Batch). IsKeptBy now b × (b.first ≤ b.last)) (λ (b : Batch). IsKeptBy t b × (b.first ≤ b.last))
+    (λ b is. ((is.0.0, omega (arith, is.0.1, le)), is.1)) batches all
 
-pub kept_push : (batches : List Batch) (now t : ℕ) (b : Batch) → now ≤ t → AreAllKept batches now → AreAllKept (batches ++ fated Kept t b ∷ []) t
-kept_push [] now t b le all = All-cons (λ (b : Batch). (b.fate ≡ Kept) × (b.last ≤ t)) (fated Kept t b) [] (refl, omega arith) (All-nil (λ (b : Batch). (b.fate ≡ Kept) × (b.last ≤ t)))
-kept_push (a ∷ batches) now t b le all =
-    let here : (a.fate ≡ Kept) × (a.last ≤ now) = All-head (λ (b : Batch). (b.fate ≡ Kept) × (b.last ≤ now)) a batches all in
-    All-cons (λ (b : Batch). (b.fate ≡ Kept) × (b.last ≤ t)) a (batches ++ fated Kept t b ∷ []) (here.0, omega (arith, here.1, le))
-    (kept_push batches now t b le (All-tail (λ (b : Batch). (b.fate ≡ Kept) × (b.last ≤ now)) a batches all))
+pub kept_push : (batches : List Batch) (now t : ℕ) (b : Batch) → now ≤ t → b.first ≤ t → AreAllKept batches now → AreAllKept (batches ++ fated Kept t b ∷ []) t
+kept_push batches now t b le first all = All-append (λ (b : Batch). IsKeptBy t b × (b.first ≤ b.last)) batches (fated Kept t b ∷ []) (kept_later batches now t le all)
+    (All-cons (λ (b : Batch). IsKeptBy t b × (b.first ≤ b.last)) (fated Kept t b) [] ((refl, omega arith), first) (All-nil (λ (b : Batch). IsKeptBy t b × (b.first ≤ b.last))))
 
 -- the journal once the batch is kept
 pub journal_kept : (front was batches : List Batch) (place b : Batch) → was ≡ front ++ place ∷ [] → batches ≡ with_last b was → batches ≡ front ++ b ∷ []
@@ -204,13 +191,6 @@ untold_by reads base base' since since' v v' es es' one two three four untold =
 
 pub some_of_one : (es : List Entry) (e : Entry) → es ≡ e ∷ [] → 1 ≤ length es
 some_of_one es e is = subst (λ (l : List Entry). 1 ≤ length l) (sym is) (omega arith)
-
-pub own_of_one : (es : List Entry) (e : Entry) (m : MemberId) → es ≡ e ∷ [] → e.by ≡ m → All (λ (x : Entry). x.by ≡ m) es
-own_of_one es e m is by = subst (All (λ (x : Entry). x.by ≡ m)) (sym is) (All-cons (λ (x : Entry). x.by ≡ m) e [] by (All-nil (λ (x : Entry). x.by ≡ m)))
-
--- a batch of one entry has its reply
-pub reply_is : (Q : Queue) (by : MemberId) (at : ℕ) (c : Command) (r : Reply) (es : List Entry) → es ≡ entry_with by at c r ∷ [] → es ≡ entry_of Q by at c ∷ [] → r ≡ reply_to Q by c
-reply_is Q by at c r es one two = ap last_reply (sym one ∙ two)
 
 -- tables that a command changed can be drawn as before
 pub can_draw : (k n : Checkpoint) → AreDrawn k.tables k.level k.levels k.pages → n.pages ≡ k.pages → n.level ≡ k.level → n.levels ≡ k.levels → n.tables.config ≡ k.tables.config → HasSpelling n.tables → CanDraw n
@@ -232,10 +212,6 @@ pub ok_of : {T E A : Type 0} (r : Result T E) → A → OnOk r A
 ok_of (Ok done) a = a
 ok_of (Err why) a = tt
 
-pub err_of : {T E A : Type 0} (r : Result T E) → A → OnErr r A
-err_of (Ok done) a = tt
-err_of (Err why) a = a
-
 pub if_ok : {T E : Type 0} (P R : T → Type 0) (r : Result T E) → ((x : T) → P x → R x) → IfOk r P → IfOk r R
 if_ok P R (Ok x) to p = to x p
 if_ok P R (Err why) to p = tt
@@ -243,27 +219,3 @@ if_ok P R (Err why) to p = tt
 pub level_most : (d : Draft) (n : ℕ) → level_with d n ≤ n + 1
 level_most draft.Same n = omega arith
 level_most (draft.Changed numbers) n = omega arith
-
--- A STEP BY OTHER NAMES
-
-pub step_named : (told : Type 0) (by by' : MemberId) (lines lines' : List (List ℕ)) (es es' : List Entry) (front batches : List Batch) (was1 is1 was2 is2 : Bool) (old new : View) (r : Result (Unit {0}) NodeNo) → by' ≡ by → lines' ≡ lines → es' ≡ es
-    → IsStep told by'.0 lines' (begun old.now by' es') front batches was1 is1 was2 is2 old new r → IsStep told by.0 lines (begun old.now by es) front batches was1 is1 was2 is2 old new r
-step_named told by by' lines lines' es es' front batches was1 is1 was2 is2 old new r one two three step =
-    subst (λ (m : MemberId). IsStep told m.0 lines (begun old.now m es) front batches was1 is1 was2 is2 old new r) one
-    (subst (λ (l : List (List ℕ)). IsStep told by'.0 l (begun old.now by' es) front batches was1 is1 was2 is2 old new r) two
-    (subst (λ (l : List Entry). IsStep told by'.0 lines' (begun old.now by' l) front batches was1 is1 was2 is2 old new r) three step))
-
--- a step that gives a command, by its journal, copies and plant before it under other names
-abbrev GivesOf : Type 0 → MemberId → ℕ → Command → Result (Unit {0}) NodeNo → List Batch → Bool → Bool → View → Queue → List Batch → Bool → Bool → View → Type 0
-GivesOf told by at c r batches is1 is2 new base front was1 was2 old = GivesStep told by at c (run base (kept_all front)) front batches was1 is1 was2 is2 old new r
-
-pub gives_as : (told : Type 0) (by by' : MemberId) (at : ℕ) (c : Command) (r : Result (Unit {0}) NodeNo) (base base' : Queue) (front front' batches : List Batch) (was1 was1' is1 was2 was2' is2 : Bool) (old old' new : View)
-    → by' ≡ by → base' ≡ base → front' ≡ front → was1' ≡ was1 → was2' ≡ was2 → old' ≡ old
-    → GivesStep told by' at c (run base' (kept_all front')) front' batches was1' is1 was2' is2 old' new r → GivesStep told by at c (run base (kept_all front)) front batches was1 is1 was2 is2 old new r
-gives_as told by by' at c r base base' front front' batches was1 was1' is1 was2 was2' is2 old old' new zero one two three four five step =
-    subst (λ (x : Queue). GivesOf told by at c r batches is1 is2 new x front was1 was2 old) one
-    (subst (λ (x : List Batch). GivesOf told by at c r batches is1 is2 new base' x was1 was2 old) two
-    (subst (λ (x : Bool). GivesOf told by at c r batches is1 is2 new base' front' x was2 old) three
-    (subst (λ (x : Bool). GivesOf told by at c r batches is1 is2 new base' front' was1' x old) four
-    (subst (λ (x : View). GivesOf told by at c r batches is1 is2 new base' front' was1' was2' x) five
-    (subst (λ (x : MemberId). GivesOf told x at c r batches is1 is2 new base' front' was1' was2' old') zero step)))))

@@ -1,4 +1,4 @@
-pub mod Locked
+pub mod Counting
 pub mod Saying
 pub mod Steps
 pub mod Untold

@@ -1,15 +1,23 @@
 -- Lines that a member says one after another.
-use Rattle.std.specs.Prelude.{◌≡◌, ◌⊎◌, ℕ, suc, ◌<◌, false, List, [], ◌∷◌, ◌++◌, length, map, take, Result, Ok, Err}
+use Rattle.std.specs.Prelude.{◌≡◌, ◌⊎◌, ℕ, suc, ◌<◌, false, List, [], ◌∷◌, ◌++◌, length, map, take, All, Result, Ok, Err}
 use Rattle.mas_types.specs.declared.ids.Dev.{Dev}
+use Rattle.mas_types.specs.declared.ids.MemberId.{MemberId}
+use Rattle.mas_types.specs.declared.journals.Batch.{Batch}
 use Rattle.spool_disk.specs.declared.plant.Part.TheVariants.{Disk, Console}
 use Rattle.spool_disk.specs.View.{View, Line, disk_now}
 use Rattle.spool_disk.specs.Acts.{Goes, Rose}
 use Rattle.mas_complex.specs.Headline.{whole}
+use Rattle.mas_complex.specs.Journals.{StepIsKept}
+use Rattle.mas_complex.specs.Meaning.{Closes}
 use Rattle.mas_complex.specs.Paper.{SamePapers}
 use Rattle.member_node.specs.declared.member.NodeNo.{NodeNo}
 use Rattle.member_node.specs.declared.member.NodeNo.TheVariants.{BothLost, Halted, ConsoleFault, NoMemory}
 use Rattle.member_node.specs.Calls.{IsOnlyOn, console_now}
 use Rattle.member_node.specs.Spares.{Spares, stopped_in}
+
+-- each step that one of the lines tells is kept by now
+abbrev pub TellKept : List (List ℕ) → List Batch → ℕ → Type 0
+TellKept lines batches now = All (λ line. (m : MemberId) (s : ℕ) → Closes line m s → StepIsKept batches now m s) lines
 
 abbrev pub torn : List ℕ → Line
 torn text = record { text = text; whole = false }

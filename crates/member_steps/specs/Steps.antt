@@ -18,7 +18,7 @@ use Rattle.queue_tables.specs.Orders.{HaveOrders}
 use Rattle.queue_tables.specs.Telling.{Tell, TellSound}
 use Rattle.queue_effect.specs.Standing.{AreFit}
 use Rattle.mas_complex.specs.Headline.{whole}
-use Rattle.mas_complex.specs.Journals.{begun, kept_all}
+use Rattle.mas_complex.specs.Journals.{kept_all}
 use Rattle.mas_complex.specs.Meaning.{step, run}
 use Rattle.mas_complex.specs.Paper.{SamePapers}
 use Rattle.member_node.specs.declared.checkpoint.Checkpoint.{Checkpoint}
@@ -75,9 +75,22 @@ pub record IsBetween (tells : Type 0) (base : Queue) (batches : List Batch) (cur
   pub orders : tells → HaveOrders k.tables
   pub sound : tells → TellSound k.tables
 
+-- the batch is kept by now
+abbrev pub IsKeptBy : ℕ → Batch → Type 0
+IsKeptBy now b = (b.fate ≡ Kept) × (b.last ≤ now)
+
 -- each batch is kept by now
 abbrev pub AreAllKept : List Batch → ℕ → Type 0
-AreAllKept batches now = All (λ b. (b.fate ≡ Kept) × (b.last ≤ now)) batches
+AreAllKept batches now = All (λ b. IsKeptBy now b × (b.first ≤ b.last)) batches
+
+-- each of the entries that the member gave is of a step before this one
+abbrev pub AreEarlier : MemberId → ℕ → List Entry → Type 0
+AreEarlier by at entries = All (λ e. e.by ≡ by → e.step < at) entries
+
+-- Each batch is kept by now that has an entry of this step of the member, or of a later one: so a line of the step may
+-- be said. Other batches may have been dropped.
+abbrev pub AreKeptFrom : MemberId → ℕ → List Batch → ℕ → Type 0
+AreKeptFrom by at batches now = All (λ b. IsKeptBy now b ⊎ AreEarlier by at b.entries) batches
 
 -- A step that gives a command, whatever its reply is, by the entry and the lines that this reply makes. Where content
 -- is told it is the reply that the command has at the queue.
@@ -129,14 +142,3 @@ pub record IsStep {T : Type 0} (told : Type 0) (by : ℕ) (lines : List (List �
   pub others : told → IsOnlyOn old new
   pub papers : told → SamePapers old new
   pub console : told → StepTells result lines (HasKept front batches b new.now) (console_now old) (console_now new)
-
--- A step that gives a command: its batch and its lines are those of a reply, which is the command's where content is
--- told.
-pub record GivesStep {T : Type 0} (told : Type 0) (by : MemberId) (at : ℕ) (c : Command) (Q : Queue)
-    (front batches : List Batch) (was1 is1 was2 is2 : Bool) (old new : View) (result : Result T NodeNo) : Type 0 where
-  pub reply : Reply
-  pub is : told → reply ≡ reply_to Q by c
-  pub first : ℕ
-  pub later : (old.now ≤ first) × (first ≤ new.now)
-  pub step : IsStep told by.0 (reply_lines by at reply) (begun first by (entry_with by at c reply ∷ [])) front batches
-      was1 is1 was2 is2 old new result

@@ -11,6 +11,8 @@ ghost use Rattle.queue_tables.specs.Telling.{TellSound};
 ghost use Rattle.queue_effect.specs.Standing.{AreFit};
 ghost use Rattle.member_node.specs.Batches.{CanDraw, HasDone};
 ghost use Rattle.member_node.specs.Copies.{RestsAt};
+ghost use Rattle.member_steps.specs.Counting.{HasCounted};
+ghost use Rattle.member_steps.specs.Saying.{TellKept};
 ghost use Rattle.member_steps.specs.Steps.{AreAllKept, IsBetween, IsStep};
 ghost use Rattle.mas_complex.specs.Paper.{MayBegin, printed_after};
 
@@ -23,7 +25,8 @@ use std::alloc::Global;
 
 /// Writes the commands that a member has done, as one batch, to both copies, and says lines then. The member holds the
 /// lock, or is the operator while nobody does. All memory is taken before the first write. The texts of the queue with
-/// the batch stand on the spool volumes, except those with a group on a volume that is lost.
+/// the batch stand on the spool volumes, except those with a group on a volume that is lost. Each step that a line
+/// tells is kept before, as far as it has been given.
 ///
 /// NoMemory leaves the shared value's journal and the copies as they were, BothLost and Halted perhaps the batch in
 /// flight. After any of the four errors the member can't go on: its tables may be ahead of the copies.
@@ -55,7 +58,7 @@ pub fn play_batch<P: Plant + Drop, C: Steady + Drop>(
     requires texts { P.tells → ∥ HasTexts (lost_now (P.view complex.old.plant))
         (spools_at (P.view complex.old.plant) (P.view complex.old.plant).now) complex.old.base.config.groups
         (run complex.old.base (kept_all complex.old.journal.batches ++ member.old.batch)) ∥₁ }
-    requires kept { AreAllKept complex.old.journal.batches (P.view complex.old.plant).now }
+    requires kept { P.tells → TellKept lines.now complex.old.journal.batches (P.view complex.old.plant).now }
     requires untold { P.tells → IsUntold (setting C.reads complex.old.base complex.old.since) (P.view complex.old.plant)
         member.old.batch }
     requires allowed { P.tells → MayBegin complex.old.base complex.old.journal.batches complex.old.printed
@@ -86,9 +89,11 @@ pub fn play_batch<P: Plant + Drop, C: Steady + Drop>(
     ensures rests2 { OnOk result (RestsAt P.tells complex.new.pair.second.alive complex.new.second
         (C.count complex.new.pair.second.copy) member.new.checkpoint.pages
         (C.reads (disk_now (P.view complex.new.plant) Ckpt2).bytes)) }
-    ensures kept { OnOk result (AreAllKept complex.new.journal.batches (P.view complex.new.plant).now) }
+    ensures kept { OnOk result (AreAllKept complex.old.journal.batches (P.view complex.old.plant).now
+        → AreAllKept complex.new.journal.batches (P.view complex.new.plant).now) }
     ensures level { OnOk result (member.new.checkpoint.level ≤ member.old.checkpoint.level + 1) }
     ensures reached { OnOk result (complex.new.level ≤ complex.old.level + 1) }
+    ensures counts { HasCounted member.old.id member.old.batch complex.old.printed complex.new.printed result }
 {
     let Ok(draft) = member.ready(alloc, complex) else {
         return Err(NodeNo::NoMemory);

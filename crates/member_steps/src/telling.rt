@@ -2,15 +2,14 @@
 ghost use Rattle.std.specs.Prelude.{◌≡◌, None};
 ghost use Rattle.mas_complex.specs.Locking.{IsUp};
 ghost use Rattle.mas_complex.specs.Parts.{parts_of};
-ghost use Rattle.member_steps.specs.Saying.{HaveSaid};
-ghost use Rattle.member_steps.specs.Steps.{AreAllKept};
+ghost use Rattle.member_steps.specs.Saying.{HaveSaid, TellKept};
 
 use mas_complex::{Complex, Steady};
 use mas_types::Lines;
 use member_node::{Member, NodeNo};
 use spool_disk::Plant;
 
-/// Says lines on the console, one after another, while each batch of the journal is kept. Answers ConsoleFault where
+/// Says lines on the console, one after another. Each step that one of them tells is kept. Answers ConsoleFault where
 /// the console failed, and Halted where the member was stopped: then the lines before that one stand there.
 pub fn tell_lines<P: Plant + Drop, C: Steady + Drop>(
     member: &Member,
@@ -19,7 +18,7 @@ pub fn tell_lines<P: Plant + Drop, C: Steady + Drop>(
 ) -> Result<(), NodeNo>
     requires up { IsUp complex.old.book member.now.id }
     requires none { complex.old.current ≡ None }
-    requires kept { AreAllKept complex.old.journal.batches (P.view complex.old.plant).now }
+    requires kept { P.tells → TellKept lines.now complex.old.journal.batches (P.view complex.old.plant).now }
     ensures pair { complex.new.pair ≡ complex.old.pair }
     ensures base { complex.new.base ≡ complex.old.base }
     ensures printed { complex.new.printed ≡ complex.old.printed }

@@ -136,12 +136,6 @@ module _ (by : MemberId) (at : ℕ) where
       (λ full. rw full (All-cons (AreOf by at) es (cut [] parts) its (of_cut [] parts (All-nil Its) all)))
       (λ few. rw few (of_cut es parts its all))
 
-  pub of_full : (es : List Entry) → AreOf by at es → AreOf by at (after_full es)
-  of_full es its =
-      test_cases (is_full es) (AreOf by at (after_full es))
-      (λ full. rw full (All-nil Its))
-      (λ few. rw few its)
-
   pub of_full_batches : (es : List Entry) → AreOf by at es → All (AreOf by at) (full_of es)
   of_full_batches es its =
       test_cases (is_full es) (All (AreOf by at) (full_of es))

@@ -1,5 +1,5 @@
 -- What was given in a part of a unit, and what was kept, as whole values.
-use Rattle.std.proofs.Common.{◌≡◌, ◌∙◌, ℕ, true, false, not, List, [], ◌∷◌, ◌++◌, All, Result, Ok, Err, ap, append_assoc, refl, sym, subst}
+use Rattle.std.proofs.Common.{◌≡◌, ◌∙◌, ℕ, true, false, not, List, [], ◌∷◌, ◌++◌, Result, Ok, Err, ap, append_assoc, refl, sym, subst}
 use Rattle.std.specs.Prelude.{OnOk}
 use Rattle.std.proofs.lemmas.List.Elements.{All-head}
 use Rattle.mas_types.specs.declared.commands.Command.{Command}
@@ -17,6 +17,8 @@ use Rattle.mas_complex.specs.Meaning.{run}
 use Rattle.member_node.specs.declared.member.Member.{Member}
 use Rattle.member_node.specs.declared.member.NodeNo.{NodeNo}
 use Rattle.member_node.specs.Calls.{Apart}
+use Rattle.member_steps.specs.Counting.{HasCounted}
+use Rattle.member_steps.proofs.CountLemmas.{counted_by}
 use Rattle.member_decks.specs.Steps.{AreOf}
 use Rattle.job_outcome.specs.declared.units.UnitEnd.{UnitEnd}
 use Rattle.member_work.specs.Ending.{IsLastPart}
@@ -63,24 +65,26 @@ module _ {P C : Type 0} {plants : PlantGhosts P} {steadies : SteadyGhosts C} {co
         ∙ run_append x.base (kept_all x.journal.batches ++ m.batch) gave
 
     pub played_given : (r : Result UnitEnd NodeNo) (gave so_far : List Entry) (end e : UnitEnd) → (cs : List Command) → m.batch ≡ so_far → OnOk r (AtWork y n) → (plants.tells → gave ≡ given_in (queue_here x m) h.by h.step cs) → (plants.tells → end ≡ e)
-        → (plants.tells → Apart (plants.view x.plant) (plants.view y.plant))
+        → (plants.tells → Apart (plants.view x.plant) (plants.view y.plant)) → HasCounted m.id [] x.printed y.printed r
         → IsPlayed plants.tells m.id h.step (gave ∷ []) end so_far n.batch x.journal.batches (end_of y.placed y.current y.journal.batches) x.pair.first.alive y.pair.first.alive x.pair.second.alive y.pair.second.alive (plants.view x.plant) (plants.view y.plant) r
         → HasGiven plants.tells h cs e (place_of x m) (place_of y n) r
-    played_given (Ok end') gave so_far end e cs is z told_is told_end apart p = record {
+    played_given (Ok end') gave so_far end e cs is z told_is told_end apart counts p = record {
       es = gave;
       is = told_is;
       of = subst (λ (i : MemberId). AreOf i h.step gave) (sym own) (All-head (AreOf m.id h.step) gave [] p.of);
       keeps = keeps_as {T = UnitEnd} x y m h.by [] [] (Ok end') own w refl p.keeps;
+      counts = counted_by m.id h.by [] x.printed y.printed (Ok end') (sym own) counts;
       left = p.left ∙ ap (λ (es : List Entry). es ++ gave) (sym is);
       queue = queue_now so_far gave is z (same_journal {T = UnitEnd} plants.tells m.id end' x.journal.batches (end_of y.placed y.current y.journal.batches) x.pair.first.alive y.pair.first.alive x.pair.second.alive y.pair.second.alive (plants.view x.plant) (plants.view y.plant) p.keeps) p.left;
       ends = λ t. p.ends ∙ told_end t;
       spares = λ t. spares_of x y (apart t);
     }
-    played_given (Err why) gave so_far end e cs is z told_is told_end apart p = record {
+    played_given (Err why) gave so_far end e cs is z told_is told_end apart counts p = record {
       es = gave;
       is = told_is;
       of = subst (λ (i : MemberId). AreOf i h.step gave) (sym own) (All-head (AreOf m.id h.step) gave [] p.of);
       keeps = keeps_as {T = UnitEnd} x y m h.by (batches_in ((so_far ++ gave) ∷ [])) (batch_of (m.batch ++ gave)) (Err why) own w (one_batch (so_far ++ gave) ∙ ap (λ (es : List Entry). batch_of (es ++ gave)) (sym is)) p.keeps;
+      counts = counted_by m.id h.by [] x.printed y.printed (Err why) (sym own) counts;
       left = tt;
       queue = tt;
       ends = tt;
@@ -88,12 +92,12 @@ module _ {P C : Type 0} {plants : PlantGhosts P} {steadies : SteadyGhosts C} {co
     }
 
   -- the last commands of a unit, from where nothing is unwritten
-  pub last_given : (x y : Complex P C plants steadies copies) (m n : Member) (h : Holder) → Works x m h → y.base ≡ x.base → (r : Result UnitEnd NodeNo) (cs : Queue → MemberId → List Command) (e : Queue → MemberId → UnitEnd) → m.batch ≡ [] → OnOk r (AtWork y n) → (plants.tells → Apart (plants.view x.plant) (plants.view y.plant))
+  pub last_given : (x y : Complex P C plants steadies copies) (m n : Member) (h : Holder) → Works x m h → y.base ≡ x.base → (r : Result UnitEnd NodeNo) (cs : Queue → MemberId → List Command) (e : Queue → MemberId → UnitEnd) → m.batch ≡ [] → OnOk r (AtWork y n) → (plants.tells → Apart (plants.view x.plant) (plants.view y.plant)) → HasCounted m.id [] x.printed y.printed r
       → IsLastPart plants.tells m.id h.step (given_in (queue_kept x) m.id h.step (cs (queue_kept x) m.id)) (e (queue_kept x) m.id) n.batch x.journal.batches (end_of y.placed y.current y.journal.batches) x.pair.first.alive y.pair.first.alive x.pair.second.alive y.pair.second.alive (plants.view x.plant) (plants.view y.plant) r
       → HasGiven plants.tells h (cs (queue_here x m) h.by) (e (queue_here x m) h.by) (place_of x m) (place_of y n) r
-  last_given x y m n h w base r cs e nothing z apart p =
+  last_given x y m n h w base r cs e nothing z apart counts p =
       let here = kept_here x m nothing in
       played_given x y m n h w.own w.work base r p.gave [] p.end (e (queue_here x m) h.by) (cs (queue_here x m) h.by) nothing z
       (λ t. (p.is t).0 ∙ ap (λ (Q : Queue). given_in Q m.id h.step (cs Q m.id)) (sym here) ∙ ap (λ (i : MemberId). given_in (queue_here x m) i h.step (cs (queue_here x m) i)) (sym w.own))
       (λ t. (p.is t).1 ∙ ap (λ (Q : Queue). e Q m.id) (sym here) ∙ ap (λ (i : MemberId). e (queue_here x m) i) (sym w.own))
-      apart p.played
+      apart counts p.played

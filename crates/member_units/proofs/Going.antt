@@ -1,5 +1,5 @@
 -- The rest of a sitting, part by part.
-use Rattle.std.proofs.Common.{◌≡◌, ◌∙◌, ◌⊎◌, inl, inr, ⊎_elim, ℕ, zero, suc, ◌+◌, ◌≤◌, Bool, true, false, List, [], ◌∷◌, ◌++◌, length, map, take, All, append_assoc, append-nil, Result, Ok, Err, ap, refl, sym, subst, arith}
+use Rattle.std.proofs.Common.{◌≡◌, ◌∙◌, ◌⊎◌, inl, inr, ⊎_elim, ℕ, zero, suc, ◌+◌, ◌*◌, ◌≤◌, Bool, true, false, List, [], ◌∷◌, ◌++◌, length, map, take, All, append_assoc, append-nil, Result, Ok, Err, ap, refl, sym, subst, arith}
 use Rattle.std.proofs.lemmas.List.{length-append}
 use Rattle.std.proofs.lemmas.List.Elements.{All-append, All-cons, All-nil}
 use Rattle.std.specs.Prelude.{IfOk}
@@ -24,13 +24,16 @@ use Rattle.member_decks.specs.Batches.{AreAll, HasAll, IsKeptBatch}
 use Rattle.member_decks.proofs.BatchLemmas.{all_sooner}
 use Rattle.member_decks.specs.Keeping.{CopyCauses}
 use Rattle.member_decks.specs.Steps.{AreOf}
+use Rattle.member_steps.specs.Counting.{HasCounted}
 use Rattle.member_steps.specs.Saying.{Breaks}
 use Rattle.member_steps.specs.Steps.{StepCauses, StepTells}
+use Rattle.member_steps.proofs.CountLemmas.{counted_ok, counted_on, counted_then, counted_up}
 use Rattle.member_decks.proofs.OutcomeLemmas.{left_then}
 use Rattle.member_work.specs.Steps.{WorkLeaves}
 use Rattle.member_work.proofs.KeepingLemmas.{keeping_starts}
 use Rattle.member_work.proofs.LeavesLemmas.{StartsAs, work_then}
 use Rattle.step_turns.specs.Batches.{batch_of, cut, cut_after}
+use Rattle.step_turns.specs.Courses.{sittings_most}
 use Rattle.step_turns.specs.Entries.{all_entries, given_in}
 use Rattle.step_turns.specs.Sittings.{released}
 use Rattle.step_turns.specs.declared.states.Holder.{Holder}
@@ -39,10 +42,12 @@ use Rattle.step_turns.specs.declared.states.State.TheVariants.{Rested, Told}
 use Rattle.step_turns.specs.Turns.{Turn, after_part, goes_on, goes_on_by, leaves, says, units_from}
 use Rattle.step_turns.proofs.Given.{entries_append}
 use Rattle.member_sittings.specs.declared.ends.SittingEnd.{SittingEnd}
-use Rattle.member_units.specs.Plays.{Closes, EndsAs, HasGiven, Keeps, Plays, SparesVolumes, Wrote, after_full, full_of, rests, wrote_after, wrote_of}
+use Rattle.member_sittings.specs.Shapes.{MayEndBy}
+use Rattle.member_units.specs.Plays.{Bounds, Closes, EndsAs, HasGiven, IsWithin, Keeps, Plays, SparesVolumes, Wrote, after_full, bounds, full_of, rests, unwritten, wrote_after, wrote_of}
 use Rattle.member_units.specs.Works.{Outside, Place}
 use Rattle.member_units.proofs.Cuts.{batch_entries, cut_end, full_entries, full_first, of_after, of_batch, of_cut, of_full_batches, starts_after, starts_full}
 use Rattle.member_units.proofs.Ours.{after_its}
+use Rattle.member_units.proofs.Within.{after_within, goes_within, more_wrote, part_within, pause_within, unwritten_one, wrote_within}
 
 -- BATCHES THAT ARE KEPT, AND THEN OTHERS OR LINES
 
@@ -172,33 +177,41 @@ apart_then o m n later goes one two = record { others = only_on o.view m.view n.
 
 -- THE REST OF A SITTING
 
-module _ (told : Type 0) (h : Holder) (given : ℕ) where
+-- the counts, by the entries another way
+counted_as : {T : Type 0} {by : MemberId} (es fs : List Entry) (was now : List ℕ) → es ≡ fs → (r : Result T NodeNo) → HasCounted by fs was now r → HasCounted by es was now r
+counted_as {T} {by} es fs was now same r c = subst (λ (l : List Entry). HasCounted {T = T} by l was now r) (sym same) c
+
+module _ (told : Type 0) (h : Holder) (b : Bounds) (given : ℕ) where
   -- the rest of a sitting, by what it is to write
-  pub plays_as : (w w' : Wrote) (old : Place) (new : Outside) (r : Result SittingEnd NodeNo) → (told → w ≡ w') → Plays told h given w old new r → Plays told h given w' old new r
-  plays_as w w' old new r same p = record { wrote = p.wrote; is = λ t. p.is t ∙ same t; of = p.of; ends = p.ends; closes = p.closes; spares = p.spares }
+  pub plays_as : (w w' : Wrote) (old : Place) (new : Outside) (r : Result SittingEnd NodeNo) → (told → w ≡ w') → Plays told h b given w old new r → Plays told h b given w' old new r
+  plays_as w w' old new r same p = record { wrote = p.wrote; is = λ t. p.is t ∙ same t; of = p.of; within = p.within; ends = p.ends; closes = p.closes; counts = p.counts; spares = p.spares }
 
   -- an error, where what was to be kept begins what is to be written
-  pub plays_error : {S : Type 0} (why : NodeNo) (w w' : Wrote) (xs : List (List Entry)) (old : Place) (new : Outside) → (told → w' ≡ w) → All (AreOf h.by h.step) w'.batches → StartsAs xs w'.batches
-      → (told → SparesVolumes old.outside new) → Keeps {T = S} told h.by xs old.outside new (Err why) → Plays told h given w old new (Err why)
-  plays_error {S} why w w' xs old new is of starts spares keeps = record {
+  pub plays_error : {S : Type 0} (why : NodeNo) (w w' : Wrote) (xs : List (List Entry)) (old : Place) (new : Outside) → (told → w' ≡ w) → All (AreOf h.by h.step) w'.batches → IsWithin h b w' → StartsAs xs w'.batches
+      → (told → SparesVolumes old.outside new) → Keeps {T = S} told h.by xs old.outside new (Err why) → {gave : List Entry} → HasCounted {T = S} h.by gave old.outside.printed new.printed (Err why) → Plays told h b given w old new (Err why)
+  plays_error {S} why w w' xs old new is of within starts spares keeps {gave} counts = record {
     wrote = w';
     is = is;
     of = of;
+    within = within;
     ends = tt;
     closes = closes_error told h.by {S = S} why w'.lines w'.batches old.outside new
         (keeping_starts {T = S} told h.by why xs w'.batches old.outside.batches new.batches old.outside.first new.first old.outside.second new.second old.outside.view new.view starts keeps);
+    counts = counted_up h.by gave (all_entries w'.batches) old.outside.printed new.printed (Err why) why counts;
     spares = spares;
   }
 
   -- the sitting ends in a state of the step
-  pub plays_leave : {S : Type 0} (s : S) (e : SittingEnd) (next : State) (old : Place) (new : Outside) → e.next ≡ next → e.given ≡ given → e.release ≡ released h.grant h.hold e.given e.next → AreOf h.by h.step old.batch → (told → SparesVolumes old.outside new)
-      → Keeps {T = S} told h.by (batch_of old.batch) old.outside new (Ok s) → Plays told h given (wrote_of old.batch (leaves next)) old new (Ok e)
-  plays_leave {S} s e next old new is_next is_given is_released of spares keeps = record {
+  pub plays_leave : {S : Type 0} (s : S) (e : SittingEnd) (next : State) (old : Place) (new : Outside) → e.next ≡ next → e.given ≡ given → e.release ≡ released h.grant h.hold e.given e.next → AreOf h.by h.step old.batch → IsWithin h b (wrote_of old.batch (leaves next)) → (told → SparesVolumes old.outside new)
+      → Keeps {T = S} told h.by (batch_of old.batch) old.outside new (Ok s) → HasCounted {T = S} h.by old.batch old.outside.printed new.printed (Ok s) → Plays told h b given (wrote_of old.batch (leaves next)) old new (Ok e)
+  plays_leave {S} s e next old new is_next is_given is_released of within spares keeps counts = record {
     wrote = wrote_of old.batch (leaves next);
     is = λ t. refl;
     of = of_batch h.by h.step old.batch of;
+    within = within;
     ends = (is_next, ap (λ (n : ℕ). n + length old.batch) is_given ∙ ap (λ (es : List Entry). given + length es) (sym (batch_entries old.batch)), is_released);
     closes = closes_none told h.by {S = S} s e (batch_of old.batch) old.outside new keeps;
+    counts = counted_as (all_entries (batch_of old.batch)) old.batch old.outside.printed new.printed (batch_entries old.batch) (Ok e) (counted_ok h.by old.batch old.outside.printed new.printed s e counts);
     spares = spares;
   }
 
@@ -206,29 +219,38 @@ module _ (told : Type 0) (h : Holder) (given : ℕ) where
   ToldThen e = (e.next ≡ Told) × (e.given ≡ given) × (e.release ≡ released h.grant h.hold e.given e.next)
 
   -- the step closes
-  pub plays_close : {S : Type 0} (s : S) (r : Result SittingEnd NodeNo) (lines : List (List ℕ)) (old : Place) (mid new : Outside) → IfOk r ToldThen → AreOf h.by h.step old.batch → (told → SparesVolumes old.outside new)
-      → Keeps {T = S} told h.by (batch_of old.batch) old.outside mid (Ok s) → Closes told h.by lines [] mid new r → Plays told h given (wrote_of old.batch (says lines)) old new r
-  plays_close {S} s r lines old mid new ends of spares keeps closes = record {
+  pub plays_close : {S : Type 0} (s : S) (r : Result SittingEnd NodeNo) (lines : List (List ℕ)) (old : Place) (mid new : Outside) → IfOk r ToldThen → AreOf h.by h.step old.batch → IsWithin h b (wrote_of old.batch (says lines)) → (told → SparesVolumes old.outside new)
+      → Keeps {T = S} told h.by (batch_of old.batch) old.outside mid (Ok s) → HasCounted {T = S} h.by old.batch old.outside.printed mid.printed (Ok s) → Closes told h.by lines [] mid new r → new.printed ≡ mid.printed → Plays told h b given (wrote_of old.batch (says lines)) old new r
+  plays_close {S} s r lines old mid new ends of within spares keeps counts closes still = record {
     wrote = wrote_of old.batch (says lines);
     is = λ t. refl;
     of = of_batch h.by h.step old.batch of;
+    within = within;
     ends = if_ok r ends;
     closes = subst (λ (ess : List (List Entry)). Closes told h.by lines ess old.outside new r) (append-nil (batch_of old.batch)) (closes_then told h.by {S = S} s r lines (batch_of old.batch) [] old.outside mid new keeps closes);
+    counts = counted_as (all_entries (batch_of old.batch)) old.batch old.outside.printed new.printed (batch_entries old.batch) r (counted_on h.by old.batch old.outside.printed mid.printed new.printed s r still counts);
     spares = spares;
   } where
     if_ok : (r : Result SittingEnd NodeNo) → IfOk r ToldThen → IfOk r (EndsAs h given old.batch (wrote_of old.batch (says lines)))
     if_ok (Ok e) ends = (ends.0, ap (λ (n : ℕ). n + length old.batch) ends.1 ∙ ap (λ (es : List Entry). given + length es) (sym (batch_entries old.batch)), ends.2)
     if_ok (Err why) ends = tt
 
+  -- as much and more may come
+  pub plays_more : (least fewer : ℕ) (w : Wrote) (old : Place) (new : Outside) (r : Result SittingEnd NodeNo) → least ≤ b.most → fewer ≤ b.units → Plays told h (bounds least fewer b.found) given w old new r → Plays told h b given w old new r
+  plays_more least fewer w old new r le less p = record { wrote = p.wrote; is = p.is; of = p.of; within = more_wrote h b.found b.most least b.units fewer p.wrote le less p.within; ends = p.ends; closes = p.closes; counts = p.counts; spares = p.spares }
+
   -- what is full is written, and then the rest
-  pub plays_full : {S : Type 0} (s : S) (t : Turn) (old mid : Place) (new : Outside) (r : Result SittingEnd NodeNo) → AreOf h.by h.step old.batch → mid.batch ≡ after_full old.batch → (told → SparesVolumes old.outside mid.outside)
-      → Keeps {T = S} told h.by (full_of old.batch) old.outside mid.outside (Ok s) → Plays told h given (wrote_of mid.batch t) mid new r → Plays told h given (wrote_after old.batch t) old new r
-  plays_full {S} s t old mid new r of left spares keeps p = record {
+  pub plays_full : {S : Type 0} (s : S) (t : Turn) (old mid : Place) (new : Outside) (r : Result SittingEnd NodeNo) (least : ℕ) → length (full_of old.batch) + least ≤ b.most → AreOf h.by h.step old.batch → mid.batch ≡ after_full old.batch → (told → SparesVolumes old.outside mid.outside)
+      → Keeps {T = S} told h.by (full_of old.batch) old.outside mid.outside (Ok s) → HasCounted {T = S} h.by (all_entries (full_of old.batch)) old.outside.printed mid.outside.printed (Ok s) → Plays told h (bounds least b.units b.found) given (wrote_of mid.batch t) mid new r → Plays told h b given (wrote_after old.batch t) old new r
+  plays_full {S} s t old mid new r least le of left spares keeps counts p = record {
     wrote = record { batches = full_of old.batch ++ p.wrote.batches; next = p.wrote.next; lines = p.wrote.lines };
     is = λ told. joined (p.wrote) (p.is told);
     of = All-append (AreOf h.by h.step) (full_of old.batch) p.wrote.batches (of_full_batches h.by h.step old.batch of) p.of;
+    within = record { few = let few = p.within.few in let both = length-append (full_of old.batch) p.wrote.batches in omega (arith, few, both, le); says = p.within.says };
     ends = if_ok r p.ends;
     closes = closes_then told h.by {S = S} s r p.wrote.lines (full_of old.batch) p.wrote.batches old.outside mid.outside new keeps p.closes;
+    counts = counted_as (all_entries (full_of old.batch ++ p.wrote.batches)) (all_entries (full_of old.batch) ++ all_entries p.wrote.batches) old.outside.printed new.printed (entries_append (full_of old.batch) p.wrote.batches) r
+        (counted_then h.by (all_entries (full_of old.batch)) (all_entries p.wrote.batches) old.outside.printed mid.outside.printed new.printed s r counts p.counts);
     spares = λ told. apart_then old.outside mid.outside new keeps.course.goes.later p.closes.course.goes (spares told) (p.spares told);
   } where
     joined : (w : Wrote) → w ≡ wrote_of mid.batch t → record { batches = full_of old.batch ++ w.batches; next = w.next; lines = w.lines } ≡ wrote_after old.batch t
@@ -252,7 +274,7 @@ module _ (told : Type 0) (h : Holder) (given : ℕ) where
 
 -- A PART, and then the rest
 
-module _ (told : Type 0) (h : Holder) (cs : List Command) (e : UnitEnd) (old mid : Place) (of : AreOf h.by h.step old.batch) (left given done : ℕ) where
+module _ (told : Type 0) (h : Holder) (b : Bounds) (cs : List Command) (e : UnitEnd) (old mid : Place) (of : AreOf h.by h.step old.batch) (left given done : ℕ) where
   abbrev all : List Entry
   all = given_in old.queue h.by h.step cs
 
@@ -264,24 +286,27 @@ module _ (told : Type 0) (h : Holder) (cs : List Command) (e : UnitEnd) (old mid
   whole_part = after_part all (then all e)
 
   -- out of memory for the part, or a batch couldn't be kept then
-  pub part_error : (why : NodeNo) → HasGiven told h cs e old mid (Err why) → Plays told h given (wrote_of old.batch whole_part) old mid.outside (Err why)
-  part_error why g =
+  pub part_error : MayEndBy b.found e → done + 1 + left ≤ b.units → 3 * left + 2 + unwritten old.batch ≤ b.most → (why : NodeNo) → HasGiven told h cs e old mid (Err why) → Plays told h b given (wrote_of old.batch whole_part) old mid.outside (Err why)
+  part_error may few le why g =
       let w = wrote_of old.batch (after_part g.es (then g.es e)) in
-      plays_error told h given {S = UnitEnd} why (wrote_of old.batch whole_part) w (batch_of (old.batch ++ g.es)) old mid.outside
+      plays_error told h b given {S = UnitEnd} why (wrote_of old.batch whole_part) w (batch_of (old.batch ++ g.es)) old mid.outside
       (λ t. ap (λ (es : List Entry). wrote_of old.batch (after_part es (then es e))) (g.is t))
       (of_cut h.by h.step old.batch (g.es ∷ (then g.es e).parts) of (All-cons (AreOf h.by h.step) g.es (then g.es e).parts g.of (after_its h e left (run old.queue g.es) (given + length g.es) done)))
+      (wrote_within h b.found b.units b.most old.batch (after_part g.es (then g.es e)) (3 * left + 1 + 1) (omega (arith, le)) (part_within h b.found (3 * left + 1) b.units g.es (then g.es e) (goes_within h b.found e may (3 * left + 1) b.units left (run old.queue g.es) (given + length g.es) done few (omega arith))))
       (starts_after (old.batch ++ g.es) (then g.es e).parts)
-      g.spares g.keeps
+      g.spares g.keeps g.counts
 
   -- the part was given, and the rest follows
   pub part_then : (end : UnitEnd) (given' : ℕ) (new : Outside) (r : Result SittingEnd NodeNo) (g : HasGiven told h cs e old mid (Ok end)) → given' ≡ given + length g.es
-      → Plays told h given' (wrote_after mid.batch (goes_on_by h end left (units_from h left) mid.queue given' done)) mid new r → Plays told h given (wrote_of old.batch whole_part) old new r
+      → Plays told h b given' (wrote_after mid.batch (goes_on_by h end left (units_from h left) mid.queue given' done)) mid new r → Plays told h b given (wrote_of old.batch whole_part) old new r
   part_then end given' new r g more p = record {
     wrote = p.wrote;
     is = λ t. p.is t ∙ same t;
     of = p.of;
+    within = p.within;
     ends = if_ok r p.ends;
     closes = closes_then told h.by {S = UnitEnd} end r p.wrote.lines [] p.wrote.batches old.outside mid.outside new g.keeps p.closes;
+    counts = counted_then h.by [] (all_entries p.wrote.batches) old.outside.printed mid.outside.printed new.printed end r g.counts p.counts;
     spares = λ t. apart_then old.outside mid.outside new g.keeps.course.goes.later p.closes.course.goes (g.spares t) (p.spares t);
   } where
     same : told → wrote_after mid.batch (goes_on_by h end left (units_from h left) mid.queue given' done) ≡ wrote_of old.batch whole_part
@@ -298,17 +323,20 @@ module _ (told : Type 0) (h : Holder) (cs : List Command) (e : UnitEnd) (old mid
 
 -- AFTER A UNIT
 
-module _ (told : Type 0) (h : Holder) (given : ℕ) where
+module _ (told : Type 0) (h : Holder) (b : Bounds) (given : ℕ) where
   -- the step closes, full batch or not
-  pub closed_after : (lines : List (List ℕ)) (old : Place) (new : Outside) (r : Result SittingEnd NodeNo) → Plays told h given (wrote_of old.batch (says lines)) old new r → Plays told h given (wrote_after old.batch (says lines)) old new r
-  closed_after lines old new r p = plays_as told h given (wrote_of old.batch (says lines)) (wrote_after old.batch (says lines)) old new r (λ t. ap (λ (bs : List (List Entry)). record { batches = bs; next = Told; lines = lines }) (sym (cut_end old.batch))) p
+  pub closed_after : (lines : List (List ℕ)) (old : Place) (new : Outside) (r : Result SittingEnd NodeNo) (least fewer : ℕ) → least ≤ b.most → fewer ≤ b.units → Plays told h (bounds least fewer b.found) given (wrote_of old.batch (says lines)) old new r → Plays told h b given (wrote_after old.batch (says lines)) old new r
+  closed_after lines old new r least fewer le less p = plays_as told h b given (wrote_of old.batch (says lines)) (wrote_after old.batch (says lines)) old new r (λ t. ap (λ (bs : List (List Entry)). record { batches = bs; next = Told; lines = lines }) (sym (cut_end old.batch)))
+      (plays_more told h b given least fewer (wrote_of old.batch (says lines)) old new r le less p)
 
   -- a full batch couldn't be kept
-  pub full_error : {S : Type 0} (why : NodeNo) (e : UnitEnd) (left done : ℕ) (old : Place) (new : Outside) → AreOf h.by h.step old.batch → (told → SparesVolumes old.outside new) → Keeps {T = S} told h.by (full_of old.batch) old.outside new (Err why)
-      → Plays told h given (wrote_after old.batch (goes_on_by h e left (units_from h left) old.queue given done)) old new (Err why)
-  full_error {S} why e left done old new of spares keeps =
+  pub full_error : {S : Type 0} (why : NodeNo) (e : UnitEnd) (left done : ℕ) (old : Place) (new : Outside) → MayEndBy b.found e → done + 1 + left ≤ b.units → 3 * left + 2 ≤ b.most → AreOf h.by h.step old.batch → (told → SparesVolumes old.outside new) → Keeps {T = S} told h.by (full_of old.batch) old.outside new (Err why) → {gave : List Entry} → HasCounted {T = S} h.by gave old.outside.printed new.printed (Err why)
+      → Plays told h b given (wrote_after old.batch (goes_on_by h e left (units_from h left) old.queue given done)) old new (Err why)
+  full_error {S} why e left done old new may few le of spares keeps {gave} counts =
       let t = goes_on_by h e left (units_from h left) old.queue given done in
-      plays_error told h given {S = S} why (wrote_after old.batch t) (wrote_after old.batch t) (full_of old.batch) old new (λ t. refl) (of_after h.by h.step old.batch t.parts of (after_its h e left old.queue given done)) (starts_full old.batch t.parts) spares keeps
+      let one = unwritten_one old.batch in
+      plays_error told h b given {S = S} why (wrote_after old.batch t) (wrote_after old.batch t) (full_of old.batch) old new (λ t. refl) (of_after h.by h.step old.batch t.parts of (after_its h e left old.queue given done))
+      (after_within h b.found b.units b.most old.batch t (3 * left + 1) (omega (arith, one, le)) (goes_within h b.found e may (3 * left + 1) b.units left old.queue given done few (omega arith))) (starts_full old.batch t.parts) spares keeps counts
 
 -- after a unit the next one follows, or the hold is spent
 goes_next : (h : Holder) (left : ℕ) (Q : Queue) (given done : ℕ) → rests h left given ≡ false → goes_on h left (units_from h left) Q given done ≡ units_from h left Q given done
@@ -319,47 +347,50 @@ goes_rest : (h : Holder) (left : ℕ) (Q : Queue) (given done : ℕ) → rests h
 goes_rest h zero Q given done spent = absurd (cc)
 goes_rest h (suc left) Q given done spent = rw spent refl
 
-module _ (told : Type 0) (h : Holder) (given left done : ℕ) {S : Type 0} (s : S) (old mid : Place) (new : Outside) (r : Result SittingEnd NodeNo) (of : AreOf h.by h.step old.batch) (left_is : mid.batch ≡ after_full old.batch)
-    (spares : told → SparesVolumes old.outside mid.outside) (keeps : Keeps {T = S} told h.by (full_of old.batch) old.outside mid.outside (Ok s)) where
+module _ (told : Type 0) (h : Holder) (b : Bounds) (given left done : ℕ) {S : Type 0} (s : S) (old mid : Place) (new : Outside) (r : Result SittingEnd NodeNo) (of : AreOf h.by h.step old.batch) (left_is : mid.batch ≡ after_full old.batch)
+    (spares : told → SparesVolumes old.outside mid.outside) (keeps : Keeps {T = S} told h.by (full_of old.batch) old.outside mid.outside (Ok s)) (counts : HasCounted {T = S} h.by (all_entries (full_of old.batch)) old.outside.printed mid.outside.printed (Ok s)) (least : ℕ) (le : length (full_of old.batch) + least ≤ b.most) where
   abbrev Goes_on : UnitEnd → Turn
   Goes_on e = goes_on_by h e left (units_from h left) old.queue given done
 
-  pub on_after : (e : UnitEnd) → e ≡ ends.Done → mid.queue ≡ old.queue → rests h left given ≡ false → Plays told h given (wrote_of mid.batch (units_from h left mid.queue given (done + 1))) mid new r → Plays told h given (wrote_after old.batch (Goes_on e)) old new r
+  pub on_after : (e : UnitEnd) → e ≡ ends.Done → mid.queue ≡ old.queue → rests h left given ≡ false → Plays told h (bounds least b.units b.found) given (wrote_of mid.batch (units_from h left mid.queue given (done + 1))) mid new r → Plays told h b given (wrote_after old.batch (Goes_on e)) old new r
   on_after e is queue not p =
-      subst (λ (x : UnitEnd). Plays told h given (wrote_after old.batch (Goes_on x)) old new r) (sym is)
-      (subst (λ (t : Turn). Plays told h given (wrote_after old.batch t) old new r) (sym (goes_next h left old.queue given (done + 1) not))
-      (plays_full told h given {S = S} s (units_from h left old.queue given (done + 1)) old mid new r of left_is spares keeps
-      (subst (λ (Q : Queue). Plays told h given (wrote_of mid.batch (units_from h left Q given (done + 1))) mid new r) queue p)))
+      subst (λ (x : UnitEnd). Plays told h b given (wrote_after old.batch (Goes_on x)) old new r) (sym is)
+      (subst (λ (t : Turn). Plays told h b given (wrote_after old.batch t) old new r) (sym (goes_next h left old.queue given (done + 1) not))
+      (plays_full told h b given {S = S} s (units_from h left old.queue given (done + 1)) old mid new r least le of left_is spares keeps counts
+      (subst (λ (Q : Queue). Plays told h (bounds least b.units b.found) given (wrote_of mid.batch (units_from h left Q given (done + 1))) mid new r) queue p)))
 
-  pub rest_after : (e : UnitEnd) → e ≡ ends.Done → rests h left given ≡ true → Plays told h given (wrote_of mid.batch (leaves (Rested (record { done = done + 1; left = left })))) mid new r → Plays told h given (wrote_after old.batch (Goes_on e)) old new r
+  pub rest_after : (e : UnitEnd) → e ≡ ends.Done → rests h left given ≡ true → Plays told h (bounds least b.units b.found) given (wrote_of mid.batch (leaves (Rested (record { done = done + 1; left = left })))) mid new r → Plays told h b given (wrote_after old.batch (Goes_on e)) old new r
   rest_after e is spent p =
-      subst (λ (x : UnitEnd). Plays told h given (wrote_after old.batch (Goes_on x)) old new r) (sym is)
-      (subst (λ (t : Turn). Plays told h given (wrote_after old.batch t) old new r) (sym (goes_rest h left old.queue given (done + 1) spent))
-      (plays_full told h given {S = S} s (leaves (Rested (record { done = done + 1; left = left }))) old mid new r of left_is spares keeps p))
+      subst (λ (x : UnitEnd). Plays told h b given (wrote_after old.batch (Goes_on x)) old new r) (sym is)
+      (subst (λ (t : Turn). Plays told h b given (wrote_after old.batch t) old new r) (sym (goes_rest h left old.queue given (done + 1) spent))
+      (plays_full told h b given {S = S} s (leaves (Rested (record { done = done + 1; left = left }))) old mid new r least le of left_is spares keeps counts p))
 
 -- A PART BEFORE ACTS
 
-module _ (told : Type 0) (h : Holder) (cs : List Command) (e : UnitEnd) (old mid : Place) (of : AreOf h.by h.step old.batch) (given : ℕ) (next : State) where
+module _ (told : Type 0) (h : Holder) (b : Bounds) (cs : List Command) (e : UnitEnd) (old mid : Place) (of : AreOf h.by h.step old.batch) (given : ℕ) (next : State) where
   abbrev given_all : List Entry
   given_all = given_in old.queue h.by h.step cs
 
-  pub pause_error : (why : NodeNo) → HasGiven told h cs e old mid (Err why) → Plays told h given (wrote_of old.batch (after_part given_all (leaves next))) old mid.outside (Err why)
-  pause_error why g =
+  pub pause_error : (next ≡ Told → ⊥) → sittings_most next + 1 + unwritten old.batch ≤ b.most → (why : NodeNo) → HasGiven told h cs e old mid (Err why) → Plays told h b given (wrote_of old.batch (after_part given_all (leaves next))) old mid.outside (Err why)
+  pause_error goes le why g =
       let w = wrote_of old.batch (after_part g.es (leaves next)) in
-      plays_error told h given {S = UnitEnd} why (wrote_of old.batch (after_part given_all (leaves next))) w (batch_of (old.batch ++ g.es)) old mid.outside
+      plays_error told h b given {S = UnitEnd} why (wrote_of old.batch (after_part given_all (leaves next))) w (batch_of (old.batch ++ g.es)) old mid.outside
       (λ t. ap (λ (es : List Entry). wrote_of old.batch (after_part es (leaves next))) (g.is t))
       (of_cut h.by h.step old.batch (g.es ∷ []) of (All-cons (AreOf h.by h.step) g.es [] g.of (All-nil (AreOf h.by h.step))))
+      (pause_within h b.found b.units b.most old.batch g.es next goes le)
       (starts_after (old.batch ++ g.es) [])
-      g.spares g.keeps
+      g.spares g.keeps g.counts
 
-  pub pause_then : (end : UnitEnd) (given' : ℕ) (new : Outside) (r : Result SittingEnd NodeNo) (g : HasGiven told h cs e old mid (Ok end)) → given' ≡ given + length g.es → Plays told h given' (wrote_of mid.batch (leaves next)) mid new r
-      → Plays told h given (wrote_of old.batch (after_part given_all (leaves next))) old new r
+  pub pause_then : (end : UnitEnd) (given' : ℕ) (new : Outside) (r : Result SittingEnd NodeNo) (g : HasGiven told h cs e old mid (Ok end)) → given' ≡ given + length g.es → Plays told h b given' (wrote_of mid.batch (leaves next)) mid new r
+      → Plays told h b given (wrote_of old.batch (after_part given_all (leaves next))) old new r
   pause_then end given' new r g more p = record {
     wrote = p.wrote;
     is = λ t. p.is t ∙ same t;
     of = p.of;
+    within = p.within;
     ends = if_ok r p.ends;
     closes = closes_then told h.by {S = UnitEnd} end r p.wrote.lines [] p.wrote.batches old.outside mid.outside new g.keeps p.closes;
+    counts = counted_then h.by [] (all_entries p.wrote.batches) old.outside.printed mid.outside.printed new.printed end r g.counts p.counts;
     spares = λ t. apart_then old.outside mid.outside new g.keeps.course.goes.later p.closes.course.goes (g.spares t) (p.spares t);
   } where
     same : told → wrote_of mid.batch (leaves next) ≡ wrote_of old.batch (after_part given_all (leaves next))

@@ -1,5 +1,6 @@
 pub mod Cuts
 pub mod Ours
+pub mod Within
 pub mod Going
 pub mod Working
 pub mod Gave

@@ -1,5 +1,5 @@
 -- What is known of acts for which a unit waits.
-use Rattle.std.proofs.Common.{◌≡◌, ◌∙◌, ℕ, zero, suc, ◌+◌, ◌-◌, Bool, ap, refl, subst, sym, arith}
+use Rattle.std.proofs.Common.{◌≡◌, ◌∙◌, ℕ, zero, suc, ◌-◌, Bool, is_some, true, ap, refl, subst, sym, arith}
 use Rattle.mas_types.specs.declared.ids.JobNo.{JobNo}
 use Rattle.mas_types.specs.declared.ids.MemberId.{MemberId}
 use Rattle.mas_types.specs.declared.ids.OutNo.{OutNo}
@@ -23,13 +23,28 @@ use Rattle.mas_types.specs.declared.jobs.Output.{Output}
 use Rattle.member_units.specs.Nexts.{AreFieldsOf, IsOfOutput, WaitsFor}
 use Rattle.member_units.specs.Ready.{IsReadyFor, IsReadyUnit}
 
+-- who waits for a text waits for that of a job that is there
+job_there : (runs : Bool) (p : Progress) (o : Option Job) (a : Aside) → text_of runs p o ≡ next.Wait a → is_some o ≡ true
+job_there runs p None a e = absurd (cc)
+job_there runs p (Some j) a e = refl
+
+output_there : (by : MemberId) (p : Progress) (Q : Queue) (o : Option Output) (a : Aside) → lines_of by p Q o ≡ next.Wait a → is_some o ≡ true
+output_there by p Q None a e = absurd (cc)
+output_there by p Q (Some o) a e = refl
+
 pub text_ready : (t : Tables) (by : MemberId) (runs : Bool) (n : JobNo) (p : Progress) (x : Next) → IsText t runs n p x → ((Q : Queue) → Tell t Q → TellSound t → IsUnderWay Q n) → IsRightNext t by x
 text_ready t by runs n p x text job = let s = tells_some t in by_job (job_at s.0 n) (text.is s.0 s.1) where
   by_job : (o : Option Job) → x ≡ text_of runs p o → IsRightNext t by x
   by_job None is = subst (IsRightNext t by) (sym is) tt
   by_job (Some j) is =
       let right = subst (AreFieldsOf n) is text.right in
-      subst (IsRightNext t by) (sym is) (right.1, λ Q told sound. subst (λ (k : JobNo). IsUnderWay Q k) (sym right.0) (job Q told sound))
+      subst (IsRightNext t by) (sym is) (
+        right.1,
+        record {
+          there = λ Q told. subst (λ (k : JobNo). is_some (job_at Q k) ≡ true) (sym right.0) (job_there runs p (job_at Q n) (ReadText runs j.number j.fields p) (sym (text.is Q told) ∙ is));
+          under_way = λ Q told sound. subst (λ (k : JobNo). IsUnderWay Q k) (sym right.0) (job Q told sound);
+        },
+      )
 
 same_chunk : (n m : JobNo) (i j : OutNo) (a b : ℕ) (p : Progress) → next.Wait (PrintLines n i a p) ≡ next.Wait (PrintLines m j b p) → a ≡ b
 same_chunk n m i j a b p e = cc
@@ -43,6 +58,7 @@ lines_ready t by n i p x lines printing = let s = tells_some t in by_output s.0 
       let named : (Q : Queue) → output_at Q o.job o.index ≡ output_at Q n i = λ Q. ap (λ (k : JobNo). output_at Q k o.index) right.job ∙ ap (output_at Q n) right.output in
       subst (IsRightNext t by) (sym is) (record {
         index = right.index;
+        there = λ Q told. ap is_some (named Q) ∙ output_there by p Q (output_at Q n i) (PrintLines o.job o.index (chunk_end R by o) p) (sym (lines.is Q told) ∙ is);
         printing = λ Q told sound. subst (λ (k : JobNo). IsPrinting Q by k o.index) (sym right.job) (subst (λ (j : OutNo). IsPrinting Q by n j) (sym right.output) (printing Q told sound));
         chunk = λ Q o' told there. same_chunk o.job o'.job o.index o'.index (chunk_end R by o) (chunk_end Q by o') p (sym is ∙ lines.is Q told ∙ ap (lines_of by p Q) (sym (named Q) ∙ there));
       })

@@ -1,5 +1,5 @@
 -- A whole sitting.
-use Rattle.std.proofs.Common.{◌≡◌, ◌∙◌, ◌⊎◌, ⊎_elim, ℕ, ◌+◌, List, [], ◌∷◌, ◌++◌, length, Result, Ok, Err, ap, refl, subst, arith}
+use Rattle.std.proofs.Common.{◌≡◌, ◌∙◌, ◌⊎◌, ⊎_elim, ℕ, ◌+◌, List, [], ◌++◌, length, Result, Ok, Err, ap, refl, subst, arith}
 use Rattle.std.specs.Prelude.{IfOk}
 use Rattle.mas_types.specs.declared.ids.MemberId.{MemberId}
 use Rattle.mas_types.specs.declared.journals.Batch.{Batch}
@@ -12,6 +12,7 @@ use Rattle.ckpt_copy.specs.declared.copying.Copying.{Ghosts as CopyGhosts}
 use Rattle.mas_complex.specs.declared.complex.Complex.{Complex}
 use Rattle.ckpt_form.specs.declared.steady.Steady.{Ghosts as SteadyGhosts}
 use Rattle.mas_complex.specs.Parts.{parts_of}
+use Rattle.mas_complex.specs.Texts.{Spools}
 use Rattle.member_node.specs.declared.member.Member.{Member}
 use Rattle.member_node.specs.declared.member.NodeNo.{NodeNo}
 use Rattle.member_node.specs.declared.member.NodeNo.TheVariants.{BothLost, Halted, ConsoleFault, NoMemory}
@@ -20,18 +21,26 @@ use Rattle.member_steps.specs.Steps.{StepTells}
 use Rattle.member_decks.specs.Batches.{HasAll}
 use Rattle.member_work.specs.Steps.{WorkLeaves}
 use Rattle.step_turns.specs.Batches.{cut}
+use Rattle.step_turns.specs.Courses.{sittings_most}
 use Rattle.step_turns.specs.Entries.{all_entries}
+use Rattle.step_turns.specs.Laws.{units_done, units_left}
 use Rattle.step_turns.specs.Sittings.{Sitting, released, sit}
+use Rattle.step_turns.specs.declared.states.Aside.{Aside}
+use Rattle.step_turns.specs.declared.states.Aside.TheVariants.{PrintLines, ReadText, SpoolDeck, SpoolOutputs}
 use Rattle.step_turns.specs.declared.states.Found.{Found}
 use Rattle.step_turns.specs.declared.states.Holder.{Holder}
 use Rattle.step_turns.specs.declared.states.State.{State}
+use Rattle.step_turns.specs.declared.states.State.TheVariants.{Away}
 use Rattle.step_turns.specs.Turns.{turn}
 use Rattle.step_turns.proofs.Cutting.{cut_entries}
 use Rattle.member_sittings.specs.declared.ends.SittingEnd.{SittingEnd}
 use Rattle.member_sittings.specs.Left.{HasSaid}
 use Rattle.member_sittings.specs.Sat.{HasSat, IsEndOf, sat_in}
+use Rattle.member_sittings.specs.Shapes.{Says, SaysWork}
+use Rattle.member_sittings.specs.Tight.{IfNoWork}
 use Rattle.member_sittings.proofs.ReachLemmas.{LeftBy, by_all, by_cut_wanted, by_thirds_halted, by_thirds_lost, said_all, said_broken, said_none, said_some}
-use Rattle.member_units.specs.Plays.{EndsAs, Plays, Wrote, wrote_of}
+use Rattle.member_units.specs.Plays.{EndsAs, Plays, Wrote, bounds, wrote_of}
+use Rattle.member_units.specs.Ready.{MayResume}
 use Rattle.member_units.specs.Works.{Run, outside, place_of, queue_kept, run_of}
 use Rattle.member_units.proofs.Working.{AtWork, none_flies}
 
@@ -72,6 +81,20 @@ ends_as h w (Ok e) ends =
     record { next = ends.0; given = all; release = ends.2 ∙ ap (λ (n : ℕ). released h.grant h.hold n e.next) all ∙ ap (λ (s : State). released h.grant h.hold (length (all_entries w.batches)) s) ends.0 }
 ends_as h w (Err why) ends = tt
 
+-- a sitting after acts that work waited for plays units
+pub plays_units : (told : Type 0) (Q : Queue) (by : MemberId) (disks : Spools) (counts : MemberId → ℕ) (a : Aside) (found : Found) → MayResume told Q by disks counts a found → (A : Type 0) → IfNoWork (Away a) A
+plays_units told Q by disks counts (SpoolDeck n text) found may A = absurd may
+plays_units told Q by disks counts (ReadText runs n fields p) found may A = tt
+plays_units told Q by disks counts (SpoolOutputs n specs p) found may A = tt
+plays_units told Q by disks counts (PrintLines n i last p) found may A = tt
+
+-- and closes as work does
+pub says_units : (told : Type 0) (Q : Queue) (by : MemberId) (disks : Spools) (counts : MemberId → ℕ) (h : Holder) (a : Aside) (found : Found) → MayResume told Q by disks counts a found → (t : Sitting) → SaysWork h (Away a) found t → Says h (Away a) found t
+says_units told Q by disks counts h (SpoolDeck n text) found may t says = absurd may
+says_units told Q by disks counts h (ReadText runs n fields p) found may t says = says
+says_units told Q by disks counts h (SpoolOutputs n specs p) found may t says = says
+says_units told Q by disks counts h (PrintLines n i last p) found may t says = says
+
 module _ {P C : Type 0} {plants : PlantGhosts P} {steadies : SteadyGhosts C} {copies : CopyGhosts C} where
   pub frame_of : (x y : Complex P C plants steadies copies) (m n : Member) → run_of y n ≡ run_of x m → parts_of y ≡ sat_in (parts_of y) (parts_of x)
   frame_of x y m n same =
@@ -80,9 +103,9 @@ module _ {P C : Type 0} {plants : PlantGhosts P} {steadies : SteadyGhosts C} {co
       let book : y.book ≡ x.book = ap (λ (r : Run). r.book) same in
       ap (λ (b : Book). record (parts_of y) { book = b }) book ∙ ap (λ (q : Queue). record (parts_of y) { book = x.book; base = q }) base ∙ ap (λ (n : ℕ). record (parts_of y) { book = x.book; base = x.base; since = n }) since
 
-  pub sat_of : (x y : Complex P C plants steadies copies) (m : Member) (h : Holder) (s : State) (found : Found) (w : Wrote) (r : Result SittingEnd NodeNo) → m.batch ≡ [] → AtWork x m → (plants.tells → w ≡ wrote_of [] (turn h (queue_kept x) s found))
-      → Plays plants.tells h 0 w (place_of x m) (outside y) r → HasSat (record { holder = h; state = s; found = found }) x y r
-  sat_of x y m h s found w r nothing work is p =
+  pub sat_of : (x y : Complex P C plants steadies copies) (m : Member) (h : Holder) (s : State) (found : Found) (w : Wrote) (r : Result SittingEnd NodeNo) → ((A : Type 0) → IfNoWork s A) → ((t : Sitting) → SaysWork h s found t → Says h s found t) → m.batch ≡ [] → AtWork x m → (plants.tells → w ≡ wrote_of [] (turn h (queue_kept x) s found))
+      → Plays plants.tells h (bounds (sittings_most s) (units_done s + units_left s) found) 0 w (place_of x m) (outside y) r → HasSat (record { holder = h; state = s; found = found }) x y r
+  sat_of x y m h s found w r units says nothing work is p =
       let c = p.closes in
       let front = none_flies x m work in
       let are = c.batches_are ∙ ap (λ (bs : List Batch). bs ++ c.rest) front in
@@ -92,6 +115,7 @@ module _ {P C : Type 0} {plants : PlantGhosts P} {steadies : SteadyGhosts C} {co
         sitting = sitting_as h p.wrote;
         is = λ t. sits_as h (queue_kept x) s found p.wrote (p.is t ∙ is t);
         of = p.of;
+        shaped = record { few = p.within.few; release = refl; says = says (sitting_as h p.wrote) p.within.says };
         sat = record {
           acts = record { course = c.course; loses = c.loses; others = λ t. (p.spares t).others; papers = λ t. (p.spares t).papers; spares = c.spares; cause = c.cause };
           reach = left.reach;
@@ -101,6 +125,8 @@ module _ {P C : Type 0} {plants : PlantGhosts P} {steadies : SteadyGhosts C} {co
           reached = left.reached;
           console = λ t. said_by r (HasAll h.by (plants.view x.plant).now (plants.view y.plant).now p.wrote.batches x.journal.batches (outside y).batches) p.wrote.lines (console_now (plants.view x.plant)) (console_now (plants.view y.plant)) all.0 all.1
               (subst (λ (bs : List Batch). StepTells r p.wrote.lines (HasAll h.by (plants.view x.plant).now (plants.view y.plant).now p.wrote.batches bs (outside y).batches) (console_now (plants.view x.plant)) (console_now (plants.view y.plant))) front (c.console t));
+          counts = p.counts;
           ends = ends_as h p.wrote r (subst (λ (es : List Entry). IfOk r (EndsAs h 0 es p.wrote)) nothing p.ends);
         };
+        tight = units _;
       }

@@ -1,5 +1,5 @@
 -- A member at the lock, at the beginning of a sitting and at its end.
-use Rattle.std.proofs.Common.{◌≡◌, ◌∙◌, ℕ, ◌+◌, ◌≤◌, ◌<◌, List, [], ◌∷◌, ◌++◌, Result, ap, refl, sym, subst, arith}
+use Rattle.std.proofs.Common.{◌≡◌, ◌∙◌, ℕ, List, [], Result, ap, refl, sym, subst, arith}
 use Rattle.std.proofs.lemmas.List.Elements.{All-nil}
 use Rattle.mas_types.specs.declared.ids.Dev.TheVariants.{Ckpt1, Ckpt2}
 use Rattle.mas_types.specs.declared.ids.MemberId.{MemberId}
@@ -15,7 +15,7 @@ use Rattle.mas_complex.specs.Journals.{end_of}
 use Rattle.member_node.specs.declared.member.Member.{Member}
 use Rattle.member_node.specs.declared.member.NodeNo.{NodeNo}
 use Rattle.member_steps.specs.Saying.{HaveSaid, OnConsole}
-use Rattle.member_steps.proofs.StepLemmas.{kept_later}
+use Rattle.member_steps.proofs.FateLemmas.{settled_later}
 use Rattle.member_decks.proofs.PageLemmas.{still_roomy}
 use Rattle.member_work.proofs.SayingLemmas.{closing_said, rests_as}
 use Rattle.member_work.proofs.StateLemmas.{between_by, work_back, work_between, work_low}
@@ -41,6 +41,7 @@ module _ {P C : Type 0} {plants : PlantGhosts P} {steadies : SteadyGhosts C} {co
         work = work_between plants.tells (plants.view x.plant) x.since x.base x.journal.batches x.current x.placed x.level x.reserved x.printed m.id m.batch m.checkpoint m.room m.behind s.seat.between still.unreserved still.here still.many still.config (λ t. (s.seat.low t).order) still.kept still.begun still.roomy;
         of = rw nothing (All-nil _);
         untold = s.untold;
+        step = s.step;
         copy1 = record { rests = still.first; room = b.first };
         copy2 = record { rests = still.second; room = b.second };
       }
@@ -72,7 +73,7 @@ module _ {P C : Type 0} {plants : PlantGhosts P} {steadies : SteadyGhosts C} {co
     }
 
     pub sits_works : Sits x m h.step
-    sits_works = record { seat = seat_works; untold = w.untold }
+    sits_works = record { seat = seat_works; untold = w.untold; step = w.step }
 
   -- AFTER A LINE
 
@@ -98,7 +99,7 @@ module _ {P C : Type 0} {plants : PlantGhosts P} {steadies : SteadyGhosts C} {co
         config = ap (λ (q : Queue). q.config) base ∙ w.work.config;
         first = rw (pair, first) (rests_as plants.tells y.pair.first.alive y.first (copies.count y.pair.first.copy) n.checkpoint.pages (copies.reads (disk_now (plants.view y.plant) Ckpt1).bytes) (copies.reads (disk_now (plants.view z.plant) Ckpt1).bytes) (λ told. ap (λ d. copies.reads d.bytes) (acts.disks told Ckpt1)) w.copy1.rests);
         second = rw (pair, second) (rests_as plants.tells y.pair.second.alive y.second (copies.count y.pair.second.copy) n.checkpoint.pages (copies.reads (disk_now (plants.view y.plant) Ckpt2).bytes) (copies.reads (disk_now (plants.view z.plant) Ckpt2).bytes) (λ told. ap (λ d. copies.reads d.bytes) (acts.disks told Ckpt2)) w.copy2.rests);
-        kept = rw journal (kept_later y.journal.batches (plants.view y.plant).now (plants.view z.plant).now acts.goes.later w.work.kept);
+        kept = rw journal (settled_later y.journal.batches (plants.view y.plant).now (plants.view z.plant).now acts.goes.later w.work.kept);
         begun = rw since (let le = w.work.begun in let later = acts.goes.later in omega (arith, le, later));
         roomy = λ told. rw base (still_roomy y.base.config (plants.view y.plant) (plants.view z.plant) acts.goes (w.work.roomy told));
       };

@@ -1,5 +1,5 @@
 -- What acts without the lock show of a text.
-use Rattle.std.proofs.Common.{OnOk, Result, Ok, Err, ◌≡◌, ◌∙◌, ℕ, ◌*◌, Bool, true, false, List, ◌++◌, append-nil, Option, Some, None, ap, refl, sym, subst, arith}
+use Rattle.std.proofs.Common.{OnOk, Result, Ok, Err, ◌≡◌, ◌∙◌, ℕ, ◌*◌, Bool, true, false, List, append-nil, Option, Some, None, ap, refl, sym, subst, arith}
 use Rattle.std.proofs.Math.Logic.{∥∥₁_elim}
 use Rattle.std.specs.Coded.{Coded-set}
 use Rattle.queue_laws.proofs.Finds.{find-All}
@@ -160,13 +160,6 @@ chunk_from t by n i at r last spelled some its is =
       total = omega (arith, end, same.4);
       is = λ Q o told found. is Q o told (sym (named Q) ∙ found);
     }
-
--- how the unit is refused after they were to be printed, and whether the printer was found lost
-pub same_end : (lost : Bool) (o : Read) → printed_by lost o ≡ printed_end lost o
-same_end true (read.Lines lines) = refl
-same_end false (read.Lines lines) = refl
-same_end lost (read.Gone group) = refl
-same_end lost (read.Lost volume) = refl
 
 pub printer_lost : (lost : Bool) (o : Read) → printed_by lost o ≡ Some closing.PrinterLost → lost ≡ true
 printer_lost true o is = refl

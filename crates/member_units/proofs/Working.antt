@@ -1,5 +1,5 @@
 -- A member at work, after a call.
-use Rattle.std.proofs.Common.{◌≡◌, ◌∙◌, ℕ, ◌+◌, ◌*◌, ◌≤◌, ◌<◌, ◌^◌, List, [], ◌∷◌, ◌++◌, Ok, ap, append-nil, refl, sym, subst, arith}
+use Rattle.std.proofs.Common.{◌≡◌, ◌∙◌, ℕ, ◌+◌, ◌≤◌, ◌<◌, List, [], ◌∷◌, ◌++◌, Ok, ap, append-nil, refl, sym, subst, arith}
 use Rattle.mas_types.specs.declared.ids.Dev.TheVariants.{Ckpt1, Ckpt2}
 use Rattle.mas_types.specs.declared.ids.MemberId.{MemberId}
 use Rattle.mas_types.specs.declared.journals.Batch.{Batch}
@@ -16,9 +16,11 @@ use Rattle.mas_complex.specs.Meaning.{run}
 use Rattle.member_node.specs.declared.member.Member.{Member}
 use Rattle.member_node.specs.Reads.{too_high}
 use Rattle.member_node.proofs.WriteLemmas.{none_out}
+use Rattle.member_steps.specs.Steps.{AreKeptFrom}
 use Rattle.member_decks.specs.Steps.{AreOf}
 use Rattle.member_work.specs.Steps.{HasCopy, IsAtWork, IsKeeping, IsStepUntold}
 use Rattle.member_work.specs.Work.{batches_in}
+use Rattle.member_work.proofs.KeptLemmas.{kept_from_front}
 use Rattle.member_work.proofs.PartLemmas.{queue_kept as queue_of_kept}
 use Rattle.step_turns.specs.declared.states.Holder.{Holder}
 use Rattle.member_units.specs.Works.{HasRoom, IsLow, LeavesRoom, Run, UsesOne, Works, queue_here, queue_kept, run_of}
@@ -40,8 +42,9 @@ module _ {P C : Type 0} {plants : PlantGhosts P} {steadies : SteadyGhosts C} {co
     pub same_run : y.base ≡ x.base → y.since ≡ x.since → y.book ≡ x.book → n.id ≡ m.id → run_of y n ≡ run_of x m
     same_run base since book id = rw (base, since, book, id) refl
 
-    pub works_on : Works x m h → run_of y n ≡ run_of x m → AtWork y n → AreOf n.id h.step n.batch → Untold y n h → Copy1 y n → Copy2 y n → Works y n h
-    works_on w same work of untold copy1 copy2 =
+    pub works_on : Works x m h → run_of y n ≡ run_of x m → AtWork y n → AreOf n.id h.step n.batch → Untold y n h → AreKeptFrom n.id h.step y.journal.batches (plants.view y.plant).now → Copy1 y n → Copy2 y n
+        → Works y n h
+    works_on w same work of untold step copy1 copy2 =
         let base : y.base ≡ x.base = ap (λ (r : Run). r.base) same in
         let book : y.book ≡ x.book = ap (λ (r : Run). r.book) same in
         let id : n.id ≡ m.id = ap (λ (r : Run). r.id) same in
@@ -56,6 +59,7 @@ module _ {P C : Type 0} {plants : PlantGhosts P} {steadies : SteadyGhosts C} {co
           work = work;
           of = of;
           untold = untold;
+          step = step;
           copy1 = copy1;
           copy2 = copy2;
         }
@@ -65,6 +69,15 @@ module _ {P C : Type 0} {plants : PlantGhosts P} {steadies : SteadyGhosts C} {co
   -- nothing is in flight
   pub none_flies : (x : Complex P C plants steadies copies) (m : Member) → AtWork x m → end_of x.placed x.current x.journal.batches ≡ x.journal.batches
   none_flies x m w = none_out x.journal.batches x.journal.batches x.placed x.current refl w.unplaced w.none
+
+  -- what was given of a step is kept still, after a call that kept all of its batches
+  pub step_on : {T : Type 0} (x y : Complex P C plants steadies copies) (m n : Member) (h : Holder) → Works x m h → n.id ≡ m.id → AtWork y n → (ess : List (List Entry)) (done : T)
+      → IsKeeping {T = T} plants.tells m.id ess x.journal.batches (end_of y.placed y.current y.journal.batches) x.pair.first.alive y.pair.first.alive x.pair.second.alive y.pair.second.alive (plants.view x.plant) (plants.view y.plant) (Ok done)
+      → AreKeptFrom n.id h.step y.journal.batches (plants.view y.plant).now
+  step_on x y m n h w id work ess done keeps =
+      subst (λ (i : MemberId). AreKeptFrom i h.step y.journal.batches (plants.view y.plant).now) (sym id)
+      (kept_from_front m.id h.step m.id ess x.journal.batches keeps.rest (end_of y.placed y.current y.journal.batches) y.journal.batches (plants.view x.plant).now (plants.view y.plant).now keeps.course.goes.later w.step keeps.batches_are keeps.journal
+      (none_flies y n work))
 
   -- the queue of a member with nothing unwritten is that after the kept batches
   pub kept_here : (x : Complex P C plants steadies copies) (m : Member) → m.batch ≡ [] → queue_here x m ≡ queue_kept x

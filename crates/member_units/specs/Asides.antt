@@ -128,7 +128,7 @@ module _ {P C : Type 0} (plants : PlantGhosts P) where
 
   pub record MayRead (x : Parts P C) (m : Member) (n : JobNo) : Type 0 where
     pub may : MayAside x m
-    pub sound : TellSound m.checkpoint.tables
+    pub sound : plants.tells → TellSound m.checkpoint.tables
     pub job : IsJobReady m.checkpoint.tables n
     pub still : plants.tells → IsJobStill m.checkpoint.tables n (queue_of x)
 
@@ -180,7 +180,7 @@ module _ {P C : Type 0} (plants : PlantGhosts P) where
     pub some : 1 ≤ m.id.0
     pub seated : IsMember x.book m.id
     pub none : x.current ≡ None
-    pub sound : TellSound m.checkpoint.tables
+    pub sound : plants.tells → TellSound m.checkpoint.tables
     pub output : IsOutputReady m.checkpoint.tables m.id n i last
     pub still : plants.tells → IsOutputStill m.checkpoint.tables m.id n i (queue_of x)
     pub roomy : plants.tells → AreRoomy (v x) x.base.config

@@ -1,5 +1,5 @@
 -- What a sitting of work does from a place within it: what it writes, the state that it leaves, and its lines.
-use Rattle.std.specs.Prelude.{◌≡◌, ℕ, zero, suc, ◌+◌, Bool, false, if◌then◌else◌, List, [], ◌∷◌, ◌++◌, length, All, Result, Ok, Err, IfOk, OnOk}
+use Rattle.std.specs.Prelude.{◌≡◌, ℕ, zero, suc, ◌+◌, ◌≤◌, Bool, false, if◌then◌else◌, List, [], ◌∷◌, ◌++◌, length, All, Result, Ok, Err, IfOk, OnOk}
 use Rattle.mas_types.specs.declared.commands.Command.{Command}
 use Rattle.mas_types.specs.declared.ids.MemberId.{MemberId}
 use Rattle.mas_types.specs.declared.journals.Entry.{Entry}
@@ -7,16 +7,22 @@ use Rattle.mas_types.specs.Run.{run}
 use Rattle.mas_complex.specs.Paper.{SamePapers}
 use Rattle.member_node.specs.declared.member.NodeNo.{NodeNo}
 use Rattle.member_node.specs.Calls.{IsOnlyOn}
+use Rattle.member_steps.specs.Counting.{HasCounted}
 use Rattle.member_decks.specs.Steps.{AreOf}
 use Rattle.member_work.specs.Steps.{IsClosing, IsKeeping}
+use Rattle.job_outcome.specs.declared.outcomes.Outcome.{Outcome}
+use Rattle.job_outcome.specs.declared.outcomes.Outcome.TheVariants as outcome
 use Rattle.job_outcome.specs.declared.units.UnitEnd.{UnitEnd}
 use Rattle.step_turns.specs.Batches.{batch_of, cut, cut_after, is_full}
+use Rattle.step_turns.specs.Courses.{sittings_most}
 use Rattle.step_turns.specs.Entries.{all_entries, given_in}
 use Rattle.step_turns.specs.Sittings.{released}
+use Rattle.step_turns.specs.declared.states.Found.{Found}
 use Rattle.step_turns.specs.declared.states.Holder.{Holder}
 use Rattle.step_turns.specs.declared.states.State.{State}
 use Rattle.step_turns.specs.Turns.{Turn, is_spent}
 use Rattle.member_sittings.specs.declared.ends.SittingEnd.{SittingEnd}
+use Rattle.member_sittings.specs.Shapes.{MayRefuseBy, SaysAtEnd, WorkLines}
 use Rattle.member_units.specs.Works.{Outside, Place}
 
 -- the batches that it writes, the state that it leaves, and the lines with which the step closes
@@ -65,20 +71,47 @@ pub record SparesVolumes (old new : Outside) : Type 0 where
   pub others : IsOnlyOn old.view new.view
   pub papers : SamePapers old.view new.view
 
+-- WHAT A SITTING MAY COME TO on every plant
+
+-- batches and sittings that may follow, so many together at most; and how the step may close: by so many units, and by
+-- what was found
+pub record Bounds : Type 0 where
+  pub most : ℕ
+  pub units : ℕ
+  pub found : Found
+
+abbrev pub bounds : ℕ → ℕ → Found → Bounds
+bounds most units found = record { most = most; units = units; found = found }
+
+pub record IsWithin (h : Holder) (b : Bounds) (w : Wrote) : Type 0 where
+  pub few : length w.batches + sittings_most w.next ≤ b.most
+  pub says : SaysAtEnd w.next (WorkLines h b.units b.found) w.lines
+
+-- what may become of a job whose text was read so
+abbrev pub MayStopBy : Found → Outcome → Type 0
+MayStopBy found (outcome.Stop end) = MayRefuseBy found end
+MayStopBy found _ = Unit {0}
+
+-- where what was begun isn't written, it is one batch more at most
+abbrev pub unwritten : List Entry → ℕ
+unwritten es = length (batch_of es)
+
 -- what a sitting answers: the next state, how many commands it gave, and what becomes of the lock
 abbrev pub EndsAs : Holder → ℕ → List Entry → Wrote → SittingEnd → Type 0
 EndsAs h given so_far w e = (e.next ≡ w.next) × (e.given + length so_far ≡ given + length (all_entries w.batches))
     × (e.release ≡ released h.grant h.hold e.given e.next)
 
--- The rest of a sitting in which so many commands are given: what it writes is kept as its answer says. Where content
--- is told it writes this.
-pub record Plays (told : Type 0) (h : Holder) (given : ℕ) (w : Wrote) (old : Place) (new : Outside)
+-- The rest of a sitting in which so many commands are given: what it writes, within bounds, is kept as its answer says.
+-- Where content is told it writes this.
+pub record Plays (told : Type 0) (h : Holder) (b : Bounds) (given : ℕ) (w : Wrote) (old : Place) (new : Outside)
     (result : Result SittingEnd NodeNo) : Type 0 where
   pub wrote : Wrote
   pub is : told → wrote ≡ w
   pub of : All (AreOf h.by h.step) wrote.batches
+  pub within : IsWithin h b wrote
   pub ends : IfOk result (EndsAs h given old.batch wrote)
   pub closes : Closes told h.by wrote.lines wrote.batches old.outside new result
+  pub counts : HasCounted h.by (all_entries wrote.batches) old.outside.printed new.printed result
   pub spares : told → SparesVolumes old.outside new
 
 -- COMMANDS OF A UNIT
@@ -96,6 +129,7 @@ pub record HasGiven (told : Type 0) (h : Holder) (cs : List Command) (e : UnitEn
   pub is : told → es ≡ given_in old.queue h.by h.step cs
   pub of : AreOf h.by h.step es
   pub keeps : Keeps told h.by (given_by result (old.batch ++ es)) old.outside new.outside result
+  pub counts : HasCounted h.by [] old.outside.printed new.outside.printed result
   pub left : OnOk result (new.batch ≡ old.batch ++ es)
   pub queue : OnOk result (new.queue ≡ run old.queue es)
   pub ends : IfOk result (λ end. told → end ≡ e)

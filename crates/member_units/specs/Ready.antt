@@ -1,6 +1,6 @@
 -- What holds where a sitting of work leaves a step that waits for acts, and what has to hold where it goes on after
 -- them.
-use Rattle.std.specs.Prelude.{◌≡◌, ℕ, ◌+◌, ◌≤◌, ◌<◌, true, false, List, take, None, Option, Some}
+use Rattle.std.specs.Prelude.{◌≡◌, ℕ, ◌+◌, ◌≤◌, ◌<◌, is_some, true, false, List, take, None, Option, Some}
 use Rattle.mas_types.specs.declared.commands.Command.{Command}
 use Rattle.mas_types.specs.declared.commands.Command.TheVariants as command
 use Rattle.mas_types.specs.declared.ids.JobNo.{JobNo}
@@ -32,7 +32,7 @@ use Rattle.step_turns.specs.Laws.{units_done, units_left}
 use Rattle.step_turns.specs.declared.states.Aside.{Aside}
 use Rattle.step_turns.specs.declared.states.Found.{Found}
 use Rattle.step_turns.specs.declared.states.State.{State}
-use Rattle.step_turns.specs.declared.states.State.TheVariants.{Away}
+use Rattle.step_turns.specs.declared.states.State.TheVariants.{Away, Fresh, Rested, Told}
 use Rattle.step_turns.specs.declared.states.Aside.TheVariants.{PrintLines, ReadText, SpoolDeck, SpoolOutputs}
 
 -- a command that a member may give in a sitting: it brings no text, and the step may close with its reply
@@ -45,13 +45,16 @@ pub record MayBeGiven (base : Queue) (by : MemberId) (c : Command) : Type 0 wher
 
 -- WHERE IT WAITS. The facts on a queue hold of each that the member's tables tell, if none is named.
 
--- the job is under way
-abbrev pub IsJobReady : Tables → JobNo → Type 0
-IsJobReady t n = (Q : Queue) → Tell t Q → TellSound t → IsUnderWay Q n
+-- The job is there, whatever the plant tells. It is under way where the tables have the sound parts.
+pub record IsJobReady (t : Tables) (n : JobNo) : Type 0 where
+  pub there : (Q : Queue) → Tell t Q → is_some (job_at Q n) ≡ true
+  pub under_way : (Q : Queue) → Tell t Q → TellSound t → IsUnderWay Q n
 
--- the output is busy at the member, and this is the last of its lines that are printed next
+-- The output is there, whatever the plant tells. It is busy at the member where the tables have the sound parts. And
+-- this is the last of its lines that are printed next.
 pub record IsOutputReady (t : Tables) (by : MemberId) (n : JobNo) (i : OutNo) (last : ℕ) : Type 0 where
   pub index : IsIndex i.0
+  pub there : (Q : Queue) → Tell t Q → is_some (output_at Q n i) ≡ true
   pub printing : (Q : Queue) → Tell t Q → TellSound t → IsPrinting Q by n i
   pub chunk : (Q : Queue) (o : Output) → Tell t Q → output_at Q n i ≡ Some o → last ≡ chunk_end Q by o
 
@@ -77,9 +80,12 @@ IsReadyFor told Q t by (ReadText runs n fields p) = IsJobFields fields × IsJobR
 IsReadyFor told Q t by (SpoolOutputs n specs p) = AreOutputsReady told Q t by n specs
 IsReadyFor told Q t by (PrintLines n i last p) = IsOutputReady t by n i last
 
+-- in a state that a sitting of work leaves: no step begins anew
 abbrev pub IsReady : Type 0 → Queue → Tables → MemberId → State → Type 0
 IsReady told Q t by (Away aside) = IsReadyFor told Q t by aside
-IsReady told Q t by _ = Unit {0}
+IsReady told Q t by (Fresh task) = ⊥
+IsReady told Q t by (Rested p) = Unit {0}
+IsReady told Q t by Told = Unit {0}
 
 -- Fewer sittings than so many may follow from this state of a step, and of its units at most so many are done or may
 -- still be played.

@@ -20,6 +20,7 @@ use Rattle.mas_complex.specs.Locking.{MayAct}
 use Rattle.mas_complex.specs.Meaning.{run}
 use Rattle.member_node.specs.declared.member.Member.{Member}
 use Rattle.member_node.specs.Reads.{too_high}
+use Rattle.member_steps.specs.Steps.{AreKeptFrom}
 use Rattle.member_decks.specs.Steps.{AreOf}
 use Rattle.member_work.specs.Steps.{HasCopy, IsAtWork, IsStepUntold}
 use Rattle.step_turns.specs.declared.states.Holder.{Holder}
@@ -28,13 +29,14 @@ use Rattle.step_turns.specs.declared.states.State.{State}
 use Rattle.member_sittings.specs.Whole.{IsBounded, IsLeftIn, IsSeat, IsSitting}
 use Rattle.member_units.specs.Ready.{IsReady}
 
--- what others see of a shared value: what its plant shows, the journal with a batch in flight at its end, and which
--- copies count as alive
+-- what others see of a shared value: what its plant shows, the journal with a batch in flight at its end, which copies
+-- count as alive, and how many lines each member has printed
 pub record Outside : Type 0 where
   pub view : View
   pub batches : List Batch
   pub first : Bool
   pub second : Bool
+  pub printed : List ℕ
 
 -- where a member stands in its sitting: at this queue, with these entries that aren't written yet
 pub record Place : Type 0 where
@@ -54,9 +56,9 @@ module _ {P C : Type 0} {plants : PlantGhosts P} {steadies : SteadyGhosts C} {co
   outside x = record {
     view = plants.view x.plant;
     batches = end_of x.placed x.current x.journal.batches;
-    first
-        = x.pair.first.alive;
+    first = x.pair.first.alive;
     second = x.pair.second.alive;
+    printed = x.printed;
   }
 
   abbrev pub run_of : Complex P C plants steadies copies → Member → Run
@@ -72,8 +74,8 @@ module _ {P C : Type 0} {plants : PlantGhosts P} {steadies : SteadyGhosts C} {co
   abbrev pub place_of : Complex P C plants steadies copies → Member → Place
   place_of x m = record { outside = outside x; queue = queue_here x m; batch = m.batch }
 
-  -- The member holds the lock in this step. Its batch has what it gave since the last one was kept, and no line tells
-  -- the step.
+  -- The member holds the lock in this step. Its batch has what it gave since the last one was kept, no line tells the
+  -- step, and what it gave of it before is kept.
   pub record Works (x : Complex P C plants steadies copies) (m : Member) (h : Holder) : Type 0 where
     pub own : h.by ≡ m.id
     pub may : MayAct x.book m.id
@@ -86,6 +88,7 @@ module _ {P C : Type 0} {plants : PlantGhosts P} {steadies : SteadyGhosts C} {co
         x.reserved x.printed m.id m.batch m.checkpoint m.room m.behind
     pub of : AreOf m.id h.step m.batch
     pub untold : plants.tells → IsStepUntold (setting copies.reads x.base x.since) m.id h.step (plants.view x.plant)
+    pub step : AreKeptFrom m.id h.step x.journal.batches (plants.view x.plant).now
     pub copy1 : HasCopy plants.tells x.pair.first.alive x.first (copies.count x.pair.first.copy)
         (copies.room x.pair.first.copy) m.checkpoint.pages (copies.reads (disk_now (plants.view x.plant) Ckpt1).bytes)
     pub copy2 : HasCopy plants.tells x.pair.second.alive x.second (copies.count x.pair.second.copy)

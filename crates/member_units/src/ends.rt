@@ -1,9 +1,12 @@
 //! How a sitting of work ends: what isn't written is kept, and a line is said where the step closes.
-ghost use Rattle.std.specs.Prelude.{◌≡◌, ◌+◌, ◌≤◌, ◌∷◌, [], OnOk, IfOk};
+ghost use Rattle.std.specs.Prelude.{◌≡◌, ◌≢◌, ◌+◌, ◌≤◌, ◌∷◌, ℕ, [], OnOk, IfOk};
 ghost use Rattle.mas_types.specs.Closings.{AreMembersNamed, closing_line};
+ghost use Rattle.step_turns.specs.Courses.{sittings_most};
+ghost use Rattle.step_turns.specs.declared.states.Found.{Found};
 ghost use Rattle.step_turns.specs.declared.states.State.TheVariants.{Told};
 ghost use Rattle.step_turns.specs.Turns.{leaves, says};
-ghost use Rattle.member_units.specs.Plays.{Plays, wrote_of};
+ghost use Rattle.member_sittings.specs.Shapes.{MayCloseBy};
+ghost use Rattle.member_units.specs.Plays.{Plays, bounds, unwritten, wrote_of};
 ghost use Rattle.member_units.specs.Works.{HasRoom, HasSeat, Works, outside, place_of, queue_here, run_of};
 
 use crate::giving::keep;
@@ -18,7 +21,7 @@ use spool_disk::Plant;
 use std::alloc::Global;
 use step_turns::{Holder, State};
 
-/// Ends a sitting in which so many commands were given, in this state of its step: nothing is said.
+/// Ends a sitting in which so many commands were given, in this state of its step, which isn't told: nothing is said.
 pub(crate) fn leave<P: Plant + Drop, C: Steady + Drop>(
     member: &mut Member,
     alloc: Global,
@@ -29,9 +32,11 @@ pub(crate) fn leave<P: Plant + Drop, C: Steady + Drop>(
 ) -> Result<SittingEnd, NodeNo>
     requires works { Works complex.old member.old holder }
     requires room { HasRoom complex.old member.old 1 }
+    requires waits { next ≢ Told }
     ensures run { run_of complex.new member.new ≡ run_of complex.old member.old }
-    ensures plays { Plays P.tells holder given (wrote_of member.old.batch (leaves next))
-        (place_of complex.old member.old) (outside complex.new) result }
+    ensures plays { (units : ℕ) (found : Found)
+        → Plays P.tells holder (bounds (sittings_most next + unwritten member.old.batch) units found) given
+        (wrote_of member.old.batch (leaves next)) (place_of complex.old member.old) (outside complex.new) result }
     ensures tables { member.new.checkpoint.tables ≡ member.old.checkpoint.tables }
     ensures next { IfOk result (λ e. e.next ≡ next) }
     ensures nothing { OnOk result (member.new.batch ≡ []) }
@@ -62,7 +67,8 @@ pub(crate) fn close<P: Plant + Drop, C: Steady + Drop>(
     requires room { HasRoom complex.old member.old 1 }
     requires named { AreMembersNamed end.now }
     ensures run { run_of complex.new member.new ≡ run_of complex.old member.old }
-    ensures plays { Plays P.tells holder given
+    ensures plays { (units : ℕ) (found : Found) → MayCloseBy units found end.now
+        → Plays P.tells holder (bounds (unwritten member.old.batch) units found) given
         (wrote_of member.old.batch (says (closing_line holder.by holder.step end.now ∷ [])))
         (place_of complex.old member.old) (outside complex.new) result }
     ensures told { IfOk result (λ e. e.next ≡ Told) }

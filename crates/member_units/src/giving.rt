@@ -1,5 +1,5 @@
 //! What a member gives in a sitting of work, and what of it is kept.
-ghost use Rattle.std.specs.Prelude.{◌≡◌, ◌+◌, ◌≤◌, ◌<◌, ◌^◌, ◌++◌, ◌∷◌, [], length, take, None, Ok, OnOk, IfOk};
+ghost use Rattle.std.specs.Prelude.{◌≡◌, ◌+◌, ◌≤◌, ◌<◌, ◌^◌, ◌∷◌, [], length, take, Ok, OnOk, IfOk};
 ghost use Rattle.mas_types.specs.declared.answers.Closing.TheVariants.{SpoolLost};
 ghost use Rattle.mas_types.specs.Commands.Life.{outputs_at_end};
 ghost use Rattle.mas_types.specs.Owners.{member_count};
@@ -11,11 +11,13 @@ ghost use Rattle.mas_complex.specs.Texts.{spools_at};
 ghost use Rattle.job_exec.specs.Running.{AreOutputs};
 ghost use Rattle.job_outcome.specs.declared.units.UnitEnd.TheVariants.{Done, Refused};
 ghost use Rattle.job_outcome.specs.Next.{IsNamedEnd, end_by};
+ghost use Rattle.member_steps.specs.Counting.{HasCounted};
+ghost use Rattle.member_work.specs.Causes.{IsAnswered};
 ghost use Rattle.member_work.specs.Spooled.{AreSpooled};
 ghost use Rattle.member_work.specs.Steps.{IsUnderWay};
 ghost use Rattle.member_work.specs.Units.{taken_end};
 ghost use Rattle.step_turns.specs.Batches.{batch_of};
-ghost use Rattle.step_turns.specs.Entries.{closing_reply, given_in};
+ghost use Rattle.step_turns.specs.Entries.{all_entries, closing_reply, given_in};
 ghost use Rattle.step_turns.specs.JobEnds.{drop_groups, ending, groups_for_end, taking};
 ghost use Rattle.member_units.specs.Plays.{HasGiven, Keeps, SparesVolumes, after_full, full_of};
 ghost use Rattle.member_units.specs.Ready.{MayBeGiven};
@@ -52,6 +54,7 @@ pub(crate) fn keep<P: Plant + Drop, C: Steady + Drop>(
     ensures queue { OnOk result (queue_here complex.new member.new ≡ queue_here complex.old member.old) }
     ensures uses { OnOk result (UsesOne complex.old member.old complex.new member.new) }
     ensures reached { OnOk result (complex.new.level ≤ complex.old.level + 1) }
+    ensures counts { HasCounted holder.by member.old.batch complex.old.printed complex.new.printed result }
 {
     keep_given(member, alloc, complex)?;
     Ok(())
@@ -77,6 +80,8 @@ pub(crate) fn keep_full<P: Plant + Drop, C: Steady + Drop>(
     ensures order { OnOk result (member.new.checkpoint.tables.order ≡ member.old.checkpoint.tables.order) }
     ensures uses { OnOk result (UsesOne complex.old member.old complex.new member.new) }
     ensures reached { OnOk result (complex.new.level ≤ complex.old.level + 1) }
+    ensures counts { HasCounted holder.by (all_entries (full_of member.old.batch)) complex.old.printed
+        complex.new.printed result }
 {
     if member.batch.len() < BATCH_MOST {
         return Ok(());
@@ -108,6 +113,7 @@ pub(crate) fn give<P: Plant + Drop, C: Steady + Drop>(
     ensures high { OnOk result (member.new.checkpoint.level ≡ member.old.checkpoint.level) }
     ensures reached { OnOk result (complex.new.level ≡ complex.old.level) }
     ensures one { OnOk result (length member.new.batch ≡ length member.old.batch + 1) }
+    ensures answered { IfOk result IsAnswered }
 {
     let end = give_command(member, alloc, complex, holder.step, command)?;
     Ok(end)
@@ -136,6 +142,7 @@ pub(crate) fn take_groups<P: Plant + Drop, C: Steady + Drop>(
     ensures room { OnOk result (LeavesRoom complex.old complex.new member.new) }
     ensures reached { OnOk result (complex.new.level ≡ complex.old.level) }
     ensures enough { result ≡ Ok Done → needed ≤ member_count member.new.id member.new.checkpoint.tables.owners }
+    ensures answered { IfOk result IsAnswered }
 {
     let end = take_given(member, alloc, complex, holder.step, needed)?;
     Ok(end)
@@ -170,6 +177,7 @@ pub(crate) fn end_job<P: Plant + Drop, C: Steady + Drop>(
     ensures works { OnOk result (Works complex.new member.new holder) }
     ensures room { OnOk result (LeavesRoom complex.old complex.new member.new) }
     ensures reached { OnOk result (complex.new.level ≡ complex.old.level) }
+    ensures answered { IfOk result IsAnswered }
 {
     let end = end_given(member, alloc, complex, holder.step, job, outputs)?;
     Ok(end)
@@ -194,6 +202,7 @@ pub(crate) fn free_groups<P: Plant + Drop, C: Steady + Drop>(
     ensures works { OnOk result (Works complex.new member.new holder) }
     ensures room { OnOk result (LeavesRoom complex.old complex.new member.new) }
     ensures reached { OnOk result (complex.new.level ≡ complex.old.level) }
+    ensures lost { IfOk result (λ end. end ≡ Refused (SpoolLost volume)) }
 {
     let end = drop_given(member, alloc, complex, holder.step, volume)?;
     Ok(end)

@@ -1,8 +1,8 @@
 //! The sittings of a step of work, from each state of the step.
-ghost use Rattle.std.specs.Prelude.{◌≡◌, ◌+◌, ◌*◌, ◌≤◌, ◌<◌, [], length, None, IfOk, IfSome};
+ghost use Rattle.std.specs.Prelude.{◌≡◌, ◌+◌, ◌*◌, ◌≤◌, ◌<◌, [], None, Some, IfOk, IfSome};
 ghost use Rattle.mas_types.specs.declared.commands.Command.TheVariants.{Mark};
 ghost use Rattle.mas_types.specs.Closings.{AreMembersNamed};
-ghost use Rattle.mas_types.specs.Fit.{IsIndex, IsJobFields};
+ghost use Rattle.mas_types.specs.Fit.{IsIndex};
 ghost use Rattle.mas_types.specs.Sound.{IsSound};
 ghost use Rattle.paper_laws.specs.Counts.{IsMarkRight};
 ghost use Rattle.mas_complex.specs.Paper.{counts_of};
@@ -14,13 +14,15 @@ ghost use Rattle.job_outcome.specs.Outcomes.{AreFitOutputs, IsNamedOutcome};
 ghost use Rattle.member_work.specs.Steps.{IsUnderWay};
 ghost use Rattle.step_turns.specs.Courses.{aside_most};
 ghost use Rattle.step_turns.specs.Laws.{aside_done, aside_units, units_left};
+ghost use Rattle.step_turns.specs.declared.states.Found.{Found as FoundLem};
 ghost use Rattle.step_turns.specs.declared.states.State.TheVariants.{Fresh, Rested};
 ghost use Rattle.step_turns.specs.declared.states.Task.TheVariants.{Work as WorkTask};
 ghost use Rattle.step_turns.specs.JobEnds.{groups_for_end as groups_for_end_lem, printed_end as printed_end_lem};
 ghost use Rattle.step_turns.specs.Turns.{aside_turn, job_ends as job_ends_lem, lines_printed as lines_printed_lem, outputs_stand as outputs_stand_lem, text_read as text_read_lem};
 ghost use Rattle.member_sittings.specs.Sat.{HasSat, begins, resumes, sat_in};
 ghost use Rattle.member_sittings.specs.Whole.{MaySit};
-ghost use Rattle.member_units.specs.Plays.{Plays, wrote_of};
+ghost use Rattle.member_sittings.specs.Shapes.{MayRefuseBy};
+ghost use Rattle.member_units.specs.Plays.{MayStopBy, Plays, bounds, wrote_of};
 ghost use Rattle.member_units.specs.Ready.{HasFewer, MayResume, OutputsStand};
 ghost use Rattle.member_units.specs.Works.{IsLow, ReadyIn, SitsIn, Works, outside, place_of, queue_here, queue_kept, run_of};
 
@@ -82,7 +84,9 @@ fn outputs_stand<P: Plant + Drop, C: Steady + Drop>(
     requires level { complex.old.level + ends.progress.left + 4 < too_high }
     requires units { ends.progress.done + ends.progress.left < 9999 }
     ensures run { run_of complex.new member.new ≡ run_of complex.old member.old }
-    ensures plays { Plays P.tells holder 0
+    ensures plays { (found : FoundLem) → IfSome lost (λ volume. found.lost ≡ Some volume)
+        → Plays P.tells holder
+        (bounds (3 * ends.progress.left + 2) (ends.progress.done + ends.progress.left + 1) found) 0
         (wrote_of [] (outputs_stand_lem holder lost (queue_here complex.old member.old) ends.job ends.outputs
         ends.progress)) (place_of complex.old member.old) (outside complex.new) result }
     ensures again { IfOk result (λ e. SitsIn e.next complex.new member.new holder.step) }
@@ -120,7 +124,9 @@ fn job_ends<P: Plant + Drop, C: Steady + Drop>(
     requires level { complex.old.level + ends.progress.left + 4 < too_high }
     requires units { ends.progress.done + ends.progress.left < 9999 }
     ensures run { run_of complex.new member.new ≡ run_of complex.old member.old }
-    ensures plays { Plays P.tells holder 0
+    ensures plays { (found : FoundLem)
+        → Plays P.tells holder
+        (bounds (3 * ends.progress.left + 3) (ends.progress.done + ends.progress.left + 1) found) 0
         (wrote_of [] (job_ends_lem holder (groups_for_end_lem (queue_here complex.old member.old) ends.job ends.outputs)
         (queue_here complex.old member.old) ends.job ends.outputs ends.progress)) (place_of complex.old member.old)
         (outside complex.new) result }
@@ -168,7 +174,8 @@ fn text_read<P: Plant + Drop, C: Steady + Drop>(
     requires level { complex.old.level + job.progress.left + 4 < too_high }
     requires units { job.progress.done + job.progress.left < 9999 }
     ensures run { run_of complex.new member.new ≡ run_of complex.old member.old }
-    ensures plays { Plays P.tells holder 0
+    ensures plays { (found : FoundLem) → MayStopBy found outcome
+        → Plays P.tells holder (bounds (3 * job.progress.left + 3) (job.progress.done + job.progress.left + 1) found) 0
         (wrote_of [] (text_read_lem holder outcome (queue_here complex.old member.old) job.job job.progress))
         (place_of complex.old member.old) (outside complex.new) result }
     ensures again { IfOk result (λ e. SitsIn e.next complex.new member.new holder.step) }
@@ -230,7 +237,9 @@ fn lines_printed<P: Plant + Drop, C: Steady + Drop>(
     requires level { complex.old.level + lines.progress.left + 4 < too_high }
     requires units { lines.progress.done + lines.progress.left < 9999 }
     ensures run { run_of complex.new member.new ≡ run_of complex.old member.old }
-    ensures plays { Plays P.tells holder 0
+    ensures plays { (found : FoundLem) → IfSome end (MayRefuseBy found)
+        → Plays P.tells holder
+        (bounds (3 * lines.progress.left + 2) (lines.progress.done + lines.progress.left + 1) found) 0
         (wrote_of [] (lines_printed_lem holder end (queue_here complex.old member.old) lines.job lines.output lines.last
         lines.progress)) (place_of complex.old member.old) (outside complex.new) result }
     ensures again { IfOk result (λ e. SitsIn e.next complex.new member.new holder.step) }
@@ -272,7 +281,7 @@ fn resume<P: Plant + Drop, C: Steady + Drop>(
     requires level { complex.old.level + aside_units aside + 3 < too_high }
     requires units { aside_done aside + aside_units aside ≤ 9999 }
     ensures run { run_of complex.new member.new ≡ run_of complex.old member.old }
-    ensures plays { Plays P.tells holder 0
+    ensures plays { Plays P.tells holder (bounds (aside_most aside) (aside_done aside + aside_units aside) found) 0
         (wrote_of [] (aside_turn holder (queue_here complex.old member.old) aside found))
         (place_of complex.old member.old) (outside complex.new) result }
     ensures again { IfOk result (λ e. SitsIn e.next complex.new member.new holder.step) }

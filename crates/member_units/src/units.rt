@@ -1,9 +1,11 @@
 //! Units of work one after another, within a sitting.
-ghost use Rattle.std.specs.Prelude.{◌≡◌, ◌+◌, ◌*◌, ◌≤◌, ◌<◌, ◌^◌, [], length, OnOk, IfOk};
+ghost use Rattle.std.specs.Prelude.{◌≡◌, ◌+◌, ◌*◌, ◌≤◌, ◌<◌, [], length, IfOk};
 ghost use Rattle.job_outcome.specs.Next.{IsNamedEnd};
+ghost use Rattle.step_turns.specs.declared.states.Found.{Found};
 ghost use Rattle.step_turns.specs.Laws.{units_left};
 ghost use Rattle.step_turns.specs.Turns.{goes_on_by, units_from};
-ghost use Rattle.member_units.specs.Plays.{Plays, rests as rests_lem, wrote_after, wrote_of};
+ghost use Rattle.member_sittings.specs.Shapes.{MayEndBy};
+ghost use Rattle.member_units.specs.Plays.{Plays, bounds, rests as rests_lem, wrote_after, wrote_of};
 ghost use Rattle.member_units.specs.Ready.{HasFewer};
 ghost use Rattle.member_units.specs.Works.{HasRoom, ReadyIn, SitsIn, Works, outside, place_of, queue_here, run_of};
 
@@ -58,7 +60,9 @@ pub(crate) fn go_on<P: Plant + Drop, C: Steady + Drop>(
     requires named { IsNamedEnd end }
     requires units { from.progress.done + from.progress.left < 9999 }
     ensures run { run_of complex.new member.new ≡ run_of complex.old member.old }
-    ensures plays { Plays P.tells holder from.given
+    ensures plays { (found : Found) → MayEndBy found end
+        → Plays P.tells holder
+        (bounds (3 * from.progress.left + 2) (from.progress.done + from.progress.left + 1) found) from.given
         (wrote_after member.old.batch (goes_on_by holder end from.progress.left (units_from holder from.progress.left)
         (queue_here complex.old member.old) from.given from.progress.done)) (place_of complex.old member.old)
         (outside complex.new) result }
@@ -119,7 +123,9 @@ pub(crate) fn go_on_after<P: Plant + Drop, C: Steady + Drop>(
     requires named { IsNamedEnd end }
     requires units { progress.done + progress.left < 9999 }
     ensures run { run_of complex.new member.new ≡ run_of complex.old member.old }
-    ensures plays { Plays P.tells holder (length member.old.batch)
+    ensures plays { (found : Found) → MayEndBy found end
+        → Plays P.tells holder (bounds (3 * progress.left + 2) (progress.done + progress.left + 1) found)
+        (length member.old.batch)
         (wrote_after member.old.batch (goes_on_by holder end progress.left (units_from holder progress.left)
         (queue_here complex.old member.old) (length member.old.batch) progress.done)) (place_of complex.old member.old)
         (outside complex.new) result }
@@ -146,7 +152,8 @@ pub(crate) fn begin<P: Plant + Drop, C: Steady + Drop>(
     requires room { HasRoom complex.old member.old (progress.left + 3) }
     requires units { progress.done + progress.left ≤ 9999 }
     ensures run { run_of complex.new member.new ≡ run_of complex.old member.old }
-    ensures plays { Plays P.tells holder 0
+    ensures plays { (found : Found)
+        → Plays P.tells holder (bounds (3 * progress.left + 1) (progress.done + progress.left) found) 0
         (wrote_of [] (units_from holder progress.left (queue_here complex.old member.old) 0 progress.done))
         (place_of complex.old member.old) (outside complex.new) result }
     ensures again { IfOk result (λ e. SitsIn e.next complex.new member.new holder.step) }

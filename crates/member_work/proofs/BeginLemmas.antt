@@ -1,29 +1,24 @@
 -- Which batches of a work step may begin.
-use Rattle.std.proofs.Common.{◌≡◌, ℕ, ◌+◌, ◌≤◌, Bool, true, false, if◌then◌else◌, List, [], ◌∷◌, ◌++◌, length, All, Some, Result, Ok, Err, refl, sym, ap, subst, ◌∙◌, arith}
-use Rattle.std.proofs.lemmas.Bool.Decides.{nat_tests}
+use Rattle.std.proofs.Common.{◌≡◌, ℕ, ◌+◌, Bool, true, false, if◌then◌else◌, List, [], ◌∷◌, ◌++◌, All, Result, Ok, Err, refl, sym, subst}
 use Rattle.std.proofs.Math.Logic.{∥∥₁_map}
 use Rattle.std.proofs.lemmas.List.Elements.{All-nil, All-cons, All-append}
 use Rattle.mas_types.specs.declared.commands.Command.{Command}
 use Rattle.mas_types.specs.declared.commands.Command.TheVariants as command
 use Rattle.mas_types.specs.declared.commands.Reply.{Reply}
-use Rattle.mas_types.specs.declared.commands.Reply.TheVariants as reply
 use Rattle.mas_types.specs.declared.ids.JobNo.{JobNo}
 use Rattle.mas_types.specs.declared.ids.MemberId.{MemberId}
-use Rattle.mas_types.specs.declared.ids.OutNo.{OutNo}
 use Rattle.mas_types.specs.declared.jobs.OutSpec.{OutSpec}
-use Rattle.mas_types.specs.declared.jobs.Output.{Output}
 use Rattle.mas_types.specs.declared.journals.Batch.{Batch}
 use Rattle.mas_types.specs.declared.journals.Entry.{Entry}
 use Rattle.mas_types.specs.declared.queues.Queue.{Queue}
 use Rattle.mas_types.specs.Fit.{IsFit}
-use Rattle.mas_types.specs.Ids.{is_somebody}
-use Rattle.mas_types.specs.Queue.{is_member, output_at}
+use Rattle.mas_types.specs.Queue.{is_member}
 use Rattle.mas_types.specs.Sound.{IsSound}
 use Rattle.mas_types.specs.Step.{may_give}
 use Rattle.queue_laws.specs.Runs.{IsGiven}
 use Rattle.job_exec.specs.Running.{AreOutputs}
-use Rattle.paper_laws.specs.Counts.{IsMarkRight, counts_after, is_mark}
-use Rattle.paper_laws.proofs.Plain.{allowed_push, mark_right, plain_right}
+use Rattle.paper_laws.specs.Counts.{IsMarkRight, counts_after}
+use Rattle.paper_laws.proofs.Plain.{allowed_push}
 use Rattle.mas_complex.specs.Journals.{kept_all}
 use Rattle.mas_complex.specs.Meaning.{run}
 use Rattle.mas_complex.specs.Paper.{MayBegin, counts_of}
@@ -67,15 +62,3 @@ module _ (base : Queue) (by : MemberId) (member : is_member base.config by ≡ t
 
   pub ending_unmarked : (Q : Queue) (n : JobNo) (specs : List OutSpec) → AreOutputs specs → All (IsUnmarked base by) (ending Q by n specs)
   ending_unmarked Q n specs fit = All-cons (IsUnmarked base by) (command.Ended n specs) _ (member, (fit.few, fit.each), refl) (dropped (is_refusal (reply_to Q by (command.Ended n specs))))
-
--- A MARK of the output up to what the member has printed
-pub mark_printed_right : (Q : Queue) (by : MemberId) (printed : ℕ) (n : JobNo) (i : OutNo) (mark last : ℕ) → 1 ≤ by.0 → (o : Output) × (output_at Q n i ≡ Some o) × (o.mark ≡ mark) → last ≤ mark + printed → IsMarkRight Q by printed (command.Mark n i last)
-mark_printed_right Q by printed n i mark last some there upto =
-    mark_right Q by printed last n i there.0 (somebody by some) there.1 (let same = there.2 in omega (arith, same, upto))
-  where
-    somebody : (m : MemberId) → 1 ≤ m.0 → is_somebody m ≡ true
-    somebody m some = grind (arith, nat_tests)
-
--- a command that isn't a Mark
-pub other_right : (Q : Queue) (by : MemberId) (printed : ℕ) (c : Command) → is_mark c ≡ false → IsMarkRight Q by printed c
-other_right Q by printed c other = plain_right Q by printed c other

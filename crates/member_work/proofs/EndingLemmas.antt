@@ -69,10 +69,6 @@ abbrev padded : Entry → List Entry → List Entry
 padded e [] = e ∷ []
 padded e (x ∷ xs) = x ∷ xs
 
-some_padded : (e : Entry) (l : List Entry) → 1 ≤ length (padded e l)
-some_padded e [] = omega arith
-some_padded e (x ∷ xs) = omega arith
-
 all_padded : (P : Entry → Type 0) (e : Entry) (l : List Entry) → P e → All P l → All P (padded e l)
 all_padded P e [] here all = All-cons P e [] here all
 all_padded P e (x ∷ xs) here all = all

@@ -1,5 +1,5 @@
 -- A member at work gives a command.
-use Rattle.std.proofs.Common.{◌≡◌, ◌⊎◌, inl, inr, ⊎_elim, ℕ, ◌+◌, ◌*◌, ◌≤◌, ◌<◌, Bool, true, false, List, [], ◌∷◌, ◌++◌, length, All, Option, None, Result, Ok, Err, append_assoc, append-nil, refl, sym, ◌∙◌, ap, subst, arith}
+use Rattle.std.proofs.Common.{◌≡◌, ℕ, ◌+◌, ◌≤◌, ◌<◌, Bool, true, List, [], ◌∷◌, ◌++◌, length, All, Option, Result, Ok, Err, append_assoc, append-nil, refl, sym, ◌∙◌, ap, subst, arith}
 use Rattle.std.proofs.Math.Logic.{∥∥₁_map}
 use Rattle.std.proofs.lemmas.List.{length-append}
 use Rattle.std.proofs.lemmas.List.Elements.{All-nil, All-cons, All-append}
@@ -17,7 +17,6 @@ use Rattle.mas_types.specs.Limits.{page_bytes}
 use Rattle.mas_types.specs.Sound.{IsSound}
 use Rattle.mas_types.specs.Step.{may_give}
 use Rattle.spool_disk.specs.View.{View}
-use Rattle.ckpt_pages.specs.declared.tables.Tables.{Tables}
 use Rattle.ckpt_pages.specs.Shape.{AreLevels, HasSpelling, page_count}
 use Rattle.queue_tables.specs.Telling.{Tell, TellSound}
 use Rattle.queue_commands.specs.Given.{is_plain}
@@ -40,7 +39,7 @@ use Rattle.member_decks.proofs.OpenLemmas.{reply_done}
 use Rattle.job_outcome.specs.declared.units.UnitEnd.{UnitEnd}
 use Rattle.job_outcome.specs.declared.units.UnitEnd.TheVariants as ends
 use Rattle.job_outcome.specs.Next.{IsNamedEnd, end_by}
-use Rattle.member_work.specs.Steps.{IsAtWork, IsCommanded, IsKeeping, IsPlayed}
+use Rattle.member_work.specs.Steps.{IsAtWork, IsCommanded, IsKeeping}
 use Rattle.member_work.specs.Work.{batches_in}
 use Rattle.member_work.proofs.BeginLemmas.{more_begins}
 use Rattle.member_work.proofs.CalmLemmas.{reply_ends}

@@ -171,10 +171,6 @@ module _ (Q : Queue) (by : MemberId) (at : ℕ) (c : Command) where
   pub one_reply : {T E : Type 0} (holds : Spools → ℕ → Type 0) (m n : Member) (x : T) (r : Reply) → GivesAt {E = E} Q by at (c ∷ []) holds m n (Ok x) → r ≡ last_reply n.batch → reply_to Q by c ≡ r
   one_reply holds m n x r one last = sym (last ∙ ap last_reply (one_batch holds m n x one) ∙ last_push m.batch e)
 
-  -- with texts of volumes of which more is said
-  pub gives_where : {T E : Type 0} (cs : List Command) (holds more : Spools → ℕ → Type 0) (m n : Member) (r : Result T E) → ((disks : Spools) (per : ℕ) → more disks per → holds disks per) → GivesAt Q by at cs holds m n r → GivesAt Q by at cs more m n r
-  gives_where cs holds more m n r to one = record { gave = one.gave; batch = one.batch; part = one.part; effect = one.effect; texts = λ gone disks per h has. one.texts gone disks per (to disks per h) has }
-
   -- commands that were given, by another answer
   pub gives_ok : {T E S F : Type 0} (cs : List Command) (holds more : Spools → ℕ → Type 0) (m n : Member) (x : T) (y : S) → ((disks : Spools) (per : ℕ) → more disks per → holds disks per) → GivesAt {E = E} Q by at cs holds m n (Ok x) → GivesAt {E = F} Q by at cs more m n (Ok y)
   gives_ok cs holds more m n x y to one = record { gave = one.gave; batch = one.batch; part = one.part; effect = one.effect; texts = λ gone disks per h has. one.texts gone disks per (to disks per h) has }

@@ -2,7 +2,7 @@
 use Rattle.std.proofs.Common.{◌≡◌, ℕ, ◌+◌, ◌&&◌, ◌||◌, if◌then◌else◌, Bool, true, false, List, [], ◌∷◌, ◌++◌, Option, Some, None, All, refl, sym, ◌∙◌, ap, subst, arith}
 use Rattle.std.specs.List.{list_any, find}
 use Rattle.std.specs.Option.{option_map_or}
-use Rattle.std.specs.Coded.{Coded, Coded-set, coded_option}
+use Rattle.std.specs.Coded.{Coded-set, coded_option}
 use Rattle.std.proofs.Math.Logic.{∥∥₁_elim}
 use Rattle.std.proofs.lemmas.Bool.Decides.{nat_tests}
 use Rattle.std.proofs.lemmas.List.Elements.{All-nil, All-cons, All-head, All-tail}
@@ -26,10 +26,10 @@ use Rattle.mas_types.specs.Commands.Life.{ended_row, new_output, new_outputs, ou
 use Rattle.mas_types.specs.Ids.{same_number}
 use Rattle.mas_types.specs.Journal.{is_kept}
 use Rattle.mas_types.specs.Lists.{first_some}
-use Rattle.mas_types.specs.Queue.{has_key, has_output, is_of, job_at, output_at}
+use Rattle.mas_types.specs.Queue.{has_key, is_of, job_at, output_at}
 use Rattle.mas_types.specs.Row.{none_such, wrong_phase}
 use Rattle.mas_types.specs.Sound.{IsSound}
-use Rattle.mas_types.specs.Step.{row_of, step}
+use Rattle.mas_types.specs.Step.{step}
 use Rattle.mas_complex.specs.Journals.{in_flight, kept_all}
 use Rattle.mas_complex.specs.Meaning.{run}
 use Rattle.mas_complex.specs.Paper.{AreGivenIn}

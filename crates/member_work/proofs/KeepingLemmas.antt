@@ -1,22 +1,19 @@
 -- Calls within a work step that keep batches, one after another.
-use Rattle.std.proofs.Common.{◌≡◌, ◌⊎◌, inl, inr, ⊎_elim, ℕ, ◌≤◌, Bool, false, List, [], ◌∷◌, ◌++◌, length, Option, None, Result, Ok, Err, append_assoc, append-nil, refl, sym, ◌∙◌, ap, subst, arith}
+use Rattle.std.proofs.Common.{◌≡◌, inl, inr, ℕ, ◌≤◌, Bool, List, [], ◌∷◌, ◌++◌, length, Result, Ok, Err, append_assoc, append-nil, refl, sym, ◌∙◌, ap, subst, arith}
 use Rattle.mas_types.specs.declared.ids.MemberId.{MemberId}
 use Rattle.mas_types.specs.declared.journals.Batch.{Batch}
 use Rattle.mas_types.specs.declared.journals.Entry.{Entry}
 use Rattle.mas_types.specs.declared.journals.Fate.TheVariants.{Kept}
 use Rattle.spool_disk.specs.View.{View}
-use Rattle.ckpt_copy.specs.Moments.{goes_none, goes_on}
 use Rattle.mas_complex.specs.Journals.{begun, fated}
 use Rattle.member_node.specs.declared.member.NodeNo.{NodeNo}
 use Rattle.member_node.specs.declared.member.NodeNo.TheVariants.{BothLost, Halted, ConsoleFault, NoMemory}
 use Rattle.member_node.specs.Reads.{IsSettle, ReadCauses}
-use Rattle.member_node.specs.Spares.{Spares, stopped_in}
+use Rattle.member_node.specs.Spares.{stopped_in}
 use Rattle.member_node.proofs.SpareLemmas.{spares_none, spares_then}
 use Rattle.member_node.proofs.CourseLemmas.{course_none, course_then, rose_later}
 use Rattle.member_decks.specs.Keeping.{CopyCauses, IsOnCopies, KeepLeaves}
-use Rattle.member_decks.specs.Spooling.{OnVolumes}
-use Rattle.member_decks.specs.Steps.{SpoolStops}
-use Rattle.member_decks.proofs.OutcomeLemmas.{course_spool, kept_batch, left_then, one_flies, spares_spool}
+use Rattle.member_decks.proofs.OutcomeLemmas.{kept_batch, left_then, one_flies}
 use Rattle.member_work.specs.Steps.{IsKeeping, WorkLeaves}
 use Rattle.member_work.specs.Work.{batches_in}
 use Rattle.member_work.proofs.LeavesLemmas.{StartsAs, work_none, work_starts, work_then}
@@ -80,9 +77,6 @@ keeping_error {S} {T} told by e ess front batches a a' b b' v w k = record { cou
   leaves NoMemory l = l
   leaves ConsoleFault l = l
 
-pub keeping_ok : {S T : Type 0} (told : Type 0) (by : MemberId) (s : S) (t : T) (ess : List (List Entry)) (front batches : List Batch) (a a' b b' : Bool) (v w : View) → IsKeeping {T = S} told by ess front batches a a' b b' v w (Ok s) → IsKeeping {T = T} told by ess front batches a a' b b' v w (Ok t)
-keeping_ok told by s t ess front batches a a' b b' v w k = record { course = k.course; loses = k.loses; cause = k.cause; spares = k.spares; rest = k.rest; batches_are = k.batches_are; journal = k.journal; quiet = k.quiet }
-
 -- SINGLE CALLS
 
 module _ {T : Type 0} (told : Type 0) (by : MemberId) (front batches : List Batch) (same : batches ≡ front) where
@@ -109,33 +103,6 @@ module _ {T : Type 0} (told : Type 0) (by : MemberId) (front batches : List Batc
     journal = work_none by T e v.now w.now ess (never_console T by e a a' b b' v w acts.cause);
     quiet = λ t. (acts.apart t).console;
   }
-
-  -- acts on the volumes
-  pub spooled_ok : (t : T) (a b : Bool) (v w : View) → OnVolumes told by.0 v w → Spares by.0 false v w → IsKeeping {T = T} told by [] front batches a a b b v w (Ok t)
-  spooled_ok t a b v w acts spares = record { course = course_spool told by.0 a b v w acts; loses = λ t d. acts.loses d; cause = inr (refl, refl); spares = spares; rest = []; batches_are = same ∙ sym (append-nil front); journal = tt; quiet = acts.console }
-
-  pub spooled_not : (e : NodeNo) (ess : List (List Entry)) (a b : Bool) (v w : View) → OnVolumes told by.0 v w → SpoolStops {T = T} (Err e) by.0 v w → IsKeeping {T = T} told by ess front batches a a b b v w (Err e)
-  spooled_not e ess a b v w acts stops = record {
-    course = course_spool told by.0 a b v w acts;
-    loses = λ t d. acts.loses d;
-    cause = causes e stops;
-    spares = spares_spool {T = T} by.0 v w (Err e) stops;
-    rest = [];
-    batches_are = same ∙ sym (append-nil front);
-    journal = work_none by T e v.now w.now ess (never e stops);
-    quiet = acts.console;
-  } where
-    causes : (e : NodeNo) → SpoolStops {T = T} (Err e) by.0 v w → CopyCauses {T = T} (Err e) by.0 a a b b v w
-    causes NoMemory stops = inr (refl, refl)
-    causes Halted stops = (inr (refl, refl), stops.1)
-    causes BothLost stops = absurd stops
-    causes ConsoleFault stops = absurd stops
-
-    never : (e : NodeNo) → SpoolStops {T = T} (Err e) by.0 v w → e ≡ ConsoleFault → ⊥
-    never ConsoleFault stops is = absurd stops
-    never BothLost stops is = absurd stops
-    never NoMemory stops is = absurd (cc)
-    never Halted stops is = absurd (cc)
 
 -- a batch
 module _ (told : Type 0) (by : MemberId) (es : List Entry) (some : 1 ≤ length es) (front batches : List Batch) (a a' b b' : Bool) (v w : View) where
@@ -199,8 +166,3 @@ module _ (told : Type 0) (by : MemberId) (es : List Entry) (some : 1 ≤ length 
 
   pub kept_not_in : (e : NodeNo) → IsOnCopies {T = Unit {0}} told by.0 a a' b b' v w (Err e) → KeepLeaves {T = Unit {0}} (Err e) front batches (begun v.now by es) w.now → IsKeeping {T = Unit {0}} told by (batches_in (es ∷ [])) front batches a a' b b' v w (Err e)
   kept_not_in e acts leaves = subst (λ (xs : List (List Entry)). IsKeeping {T = Unit {0}} told by xs front batches a a' b b' v w (Err e)) (sym (one_in es some)) (kept_not told by es some front batches a a' b b' v w e acts leaves)
-
--- acts on the copies, by any answer
-pub held_any : (told : Type 0) (by : MemberId) (front batches : List Batch) → batches ≡ front → (a a' b b' : Bool) (v w : View) (r : Result (Unit {0}) NodeNo) → IsOnCopies {T = Unit {0}} told by.0 a a' b b' v w r → IsKeeping {T = Unit {0}} told by [] front batches a a' b b' v w r
-held_any told by front batches same a a' b b' v w (Ok done) acts = held_ok {T = Unit {0}} told by front batches same done a a' b b' v w acts
-held_any told by front batches same a a' b b' v w (Err e) acts = held_not {T = Unit {0}} told by front batches same e [] a a' b b' v w acts

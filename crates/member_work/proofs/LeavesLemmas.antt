@@ -1,5 +1,5 @@
 -- Batches of a work step, by how it ended.
-use Rattle.std.proofs.Common.{◌≡◌, ◌⊎◌, inl, inr, ⊎_elim, ℕ, suc, ◌+◌, ◌≤◌, List, [], ◌∷◌, ◌++◌, length, Result, Ok, Err, append_assoc, append-nil, refl, sym, ◌∙◌, ap, subst, arith}
+use Rattle.std.proofs.Common.{◌≡◌, ◌⊎◌, inl, inr, ⊎_elim, ℕ, ◌+◌, ◌≤◌, List, [], ◌∷◌, ◌++◌, length, Result, Ok, Err, append_assoc, append-nil, refl, sym, ◌∙◌, ap, subst, arith}
 use Rattle.std.proofs.lemmas.List.{length-append}
 use Rattle.mas_types.specs.declared.ids.MemberId.{MemberId}
 use Rattle.mas_types.specs.declared.journals.Batch.{Batch}
@@ -77,13 +77,6 @@ module _ (by : MemberId) where
   work_none T BothLost from now (es ∷ ess) never = inl tt
   work_none T Halted from now [] never = inr (inr tt)
   work_none T Halted from now (es ∷ ess) never = inl tt
-
-  -- as many batches as lists of entries
-  pub all_long : (from now : ℕ) (ess : List (List Entry)) (bs : List Batch) → AreAll by from now ess bs → length bs ≡ length ess
-  all_long from now [] [] all = refl
-  all_long from now [] (b ∷ bs) all = absurd all
-  all_long from now (es ∷ ess) [] all = absurd all
-  all_long from now (es ∷ ess) (b ∷ bs) all = ap suc (all_long b.last now ess bs all.1)
 
 -- BATCHES WITH WHICH OTHERS START: all except the last are the same, and the last has the first entries of its
 -- counterpart

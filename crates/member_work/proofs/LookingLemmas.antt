@@ -1,17 +1,13 @@
 -- Looking at a job's text.
-use Rattle.std.proofs.Common.{◌≡◌, ◌==◌, ℕ, zero, suc, ◌+◌, ◌*◌, ◌≤◌, ◌<◌, Bool, true, List, [], ◌∷◌, length, All, slice_get, Some, refl, sym, ap, subst, ◌∙◌, arith}
-use Rattle.std.proofs.Math.Logic.{∥∥₁_elim}
+use Rattle.std.proofs.Common.{◌≡◌, ℕ, zero, suc, ◌+◌, ◌*◌, ◌≤◌, ◌<◌, Bool, true, List, [], ◌∷◌, length, All, slice_get, Some, refl, sym, ap, subst, ◌∙◌, arith}
 use Rattle.std.specs.Prelude.{find}
-use Rattle.std.specs.Coded.{Coded, Coded-set, coded_list, coded_ℕ, coded×, code_by}
-use Rattle.std.proofs.lemmas.Bool.{eq-eqb}
+use Rattle.std.specs.Coded.{Coded, coded_list, coded_ℕ, coded×, code_by}
 use Rattle.std.proofs.lemmas.Bool.Decides.{nat_tests}
 use Rattle.std.proofs.lemmas.List.Elements.{All-nil, All-cons}
 use Rattle.std.proofs.lemmas.List.Sorted.{All-permutation}
 use Rattle.mas_types.specs.declared.ids.GroupNo.{GroupNo}
 use Rattle.mas_types.specs.declared.ids.JobNo.{JobNo}
-use Rattle.mas_types.specs.declared.ids.MemberId.{MemberId}
 use Rattle.mas_types.specs.declared.jobs.Job.{Job}
-use Rattle.mas_types.specs.declared.jobs.Text.{Text}
 use Rattle.mas_types.specs.declared.queues.Config.{Config}
 use Rattle.mas_types.specs.declared.queues.Owner.{Owner}
 use Rattle.mas_types.specs.declared.queues.Queue.{Queue}
@@ -25,28 +21,15 @@ use Rattle.lay_bytes.specs.Slots.{IfUsed, IsJobRec}
 use Rattle.ckpt_pages.specs.declared.tables.Tables.{Tables}
 use Rattle.ckpt_pages.specs.Shape.{HasSpelling}
 use Rattle.job_queue.specs.Jobs.{AreJobs, HasJob}
-use Rattle.lock_cycle.specs.Books.{Book, IsMember, after_free, is_holder}
 use Rattle.spool_disk.specs.View.{View}
-use Rattle.queue_tables.specs.Telling.{Tell}
 use Rattle.track_groups.specs.Groups.{groups_where, is_things}
 use Rattle.track_groups.specs.Laws.{AreItsOwn}
 use Rattle.track_groups.specs.Places.{groups_of}
 use Rattle.mas_complex.specs.Spool.{IsGroupOf}
-use Rattle.mas_complex.specs.Texts.{HasTexts, IsThereUnless, lost_now, spools_at}
-use Rattle.spool_volumes.specs.Volumes.{AreRoomy}
 use Rattle.member_decks.proofs.PageLemmas.{all_at}
 use Rattle.job_outcome.specs.declared.outcomes.Read.{Read}
 use Rattle.job_outcome.specs.declared.outcomes.Read.TheVariants as read
-use Rattle.member_work.specs.Reading.{IsFailedRead, IsReadOf}
-use Rattle.member_work.specs.Rounds.{HasFailed, IsReadAs, IsWhole}
 use Rattle.member_work.specs.Steps.{IsTold}
-
--- THE LOCK IN BETWEEN
-
-pub freed_member : (b : Book) (m : MemberId) → b.holder ≡ m → IsMember b m → IsMember (after_free b m true) m
-freed_member b m holds member =
-    let holder : is_holder b m ≡ true = subst (λ (h : MemberId). (h.0 == m.0) ≡ true) (sym holds) (eq-eqb m.0 m.0 refl) in
-    rw holder member
 
 -- THE GROUPS OF A TEXT are of the configuration
 
@@ -119,26 +102,3 @@ module _ (told : Type 0) (config : Config) (t : Tables) (Q : Queue) (v w : View)
 
   abbrev its : List GroupNo
   its = groups_of (Deck j.number) Q.owners
-
-  abbrev Stands : Type 0
-  Stands = HasTexts (lost_now v) (spools_at v v.now) config.groups Q
-
-  same_groups : Tell t Q → j.number ≡ r.number → its ≡ groups
-  same_groups tell number = ap (λ (n : JobNo). groups_of (Deck n) Q.owners) number ∙ ap (groups_of (Deck r.number)) tell.owners
-
-  stands_there : its ≡ groups → job_at Q r.number ≡ Some j → Stands → IsThereUnless (lost_now v) (spools_at v v.now) config.groups j.text groups
-  stands_there same found texts = subst (λ (gs : List GroupNo). IsThereUnless (lost_now v) (spools_at v v.now) config.groups j.text gs) same
-      (find-All (λ (x : Job). IsThereUnless (lost_now v) (spools_at v v.now) config.groups x.text (groups_of (Deck x.number) Q.owners)) (has_number r.number) Q.jobs j texts.decks found).0
-
-  pub seen_as : (o : Read) → Tell t Q → IsTold t r → job_at Q r.number ≡ Some j → told → IsWhole j.text → AreRoomy v config → ∥ Stands ∥₁
-      → ((text : Text) → line_count text ≡ r.cards → told → AreRoomy v config → IsThereUnless (lost_now v) (spools_at v v.now) config.groups text groups → IsReadOf config.groups text groups o v w)
-      → IsFailedRead config.groups groups o v w → IsReadAs told config.groups j.text its (Some o) v w
-  seen_as (read.Lines lines) tell job found tells whole roomy texts reads failed =
-      let same = job.same Q j tell found in
-      λ again. ∥∥₁_elim texts (Coded-set coded_read _ _) (λ stands. reads j.text same.2 tells roomy (stands_there (same_groups tell same.0) found stands))
-  seen_as (read.Gone group) tell job found tells whole roomy texts reads failed =
-      let same = job.same Q j tell found in
-      λ again. ∥∥₁_elim texts (Coded-set coded_read _ _) (λ stands. reads j.text same.2 tells roomy (stands_there (same_groups tell same.0) found stands))
-  seen_as (read.Lost volume) tell job found tells whole roomy texts reads failed =
-      let same = job.same Q j tell found in
-      (λ again. whole, subst (λ (gs : List GroupNo). HasFailed config.groups gs volume v w) (sym (same_groups tell same.0)) failed)

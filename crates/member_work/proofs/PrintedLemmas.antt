@@ -1,13 +1,9 @@
 -- Printing the lines of an output, act by act.
-use Rattle.std.proofs.Common.{◌≡◌, ◌≢◌, inl, inr, ℕ, suc, ◌+◌, ◌-◌, ◌*◌, ◌≤◌, ◌<◌, min, ◌==◌, Bool, true, false, List, [], ◌∷◌, ◌++◌, length, All, Option, None, Some, Result, Ok, Err, slice_get, append-nil, refl, sym, ◌∙◌, ap, subst, arith}
-use Rattle.std.proofs.Math.Logic.{∥∥₁_elim}
-use Rattle.std.specs.Prelude.{IfSome, find}
+use Rattle.std.proofs.Common.{◌≡◌, inl, ℕ, ◌+◌, ◌-◌, ◌*◌, ◌≤◌, ◌<◌, min, Bool, true, false, List, ◌++◌, All, Option, None, Some, slice_get, refl, sym, ◌∙◌, ap, subst, arith}
+use Rattle.std.specs.Prelude.{find}
 use Rattle.std.specs.Option.{option_map_or}
-use Rattle.std.specs.Coded.{Coded-set}
-use Rattle.std.proofs.lemmas.Bool.{eq-eqb}
 use Rattle.mas_types.specs.declared.answers.Closing.{Closing}
 use Rattle.mas_types.specs.declared.answers.Closing.TheVariants as closing
-use Rattle.mas_types.specs.declared.ids.Dev.{Dev}
 use Rattle.mas_types.specs.declared.ids.Dev.TheVariants.{Ckpt1, Ckpt2}
 use Rattle.mas_types.specs.declared.ids.GroupNo.{GroupNo}
 use Rattle.mas_types.specs.declared.ids.JobNo.{JobNo}
@@ -17,30 +13,27 @@ use Rattle.mas_types.specs.declared.jobs.Output.{Output}
 use Rattle.mas_types.specs.declared.jobs.Text.{Text}
 use Rattle.mas_types.specs.declared.jobs.Text.TheVariants.{Whole, Gone}
 use Rattle.mas_types.specs.declared.journals.Batch.{Batch}
-use Rattle.mas_types.specs.declared.journals.Entry.{Entry}
 use Rattle.mas_types.specs.declared.queues.Config.{Config}
 use Rattle.mas_types.specs.declared.queues.Queue.{Queue}
 use Rattle.mas_types.specs.declared.queues.Setting.{Setting}
 use Rattle.mas_types.specs.declared.queues.Thing.TheVariants.{Output as OutputThing}
-use Rattle.mas_types.specs.Closings.{AreMembersNamed}
 use Rattle.mas_types.specs.Fit.{IsSetting}
 use Rattle.mas_types.specs.Ids.{is_somebody}
 use Rattle.mas_types.specs.Limits.{printer_lines_most}
 use Rattle.mas_types.specs.Printed.{printed_line}
-use Rattle.mas_types.specs.Queue.{has_key, line_count, output_at, printing_at, prints_at, setting_of, total}
-use Rattle.lock_cycle.specs.Books.{Book, after_free, is_holder, is_stopped}
+use Rattle.mas_types.specs.Queue.{has_key, line_count, output_at, printing_at, prints_at, total}
 use Rattle.lay_bytes.specs.declared.records.OutRec.{OutRec}
 use Rattle.lay_bytes.specs.Slots.{IfUsed, IsOutRec}
 use Rattle.ckpt_pages.specs.declared.tables.Tables.{Tables}
 use Rattle.ckpt_pages.specs.Shape.{HasSpelling}
 use Rattle.output_queue.specs.Outputs.{AreOutputs, HasOutput}
 use Rattle.queue_tables.specs.Telling.{Tell}
-use Rattle.queue_laws.proofs.Finds.{find-All, test_cases}
+use Rattle.queue_laws.proofs.Finds.{test_cases}
 use Rattle.spool_disk.specs.declared.plant.Act.{Act}
-use Rattle.spool_disk.specs.declared.plant.Act.TheVariants.{Done, Failed, Halted}
+use Rattle.spool_disk.specs.declared.plant.Act.TheVariants.{Failed}
 use Rattle.spool_disk.specs.declared.plant.Part.TheVariants.{Disk as DiskPart, Printer}
 use Rattle.spool_disk.specs.View.{View}
-use Rattle.spool_disk.specs.Acts.{Acts, Goes, Prints, Rose}
+use Rattle.spool_disk.specs.Acts.{Acts, Goes, Prints}
 use Rattle.ckpt_copy.specs.Moments.{goes_none, goes_on}
 use Rattle.track_groups.specs.Places.{groups_of}
 use Rattle.paper_laws.specs.Next.{MayPrint, limit_of}
@@ -48,31 +41,16 @@ use Rattle.paper_laws.specs.Paper.{busy_in}
 use Rattle.paper_laws.proofs.Bools.{find_passes, own_key, same_key_is}
 use Rattle.mas_complex.specs.Journals.{entries_in, kept_all}
 use Rattle.mas_complex.specs.Meaning.{run}
-use Rattle.mas_complex.specs.Texts.{HasTexts, IsThereUnless, lost_now, spools_at}
-use Rattle.member_node.specs.declared.member.NodeNo.{NodeNo}
-use Rattle.member_node.specs.declared.member.NodeNo.TheVariants.{BothLost, ConsoleFault, NoMemory, Halted as HaltedNo}
 use Rattle.member_node.specs.Calls.{Course}
-use Rattle.member_decks.specs.Keeping.{CopyCauses}
 use Rattle.member_decks.specs.Spooling.{OnVolumes}
-use Rattle.spool_volumes.specs.Volumes.{AreRoomy}
-use Rattle.member_decks.specs.Steps.{SpoolStops}
-use Rattle.member_decks.proofs.OutcomeLemmas.{spares_spool}
-use Rattle.member_node.specs.Spares.{Spares}
 use Rattle.member_decks.proofs.OpenLemmas.{tells_some}
 use Rattle.member_decks.proofs.PageLemmas.{all_at}
 use Rattle.job_outcome.specs.declared.outcomes.Read.{Read}
 use Rattle.job_outcome.specs.declared.outcomes.Read.TheVariants as read
-use Rattle.member_work.specs.Causes.{MayRefuse}
 use Rattle.member_work.specs.Gone.{gone_with}
-use Rattle.member_work.specs.Looks.{as_it_is, read_of}
-use Rattle.member_work.specs.Printing.{IsBeside, IsChunkOf, IsLinesPrinted, IsPrinted, IsPrinting, IsToldOutput, MayPrintTo}
-use Rattle.member_work.specs.Reading.{IsFailedRead, IsReadOf}
-use Rattle.member_work.specs.Rounds.{HasFailed, HasPrinterFailed, IsReadAs, IsWhole}
-use Rattle.member_work.specs.Steps.{IsKeeping}
-use Rattle.member_work.specs.Units.{chunk_end, printed_end}
-use Rattle.member_work.proofs.CauseLemmas.{found_failed, wider_refusal}
-use Rattle.member_work.proofs.LeavesLemmas.{work_none}
-use Rattle.member_work.proofs.LookingLemmas.{coded_read}
+use Rattle.member_work.specs.Printing.{IsBeside, IsChunkOf, IsLinesPrinted, IsToldOutput, MayPrintTo}
+use Rattle.member_work.specs.Rounds.{HasPrinterFailed, IsReadAs, IsWhole}
+use Rattle.member_work.specs.Units.{printed_end}
 
 -- ACTS BESIDE THE COPIES
 
@@ -128,33 +106,6 @@ course_beside told is1 is2 v w acts = record {
   alive2 = λ is. is;
   grow = λ d. inl (acts.loses d);
 }
-
-module _ {T : Type 0} (told : Type 0) (by : MemberId) (front batches : List Batch) (same : batches ≡ front) where
-  pub beside_ok : (t : T) (a b : Bool) (v w : View) → IsBeside told v w → Spares by.0 false v w → IsKeeping {T = T} told by [] front batches a a b b v w (Ok t)
-  beside_ok t a b v w acts spares = record { course = course_beside told a b v w acts; loses = λ t d. acts.loses d; cause = inr (refl, refl); spares = spares; rest = []; batches_are = same ∙ sym (append-nil front); journal = tt; quiet = acts.console }
-
-  pub beside_not : (e : NodeNo) (ess : List (List Entry)) (a b : Bool) (v w : View) → IsBeside told v w → SpoolStops {T = T} (Err e) by.0 v w → IsKeeping {T = T} told by ess front batches a a b b v w (Err e)
-  beside_not e ess a b v w acts stops = record {
-    course = course_beside told a b v w acts;
-    loses = λ t d. acts.loses d;
-    cause = causes e stops;
-    spares = spares_spool {T = T} by.0 v w (Err e) stops;
-    rest = [];
-    batches_are = same ∙ sym (append-nil front);
-    journal = work_none by T e v.now w.now ess (never e stops);
-    quiet = acts.console;
-  } where
-    causes : (e : NodeNo) → SpoolStops {T = T} (Err e) by.0 v w → CopyCauses {T = T} (Err e) by.0 a a b b v w
-    causes NoMemory stops = inr (refl, refl)
-    causes HaltedNo stops = (inr (refl, refl), stops.1)
-    causes BothLost stops = absurd stops
-    causes ConsoleFault stops = absurd stops
-
-    never : (e : NodeNo) → SpoolStops {T = T} (Err e) by.0 v w → e ≡ ConsoleFault → ⊥
-    never ConsoleFault stops is = absurd stops
-    never BothLost stops is = absurd stops
-    never NoMemory stops is = absurd (cc)
-    never HaltedNo stops is = absurd (cc)
 
 -- a printer that failed in a stretch failed in a wider one
 pub failed_wider : (by : MemberId) (old from till new : View) → Goes old from → Goes till new → HasPrinterFailed by from till → HasPrinterFailed by old new
@@ -229,25 +180,6 @@ still_busy Q m n i o there busy =
     (λ e. let found : find (prints_at m) Q.outputs ≡ Some o = rw e at busy in rw there (find_passes (prints_at m) Q.outputs o found))
     (λ e. absurd (let none = rw e at busy in cc))
 
-pub may_print_to : (base : Queue) (batches : List Batch) (current : Option Batch) (m : MemberId) (t : Tables) (r : OutRec) (last : ℕ) (lines : List (List ℕ)) → current ≡ None → Tell t (run base (kept_all batches)) → IsToldOutput t r → IsChunkOf t m r last
-    → (p : IsPrinting (run base (kept_all batches)) m r.job r.index) → p.output.text ≡ Whole lines → MayPrintTo base batches current m r.job r.index r.mark last lines
-may_print_to base batches current m t r last lines none told output chunk p text =
-    let Q : Queue = run base (kept_all batches) in
-    let is = chunk.is Q p.output told p.there in
-    let same = output.same Q p.output told p.there in
-    let key = key_of r.job r.index Q.outputs p.output p.there in
-    record {
-      output = p.output;
-      busy = p.busy;
-      job = key.0;
-      index = key.1;
-      mark_is = same.2;
-      text = text;
-      upto = omega (arith, is);
-      limit = omega (arith, is);
-      still = rw none (subst (λ (es : List Entry). busy_in (output_at (run base es) r.job r.index) m ≡ true) (sym (append-nil (kept_all batches))) (still_busy Q m r.job r.index p.output p.there p.busy));
-    }
-
 -- the next line of an output may be printed
 pub may_print : (base : Queue) (batches : List Batch) (current : Option Batch) (m : MemberId) (n : JobNo) (i : OutNo) (mark last printed before : ℕ) (lines : List (List ℕ)) (bytes : List ℕ) → MayPrintTo base batches current m n i mark last lines → mark + printed ≡ before → before < last
     → bytes ≡ printed_line n i (before + 1) lines → MayPrint base (kept_all batches) (entries_in current) m printed bytes
@@ -272,35 +204,6 @@ module _ (told : Type 0) (config : Config) (t : Tables) (Q : Queue) (v w : View)
   abbrev groups : List GroupNo
   groups = groups_of (OutputThing r.job r.index) t.owners
 
-  abbrev its : List GroupNo
-  its = groups_of (OutputThing r.job r.index) Q.owners
-
-  abbrev Stands : Type 0
-  Stands = HasTexts (lost_now v) (spools_at v v.now) config.groups Q
-
-  same_groups : Tell t Q → its ≡ groups
-  same_groups tell = ap (groups_of (OutputThing r.job r.index)) tell.owners
-
-  stands_there : Tell t Q → output_at Q r.job r.index ≡ Some o → Stands → IsThereUnless (lost_now v) (spools_at v v.now) config.groups o.text groups
-  stands_there tell found texts =
-      let key = key_of r.job r.index Q.outputs o found in
-      let there : IsThereUnless (lost_now v) (spools_at v v.now) config.groups o.text (groups_of (OutputThing o.job o.index) Q.owners) =
-      (find-All (λ (x : Output). IsThereUnless (lost_now v) (spools_at v v.now) config.groups x.text (groups_of (OutputThing x.job x.index) Q.owners)) (has_key r.job r.index) Q.outputs o texts.outputs found).0 in
-      let named : groups_of (OutputThing o.job o.index) Q.owners ≡ groups = ap (λ (k : JobNo). groups_of (OutputThing k o.index) Q.owners) key.0 ∙ ap (λ (k : OutNo). groups_of (OutputThing r.job k) Q.owners) key.1 ∙ same_groups tell in
-      subst (λ (gs : List GroupNo). IsThereUnless (lost_now v) (spools_at v v.now) config.groups o.text gs) named there
-
-  pub output_seen : (x : Read) → Tell t Q → IsToldOutput t r → output_at Q r.job r.index ≡ Some o → told → IsWhole o.text → AreRoomy v config → ∥ Stands ∥₁
-      → ((text : Text) → line_count text ≡ r.lines → told → AreRoomy v config → IsThereUnless (lost_now v) (spools_at v v.now) config.groups text groups → IsReadOf config.groups text groups x v w)
-      → IsFailedRead config.groups groups x v w → IsReadAs told config.groups o.text its (Some x) v w
-  output_seen (read.Lines lines) tell output found tells whole roomy texts reads failed =
-      let same = output.same Q o tell found in
-      λ again. ∥∥₁_elim texts (Coded-set coded_read _ _) (λ stands. reads o.text same.3 tells roomy (stands_there tell found stands))
-  output_seen (read.Gone group) tell output found tells whole roomy texts reads failed =
-      let same = output.same Q o tell found in
-      λ again. ∥∥₁_elim texts (Coded-set coded_read _ _) (λ stands. reads o.text same.3 tells roomy (stands_there tell found stands))
-  output_seen (read.Lost volume) tell output found tells whole roomy texts reads failed =
-      (λ again. whole, subst (λ (gs : List GroupNo). HasFailed config.groups gs volume v w) (sym (same_groups tell)) failed)
-
 -- lines that were read are those of a text that is whole
 pub lines_whole : (told : Type 0) (per : ℕ) (text : Text) (groups : List GroupNo) (lines : List (List ℕ)) (v w : View) → told → IsReadAs told per text groups (Some (read.Lines lines)) v w → text ≡ Whole lines
 lines_whole told per (Whole ls) groups lines v w tells seen = let same = seen tells in let equal : lines ≡ ls = cc in ap Whole (sym equal)
@@ -308,54 +211,9 @@ lines_whole told per (Gone group count) groups lines v w tells seen = absurd (le
 
 -- AN OUTPUT'S LINES ARE PRINTED
 
-one_group : (a b : GroupNo) → Some a ≡ Some b → a ≡ b
-one_group a b e = cc
-
-gone_text : (t : Text) (g : GroupNo) → gone_with t ≡ Some g → as_it_is t ≡ read.Gone g
-gone_text (Whole lines) g is = absurd (cc)
-gone_text (Gone group count) g is = ap read.Gone (one_group group g is)
-
--- an output's text that was gone isn't read
-pub printed_gone : (told : Type 0) (per : ℕ) (Q : Queue) (by : MemberId) (n : JobNo) (i : OutNo) (v w : View) (g : GroupNo) → (told → (o : Output) → output_at Q n i ≡ Some o → Some g ≡ gone_with o.text) → IsPrinted told per Q by n i v w (Some (closing.NoText g))
-printed_gone told per Q by n i v w g gone = record {
-  read = None;
-  lost = false;
-  is = λ t o there. (tt, ap (printed_end false) (sym (gone_text o.text g (sym (gone t o there)))));
-  printer = λ lost. absurd (cc);
-  caused = tt;
-}
-
--- why the lines weren't all printed
-lines_caused : (by : MemberId) (per : ℕ) (groups : List GroupNo) (old mid new : View) (x : Read) (end : Option Closing) → Goes old mid → Goes mid new → IsFailedRead per groups x old mid → IsLinesPrinted by x mid new end → IfSome end (λ e. MayRefuse by e old new)
-lines_caused by per groups old mid new x end before after failed lines = subst (λ (e : Option Closing). IfSome e (λ c. MayRefuse by c old new)) (sym lines.is) (by_read x lines.lost failed lines.printer) where
-  by_read : (x : Read) (b : Bool) → IsFailedRead per groups x old mid → (b ≡ true → HasPrinterFailed by mid new) → IfSome (printed_end b x) (λ c. MayRefuse by c old new)
-  by_read (read.Gone group) b failed printer = tt
-  by_read (read.Lost volume) b failed printer = wider_refusal by old old mid new (goes_none old) after (closing.SpoolLost volume) (found_failed per groups volume old mid failed)
-  by_read (read.Lines lines) true failed printer = failed_wider by old mid new new before (goes_none new) (printer refl)
-  by_read (read.Lines lines) false failed printer = tt
-
-pub printed_as : (told : Type 0) (per : ℕ) (Q : Queue) (by : MemberId) (n : JobNo) (i : OutNo) (groups : List GroupNo) (old mid new : View) (x : Read) (end : Option Closing) → Goes old mid → Goes mid new → IsFailedRead per groups x old mid
-    → (told → (o : Output) → output_at Q n i ≡ Some o → IsReadAs told per o.text (groups_of (OutputThing n i) Q.owners) (Some x) old new) → IsLinesPrinted by x mid new end → IsPrinted told per Q by n i old new end
-printed_as told per Q by n i groups old mid new x end before after failed seen lines = record {
-  read = Some x;
-  lost = lines.lost;
-  is = λ t o there. (seen t o there, lines.is);
-  printer = λ lost. failed_wider by old mid new new before (goes_none new) (lines.printer lost);
-  caused = lines_caused by per groups old mid new x end before after failed lines;
-}
-
 pub whole_output : (t : Text) → gone_with t ≡ None → IsWhole t
 whole_output (Whole lines) none = tt
 whole_output (Gone group count) none = absurd (cc)
-
--- an end names no member
-pub printed_named : (by : MemberId) (x : Read) (v w : View) (end : Option Closing) → IsLinesPrinted by x v w end → IfSome end AreMembersNamed
-printed_named by x v w end k = subst (λ (e : Option Closing). IfSome e AreMembersNamed) (sym k.is) (by_read x k.lost) where
-  by_read : (x : Read) (b : Bool) → IfSome (printed_end b x) AreMembersNamed
-  by_read (read.Gone group) b = tt
-  by_read (read.Lost volume) b = tt
-  by_read (read.Lines lines) true = tt
-  by_read (read.Lines lines) false = tt
 
 pub lines_printed : (by : MemberId) (lines : List (List ℕ)) (v w : View) → IsLinesPrinted by (read.Lines lines) v w None
 lines_printed by lines v w = record { lost = false; is = refl; printer = λ lost. absurd (cc) }
@@ -365,10 +223,3 @@ lines_lost by lines v w failed = record { lost = true; is = refl; printer = λ l
 
 pub unprinted : (by : MemberId) (x : Read) (v : View) (end : Closing) → Some end ≡ printed_end false x → IsLinesPrinted by x v v (Some end)
 unprinted by x v end is = record { lost = false; is = is; printer = λ lost. absurd (cc) }
-
--- THE BOOK, without the lock
-
-pub freed_up : (b : Book) (m : MemberId) → b.holder ≡ m → is_stopped b m ≡ false → is_stopped (after_free b m true) m ≡ false
-freed_up b m holds up =
-    let holder : is_holder b m ≡ true = subst (λ (h : MemberId). (h.0 == m.0) ≡ true) (sym holds) (eq-eqb m.0 m.0 refl) in
-    rw holder up

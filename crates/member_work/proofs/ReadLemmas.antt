@@ -1,5 +1,5 @@
 -- Reading the groups of a text.
-use Rattle.std.proofs.Common.{◌≡◌, ◌&&◌, ◌||◌, ◌==◌, ℕ, zero, suc, ◌+◌, ◌*◌, ◌%◌, ◌≤◌, ◌<◌, nat_le, Bool, true, false, List, [], ◌∷◌, ◌++◌, length, Option, Some, None, All, slice_get, unwrap_or, refl, sym, ap, subst, ◌∙◌, append_assoc, arith}
+use Rattle.std.proofs.Common.{◌≡◌, ◌&&◌, ℕ, zero, suc, ◌+◌, ◌*◌, ◌%◌, ◌≤◌, ◌<◌, nat_le, Bool, true, false, List, [], ◌∷◌, ◌++◌, length, Option, Some, None, All, unwrap_or, refl, sym, ap, subst, ◌∙◌, append_assoc, arith}
 use Rattle.std.specs.Prelude.{Result, Ok, Err}
 use Rattle.std.specs.Option.{option_or}
 use Rattle.std.proofs.lemmas.Bool.Decides.{nat_tests}
@@ -11,8 +11,8 @@ use Rattle.mas_types.specs.declared.ids.Page.{Page}
 use Rattle.mas_types.specs.declared.jobs.Text.{Text}
 use Rattle.mas_types.specs.declared.jobs.Text.TheVariants.{Whole, Gone}
 use Rattle.mas_types.specs.declared.queues.Config.{Config}
-use Rattle.mas_types.specs.Fit.{AreLines, is_text_line}
-use Rattle.mas_types.specs.Limits.{line_bytes, page_bytes, text_lines_most}
+use Rattle.mas_types.specs.Fit.{is_text_line}
+use Rattle.mas_types.specs.Limits.{line_bytes, page_bytes}
 use Rattle.mas_types.specs.Queue.{line_count}
 use Rattle.mas_types.specs.Records.{HoldsNoRecords, is_record, records_in}
 use Rattle.spool_disk.specs.declared.plant.Act.{Act}
@@ -28,15 +28,14 @@ use Rattle.mas_complex.specs.Spool.{IsGroupOf, ReadsGroup, device_of, is_within,
 use Rattle.mas_complex.specs.Texts.{Spools, bytes_on, lost_now, spools_at, IsThereUnless}
 use Rattle.mas_complex.proofs.Quotients.{few_quotient}
 use Rattle.mas_complex.proofs.Spooled.{each_quiet, read_quiet}
-use Rattle.queue_laws.proofs.Finds.{test_cases}
 use Rattle.queue_laws.proofs.SoundEnter.{All-none}
-use Rattle.member_decks.specs.Spooling.{AreQuiet, OnVolumes, lies_there}
+use Rattle.member_decks.specs.Spooling.{AreQuiet, OnVolumes}
 use Rattle.member_node.specs.declared.member.NodeNo.{NodeNo}
 use Rattle.member_node.specs.declared.member.NodeNo.TheVariants as no
 use Rattle.member_decks.specs.Steps.{SpoolStops}
 use Rattle.member_node.specs.Spares.{Spares}
-use Rattle.member_node.proofs.SpareLemmas.{spares_none, spares_then}
-use Rattle.member_decks.proofs.PageLemmas.{acts_none, acts_on, lies_alone, quiet_none, quiet_on, still_roomy, there_by}
+use Rattle.member_node.proofs.SpareLemmas.{spares_then}
+use Rattle.member_decks.proofs.PageLemmas.{acts_on, lies_alone, quiet_on, still_roomy, there_by}
 use Rattle.job_outcome.specs.declared.outcomes.Read.{Read}
 use Rattle.job_outcome.specs.declared.outcomes.Read.TheVariants as read
 use Rattle.member_work.specs.Looks.{as_it_is}
@@ -173,17 +172,6 @@ pub record HaveRead (told : Type 0) (by : ℕ) (config : Config) (old now : View
   pub lines_are : told → AreRoomy old config → lines ≡ all_records (records_on (bytes_on (spools_at old old.now)) config.groups) groups
   pub gone_is : told → AreRoomy old config → gone ≡ first_gone (records_on (bytes_on (spools_at old old.now)) config.groups) groups
 
-pub read_none : (told : Type 0) (by : ℕ) (config : Config) (v : View) (lines : List (List ℕ)) → lines ≡ [] → HaveRead told by config v v [] lines None
-read_none told by config v lines none = record {
-  acts = acts_none told by v;
-  spares = spares_none by v;
-  reads = λ t. quiet_none (spools_at v v.now);
-  fits = subst AreRecords (sym none) none_fit;
-  there = All-nil (λ g. lost_now v (volume_of config.groups g) ≡ false);
-  lines_are = λ t roomy. none;
-  gone_is = λ t roomy. refl;
-}
-
 pub read_more : (told : Type 0) (by : ℕ) (config : Config) (old mid new : View) (groups : List GroupNo) (g : GroupNo) (before lines : List (List ℕ)) (gone_before is_gone : Option GroupNo)
     → HaveRead told by config old mid groups before gone_before → OnVolumes told by mid new → Spares by false mid new → OnlyReads told mid new → AddsGroup told config g mid before lines gone_before is_gone
     → HaveRead told by config old new (groups ++ g ∷ []) lines is_gone
@@ -223,26 +211,6 @@ read_whole told by config old new groups lines gone count o have is text counted
     is_read config.groups text groups o old new
     (is ∙ ap as_it_is (ap (λ (l : List (List ℕ)). text_unless count groups l gone) (have.lines_are t roomy) ∙ ap (λ (g : Option GroupNo). text_unless count groups (all_records R groups) g) (have.gone_is t roomy)
     ∙ ap (λ (k : ℕ). text_of R k groups) (sym counted) ∙ there.is))
-
-pub lines_fit : (lines : List (List ℕ)) (count : ℕ) → AreRecords lines → length lines ≡ count → count ≤ text_lines_most → AreLines lines
-lines_fit lines count are same few = record { few = omega (arith, same, few); short = are.short; text = are.text }
-
-lies_among : (per v : ℕ) (groups : List GroupNo) (k : ℕ) (g : GroupNo) → slice_get groups k ≡ Some g → lies_there per v (g ∷ []) ≡ true → lies_there per v groups ≡ true
-lies_among per v [] k g here there = absurd (cc)
-lies_among per v (h ∷ groups) zero g here there = let same : h ≡ g = cc in rw (same, alone (volume_of per g == v) there) refl
-  where
-    alone : (b : Bool) → (b || false) ≡ true → b ≡ true
-    alone true e = refl
-    alone false e = e
-lies_among per v (h ∷ groups) (suc k) g here there = test_cases (volume_of per h == v) (lies_there per v (h ∷ groups) ≡ true) (λ e. rw e refl) (λ e. rw e (lies_among per v groups k g here there))
-
--- a volume that was found lost at a group among others
-pub failed_later : (per volume : ℕ) (groups : List GroupNo) (k : ℕ) (g : GroupNo) (old mid new : View) → slice_get groups k ≡ Some g → Goes old mid → HasFailed per (g ∷ []) volume mid new → HasFailed per groups volume old new
-failed_later per volume groups k g old mid new here goes failed = record {
-  there = lies_among per volume groups k g here failed.there;
-  lost = failed.lost;
-  rose = omega (arith, failed.rose, goes.faults (DiskPart (Spool volume)));
-}
 
 -- a stop after other acts
 pub stops_later : {T : Type 0} (by : ℕ) (old mid new : View) (r : Result T NodeNo) → Goes old mid → Spares by false old mid → SpoolStops r by mid new → SpoolStops r by old new

@@ -1,14 +1,12 @@
 -- Why a step of work closes as it does, by what each plant tells: which of its parts are lost, and how often they
 -- failed.
-use Rattle.std.specs.Prelude.{◌≡◌, ◌⊎◌, ℕ, ◌≤◌, Some}
+use Rattle.std.specs.Prelude.{Some}
 use Rattle.mas_types.specs.declared.ids.MemberId.{MemberId}
 use Rattle.mas_types.specs.declared.answers.Closing.{Closing}
 use Rattle.mas_types.specs.declared.answers.Closing.TheVariants as closing
 use Rattle.mas_types.specs.declared.commands.Reply.TheVariants as reply
 use Rattle.spool_disk.specs.View.{View}
 use Rattle.member_decks.specs.Steps.{IsFoundLost}
-use Rattle.job_outcome.specs.declared.outcomes.Outcome.{Outcome}
-use Rattle.job_outcome.specs.declared.outcomes.Outcome.TheVariants as outcome
 use Rattle.job_outcome.specs.declared.units.UnitEnd.{UnitEnd}
 use Rattle.job_outcome.specs.declared.units.UnitEnd.TheVariants as ends
 use Rattle.member_work.specs.Rounds.{HasPrinterFailed}
@@ -22,10 +20,6 @@ MayRefuse by (closing.SpoolLost volume) old new = IsFoundLost (Some volume) old 
 MayRefuse by closing.PrinterLost old new = HasPrinterFailed by old new
 MayRefuse by _ old new = ⊥
 
--- a step of so many units closes with the units that are done, or as one was refused
-abbrev pub MayClose : ℕ → MemberId → Closing → View → View → Type 0
-MayClose n by end old new = ((m : ℕ) × (m ≤ n) × (end ≡ closing.DoneUnits m)) ⊎ MayRefuse by end old new
-
 -- WITHIN A STEP
 
 -- how a unit may end
@@ -33,7 +27,9 @@ abbrev pub MayEndUnit : MemberId → UnitEnd → View → View → Type 0
 MayEndUnit by (ends.Refused end) old new = MayRefuse by end old new
 MayEndUnit by _ old new = Unit {0}
 
--- what may become of a job whose text was read
-abbrev pub MayStop : MemberId → Outcome → View → View → Type 0
-MayStop by (outcome.Stop end) old new = MayRefuse by end old new
-MayStop by _ old new = Unit {0}
+-- a unit ends as its last command was answered: it is done, or refused with that reply
+abbrev pub IsAnswered : UnitEnd → Type 0
+IsAnswered ends.Done = Unit {0}
+IsAnswered ends.Idle = Unit {0}
+IsAnswered (ends.Refused (closing.Reply (reply.No why))) = Unit {0}
+IsAnswered (ends.Refused end) = ⊥

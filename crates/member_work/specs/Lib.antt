@@ -7,8 +7,6 @@ pub mod Reading
 pub mod Steps
 pub mod Printing
 pub mod Inked
-pub mod JobSteps
-pub mod Laws
 pub mod Examples
 pub mod Gone
 pub mod Spooled

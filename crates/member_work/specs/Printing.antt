@@ -1,5 +1,5 @@
 -- A unit that prints the next lines of an output, part by part.
-use Rattle.std.specs.Prelude.{◌≡◌, ℕ, ◌+◌, ◌*◌, ◌≤◌, ◌<◌, Bool, true, List, [], ◌++◌, length, Option, Some, None, Result, Ok, Err, IfSome, OnOk}
+use Rattle.std.specs.Prelude.{◌≡◌, ℕ, ◌+◌, ◌*◌, ◌≤◌, ◌<◌, Bool, true, List, ◌++◌, Option, Some, Result, Ok, Err}
 use Rattle.mas_types.specs.declared.answers.Closing.{Closing}
 use Rattle.mas_types.specs.declared.ids.Dev.{Dev}
 use Rattle.mas_types.specs.declared.ids.Dev.TheVariants.{Ckpt1, Ckpt2}
@@ -11,7 +11,6 @@ use Rattle.mas_types.specs.declared.jobs.Text.TheVariants.{Whole}
 use Rattle.mas_types.specs.declared.journals.Batch.{Batch}
 use Rattle.mas_types.specs.declared.journals.Entry.{Entry}
 use Rattle.mas_types.specs.declared.queues.Queue.{Queue}
-use Rattle.mas_types.specs.declared.queues.Thing.TheVariants.{Output as OutputThing}
 use Rattle.mas_types.specs.Fit.{IsIndex}
 use Rattle.mas_types.specs.Limits.{printer_lines_most, text_lines_most}
 use Rattle.mas_types.specs.Queue.{line_count, output_at, printing_at, total}
@@ -21,7 +20,6 @@ use Rattle.queue_tables.specs.Telling.{Tell}
 use Rattle.spool_disk.specs.declared.plant.Part.TheVariants.{Disk as DiskPart}
 use Rattle.spool_disk.specs.View.{View, disk_now}
 use Rattle.spool_disk.specs.Acts.{Goes}
-use Rattle.track_groups.specs.Places.{groups_of}
 use Rattle.paper_laws.specs.Next.{limit_of}
 use Rattle.paper_laws.specs.Paper.{busy_in}
 use Rattle.mas_complex.specs.Journals.{entries_in, kept_all}
@@ -32,13 +30,8 @@ use Rattle.member_node.specs.declared.member.NodeNo.TheVariants.{BothLost, Halte
 use Rattle.lock_cycle.specs.Books.{Book, after_stop}
 use Rattle.member_node.specs.Calls.{console_now}
 use Rattle.job_outcome.specs.declared.outcomes.Read.{Read}
-use Rattle.job_outcome.specs.declared.units.UnitEnd.{UnitEnd}
-use Rattle.member_work.specs.Causes.{MayEndUnit, MayRefuse}
-use Rattle.member_work.specs.Looks.{Look, read_of}
-use Rattle.member_work.specs.Rounds.{HasPrinterFailed, IsPrintLook, IsReadAs}
-use Rattle.member_work.specs.Steps.{IsPlayOf, IsPlayed}
-use Rattle.member_work.specs.Units.{chunk_end, mark_play, print_play, printed_end}
-use Rattle.member_work.specs.Work.{spent_in}
+use Rattle.member_work.specs.Rounds.{HasPrinterFailed}
+use Rattle.member_work.specs.Units.{chunk_end, printed_end}
 
 -- ACTS ON THE PRINTER AND THE VOLUMES
 
@@ -118,54 +111,3 @@ pub record IsLinesPrinted (by : MemberId) (read : Read) (old new : View) (end : 
   pub lost : Bool
   pub is : end ≡ printed_end lost read
   pub printer : lost ≡ true → HasPrinterFailed by old new
-
--- How the lines of the output with this key were printed: none where all stand on paper, else how the unit is refused.
--- Where content is told the output is that of the queue.
-pub record IsPrinted (told : Type 0) (per : ℕ) (Q : Queue) (by : MemberId) (n : JobNo) (i : OutNo) (old new : View)
-    (end : Option Closing) : Type 0 where
-  pub read : Option Read
-  pub lost : Bool
-  pub is : told → (o : Output) → output_at Q n i ≡ Some o
-      → IsReadAs told per o.text (groups_of (OutputThing n i) Q.owners) read old new
-      × (end ≡ printed_end lost (read_of read o.text))
-  pub printer : lost ≡ true → HasPrinterFailed by old new
-  pub caused : IfSome end (λ e. MayRefuse by e old new)
-
--- The lines are marked, or the unit is refused, with the cause that this has since an earlier moment. Nothing is
--- unwritten before.
-pub record IsMarkStep (told : Type 0) (by : MemberId) (at : ℕ) (Q : Queue) (n : JobNo) (i : OutNo) (last : ℕ)
-    (end_is : Option Closing) (is_left : List Entry) (front batches : List Batch) (was1 is1 was2 is2 : Bool)
-    (old new : View) (result : Result UnitEnd NodeNo) : Type 0 where
-  pub parts : List (List Entry)
-  pub end : UnitEnd
-  pub is : told → IsPlayOf (mark_play Q by at n i last end_is) parts end
-  pub caused : (from : View) → IfSome end_is (λ e. MayRefuse by e from new) → MayEndUnit by end from new
-  pub single : length parts ≡ 1
-  pub played : IsPlayed told by at parts end [] is_left front batches was1 is1 was2 is2 old new result
-
--- The unit of the output with this key, from where nothing is unwritten: its part after the first one, which has no
--- commands.
-pub record IsLinesStep (told : Type 0) (by : MemberId) (at per : ℕ) (Q : Queue) (n : JobNo) (i : OutNo) (last : ℕ)
-    (is_left : List Entry) (front batches : List Batch) (was1 is1 was2 is2 : Bool) (old new : View)
-    (result : Result UnitEnd NodeNo) : Type 0 where
-  pub look : Look
-  pub parts : List (List Entry)
-  pub end : UnitEnd
-  pub is : told → (o : Output) → output_at Q n i ≡ Some o → IsPrintLook told per Q by look old new o
-      × IsPlayOf (mark_play Q by at o.job o.index last (printed_end look.printer (read_of look.read o.text))) parts end
-  pub caused : MayEndUnit by end old new
-  pub single : length parts ≡ 1
-  pub played : IsPlayed told by at parts end [] is_left front batches was1 is1 was2 is2 old new result
-
--- The whole unit of the output with this key.
-pub record IsPrintStep (told : Type 0) (by : MemberId) (at per : ℕ) (Q : Queue) (n : JobNo) (i : OutNo)
-    (so_far is_left : List Entry) (spent is_spent : ℕ) (front batches : List Batch) (was1 is1 was2 is2 : Bool)
-    (old new : View) (result : Result UnitEnd NodeNo) : Type 0 where
-  pub look : Look
-  pub parts : List (List Entry)
-  pub end : UnitEnd
-  pub is : told → IfSome (output_at Q n i) (IsPrintLook told per Q by look old new)
-      × IsPlayOf (print_play Q by at look n i) parts end
-  pub caused : MayEndUnit by end old new
-  pub played : IsPlayed told by at parts end so_far is_left front batches was1 is1 was2 is2 old new result
-  pub spends : OnOk result (is_spent ≡ spent_in spent parts)

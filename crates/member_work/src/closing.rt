@@ -1,27 +1,19 @@
-//! What a step has given since the last batch, kept; the copies read anew; and the line with which the step closes.
-ghost use Rattle.std.specs.Prelude.{◌≡◌, ◌+◌, ◌≤◌, ◌<◌, ◌^◌, ◌∷◌, [], length, None, Err, OnOk};
+//! What a step has given since the last batch, kept.
+ghost use Rattle.std.specs.Prelude.{◌≡◌, ◌+◌, ◌≤◌, ◌<◌, ◌^◌, ◌∷◌, [], Err, OnOk};
 ghost use Rattle.mas_types.specs.declared.ids.Dev.TheVariants.{Ckpt1, Ckpt2};
-ghost use Rattle.mas_types.specs.Closings.{AreMembersNamed, closing_line};
-ghost use Rattle.mas_types.specs.Limits.{members_most};
 ghost use Rattle.spool_disk.specs.View.{disk_now};
 ghost use Rattle.mas_complex.specs.Crash.{IsUntold, setting};
 ghost use Rattle.mas_complex.specs.Journals.{end_of};
 ghost use Rattle.mas_complex.specs.Locking.{MayAct};
-ghost use Rattle.mas_complex.specs.Paper.{SamePapers};
-ghost use Rattle.member_node.specs.Calls.{Apart, IsOnlyOn};
-ghost use Rattle.member_node.specs.Copies.{RestsAt};
-ghost use Rattle.member_node.specs.Reads.{AreLow, orders_after, too_high};
-ghost use Rattle.member_steps.specs.Steps.{AreAllKept, IsBetween};
-ghost use Rattle.member_decks.specs.Keeping.{IsOnCopies};
-ghost use Rattle.member_work.specs.Steps.{HasCopy, IsAtWork, IsClosing, IsKeeping};
+ghost use Rattle.member_node.specs.Calls.{Apart};
+ghost use Rattle.member_steps.specs.Counting.{HasCounted};
+ghost use Rattle.member_work.specs.Steps.{HasCopy, IsAtWork, IsKeeping};
 ghost use Rattle.member_work.specs.Work.{batches_in};
 
-use cmd_report::one_line;
 use mas_complex::{Complex, Steady};
-use mas_types::{Closing, Lines, MemberId, NoMemory};
-use member_decks::{keep_batch, take_hold};
+use mas_types::NoMemory;
+use member_decks::keep_batch;
 use member_node::{Member, NodeNo};
-use member_steps::{play_batch, tell_lines};
 use spool_disk::Plant;
 use std::alloc::Global;
 
@@ -69,6 +61,7 @@ pub fn keep_given<P: Plant + Drop, C: Steady + Drop>(
         (C.reads (disk_now (P.view complex.new.plant) Ckpt2).bytes)) }
     ensures high { OnOk result (member.new.checkpoint.level ≤ member.old.checkpoint.level + 1) }
     ensures reached { OnOk result (complex.new.level ≤ complex.old.level + 1) }
+    ensures counts { HasCounted member.old.id member.old.batch complex.old.printed complex.new.printed result }
 {
     if member.batch.len() == 0 {
         return Ok(());
@@ -107,120 +100,10 @@ pub fn give_up<P: Plant + Drop, C: Steady + Drop>(
         complex.old.journal.batches (end_of complex.new.placed complex.new.current complex.new.journal.batches)
         complex.old.pair.first.alive complex.new.pair.first.alive complex.old.pair.second.alive
         complex.new.pair.second.alive (P.view complex.old.plant) (P.view complex.new.plant) (Err result) }
+    ensures counts { HasCounted {T = Unit {0}} member.old.id [] complex.old.printed complex.new.printed (Err result) }
 {
     match keep_given(member, alloc, complex) {
         Ok(()) => NodeNo::NoMemory,
         Err(no) => no,
     }
-}
-
-/// What a member does that got the lock again within a step, where nothing of its is unwritten: it reads the copies,
-/// brings its tables up to them, and makes room.
-pub(crate) fn hold_again<P: Plant + Drop, C: Steady + Drop>(
-    member: &mut Member,
-    alloc: Global,
-    complex: &mut Complex<P, C>,
-) -> Result<(), NodeNo>
-    requires may { MayAct complex.old.book member.old.id }
-    requires nothing { member.old.batch ≡ [] }
-    requires work { IsAtWork P.tells (P.view complex.old.plant) complex.old.since complex.old.base
-        complex.old.journal.batches complex.old.current complex.old.placed complex.old.level complex.old.reserved
-        complex.old.printed member.old.id member.old.batch member.old.checkpoint member.old.room member.old.behind }
-    requires rests1 { RestsAt P.tells complex.old.pair.first.alive complex.old.first
-        (C.count complex.old.pair.first.copy) member.old.checkpoint.pages
-        (C.reads (disk_now (P.view complex.old.plant) Ckpt1).bytes) }
-    requires rests2 { RestsAt P.tells complex.old.pair.second.alive complex.old.second
-        (C.count complex.old.pair.second.copy) member.old.checkpoint.pages
-        (C.reads (disk_now (P.view complex.old.plant) Ckpt2).bytes) }
-    requires level { complex.old.level < too_high }
-    ensures base { complex.new.base ≡ complex.old.base }
-    ensures since { complex.new.since ≡ complex.old.since }
-    ensures book { complex.new.book ≡ complex.old.book }
-    ensures journal { complex.new.journal ≡ complex.old.journal }
-    ensures current { complex.new.current ≡ complex.old.current }
-    ensures placed { complex.new.placed ≡ complex.old.placed }
-    ensures reached { complex.new.level ≡ complex.old.level }
-    ensures printed { complex.new.printed ≡ complex.old.printed }
-    ensures id { member.new.id ≡ member.old.id }
-    ensures acts { IsOnCopies P.tells member.old.id.0 complex.old.pair.first.alive complex.new.pair.first.alive
-        complex.old.pair.second.alive complex.new.pair.second.alive (P.view complex.old.plant)
-        (P.view complex.new.plant) result }
-    ensures nothing { OnOk result (member.new.batch ≡ []) }
-    ensures work { OnOk result (IsAtWork P.tells (P.view complex.new.plant) complex.new.since complex.new.base
-        complex.new.journal.batches complex.new.current complex.new.placed complex.new.level complex.new.reserved
-        complex.new.printed member.new.id member.new.batch member.new.checkpoint member.new.room member.new.behind) }
-    ensures copy1 { OnOk result (HasCopy P.tells complex.new.pair.first.alive complex.new.first
-        (C.count complex.new.pair.first.copy) (C.room complex.new.pair.first.copy) member.new.checkpoint.pages
-        (C.reads (disk_now (P.view complex.new.plant) Ckpt1).bytes)) }
-    ensures copy2 { OnOk result (HasCopy P.tells complex.new.pair.second.alive complex.new.second
-        (C.count complex.new.pair.second.copy) (C.room complex.new.pair.second.copy) member.new.checkpoint.pages
-        (C.reads (disk_now (P.view complex.new.plant) Ckpt2).bytes)) }
-    ensures order { OnOk result (member.new.checkpoint.tables.order < too_high) }
-    ensures high { OnOk result (member.new.checkpoint.level < too_high) }
-{
-    take_hold(member, alloc, complex)
-}
-
-/// Keeps what the member gave since the last batch, if anything, and says the line with which the step closes. BothLost
-/// comes only where both copies count as lost at the end of the call, Halted only where the member was stopped in it,
-/// ConsoleFault only where the console failed, and NoMemory only when out of memory.
-pub fn close_work<P: Plant + Drop, C: Steady + Drop>(
-    member: &mut Member,
-    alloc: Global,
-    complex: &mut Complex<P, C>,
-    step: u32,
-    end: &Closing,
-) -> Result<(), NodeNo>
-    requires may { MayAct complex.old.book member.old.id }
-    requires some { 1 ≤ member.old.id.0 }
-    requires by { member.old.id.0 ≤ members_most }
-    requires named { AreMembersNamed end.now }
-    requires work { IsAtWork P.tells (P.view complex.old.plant) complex.old.since complex.old.base
-        complex.old.journal.batches complex.old.current complex.old.placed complex.old.level complex.old.reserved
-        complex.old.printed member.old.id member.old.batch member.old.checkpoint member.old.room member.old.behind }
-    requires untold { P.tells → IsUntold (setting C.reads complex.old.base complex.old.since) (P.view complex.old.plant)
-        member.old.batch }
-    requires copy1 { HasCopy P.tells complex.old.pair.first.alive complex.old.first
-        (C.count complex.old.pair.first.copy) (C.room complex.old.pair.first.copy) member.old.checkpoint.pages
-        (C.reads (disk_now (P.view complex.old.plant) Ckpt1).bytes) }
-    requires copy2 { HasCopy P.tells complex.old.pair.second.alive complex.old.second
-        (C.count complex.old.pair.second.copy) (C.room complex.old.pair.second.copy) member.old.checkpoint.pages
-        (C.reads (disk_now (P.view complex.old.plant) Ckpt2).bytes) }
-    requires high { member.old.checkpoint.level + 1 < 2 ^ 63 }
-    requires level { complex.old.level + 1 < 2 ^ 63 }
-    ensures base { complex.new.base ≡ complex.old.base }
-    ensures since { complex.new.since ≡ complex.old.since }
-    ensures book { complex.new.book ≡ complex.old.book }
-    ensures id { member.new.id ≡ member.old.id }
-    ensures others { P.tells → IsOnlyOn (P.view complex.old.plant) (P.view complex.new.plant) }
-    ensures papers { P.tells → SamePapers (P.view complex.old.plant) (P.view complex.new.plant) }
-    ensures tables { OnOk result (member.new.checkpoint.tables ≡ member.old.checkpoint.tables) }
-    ensures room { OnOk result (member.new.room ≡ member.old.room) }
-    ensures closes { IsClosing P.tells member.old.id (closing_line member.old.id step end.now ∷ [])
-        (batches_in (member.old.batch ∷ [])) complex.old.journal.batches
-        (end_of complex.new.placed complex.new.current complex.new.journal.batches) complex.old.pair.first.alive
-        complex.new.pair.first.alive complex.old.pair.second.alive complex.new.pair.second.alive
-        (P.view complex.old.plant) (P.view complex.new.plant) result }
-    ensures unreserved { OnOk result (complex.new.reserved ≡ None) }
-    ensures between { OnOk result (IsBetween P.tells complex.new.base complex.new.journal.batches complex.new.current
-        complex.new.placed complex.new.level member.new.batch member.new.checkpoint) }
-    ensures rests1 { OnOk result (RestsAt P.tells complex.new.pair.first.alive complex.new.first
-        (C.count complex.new.pair.first.copy) member.new.checkpoint.pages
-        (C.reads (disk_now (P.view complex.new.plant) Ckpt1).bytes)) }
-    ensures rests2 { OnOk result (RestsAt P.tells complex.new.pair.second.alive complex.new.second
-        (C.count complex.new.pair.second.copy) member.new.checkpoint.pages
-        (C.reads (disk_now (P.view complex.new.plant) Ckpt2).bytes)) }
-    ensures kept { OnOk result (AreAllKept complex.new.journal.batches (P.view complex.new.plant).now) }
-    ensures low { OnOk result (P.tells
-        → AreLow member.old.checkpoint.tables.config (length complex.new.journal.batches)
-        member.new.checkpoint.tables) }
-    ensures reached { OnOk result (complex.new.level ≤ complex.old.level + 1) }
-{
-    let Ok(lines) = one_line(alloc, member.id, step, end) else {
-        return Err(give_up(member, alloc, complex));
-    };
-    if member.batch.len() == 0 {
-        return tell_lines(member, complex, &lines);
-    }
-    play_batch(member, alloc, complex, &lines)
 }

@@ -1,43 +1,39 @@
 //! The end of a job with its outputs.
-ghost use Rattle.std.specs.Prelude.{◌≡◌, ◌+◌, ◌≤◌, ◌<◌, ◌^◌, ◌++◌, ◌∷◌, [], ℕ, length, take, true, IfOk, None, Ok, OnOk};
+ghost use Rattle.std.specs.Prelude.{◌≡◌, ◌+◌, ◌≤◌, ◌<◌, ◌^◌, ◌∷◌, [], take, true, IfOk, Ok, OnOk};
 ghost use Rattle.mas_types.specs.declared.answers.Closing.TheVariants.{SpoolLost};
 ghost use Rattle.mas_types.specs.declared.ids.Dev.TheVariants.{Ckpt1, Ckpt2};
-ghost use Rattle.mas_types.specs.Commands.Life.{groups_of_outputs, outputs_at_end};
+ghost use Rattle.mas_types.specs.Commands.Life.{outputs_at_end};
 ghost use Rattle.mas_types.specs.Limits.{members_most};
 ghost use Rattle.mas_types.specs.Owners.{member_count};
 ghost use Rattle.mas_types.specs.Queue.{is_member, job_at};
-ghost use Rattle.lock_cycle.specs.Books.{IsMember, left_of};
 ghost use Rattle.spool_disk.specs.View.{disk_now};
 ghost use Rattle.track_groups.specs.Groups.{held_by};
-ghost use Rattle.mas_complex.specs.Crash.{IsUntold, setting};
+ghost use Rattle.mas_complex.specs.Crash.{setting};
 ghost use Rattle.mas_complex.specs.Journals.{end_of, kept_all};
 ghost use Rattle.mas_complex.specs.Locking.{MayAct};
 ghost use Rattle.mas_complex.specs.Meaning.{run};
 ghost use Rattle.mas_complex.specs.Texts.{spools_at};
 ghost use Rattle.member_node.specs.Calls.{Apart};
-ghost use Rattle.member_node.specs.Reads.{orders_after, too_high};
+ghost use Rattle.member_node.specs.Reads.{too_high};
 ghost use Rattle.member_decks.specs.Decks.{closing_reply, given_in};
-ghost use Rattle.member_decks.specs.Steps.{AreOf, IsFoundLost};
+ghost use Rattle.member_steps.specs.Counting.{HasCounted};
+ghost use Rattle.member_decks.specs.Steps.{AreOf};
 ghost use Rattle.job_exec.specs.Running.{AreOutputs};
 ghost use Rattle.job_outcome.specs.declared.units.UnitEnd.TheVariants.{Done, Refused};
 ghost use Rattle.job_outcome.specs.Next.{IsNamedEnd, end_by};
+ghost use Rattle.member_work.specs.Causes.{IsAnswered};
 ghost use Rattle.member_work.specs.Ending.{IsLastPart};
-ghost use Rattle.member_work.specs.Rounds.{IsSpoolLost};
 ghost use Rattle.member_work.specs.Spooled.{AreSpooled};
-ghost use Rattle.member_work.specs.Steps.{HasCopy, IsAtWork, IsEndStep, IsKeeping, IsSpoolStep, IsStepUntold, IsUnderWay, LeavesBook};
-ghost use Rattle.member_work.specs.Work.{batches_in};
+ghost use Rattle.member_work.specs.Steps.{HasCopy, IsAtWork, IsStepUntold, IsUnderWay};
 ghost use Rattle.member_work.specs.Units.{drop_groups, ending, groups_for_end as groups_for_end_lem, taken_end, taking};
 
-use crate::closing::{give_up, hold_again, keep_given};
-use crate::giving::{give_back, give_end, groups_for_end, take_for_end};
-use crate::spooling::spool_outputs;
+use crate::closing::give_up;
+use crate::giving::{give_back, give_end, take_for_end};
 use job_outcome::UnitEnd;
 use mas_complex::{Complex, Steady};
 use mas_types::{Closing, JobNo, List, OutSpec};
 use member_node::{Member, NodeNo};
 use spool_disk::Plant;
-use spool_text::law_of_groups;
-use spool_volumes::law_of_read_texts;
 use std::alloc::Global;
 
 /// Gives Ended with these outputs, whose texts stand in the member's groups unless the job was cancelled; after a
@@ -109,6 +105,8 @@ pub fn end_given<P: Plant + Drop, C: Steady + Drop>(
     ensures order { OnOk result (member.new.checkpoint.tables.order ≤ too_high + 96) }
     ensures high { OnOk result (member.new.checkpoint.level < too_high) }
     ensures reached { OnOk result (complex.new.level ≡ complex.old.level) }
+    ensures answered { IfOk result IsAnswered }
+    ensures counts { HasCounted member.old.id [] complex.old.printed complex.new.printed result }
 {
     complex.kept_texts();
     let Ok(end) = give_end(member, alloc, step, job, specs) else {
@@ -178,6 +176,8 @@ pub fn take_given<P: Plant + Drop, C: Steady + Drop>(
     ensures high { OnOk result (member.new.checkpoint.level < too_high) }
     ensures reached { OnOk result (complex.new.level ≡ complex.old.level) }
     ensures enough { result ≡ Ok Done → needed ≤ member_count member.new.id member.new.checkpoint.tables.owners }
+    ensures answered { IfOk result IsAnswered }
+    ensures counts { HasCounted member.old.id [] complex.old.printed complex.new.printed result }
 {
     complex.kept_texts();
     let Ok(end) = take_for_end(member, alloc, step, needed) else {
@@ -243,237 +243,13 @@ pub fn drop_given<P: Plant + Drop, C: Steady + Drop>(
     ensures order { OnOk result (member.new.checkpoint.tables.order ≤ too_high + 96) }
     ensures high { OnOk result (member.new.checkpoint.level < too_high) }
     ensures reached { OnOk result (complex.new.level ≡ complex.old.level) }
+    ensures end { IfOk result (λ end. end ≡ Refused (SpoolLost volume)) }
+    ensures counts { HasCounted member.old.id [] complex.old.printed complex.new.printed result }
 {
     complex.kept_texts();
     let end = UnitEnd::Refused(Closing::SpoolLost(volume));
     let Ok(end) = give_back(member, alloc, step, end) else {
         return Err(give_up(member, alloc, complex));
     };
-    Ok(end)
-}
-
-// Keeps what the member gave, writes the outputs into the groups that it took for them, without the lock, and reads the
-// copies again. Answers the volume that was found lost, if one was.
-fn spool_taken<P: Plant + Drop, C: Steady + Drop>(
-    member: &mut Member,
-    alloc: Global,
-    complex: &mut Complex<P, C>,
-    specs: &[OutSpec],
-    needed: u32,
-) -> Result<Option<u8>, NodeNo>
-    requires may { MayAct complex.old.book member.old.id }
-    requires some { 1 ≤ member.old.id.0 }
-    requires by { member.old.id.0 ≤ members_most }
-    requires seated { IsMember complex.old.book member.old.id }
-    requires whole { left_of complex.old.book member.old.id ≡ complex.old.book.hold }
-    requires outputs { AreOutputs specs.now }
-    requires all { needed ≡ groups_of_outputs specs.now }
-    requires enough { needed ≤ member_count member.old.id member.old.checkpoint.tables.owners }
-    requires work { IsAtWork P.tells (P.view complex.old.plant) complex.old.since complex.old.base
-        complex.old.journal.batches complex.old.current complex.old.placed complex.old.level complex.old.reserved
-        complex.old.printed member.old.id member.old.batch member.old.checkpoint member.old.room member.old.behind }
-    requires untold { P.tells → IsUntold (setting C.reads complex.old.base complex.old.since) (P.view complex.old.plant)
-        member.old.batch }
-    requires copy1 { HasCopy P.tells complex.old.pair.first.alive complex.old.first
-        (C.count complex.old.pair.first.copy) (C.room complex.old.pair.first.copy) member.old.checkpoint.pages
-        (C.reads (disk_now (P.view complex.old.plant) Ckpt1).bytes) }
-    requires copy2 { HasCopy P.tells complex.old.pair.second.alive complex.old.second
-        (C.count complex.old.pair.second.copy) (C.room complex.old.pair.second.copy) member.old.checkpoint.pages
-        (C.reads (disk_now (P.view complex.old.plant) Ckpt2).bytes) }
-    requires high { member.old.checkpoint.level < too_high }
-    requires level { complex.old.level + 1 < too_high }
-    ensures base { complex.new.base ≡ complex.old.base }
-    ensures since { complex.new.since ≡ complex.old.since }
-    ensures id { member.new.id ≡ member.old.id }
-    ensures book { LeavesBook result member.old.id complex.old.book complex.new.book }
-    ensures keeps { IsKeeping P.tells member.old.id (batches_in (member.old.batch ∷ [])) complex.old.journal.batches
-        (end_of complex.new.placed complex.new.current complex.new.journal.batches) complex.old.pair.first.alive
-        complex.new.pair.first.alive complex.old.pair.second.alive complex.new.pair.second.alive
-        (P.view complex.old.plant) (P.view complex.new.plant) result }
-    ensures nothing { OnOk result (member.new.batch ≡ []) }
-    ensures queue { OnOk result (run complex.new.base (kept_all complex.new.journal.batches)
-        ≡ run complex.old.base (kept_all complex.old.journal.batches ++ member.old.batch)) }
-    ensures lost { IfOk result (λ lost. P.tells
-        → IsSpoolLost complex.old.base.config.groups
-        (take needed (held_by member.old.id
-        (run complex.old.base (kept_all complex.old.journal.batches ++ member.old.batch)).owners)) lost
-        (P.view complex.old.plant) (P.view complex.new.plant)) }
-    ensures found { IfOk result (λ lost. IsFoundLost lost (P.view complex.old.plant) (P.view complex.new.plant)) }
-    ensures there { result ≡ Ok None → P.tells
-        → AreSpooled (spools_at (P.view complex.new.plant) (P.view complex.new.plant).now)
-        complex.old.base.config.groups specs.now
-        (take needed (held_by member.old.id
-        (run complex.old.base (kept_all complex.old.journal.batches ++ member.old.batch)).owners)) }
-    ensures work { OnOk result (IsAtWork P.tells (P.view complex.new.plant) complex.new.since complex.new.base
-        complex.new.journal.batches complex.new.current complex.new.placed complex.new.level complex.new.reserved
-        complex.new.printed member.new.id member.new.batch member.new.checkpoint member.new.room member.new.behind) }
-    ensures untold { OnOk result (P.tells → (at : ℕ)
-        → IsStepUntold (setting C.reads complex.old.base complex.old.since) member.old.id at (P.view complex.old.plant)
-        → IsStepUntold (setting C.reads complex.new.base complex.new.since) member.new.id at
-        (P.view complex.new.plant)) }
-    ensures copy1 { OnOk result (HasCopy P.tells complex.new.pair.first.alive complex.new.first
-        (C.count complex.new.pair.first.copy) (C.room complex.new.pair.first.copy) member.new.checkpoint.pages
-        (C.reads (disk_now (P.view complex.new.plant) Ckpt1).bytes)) }
-    ensures copy2 { OnOk result (HasCopy P.tells complex.new.pair.second.alive complex.new.second
-        (C.count complex.new.pair.second.copy) (C.room complex.new.pair.second.copy) member.new.checkpoint.pages
-        (C.reads (disk_now (P.view complex.new.plant) Ckpt2).bytes)) }
-    ensures order { OnOk result (member.new.checkpoint.tables.order < too_high) }
-    ensures high { OnOk result (member.new.checkpoint.level < too_high) }
-    ensures reached { OnOk result (complex.new.level ≤ complex.old.level + 1) }
-{
-    keep_given(member, alloc, complex)?;
-    let lost = spool_outputs(member, alloc, complex, specs, needed)?;
-    hold_again(member, alloc, complex)?;
-    Ok(lost)
-}
-
-// Writes the outputs into the groups that the member took for them, and ends the job. Where a volume of one of the
-// groups is lost the member's groups become free.
-fn spool_and_end<P: Plant + Drop, C: Steady + Drop>(
-    member: &mut Member,
-    alloc: Global,
-    complex: &mut Complex<P, C>,
-    step: u32,
-    job: JobNo,
-    specs: List<OutSpec>,
-    needed: u32,
-) -> Result<UnitEnd, NodeNo>
-    requires may { MayAct complex.old.book member.old.id }
-    requires some { 1 ≤ member.old.id.0 }
-    requires by { member.old.id.0 ≤ members_most }
-    requires seated { IsMember complex.old.book member.old.id }
-    requires whole { left_of complex.old.book member.old.id ≡ complex.old.book.hold }
-    requires member { is_member complex.old.base.config member.old.id ≡ true }
-    requires outputs { AreOutputs specs }
-    requires needed { P.tells → needed
-        ≡ groups_for_end_lem (run complex.old.base (kept_all complex.old.journal.batches ++ member.old.batch)) job
-        specs }
-    requires all { needed ≡ groups_of_outputs specs }
-    requires some_needed { 1 ≤ needed }
-    requires enough { needed ≤ member_count member.old.id member.old.checkpoint.tables.owners }
-    requires under_way { P.tells → IsUnderWay
-        (run complex.old.base (kept_all complex.old.journal.batches ++ member.old.batch)) job }
-    requires work { IsAtWork P.tells (P.view complex.old.plant) complex.old.since complex.old.base
-        complex.old.journal.batches complex.old.current complex.old.placed complex.old.level complex.old.reserved
-        complex.old.printed member.old.id member.old.batch member.old.checkpoint member.old.room member.old.behind }
-    requires of { AreOf member.old.id step member.old.batch }
-    requires untold { P.tells → IsStepUntold (setting C.reads complex.old.base complex.old.since) member.old.id step
-        (P.view complex.old.plant) }
-    requires copy1 { HasCopy P.tells complex.old.pair.first.alive complex.old.first
-        (C.count complex.old.pair.first.copy) (C.room complex.old.pair.first.copy) member.old.checkpoint.pages
-        (C.reads (disk_now (P.view complex.old.plant) Ckpt1).bytes) }
-    requires copy2 { HasCopy P.tells complex.old.pair.second.alive complex.old.second
-        (C.count complex.old.pair.second.copy) (C.room complex.old.pair.second.copy) member.old.checkpoint.pages
-        (C.reads (disk_now (P.view complex.old.plant) Ckpt2).bytes) }
-    requires high { member.old.checkpoint.level < too_high }
-    requires level { complex.old.level + 1 < too_high }
-    ensures base { complex.new.base ≡ complex.old.base }
-    ensures since { complex.new.since ≡ complex.old.since }
-    ensures id { member.new.id ≡ member.old.id }
-    ensures book { LeavesBook result member.old.id complex.old.book complex.new.book }
-    ensures step { IsSpoolStep P.tells member.old.id step complex.old.base.config.groups
-        (run complex.old.base (kept_all complex.old.journal.batches ++ member.old.batch)) job specs member.old.batch
-        member.new.batch complex.old.journal.batches
-        (end_of complex.new.placed complex.new.current complex.new.journal.batches) complex.old.pair.first.alive
-        complex.new.pair.first.alive complex.old.pair.second.alive complex.new.pair.second.alive
-        (P.view complex.old.plant) (P.view complex.new.plant) result }
-    ensures named { IfOk result IsNamedEnd }
-    ensures work { OnOk result (IsAtWork P.tells (P.view complex.new.plant) complex.new.since complex.new.base
-        complex.new.journal.batches complex.new.current complex.new.placed complex.new.level complex.new.reserved
-        complex.new.printed member.new.id member.new.batch member.new.checkpoint member.new.room member.new.behind) }
-    ensures of { OnOk result (AreOf member.new.id step member.new.batch) }
-    ensures untold { OnOk result (P.tells
-        → IsStepUntold (setting C.reads complex.new.base complex.new.since) member.new.id step
-        (P.view complex.new.plant)) }
-    ensures copy1 { OnOk result (HasCopy P.tells complex.new.pair.first.alive complex.new.first
-        (C.count complex.new.pair.first.copy) (C.room complex.new.pair.first.copy) member.new.checkpoint.pages
-        (C.reads (disk_now (P.view complex.new.plant) Ckpt1).bytes)) }
-    ensures copy2 { OnOk result (HasCopy P.tells complex.new.pair.second.alive complex.new.second
-        (C.count complex.new.pair.second.copy) (C.room complex.new.pair.second.copy) member.new.checkpoint.pages
-        (C.reads (disk_now (P.view complex.new.plant) Ckpt2).bytes)) }
-    ensures order { OnOk result (member.new.checkpoint.tables.order ≤ too_high + 96) }
-    ensures high { OnOk result (member.new.checkpoint.level < too_high) }
-    ensures reached { OnOk result (complex.new.level ≤ complex.old.level + 1) }
-{
-    let lost = spool_taken(member, alloc, complex, specs.as_slice(), needed)?;
-    match lost {
-        Some(volume) => drop_given(member, alloc, complex, step, volume),
-        None => end_given(member, alloc, complex, step, job, specs),
-    }
-}
-
-/// Ends a job with these outputs, after acts on the spool volumes: the member takes the groups that they need, which
-/// is kept; the outputs are written into them, without the lock; and Ended is given. A cancelled job needs no groups,
-/// and gives no outputs. After a refused Take or Ended, or where a volume of one of the groups is lost, the member's
-/// groups become free.
-pub(crate) fn end_job<P: Plant + Drop, C: Steady + Drop>(
-    member: &mut Member,
-    alloc: Global,
-    complex: &mut Complex<P, C>,
-    step: u32,
-    job: JobNo,
-    specs: List<OutSpec>,
-) -> Result<UnitEnd, NodeNo>
-    requires may { MayAct complex.old.book member.old.id }
-    requires some { 1 ≤ member.old.id.0 }
-    requires by { member.old.id.0 ≤ members_most }
-    requires seated { IsMember complex.old.book member.old.id }
-    requires whole { left_of complex.old.book member.old.id ≡ complex.old.book.hold }
-    requires member { is_member complex.old.base.config member.old.id ≡ true }
-    requires outputs { AreOutputs specs }
-    requires nothing { member.old.batch ≡ [] }
-    requires under_way { P.tells → IsUnderWay (run complex.old.base (kept_all complex.old.journal.batches)) job }
-    requires work { IsAtWork P.tells (P.view complex.old.plant) complex.old.since complex.old.base
-        complex.old.journal.batches complex.old.current complex.old.placed complex.old.level complex.old.reserved
-        complex.old.printed member.old.id member.old.batch member.old.checkpoint member.old.room member.old.behind }
-    requires of { AreOf member.old.id step member.old.batch }
-    requires untold { P.tells → IsStepUntold (setting C.reads complex.old.base complex.old.since) member.old.id step
-        (P.view complex.old.plant) }
-    requires copy1 { HasCopy P.tells complex.old.pair.first.alive complex.old.first
-        (C.count complex.old.pair.first.copy) (C.room complex.old.pair.first.copy) member.old.checkpoint.pages
-        (C.reads (disk_now (P.view complex.old.plant) Ckpt1).bytes) }
-    requires copy2 { HasCopy P.tells complex.old.pair.second.alive complex.old.second
-        (C.count complex.old.pair.second.copy) (C.room complex.old.pair.second.copy) member.old.checkpoint.pages
-        (C.reads (disk_now (P.view complex.old.plant) Ckpt2).bytes) }
-    requires order { member.old.checkpoint.tables.order < too_high }
-    requires high { member.old.checkpoint.level < too_high }
-    requires level { complex.old.level + 1 < too_high }
-    ensures base { complex.new.base ≡ complex.old.base }
-    ensures since { complex.new.since ≡ complex.old.since }
-    ensures id { member.new.id ≡ member.old.id }
-    ensures book { LeavesBook result member.old.id complex.old.book complex.new.book }
-    ensures step { IsEndStep P.tells member.old.id step complex.old.base.config.groups
-        (run complex.old.base (kept_all complex.old.journal.batches)) job specs member.new.batch
-        complex.old.journal.batches (end_of complex.new.placed complex.new.current complex.new.journal.batches)
-        complex.old.pair.first.alive complex.new.pair.first.alive complex.old.pair.second.alive
-        complex.new.pair.second.alive (P.view complex.old.plant) (P.view complex.new.plant) result }
-    ensures named { IfOk result IsNamedEnd }
-    ensures work { OnOk result (IsAtWork P.tells (P.view complex.new.plant) complex.new.since complex.new.base
-        complex.new.journal.batches complex.new.current complex.new.placed complex.new.level complex.new.reserved
-        complex.new.printed member.new.id member.new.batch member.new.checkpoint member.new.room member.new.behind) }
-    ensures of { OnOk result (AreOf member.new.id step member.new.batch) }
-    ensures untold { OnOk result (P.tells
-        → IsStepUntold (setting C.reads complex.new.base complex.new.since) member.new.id step
-        (P.view complex.new.plant)) }
-    ensures copy1 { OnOk result (HasCopy P.tells complex.new.pair.first.alive complex.new.first
-        (C.count complex.new.pair.first.copy) (C.room complex.new.pair.first.copy) member.new.checkpoint.pages
-        (C.reads (disk_now (P.view complex.new.plant) Ckpt1).bytes)) }
-    ensures copy2 { OnOk result (HasCopy P.tells complex.new.pair.second.alive complex.new.second
-        (C.count complex.new.pair.second.copy) (C.room complex.new.pair.second.copy) member.new.checkpoint.pages
-        (C.reads (disk_now (P.view complex.new.plant) Ckpt2).bytes)) }
-    ensures order { OnOk result (member.new.checkpoint.tables.order ≤ too_high + 96) }
-    ensures high { OnOk result (member.new.checkpoint.level < too_high) }
-    ensures reached { OnOk result (complex.new.level ≤ complex.old.level + 1) }
-{
-    law_of_groups();
-    law_of_read_texts();
-    let needed = groups_for_end(&member.checkpoint.tables, job, specs.as_slice());
-    if needed == 0 {
-        return end_given(member, alloc, complex, step, job, specs);
-    }
-    let end = take_given(member, alloc, complex, step, needed)?;
-    if let UnitEnd::Done = &end {
-        return spool_and_end(member, alloc, complex, step, job, specs, needed);
-    }
     Ok(end)
 }

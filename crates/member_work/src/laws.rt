@@ -2,16 +2,9 @@
 ghost use Rattle.std.specs.Prelude.{◌++◌};
 ghost use Rattle.mas_complex.specs.Journals.{in_flight};
 ghost use Rattle.mas_complex.specs.Replies.{AreReplied};
-ghost use Rattle.member_work.specs.Laws.{CalmWorkIsOfTheQueue};
 
 use mas_complex::{Complex, Steady};
 use spool_disk::Plant;
-
-/// Where content is told and no spool volume failed, the batches of a step and the line with which it closes are
-/// functions of the queue.
-pub fn law_of_calm_work<P: Plant>(_plant: &P)
-    ensures { CalmWorkIsOfTheQueue P.tells }
-{}
 
 /// Where content is told each entry of the shared value has the reply that the table of commands gives at its place.
 pub fn kept_replies<P: Plant + Drop, C: Steady + Drop>(complex: &Complex<P, C>)

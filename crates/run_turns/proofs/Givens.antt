@@ -16,7 +16,7 @@ as_right : (S : Scene) (by : MemberId) (at : ℕ) (a : Admission) (g : Given) �
     → played_with S by at a g ≡ played_as S by at g.sight a
 as_right S by at a g right = ap (λ ps. played_with S by at a (record { sight = g.sight; pieces = ps })) right
 
-ask_right : (S : Scene) (by : MemberId) (at : ℕ) (g : Given) (what : Ask) → IsAskRight S by at g what
+pub ask_right : (S : Scene) (by : MemberId) (at : ℕ) (g : Given) (what : Ask) → IsAskRight S by at g what
     → ask_with S by at g what ≡ played_ask S by at g.sight what
 ask_right S by at g ask.Stop right = refl
 ask_right S by at g (ask.StopIn what n) right = refl

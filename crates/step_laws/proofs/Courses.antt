@@ -1,5 +1,5 @@
 -- What a course gives, sitting by sitting.
-use Rattle.std.proofs.Common.{◌≡◌, ◌≢◌, ℕ, suc, ◌+◌, nat_le, Bool, true, false, if◌then◌else◌, List, [], ◌∷◌, ◌++◌, length, append_assoc, append-nil, refl, sym, ap, ◌∙◌}
+use Rattle.std.proofs.Common.{◌≡◌, ◌≢◌, ℕ, suc, ◌+◌, nat_le, Bool, true, false, if◌then◌else◌, List, [], ◌∷◌, ◌++◌, length, append-nil, refl, ap, ◌∙◌}
 use Rattle.mas_types.specs.declared.answers.Closing.{Closing}
 use Rattle.mas_types.specs.declared.commands.Reply.{Reply}
 use Rattle.mas_types.specs.declared.commands.Reply.TheVariants as reply
@@ -33,9 +33,6 @@ use Rattle.step_turns.proofs.Given.{run_append}
 abbrev pub written_first : List Entry → Course → Course
 written_first es c = record { batches = batch_of es ++ c.batches; lines = c.lines }
 
-abbrev pub no_course : Course
-no_course = record { batches = []; lines = [] }
-
 -- BATCHES OF WHAT IS WRITTEN
 
 -- batches of which the first part is perhaps empty
@@ -43,21 +40,10 @@ pub batches_first : (es : List Entry) (ess : List (List Entry)) → batches_in (
 batches_first [] ess = refl
 batches_first (e ∷ es) ess = refl
 
-pub batches_then : (ess fss : List (List Entry)) → batches_in (ess ++ fss) ≡ batches_in ess ++ batches_in fss
-batches_then [] fss = refl
-batches_then (es ∷ ess) fss = batches_first es (ess ++ fss) ∙ ap (λ (bs : List (List Entry)). batch_of es ++ bs) (batches_then ess fss) ∙ sym (append_assoc (batch_of es) (batches_in ess) (batches_in fss)) ∙ ap (λ (bs : List (List Entry)). bs ++ batches_in fss) (sym (batches_first es ess))
-
 -- a full batch has entries
 pub full_batch : (es : List Entry) → is_full es ≡ true → es ∷ [] ≡ batch_of es
 full_batch [] full = absurd (cc)
 full_batch (e ∷ es) full = refl
-
--- a last part, full or not
-pub cut_one : (es : List Entry) → cut [] (es ∷ []) ≡ batch_of es
-cut_one es =
-    test_cases (is_full es) (cut [] (es ∷ []) ≡ batch_of es)
-    (λ e. rw e (full_batch es e))
-    (λ e. rw e refl)
 
 pub cut_last : (so_far es : List Entry) → cut so_far (es ∷ []) ≡ batch_of (so_far ++ es)
 cut_last so_far es =

@@ -1,4 +1,3 @@
-mod Alike
 mod Courses
 mod Work
 mod Looks

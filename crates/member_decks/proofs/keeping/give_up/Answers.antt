@@ -1,6 +1,7 @@
-use Rattle.std.proofs.Common.{inl, refl, arith}
+use Rattle.std.proofs.Common.{inl, [], refl, arith}
 use Rattle.mas_complex.specs.Journals.{begun, end_of}
 use Rattle.member_node.proofs.WriteLemmas.{none_out}
+use Rattle.member_steps.proofs.CountLemmas.{counted_error, counted_up}
 use Rattle.member_decks.proofs.KeepLemmas.{copies_none, up_copies, up_kept, up_unkept}
 use Rattle.member_decks.proofs.keeping.give_up.Goals as goal
 
@@ -35,3 +36,14 @@ returns-in-Err-clause-leaves g c =
     let x = c.args.complex.now in
     let z = c.keep_batch.new.complex in
     up_unkept x.journal.batches (end_of z.placed z.current z.journal.batches) (begun (P.view x.plant).now c.args.member.now.id c.args.member.now.batch) (P.view z.plant).now (omega arith) c.in-Err.no c.in-Err.ensures.leaves
+
+-- THE COUNTS OF PRINTED LINES
+
+pub returns-then-len-eq0-clause-counts : goal.returns-then-len-eq0-clause-counts
+returns-then-len-eq0-clause-counts g c = let printed = c.args.complex.now.printed in counted_error c.args.member.now.id [] printed printed _ refl
+
+pub returns-in-Ok-clause-counts : goal.returns-in-Ok-clause-counts
+returns-in-Ok-clause-counts g c = let m = c.args.member.now in counted_up m.id m.batch [] c.args.complex.now.printed c.keep_batch.new.complex.printed _ _ c.in-Ok.ensures.counts
+
+pub returns-in-Err-clause-counts : goal.returns-in-Err-clause-counts
+returns-in-Err-clause-counts g c = let m = c.args.member.now in counted_up m.id m.batch [] c.args.complex.now.printed c.keep_batch.new.complex.printed _ _ c.in-Err.ensures.counts

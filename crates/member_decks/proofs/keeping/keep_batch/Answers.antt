@@ -10,7 +10,9 @@ use Rattle.mas_complex.specs.Journals.{begun, end_of, entries_reserved, fated, k
 use Rattle.mas_complex.specs.Meaning.{run}
 use Rattle.member_node.specs.Batches.{level_with}
 use Rattle.member_node.proofs.WriteLemmas.{none_out, queue_kept}
+use Rattle.mas_complex.specs.Paper.{printed_after}
 use Rattle.member_steps.specs.Steps.{AreAllKept}
+use Rattle.member_steps.proofs.CountLemmas.{counted_batch, counted_error}
 use Rattle.member_steps.proofs.StepLemmas.{journal_kept, kept_push, level_most}
 use Rattle.member_decks.proofs.KeepLemmas.{copies_kept, copies_none, copies_unwritten, keep_unwritten}
 use Rattle.member_decks.proofs.keeping.keep_batch.Goals as goal
@@ -135,8 +137,8 @@ returns-clause-kept g c =
     let journal : z.journal.batches ≡ x.journal.batches ++ fated Kept (P.view z.plant).now b ∷ [] =
     journal_kept x.journal.batches y.journal.batches z.journal.batches grown.0 (fated Kept (P.view z.plant).now b) grown.1 c.in_ok-write.ensures.kept in
     let later : (P.view y.plant).now ≤ (P.view z.plant).now = (c.in_ok-write.ensures.write x.journal.batches grown.0 grown.1).course.goes.later in
-    subst (λ (bs : List Batch). AreAllKept bs (P.view z.plant).now) (sym journal)
-    (kept_push x.journal.batches (P.view x.plant).now (P.view z.plant).now b (omega (arith, later, ap (λ p. (P.view p).now) e.plant)) c.requires.kept)
+    λ all. subst (λ (bs : List Batch). AreAllKept bs (P.view z.plant).now) (sym journal)
+    (kept_push x.journal.batches (P.view x.plant).now (P.view z.plant).now b (omega (arith, later, ap (λ p. (P.view p).now) e.plant)) later all)
 
 pub returns-clause-level : goal.returns-clause-level
 returns-clause-level g c =
@@ -147,3 +149,29 @@ pub returns-clause-reached : goal.returns-clause-reached
 returns-clause-reached g c =
     let old : ℕ = c.args.complex.now.level in
     subst (λ (n : ℕ). n ≤ old + 1) (sym (c.in_ok-write.ensures.level ∙ ap (level_with c.in-Ok.draft) c.ready.ensures.same_level)) (level_most c.in-Ok.draft old)
+
+-- THE COUNTS OF PRINTED LINES
+
+pub returns-in_default-clause-counts : goal.returns-in_default-clause-counts
+returns-in_default-clause-counts g c =
+    let x = c.args.complex.now in
+    let m = c.args.member.now in
+    counted_error m.id m.batch x.printed c.ready.new.complex.printed _ c.ready.ensures.printed
+
+pub returns-in_err-write-clause-counts : goal.returns-in_err-write-clause-counts
+returns-in_err-write-clause-counts g c =
+    let x = c.args.complex.now in
+    let m = c.args.member.now in
+    let z = c.write.new.complex in
+    let e = c.ready.ensures in
+    let k : z.printed ≡ printed_after m.id m.batch x.printed = rw (e.id, e.printed, c.in-Ok.ensures.reserved) at c.write.ensures.printed in
+    counted_batch m.id m.batch x.printed z.printed _ c.requires.own k
+
+pub returns-clause-counts : goal.returns-clause-counts
+returns-clause-counts g c =
+    let x = c.args.complex.now in
+    let m = c.args.member.now in
+    let z = c.write.new.complex in
+    let e = c.ready.ensures in
+    let k : z.printed ≡ printed_after m.id m.batch x.printed = rw (e.id, e.printed, c.in-Ok.ensures.reserved) at c.write.ensures.printed in
+    counted_batch m.id m.batch x.printed z.printed _ c.requires.own k

@@ -1,8 +1,6 @@
 use Rattle.std.proofs.Common.{List, sym, subst}
 use Rattle.mas_types.specs.declared.jobs.OutSpec.{OutSpec}
-use Rattle.mas_complex.specs.Parts.{parts_of}
 use Rattle.member_units.specs.Asides.{MayWriteOutputs, WritesOutputs}
-use Rattle.member_hand.proofs.Printing.{only_plant}
 use Rattle.member_hand.proofs.asides.act_aside.Goals as goal
 
 -- A DECK'S TEXT
@@ -11,8 +9,7 @@ pub spool_deck-requires : goal.spool_deck-requires
 spool_deck-requires g c = rw c.in-SpoolDeck.is at c.requires.may
 
 pub returns-in-SpoolDeck-clause-frame : goal.returns-in-SpoolDeck-clause-frame
-returns-in-SpoolDeck-clause-frame g c =
-    only_plant (parts_of c.args.complex.now) (parts_of c.spool_deck.new.complex) c.spool_deck.ensures.frame c.spool_deck.result c.args.member.now.id
+returns-in-SpoolDeck-clause-frame g c = rw c.in-SpoolDeck.is c.spool_deck.ensures.frame
 
 pub returns-in-SpoolDeck-clause-acts : goal.returns-in-SpoolDeck-clause-acts
 returns-in-SpoolDeck-clause-acts g c = rw c.in-SpoolDeck.is c.spool_deck.ensures.spools
@@ -23,8 +20,7 @@ pub read_job_text-requires : goal.read_job_text-requires
 read_job_text-requires g c = rw c.in-ReadText.is at c.requires.may
 
 pub returns-in-ReadText-clause-frame : goal.returns-in-ReadText-clause-frame
-returns-in-ReadText-clause-frame g c =
-    only_plant (parts_of c.args.complex.now) (parts_of c.read_job_text.new.complex) c.read_job_text.ensures.frame c.read_job_text.result c.args.member.now.id
+returns-in-ReadText-clause-frame g c = rw c.in-ReadText.is c.read_job_text.ensures.frame
 
 pub returns-in-ReadText-clause-acts : goal.returns-in-ReadText-clause-acts
 returns-in-ReadText-clause-acts g c = rw c.in-ReadText.is c.read_job_text.ensures.reads
@@ -37,8 +33,7 @@ write_outputs-requires g c =
     subst (λ (specs : List OutSpec). MayWriteOutputs c.args.complex.now c.args.member.now specs) (sym c.as_slice.ensures) may
 
 pub returns-in-SpoolOutputs-clause-frame : goal.returns-in-SpoolOutputs-clause-frame
-returns-in-SpoolOutputs-clause-frame g c =
-    only_plant (parts_of c.args.complex.now) (parts_of c.write_outputs.new.complex) c.write_outputs.ensures.frame c.write_outputs.result c.args.member.now.id
+returns-in-SpoolOutputs-clause-frame g c = rw c.in-SpoolOutputs.is c.write_outputs.ensures.frame
 
 pub returns-in-SpoolOutputs-clause-acts : goal.returns-in-SpoolOutputs-clause-acts
 returns-in-SpoolOutputs-clause-acts g c =
@@ -49,6 +44,9 @@ returns-in-SpoolOutputs-clause-acts g c =
 
 pub print_next_lines-requires : goal.print_next_lines-requires
 print_next_lines-requires g c = rw c.in-PrintLines.is at c.requires.may
+
+pub returns-in-PrintLines-clause-frame : goal.returns-in-PrintLines-clause-frame
+returns-in-PrintLines-clause-frame g c = rw c.in-PrintLines.is c.print_next_lines.ensures.frame
 
 pub returns-in-PrintLines-clause-acts : goal.returns-in-PrintLines-clause-acts
 returns-in-PrintLines-clause-acts g c = rw c.in-PrintLines.is c.print_next_lines.ensures.prints

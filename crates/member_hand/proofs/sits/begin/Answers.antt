@@ -34,7 +34,7 @@ returns-in-Deck-clause-again g c =
     let x = parts_of c.args.complex.now in
     let y = parts_of c.sit_deck.new.complex in
     rw c.in-Deck.is (both c.sit_deck.result _ _ _
-    (λ e on waits. deck_leaves g.P.Plant g.C.Copying x y c.args.member.now c.sit_deck.new.member (begins c.args.holder (Deck c.in-Deck.fields c.in-Deck.text)) e refl refl refl on waits)
+    (λ e on waits. deck_leaves g.P.Plant g.C.Copying x y c.args.member.now c.sit_deck.new.member (begins c.args.holder (Deck c.in-Deck.fields c.in-Deck.text)) e tt refl refl refl on waits)
     c.sit_deck.ensures.again c.sit_deck.ensures.waits)
 
 -- WORK
@@ -53,4 +53,4 @@ returns-in-Work-clause-again g c =
     let x = parts_of c.args.complex.now in
     let y = parts_of c.sit_work.new.complex in
     let e = c.sit_work.ensures in
-    rw c.in-Work.is (work_all g.P.Plant g.C.Copying x y c.args.member.now c.sit_work.new.member (begins c.args.holder (Work c.in-Work.units)) c.sit_work.result e.again e.waits e.fewer e.reached)
+    rw c.in-Work.is (work_all g.P.Plant g.C.Copying x y c.args.member.now c.sit_work.new.member (begins c.args.holder (Work c.in-Work.units)) c.sit_work.result tt e.again e.waits e.fewer e.reached)

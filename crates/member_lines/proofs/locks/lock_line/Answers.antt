@@ -38,7 +38,7 @@ returns-in-Ok-clause-locks g c S tested =
     let lock = c.requires.may.holds in
     let holds : is_holder x.book m.id ≡ true = holds_it m.id lock.some x.book lock.may.holds in
     let same : mid.book ≡ x.book = ap (λ p. p.book) c.take_seat.ensures.frame in
-    seated g.P.Plant g.C.Copying S m c.args.step (parts_of x) tested holds n (parts_of mid) (parts_of y) c.in-Ok.ensures.acts c.in-Ok.ensures.seat same c.say_refused.result
+    seated g.P.Plant g.C.Copying S m c.args.step (parts_of x) tested holds n (parts_of mid) (parts_of y) c.take_seat.ensures.frame c.in-Ok.ensures.acts c.in-Ok.ensures.seat same c.say_refused.result
     c.say_refused.ensures.frame (c.say_refused.ensures.closed (record S { book = mid.book }) (refused_tested S m.id m.id says_ok mid.book))
 
 pub returns-in-Err-Halted-clause-locks : goal.returns-in-Err-Halted-clause-locks

@@ -15,7 +15,9 @@ use Rattle.mas_complex.specs.Parts.{parts_of}
 use Rattle.mas_complex.specs.Texts.{lost_now, spools_at}
 use Rattle.member_node.specs.Batches.{last_reply}
 use Rattle.member_node.proofs.WriteLemmas.{none_out}
-use Rattle.member_steps.specs.Steps.{entry_of, entry_with, reply_to}
+use Rattle.member_steps.specs.Saying.{TellKept}
+use Rattle.member_steps.specs.Steps.{AreKeptFrom, entry_of, entry_with, reply_to}
+use Rattle.member_steps.proofs.FateLemmas.{closing_tells}
 use Rattle.member_steps.proofs.StepLemmas.{if_ok, may_alike, only_entry, some_of_one, step_texts}
 use Rattle.member_decks.proofs.FinishLemmas.{one_of}
 use Rattle.member_sittings.specs.Ends.{ends_in}
@@ -45,6 +47,7 @@ returns-in_default-clause-resets g c =
     record {
       sitting = ends_in h ((e ∷ []) ∷ []) Told lines;
       is = λ t. sym (reset_sits Q h c.args.of);
+      shaped = (reply_to Q h.by d, refl);
       own = all_of_one h.by h.step (e ∷ []) (one_of (e ∷ []) e h.by h.step refl refl refl);
       sat = sat_none P h.by h Told lines (parts_of x) (e ∷ []) (none_out x.journal.batches x.journal.batches x.placed x.current refl b.unplaced b.none);
     }
@@ -62,6 +65,7 @@ returns-in_default-one_line-clause-resets g c =
     record {
       sitting = ends_in h ((e ∷ []) ∷ []) Told lines;
       is = λ t. sym (reset_sits Q h c.args.of);
+      shaped = (reply_to Q h.by d, refl);
       own = all_of_one h.by h.step (e ∷ []) (one_of (e ∷ []) e h.by h.step refl refl refl);
       sat = sat_none P h.by h Told lines (parts_of x) (e ∷ []) (none_out x.journal.batches x.journal.batches x.placed x.current refl b.unplaced b.none);
     }
@@ -88,8 +92,8 @@ one_line-requires-clause-named g c =
     let said : c.last_reply.result.now ≡ p.0 = c.last_reply.ensures ∙ ap last_reply one in
     subst (λ (z : Closing). AreMembersNamed z) (sym (c.reset_closing-end.ensures ∙ ap (reset_closing c.args.of) said)) (closes_named c.args.of p.0 c.requires.of p.2)
 
-pub close_sitting-requires : goal.close_sitting-requires
-close_sitting-requires g c =
+pub close_sitting-requires-clause-may : goal.close_sitting-requires-clause-may
+close_sitting-requires-clause-may g c =
     let P = g.P.Plant in
     let C = g.C.Copying in
     let x = c.args.complex.now in
@@ -130,6 +134,15 @@ close_sitting-requires g c =
       holder = c.requires.may.holder ∙ sym e.id;
     }
 
+pub close_sitting-requires-clause-kept : goal.close_sitting-requires-clause-kept
+close_sitting-requires-clause-kept g c told =
+    let x = c.args.complex.now in
+    let h = c.args.holder in
+    let now = (g.P.Plant.view x.plant).now in
+    let small : c.args.holder.step < 2 ^ 64 = omega arith in
+    let kept : AreKeptFrom h.by h.step x.journal.batches now = subst (λ (i : MemberId). AreKeptFrom i h.step x.journal.batches now) (sym c.requires.may.holder) c.requires.may.sits.step in
+    subst (λ (ls : List (List ℕ)). TellKept ls x.journal.batches now) (sym c.in-Ok-one_line.ensures) (closing_tells h.by h.step small x.journal.batches now kept c.reset_closing-end.result)
+
 pub returns-clause-resets : goal.returns-clause-resets
 returns-clause-resets g c =
     let x = c.args.complex.now in
@@ -145,6 +158,10 @@ returns-clause-resets g c =
     let p = k.pushed in
     let e : Entry = entry_with m.id at d p.0 in
     let lines : List (List ℕ) = c.in-Ok-one_line.lines in
+    let one : n.batch ≡ e ∷ [] = only_entry m.batch n.batch e p.1 b.nothing in
+    let answered : c.last_reply.result.now ≡ p.0 = c.last_reply.ensures ∙ ap last_reply one in
+    let its_line : lines ≡ closing_line h.by at (reset_closing of p.0) ∷ [] =
+    c.in-Ok-one_line.ensures ∙ ap (λ (z : Closing). closing_line h.by at z ∷ []) (c.reset_closing-end.ensures ∙ ap (reset_closing of) answered) in
     record {
       sitting = ends_in h (n.batch ∷ []) Told lines;
       is = λ t.
@@ -156,6 +173,12 @@ returns-clause-resets g c =
           ∙ ap (λ (ls : List (List ℕ)). piece_of (ends_in h ((entry_of Q m.id at d ∷ []) ∷ []) Told ls) false [] ∷ []) its_lines
           ∙ ap (λ (i : MemberId). piece_of (ends_in h ((entry_of Q i at d ∷ []) ∷ []) Told (closing_line h.by at (reset_closing of (reply_to Q i d)) ∷ [])) false [] ∷ []) (sym c.requires.may.holder)
           ∙ sym (reset_sits Q h of);
+      shaped = (
+        p.0,
+        ap (λ (es : List Entry). ends_in h (es ∷ []) Told lines) (only_entry m.batch n.batch e p.1 b.nothing)
+            ∙ ap (λ (i : MemberId). ends_in h ((entry_with i at d p.0 ∷ []) ∷ []) Told lines) (sym c.requires.may.holder)
+            ∙ ap (λ (ls : List (List ℕ)). ends_in h ((entry_with h.by at d p.0 ∷ []) ∷ []) Told ls) its_line,
+      );
       own = all_of_one h.by at n.batch (one_of n.batch e h.by at (only_entry m.batch n.batch e p.1 b.nothing) (sym c.requires.may.holder) refl);
       sat = c.close_sitting.ensures.sat;
     }

@@ -1,4 +1,4 @@
-use Rattle.std.proofs.Common.{◌≡◌, ◌∙◌, ◌<◌, ℕ, true, false, length, sym, rules, arith}
+use Rattle.std.proofs.Common.{◌≡◌, ◌∙◌, ◌<◌, true, false, length, sym, rules, arith}
 use Rattle.member_node.proofs.SpellLemmas.{spelled_more, unspelled}
 use Rattle.member_node.proofs.checkpoint.is_spelling.Goals as goal
 

@@ -10,4 +10,4 @@ pub give_up-requires-clause-untold : goal.give_up-requires-clause-untold
 give_up-requires-clause-untold g c told = c.requires.gives.untold told c.args.member.now.batch c.requires.gives.of
 
 pub returns-clause-cut : goal.returns-clause-cut
-returns-clause-cut g c = rw c.requires.holder (record { acts = c.give_up.ensures.acts; leaves = c.give_up.ensures.leaves })
+returns-clause-cut g c = rw c.requires.holder (record { acts = c.give_up.ensures.acts; counts = c.give_up.ensures.counts; leaves = c.give_up.ensures.leaves })

@@ -23,7 +23,7 @@ returns-in_err-keep_batch-clause-sat g c =
     let m = c.args.member.now in
     let k = c.in_err-keep_batch.ensures in
     let p = err_from_is_err_and c.from_residual.result c.from_residual.ensures.1 in
-    rw (p.1, p.2) (sat_unkept P m.id c.args.holder c.requires.holder (Away c.args.aside) [] (parts_of x) (parts_of z) m.batch _ c.requires.some k.acts k.leaves)
+    rw (p.1, p.2) (sat_unkept P m.id c.args.holder c.requires.holder (Away c.args.aside) [] (parts_of x) (parts_of z) m.batch _ c.requires.some k.acts k.leaves k.counts)
 
 pub returns-clause-sat : goal.returns-clause-sat
 returns-clause-sat g c =
@@ -34,7 +34,7 @@ returns-clause-sat g c =
     let h = c.args.holder in
     let k = c.in_ok-keep_batch.ensures in
     sat_kept P m.id h c.requires.holder (Away c.args.aside) [] (parts_of x) (parts_of z) m.batch _ c.requires.some refl
-    (ends_of h m.batch (Away c.args.aside) [] c.len-given.result c.release_of-release.result c.len-given.ensures c.release_of-release.ensures) k.acts k.leaves
+    (ends_of h m.batch (Away c.args.aside) [] c.len-given.result c.release_of-release.result c.len-given.ensures c.release_of-release.ensures) k.acts k.leaves k.counts
 
 pub returns-clause-again : goal.returns-clause-again
 returns-clause-again g c =
@@ -58,7 +58,6 @@ returns-clause-again g c =
       between = k.between;
       first = k.rests1;
       second = k.rests2;
-      kept = k.kept;
       goes = k.acts.course.goes;
       leaves = k.leaves;
     } in

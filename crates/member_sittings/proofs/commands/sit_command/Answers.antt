@@ -11,6 +11,8 @@ use Rattle.mas_complex.specs.Parts.{parts_of}
 use Rattle.mas_complex.specs.Texts.{lost_now, spools_at}
 use Rattle.member_node.proofs.WriteLemmas.{none_out}
 use Rattle.member_steps.specs.Steps.{entry_of, entry_with, reply_to}
+use Rattle.member_steps.specs.Saying.{TellKept}
+use Rattle.member_steps.proofs.FateLemmas.{reply_tells}
 use Rattle.member_steps.proofs.StepLemmas.{if_ok, may_alike, some_of_one, step_texts}
 use Rattle.member_decks.proofs.FinishLemmas.{one_of}
 use Rattle.step_turns.specs.declared.states.State.TheVariants.{Told}
@@ -31,16 +33,18 @@ returns-in_default-clause-sat g c =
     let b = c.requires.may.sits.seat.between in
     let Q : Queue = run x.base (kept_all x.journal.batches) in
     let e : Entry = entry_of Q h.by h.step c.args.command in
+    let none = sat_none P h.by h Told (reply_lines h.by h.step (reply_to Q h.by c.args.command)) (parts_of x) (e ∷ []) (none_out x.journal.batches x.journal.batches x.placed x.current refl b.unplaced b.none) in
     record {
       sitting = ends_in h ((e ∷ []) ∷ []) Told (reply_lines h.by h.step (reply_to Q h.by c.args.command));
       is = λ t. sym (command_sits Q h c.args.command nothing_found);
       of = all_of_one h.by h.step (e ∷ []) (one_of (e ∷ []) e h.by h.step refl refl refl);
-      sat = sat_none P h.by h Told (reply_lines h.by h.step (reply_to Q h.by c.args.command)) (parts_of x) (e ∷ [])
-          (none_out x.journal.batches x.journal.batches x.placed x.current refl b.unplaced b.none);
+      shaped = record { few = omega arith; release = refl; says = (reply_to Q h.by c.args.command, refl) };
+      sat = none.sat;
+      tight = none.tight;
     }
 
-pub close_sitting-requires : goal.close_sitting-requires
-close_sitting-requires g c =
+pub close_sitting-requires-clause-may : goal.close_sitting-requires-clause-may
+close_sitting-requires-clause-may g c =
     let P = g.P.Plant in
     let C = g.C.Copying in
     let x = c.args.complex.now in
@@ -98,7 +102,18 @@ returns-clause-sat g c =
           ∙ ap (λ (i : MemberId). ends_in h ((entry_of Q i at d ∷ []) ∷ []) Told (reply_lines i at (reply_to Q i d))) (sym c.requires.may.holder)
           ∙ sym (command_sits Q h d nothing_found);
       of = all_of_one h.by at n.batch (one_of n.batch e h.by at k.given.2 (sym c.requires.may.holder) refl);
-      sat = c.close_sitting.ensures.sat;
+      shaped = record {
+        few = omega arith;
+        release = refl;
+        says = (
+          k.given.0,
+          ap (λ (es : List Entry). ends_in h (es ∷ []) Told lines) k.given.2
+              ∙ ap (λ (ls : List (List ℕ)). ends_in h ((e ∷ []) ∷ []) Told ls) k.given.1
+              ∙ ap (λ (i : MemberId). ends_in h ((entry_with i at d k.given.0 ∷ []) ∷ []) Told (reply_lines i at k.given.0)) (sym c.requires.may.holder),
+        );
+      };
+      sat = c.close_sitting.ensures.sat.sat;
+      tight = c.close_sitting.ensures.sat.tight;
     }
 
 pub returns-clause-again : goal.returns-clause-again
@@ -113,4 +128,13 @@ returns-clause-again g c =
     (λ e on. record { sits = on.sits; grown = record { order = omega (arith, d.order, tables); high = rw d.level at on.grown.high; reached = on.grown.reached } }) c.close_sitting.ensures.again
 
 pub returns-clause-told : goal.returns-clause-told
-returns-clause-told g c = if_ok _ (λ e. e.next ≡ Told) c.close_sitting.result (λ e ends. ends.next) c.close_sitting.ensures.sat.ends
+returns-clause-told g c = if_ok _ (λ e. e.next ≡ Told) c.close_sitting.result (λ e ends. ends.next) c.close_sitting.ensures.sat.sat.ends
+
+pub close_sitting-requires-clause-kept : goal.close_sitting-requires-clause-kept
+close_sitting-requires-clause-kept g c told =
+    let x = c.args.complex.now in
+    let now = (g.P.Plant.view x.plant).now in
+    let small : c.args.holder.step < 2 ^ 64 = omega arith in
+    let given = c.in-Ok.ensures.given in
+    subst (λ (ls : List (List ℕ)). TellKept ls x.journal.batches now) (sym given.1)
+    (reply_tells c.args.member.now.id c.args.holder.step small x.journal.batches now c.requires.may.sits.step given.0)

@@ -1,12 +1,14 @@
-use Rattle.std.proofs.Common.{◌∙◌, ℕ, List, [], ◌∷◌, ap, refl, subst, sym}
+use Rattle.std.proofs.Common.{◌∙◌, ◌<◌, ◌^◌, ℕ, List, [], ◌∷◌, ap, refl, subst, sym, arith}
 use Rattle.mas_types.specs.declared.ids.MemberId.{MemberId}
 use Rattle.mas_complex.specs.Parts.{parts_of}
 use Rattle.member_node.proofs.WriteLemmas.{none_out}
+use Rattle.member_steps.specs.Saying.{TellKept}
 use Rattle.member_decks.specs.Decks.{closing_reply, lines_by}
 use Rattle.step_turns.specs.declared.states.State.TheVariants.{Told}
 use Rattle.member_sittings.specs.Ends.{ends_in}
-use Rattle.member_sittings.specs.Sat.{IsSat}
+use Rattle.member_sittings.specs.Sat.{IsSatAs}
 use Rattle.member_sittings.proofs.KeepLemmas.{sat_none}
+use Rattle.member_sittings.proofs.Telling.{deck_tells}
 use Rattle.member_sittings.proofs.decks.close_deck.Goals as goal
 
 pub returns-in_default-clause-sat : goal.returns-in_default-clause-sat
@@ -25,4 +27,13 @@ returns-clause-sat g c =
     let m = c.args.member.now in
     let h = c.args.holder in
     let lines = c.in-Ok.ensures ∙ ap (λ (i : MemberId). lines_by i h.step c.args.lost (closing_reply m.batch)) (sym c.requires.may.holder) in
-    subst (λ (ls : List (List ℕ)). IsSat g.P.Plant h.by (ends_in h (m.batch ∷ []) Told ls) (parts_of x) (parts_of z) c.close_sitting.result) lines c.close_sitting.ensures.sat
+    subst (λ (ls : List (List ℕ)). IsSatAs g.P.Plant h.by (ends_in h (m.batch ∷ []) Told ls) (parts_of x) (parts_of z) c.close_sitting.result) lines c.close_sitting.ensures.sat
+
+pub close_sitting-requires-clause-kept : goal.close_sitting-requires-clause-kept
+close_sitting-requires-clause-kept g c told =
+    let x = c.args.complex.now in
+    let m = c.args.member.now in
+    let now = (g.P.Plant.view x.plant).now in
+    let small : c.args.holder.step < 2 ^ 64 = omega arith in
+    subst (λ (ls : List (List ℕ)). TellKept ls x.journal.batches now) (sym c.in-Ok.ensures)
+    (deck_tells m.id c.args.holder.step small x.journal.batches now c.requires.may.gives.step c.args.lost (closing_reply m.batch))

@@ -1,4 +1,5 @@
 use Rattle.std.proofs.Common.{◌≡◌, ◌∙◌, ◌+◌, ◌≤◌, ◌<◌, ◌^◌, ℕ, true, List, [], ◌∷◌, ◌++◌, None, Some, refl, sym, ap, subst, arith}
+use Rattle.mas_types.specs.declared.commands.Command.TheVariants.{Begin}
 use Rattle.mas_types.specs.declared.ids.MemberId.{MemberId}
 use Rattle.mas_types.specs.declared.journals.Entry.{Entry}
 use Rattle.mas_types.specs.declared.queues.Config.{Config}
@@ -10,6 +11,7 @@ use Rattle.ckpt_pages.specs.declared.tables.Tables.{Tables}
 use Rattle.mas_complex.specs.Journals.{kept_all}
 use Rattle.mas_complex.specs.Meaning.{run}
 use Rattle.mas_complex.specs.Parts.{parts_of}
+use Rattle.member_steps.specs.Steps.{entry_of}
 use Rattle.member_steps.proofs.StepLemmas.{if_ok}
 use Rattle.member_decks.specs.Decks.{ends_as, given_in, opening}
 use Rattle.member_decks.specs.Steps.{AreOf}
@@ -18,6 +20,7 @@ use Rattle.member_decks.proofs.DeckLemmas.{given_of, opened_enough}
 use Rattle.member_decks.proofs.OpenLemmas.{tells_some}
 use Rattle.member_decks.proofs.PlayLemmas.{closed_of, groups_few, some_given}
 use Rattle.step_turns.specs.Decks.{job_opened}
+use Rattle.step_turns.specs.Entries.{closing_reply}
 use Rattle.step_turns.specs.declared.states.State.TheVariants.{Away}
 use Rattle.step_turns.specs.declared.states.Aside.TheVariants.{SpoolDeck}
 use Rattle.step_turns.specs.States.{nothing_found}
@@ -26,8 +29,8 @@ use Rattle.member_sittings.specs.Ends.{deck_end, ends_in}
 use Rattle.member_sittings.specs.Sat.{IsSatOn}
 use Rattle.member_sittings.specs.Whole.{Commanded}
 use Rattle.member_sittings.proofs.KeepLemmas.{sat_given_up}
-use Rattle.member_sittings.proofs.OpenLemmas.{front_is, gives_opened, of_strip, opened_of, strip}
-use Rattle.member_sittings.proofs.TurnLemmas.{DeckTurn, FirstPart, all_of_one, deck_closes, deck_sits, deck_waits, opened_alike, with_closed, with_ready}
+use Rattle.member_sittings.proofs.OpenLemmas.{front_is, gives_opened, of_strip, one_some, opened_of, or_one, strip}
+use Rattle.member_sittings.proofs.TurnLemmas.{DeckTurn, FirstPart, all_of_one, deck_closes, deck_sits, deck_waits, opened_alike, opens_shaped, with_closed, with_ready}
 use Rattle.member_sittings.proofs.decks.sit_deck.Goals as goal
 
 pub open_deck-requires-clause-member : goal.open_deck-requires-clause-member
@@ -79,15 +82,20 @@ returns-in_default-clause-sat g c =
     let T = DeckTurn Q h fields text nothing_found in
     let of_m : AreOf m.id h.step n.batch = opened_of h.step fields c.groups_needed-groups.result m n _ c.in_default.ensures.opening in
     let of : AreOf h.by h.step n.batch = subst (λ (i : MemberId). AreOf i h.step n.batch) (sym c.requires.may.holder) of_m in
+    let e : Entry = entry_of Q h.by h.step (Begin fields) in
+    let rest : List Entry = or_one e (strip n.batch First) in
+    let gave_up = sat_given_up P h.by h refl T.next T.lines (parts_of x) (parts_of z) n.batch rest _ (one_some e (strip n.batch First)) cut.acts cut.leaves cut.counts in
     record {
-      sitting = ends_in h ((n.batch ++ strip n.batch First) ∷ []) T.next T.lines;
+      sitting = ends_in h ((n.batch ++ rest) ∷ []) T.next T.lines;
       is = λ t.
           let part_m = (c.in_default.ensures.opening Q (c.requires.may.sits.seat.between.queue t)).part in
           let part_n : LeaveOut n.batch (given_in Q m.id h.step (opening Q m.id fields need)) = subst (λ (k : ℕ). LeaveOut n.batch (given_in Q m.id h.step (opening Q m.id fields k))) groups part_m in
           let part : LeaveOut n.batch First = subst (λ (i : MemberId). LeaveOut n.batch (given_in Q i h.step (opening Q i fields need))) (sym c.requires.may.holder) part_n in
-          ap (λ (es : List Entry). ends_in h (es ∷ []) T.next T.lines) (front_is n.batch First part) ∙ sym (deck_sits Q h fields text nothing_found);
-      of = all_of_one h.by h.step (n.batch ++ strip n.batch First) (of_strip h.by h.step n.batch First of (given_of h.by h.step (opening Q h.by fields need) Q));
-      sat = sat_given_up P h.by h refl T.next T.lines (parts_of x) (parts_of z) n.batch (strip n.batch First) _ cut.acts cut.leaves;
+          ap (λ (es : List Entry). ends_in h (es ∷ []) T.next T.lines) (front_is n.batch First e part) ∙ sym (deck_sits Q h fields text nothing_found);
+      of = all_of_one h.by h.step (n.batch ++ rest) (of_strip h.by h.step n.batch First e (refl, refl) of (given_of h.by h.step (opening Q h.by fields need) Q));
+      shaped = opens_shaped h fields text nothing_found (job_opened Q h.by fields need) First (n.batch ++ rest);
+      sat = gave_up.sat;
+      tight = gave_up.tight;
     }
 
 -- BEGIN OR A TAKE WAS REFUSED
@@ -137,13 +145,15 @@ returns-in_default-opened-clause-sat g c =
           let closed : job_opened Q h.by fields need ≡ None = with_closed (job_opened Q h.by fields need) (sym (opened_alike Q h.by fields need) ∙ ends ∙ closed_of c.in-Ok.opened c.in_default-opened.not-Ready) in
           ap (λ (es : List Entry). deck_end h es None) first ∙ sym (deck_closes Q h fields text nothing_found closed);
       of = all_of_one h.by h.step n.batch (subst (λ (i : MemberId). AreOf i h.step n.batch) (sym c.requires.may.holder) of_m);
-      sat = c.close_deck.ensures.sat;
+      shaped = record { few = omega arith; release = refl; says = (refl, (closing_reply n.batch, refl)) };
+      sat = c.close_deck.ensures.sat.sat;
+      tight = c.close_deck.ensures.sat.tight;
     }
 
 pub returns-in_default-opened-clause-waits : goal.returns-in_default-opened-clause-waits
 returns-in_default-opened-clause-waits g c =
     let l = c.close_deck.new.member in
-    if_ok _ (λ e. WaitsRightly l e.next) c.close_deck.result (λ e ends. subst (WaitsRightly l) (sym ends.next) tt) c.close_deck.ensures.sat.ends
+    if_ok _ (λ e. WaitsRightly l e.next) c.close_deck.result (λ e ends. subst (WaitsRightly l) (sym ends.next) tt) c.close_deck.ensures.sat.sat.ends
 
 pub returns-in_default-opened-clause-again : goal.returns-in_default-opened-clause-again
 returns-in_default-opened-clause-again g c =
@@ -206,7 +216,9 @@ returns-clause-sat g c =
           let ready : job_opened Q h.by fields need ≡ Some job = with_ready (job_opened Q h.by fields need) job (sym (opened_alike Q h.by fields need) ∙ ends ∙ c.in-Ready.is) in
           ap (λ (es : List Entry). ends_in h (es ∷ []) (Away (SpoolDeck job text)) []) first ∙ sym (deck_waits Q h fields text nothing_found job ready);
       of = all_of_one h.by h.step n.batch (subst (λ (i : MemberId). AreOf i h.step n.batch) (sym c.requires.may.holder) of_m);
-      sat = c.pause_sitting.ensures.sat;
+      shaped = record { few = omega arith; release = refl; says = (refl, refl) };
+      sat = c.pause_sitting.ensures.sat.sat;
+      tight = c.pause_sitting.ensures.sat.tight;
     }
 
 pub returns-clause-waits : goal.returns-clause-waits
@@ -231,7 +243,7 @@ returns-clause-waits g c =
     let enough : need ≤ member_count l.id l.checkpoint.tables.owners =
     subst (λ (i : MemberId). need ≤ member_count i l.checkpoint.tables.owners) (sym (e.id ∙ d.id)) (subst (λ (os : List Owner). need ≤ member_count m.id os) owners has) in
     let groups_there : HasGroups l text = record { lines = c.requires.deck.text; enough = enough } in
-    if_ok _ (λ e. WaitsRightly l e.next) c.pause_sitting.result (λ e ends. subst (WaitsRightly l) (sym ends.next) groups_there) e.sat.ends
+    if_ok _ (λ e. WaitsRightly l e.next) c.pause_sitting.result (λ e ends. subst (WaitsRightly l) (sym ends.next) groups_there) e.sat.sat.ends
 
 pub returns-clause-again : goal.returns-clause-again
 returns-clause-again g c =

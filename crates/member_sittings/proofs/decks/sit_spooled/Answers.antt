@@ -51,12 +51,14 @@ returns-in_default-clause-sat g c =
     let b = c.requires.may.sits.seat.between in
     let Q : Queue = run x.base (kept_all x.journal.batches) in
     let e : Entry = entry_of Q h.by h.step (finishing d.lost d.job d.text) in
+    let none = sat_none P h.by h Told (lines_by h.by h.step d.lost (closing_reply (e ∷ []))) (parts_of x) (e ∷ []) (none_out x.journal.batches x.journal.batches x.placed x.current refl b.unplaced b.none) in
     record {
       sitting = deck_end h (e ∷ []) d.lost;
       is = λ t. sym (spooled_sits Q h d.job d.text d.lost);
       of = all_of_one h.by h.step (e ∷ []) (one_of (e ∷ []) e h.by h.step refl refl refl);
-      sat = sat_none P h.by h Told (lines_by h.by h.step d.lost (closing_reply (e ∷ []))) (parts_of x) (e ∷ [])
-          (none_out x.journal.batches x.journal.batches x.placed x.current refl b.unplaced b.none);
+      shaped = record { few = omega arith; release = refl; says = (refl, (closing_reply (e ∷ []), refl)) };
+      sat = none.sat;
+      tight = none.tight;
     }
 
 pub close_deck-requires-clause-may : goal.close_deck-requires-clause-may
@@ -148,7 +150,9 @@ returns-clause-sat g c =
           ∙ ap (λ (i : MemberId). deck_end h (entry_of Q i at last ∷ []) d.lost) (sym c.requires.may.holder)
           ∙ sym (spooled_sits Q h d.job d.text d.lost);
       of = all_of_one h.by at n.batch (one_of n.batch e h.by at pushed (sym c.requires.may.holder) refl);
-      sat = c.close_deck.ensures.sat;
+      shaped = record { few = omega arith; release = refl; says = (refl, (closing_reply n.batch, refl)) };
+      sat = c.close_deck.ensures.sat.sat;
+      tight = c.close_deck.ensures.sat.tight;
     }
 
 pub returns-clause-again : goal.returns-clause-again
@@ -163,4 +167,4 @@ returns-clause-again g c =
     (λ e on. record { sits = on.sits; grown = record { order = omega (arith, d.order, tables); high = rw d.level at on.grown.high; reached = on.grown.reached } }) c.close_deck.ensures.again
 
 pub returns-clause-told : goal.returns-clause-told
-returns-clause-told g c = if_ok _ (λ e. e.next ≡ Told) c.close_deck.result (λ e ends. ends.next) c.close_deck.ensures.sat.ends
+returns-clause-told g c = if_ok _ (λ e. e.next ≡ Told) c.close_deck.result (λ e ends. ends.next) c.close_deck.ensures.sat.sat.ends

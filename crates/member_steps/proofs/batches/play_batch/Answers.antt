@@ -13,7 +13,10 @@ use Rattle.mas_complex.specs.Meaning.{run}
 use Rattle.mas_complex.specs.Paper.{printed_after}
 use Rattle.member_node.specs.Batches.{level_with}
 use Rattle.member_node.proofs.WriteLemmas.{none_out, queue_kept}
+use Rattle.member_steps.specs.Saying.{TellKept}
 use Rattle.member_steps.specs.Steps.{AreAllKept}
+use Rattle.member_steps.proofs.CountLemmas.{counted_batch, counted_error}
+use Rattle.member_steps.proofs.FateLemmas.{tell_push}
 use Rattle.member_steps.proofs.StepLemmas.{journal_kept, kept_later, kept_push, level_most, ok_of, step_told, step_unplayed, step_unwritten}
 use Rattle.member_steps.proofs.batches.play_batch.Goals as goal
 
@@ -62,7 +65,7 @@ pub tell_lines-requires-clause-up : goal.tell_lines-requires-clause-up
 tell_lines-requires-clause-up g c = rw (c.write.ensures.book, c.ready.ensures.book, c.ready.ensures.id) c.requires.may.up
 
 pub tell_lines-requires-clause-kept : goal.tell_lines-requires-clause-kept
-tell_lines-requires-clause-kept g c =
+tell_lines-requires-clause-kept g c told =
     let P = g.P.Plant in
     let x = c.args.complex.now in
     let y = c.ready.new.complex in
@@ -73,8 +76,8 @@ tell_lines-requires-clause-kept g c =
     let journal : z.journal.batches ≡ x.journal.batches ++ fated Kept (P.view z.plant).now b ∷ [] =
     journal_kept x.journal.batches y.journal.batches z.journal.batches grown.0 (fated Kept (P.view z.plant).now b) grown.1 c.in_ok-write.ensures.kept in
     let later : (P.view y.plant).now ≤ (P.view z.plant).now = (c.in_ok-write.ensures.write x.journal.batches grown.0 grown.1).course.goes.later in
-    subst (λ (bs : List Batch). AreAllKept bs (P.view z.plant).now) (sym journal)
-    (kept_push x.journal.batches (P.view x.plant).now (P.view z.plant).now b (omega (arith, later, ap (λ p. (P.view p).now) e.plant)) c.requires.kept)
+    subst (λ (bs : List Batch). TellKept c.args.lines.now bs (P.view z.plant).now) (sym journal)
+    (tell_push c.args.lines.now x.journal.batches (P.view x.plant).now (P.view z.plant).now b (omega (arith, later, ap (λ p. (P.view p).now) e.plant)) (c.requires.kept told))
 
 pub returns-clause-step : goal.returns-clause-step
 returns-clause-step g c =
@@ -168,9 +171,9 @@ returns-clause-kept g c =
     let journal : w.journal.batches ≡ x.journal.batches ++ fated Kept (P.view z.plant).now b ∷ [] =
     ap (λ (j : Journal). j.batches) t.journal ∙ journal_kept x.journal.batches y.journal.batches z.journal.batches grown.0 (fated Kept (P.view z.plant).now b) grown.1 c.in_ok-write.ensures.kept in
     let later : (P.view y.plant).now ≤ (P.view z.plant).now = (c.in_ok-write.ensures.write x.journal.batches grown.0 grown.1).course.goes.later in
-    ok_of c.tell_lines.result (subst (λ (bs : List Batch). AreAllKept bs (P.view w.plant).now) (sym journal)
+    ok_of c.tell_lines.result (λ all. subst (λ (bs : List Batch). AreAllKept bs (P.view w.plant).now) (sym journal)
     (kept_later (x.journal.batches ++ fated Kept (P.view z.plant).now b ∷ []) (P.view z.plant).now (P.view w.plant).now t.said.acts.goes.later
-    (kept_push x.journal.batches (P.view x.plant).now (P.view z.plant).now b (omega (arith, later, ap (λ p. (P.view p).now) e.plant)) c.requires.kept)))
+    (kept_push x.journal.batches (P.view x.plant).now (P.view z.plant).now b (omega (arith, later, ap (λ p. (P.view p).now) e.plant)) later all)))
 
 pub returns-clause-level : goal.returns-clause-level
 returns-clause-level g c =
@@ -181,3 +184,29 @@ pub returns-clause-reached : goal.returns-clause-reached
 returns-clause-reached g c =
     let old : ℕ = c.args.complex.now.level in
     ok_of c.tell_lines.result (subst (λ (n : ℕ). n ≤ old + 1) (sym (c.tell_lines.ensures.level ∙ c.in_ok-write.ensures.level ∙ ap (level_with c.in-Ok.draft) c.ready.ensures.same_level)) (level_most c.in-Ok.draft old))
+
+-- THE COUNTS OF PRINTED LINES
+
+pub returns-in_default-clause-counts : goal.returns-in_default-clause-counts
+returns-in_default-clause-counts g c =
+    let x = c.args.complex.now in
+    let m = c.args.member.now in
+    counted_error m.id m.batch x.printed c.ready.new.complex.printed _ c.ready.ensures.printed
+
+pub returns-in_err-write-clause-counts : goal.returns-in_err-write-clause-counts
+returns-in_err-write-clause-counts g c =
+    let x = c.args.complex.now in
+    let m = c.args.member.now in
+    let z = c.write.new.complex in
+    let e = c.ready.ensures in
+    let k : z.printed ≡ printed_after m.id m.batch x.printed = rw (e.id, e.printed, c.in-Ok.ensures.reserved) at c.write.ensures.printed in
+    counted_batch m.id m.batch x.printed z.printed _ c.requires.own k
+
+pub returns-clause-counts : goal.returns-clause-counts
+returns-clause-counts g c =
+    let x = c.args.complex.now in
+    let m = c.args.member.now in
+    let w = c.tell_lines.new.complex in
+    let e = c.ready.ensures in
+    let k : c.write.new.complex.printed ≡ printed_after m.id m.batch x.printed = rw (e.id, e.printed, c.in-Ok.ensures.reserved) at c.write.ensures.printed in
+    counted_batch m.id m.batch x.printed w.printed c.tell_lines.result c.requires.own (c.tell_lines.ensures.printed ∙ k)

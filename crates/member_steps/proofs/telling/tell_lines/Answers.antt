@@ -6,9 +6,10 @@ use Rattle.spool_disk.specs.declared.plant.Act.TheVariants.{Done}
 use Rattle.spool_disk.specs.declared.plant.Part.TheVariants.{Console}
 use Rattle.member_node.proofs.SpareLemmas.{spares_done, spares_none, spares_then}
 use Rattle.mas_complex.specs.Parts.{parts_of}
-use Rattle.member_steps.specs.Steps.{AreAllKept}
+use Rattle.member_steps.specs.Saying.{TellKept}
+use Rattle.member_steps.proofs.FateLemmas.{tell_later, told_at}
 use Rattle.member_steps.proofs.SayLemmas.{console_none, console_on, frame_then, said_all, said_next, said_out}
-use Rattle.member_steps.proofs.StepLemmas.{all_step_kept, kept_later, none_flying}
+use Rattle.member_steps.proofs.StepLemmas.{none_flying}
 use Rattle.member_steps.proofs.telling.tell_lines.Goals as goal
 
 pub loop-at-init : goal.loop-at-init
@@ -29,9 +30,11 @@ tell-requires-clause-told g c told m s closes =
     let x = c.args.complex.now in
     let y = c.loop-at.complex in
     let i = c.loop-at.invariant in
+    let kept : TellKept c.args.lines.now y.journal.batches (P.view y.plant).now =
+    subst (λ (bs : List Batch). TellKept c.args.lines.now bs (P.view y.plant).now) (sym (ap (λ p. p.batches) i.frame))
+    (tell_later c.args.lines.now x.journal.batches (P.view x.plant).now (P.view y.plant).now i.acts.goes.later (c.requires.kept told)) in
     none_flying y.journal.batches y.current (P.view y.plant).now m s (ap (λ p. p.current) i.frame ∙ c.requires.none)
-    (all_step_kept y.journal.batches (P.view y.plant).now m s
-    (subst (λ (bs : List Batch). AreAllKept bs (P.view y.plant).now) (sym (ap (λ p. p.batches) i.frame)) (kept_later x.journal.batches (P.view x.plant).now (P.view y.plant).now i.acts.goes.later c.requires.kept)))
+    (told_at c.args.lines.now c.loop-at.at c.line.result.now y.journal.batches (P.view y.plant).now kept c.line.ensures m s closes)
 
 pub loop-at-preserved : goal.loop-at-preserved
 loop-at-preserved g c =

@@ -1,4 +1,4 @@
-use Rattle.std.proofs.Common.{◌≡◌, ◌∙◌, ◌+◌, ◌<◌, ℕ, List, [], All, false, Option, Some, Ok, Err, ap, refl, subst, sym, arith}
+use Rattle.std.proofs.Common.{◌≡◌, ◌∙◌, ◌+◌, ◌<◌, ℕ, List, [], All, false, true, is_some, Option, Some, Ok, Err, ap, refl, subst, sym, arith}
 use Rattle.std.proofs.lemmas.Result.{err_from_is_err_and}
 use Rattle.mas_types.specs.declared.answers.Closing.{Closing}
 use Rattle.mas_types.specs.declared.ids.GroupNo.{GroupNo}
@@ -77,8 +77,8 @@ unreachable-requires g c =
     let t = c.args.member.now.checkpoint.tables in
     let s = tells_some t in
     let none = rw c.as_slice.ensures at c.in_default-find_output.ensures.none in
-    let its = c.requires.output.printing s.0 s.1 c.requires.sound in
-    absurd (let not = sym (none s.0.outputs s.1.outputs) ∙ its.there in cc)
+    let its = c.requires.output.there s.0 s.1 in
+    absurd (let not : false ≡ true = ap is_some (sym (none s.0.outputs s.1.outputs)) ∙ its in cc)
 
 pub read_text-requires-clause-within : goal.read_text-requires-clause-within
 read_text-requires-clause-within g c =
@@ -139,7 +139,7 @@ print_text-requires-clause-may g c told lines is =
     let chunk : IsChunkOf t m.id r c.args.last = chunk_from t m.id n i f.at r c.args.last c.requires.may.spelling some rec c.requires.output.chunk in
     let Q : Queue = run x.base (kept_all x.journal.batches) in
     let still : IsOutputStill t m.id n i Q = c.requires.still told in
-    let busy : IsPrinting still.was m.id n i = c.requires.output.printing still.was still.told c.requires.sound in
+    let busy : IsPrinting still.was m.id n i = c.requires.output.printing still.was still.told (c.requires.sound told) in
     let out : Output = busy.output in
     let there : output_at Q n i ≡ Some out = still.output ∙ busy.there in
     let list : c.as_slice-groups.result.now ≡ groups_of (OutputThing n i) t.owners = c.as_slice-groups.ensures ∙ c.in-Ok.ensures ∙ ap (groups_of (OutputThing n i)) c.as_slice-2.ensures in

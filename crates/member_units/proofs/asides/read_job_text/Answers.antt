@@ -1,4 +1,4 @@
-use Rattle.std.proofs.Common.{◌≡◌, ◌∙◌, List, All, ap, refl, subst, sym}
+use Rattle.std.proofs.Common.{◌≡◌, ◌∙◌, List, All, false, true, is_some, ap, refl, subst, sym}
 use Rattle.std.proofs.lemmas.Result.{err_from_is_err_and}
 use Rattle.mas_types.specs.declared.ids.GroupNo.{GroupNo}
 use Rattle.mas_types.specs.declared.queues.Config.{Config}
@@ -50,8 +50,8 @@ unreachable-requires g c =
     let t = c.args.member.now.checkpoint.tables in
     let s = tells_some t in
     let none = rw c.as_slice.ensures at c.in_default-find_job.ensures.none in
-    let job = c.requires.job s.0 s.1 c.requires.sound in
-    absurd (let not = sym (none s.0.jobs s.1.jobs) ∙ job.there in cc)
+    let job = c.requires.job.there s.0 s.1 in
+    absurd (let not : false ≡ true = ap is_some (sym (none s.0.jobs s.1.jobs)) ∙ job in cc)
 
 pub read_text-requires-clause-within : goal.read_text-requires-clause-within
 read_text-requires-clause-within g c =

@@ -1,15 +1,21 @@
-use Rattle.std.proofs.Common.{◌∙◌, [], ◌∷◌, Ok, Err, refl}
+use Rattle.std.proofs.Common.{◌∙◌, ◌<◌, ◌^◌, ℕ, List, [], ◌∷◌, Ok, Err, refl, subst, sym, arith}
 use Rattle.std.proofs.lemmas.Result.{err_from_is_err_and}
 use Rattle.mas_types.specs.Closings.{closing_line}
+use Rattle.mas_types.specs.declared.ids.MemberId.{MemberId}
+use Rattle.member_steps.specs.Saying.{TellKept}
+use Rattle.member_steps.specs.Steps.{AreKeptFrom}
+use Rattle.member_steps.proofs.CountLemmas.{counted_by}
+use Rattle.member_steps.proofs.FateLemmas.{closing_tells}
 use Rattle.member_work.specs.Work.{batches_in}
 use Rattle.step_turns.specs.Batches.{batch_of}
 use Rattle.step_turns.specs.Turns.{says}
-use Rattle.member_units.specs.Plays.{wrote_of}
+use Rattle.member_units.specs.Plays.{bounds, unwritten, wrote_of}
 use Rattle.member_units.specs.Works.{outside, place_of}
 use Rattle.member_units.proofs.Cuts.{of_batch, one_batch, starts_itself}
 use Rattle.member_units.proofs.Gave.{keeps_as, spares_of}
 use Rattle.member_units.proofs.Going.{apart_then, closes_err, closes_ok, plays_close, plays_error}
 use Rattle.member_units.proofs.Seated.{closes_said, said_apart, seat_said}
+use Rattle.member_units.proofs.Within.{close_within}
 use Rattle.member_units.proofs.Working.{own_batch, same_run}
 use Rattle.member_units.proofs.ends.close.Goals as goal
 
@@ -24,26 +30,27 @@ returns-in_default-clause-run g c =
     same_run c.args.complex.now c.give_up.new.complex c.args.member.now c.give_up.new.member c.args.holder k.base k.since k.book k.id
 
 pub returns-in_default-clause-plays : goal.returns-in_default-clause-plays
-returns-in_default-clause-plays g c =
+returns-in_default-clause-plays g c units found may =
     let x = c.args.complex.now in
     let y = c.give_up.new.complex in
     let m = c.args.member.now in
     let h = c.args.holder in
     let v = c.requires.works in
     let w = wrote_of m.batch (says (closing_line h.by h.step c.args.end.now ∷ [])) in
-    plays_error g.P.Plant.tells h c.args.given {S = Unit {0}} c.give_up.result w w (batch_of m.batch) (place_of x m) (outside y) (λ t. refl) (of_batch h.by h.step m.batch (own_batch x m h v)) (starts_itself m.batch)
+    plays_error g.P.Plant.tells h (bounds (unwritten m.batch) units found) c.args.given {S = Unit {0}} c.give_up.result w w (batch_of m.batch) (place_of x m) (outside y) (λ t. refl) (of_batch h.by h.step m.batch (own_batch x m h v)) (close_within h found units m.batch c.args.end.now may) (starts_itself m.batch)
     (λ told. spares_of x y (c.give_up.ensures.apart told)) (keeps_as x y m h.by (batches_in (m.batch ∷ [])) (batch_of m.batch) (Err c.give_up.result) v.own v.work (one_batch m.batch) c.give_up.ensures.keeps)
+    (counted_by {T = Unit {0}} m.id h.by [] x.printed y.printed (Err c.give_up.result) (sym v.own) c.give_up.ensures.counts)
 
 -- THE BATCH COULDN'T BE KEPT
 
 pub returns-in_err-keep-clause-plays : goal.returns-in_err-keep-clause-plays
-returns-in_err-keep-clause-plays g c =
+returns-in_err-keep-clause-plays g c units found may =
     let x = c.args.complex.now in
     let m = c.args.member.now in
     let h = c.args.holder in
     let w = wrote_of m.batch (says (closing_line h.by h.step c.args.end.now ∷ [])) in
     let q = err_from_is_err_and c.from_residual.result c.from_residual.ensures.1 in
-    rw (q.1, q.2) (plays_error g.P.Plant.tells h c.args.given {S = Unit {0}} _ w w (batch_of m.batch) (place_of x m) (outside c.keep.new.complex) (λ t. refl) (of_batch h.by h.step m.batch (own_batch x m h c.requires.works)) (starts_itself m.batch) c.keep.ensures.spares c.in_err-keep.ensures.keeps)
+    rw (q.1, q.2) (plays_error g.P.Plant.tells h (bounds (unwritten m.batch) units found) c.args.given {S = Unit {0}} _ w w (batch_of m.batch) (place_of x m) (outside c.keep.new.complex) (λ t. refl) (of_batch h.by h.step m.batch (own_batch x m h c.requires.works)) (close_within h found units m.batch c.args.end.now may) (starts_itself m.batch) c.keep.ensures.spares c.in_err-keep.ensures.keeps c.in_err-keep.ensures.counts)
 
 -- THE LINE
 
@@ -54,7 +61,14 @@ pub tell_lines-requires-clause-none : goal.tell_lines-requires-clause-none
 tell_lines-requires-clause-none g c = c.in_ok-keep.ensures.works.work.none
 
 pub tell_lines-requires-clause-kept : goal.tell_lines-requires-clause-kept
-tell_lines-requires-clause-kept g c = c.in_ok-keep.ensures.works.work.kept
+tell_lines-requires-clause-kept g c told =
+    let y = c.keep.new.complex in
+    let h = c.args.holder in
+    let w = c.in_ok-keep.ensures.works in
+    let now = (g.P.Plant.view y.plant).now in
+    let small : c.args.holder.step < 2 ^ 64 = omega arith in
+    let kept : AreKeptFrom h.by h.step y.journal.batches now = subst (λ (i : MemberId). AreKeptFrom i h.step y.journal.batches now) (sym w.own) w.step in
+    subst (λ (ls : List (List ℕ)). TellKept ls y.journal.batches now) (sym c.in-Ok.ensures) (closing_tells h.by h.step small y.journal.batches now kept c.args.end.now)
 
 pub returns-in_err-tell_lines-clause-run : goal.returns-in_err-tell_lines-clause-run
 returns-in_err-tell_lines-clause-run g c =
@@ -63,7 +77,7 @@ returns-in_err-tell_lines-clause-run g c =
     same_run c.keep.new.complex c.tell_lines.new.complex n n c.args.holder t.base t.since t.book refl ∙ c.keep.ensures.run
 
 pub returns-in_err-tell_lines-clause-plays : goal.returns-in_err-tell_lines-clause-plays
-returns-in_err-tell_lines-clause-plays g c =
+returns-in_err-tell_lines-clause-plays g c units found may =
     let P = g.P.Plant in
     let x = c.args.complex.now in
     let y = c.keep.new.complex in
@@ -76,8 +90,8 @@ returns-in_err-tell_lines-clause-plays g c =
     let lines = closing_line h.by h.step c.args.end.now ∷ [] in
     let q = err_from_is_err_and c.from_residual-in_err-tell_lines.result c.from_residual-in_err-tell_lines.ensures.1 in
     let said = closes_said y z n h o.works t.pair t.journal t.current t.placed lines (Err _) (rw c.in-Ok.ensures at c.in_err-tell_lines.ensures.said) in
-    rw (q.1, q.2) (plays_close P.tells h c.args.given {S = Unit {0}} _ (Err _) lines (place_of x m) (outside y) (outside z) tt (own_batch x m h c.requires.works)
-    (λ told. apart_then (outside x) (outside y) (outside z) o.keeps.course.goes.later said.course.goes (c.keep.ensures.spares told) (said_apart y z t.said.acts told)) o.keeps (closes_err P.tells h.by _ lines [] (outside y) (outside z) said))
+    rw (q.1, q.2) (plays_close P.tells h (bounds (unwritten m.batch) units found) c.args.given {S = Unit {0}} _ (Err _) lines (place_of x m) (outside y) (outside z) tt (own_batch x m h c.requires.works) (close_within h found units m.batch c.args.end.now may)
+    (λ told. apart_then (outside x) (outside y) (outside z) o.keeps.course.goes.later said.course.goes (c.keep.ensures.spares told) (said_apart y z t.said.acts told)) o.keeps o.counts (closes_err P.tells h.by _ lines [] (outside y) (outside z) said) t.printed)
 
 pub returns-clause-run : goal.returns-clause-run
 returns-clause-run g c =
@@ -86,7 +100,7 @@ returns-clause-run g c =
     same_run c.keep.new.complex c.tell_lines.new.complex n n c.args.holder t.base t.since t.book refl ∙ c.keep.ensures.run
 
 pub returns-clause-plays : goal.returns-clause-plays
-returns-clause-plays g c =
+returns-clause-plays g c units found may =
     let P = g.P.Plant in
     let x = c.args.complex.now in
     let y = c.keep.new.complex in
@@ -98,8 +112,8 @@ returns-clause-plays g c =
     let o = c.in_ok-keep.ensures in
     let lines = closing_line h.by h.step c.args.end.now ∷ [] in
     let said = closes_said y z n h o.works t.pair t.journal t.current t.placed lines (Ok _) (rw c.in-Ok.ensures at c.in_ok-tell_lines.ensures.said) in
-    plays_close P.tells h c.args.given {S = Unit {0}} _ (Ok _) lines (place_of x m) (outside y) (outside z) (refl, refl, c.release_of-release.ensures) (own_batch x m h c.requires.works)
-    (λ told. apart_then (outside x) (outside y) (outside z) o.keeps.course.goes.later said.course.goes (c.keep.ensures.spares told) (said_apart y z t.said.acts told)) o.keeps (closes_ok P.tells h.by _ _ lines [] (outside y) (outside z) said)
+    plays_close P.tells h (bounds (unwritten m.batch) units found) c.args.given {S = Unit {0}} _ (Ok _) lines (place_of x m) (outside y) (outside z) (refl, refl, c.release_of-release.ensures) (own_batch x m h c.requires.works) (close_within h found units m.batch c.args.end.now may)
+    (λ told. apart_then (outside x) (outside y) (outside z) o.keeps.course.goes.later said.course.goes (c.keep.ensures.spares told) (said_apart y z t.said.acts told)) o.keeps o.counts (closes_ok P.tells h.by _ _ lines [] (outside y) (outside z) said) t.printed
 
 pub returns-clause-seat : goal.returns-clause-seat
 returns-clause-seat g c =

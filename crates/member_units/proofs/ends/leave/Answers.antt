@@ -1,26 +1,28 @@
-use Rattle.std.proofs.Common.{refl}
+use Rattle.std.proofs.Common.{◌+◌, refl}
 use Rattle.std.proofs.lemmas.Result.{err_from_is_err_and}
 use Rattle.step_turns.specs.Batches.{batch_of}
+use Rattle.step_turns.specs.Courses.{sittings_most}
 use Rattle.step_turns.specs.Turns.{leaves}
-use Rattle.member_units.specs.Plays.{wrote_of}
+use Rattle.member_units.specs.Plays.{bounds, unwritten, wrote_of}
 use Rattle.member_units.specs.Works.{outside, place_of}
 use Rattle.member_units.proofs.Cuts.{of_batch, starts_itself}
 use Rattle.member_units.proofs.Going.{plays_error, plays_leave}
+use Rattle.member_units.proofs.Within.{leave_within}
 use Rattle.member_units.proofs.Working.{own_batch}
 use Rattle.member_units.proofs.ends.leave.Goals as goal
 
 pub returns-in_err-keep-clause-plays : goal.returns-in_err-keep-clause-plays
-returns-in_err-keep-clause-plays g c =
+returns-in_err-keep-clause-plays g c units found =
     let x = c.args.complex.now in
     let m = c.args.member.now in
     let h = c.args.holder in
     let w = wrote_of m.batch (leaves c.args.next) in
     let q = err_from_is_err_and c.from_residual.result c.from_residual.ensures.1 in
-    rw (q.1, q.2) (plays_error g.P.Plant.tells h c.args.given {S = Unit {0}} _ w w (batch_of m.batch) (place_of x m) (outside c.keep.new.complex) (λ t. refl) (of_batch h.by h.step m.batch (own_batch x m h c.requires.works)) (starts_itself m.batch) c.keep.ensures.spares c.in_err-keep.ensures.keeps)
+    rw (q.1, q.2) (plays_error g.P.Plant.tells h (bounds (sittings_most c.args.next + unwritten m.batch) units found) c.args.given {S = Unit {0}} _ w w (batch_of m.batch) (place_of x m) (outside c.keep.new.complex) (λ t. refl) (of_batch h.by h.step m.batch (own_batch x m h c.requires.works)) (leave_within h found units m.batch c.args.next c.requires.waits) (starts_itself m.batch) c.keep.ensures.spares c.in_err-keep.ensures.keeps c.in_err-keep.ensures.counts)
 
 pub returns-clause-plays : goal.returns-clause-plays
-returns-clause-plays g c =
+returns-clause-plays g c units found =
     let x = c.args.complex.now in
     let m = c.args.member.now in
     let h = c.args.holder in
-    plays_leave g.P.Plant.tells h c.args.given {S = Unit {0}} _ _ c.args.next (place_of x m) (outside c.keep.new.complex) refl refl c.release_of-release.ensures (own_batch x m h c.requires.works) c.keep.ensures.spares c.in_ok-keep.ensures.keeps
+    plays_leave g.P.Plant.tells h (bounds (sittings_most c.args.next + unwritten m.batch) units found) c.args.given {S = Unit {0}} _ _ c.args.next (place_of x m) (outside c.keep.new.complex) refl refl c.release_of-release.ensures (own_batch x m h c.requires.works) (leave_within h found units m.batch c.args.next c.requires.waits) c.keep.ensures.spares c.in_ok-keep.ensures.keeps c.in_ok-keep.ensures.counts

@@ -6,7 +6,7 @@ use Rattle.job_outcome.specs.Next.{end_by}
 use Rattle.step_turns.specs.Entries.{closing_reply, given_in}
 use Rattle.step_turns.specs.JobEnds.{ending}
 use Rattle.member_units.proofs.Gave.{last_given}
-use Rattle.member_units.proofs.Working.{leaves_room, same_run, works_on}
+use Rattle.member_units.proofs.Working.{leaves_room, same_run, step_on, works_on}
 use Rattle.member_units.proofs.giving.end_job.Goals as goal
 
 pub returns-in_err-end-clause-run : goal.returns-in_err-end-clause-run
@@ -21,7 +21,7 @@ returns-in_err-end-clause-given g c =
     let m = c.args.member.now in
     let h = c.args.holder in
     let k = c.end_given.ensures in
-    rw (q.1, q.2) (last_given x c.end_given.new.complex m c.end_given.new.member h c.requires.works k.base (Err _) (λ (Q : Queue) (i : MemberId). ending Q i c.args.job c.args.outputs) (λ (Q : Queue) (i : MemberId). end_by (closing_reply (given_in Q i h.step (ending Q i c.args.job c.args.outputs)))) c.requires.nothing tt k.apart c.in_err-end.ensures.last)
+    rw (q.1, q.2) (last_given x c.end_given.new.complex m c.end_given.new.member h c.requires.works k.base (Err _) (λ (Q : Queue) (i : MemberId). ending Q i c.args.job c.args.outputs) (λ (Q : Queue) (i : MemberId). end_by (closing_reply (given_in Q i h.step (ending Q i c.args.job c.args.outputs)))) c.requires.nothing tt k.apart c.in_err-end.ensures.counts c.in_err-end.ensures.last)
 
 pub returns-clause-run : goal.returns-clause-run
 returns-clause-run g c =
@@ -34,7 +34,7 @@ returns-clause-given g c =
     let m = c.args.member.now in
     let h = c.args.holder in
     let k = c.end_given.ensures in
-    last_given x c.end_given.new.complex m c.end_given.new.member h c.requires.works k.base (Ok c.in_ok-end.end) (λ (Q : Queue) (i : MemberId). ending Q i c.args.job c.args.outputs) (λ (Q : Queue) (i : MemberId). end_by (closing_reply (given_in Q i h.step (ending Q i c.args.job c.args.outputs)))) c.requires.nothing c.in_ok-end.ensures.work k.apart c.in_ok-end.ensures.last
+    last_given x c.end_given.new.complex m c.end_given.new.member h c.requires.works k.base (Ok c.in_ok-end.end) (λ (Q : Queue) (i : MemberId). ending Q i c.args.job c.args.outputs) (λ (Q : Queue) (i : MemberId). end_by (closing_reply (given_in Q i h.step (ending Q i c.args.job c.args.outputs)))) c.requires.nothing c.in_ok-end.ensures.work k.apart c.in_ok-end.ensures.counts c.in_ok-end.ensures.last
 
 pub returns-clause-works : goal.returns-clause-works
 returns-clause-works g c =
@@ -45,9 +45,12 @@ returns-clause-works g c =
     let h = c.args.holder in
     let k = c.end_given.ensures in
     let o = c.in_ok-end.ensures in
-    works_on x y m n h c.requires.works (same_run x y m n h k.base k.since k.book k.id) o.work o.of o.untold o.copy1 o.copy2
+    works_on x y m n h c.requires.works (same_run x y m n h k.base k.since k.book k.id) o.work o.of o.untold (step_on x y m n h c.requires.works k.id o.work _ c.in_ok-end.end o.last.played.keeps) o.copy1 o.copy2
 
 pub returns-clause-room : goal.returns-clause-room
 returns-clause-room g c =
     let o = c.in_ok-end.ensures in
     leaves_room c.args.complex.now c.end_given.new.complex c.end_given.new.member o.order o.high o.reached
+
+pub returns-clause-answered : goal.returns-clause-answered
+returns-clause-answered g c = c.in_ok-end.ensures.answered

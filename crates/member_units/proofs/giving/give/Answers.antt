@@ -1,13 +1,15 @@
-use Rattle.std.proofs.Common.{◌∙◌, [], ◌∷◌, Ok, Err, ap, refl, sym}
+use Rattle.std.proofs.Common.{◌∙◌, [], ◌∷◌, Ok, Err, ap, refl, subst, sym}
 use Rattle.std.proofs.lemmas.Result.{err_from_is_err_and}
 use Rattle.mas_types.specs.declared.commands.Reply.{Reply}
 use Rattle.mas_types.specs.declared.ids.MemberId.{MemberId}
 use Rattle.job_outcome.specs.Next.{end_by}
 use Rattle.member_steps.specs.Steps.{entry_with}
+use Rattle.member_work.specs.Causes.{IsAnswered}
+use Rattle.member_work.proofs.CauseLemmas.{reply_answered}
 use Rattle.step_turns.specs.Entries.{closing_reply, given_in, reply_to}
 use Rattle.member_units.specs.Works.{queue_here}
 use Rattle.member_units.proofs.Gave.{closing_one, played_given}
-use Rattle.member_units.proofs.Working.{same_run, works_on}
+use Rattle.member_units.proofs.Working.{same_run, step_on, works_on}
 use Rattle.member_units.proofs.giving.give.Goals as goal
 
 pub play_command-requires-clause-right : goal.play_command-requires-clause-right
@@ -32,7 +34,7 @@ returns-in_err-end-clause-given g c =
     rw (q.1, q.2) (played_given x c.play_command.new.complex m c.play_command.new.member h w.own w.work k.base (Err _) (entry_with m.id h.step c.args.command p.reply ∷ []) m.batch (end_by p.reply) (end_by (closing_reply (given_in Q h.by h.step (c.args.command ∷ [])))) (c.args.command ∷ []) refl tt
     (λ told. ap (λ (i : MemberId). entry_with i h.step c.args.command p.reply ∷ []) (sym w.own) ∙ ap (λ (r : Reply). entry_with h.by h.step c.args.command r ∷ []) (p.is told ∙ ap (λ (i : MemberId). reply_to Q i c.args.command) (sym w.own)))
     (λ told. ap end_by (p.is told ∙ ap (λ (i : MemberId). reply_to Q i c.args.command) (sym w.own) ∙ sym (closing_one Q h.by h.step c.args.command c.requires.may.closes)))
-    k.apart p.played)
+    k.apart c.in_err-end.ensures.counts p.played)
 
 pub returns-clause-run : goal.returns-clause-run
 returns-clause-run g c =
@@ -53,7 +55,7 @@ returns-clause-given g c =
     played_given x c.play_command.new.complex m c.play_command.new.member h w.own w.work k.base (Ok c.in_ok-end.end) (entry_with m.id h.step c.args.command p.reply ∷ []) m.batch (end_by p.reply) (end_by (closing_reply (given_in Q h.by h.step (c.args.command ∷ [])))) (c.args.command ∷ []) refl o.work
     (λ told. ap (λ (i : MemberId). entry_with i h.step c.args.command p.reply ∷ []) (sym w.own) ∙ ap (λ (r : Reply). entry_with h.by h.step c.args.command r ∷ []) (p.is told ∙ ap (λ (i : MemberId). reply_to Q i c.args.command) (sym w.own)))
     (λ told. ap end_by (p.is told ∙ ap (λ (i : MemberId). reply_to Q i c.args.command) (sym w.own) ∙ sym (closing_one Q h.by h.step c.args.command c.requires.may.closes)))
-    k.apart p.played
+    k.apart o.counts p.played
 
 pub returns-clause-works : goal.returns-clause-works
 returns-clause-works g c =
@@ -64,4 +66,9 @@ returns-clause-works g c =
     let h = c.args.holder in
     let k = c.play_command.ensures in
     let o = c.in_ok-end.ensures in
-    works_on x y m n h c.requires.works (same_run x y m n h k.base k.since k.book k.id) o.work o.of o.untold o.copy1 o.copy2
+    works_on x y m n h c.requires.works (same_run x y m n h k.base k.since k.book k.id) o.work o.of o.untold (step_on x y m n h c.requires.works k.id o.work _ c.in_ok-end.end o.played.played.keeps) o.copy1 o.copy2
+
+pub returns-clause-answered : goal.returns-clause-answered
+returns-clause-answered g c =
+    let p = c.in_ok-end.ensures.played in
+    subst IsAnswered (sym p.played.ends) (reply_answered p.reply)

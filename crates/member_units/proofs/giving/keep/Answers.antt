@@ -1,13 +1,14 @@
-use Rattle.std.proofs.Common.{[], ◌∷◌, Ok, Err, ap, arith}
+use Rattle.std.proofs.Common.{[], ◌∷◌, Ok, Err, ap, sym, arith}
 use Rattle.std.proofs.lemmas.List.Elements.{All-nil}
 use Rattle.std.proofs.lemmas.Result.{err_from_is_err_and}
 use Rattle.ckpt_pages.specs.declared.tables.Tables.{Tables}
+use Rattle.member_steps.proofs.CountLemmas.{counted_by}
 use Rattle.member_work.specs.Work.{batches_in}
 use Rattle.member_work.proofs.StateLemmas.{untold_then}
 use Rattle.step_turns.specs.Batches.{batch_of}
 use Rattle.member_units.proofs.Cuts.{one_batch}
 use Rattle.member_units.proofs.Gave.{keeps_as, spares_of}
-use Rattle.member_units.proofs.Working.{queue_after, same_run, uses_one, works_on}
+use Rattle.member_units.proofs.Working.{queue_after, same_run, step_on, uses_one, works_on}
 use Rattle.member_units.proofs.giving.keep.Goals as goal
 
 pub keep_given-requires-clause-untold : goal.keep_given-requires-clause-untold
@@ -58,7 +59,7 @@ returns-clause-works g c =
     let w = c.requires.works in
     works_on x y m n h w (same_run x y m n h k.base k.since k.book k.id) o.work (rw o.nothing (All-nil _))
     (λ told. untold_then C.reads x.base y.base x.since y.since m.id n.id h.step (P.view x.plant) (P.view y.plant) k.base k.since k.id w.work.begun o.keeps.course.goes (o.keeps.quiet told) (w.untold told))
-    o.copy1 o.copy2
+    (step_on x y m n h w k.id o.work (batches_in (m.batch ∷ [])) _ o.keeps) o.copy1 o.copy2
 
 pub returns-clause-queue : goal.returns-clause-queue
 returns-clause-queue g c =
@@ -70,3 +71,16 @@ returns-clause-uses g c =
     let o = c.in_ok-keep_given.ensures in
     let same = ap (λ (t : Tables). t.order) c.keep_given.ensures.tables in
     uses_one c.args.complex.now c.keep_given.new.complex c.args.member.now c.keep_given.new.member (omega (arith, same)) o.high o.reached
+
+-- THE COUNTS OF PRINTED LINES
+
+pub returns-in_err-keep_given-clause-counts : goal.returns-in_err-keep_given-clause-counts
+returns-in_err-keep_given-clause-counts g c =
+    let m = c.args.member.now in
+    let q = err_from_is_err_and c.from_residual.result c.from_residual.ensures.1 in
+    rw (q.1, q.2) (counted_by m.id c.args.holder.by m.batch c.args.complex.now.printed c.keep_given.new.complex.printed (Err _) (sym c.requires.works.own) c.in_err-keep_given.ensures.counts)
+
+pub returns-clause-counts : goal.returns-clause-counts
+returns-clause-counts g c =
+    let m = c.args.member.now in
+    counted_by m.id c.args.holder.by m.batch c.args.complex.now.printed c.keep_given.new.complex.printed (Ok _) (sym c.requires.works.own) c.in_ok-keep_given.ensures.counts

@@ -1,9 +1,12 @@
-use Rattle.std.proofs.Common.{◌∙◌, ◌+◌, List, length, ap, refl, sym, arith}
+use Rattle.std.proofs.Common.{◌∙◌, ◌+◌, List, Ok, length, ap, refl, subst, sym, arith}
 use Rattle.mas_types.specs.declared.journals.Entry.{Entry}
+use Rattle.member_steps.specs.Counting.{HasCounted}
+use Rattle.member_steps.proofs.CountLemmas.{counted_none}
 use Rattle.member_decks.proofs.OpenLemmas.{on_ok}
 use Rattle.member_work.proofs.KeepingLemmas.{keeping_none}
+use Rattle.step_turns.specs.Entries.{all_entries}
 use Rattle.member_units.specs.Works.{outside}
-use Rattle.member_units.proofs.Cuts.{after_all, after_none, full_all, full_none}
+use Rattle.member_units.proofs.Cuts.{after_all, after_none, batch_entries, full_all, full_none}
 use Rattle.member_units.proofs.Going.{apart_none}
 use Rattle.member_units.proofs.Working.{less_room}
 use Rattle.ckpt_pages.specs.declared.tables.Tables.{Tables}
@@ -34,3 +37,15 @@ returns-clause-few g c = on_ok c.keep.result (λ nothing. let none = ap (λ (es 
 
 pub returns-clause-order : goal.returns-clause-order
 returns-clause-order g c = on_ok c.keep.result (λ nothing. ap (λ (t : Tables). t.order) c.keep.ensures.tables) c.keep.ensures.nothing
+
+-- THE COUNTS OF PRINTED LINES
+
+pub returns-then-len-lt-BATCH_MOST-clause-counts : goal.returns-then-len-lt-BATCH_MOST-clause-counts
+returns-then-len-lt-BATCH_MOST-clause-counts g c =
+    let printed = c.args.complex.now.printed in
+    rw (full_none c.args.member.now.batch (omega arith)) (counted_none {T = Unit {0}} c.args.holder.by printed printed (Ok tt) refl)
+
+pub returns-clause-counts : goal.returns-clause-counts
+returns-clause-counts g c =
+    let es = c.args.member.now.batch in
+    subst (λ (l : List Entry). HasCounted {T = Unit {0}} c.args.holder.by l c.args.complex.now.printed c.keep.new.complex.printed c.keep.result) (sym (ap all_entries (full_all es (omega arith)) ∙ batch_entries es)) c.keep.ensures.counts

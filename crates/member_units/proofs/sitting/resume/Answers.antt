@@ -1,16 +1,21 @@
-use Rattle.std.proofs.Common.{◌∙◌, ◌+◌, ◌*◌, [], suc, refl, sym, arith}
+use Rattle.std.proofs.Common.{◌∙◌, ◌+◌, ◌*◌, [], suc, Option, refl, subst, sym, arith}
+use Rattle.std.specs.Prelude.{IfSome}
 use Rattle.std.proofs.lemmas.List.Elements.{All-nil}
+use Rattle.mas_types.specs.declared.answers.Closing.{Closing}
 use Rattle.job_outcome.specs.Outcomes.{outcome_of}
 use Rattle.member_node.specs.declared.member.NodeNo.TheVariants.{NoMemory}
+use Rattle.member_steps.proofs.CountLemmas.{counted_error}
 use Rattle.member_work.proofs.KeepingLemmas.{keeping_wanted}
 use Rattle.step_turns.specs.Turns.{text_read}
 use Rattle.member_sittings.specs.declared.ends.SittingEnd.{SittingEnd}
-use Rattle.member_units.specs.Plays.{wrote_of}
+use Rattle.member_sittings.specs.Shapes.{MayRefuseBy}
+use Rattle.member_units.specs.Plays.{MayStopBy, bounds, wrote_of}
 use Rattle.member_units.specs.Works.{outside, place_of, queue_here}
 use Rattle.member_units.proofs.Cuts.{of_cut}
-use Rattle.member_units.proofs.Going.{apart_none, plays_error}
+use Rattle.member_units.proofs.Going.{apart_none, plays_error, plays_more}
 use Rattle.member_units.proofs.Ours.{text_its}
 use Rattle.member_units.proofs.Resting.{fewer_than, if_ok}
+use Rattle.member_units.proofs.Within.{lost_by, prints_by, stops_by, text_within, wrote_within}
 use Rattle.member_units.proofs.sitting.resume.Goals as goal
 
 -- NO DECK
@@ -34,8 +39,13 @@ returns-in_default-clause-plays g c =
     let h = c.args.holder in
     let o = outside x in
     let t = text_read h (outcome_of c.in-ReadText.runs c.in-ReadText.fields c.args.found.read) (queue_here x m) c.in-ReadText.job c.in-ReadText.progress in
-    rw c.in-ReadText.is (plays_error P.tells h 0 {S = SittingEnd} NoMemory (wrote_of [] t) (wrote_of [] t) [] (place_of x m) o (λ told. refl) (of_cut h.by h.step [] t.parts (All-nil _) (text_its h (outcome_of c.in-ReadText.runs c.in-ReadText.fields c.args.found.read) (queue_here x m) c.in-ReadText.job c.in-ReadText.progress)) tt
-    (λ told. apart_none o) (keeping_wanted {T = SittingEnd} P.tells h.by o.batches o.batches refl [] o.first o.second o.view))
+    let p = c.in-ReadText.progress in
+    let units = p.done + suc p.left in
+    let outcome = outcome_of c.in-ReadText.runs c.in-ReadText.fields c.args.found.read in
+    let within = text_within h c.args.found (3 * p.left + 3) units (queue_here x m) c.in-ReadText.job p (omega arith) (omega arith) outcome (stops_by c.in-ReadText.runs c.in-ReadText.fields c.args.found) in
+    rw c.in-ReadText.is (plays_error P.tells h (bounds (3 * p.left + 3) units c.args.found) 0 {S = SittingEnd} NoMemory (wrote_of [] t) (wrote_of [] t) [] (place_of x m) o (λ told. refl) (of_cut h.by h.step [] t.parts (All-nil _) (text_its h (outcome_of c.in-ReadText.runs c.in-ReadText.fields c.args.found.read) (queue_here x m) c.in-ReadText.job c.in-ReadText.progress)) (wrote_within h c.args.found units (3 * p.left + 3) [] t (3 * p.left + 3) (omega arith) within) tt
+    (λ told. apart_none o) (keeping_wanted {T = SittingEnd} P.tells h.by o.batches o.batches refl [] o.first o.second o.view)
+    (counted_error {T = SittingEnd} h.by [] o.printed o.printed NoMemory refl))
 
 pub text_read-requires-clause-under_way : goal.text_read-requires-clause-under_way
 text_read-requires-clause-under_way g c = let may = rw c.in-ReadText.is at c.requires.may in may.2
@@ -47,7 +57,14 @@ pub text_read-requires-clause-units : goal.text_read-requires-clause-units
 text_read-requires-clause-units g c = let units = rw c.in-ReadText.is at c.requires.units in omega (arith, units)
 
 pub returns-in-ReadText-clause-plays : goal.returns-in-ReadText-clause-plays
-returns-in-ReadText-clause-plays g c = rw (c.in-ReadText.is, sym c.in-Ok.ensures.outcome) c.text_read.ensures.plays
+returns-in-ReadText-clause-plays g c =
+    let x = c.args.complex.now in
+    let m = c.args.member.now in
+    let h = c.args.holder in
+    let f = c.args.found in
+    let p = c.in-ReadText.progress in
+    let stops = subst (MayStopBy f) (sym c.in-Ok.ensures.outcome) (stops_by c.in-ReadText.runs c.in-ReadText.fields f) in
+    rw (c.in-ReadText.is, sym c.in-Ok.ensures.outcome) (plays_more g.P.Plant.tells h (bounds (3 * p.left + 3) (p.done + suc p.left) f) 0 (3 * p.left + 3) (p.done + p.left + 1) _ (place_of x m) (outside c.text_read.new.complex) c.text_read.result (omega arith) (omega arith) (c.text_read.ensures.plays f stops))
 
 pub returns-in-ReadText-clause-reached : goal.returns-in-ReadText-clause-reached
 returns-in-ReadText-clause-reached g c = rw c.in-ReadText.is (if_ok c.text_read.result _ _ (λ e le. omega (arith, le)) c.text_read.ensures.reached)
@@ -67,7 +84,11 @@ pub outputs_stand-requires-clause-units : goal.outputs_stand-requires-clause-uni
 outputs_stand-requires-clause-units g c = let units = rw c.in-SpoolOutputs.is at c.requires.units in omega (arith, units)
 
 pub returns-in-SpoolOutputs-clause-plays : goal.returns-in-SpoolOutputs-clause-plays
-returns-in-SpoolOutputs-clause-plays g c = rw c.in-SpoolOutputs.is c.outputs_stand.ensures.plays
+returns-in-SpoolOutputs-clause-plays g c =
+    let f = c.args.found in
+    let p = c.in-SpoolOutputs.progress in
+    rw c.in-SpoolOutputs.is (plays_more g.P.Plant.tells c.args.holder (bounds (3 * p.left + 2) (p.done + suc p.left) f) 0 (3 * p.left + 2) (p.done + p.left + 1) _ (place_of c.args.complex.now c.args.member.now) (outside c.outputs_stand.new.complex) c.outputs_stand.result (omega arith) (omega arith)
+    (c.outputs_stand.ensures.plays f (lost_by f.lost)))
 
 pub returns-in-SpoolOutputs-clause-reached : goal.returns-in-SpoolOutputs-clause-reached
 returns-in-SpoolOutputs-clause-reached g c = rw c.in-SpoolOutputs.is (if_ok c.outputs_stand.result _ _ (λ e le. omega (arith, le)) c.outputs_stand.ensures.reached)
@@ -87,7 +108,12 @@ pub lines_printed-requires-clause-units : goal.lines_printed-requires-clause-uni
 lines_printed-requires-clause-units g c = let units = rw c.in-PrintLines.is at c.requires.units in omega (arith, units)
 
 pub returns-clause-plays : goal.returns-clause-plays
-returns-clause-plays g c = rw (c.in-PrintLines.is, sym c.printed_end-end.ensures.is) c.lines_printed.ensures.plays
+returns-clause-plays g c =
+    let f = c.args.found in
+    let p = c.in-PrintLines.progress in
+    let prints = subst (λ (end : Option Closing). IfSome end (MayRefuseBy f)) (sym c.printed_end-end.ensures.is) (prints_by f) in
+    rw (c.in-PrintLines.is, sym c.printed_end-end.ensures.is) (plays_more g.P.Plant.tells c.args.holder (bounds (3 * p.left + 2) (p.done + suc p.left) f) 0 (3 * p.left + 2) (p.done + p.left + 1) _ (place_of c.args.complex.now c.args.member.now) (outside c.lines_printed.new.complex) c.lines_printed.result (omega arith) (omega arith)
+    (c.lines_printed.ensures.plays f prints))
 
 pub returns-clause-reached : goal.returns-clause-reached
 returns-clause-reached g c = rw c.in-PrintLines.is (if_ok c.lines_printed.result _ _ (λ e le. omega (arith, le)) c.lines_printed.ensures.reached)

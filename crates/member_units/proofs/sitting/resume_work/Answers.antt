@@ -1,10 +1,12 @@
 use Rattle.std.proofs.Common.{[], ap}
 use Rattle.mas_types.specs.declared.queues.Queue.{Queue}
+use Rattle.mas_complex.specs.Paper.{counts_of}
+use Rattle.mas_complex.specs.Texts.{spools_at}
 use Rattle.step_turns.specs.declared.states.State.TheVariants.{Away}
 use Rattle.step_turns.specs.Turns.{aside_turn}
 use Rattle.member_units.specs.Plays.{wrote_of}
-use Rattle.member_units.specs.Works.{Run, queue_here}
-use Rattle.member_units.proofs.Sat.{frame_of, sat_of}
+use Rattle.member_units.specs.Works.{Run, queue_here, queue_kept}
+use Rattle.member_units.proofs.Sat.{frame_of, plays_units, sat_of, says_units}
 use Rattle.member_units.proofs.Seated.{low_bounds, works_sits}
 use Rattle.member_units.proofs.Working.{kept_here}
 use Rattle.member_units.proofs.sitting.resume_work.Goals as goal
@@ -31,7 +33,8 @@ returns-clause-sat g c =
     let h = c.args.holder in
     let a = c.args.aside in
     let f = c.args.found in
+    let disks = spools_at (g.P.Plant.view x.plant) (g.P.Plant.view x.plant).now in
     let nothing = c.requires.sits.sits.seat.between.nothing in
     let w = works_sits x m h c.requires.sits.sits c.requires.sits.bounds c.requires.sits.holder c.requires.base_sound in
-    sat_of x c.resume.new.complex m h (Away a) f (wrote_of [] (aside_turn h (queue_here x m) a f)) c.resume.result nothing w.work
+    sat_of x c.resume.new.complex m h (Away a) f (wrote_of [] (aside_turn h (queue_here x m) a f)) c.resume.result (plays_units g.P.Plant.tells (queue_kept x) m.id disks (counts_of x.printed) a f c.requires.may) (says_units g.P.Plant.tells (queue_kept x) m.id disks (counts_of x.printed) h a f c.requires.may) nothing w.work
     (λ told. ap (λ (Q : Queue). wrote_of [] (aside_turn h Q a f)) (kept_here x m nothing)) c.resume.ensures.plays

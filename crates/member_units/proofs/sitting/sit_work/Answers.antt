@@ -1,11 +1,12 @@
-use Rattle.std.proofs.Common.{◌∙◌, ◌+◌, [], ℕ, ap, arith}
+use Rattle.std.proofs.Common.{◌∙◌, ◌+◌, ◌*◌, [], ℕ, ap, arith}
 use Rattle.mas_types.specs.declared.queues.Queue.{Queue}
 use Rattle.step_turns.specs.declared.states.State.TheVariants.{Fresh, Rested}
 use Rattle.step_turns.specs.declared.states.Task.TheVariants.{Work}
 use Rattle.step_turns.specs.States.{nothing_found}
 use Rattle.step_turns.specs.Turns.{units_from}
-use Rattle.member_units.specs.Plays.{wrote_of}
-use Rattle.member_units.specs.Works.{Run, queue_here, queue_kept}
+use Rattle.member_units.specs.Plays.{bounds, wrote_of}
+use Rattle.member_units.specs.Works.{Run, outside, place_of, queue_here, queue_kept}
+use Rattle.member_units.proofs.Going.{plays_more}
 use Rattle.member_units.proofs.Sat.{frame_of, sat_of}
 use Rattle.member_units.proofs.Seated.{low_bounds, works_sits}
 use Rattle.member_units.proofs.Working.{kept_here, room_low}
@@ -37,8 +38,8 @@ returns-clause-sat g c =
     let p = c.args.progress in
     let nothing = c.requires.sits.sits.seat.between.nothing in
     let w = works_sits x m h c.requires.sits.sits c.requires.sits.bounds c.requires.sits.holder c.requires.base_sound in
-    sat_of x c.begin.new.complex m h (Rested p) nothing_found (wrote_of [] (units_from h p.left (queue_here x m) 0 p.done)) c.begin.result nothing w.work
-    (λ told. ap (λ (Q : Queue). wrote_of [] (units_from h p.left Q 0 p.done)) (kept_here x m nothing)) c.begin.ensures.plays
+    sat_of x c.begin.new.complex m h (Rested p) nothing_found (wrote_of [] (units_from h p.left (queue_here x m) 0 p.done)) c.begin.result (λ A. tt) (λ t says. says) nothing w.work
+    (λ told. ap (λ (Q : Queue). wrote_of [] (units_from h p.left Q 0 p.done)) (kept_here x m nothing)) (c.begin.ensures.plays nothing_found)
 
 pub returns-clause-fresh : goal.returns-clause-fresh
 returns-clause-fresh g c none =
@@ -48,5 +49,6 @@ returns-clause-fresh g c none =
     let p = c.args.progress in
     let nothing = c.requires.sits.sits.seat.between.nothing in
     let w = works_sits x m h c.requires.sits.sits c.requires.sits.bounds c.requires.sits.holder c.requires.base_sound in
-    sat_of x c.begin.new.complex m h (Fresh (Work p.left)) nothing_found (wrote_of [] (units_from h p.left (queue_here x m) 0 p.done)) c.begin.result nothing w.work
-    (λ told. ap (λ (Q : Queue). wrote_of [] (units_from h p.left Q 0 p.done)) (kept_here x m nothing) ∙ ap (λ (k : ℕ). wrote_of [] (units_from h p.left (queue_kept x) 0 k)) none) c.begin.ensures.plays
+    sat_of x c.begin.new.complex m h (Fresh (Work p.left)) nothing_found (wrote_of [] (units_from h p.left (queue_here x m) 0 p.done)) c.begin.result (λ A. tt) (λ t says. says) nothing w.work
+    (λ told. ap (λ (Q : Queue). wrote_of [] (units_from h p.left Q 0 p.done)) (kept_here x m nothing) ∙ ap (λ (k : ℕ). wrote_of [] (units_from h p.left (queue_kept x) 0 k)) none)
+    (plays_more g.P.Plant.tells h (bounds (3 * p.left + 1) (0 + p.left) nothing_found) 0 (3 * p.left + 1) (p.done + p.left) _ (place_of x m) (outside c.begin.new.complex) c.begin.result (omega arith) (omega (arith, none)) (c.begin.ensures.plays nothing_found))

@@ -1,17 +1,19 @@
-use Rattle.std.proofs.Common.{◌∙◌, ◌+◌, ◌*◌, [], ◌∷◌, List, length, ap, refl, arith}
+use Rattle.std.proofs.Common.{◌∙◌, inr, ◌+◌, ◌*◌, [], ◌∷◌, List, length, ap, refl, arith}
 use Rattle.std.proofs.lemmas.Result.{err_from_is_err_and}
 use Rattle.mas_types.specs.declared.commands.Command.TheVariants as command
 use Rattle.mas_types.specs.declared.journals.Entry.{Entry}
 use Rattle.job_outcome.specs.declared.outcomes.Outcome.TheVariants as outcome
 use Rattle.job_outcome.specs.Next.{end_by}
+use Rattle.member_work.proofs.CauseLemmas.{reply_answered}
 use Rattle.step_turns.specs.Entries.{closing_reply, given_in}
 use Rattle.step_turns.specs.declared.states.State.TheVariants.{Told}
 use Rattle.step_turns.specs.Turns.{closes_as, text_read as text_read_lem}
-use Rattle.member_units.specs.Plays.{wrote_of}
+use Rattle.member_units.specs.Plays.{bounds, unwritten, wrote_of}
 use Rattle.member_units.specs.Works.{outside, place_of, queue_here, queue_kept}
 use Rattle.member_units.proofs.Firsts.{first_error, first_then}
-use Rattle.member_units.proofs.Going.{plays_as}
+use Rattle.member_units.proofs.Going.{plays_as, plays_more}
 use Rattle.member_units.proofs.Resting.{again_told, fewer_than, fewer_told, if_ok, reached_left, ready_told}
+use Rattle.member_units.proofs.Within.{answered_by, unwritten_one}
 use Rattle.member_units.proofs.Working.{room_low, uses_one}
 use Rattle.member_units.proofs.sitting.text_read.Goals as goal
 
@@ -30,7 +32,7 @@ pub give-requires-clause-right : goal.give-requires-clause-right
 give-requires-clause-right g c told = tt
 
 pub returns-in_err-end-in-Convert-clause-plays : goal.returns-in_err-end-in-Convert-clause-plays
-returns-in_err-end-in-Convert-clause-plays g c =
+returns-in_err-end-in-Convert-clause-plays g c found stops =
     let x = c.args.complex.now in
     let m = c.args.member.now in
     let h = c.args.holder in
@@ -38,7 +40,8 @@ returns-in_err-end-in-Convert-clause-plays g c =
     let Q = queue_here x m in
     let cs = command.Converted c.args.job.job ∷ [] in
     let q = err_from_is_err_and c.from_residual.result c.from_residual.ensures.1 in
-    rw (q.1, q.2, c.in-Convert.is) (first_error x c.give.new.complex m c.give.new.member h c.requires.works c.requires.nothing cs (end_by (closing_reply (given_in Q h.by h.step cs))) p.left p.done (text_read_lem h outcome.Convert Q c.args.job.job p) (λ told. refl) _ c.in_err-end-in-Convert.ensures.given)
+    let r = closing_reply (given_in Q h.by h.step cs) in
+    rw (q.1, q.2, c.in-Convert.is) (first_error x c.give.new.complex m c.give.new.member h (bounds (3 * p.left + 3) (p.done + p.left + 1) found) c.requires.works c.requires.nothing cs (end_by r) p.left p.done (text_read_lem h outcome.Convert Q c.args.job.job p) (answered_by found (end_by r) (reply_answered r)) (omega arith) (omega arith) (λ told. refl) _ c.in_err-end-in-Convert.ensures.given)
 
 pub go_on_after-requires-clause-room : goal.go_on_after-requires-clause-room
 go_on_after-requires-clause-room g c =
@@ -53,15 +56,17 @@ pub returns-in_ok-end-in-Convert-clause-run : goal.returns-in_ok-end-in-Convert-
 returns-in_ok-end-in-Convert-clause-run g c = c.go_on_after.ensures.run ∙ c.give.ensures.run
 
 pub returns-in_ok-end-in-Convert-clause-plays : goal.returns-in_ok-end-in-Convert-clause-plays
-returns-in_ok-end-in-Convert-clause-plays g c =
+returns-in_ok-end-in-Convert-clause-plays g c found stops =
     let x = c.args.complex.now in
     let m = c.args.member.now in
     let h = c.args.holder in
     let p = c.args.job.progress in
     let Q = queue_here x m in
     let cs = command.Converted c.args.job.job ∷ [] in
-    rw c.in-Convert.is (first_then x c.give.new.complex m c.give.new.member h c.requires.works c.requires.nothing cs (end_by (closing_reply (given_in Q h.by h.step cs))) p.left p.done (text_read_lem h outcome.Convert Q c.args.job.job p) (λ told. refl)
-    c.in_ok-end-in-Convert.end (outside c.go_on_after.new.complex) c.go_on_after.result c.in_ok-end-in-Convert.ensures.given c.go_on_after.ensures.plays)
+    let b = bounds (3 * p.left + 3) (p.done + p.left + 1) found in
+    rw c.in-Convert.is (first_then x c.give.new.complex m c.give.new.member h b c.requires.works c.requires.nothing cs (end_by (closing_reply (given_in Q h.by h.step cs))) p.left p.done (text_read_lem h outcome.Convert Q c.args.job.job p) (λ told. refl)
+    c.in_ok-end-in-Convert.end (outside c.go_on_after.new.complex) c.go_on_after.result c.in_ok-end-in-Convert.ensures.given
+    (plays_more g.P.Plant.tells h b _ (3 * p.left + 2) (p.done + p.left + 1) _ (place_of c.give.new.complex c.give.new.member) (outside c.go_on_after.new.complex) c.go_on_after.result (omega arith) (omega arith) (c.go_on_after.ensures.plays found (answered_by found c.in_ok-end-in-Convert.end c.in_ok-end-in-Convert.ensures.answered))))
 
 pub returns-in_ok-end-in-Convert-clause-reached : goal.returns-in_ok-end-in-Convert-clause-reached
 returns-in_ok-end-in-Convert-clause-reached g c =
@@ -77,12 +82,17 @@ pub close-requires-clause-named : goal.close-requires-clause-named
 close-requires-clause-named g c = rw c.in-Stop.is at c.requires.named
 
 pub returns-in-Stop-clause-plays : goal.returns-in-Stop-clause-plays
-returns-in-Stop-clause-plays g c =
+returns-in-Stop-clause-plays g c found stops =
     let x = c.args.complex.now in
     let m = c.args.member.now in
     let h = c.args.holder in
-    rw c.in-Stop.is (plays_as g.P.Plant.tells h 0 (wrote_of m.batch (closes_as h c.in-Stop.end)) (wrote_of [] (closes_as h c.in-Stop.end)) (place_of x m) (outside c.close.new.complex) c.close.result
-    (λ told. ap (λ (es : List Entry). wrote_of es (closes_as h c.in-Stop.end)) c.requires.nothing) c.close.ensures.plays)
+    let p = c.args.job.progress in
+    let b = bounds (3 * p.left + 3) (p.done + p.left + 1) found in
+    let one = unwritten_one m.batch in
+    let may = rw c.in-Stop.is at stops in
+    rw c.in-Stop.is (plays_as g.P.Plant.tells h b 0 (wrote_of m.batch (closes_as h c.in-Stop.end)) (wrote_of [] (closes_as h c.in-Stop.end)) (place_of x m) (outside c.close.new.complex) c.close.result
+    (λ told. ap (λ (es : List Entry). wrote_of es (closes_as h c.in-Stop.end)) c.requires.nothing)
+    (plays_more g.P.Plant.tells h b 0 (unwritten m.batch) (p.done + p.left + 1) _ (place_of x m) (outside c.close.new.complex) c.close.result (omega (arith, one)) (omega arith) (c.close.ensures.plays (p.done + p.left + 1) found (inr may))))
 
 pub returns-in-Stop-clause-again : goal.returns-in-Stop-clause-again
 returns-in-Stop-clause-again g c = again_told c.close.new.complex c.close.new.member c.args.holder.step c.close.result c.close.ensures.told c.close.ensures.seat
@@ -99,7 +109,7 @@ pub job_ends-requires-clause-outputs : goal.job_ends-requires-clause-outputs
 job_ends-requires-clause-outputs g c = rw c.in-End.is at c.requires.fits
 
 pub returns-in-End-clause-plays : goal.returns-in-End-clause-plays
-returns-in-End-clause-plays g c = rw c.in-End.is c.job_ends.ensures.plays
+returns-in-End-clause-plays g c found stops = rw c.in-End.is (c.job_ends.ensures.plays found)
 
 -- HOW MANY MAY FOLLOW
 

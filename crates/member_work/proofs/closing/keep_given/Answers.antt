@@ -1,22 +1,19 @@
-use Rattle.std.proofs.Common.{◌≡◌, ◌∙◌, ◌+◌, ◌≤◌, ◌<◌, ◌^◌, ◌++◌, ℕ, Bool, true, false, inl, inr, ⊎_elim, List, [], ◌∷◌, Ok, Err, All, length, ap, refl, subst, sym, arith, append-nil}
+use Rattle.std.proofs.Common.{◌≡◌, ◌∙◌, ◌+◌, ◌≤◌, ℕ, Bool, List, [], ◌∷◌, Ok, length, ap, refl, subst, sym, arith, append-nil}
 use Rattle.std.proofs.lemmas.Result.{err_from_is_err_and}
 use Rattle.mas_types.specs.declared.ids.Dev.TheVariants.{Ckpt1, Ckpt2}
 use Rattle.mas_types.specs.declared.ids.MemberId.{MemberId}
-use Rattle.mas_types.specs.declared.journals.Batch.{Batch}
 use Rattle.mas_types.specs.declared.journals.Entry.{Entry}
 use Rattle.mas_types.specs.declared.journals.Journal.{Journal}
 use Rattle.mas_types.specs.declared.queues.Queue.{Queue}
-use Rattle.lock_cycle.specs.Books.{Book}
 use Rattle.spool_disk.specs.View.{disk_now}
-use Rattle.mas_complex.specs.Journals.{begun, end_of, kept_all}
-use Rattle.mas_complex.specs.Locking.{MayAct}
-use Rattle.mas_complex.specs.Meaning.{run}
-use Rattle.member_node.specs.Reads.{orders_after, too_high}
+use Rattle.mas_complex.specs.Journals.{AreSettled, begun, end_of}
+use Rattle.member_node.specs.Reads.{orders_after}
 use Rattle.member_node.proofs.WriteLemmas.{none_out}
-use Rattle.member_steps.specs.Steps.{AreAllKept}
-use Rattle.member_steps.proofs.StepLemmas.{kept_later, ok_of}
+use Rattle.member_steps.specs.Counting.{HasCounted}
+use Rattle.member_steps.proofs.CountLemmas.{counted_none, counted_on}
+use Rattle.member_steps.proofs.FateLemmas.{settled_later, settled_out}
+use Rattle.member_steps.proofs.StepLemmas.{ok_of}
 use Rattle.spool_volumes.specs.Volumes.{AreRoomy}
-use Rattle.member_decks.proofs.OpenLemmas.{on_ok}
 use Rattle.member_decks.proofs.PageLemmas.{still_roomy}
 use Rattle.member_work.specs.Work.{batches_in}
 use Rattle.ckpt_copy.specs.Moments.{goes_on}
@@ -126,15 +123,6 @@ keep_batch-requires-clause-done g c told =
     let m = c.args.member.now in
     let w = c.requires.work in
     w.done told
-
-pub keep_batch-requires-clause-kept : goal.keep_batch-requires-clause-kept
-keep_batch-requires-clause-kept g c =
-    let P = g.P.Plant in
-    let C = g.C.Copying in
-    let x = c.args.complex.now in
-    let m = c.args.member.now in
-    let w = c.requires.work in
-    w.kept
 
 pub keep_batch-requires-clause-texts : goal.keep_batch-requires-clause-texts
 keep_batch-requires-clause-texts g c told =
@@ -319,7 +307,8 @@ returns-clause-work g c =
     (ap (λ (q : Queue). q.config) (p.base ∙ k.base) ∙ w.config ∙ sym (ap (λ t. t.config) k.tables))
     (λ told. let le = work_order P.tells (P.view x.plant) x.since x.base x.journal.batches x.current x.placed x.level x.reserved x.printed m.id m.batch m.checkpoint m.room m.behind w told in let is = ap (λ t. t.order) k.tables in
     subst (λ (j : Journal). n.checkpoint.tables.order ≤ orders_after (length j.batches)) (sym p.journal) (subst (λ (i : ℕ). n.checkpoint.tables.order ≤ orders_after i) (sym long) (subst (λ (i : ℕ). i ≤ orders_after (length x.journal.batches + 1)) (sym is) le)))
-    (subst (λ (j : Journal). AreAllKept j.batches (P.view z.plant).now) (sym p.journal) (kept_later y.journal.batches (P.view y.plant).now (P.view z.plant).now p.settle.course.goes.later o.kept))
+    (subst (λ (j : Journal). AreSettled j.batches (P.view z.plant).now) (sym p.journal) (settled_later y.journal.batches (P.view y.plant).now (P.view z.plant).now p.settle.course.goes.later
+    (settled_out x.journal.batches y.journal.batches y.placed y.current (begun (P.view x.plant).now m.id m.batch) (P.view x.plant).now (P.view y.plant).now o.acts.course.goes.later b.unplaced b.none o.leaves w.kept)))
     (subst (λ (i : ℕ). i ≤ (P.view z.plant).now) (sym (p.since ∙ k.since)) (let begun = w.begun in let later = goes.later in omega (arith, begun, later)))
     (λ told. subst (λ (q : Queue). AreRoomy (P.view z.plant) q.config) (sym (p.base ∙ k.base)) (still_roomy x.base.config (P.view x.plant) (P.view z.plant) goes (w.roomy told))))
 
@@ -418,3 +407,22 @@ returns-clause-apart g c told =
     let acts = c.keep_batch.ensures.acts in
     let settle = c.primary.ensures.settle in
     apart_then (P.view c.args.complex.now.plant) (P.view c.keep_batch.new.complex.plant) (P.view c.primary.new.complex.plant) acts.course.goes.later settle.course.goes (acts.apart told) (settle.apart told)
+
+-- THE COUNTS OF PRINTED LINES
+
+pub returns-then-len-eq0-clause-counts : goal.returns-then-len-eq0-clause-counts
+returns-then-len-eq0-clause-counts g c =
+    let x = c.args.complex.now in
+    let m = c.args.member.now in
+    subst (λ (es : List Entry). HasCounted {T = Unit {0}} m.id es x.printed x.printed (Ok tt)) (sym (none_batch m.batch (omega arith))) (counted_none m.id x.printed x.printed (Ok tt) refl)
+
+pub returns-in_err-keep_batch-clause-counts : goal.returns-in_err-keep_batch-clause-counts
+returns-in_err-keep_batch-clause-counts g c =
+    let q = err_from_is_err_and c.from_residual.result c.from_residual.ensures.1 in
+    rw (q.1, q.2) c.in_err-keep_batch.ensures.counts
+
+pub returns-clause-counts : goal.returns-clause-counts
+returns-clause-counts g c =
+    let x = c.args.complex.now in
+    let m = c.args.member.now in
+    counted_on m.id m.batch x.printed c.keep_batch.new.complex.printed c.primary.new.complex.printed _ c.primary.result c.primary.ensures.printed c.in_ok-keep_batch.ensures.counts

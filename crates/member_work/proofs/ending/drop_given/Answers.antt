@@ -5,6 +5,7 @@ use Rattle.mas_types.specs.declared.queues.Queue.{Queue}
 use Rattle.mas_types.specs.Queue.{is_member}
 use Rattle.mas_complex.specs.Journals.{end_of, kept_all}
 use Rattle.mas_complex.specs.Meaning.{run}
+use Rattle.member_steps.proofs.CountLemmas.{counted_by, counted_none, counted_up}
 use Rattle.member_decks.specs.Decks.{given_in}
 use Rattle.member_decks.proofs.DeckLemmas.{given_of}
 use Rattle.member_decks.proofs.OpenLemmas.{tells_some}
@@ -216,3 +217,15 @@ pub returns-clause-apart : goal.returns-clause-apart
 returns-clause-apart g c told =
     let v = g.P.Plant.view c.args.complex.now.plant in
     record { others = only_none v; console = refl; papers = papers_none v }
+
+-- THE COUNTS OF PRINTED LINES
+
+pub returns-in_default-clause-counts : goal.returns-in_default-clause-counts
+returns-in_default-clause-counts g c =
+    let x = c.args.complex.now in
+    let m = c.args.member.now in
+    let z = c.give_up.new.complex in
+    counted_up m.id [] [] x.printed z.printed (Err c.give_up.result) c.give_up.result (counted_by {T = Unit {0}} c.give_back.new.member.id m.id [] x.printed z.printed (Err c.give_up.result) c.give_back.ensures.has.id c.give_up.ensures.counts)
+
+pub returns-clause-counts : goal.returns-clause-counts
+returns-clause-counts g c = let printed = c.args.complex.now.printed in counted_none c.args.member.now.id printed printed _ refl

@@ -4,14 +4,16 @@ use Rattle.mas_types.specs.declared.queues.Queue.{Queue}
 use Rattle.mas_types.specs.Queue.{is_member}
 use Rattle.mas_complex.specs.Journals.{end_of, kept_all}
 use Rattle.mas_complex.specs.Meaning.{run}
+use Rattle.member_steps.proofs.CountLemmas.{counted_by, counted_none, counted_up}
 use Rattle.member_decks.specs.Decks.{closing_reply, given_in}
 use Rattle.member_decks.proofs.DeckLemmas.{given_of}
 use Rattle.member_decks.proofs.OpenLemmas.{tells_some}
 use Rattle.job_outcome.specs.Next.{end_by}
+use Rattle.member_work.specs.Causes.{IsAnswered}
 use Rattle.member_work.specs.Units.{ending}
 use Rattle.member_work.specs.Work.{batches_in}
 use Rattle.member_work.proofs.BeginLemmas.{ending_unmarked}
-use Rattle.member_work.proofs.CauseLemmas.{end_caused}
+use Rattle.member_work.proofs.CauseLemmas.{end_caused, reply_answered}
 use Rattle.member_work.proofs.EndingLemmas.{given_begins, end_none, ending_few, given_all, given_copy, given_own, given_some, given_texts, given_work, gives_few, keeps_by, last_done, last_given_up, of_by, reply_end, told_queue}
 use Rattle.member_node.proofs.CourseLemmas.{only_none, papers_none}
 use Rattle.member_work.proofs.ending.end_given.Goals as goal
@@ -217,3 +219,21 @@ pub returns-clause-apart : goal.returns-clause-apart
 returns-clause-apart g c told =
     let v = g.P.Plant.view c.args.complex.now.plant in
     record { others = only_none v; console = refl; papers = papers_none v }
+
+pub returns-clause-answered : goal.returns-clause-answered
+returns-clause-answered g c =
+    let m = c.args.member.now in
+    let s = tells_some m.checkpoint.tables in
+    subst IsAnswered (sym (c.in-Ok.ensures.end s.0 s.1)) (reply_answered (closing_reply (given_in s.0 m.id c.args.step (ending s.0 m.id c.args.job c.args.specs))))
+
+-- THE COUNTS OF PRINTED LINES
+
+pub returns-in_default-clause-counts : goal.returns-in_default-clause-counts
+returns-in_default-clause-counts g c =
+    let x = c.args.complex.now in
+    let m = c.args.member.now in
+    let z = c.give_up.new.complex in
+    counted_up m.id [] [] x.printed z.printed (Err c.give_up.result) c.give_up.result (counted_by {T = Unit {0}} c.give_end.new.member.id m.id [] x.printed z.printed (Err c.give_up.result) c.give_end.ensures.has.id c.give_up.ensures.counts)
+
+pub returns-clause-counts : goal.returns-clause-counts
+returns-clause-counts g c = let printed = c.args.complex.now.printed in counted_none c.args.member.now.id printed printed _ refl

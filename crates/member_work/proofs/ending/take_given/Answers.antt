@@ -4,15 +4,16 @@ use Rattle.mas_types.specs.declared.queues.Queue.{Queue}
 use Rattle.mas_types.specs.Queue.{is_member}
 use Rattle.mas_complex.specs.Journals.{end_of, kept_all}
 use Rattle.mas_complex.specs.Meaning.{run}
+use Rattle.member_steps.proofs.CountLemmas.{counted_by, counted_none, counted_up}
 use Rattle.member_decks.specs.Decks.{given_in}
 use Rattle.member_decks.proofs.DeckLemmas.{given_of}
 use Rattle.member_decks.proofs.OpenLemmas.{tells_some}
 use Rattle.job_outcome.specs.declared.units.UnitEnd.{UnitEnd}
-use Rattle.member_work.specs.Causes.{MayEndUnit}
+use Rattle.member_work.specs.Causes.{IsAnswered, MayEndUnit}
 use Rattle.member_work.specs.Units.{taken_end, taking}
 use Rattle.member_work.specs.Work.{batches_in}
 use Rattle.member_work.proofs.BeginLemmas.{taking_unmarked}
-use Rattle.member_work.proofs.CauseLemmas.{taken_caused}
+use Rattle.member_work.proofs.CauseLemmas.{taken_answered, taken_caused}
 use Rattle.member_work.proofs.EndingLemmas.{given_begins, end_none, given_all, given_copy, given_own, given_some, given_texts, given_work, gives_few, keeps_by, last_done, last_given_up, of_by, taken_ends, taking_few, told_queue}
 use Rattle.member_node.proofs.CourseLemmas.{only_none, papers_none}
 use Rattle.member_work.proofs.ending.take_given.Goals as goal
@@ -218,3 +219,21 @@ pub returns-clause-apart : goal.returns-clause-apart
 returns-clause-apart g c told =
     let v = g.P.Plant.view c.args.complex.now.plant in
     record { others = only_none v; console = refl; papers = papers_none v }
+
+pub returns-clause-answered : goal.returns-clause-answered
+returns-clause-answered g c =
+    let m = c.args.member.now in
+    let s = tells_some m.checkpoint.tables in
+    subst IsAnswered (sym (c.in-Ok.ensures.end s.0 s.1)) (taken_answered s.0 m.id c.args.step c.args.needed)
+
+-- THE COUNTS OF PRINTED LINES
+
+pub returns-in_default-clause-counts : goal.returns-in_default-clause-counts
+returns-in_default-clause-counts g c =
+    let x = c.args.complex.now in
+    let m = c.args.member.now in
+    let z = c.give_up.new.complex in
+    counted_up m.id [] [] x.printed z.printed (Err c.give_up.result) c.give_up.result (counted_by {T = Unit {0}} c.take_for_end.new.member.id m.id [] x.printed z.printed (Err c.give_up.result) c.take_for_end.ensures.has.id c.give_up.ensures.counts)
+
+pub returns-clause-counts : goal.returns-clause-counts
+returns-clause-counts g c = let printed = c.args.complex.now.printed in counted_none c.args.member.now.id printed printed _ refl

@@ -1,4 +1,4 @@
-use Rattle.std.proofs.Common.{◌≡◌, ◌∙◌, ◌+◌, ◌-◌, ℕ, false, [], Some, ap, refl, sym, arith}
+use Rattle.std.proofs.Common.{◌-◌, false, [], Some, ap, refl, sym, arith}
 use Rattle.mas_types.specs.declared.answers.Closing.TheVariants as closing
 use Rattle.member_work.specs.Units.{printed_end}
 use Rattle.member_node.proofs.SpareLemmas.{spares_none}

@@ -1,9 +1,8 @@
-use Rattle.std.proofs.Common.{OnOk, ◌≡◌, ◌≢◌, ◌∙◌, ℕ, ◌≤◌, List, [], ◌∷◌, All, Err, Result, drop, length, take, ap, refl, subst, sym, arith}
+use Rattle.std.proofs.Common.{◌≡◌, ◌≢◌, ◌∙◌, ℕ, ◌≤◌, List, ◌∷◌, All, Err, drop, length, take, ap, subst, sym, arith}
 use Rattle.std.proofs.lemmas.List.Elements.{All-drop, All-head, All-tail, All-take}
 use Rattle.std.proofs.lemmas.Result.{err_from_is_err_and}
 use Rattle.mas_types.specs.declared.ids.GroupNo.{GroupNo}
 use Rattle.mas_types.specs.declared.jobs.OutSpec.{OutSpec}
-use Rattle.mas_types.specs.declared.queues.Config.{Config}
 use Rattle.mas_types.specs.declared.queues.Queue.{Queue}
 use Rattle.mas_types.specs.Commands.Life.{groups_of_outputs}
 use Rattle.mas_types.specs.Fit.{IsOutSpec}
@@ -16,7 +15,6 @@ use Rattle.mas_complex.specs.Spool.{IsGroupOf, IsHeldBy}
 use Rattle.mas_complex.specs.Texts.{spools_at}
 use Rattle.spool_text.specs.Texts.{packed}
 use Rattle.member_decks.specs.Spooling.{Rise, StandBelow}
-use Rattle.spool_volumes.specs.Volumes.{AreRoomy}
 use Rattle.member_decks.proofs.OpenLemmas.{on_ok}
 use Rattle.member_decks.proofs.PageLemmas.{acts_none, acts_on, others_none, others_on, others_wider, still_roomy}
 use Rattle.member_work.specs.Spooled.{AreWritten}

@@ -1,23 +1,13 @@
-use Rattle.std.proofs.Common.{◌≡◌, ◌∙◌, ◌+◌, ◌≤◌, ◌<◌, ◌^◌, ◌++◌, ℕ, Bool, true, false, inl, inr, ⊎_elim, List, [], ◌∷◌, Ok, Err, All, length, ap, refl, subst, sym, arith, append-nil}
-use Rattle.std.proofs.lemmas.Result.{err_from_is_err_and}
+use Rattle.std.proofs.Common.{◌≡◌, ◌∙◌, ◌+◌, ◌<◌, ◌^◌, ◌++◌, [], ◌∷◌, Err, ap, refl, subst, sym}
 use Rattle.mas_types.specs.declared.ids.Dev.TheVariants.{Ckpt1, Ckpt2}
 use Rattle.mas_types.specs.declared.ids.MemberId.{MemberId}
-use Rattle.mas_types.specs.declared.journals.Batch.{Batch}
-use Rattle.mas_types.specs.declared.journals.Entry.{Entry}
-use Rattle.mas_types.specs.declared.journals.Journal.{Journal}
 use Rattle.mas_types.specs.declared.queues.Queue.{Queue}
-use Rattle.lock_cycle.specs.Books.{Book}
 use Rattle.spool_disk.specs.View.{disk_now}
-use Rattle.mas_complex.specs.Journals.{begun, end_of, kept_all}
+use Rattle.mas_complex.specs.Journals.{end_of, kept_all}
 use Rattle.mas_complex.specs.Locking.{MayAct}
 use Rattle.mas_complex.specs.Meaning.{run}
-use Rattle.member_node.specs.Reads.{orders_after, too_high}
+use Rattle.member_steps.proofs.CountLemmas.{counted_by, counted_none, counted_up}
 use Rattle.member_node.proofs.WriteLemmas.{none_out}
-use Rattle.member_steps.specs.Steps.{AreAllKept}
-use Rattle.member_steps.proofs.StepLemmas.{kept_later, ok_of}
-use Rattle.spool_volumes.specs.Volumes.{AreRoomy}
-use Rattle.member_decks.proofs.OpenLemmas.{on_ok}
-use Rattle.member_decks.proofs.PageLemmas.{still_roomy}
 use Rattle.member_work.specs.Work.{batches_in}
 use Rattle.mas_complex.specs.Crash.{IsUntold, setting}
 use Rattle.member_node.specs.declared.member.Member.{Member}
@@ -289,3 +279,16 @@ pub returns-clause-apart : goal.returns-clause-apart
 returns-clause-apart g c told =
     let v = g.P.Plant.view c.args.complex.now.plant in
     record { others = only_none v; console = refl; papers = papers_none v }
+
+-- THE COUNTS OF PRINTED LINES
+
+pub returns-in_default-clause-counts : goal.returns-in_default-clause-counts
+returns-in_default-clause-counts g c =
+    let x = c.args.complex.now in
+    let m = c.args.member.now in
+    let z = c.give_up.new.complex in
+    let by = ap (λ (i : Member). i.id) c.in_default.ensures.err in
+    counted_up m.id [] [] x.printed z.printed (Err c.give_up.result) c.give_up.result (counted_by {T = Unit {0}} c.do_command.new.self.id m.id [] x.printed z.printed (Err c.give_up.result) by c.give_up.ensures.counts)
+
+pub returns-clause-counts : goal.returns-clause-counts
+returns-clause-counts g c = let printed = c.args.complex.now.printed in counted_none c.args.member.now.id printed printed _ refl

@@ -1,4 +1,4 @@
-use Rattle.std.proofs.Common.{◌≡◌, ◌≤◌, ℕ, true, refl, subst, sym, rules}
+use Rattle.std.proofs.Common.{◌≤◌, ℕ, true, refl, subst, sym, rules}
 use Rattle.duplex_pair.specs.Both.{PairActed}
 use Rattle.member_node.specs.Calls.{Apart}
 use Rattle.member_node.proofs.CourseLemmas.{course_of}

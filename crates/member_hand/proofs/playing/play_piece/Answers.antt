@@ -1,0 +1,25 @@
+use Rattle.std.proofs.Common.{◌∙◌, ◌≤◌, ℕ, Err, length, ap, sym, subst}
+use Rattle.mas_types.specs.declared.ids.MemberId.{MemberId}
+use Rattle.lock_cycle.specs.Books.{IsMember}
+use Rattle.mas_complex.specs.Parts.{parts_of}
+use Rattle.member_hand.specs.Plays.{HasPlayed}
+use Rattle.member_hand.specs.Sits.{start_of}
+use Rattle.member_hand.proofs.PieceLemmas.{played_frame, stopped_base, stopped_since}
+use Rattle.member_hand.proofs.playing.play_piece.Goals as goal
+
+pub stop_halted-requires : goal.stop_halted-requires
+stop_halted-requires g c =
+    let goes = c.requires.goes in
+    let seated = goes.hold.seated in
+    subst (λ (i : MemberId). IsMember c.try_piece.new.complex.book i) (sym goes.holder) (seated.0, subst (λ (k : ℕ). c.args.member.now.id.0 ≤ k) (sym c.try_piece.ensures.members) seated.1)
+
+pub returns-in-Err-clause-frame : goal.returns-in-Err-clause-frame
+returns-in-Err-clause-frame g c =
+    let z = parts_of c.try_piece.new.complex in
+    played_frame (parts_of c.args.complex.now) (parts_of c.stop_halted.new.complex)
+    (ap (λ p. p.base) c.stop_halted.ensures ∙ stopped_base c.in-Err.why c.args.stand.holder.by z ∙ ap (λ p. p.base) c.try_piece.ensures.frame)
+    (ap (λ p. p.since) c.stop_halted.ensures ∙ stopped_since c.in-Err.why c.args.stand.holder.by z ∙ ap (λ p. p.since) c.try_piece.ensures.frame)
+
+pub returns-in-Err-clause-cut : goal.returns-in-Err-clause-cut
+returns-in-Err-clause-cut g c =
+    subst (λ y. HasPlayed g.P.Plant g.C.Copying (start_of c.args.stand) (parts_of c.args.complex.now) y (length c.args.member.now.room) (Err c.in-Err.why)) (sym c.stop_halted.ensures) c.in-Err.ensures.cut

@@ -1,0 +1,22 @@
+-- A member that has its seat still.
+use Rattle.std.proofs.Common.{inl, ℕ, Bool, OnOk, Result, Ok, Err}
+use Rattle.spool_disk.specs.View.{View}
+use Rattle.member_node.specs.declared.member.NodeNo.{NodeNo}
+use Rattle.member_node.specs.declared.member.NodeNo.TheVariants.{BothLost, ConsoleFault, Halted, NoMemory}
+use Rattle.member_node.specs.Reads.{IsSettle, ReadCauses}
+use Rattle.member_decks.specs.Keeping.{CopyCauses, IsOnCopies}
+
+-- a settle alone is acts on the copies
+pub settle_copies : (told : Type 0) (by : ℕ) (a a' b b' : Bool) (v w : View) (r : Result (Unit {0}) NodeNo) → IsSettle told by a a' b b' v w r → IsOnCopies told by a a' b b' v w r
+settle_copies told by a a' b b' v w r s = record { course = s.course; loses = λ t d. s.loses d; cause = causes r s.cause; spares = s.spares; apart = s.apart } where
+  causes : (r : Result (Unit {0}) NodeNo) → ReadCauses r by a' b' v w → CopyCauses r by a a' b b' v w
+  causes (Ok done) c = inl c
+  causes (Err BothLost) c = c
+  causes (Err Halted) c = (inl c.0, c.1)
+  causes (Err NoMemory) c = absurd c
+  causes (Err ConsoleFault) c = absurd c
+
+-- four facts after Ok give another
+pub on_four : {T E A B C D X : Type 0} (r : Result T E) → OnOk r A → OnOk r B → OnOk r C → OnOk r D → (A → B → C → D → X) → OnOk r X
+on_four (Ok done) a b c d f = f a b c d
+on_four (Err why) a b c d f = tt
